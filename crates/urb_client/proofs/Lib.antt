@@ -1,0 +1,9 @@
+pub mod Filled
+pub mod Loop
+pub mod Once
+pub mod Pushing
+pub mod Parts
+pub mod Pieces
+pub mod Progress
+pub mod RequestLaws
+pub mod ResponseLaws

@@ -1,0 +1,5 @@
+use Rattle.urb_client.proofs.Once.{is_read_once}
+use Rattle.urb_client.proofs.sessions.one_reading.Goals as goal
+
+pub returns : goal.returns
+returns c = is_read_once

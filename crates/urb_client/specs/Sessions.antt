@@ -1,0 +1,112 @@
+-- What a session reads and writes.
+use Rattle.std.specs.Prelude.{◌≡◌, ℕ, ◌<◌, ◌≤◌, ◌^◌, ◌⊎◌, List, [], ◌∷◌, ◌++◌, length, take, Option, IfSome, IsSomeAnd, Result, Ok, Err}
+use Rattle.std.specs.Io.KnownBytes.{Consumes, Appends, IsAtEnd}
+use Rattle.byteorder.specs.Endian.{big_bytes}
+use Rattle.urb_client.specs.declared.sessions.Ended.{Ended}
+use Rattle.urb_client.specs.declared.sessions.Ended.TheVariants.{Closed, BadFrame}
+use Rattle.urb_client.specs.declared.sessions.SessionFault.{SessionFault}
+use Rattle.urb_client.specs.declared.sessions.SessionFault.TheVariants as fault
+use Rattle.urb_client.specs.declared.sessions.Piece.{Piece}
+use Rattle.urb_client.specs.declared.sessions.Piece.TheVariants.{End, Broken, Whole}
+use Rattle.urb_client.specs.Requests.{Asked, request_of}
+use Rattle.urb_client.specs.Responses.{Said, Refused, encoding, frame}
+
+-- what a frame is: a request, or a fault, by its code
+pub data Event : Type 0 where
+  Asks : Asked → Event
+  Fault : ℕ → Event
+
+-- the bytes of a frame, after its length, are this
+abbrev pub Says : List ℕ → Event → Type 0
+Says body (Asks asked) = request_of body ≡ Ok asked
+Says body (Fault code) = request_of body ≡ Err code
+
+-- the bytes begin with whole frames of 1 to 1,200 bytes that are these, and then comes the rest
+abbrev pub Begins : List ℕ → List Event → List ℕ → Type 0
+Begins bytes [] rest = bytes ≡ rest
+Begins bytes (event ∷ events) rest = (body : List ℕ) × (mid : List ℕ) × (0 < length body) × (length body ≤ 1200) × (bytes ≡ frame body ++ mid) × Says body event × Begins mid events rest
+
+-- the bytes begin with a length of 0 or over 1,200, and the rest comes behind it
+abbrev pub HasBadLength : List ℕ → List ℕ → Type 0
+HasBadLength bytes rest = (n : ℕ) × (bytes ≡ big_bytes 2 n ++ rest) × (n < 2 ^ 16) × ((n ≡ 0) ⊎ (1200 < n))
+
+-- the bytes are a beginning of a frame, with at least one byte, and not all of it
+abbrev pub IsCut : List ℕ → Type 0
+IsCut bytes = (length bytes ≡ 1) ⊎ ((n : ℕ) × (more : List ℕ) × (bytes ≡ big_bytes 2 n ++ more) × (0 < n) × (n ≤ 1200) × (length more < n))
+
+-- the bytes begin with no frame, by the code of the fault: 1 a bad length, with the rest behind it; 5 they are cut inside a frame, and nothing is left
+abbrev pub IsBroken : List ℕ → ℕ → List ℕ → Type 0
+IsBroken bytes code rest = (HasBadLength bytes rest × (code ≡ 1)) ⊎ (IsCut bytes × (rest ≡ []) × (code ≡ 5))
+
+-- how bytes end a session, the faults in them, and what is left: nothing where it is closed, or a broken frame
+abbrev pub Ends : List ℕ → Ended → List Event → List ℕ → Type 0
+Ends bytes Closed events rest = (bytes ≡ []) × (events ≡ []) × (rest ≡ [])
+Ends bytes BadFrame events rest = (code : ℕ) × IsBroken bytes code rest × (events ≡ Fault code ∷ [])
+
+-- all that the input says: requests and faults in order, how it ends, and what is left behind a bad length
+pub record Reads (input : List ℕ) (ended : Ended) (events : List Event) (left : List ℕ) : Type 0 where
+  pub whole : List Event
+  pub last : List Event
+  pub rest : List ℕ
+  pub begins : Begins input whole rest
+  pub ends : Ends rest ended last left
+  pub all : events ≡ whole ++ last
+
+-- no input says two things
+abbrev pub IsReadOnce : Type 0
+IsReadOnce = (input : List ℕ) (ended other : Ended) (events others : List Event) (left rest : List ℕ) → Reads input ended events left → Reads input other others rest → (ended ≡ other) × (events ≡ others) × (left ≡ rest)
+
+-- a desk that answers so may answer these with these bytes, and goes from the old state to the new one; a fault is refused with its code, and the desk doesn't see it
+abbrev pub Replies : {S : Type 0} → (S → Asked → Said → S → Type 0) → S → List Event → List ℕ → S → Type 0
+Replies {S} answers old [] output new = (output ≡ []) × (new ≡ old)
+Replies {S} answers old (Asks asked ∷ events) output new = (said : Said) × (mid : S) × (rest : List ℕ) × answers old asked said mid × (output ≡ encoding said ++ rest) × Replies answers mid events rest new
+Replies {S} answers old (Fault code ∷ events) output new = (rest : List ℕ) × (output ≡ encoding (Refused 19 code) ++ rest) × Replies answers old events rest new
+
+-- what one frame is answered: what the desk answers, or its refusal
+abbrev pub Answers : {S : Type 0} → (S → Asked → Said → S → Type 0) → S → Result Asked ℕ → Said → S → Type 0
+Answers {S} answers old (Ok asked) said new = answers old asked said new
+Answers {S} answers old (Err code) said new = (said ≡ Refused 19 code) × (new ≡ old)
+
+-- a session from its first byte to its end: all that the input says is answered, and the answers are written; left is what the reader still has
+pub record WholeSession {S : Type 0} (answers : S → Asked → Said → S → Type 0) (input : List ℕ) (ended : Ended) (left : List ℕ) (old new : S) (before after : Option (List ℕ)) : Type 0 where
+  pub events : List Event
+  pub output : List ℕ
+  pub reads : Reads input ended events left
+  pub replies : Replies answers old events output new
+  pub written : Appends before after output
+
+-- the frames before the rest are answered, and their answers written
+pub record Served {S : Type 0} (answers : S → Asked → Said → S → Type 0) (input rest : List ℕ) (old new : S) (before after : Option (List ℕ)) : Type 0 where
+  pub events : List Event
+  pub output : List ℕ
+  pub begins : Begins input events rest
+  pub replies : Replies answers old events output new
+  pub written : Appends before after output
+
+-- one frame is taken from the front, whole or broken
+abbrev pub TakesFrame : List ℕ → List ℕ → Type 0
+TakesFrame bytes rest = ((event : Event) × Begins bytes (event ∷ []) rest) ⊎ ((code : ℕ) × IsBroken bytes code rest)
+
+-- less than a frame is taken from the front
+abbrev pub TakesPart : List ℕ → List ℕ → Type 0
+TakesPart bytes rest = (part : List ℕ) × (bytes ≡ part ++ rest) × ((part ≡ []) ⊎ IsCut part)
+
+-- a session that broke off, with what the reader has left: after a failed read all frames that were read whole are answered; without memory all but the last one that was read; after a failed write the desk has answered all but the last one that was read, or that one too, and of the output nothing is said
+abbrev pub BreaksOff : {S : Type 0} → (S → Asked → Said → S → Type 0) → List ℕ → SessionFault → List ℕ → S → S → Option (List ℕ) → Option (List ℕ) → Type 0
+BreaksOff {S} answers input fault.Read left old new before after = (rest : List ℕ) × Served answers input rest old new before after × TakesPart rest left
+BreaksOff {S} answers input fault.NoMemory left old new before after = (rest : List ℕ) × (mid : S) × Served answers input rest old mid before after × TakesFrame rest left
+BreaksOff {S} answers input fault.Write left old new before after = (rest : List ℕ) × (mid : S) × (events : List Event) × (output : List ℕ) × Begins input events rest × Replies answers old events output mid × TakesFrame rest left
+
+-- what is read from the front of the known bytes, into the body: nothing at their end, a broken frame, or a whole one
+abbrev pub ReadsPiece : Option (List ℕ) → Option (List ℕ) → List ℕ → Piece → Type 0
+ReadsPiece known left body End = Consumes known left [] × IsAtEnd left
+ReadsPiece known left body (Broken code) = IfSome known (λ bytes. IsSomeAnd left (IsBroken bytes code))
+ReadsPiece known left body (Whole n) = (0 < n) × (n ≤ 1200) × Consumes known left (frame (take n body))
+
+-- fewer than n bytes are read
+abbrev pub ReadsUnder : ℕ → Option (List ℕ) → Option (List ℕ) → Type 0
+ReadsUnder n known left = (part : List ℕ) × Consumes known left part × (length part < n)
+
+-- less than a frame is read from the front of the known bytes
+abbrev pub PartRead : Option (List ℕ) → Option (List ℕ) → Type 0
+PartRead known left = IfSome known (λ bytes. IsSomeAnd left (TakesPart bytes))

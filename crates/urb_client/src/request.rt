@@ -1,0 +1,158 @@
+//! Requests of clients, and their frames.
+
+ghost use Rattle.std.specs.Prelude.{◌≡◌, ◌≤◌, ◌<◌, ◌^◌, ℕ, List, [], ◌∷◌, length, IfOk, Ok};
+ghost use Rattle.urb_client.specs.Requests.{Asked, Gives, IsAsked, IsShort, request_of, asked_by, submit_fields, read_fields, no_fields, request_body};
+ghost use Rattle.urb_client.specs.Responses.{frame};
+ghost use Rattle.urb_client.specs.Sessions.{Begins, Asks};
+
+use byteorder::{BigEndian, ByteOrder};
+use std::alloc::{Allocator, Global};
+use urb_names::{ClientId, NoMemory, Refusal};
+
+/// What a client asks of a node.
+#[derive(Drop)]
+#[derive_where(Debug)]
+pub enum Request<A: Allocator = Global> {
+    /// Broadcast this payload, under the number that the client gave it.
+    Submit {
+        client: ClientId,
+        number: u32,
+        payload: Vec<u8, A>,
+    },
+    /// Show the entries of the node's log from this place on (from 1), at most so many (1 to 8).
+    Read {
+        place: u32,
+        max: u8,
+    },
+    /// Say how the node is.
+    Status,
+    /// Stop the node, as if it crashed.
+    Crash,
+    /// Start the node again from its storage.
+    Restart,
+}
+
+const UNKNOWN_OPCODE: u8 = 2;
+
+const WRONG_LENGTH: u8 = 3;
+
+const BAD_VALUE: u8 = 4;
+
+/// The request that the bytes of a frame, after its length, spell. `Refusal::Frame` has the code of the first
+/// fault: 2 for an unknown opcode, also where there are no bytes at all, 3 for a length that the opcode doesn't
+/// have, 4 for a value outside its range. `Refusal::NoMemory` comes only where a submit's payload found no place.
+/// A payload of any length and a number 0 are passed on, for the node to refuse.
+pub fn parse_request<A: Allocator>(alloc: A, bytes: &[u8]) -> Result<Request<A>, Refusal>
+    // It is the request that the bytes are, or the first fault.
+    ensures exact { Gives asked_by result (request_of bytes.now) }
+    // What is read is spelled so, each byte of it.
+    ensures found { IfOk result (λ request. IsAsked (asked_by request) × (bytes.now ≡ request_body (asked_by request))) }
+    // What is spelled so is read.
+    ensures only { (asked : Asked) → IsAsked asked → bytes.now ≡ request_body asked → Gives asked_by result (Ok asked) }
+{
+    parsed(alloc, bytes)
+}
+
+fn parsed<A: Allocator>(alloc: A, bytes: &[u8]) -> Result<Request<A>, Refusal>
+    ensures { Gives asked_by result (request_of bytes.now) }
+{
+    match bytes {
+        [1, fields @ ..] => submit_of(alloc, fields),
+        [2, fields @ ..] => read_of(fields),
+        [3, fields @ ..] => alone(Request::Status, fields),
+        [4, fields @ ..] => alone(Request::Crash, fields),
+        [5, fields @ ..] => alone(Request::Restart, fields),
+        _ => Err(Refusal::Frame(UNKNOWN_OPCODE)),
+    }
+}
+
+fn submit_of<A: Allocator>(alloc: A, fields: &[u8]) -> Result<Request<A>, Refusal>
+    ensures { Gives asked_by result (submit_fields fields.now) }
+{
+    if fields.len() < 6 {
+        return Err(Refusal::Frame(WRONG_LENGTH));
+    }
+    let Some(client) = ClientId::new(BigEndian::read_u16(fields)) else {
+        return Err(Refusal::Frame(BAD_VALUE));
+    };
+    let (_, rest) = fields.split_at(2);
+    let number = BigEndian::read_u32(rest);
+    let (_, payload) = rest.split_at(4);
+    match Vec::from_slice(alloc, payload) {
+        Ok(payload) => Ok(Request::Submit {
+            client,
+            number,
+            payload,
+        }),
+        Err(_) => Err(Refusal::NoMemory),
+    }
+}
+
+fn read_of<A: Allocator>(fields: &[u8]) -> Result<Request<A>, Refusal>
+    ensures { Gives asked_by result (read_fields fields.now) }
+{
+    if fields.len() != 5 {
+        return Err(Refusal::Frame(WRONG_LENGTH));
+    }
+    let place = BigEndian::read_u32(fields);
+    if place == 0 {
+        return Err(Refusal::Frame(BAD_VALUE));
+    }
+    let max = fields[4];
+    if max == 0 || 8 < max {
+        return Err(Refusal::Frame(BAD_VALUE));
+    }
+    Ok(Request::Read { place, max })
+}
+
+fn alone<A: Allocator>(request: Request<A>, fields: &[u8]) -> Result<Request<A>, Refusal>
+    ensures { Gives asked_by result (no_fields (asked_by request) fields.now) }
+{
+    if !fields.is_empty() {
+        return Err(Refusal::Frame(WRONG_LENGTH));
+    }
+    Ok(request)
+}
+
+/// The whole frame of a request, for a client to send. Its place is from 1, its `max` 1 to 8, and its payload
+/// has at most 1,024 bytes.
+pub fn encode_request<A: Allocator>(alloc: A, request: &Request<A>) -> Result<Vec<u8, A>, NoMemory>
+    requires values { IsAsked (asked_by request.now) }
+    requires short { IsShort (asked_by request.now) }
+    ensures bytes { IfOk result (λ v. v.items ≡ frame (request_body (asked_by request.now))) }
+    // A session that reads these bytes reads this one request, and nothing behind it.
+    ensures reads { IfOk result (λ v. Begins v.items (Asks (asked_by request.now) ∷ []) []) }
+{
+    encoded(alloc, request)
+}
+
+fn encoded<A: Allocator>(alloc: A, request: &Request<A>) -> Result<Vec<u8, A>, NoMemory>
+    requires values { IsAsked (asked_by request.now) }
+    requires short { IsShort (asked_by request.now) }
+    ensures { IfOk result (λ v. v.items ≡ frame (request_body (asked_by request.now))) }
+{
+    let mut frame = Vec::new(alloc);
+    match request {
+        Request::Submit {
+            client,
+            number,
+            payload,
+        } => {
+            let mut head = [0, 0, 1, 0, 0, 0, 0, 0, 0];
+            BigEndian::write_u16(&mut head, payload.len() as u16 + 7);
+            BigEndian::write_u16(&mut head[3..], client.number());
+            BigEndian::write_u32(&mut head[5..], *number);
+            frame.extend_from_slice(&head)?;
+            frame.extend_from_slice(payload.as_slice())?;
+        }
+        Request::Read { place, max } => {
+            let mut head = [0, 6, 2, 0, 0, 0, 0, *max];
+            BigEndian::write_u32(&mut head[3..], *place);
+            frame.extend_from_slice(&head)?;
+        }
+        Request::Status => frame.extend_from_slice(&[0, 1, 3])?,
+        Request::Crash => frame.extend_from_slice(&[0, 1, 4])?,
+        Request::Restart => frame.extend_from_slice(&[0, 1, 5])?,
+    }
+    Ok(frame)
+}

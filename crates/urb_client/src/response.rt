@@ -1,0 +1,201 @@
+//! Responses to clients, and their frames.
+
+ghost use Rattle.std.specs.Prelude.{◌≡◌, ℕ, ◌≤◌, ◌++◌, ◌+◌, ◌*◌, length, IfOk, OnOk};
+ghost use Rattle.std.specs.List.{flat_map};
+ghost use Rattle.urb_client.specs.Responses.{encoding, response_body, entry_bytes, entry_head, state_byte, said_by};
+
+use byteorder::{BigEndian, ByteOrder};
+use std::alloc::{Allocator, Global};
+use std::marker::Model;
+use urb_names::{Message, Name, NoMemory, Refusal};
+
+/// At most 8 entries of a log, in its order: each a name and its message.
+#[derive(Drop)]
+#[derive_where(Debug)]
+pub struct Entries<A: Allocator = Global> {
+    entries: Vec<(Name, Message<A>), A>,
+}
+
+impl<A: Allocator> Model for Entries<A> {
+    ghost use Rattle.std.specs.Prelude.{◌≤◌, List, vec_len};
+    ghost use Rattle.urb_names.specs.Naming.{Label, Content};
+
+    ghost Value = { List (Label × Content) };
+
+    ghost view = { λ a. a.entries.items };
+
+    ghost invariant = { λ a. vec_len a.entries ≤ 8 };
+}
+
+impl<A: Allocator> Entries<A> {
+    /// The entries, in the order of the log.
+    pub fn as_slice(&self) -> &[(Name, Message<A>)]
+        ensures value { result.now ≡ self.now }
+        ensures limit { length self.now ≤ 8 }
+    {
+        self.entries.as_slice()
+    }
+}
+
+/// Where a node stands: down, ready for the next event, or storing a record.
+#[derive(Clone, Copy, Debug, PartialEq, Eq)]
+pub enum NodeState {
+    Down,
+    Ready,
+    Storing,
+}
+
+impl NodeState {
+    fn byte(self) -> u8
+        ensures { result ≡ state_byte self }
+    {
+        match self {
+            NodeState::Down => 0,
+            NodeState::Ready => 1,
+            NodeState::Storing => 2,
+        }
+    }
+}
+
+/// What a client is answered.
+#[derive(Drop)]
+#[derive_where(Debug)]
+pub enum Response<A: Allocator = Global> {
+    /// The message is stored, as this one of those that the node sent.
+    Accepted(u32),
+    /// Entries of the node's log.
+    Entries(Entries<A>),
+    /// The node's state, how many messages it has sent, and how many its log has.
+    Status {
+        state: NodeState,
+        own: u32,
+        logged: u32,
+    },
+    /// The node went down, or is up again.
+    Done,
+    /// The request was refused: the refusal's number, and its detail.
+    Refused {
+        number: u8,
+        detail: u32,
+    },
+}
+
+impl<A: Allocator> Response<A> {
+    ghost use Rattle.std.specs.Prelude.{◌≡◌, ◌≤◌, vec_len, IsOkAnd};
+    ghost use Rattle.urb_names.specs.Refusing.{number_of, detail_of};
+    ghost use Rattle.urb_client.specs.Responses.{said_by, Listing, Refused};
+
+    /// The response with these entries. It moves them and takes no memory.
+    pub fn entries(entries: Vec<(Name, Message<A>), A>) -> Result<Response<A>, NoMemory>
+        requires { vec_len entries ≤ 8 }
+        ensures { IsOkAnd result (λ response. said_by response ≡ Listing entries.items) }
+    {
+        Ok(Response::Entries(Entries { entries }))
+    }
+
+    /// The response to a request that was refused.
+    pub fn refused(refusal: &Refusal) -> Response<A>
+        ensures { said_by result ≡ Refused (number_of refusal.now) (detail_of refusal.now) }
+    {
+        Response::Refused {
+            number: refusal.number(),
+            detail: refusal.detail(),
+        }
+    }
+}
+
+const ACCEPTED: u8 = 0x81;
+
+const ENTRIES: u8 = 0x82;
+
+const STATUS: u8 = 0x83;
+
+const DONE: u8 = 0x84;
+
+const REFUSED: u8 = 0xee;
+
+/// The whole frame of a response. Each response has one: its types keep it within a frame's limits.
+pub fn encode_response<A: Allocator + Copy>(
+    alloc: A,
+    response: &Response<A>,
+) -> Result<Vec<u8, A>, NoMemory>
+    ensures { IfOk result (λ v. v.items ≡ encoding (said_by response.now)) }
+{
+    let body = body(alloc, response)?;
+    let mut len = [0; 2];
+    BigEndian::write_u16(&mut len, body.len() as u16);
+    let mut frame = Vec::with_capacity(alloc, 2 + body.len())?;
+    frame.extend_from_slice(&len)?;
+    frame.extend_from_slice(body.as_slice())?;
+    Ok(frame)
+}
+
+fn body<A: Allocator>(alloc: A, response: &Response<A>) -> Result<Vec<u8, A>, NoMemory>
+    ensures bytes { IfOk result (λ v. v.items ≡ response_body (said_by response.now)) }
+    ensures short { IfOk result (λ v. length v.items ≤ 8300) }
+{
+    let mut body = Vec::new(alloc);
+    match response {
+        Response::Accepted(seq) => {
+            let mut head = [ACCEPTED, 0, 0, 0, 0];
+            BigEndian::write_u32(&mut head[1..], *seq);
+            body.extend_from_slice(&head)?;
+        }
+        Response::Entries(entries) => {
+            let entries = entries.as_slice();
+            body.extend_from_slice(&[ENTRIES, entries.len() as u8])?;
+            push_entries(&mut body, entries)?;
+        }
+        Response::Status { state, own, logged } => {
+            let mut head = [STATUS, state.byte(), 0, 0, 0, 0, 0, 0, 0, 0];
+            BigEndian::write_u32(&mut head[2..], *own);
+            BigEndian::write_u32(&mut head[6..], *logged);
+            body.extend_from_slice(&head)?;
+        }
+        Response::Done => body.push(DONE)?,
+        Response::Refused { number, detail } => {
+            let mut head = [REFUSED, *number, 0, 0, 0, 0];
+            BigEndian::write_u32(&mut head[2..], *detail);
+            body.extend_from_slice(&head)?;
+        }
+    }
+    Ok(body)
+}
+
+fn push_entries<A: Allocator, B: Allocator>(
+    body: &mut Vec<u8, A>,
+    entries: &[(Name, Message<B>)],
+) -> Result<(), NoMemory>
+    ensures bytes { OnOk result (body.new.items ≡ body.old.items ++ flat_map entry_bytes entries.now) }
+    ensures short { OnOk result (length body.new.items ≤ length body.old.items + 1037 * length entries.now) }
+{
+    for entry in entries {
+        push_entry(body, entry)?;
+    }
+    Ok(())
+}
+
+fn push_entry<A: Allocator, B: Allocator>(
+    body: &mut Vec<u8, A>,
+    entry: &(Name, Message<B>),
+) -> Result<(), NoMemory>
+    ensures bytes { OnOk result (body.new.items ≡ body.old.items ++ entry_bytes entry.now) }
+    ensures short { OnOk result (length body.new.items ≤ length body.old.items + 1037) }
+{
+    let (name, message) = entry;
+    body.extend_from_slice(&entry_head(*name, message))?;
+    body.extend_from_slice(message.payload())?;
+    Ok(())
+}
+
+// What stands before the payload.
+fn entry_head<A: Allocator>(name: Name, message: &Message<A>) -> [u8; 13]
+    ensures { result ≡ entry_head name message.now }
+{
+    let mut head = [name.sender.number(), 0, 0, 0, 0, 0, 0, 0, 0, 0, 0, 0, 0];
+    BigEndian::write_u32(&mut head[1..], name.seq);
+    BigEndian::write_u16(&mut head[5..], message.client().number());
+    BigEndian::write_u32(&mut head[7..], message.number());
+    BigEndian::write_u16(&mut head[11..], message.payload().len() as u16);
+    head
+}

@@ -1,0 +1,204 @@
+//! Sessions: frames in, frames out.
+
+ghost use Rattle.std.specs.Prelude.{◌≡◌, ℕ, List, ◌≢◌, IfOk, IfErr, OnOk, OnErr, IfSome, IsSomeAnd, length};
+ghost use Rattle.std.specs.Io.KnownBytes.{Appends};
+ghost use Rattle.byteorder.specs.Endian.{big_bytes};
+ghost use Rattle.urb_client.specs.Requests.{Asked, IsAsked, asked_by, request_of};
+ghost use Rattle.urb_client.specs.Responses.{Said, said_by, Refused, encoding};
+ghost use Rattle.urb_client.specs.Sessions.{ReadsPiece, PartRead, Answers, WholeSession, BreaksOff, IsReadOnce};
+
+use crate::input::{ReadFailed, read_full};
+use crate::{Request, Response, encode_response, parse_request};
+use byteorder::{BigEndian, ByteOrder};
+use std::alloc::Allocator;
+use std::io::{Read, Write};
+use thiserror::Error;
+use urb_names::{NoMemory, Refusal};
+
+/// How a session ended: the client closed it between two frames, or what came was no frame.
+#[derive(Clone, Copy, Debug, PartialEq, Eq)]
+pub enum Ended {
+    Closed,
+    BadFrame,
+}
+
+/// Why a session broke off: the reader failed, the writer failed, or memory was refused.
+#[derive(Clone, Copy, Debug, PartialEq, Eq, Error)]
+pub enum SessionFault {
+    #[error("read failed")]
+    Read,
+    #[error("write failed")]
+    Write,
+    #[error("no memory")]
+    NoMemory,
+}
+
+impl From<NoMemory> for SessionFault {
+    ghost use Rattle.std.specs.Prelude.{◌≡◌};
+    ghost use Rattle.urb_client.specs.declared.sessions.SessionFault.TheVariants.{NoMemory as no_memory};
+
+    ghost from_gives = { λ _ e. e ≡ no_memory };
+
+    fn from(_: NoMemory) -> SessionFault {
+        SessionFault::NoMemory
+    }
+}
+
+impl From<ReadFailed> for SessionFault {
+    ghost use Rattle.std.specs.Prelude.{◌≡◌};
+    ghost use Rattle.urb_client.specs.declared.sessions.SessionFault.TheVariants.{Read as read};
+
+    ghost from_gives = { λ _ e. e ≡ read };
+
+    fn from(_: ReadFailed) -> SessionFault {
+        SessionFault::Read
+    }
+}
+
+/// Who answers the requests of a session.
+pub trait Desk {
+    /// Where payloads and entries lie.
+    type Alloc: Allocator + Copy;
+
+    /// In the first state it may answer a request so, and is in the second state then.
+    ghost answers: { Self → Asked → Said → Self → Type 0 };
+
+    /// Answers one request, whose values are in range: but its payload may be too long for a message, and its
+    /// number may be 0. `NoMemory` ends the session, and nothing more is asked of the desk.
+    fn answer(&mut self, request: &Request<Self::Alloc>) -> Result<Response<Self::Alloc>, NoMemory>
+        requires { IsAsked (asked_by request.now) }
+        ensures { IfOk result (λ response. answers self.old (asked_by request.now) (said_by response) self.new) };
+}
+
+const LONGEST_FRAME: usize = 1200;
+
+const BAD_LENGTH: u8 = 1;
+
+const CUT: u8 = 5;
+
+// What stands at the front of the input.
+pub enum Piece {
+    // Nothing.
+    End,
+    // No whole frame, by the code of the fault.
+    Broken(u8),
+    // A frame with so many bytes after its length.
+    Whole(usize),
+}
+
+// The number in the two bytes of a length.
+fn length_of(bytes: &[u8]) -> u16
+    requires { length bytes.now ≡ 2 }
+    ensures { bytes.now ≡ big_bytes 2 result }
+{
+    BigEndian::read_u16(bytes)
+}
+
+// Reads one frame into `body`.
+fn read_frame<R: Read>(reader: &mut R, body: &mut [u8]) -> Result<Piece, ReadFailed>
+    requires { length body.old ≡ 1200 }
+    ensures piece { IfOk result (λ piece. ReadsPiece (R.remaining reader.old) (R.remaining reader.new) body.new piece) }
+    ensures err { OnErr result (PartRead (R.remaining reader.old) (R.remaining reader.new)) }
+{
+    let mut length = [0u8; 2];
+    let got = read_full(reader, &mut length)?;
+    if got == 0 {
+        return Ok(Piece::End);
+    }
+    if got == 1 {
+        return Ok(Piece::Broken(CUT));
+    }
+    let len = length_of(&length) as usize;
+    if len == 0 {
+        return Ok(Piece::Broken(BAD_LENGTH));
+    }
+    if LONGEST_FRAME < len {
+        return Ok(Piece::Broken(BAD_LENGTH));
+    }
+    let got = read_full(reader, &mut body[..len])?;
+    if got < len {
+        return Ok(Piece::Broken(CUT));
+    }
+    Ok(Piece::Whole(len))
+}
+
+// Writes a whole frame.
+fn write_frame<W: Write>(writer: &mut W, frame: &[u8]) -> Result<(), SessionFault>
+    ensures ok { OnOk result (Appends (W.contents writer.old) (W.contents writer.new) frame.now) }
+    ensures err { IfErr result (λ fault. fault ≡ SessionFault.Write) }
+{
+    if writer.write_all(frame).is_err() {
+        return Err(SessionFault::Write);
+    }
+    if writer.flush().is_err() {
+        return Err(SessionFault::Write);
+    }
+    Ok(())
+}
+
+// Writes the frame of a response.
+fn reply<A: Allocator + Copy, W: Write>(
+    alloc: A,
+    writer: &mut W,
+    response: &Response<A>,
+) -> Result<(), SessionFault>
+    ensures ok { OnOk result (Appends (W.contents writer.old) (W.contents writer.new) (encoding (said_by response.now))) }
+    ensures read { IfErr result (λ fault. fault ≢ SessionFault.Read) }
+    ensures err { IfErr result (λ fault. fault ≢ SessionFault.Write → writer.new ≡ writer.old) }
+{
+    let frame = encode_response(alloc, response)?;
+    write_frame(writer, frame.as_slice())
+}
+
+// What the bytes of a whole frame are answered.
+fn respond<D: Desk>(
+    alloc: D::Alloc,
+    desk: &mut D,
+    body: &[u8],
+) -> Result<Response<D::Alloc>, NoMemory>
+    ensures { IfOk result (λ response. Answers D.answers desk.old (request_of body.now) (said_by response) desk.new) }
+{
+    match parse_request(alloc, body) {
+        Ok(request) => desk.answer(&request),
+        Err(Refusal::NoMemory) => Err(NoMemory),
+        Err(refusal) => Ok(Response::refused(&refusal)),
+    }
+}
+
+/// Answers the requests of a client until the input ends, or is no frame. It flushes each response. After
+/// 18,446,744,073,709,551,615 frames it ends with `Read`. After a fault no further byte is read or written.
+pub fn session<R: Read, W: Write, D: Desk>(
+    alloc: D::Alloc,
+    reader: &mut R,
+    writer: &mut W,
+    desk: &mut D,
+) -> Result<Ended, SessionFault>
+    // All that the reader held is read as these requests and faults, and they are answered in order.
+    ensures ended { IfOk result (λ ended. IfSome (R.remaining reader.old) (λ input. IsSomeAnd (R.remaining reader.new) (λ left.
+        WholeSession D.answers input ended left desk.old desk.new (W.contents writer.old) (W.contents writer.new)))) }
+    // The frames that were read whole are answered, but at most the last.
+    ensures broken_off { IfErr result (λ fault. IfSome (R.remaining reader.old) (λ input. IsSomeAnd (R.remaining reader.new) (λ left.
+        BreaksOff D.answers input fault left desk.old desk.new (W.contents writer.old) (W.contents writer.new)))) }
+{
+    let mut body = [0u8; LONGEST_FRAME];
+    for _ in 0..u64::MAX {
+        match read_frame(reader, &mut body)? {
+            Piece::End => return Ok(Ended::Closed),
+            Piece::Broken(code) => {
+                let refused = Response::refused(&Refusal::Frame(code));
+                reply(alloc, writer, &refused)?;
+                return Ok(Ended::BadFrame);
+            }
+            Piece::Whole(len) => {
+                let response = respond(alloc, desk, &body[..len])?;
+                reply(alloc, writer, &response)?;
+            }
+        }
+    }
+    Err(SessionFault::Read)
+}
+
+/// That an input is read in one way: for proofs alone, since it does nothing.
+pub fn one_reading()
+    ensures { IsReadOnce }
+{}

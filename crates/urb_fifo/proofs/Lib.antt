@@ -1,0 +1,4 @@
+pub mod Rows
+pub mod Release
+pub mod Lengths
+pub mod Rooms

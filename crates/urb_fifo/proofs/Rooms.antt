@@ -1,0 +1,140 @@
+-- What always holds of a release, and room, as a certificate comes.
+use Rattle.std.proofs.Common.{◌≡◌, ℕ, suc, ◌+◌, ◌-◌, ◌<◌, ◌≤◌, true, false, List, ◌∷◌, ◌++◌, length, map, Some, sym, ap, ap₂, subst, ◌∙◌, ⊎_elim, inl, inr, ◌⊎◌, arith, vec_len, vec_capacity}
+use Rattle.std.proofs.lemmas.Bool.{cases_Bool, cases_lt, false≢true, or_cases, or_left}
+use Rattle.std.specs.Bool.{IsTrue}
+use Rattle.urb_names.specs.Naming.{IsLimits, Label}
+use Rattle.urb_names.specs.Names.{has_name, name, name_lt, same_name}
+use Rattle.urb_names.specs.Nodes.{numbers_from}
+use Rattle.urb_names.specs.Ordered.{is_rising, placed, reserved_for}
+use Rattle.urb_names.specs.Release.{beginning, part_of}
+use Rattle.urb_names.proofs.SameNames.{same_name-same, same_name-true}
+use Rattle.urb_names.proofs.Ordered.{names_ordered, reserved_for-some, rising_placed}
+use Rattle.urb_names.proofs.Released.{length-row, log_certified, reach}
+use Rattle.urb_names.proofs.Reached.{reach-certified}
+use Rattle.urb_fifo.specs.Delivery.{Delivery, IsDelivery, IsNameOf, IsReleaseOf}
+use Rattle.urb_fifo.specs.Releasing.{newly_released}
+use Rattle.urb_fifo.specs.Room.{HasRoom, IsKept, view_of}
+use Rattle.urb_fifo.specs.declared.fifo.Fifo.TheInside.{Inside}
+use Rattle.urb_fifo.proofs.Lengths.{seven_parts}
+use Rattle.urb_fifo.proofs.Release.{certified_with, newly_is, part_reaches, parts_of_release, reach_within, release_goes_on}
+
+-- what always holds follows from order, limits and the certificates
+pub delivery_of : (d : Delivery) (certificates : List Label) → IsLimits d.limits → IsTrue (is_rising name_lt d.certified) → ((x : Label) → has_name d.certified x ≡ true → IsNameOf d.limits x) → IsReleaseOf certificates d → IsDelivery d
+delivery_of d certificates limits order within h = record {
+  limits = limits;
+  order = order;
+  within = within;
+  released = (certificates, h);
+  parts = parts;
+  few = seven_parts d.log d.limits.cap senders none (λ s. subst (λ (n : ℕ). n ≤ d.limits.cap) (sym (part_reaches d parts s)) (reach_within d within s));
+}
+  where
+    parts : (s : ℕ) → part_of s d.log ≡ beginning s d.certified
+    parts = parts_of_release certificates d h
+
+    senders : (x : Label) → has_name d.log x ≡ true → x.sender < 8
+    senders x e =
+        let there : has_name certificates x ≡ true = log_certified certificates x (subst (λ (xs : List Label). has_name xs x ≡ true) h.log e) in
+        let most : x.sender ≤ 7 = (within x (h.certified x ∙ there)).label.sender.1 in
+        omega arith
+
+    none : length (part_of 0 d.log) ≡ 0
+    none =
+        part_reaches d parts 0
+        ∙ ⊎_elim (λ (l : reach 0 d.certified < 1). omega arith)
+        (λ (l : 1 ≤ reach 0 d.certified). let first : 0 < 0 = (within (name 0 1) (reach-certified 0 1 d.certified (omega arith) l)).label.sender.0 in absurd (omega arith))
+        (cases_lt (reach 0 d.certified) 1)
+
+-- where only the capacities grew
+pub kept_bigger : {A : Type 0} (a b : Inside A) → b.config ≡ a.config → b.reserved ≡ a.reserved
+    → b.certified.items ≡ a.certified.items → vec_len b.certified ≡ vec_len a.certified → vec_capacity a.certified ≤ vec_capacity b.certified
+    → b.log.items ≡ a.log.items → vec_len b.log ≡ vec_len a.log → vec_capacity a.log ≤ vec_capacity b.log
+    → IsKept a → IsKept b
+kept_bigger a b config reserved certified certified_len certified_room log log_len log_room kept = record {
+  delivery = subst IsDelivery (sym same) kept.delivery;
+  room = λ x e.
+      let room : HasRoom a x = kept.room x (sym reserved ∙ e) in
+      let before : has_name b.certified.items x ≡ false → has_name a.certified.items x ≡ false = λ none. ap (λ (xs : List Label). has_name xs x) (sym certified) ∙ none in
+      record {
+        certified = λ none. let old : vec_len a.certified < vec_capacity a.certified = room.certified (before none) in omega arith;
+        log = λ none.
+            let old : vec_len a.log + length (newly_released a.log.items a.certified.items x) ≤ vec_capacity a.log = room.log (before none) in
+            let new : length (newly_released b.log.items b.certified.items x) ≡ length (newly_released a.log.items a.certified.items x) = ap (λ (d : Delivery). length (newly_released d.log d.certified x)) same in
+            omega arith;
+      };
+}
+  where
+    same : view_of b ≡ view_of a
+    same = λ i. record { limits = config i; certified = certified i; log = log i; reserved = reserved i }
+
+-- where one more name of the group is certified
+pub kept_certified : {A : Type 0} (a b : Inside A) (x : Label) → IsNameOf a.config x → has_name a.certified.items x ≡ false
+    → b.config ≡ a.config → b.reserved ≡ reserved_for a.reserved x
+    → b.certified.items ≡ placed name_lt a.certified.items x
+    → b.log.items ≡ a.log.items ++ newly_released a.log.items a.certified.items x
+    → IsKept a → IsKept b
+kept_certified a b x is none config reserved certified log kept = record {
+  delivery =
+      delivery_of (view_of b) (x ∷ kept.delivery.released.0) (subst IsLimits (sym config) kept.delivery.limits)
+      (ap (is_rising name_lt) certified ∙ rising_placed name_lt same_name names_ordered a.certified.items x none kept.delivery.order)
+      (λ y e. subst (λ l. IsNameOf l y) (sym config) (names y (or_cases (same_name x y) (has_name a.certified.items y) (sym (ap (λ xs. has_name xs y) certified ∙ certified_with a.certified.items x y) ∙ e))))
+      (release_goes_on kept.delivery.released.0 (view_of a) (view_of b) x kept.delivery.released.1 log certified);
+  room = λ y e.
+      let parts = reserved_for-some a.reserved x y (sym reserved ∙ e) in
+      let there : has_name b.certified.items x ≡ true = ap (λ xs. has_name xs x) certified ∙ (certified_with a.certified.items x x ∙ or_left (same_name x x) (has_name a.certified.items x) (same_name-same x)) in
+      subst (HasRoom b) parts.1 (record {
+        certified = λ gone. absurd (false≢true (sym gone ∙ there));
+        log = λ gone. absurd (false≢true (sym gone ∙ there));
+      });
+}
+  where
+    names : (y : Label) → (same_name x y ≡ true) ⊎ (has_name a.certified.items y ≡ true) → IsNameOf a.config y
+    names y (inl e) = subst (IsNameOf a.config) (same_name-true x y e) is
+    names y (inr e) = kept.delivery.within y e
+
+-- the number of names that a certificate releases
+pub newly_kept : {A : Type 0} (a : Inside A) (x : Label) (k end : ℕ) → IsNameOf a.config x → IsKept a → k ≡ length (part_of x.sender a.log.items) → k ≤ end → end ≤ a.config.cap
+    → ((i : ℕ) → k < i → i ≤ end → has_name (x ∷ a.certified.items) (name x.sender i) ≡ true) → (end < a.config.cap → has_name (x ∷ a.certified.items) (name x.sender (suc end)) ≡ false)
+    → newly_released a.log.items a.certified.items x ≡ map (name x.sender) (numbers_from (suc k) (end - k))
+newly_kept a x k end is kept count more most certified stops =
+    newly_is (view_of a) x k end kept.delivery.parts count more certified (⊎_elim stops (λ (l : a.config.cap ≤ end). past l (cases_Bool (has_name (x ∷ a.certified.items) (name x.sender (suc end))))) (cases_lt end a.config.cap))
+  where
+    over : a.config.cap ≤ end → IsNameOf a.config (name x.sender (suc end)) → ⊥
+    over l h = omega (arith, h.seq)
+
+    past : a.config.cap ≤ end → (has_name (x ∷ a.certified.items) (name x.sender (suc end)) ≡ true) ⊎ (has_name (x ∷ a.certified.items) (name x.sender (suc end)) ≡ false) → has_name (x ∷ a.certified.items) (name x.sender (suc end)) ≡ false
+    past l (inr e) = e
+    past l (inl e) = absurd (over l (either (or_cases (same_name x (name x.sender (suc end))) (has_name a.certified.items (name x.sender (suc end))) e)))
+      where
+        either : (same_name x (name x.sender (suc end)) ≡ true) ⊎ (has_name a.certified.items (name x.sender (suc end)) ≡ true) → IsNameOf a.config (name x.sender (suc end))
+        either (inl f) = subst (IsNameOf a.config) (same_name-true x (name x.sender (suc end)) f) is
+        either (inr f) = kept.delivery.within (name x.sender (suc end)) f
+
+-- how many names a certificate releases
+pub newly_count : (d : Delivery) (x : Label) (from end : ℕ) → newly_released d.log d.certified x ≡ map (name x.sender) (numbers_from (suc from) (end - from)) → length (newly_released d.log d.certified x) ≡ end - from
+newly_count d x from end names = ap length names ∙ length-row x.sender (suc from) (end - from)
+
+-- where room was made for a name
+pub kept_reserved : {A : Type 0} (a b : Inside A) (x : Label) (from end : ℕ) → newly_released a.log.items a.certified.items x ≡ map (name x.sender) (numbers_from (suc from) (end - from))
+    → b.config ≡ a.config → b.reserved ≡ Some x
+    → b.certified.items ≡ a.certified.items → vec_len b.certified + 1 ≤ vec_capacity b.certified
+    → b.log.items ≡ a.log.items → vec_len b.log + (end - from) ≤ vec_capacity b.log
+    → IsKept a → IsKept b
+kept_reserved a b x from end names config reserved certified certified_room log log_room kept = record {
+  delivery = delivery_of (view_of b) kept.delivery.released.0 (subst IsLimits (sym config) kept.delivery.limits)
+      (subst (λ xs. IsTrue (is_rising name_lt xs)) (sym certified) kept.delivery.order)
+      (λ y e. subst (λ l. IsNameOf l y) (sym config) (kept.delivery.within y (ap (λ xs. has_name xs y) (sym certified) ∙ e)))
+      (record {
+        log = log ∙ kept.delivery.released.1.log;
+        certified = λ y. ap (λ xs. has_name xs y) certified ∙ kept.delivery.released.1.certified y;
+      });
+  room = λ y e.
+      let same : x ≡ y = (let both : Some x ≡ Some y = sym reserved ∙ e in cc) in
+      subst (HasRoom b) same (record {
+        certified = λ none. omega arith;
+        log = λ none.
+            let count : length (newly_released a.log.items a.certified.items x) ≡ end - from = newly_count (view_of a) x from end names in
+            let new : length (newly_released b.log.items b.certified.items x) ≡ length (newly_released a.log.items a.certified.items x) = ap₂ (λ xs ys. length (newly_released xs ys x)) log certified in
+            omega arith;
+      });
+}

@@ -1,0 +1,12 @@
+use Rattle.std.proofs.Common.{◌≡◌, ◌≤◌, ◌+◌, ◌-◌, ◌++◌, suc, map, vec_len, vec_capacity}
+use Rattle.urb_names.specs.Names.{name}
+use Rattle.urb_names.specs.Nodes.{numbers_from}
+use Rattle.urb_fifo.proofs.fifo.release.Given as goal
+
+-- what is released so far, and what is left
+abbrev pub invariant-loop-seq : goal.invariant-loop-seq
+invariant-loop-seq g l = record {
+  log : l.log.items ++ map (name l.sender) (numbers_from (suc l.seq) (l.end - l.seq)) ≡ l.fn.log.items ++ map (name l.sender) (numbers_from (suc l.from) (l.end - l.from));
+  len : vec_len l.log + (l.end - l.seq) ≡ vec_len l.fn.log + (l.end - l.from);
+  room : vec_len l.log + (l.end - l.seq) ≤ vec_capacity l.log;
+}

@@ -1,0 +1,21 @@
+-- What the vectors of a release keep: what always holds, and room for the name that is reserved.
+use Rattle.std.specs.Prelude.{◌≡◌, false, ◌<◌, ◌≤◌, ◌+◌, length}
+use Rattle.std.specs.Vec.{vec_len, vec_capacity}
+use Rattle.std.specs.Option.{ForSome}
+use Rattle.urb_names.specs.Naming.{Label}
+use Rattle.urb_names.specs.Names.{has_name}
+use Rattle.urb_fifo.specs.Delivery.{Delivery, IsDelivery}
+use Rattle.urb_fifo.specs.Releasing.{newly_released}
+use Rattle.urb_fifo.specs.declared.fifo.Fifo.TheInside.{Inside}
+
+abbrev pub view_of : {A : Type 0} → Inside A → Delivery
+view_of a = record { limits = a.config; certified = a.certified.items; log = a.log.items; reserved = a.reserved }
+
+-- where the name is not certified yet, there is room for it, and for all that its certificate would release
+pub record HasRoom {A : Type 0} (a : Inside A) (x : Label) : Type 0 where
+  pub certified : has_name a.certified.items x ≡ false → vec_len a.certified < vec_capacity a.certified
+  pub log : has_name a.certified.items x ≡ false → vec_len a.log + length (newly_released a.log.items a.certified.items x) ≤ vec_capacity a.log
+
+pub record IsKept {A : Type 0} (a : Inside A) : Type 0 where
+  pub delivery : IsDelivery (view_of a)
+  pub room : ForSome a.reserved (HasRoom a)

@@ -1,0 +1,227 @@
+ghost use Rattle.std.specs.Prelude.{◌≡◌, ℕ, suc, ◌<◌, ◌≤◌, ◌+◌, ◌-◌, ◌*◌, ◌^◌, ◌==◌, true, false, [], ◌∷◌, ◌++◌, None, Some, map, length, count_by, vec_len, vec_capacity, List, IsOk, IfOk, OnOk, OnErr};
+ghost use Rattle.std.specs.List.{prefix_len};
+ghost use Rattle.urb_names.specs.Nodes.{numbers_from};
+ghost use Rattle.urb_names.specs.Names.{has_name, name, name_lt};
+ghost use Rattle.urb_names.specs.Naming.{IsLabel, IsLimits, Label};
+ghost use Rattle.urb_names.specs.Ordered.{reserved_for};
+ghost use Rattle.urb_names.specs.Release.{part_of};
+ghost use Rattle.urb_fifo.specs.Delivery.{IsDelivery, IsReleaseOf};
+ghost use Rattle.urb_fifo.specs.Releasing.{certifying, newly_released};
+
+use std::alloc::{Allocator, Global};
+use std::marker::Model;
+use urb_names::{Config, Name, NoMemory, NodeId};
+
+/// The certified names, and the log of those that are released: a name is released once it and all lower numbers of its
+/// sender are certified (broadcast with sequence number, section 3.9 of the book).
+#[derive(Drop)]
+#[derive_where(Debug)]
+pub struct Fifo<A: Allocator = Global> {
+    config: Config,
+    certified: Vec<Name, A>,
+    log: Vec<Name, A>,
+    reserved: Option<Name>,
+}
+
+impl<A: Allocator> Model for Fifo<A> {
+    ghost use Rattle.urb_fifo.specs.Delivery.{Delivery};
+
+    ghost Value = { Delivery };
+
+    ghost use Rattle.urb_fifo.specs.Room.{view_of, IsKept};
+
+    ghost view = { view_of };
+
+    ghost invariant = { IsKept };
+}
+
+// That every configuration is within its limits: for proofs alone, since it does nothing.
+fn limits_of(config: Config)
+    ensures { IsLimits config }
+{
+    let _n = config.n();
+    let _cap = config.cap();
+}
+
+fn precedes(first: &Name, second: Name) -> bool
+    ensures { result ≡ name_lt first.now second }
+{
+    *first < second
+}
+
+// Where a name stands among names in order, or would stand.
+fn place_of(names: &[Name], name: Name) -> usize
+    ensures place { result ≡ prefix_len (λ other. name_lt other name) names.now }
+    ensures within { result ≤ length names.now }
+{
+    names
+        .iter()
+        .take_while(|other| precedes(other, name))
+        .count()
+}
+
+// What is left of a reservation once a name was added.
+fn reserved_for(reserved: Option<Name>, name: Name) -> Option<Name>
+    ensures { result ≡ reserved_for reserved name }
+{
+    match reserved {
+        Some(kept) => if kept == name { Some(kept) } else { None },
+        None => None,
+    }
+}
+
+fn is_of(name: &Name, sender: NodeId) -> bool
+    ensures { result ≡ (name.now.sender == sender) }
+{
+    name.sender == sender
+}
+
+// How many names of a sender are in a log.
+fn count_of(log: &[Name], sender: NodeId) -> usize
+    ensures { result ≡ length (part_of sender log.now) }
+{
+    log.iter().filter(|name| is_of(name, sender)).count()
+}
+
+// The number up to which the names of a name's sender are certified from one number on, once this name is certified too.
+fn run_end(certified: &[Name], certificate: Name, from: u32, cap: u32) -> u32
+    requires { from ≤ cap }
+    ensures range { (from ≤ result) × (result ≤ cap) }
+    ensures certified { (i : ℕ) → from < i → i ≤ result → has_name (certificate ∷ certified.now) (name certificate.sender i) ≡ true }
+    ensures stops { result < cap → has_name (certificate ∷ certified.now) (name certificate.sender (suc result)) ≡ false }
+{
+    let mut end = from;
+    while end < cap && is_next(certified, certificate, end) {
+        end += 1;
+    }
+    end
+}
+
+// Whether the number behind this one of a name's sender is certified, or is the name's.
+fn is_next(certified: &[Name], certificate: Name, end: u32) -> bool
+    requires { end < 2 ^ 32 - 1 }
+    ensures { result ≡ has_name (certificate ∷ certified.now) (name certificate.sender (suc end)) }
+{
+    let next = Name {
+        sender: certificate.sender,
+        seq: end + 1,
+    };
+    certificate == next || certified.contains(&next)
+}
+
+#[tactic(auto, using(crate::proofs::Rows::row_next, crate::proofs::Rows::row_none))]
+// Appends the names of a sender behind one number, up to another.
+fn release<A: Allocator>(log: &mut Vec<Name, A>, sender: NodeId, from: u32, end: u32)
+    requires range { from ≤ end }
+    requires room { vec_len log.old + (end - from) ≤ vec_capacity log.old }
+    ensures log { log.new.items ≡ log.old.items ++ map (name sender) (numbers_from (suc from) (end - from)) }
+    ensures len { vec_len log.new ≡ vec_len log.old + (end - from) }
+{
+    for seq in from..end {
+        log.push_reserved(Name {
+            sender,
+            seq: seq + 1,
+        });
+    }
+}
+
+impl<A: Allocator + Copy> Fifo<A> {
+    /// Nothing is certified and nothing released.
+    pub fn new(alloc: A, config: Config) -> Fifo<A>
+        ensures { result ≡ record { limits = config; certified = []; log = []; reserved = None } }
+    {
+        limits_of(config);
+        Fifo {
+            config,
+            certified: Vec::new(alloc),
+            log: Vec::new(alloc),
+            reserved: None,
+        }
+    }
+
+    /// What always holds of the certified names and the log: for proofs alone, since it does nothing.
+    pub fn limits(&self)
+        ensures { IsDelivery self.now }
+    {
+        let _log = &self.log;
+    }
+
+    /// Whether a name is certified.
+    pub fn is_certified(&self, name: Name) -> bool
+        ensures { result ≡ has_name self.now.certified name }
+    {
+        self.certified.contains(&name)
+    }
+
+    /// The names that are released, in the order of their release.
+    pub fn log(&self) -> &[Name]
+        ensures { result.now ≡ self.now.log }
+    {
+        self.log.as_slice()
+    }
+
+    /// How many names of a sender are released: they are its numbers 1, 2, 3, .. up to this one.
+    pub fn count(&self, sender: NodeId) -> u32
+        ensures count { result ≡ length (part_of sender self.now.log) }
+        ensures most { result ≤ self.now.limits.cap }
+    {
+        count_of(&self.log, sender) as u32
+    }
+
+    // The number behind which names of a certificate's sender would be released by it, and the last that would be.
+    fn released_by(&self, certificate: Name) -> (u32, u32)
+        requires sender { certificate.sender ≤ self.now.limits.n }
+        requires seq { certificate.seq ≤ self.now.limits.cap }
+        ensures range { result.0 ≤ result.1 }
+        ensures names { newly_released self.now.log self.now.certified certificate ≡ map (name certificate.sender) (numbers_from (suc result.0) (result.1 - result.0)) }
+        ensures label { IsLabel certificate }
+    {
+        certificate.limits();
+        let from = self.count(certificate.sender);
+        let end = run_end(&self.certified, certificate, from, self.config.cap());
+        (from, end)
+    }
+
+    /// Makes room for a name of the group and for all that its certificate would release.
+    /// The room is promised until another name is certified. `NoMemory` means that a growth was refused: the call may be made again.
+    pub fn reserve(&mut self, name: Name) -> Result<(), NoMemory>
+        requires sender { name.sender ≤ self.old.limits.n }
+        requires seq { name.seq ≤ self.old.limits.cap }
+        ensures ok { OnOk result (self.new ≡ record self.old { reserved = Some name }) }
+        ensures err { OnErr result (self.new ≡ self.old) }
+    {
+        let (from, end) = self.released_by(name);
+        self.certified.reserve(1)?;
+        self.log.reserve((end - from) as usize)?;
+        self.reserved = Some(name);
+        Ok(())
+    }
+
+    /// Certifies a name of the group, and says how many names are released by it: 0 where it was certified before.
+    /// `NoMemory` means that a growth was refused: the call may be made again.
+    pub fn certify(&mut self, name: Name) -> Result<u32, NoMemory>
+        requires sender { name.sender ≤ self.old.limits.n }
+        requires seq { name.seq ≤ self.old.limits.cap }
+        ensures ok { OnOk result (self.new ≡ certifying self.old name) }
+        ensures count { IfOk result (λ released. length self.new.log ≡ length self.old.log + released) }
+        // Where the log is the release of certificates, it is now the release of these and the new one.
+        ensures release { OnOk result ((older : List Label) → IsReleaseOf older self.old → IsReleaseOf (name ∷ older) self.new) }
+        ensures err { OnErr result (self.new ≡ self.old) }
+        ensures limits { self.new.limits ≡ self.old.limits }
+        // Want of memory comes only where the name is new, and never for the name for which room is reserved.
+        ensures again { has_name self.old.certified name ≡ true → IsOk result }
+        ensures roomy { self.old.reserved ≡ Some name → IsOk result }
+    {
+        if self.is_certified(name) {
+            return Ok(0);
+        }
+        let (from, end) = self.released_by(name);
+        let released = end - from;
+        let at = place_of(&self.certified, name);
+        self.log.reserve(released as usize)?;
+        self.certified.insert(at, name)?;
+        release(&mut self.log, name.sender, from, end);
+        self.reserved = reserved_for(self.reserved, name);
+        Ok(released)
+    }
+}

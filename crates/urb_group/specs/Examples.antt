@@ -1,0 +1,49 @@
+-- Words of the worked examples: records, images and packets.
+use Rattle.std.specs.Prelude.{List, Option, Some, replicate, ℕ, ◌∷◌, [], ◌≡◌, zero, suc, map}
+use Rattle.urb_group.specs.World.{image_of}
+use Rattle.urb_group.specs.Scripts.{Accepts, Drafts, Line, Told, message, store, submit, ◌⇒◌}
+use Rattle.urb_names.specs.Carried.{Carried}
+use Rattle.urb_names.specs.Names.{name}
+use Rattle.urb_names.specs.Naming.{Content, Label, Limits}
+use Rattle.urb_names.specs.Nodes.{numbers_from}
+use Rattle.urb_names.specs.declared.refusal.Rule.{Rule}
+use Rattle.urb_stable.specs.Entries.{Entry}
+use Rattle.urb_stable.specs.Fitting.{Misfit, first_misfit}
+use Rattle.urb_stable.specs.declared.record.Record.TheVariants.{Pend, PendCert}
+
+-- a pair's record, its message the one of client 7 that has the name's number, with no payload
+abbrev pub pending : ℕ → ℕ → Entry
+pending sender number = Pend (name sender number) (message 7 number "")
+
+-- the same, certified
+abbrev pub certified : ℕ → ℕ → Entry
+certified sender number = PendCert (name sender number) (message 7 number "")
+
+abbrev pub limits : ℕ → ℕ → Limits
+limits n cap = record { n = n; cap = cap }
+
+-- this is told first of images of n nodes under a cap: a misfit, or none
+abbrev pub Judged : ℕ → ℕ → List (List Entry) → Option Misfit → Type 0
+Judged n cap images answer = first_misfit (limits n cap) (image_of images) ≡ answer
+
+-- the record of this node and name breaks the rule
+abbrev pub misfit : Rule → ℕ → ℕ → ℕ → Option Misfit
+misfit rule node sender number = Some (record { rule = rule; node = node; name = name sender number })
+
+-- a message with a payload of this many letters x
+abbrev pub filled : ℕ → ℕ → ℕ → Content
+filled client number count = record { client = client; number = number; payload = replicate count 120 }
+
+-- a packet from q to p
+abbrev pub carried : ℕ → ℕ → ℕ → ℕ → Content → Carried
+carried q p sender number m = record { source = q; target = p; name = name sender number; message = m }
+
+-- node 1 of two submits as many messages as these, from this number on, and stores each
+abbrev pub stored_from : ℕ → ℕ → List (Line × Told)
+stored_from first zero = []
+stored_from first (suc count) =
+    submit 1 (message 7 first "a") ⇒ Drafts (name 1 first) first ∷ store 1 ⇒ Accepts (name 1 first) 1 0 ∷ stored_from (suc first) count
+
+-- to node 2, as many names of node 1 as these, from this number on
+abbrev pub to_two : ℕ → ℕ → List (ℕ × Label)
+to_two first count = map (λ number. (2, name 1 number)) (numbers_from first count)

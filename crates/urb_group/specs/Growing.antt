@@ -1,0 +1,21 @@
+-- What is stored, broadcast and delivered, at two moments of a run.
+use Rattle.std.specs.Prelude.{IsTrue, ℕ}
+use Rattle.urb_group.specs.World.{World, stored, truthful}
+use Rattle.urb_names.specs.Beginnings.{Begins, OneBegins}
+use Rattle.urb_names.specs.Carried.{Carried}
+use Rattle.urb_stable.specs.Log.{entries, entries_of, log}
+
+-- what the old world has of its nodes, the new one has too, with more behind it; and what was truthful is
+pub record GoesOn (old new : World) : Type 0 where
+  pub records : (p : ℕ) → Begins (stored old p) (stored new p)
+  pub broadcast : (p : ℕ) → Begins (old.node p).broadcast (new.node p).broadcast
+  pub delivered : (p : ℕ) → Begins (log (stored old p)) (log (stored new p))
+  pub truth : (packet : Carried) → IsTrue (truthful old packet) → IsTrue (truthful new packet)
+
+-- each node's log, its names with their messages, has more behind it
+abbrev pub EntriesGrow : World → World → Type 0
+EntriesGrow old new = (p : ℕ) → Begins (entries (stored old p)) (entries (stored new p))
+
+-- of what two nodes deliver from one sender, the one in the old world and the other in the new, one begins the other
+abbrev pub AgreeInTime : World → World → Type 0
+AgreeInTime old new = (p q s : ℕ) → OneBegins (entries_of s (stored old p)) (entries_of s (stored new q))

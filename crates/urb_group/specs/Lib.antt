@@ -1,0 +1,11 @@
+pub mod World
+pub mod Step
+pub mod Safe
+pub mod Truth
+pub mod Growing
+pub mod Accepting
+pub mod Stopping
+pub mod Invariant
+pub mod Shown
+pub mod Examples
+pub mod Scripts

@@ -1,0 +1,212 @@
+-- Scripts: lines that a group is run by, each beside its answer.
+use Prim.Native.String.{String}
+use Rattle.std.specs.Prelude.{Bool, Err, List, None, Ok, Option, Some, [], codes, false, filter, is_some, length, map, true, ℕ, ◌++◌, ◌∷◌, ◌≡◌}
+use Rattle.urb_group.specs.Step.{Arrive, Commit, Crash, Event, Fail, Restart, Submit, Tick, step}
+use Rattle.urb_group.specs.World.{World, opened, started, stored, updated}
+use Rattle.urb_names.specs.Carried.{Carried}
+use Rattle.urb_names.specs.Names.{name}
+use Rattle.urb_names.specs.Naming.{Content, Label, Limits}
+use Rattle.urb_names.specs.Nodes.{nodes}
+use Rattle.urb_names.specs.Pairs.{message_of}
+use Rattle.urb_names.specs.declared.refusal.PacketFault.{PacketFault}
+use Rattle.urb_names.specs.declared.refusal.Refusal.{Refusal}
+use Rattle.urb_names.specs.declared.refusal.Refusal.TheVariants as refusal
+use Rattle.urb_node.specs.Part.{Down, Node, Ready, State, Storing}
+use Rattle.urb_node.specs.Replies.{Drafted, Refused, Reply, Same, Sent, Stored, Up, WentDown}
+use Rattle.urb_node.specs.Steps.{next_position}
+use Rattle.urb_node.specs.declared.answer.Answer.TheVariants.{Accepted, Again, Noted}
+use Rattle.urb_node.specs.declared.answer.Answer.{Answer}
+use Rattle.urb_stable.specs.Entries.{Entry}
+use Rattle.urb_stable.specs.Fitting.{Misfit, first_misfit}
+use Rattle.urb_stable.specs.Log.{entries}
+use Rattle.urb_stable.specs.Records.{pend}
+use Rattle.urb_stable.specs.declared.record.Record.TheVariants.{Cert}
+
+-- ---- answers
+
+-- what a line is answered
+pub data Told : Type 0 where
+  Drafts : (x : Label) (position : ℕ) → Told
+  Accepts : (x : Label) (sent released : ℕ) → Told  -- a record of an own message is stored: how many packets went out, and how many names were released
+  Takes : (x : Label) (sent released : ℕ) → Told  -- any other record is stored
+  Answers : (answer : Answer) → Told
+  Sends : (packets : List (ℕ × Label)) → Told  -- each by its target and its name
+  Goes_down : (p : ℕ) → Told
+  Comes_up : (p : ℕ) → Told
+  Refuses : (refusal : Refusal) → Told
+  Opens : Told
+  Logs : (entries : List (Label × Option Content)) → Told
+  Holds : (nodes : List ℕ) → Told
+  Is : (node : Node) → Told
+
+abbrev pub accepted : ℕ → ℕ → Told
+accepted sender number = Answers (Accepted (name sender number))
+
+abbrev pub noted : ℕ → ℕ → Told
+noted sender number = Answers (Noted (name sender number))
+
+abbrev pub again : ℕ → ℕ → Told
+again sender number = Answers (Again (name sender number))
+
+-- the node went down
+abbrev pub down : ℕ → Told
+down p = Goes_down p
+
+-- the node is up again
+abbrev pub up : ℕ → Told
+up p = Comes_up p
+
+abbrev pub told_stored : Bool → Label → ℕ → ℕ → Told
+told_stored true x sent released = Accepts x sent released
+told_stored false x sent released = Takes x sent released
+
+-- a reply, in short
+abbrev pub told : Reply → Told
+told (Drafted x position) = Drafts x position
+told (Same answer) = Answers answer
+told (Stored done) = told_stored done.accepted done.name (length done.sent) done.released
+told (Sent packets) = Sends (map (λ packet. (packet.target, packet.name)) packets)
+told (WentDown p) = Goes_down p
+told (Up p) = Comes_up p
+told (Refused refusal) = Refuses refusal
+
+-- ---- lines
+
+-- a group's world, and what the storage of each node holds
+pub record Scene : Type 0 where
+  pub world : World
+  pub storage : ℕ → List Entry
+
+-- a line: its answer in a scene, and the scene after it
+abbrev pub Line : Type 0
+Line = Scene → Told × Scene
+
+-- a new group of n nodes, each of which may broadcast cap messages
+abbrev pub new_group : ℕ → ℕ → Scene
+new_group n cap = record { world = started (record { n = n; cap = cap }); storage = λ p. [] }
+
+-- an event, with this in storage from then on
+abbrev pub happens_with : (ℕ → List Entry) → Event → Line
+happens_with storage event scene =
+    let outcome = step scene.world event in (told outcome.0, record { world = outcome.1; storage = storage })
+
+abbrev pub happens : Event → Line
+happens event scene = happens_with scene.storage event scene
+
+-- a message, its payload by ASCII letters
+abbrev pub message : ℕ → ℕ → String → Content
+message client number letters = record { client = client; number = number; payload = codes letters }
+
+abbrev pub submit : ℕ → Content → Line
+submit p m = happens (Submit p m)
+
+-- the record that a node holds
+abbrev pub held_by : State → List Entry
+held_by Ready = []
+held_by (Storing entry cause) = entry ∷ []
+held_by (Down doubtful) = []
+
+-- what storage holds once it took the record that p holds
+abbrev pub keeping : ℕ → Scene → ℕ → List Entry
+keeping p scene = updated scene.storage p (scene.storage p ++ held_by (scene.world.node p).state)
+
+-- the receipt of the held record, or of some record where none is held
+abbrev pub receipt : ℕ → Node → State → Event
+receipt p node Ready = Commit p 1 (Cert (name 1 1))
+receipt p node (Storing entry cause) = Commit p (next_position node) entry
+receipt p node (Down doubtful) = Commit p 1 (Cert (name 1 1))
+
+-- p's storage takes the held record
+abbrev pub store : ℕ → Line
+store p scene = happens_with (keeping p scene) (receipt p (scene.world.node p) (scene.world.node p).state) scene
+
+-- p's storage fails, and has kept nothing
+abbrev pub fail_old : ℕ → Line
+fail_old p = happens (Fail p)
+
+-- p's storage fails, and has kept the record
+abbrev pub fail_new : ℕ → Line
+fail_new p scene = happens_with (keeping p scene) (Fail p) scene
+
+abbrev pub crash : ℕ → Line
+crash p = happens (Crash p)
+
+-- a restart with what p's storage holds
+abbrev pub restart : ℕ → Line
+restart p scene = happens (Restart p (scene.storage p)) scene
+
+abbrev pub tick : ℕ → Line
+tick p = happens (Tick p)
+
+abbrev pub or_nothing : Option Content → Content
+or_nothing None = record { client = 1; number = 1; payload = [] }
+or_nothing (Some m) = m
+
+-- what q has stored under the name comes to p; where there is none, a message that q doesn't hold
+abbrev pub arrive : ℕ → ℕ → ℕ → ℕ → Line
+arrive q p sender number scene =
+    let stored_by_q = message_of (pend (stored scene.world q)) (name sender number) in
+    happens (Arrive p (Ok (record { source = q; target = p; name = name sender number; message = or_nothing stored_by_q }))) scene
+
+abbrev pub told_open : Option Misfit → Scene → Told × Scene
+told_open None scene = (Opens, record scene { world = opened scene.world.size scene.storage })
+told_open (Some misfit) scene = (Refuses (refusal.Inconsistent misfit.rule misfit.node misfit.name), scene)
+
+-- the process stops, and opens the group of what storage holds
+abbrev pub reopen : Line
+reopen scene = told_open (first_misfit scene.world.size scene.storage) scene
+
+-- p's log, each name with its message
+abbrev pub log_of : ℕ → Line
+log_of p scene = (Logs (entries (stored scene.world p)), scene)
+
+-- the nodes that have the name stored
+abbrev pub held : ℕ → ℕ → Line
+held sender number scene =
+    (Holds (filter (λ p. is_some (message_of (pend (stored scene.world p)) (name sender number))) (nodes scene.world.size.n)), scene)
+
+-- ---- lines that say what no storage and no link would
+
+-- a receipt for any record at any position
+abbrev pub commit : ℕ → ℕ → Entry → Line
+commit p position entry = happens (Commit p position entry)
+
+-- a restart with any image
+abbrev pub restart_with : ℕ → List Entry → Line
+restart_with p image = happens (Restart p image)
+
+-- any packet comes to p
+abbrev pub bring : ℕ → Carried → Line
+bring p packet = happens (Arrive p (Ok packet))
+
+-- bytes that are no packet come to p
+abbrev pub bring_bytes : ℕ → PacketFault → Line
+bring_bytes p fault = happens (Arrive p (Err fault))
+
+-- all of p's part of the world
+abbrev pub look_at : ℕ → Line
+look_at p scene = (Is (scene.world.node p), scene)
+
+-- ---- whole scripts
+
+-- a line and its answer
+infix 70 ◌⇒◌
+abbrev pub ◌⇒◌ : Line → Told → Line × Told
+line ⇒ answer = (line, answer)
+
+-- what these lines are answered, one after the other
+abbrev pub answers : Scene → List Line → List Told
+answers scene [] = []
+answers scene (line ∷ lines) = let outcome = line scene in outcome.0 ∷ answers outcome.1 lines
+
+-- from this scene on, each line is answered so
+abbrev pub PlaysFrom : Scene → List (Line × Told) → Type 0
+PlaysFrom scene script = answers scene (map (λ row. row.0) script) ≡ map (λ row. row.1) script
+
+-- in a new group of n nodes and this cap, each line is answered so
+abbrev pub Plays : ℕ → ℕ → List (Line × Told) → Type 0
+Plays n cap script = PlaysFrom (new_group n cap) script
+
+-- in the group that these images of the nodes 1, 2, .. open, each line is answered so
+abbrev pub PlaysOpened : Limits → (ℕ → List Entry) → List (Line × Told) → Type 0
+PlaysOpened size images script = PlaysFrom (record { world = opened size images; storage = images }) script

@@ -1,0 +1,34 @@
+-- What a stop of the whole process may leave, and what an opened group makes of it.
+use Rattle.std.specs.Prelude.{IsTrue, List, ℕ, ◌≡◌}
+use Rattle.urb_group.specs.Step.{Submit, step}
+use Rattle.urb_group.specs.World.{World, opened, stored}
+use Rattle.urb_names.specs.Beginnings.{Begins}
+use Rattle.urb_names.specs.Naming.{Content, Label}
+use Rattle.urb_names.specs.Nodes.{is_node}
+use Rattle.urb_names.specs.Pairs.{has_pair}
+use Rattle.urb_node.specs.Part.{Node}
+use Rattle.urb_node.specs.Replies.{Same}
+use Rattle.urb_node.specs.Steps.{doubt}
+use Rattle.urb_node.specs.declared.answer.Answer.TheVariants.{Accepted}
+use Rattle.urb_stable.specs.Entries.{Entry}
+use Rattle.urb_stable.specs.Fitting.{Fits}
+use Rattle.urb_stable.specs.Log.{entries, log}
+use Rattle.urb_stable.specs.Records.{pend}
+use Rattle.urb_stable.specs.Storing.{IsContents}
+
+-- what a stop may leave of a node's storage: its records, or these with the held or doubtful one
+abbrev pub MayLeave : Node → List Entry → Type 0
+MayLeave node image = IsContents node.records (doubt node.state) image
+
+-- These images of the nodes open a group that goes on from this world: they fit together, each log begins with the log
+-- before, its names with their messages, and a submit of an own pair that the node had stored is accepted under its name.
+pub record GoesOnIn (w : World) (images : ℕ → List Entry) : Type 0 where
+  pub fits : Fits w.size images
+  pub delivered : (p : ℕ) → Begins (log (stored w p)) (log (images p))
+  pub entries : (p : ℕ) → Begins (entries (stored w p)) (entries (images p))
+  pub again : (p : ℕ) (x : Label) (m : Content) → IsTrue (is_node w.size.n p) → x.sender ≡ p
+      → IsTrue (has_pair (pend (stored w p)) x m) → (step (opened w.size images) (Submit p m)).0 ≡ Same (Accepted x)
+
+-- whatever a stop leaves of each node does
+abbrev pub SurvivesStop : World → Type 0
+SurvivesStop w = (images : ℕ → List Entry) → ((p : ℕ) → MayLeave (w.node p) (images p)) → GoesOnIn w images

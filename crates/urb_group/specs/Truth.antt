@@ -1,0 +1,18 @@
+-- Packets that tell the truth: their source has stored the message that they carry.
+use Rattle.std.specs.List.{AllByRecursion}
+use Rattle.std.specs.Prelude.{IsTrue, List}
+use Rattle.urb_group.specs.World.{World, truthful}
+use Rattle.urb_names.specs.Carried.{Carried}
+use Rattle.urb_node.specs.Replies.{Reply, packets_in}
+
+-- each of these packets is of a pair that its source holds
+abbrev pub AreTruthful : World → List Carried → Type 0
+AreTruthful w packets = AllByRecursion (λ packet. IsTrue (truthful w packet)) packets
+
+-- each packet ever sent is
+abbrev pub AllTruthful : World → Type 0
+AllTruthful w = AreTruthful w w.sent
+
+-- each packet that these replies hand out is
+abbrev pub ToldTruth : World → List Reply → Type 0
+ToldTruth w replies = AllByRecursion (λ reply. AreTruthful w (packets_in reply)) replies

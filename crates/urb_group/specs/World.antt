@@ -1,0 +1,45 @@
+-- The world: all nodes, and every packet ever sent.
+use Rattle.std.specs.Prelude.{Bool, List, [], if◌then◌else◌, length, slice_index_or, suc, zero, ℕ, ◌==◌, ◌≡◌}
+use Rattle.std.specs.List.{All}
+use Rattle.urb_names.specs.Carried.{Carried}
+use Rattle.urb_names.specs.Naming.{Limits}
+use Rattle.urb_names.specs.Pairs.{has_pair}
+use Rattle.urb_node.specs.Part.{Node, opened_node}
+use Rattle.urb_stable.specs.Entries.{Entry, IsEntry}
+use Rattle.urb_stable.specs.Records.{pend}
+
+-- a group's limits, the part of each node, and every packet ever sent
+pub record World : Type 0 where
+  pub size : Limits
+  pub node : ℕ → Node
+  pub sent : List Carried  -- every packet ever sent
+
+-- the records of each node
+abbrev pub stored : World → ℕ → List Entry
+stored w p = (w.node p).records
+
+-- f, with this value at p
+abbrev pub updated : {A : Type 0} → (ℕ → A) → ℕ → A → ℕ → A
+updated f p value q = if q == p then value else f q
+
+-- the world of these images
+abbrev pub opened : Limits → (ℕ → List Entry) → World
+opened size images = record { size = size; node = λ p. opened_node p (images p); sent = [] }
+
+-- the world of a new group
+abbrev pub started : Limits → World
+started size = opened size (λ p. [])
+
+-- the image of a node, in the list of the images of the nodes 1, 2, ..
+abbrev pub image_of : List (List Entry) → ℕ → List Entry
+image_of images zero = []
+image_of images (suc before) = slice_index_or images before []
+
+-- images of all nodes: one for each, of records within their limits
+pub record AreImages (size : Limits) (images : List (List Entry)) : Type 0 where
+  pub one_each : length images ≡ size.n
+  pub limits : All (All IsEntry) images
+
+-- whether the source holds the packet's pair
+abbrev pub truthful : World → Carried → Bool
+truthful w packet = has_pair (pend (stored w packet.source)) packet.name packet.message

@@ -1,0 +1,5 @@
+//! All nodes of a group: the laws that hold in every world that a run of them reaches.
+#![tactic(auto)]
+
+pub mod laws;
+pub mod worked;

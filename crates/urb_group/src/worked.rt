@@ -1,0 +1,13 @@
+//! Worked examples of the definitions: small lists of records, images and scripts, each with what it comes to.
+#![tactic(auto, unfolding(crate::specs::Step::step, crate::specs::Step::run))]
+
+pub mod clients;
+pub mod dangers;
+pub mod deliveries;
+pub mod failures;
+pub mod images;
+pub mod logs;
+pub mod packets;
+pub mod refusals;
+pub mod restarts;
+pub mod ticks;

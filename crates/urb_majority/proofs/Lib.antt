@@ -1,0 +1,4 @@
+pub mod Counts
+pub mod Majorities
+pub mod Rooms
+pub mod Joined

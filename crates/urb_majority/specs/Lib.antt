@@ -1,0 +1,3 @@
+pub mod Counting
+pub mod Acks
+pub mod Room

@@ -1,0 +1,22 @@
+-- What the vectors of acknowledgements keep: order, and room for the name that is reserved.
+use Rattle.std.specs.Prelude.{◌≡◌, false, ◌<◌, ◌≤◌, ◌+◌, count_by}
+use Rattle.std.specs.Vec.{vec_len, vec_capacity}
+use Rattle.std.specs.Option.{ForSome}
+use Rattle.urb_names.specs.Naming.{Label}
+use Rattle.urb_names.specs.Names.{has_name}
+use Rattle.urb_names.specs.Nodes.{nodes}
+use Rattle.urb_names.specs.Acknowledged.{acked}
+use Rattle.urb_majority.specs.Acks.{AckSet, IsAckSet}
+use Rattle.urb_majority.specs.declared.acks.Acks.TheInside.{Inside}
+
+abbrev pub view_of : {A : Type 0} → Inside A → AckSet
+view_of a = record { limits = a.config; counted = a.counted.items; certified = a.certified.items; reserved = a.reserved }
+
+-- there is room for each of the seven nodes that there may be, unless it is counted for the name already, and for the certificate
+pub record HasRoom {A : Type 0} (a : Inside A) (x : Label) : Type 0 where
+  pub counted : vec_len a.counted + 7 ≤ vec_capacity a.counted + count_by (acked a.counted.items x) (nodes 7)
+  pub certified : has_name a.certified.items x ≡ false → vec_len a.certified < vec_capacity a.certified
+
+pub record IsKept {A : Type 0} (a : Inside A) : Type 0 where
+  pub order : IsAckSet (view_of a)
+  pub room : ForSome a.reserved (HasRoom a)

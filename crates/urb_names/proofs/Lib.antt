@@ -1,0 +1,14 @@
+pub mod Numbers
+pub mod Judged
+pub mod Spelled
+pub mod Parsed
+pub mod ClientNumbers
+pub mod FoundPairs
+pub mod Ordered
+pub mod OrderedPairs
+pub mod Places
+pub mod Reached
+pub mod Released
+pub mod RisingPairs
+pub mod SameNames
+pub mod SentPairs

@@ -1,0 +1,12 @@
+pub mod Naming
+pub mod Nodes
+pub mod Names
+pub mod Release
+pub mod Pairs
+pub mod Cyclic
+pub mod Acknowledged
+pub mod Refusing
+pub mod Carried
+pub mod Packets
+pub mod Beginnings
+pub mod Ordered

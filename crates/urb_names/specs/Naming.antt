@@ -1,0 +1,33 @@
+-- What contracts see of a configuration, a name and a message, wherever they lie in memory.
+use Rattle.std.specs.Prelude.{◌<◌, ◌≤◌, ◌^◌, ℕ, List, length}
+
+-- how many nodes there are, and how many messages each may broadcast
+pub record Limits : Type 0 where
+  pub n : ℕ
+  pub cap : ℕ
+
+-- one to seven nodes, and a cap of one to a million messages
+abbrev pub IsLimits : Limits → Type 0
+IsLimits l = (0 < l.n) × (l.n ≤ 7) × (0 < l.cap) × (l.cap ≤ 1000000)
+
+-- a name: the sender, and the number among its messages
+pub record Label : Type 0 where
+  pub sender : ℕ
+  pub seq : ℕ
+
+-- what is broadcast: the client, the number that it gave, and the payload
+pub record Content : Type 0 where
+  pub client : ℕ
+  pub number : ℕ
+  pub payload : List ℕ
+
+-- a name has a sender of one to seven, and a number from one
+pub record IsLabel (x : Label) : Type 0 where
+  pub sender : (0 < x.sender) × (x.sender ≤ 7)
+  pub seq : (0 < x.seq) × (x.seq < 2 ^ 32)
+
+-- a message has a client and a number that are not 0, and a payload of at most 1,024 bytes
+pub record IsContent (m : Content) : Type 0 where
+  pub client : (0 < m.client) × (m.client < 2 ^ 16)
+  pub number : (0 < m.number) × (m.number < 2 ^ 32)
+  pub payload : length m.payload ≤ 1024

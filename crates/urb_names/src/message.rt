@@ -1,0 +1,121 @@
+// Messages of clients.
+ghost use Rattle.std.specs.Prelude.{◌≡◌, ◌≤◌, ◌<◌, IfOk, length, vec_len};
+ghost use Rattle.std.specs.Bool.{MatchBool};
+ghost use Rattle.urb_names.specs.Naming.{IsContent};
+
+use crate::{ClientId, NoMemory};
+use std::alloc::{Allocator, Global};
+use std::marker::Model;
+
+/// The greatest length of a payload, in bytes.
+pub const MAX_PAYLOAD: usize = 1024;
+
+/// What a client broadcasts: the client, the number that it gave the message, 1 to 4,294,967,295, and the payload, at
+/// most `MAX_PAYLOAD` bytes.
+#[derive(Drop)]
+#[derive_where(Debug)]
+pub struct Message<A: Allocator = Global> {
+    client: ClientId,
+    number: u32,
+    payload: Vec<u8, A>,
+}
+
+impl<A: Allocator> Model for Message<A> {
+    ghost use Rattle.std.specs.Prelude.{◌<◌, ◌≤◌, vec_len};
+    ghost use Rattle.urb_names.specs.Naming.{Content};
+
+    ghost Value = { Content };
+
+    ghost view = { λ a. record { client = a.client; number = a.number; payload = a.payload.items } };
+
+    ghost invariant = { λ a. (0 < a.number) × (vec_len a.payload ≤ 1024) };
+}
+
+impl<A: Allocator> Message<A> {
+    /// The message of these parts, with the payload as it lies in memory. Takes no memory.
+    pub fn new(client: ClientId, number: u32, payload: Vec<u8, A>) -> Message<A>
+        requires number { 0 < number }
+        requires payload { vec_len payload ≤ 1024 }
+        ensures { result ≡ record { client = client; number = number; payload = payload.items } }
+    {
+        Message {
+            client,
+            number,
+            payload,
+        }
+    }
+
+    /// A message with a copy of the payload. Its memory comes from `alloc`.
+    pub fn copied(
+        alloc: A,
+        client: ClientId,
+        number: u32,
+        payload: &[u8],
+    ) -> Result<Message<A>, NoMemory>
+        requires number { 0 < number }
+        requires payload { length payload.now ≤ 1024 }
+        ensures { IfOk result (λ m. m ≡ record { client = client; number = number; payload = payload.now }) }
+    {
+        Ok(Message {
+            client,
+            number,
+            payload: Vec::from_slice(alloc, payload)?,
+        })
+    }
+
+    /// Whose message it is.
+    pub fn client(&self) -> ClientId
+        ensures { result ≡ self.now.client }
+    {
+        self.client
+    }
+
+    /// The number that the client gave it.
+    pub fn number(&self) -> u32
+        ensures value { result ≡ self.now.number }
+        ensures range { 0 < self.now.number }
+    {
+        self.number
+    }
+
+    /// The bytes that the client sent.
+    pub fn payload(&self) -> &[u8]
+        ensures value { result.now ≡ self.now.payload }
+        ensures limit { length self.now.payload ≤ 1024 }
+    {
+        &self.payload
+    }
+
+    /// The payload, without a copy.
+    pub fn into_payload(self) -> Vec<u8, A>
+        ensures { result.items ≡ self.payload }
+    {
+        let Message { payload, .. } = self;
+        payload
+    }
+
+    /// Whether the other is the same message: that of the same client, with the same number and payload.
+    pub fn is_same(&self, other: &Message<A>) -> bool
+        ensures { MatchBool result (self.now ≡ other.now) (¬ (self.now ≡ other.now)) }
+    {
+        self.client == other.client
+            && self.number == other.number
+            && self.payload.as_slice() == other.payload.as_slice()
+    }
+
+    /// Another message with the same content. Its memory comes from `alloc`.
+    pub fn copy(&self, alloc: A) -> Result<Message<A>, NoMemory>
+        ensures { IfOk result (λ m. m ≡ self.now) }
+    {
+        Message::copied(alloc, self.client, self.number, &self.payload)
+    }
+
+    /// That every message is within its limits: for proofs alone, since it does nothing.
+    pub fn limits(&self)
+        ensures { IsContent self.now }
+    {
+        let _client = self.client.number();
+        let _number = self.number;
+        let _payload = &self.payload;
+    }
+}

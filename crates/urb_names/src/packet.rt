@@ -1,0 +1,90 @@
+// Packets: what one node sends to another.
+ghost use Rattle.std.specs.Prelude.{◌≡◌, ◌≢◌};
+ghost use Rattle.urb_names.specs.Packets.{IsPacket};
+
+use crate::{Message, Name, NodeId};
+use std::alloc::{Allocator, Global};
+use std::marker::Model;
+
+/// A message under its name, from one node to another: what a datagram carries.
+#[derive(Drop)]
+#[derive_where(Debug)]
+pub struct Packet<A: Allocator = Global> {
+    source: NodeId,
+    target: NodeId,
+    name: Name,
+    message: Message<A>,
+}
+
+impl<A: Allocator> Model for Packet<A> {
+    ghost use Rattle.std.specs.Prelude.{◌≢◌};
+    ghost use Rattle.urb_names.specs.Carried.{Carried};
+
+    ghost Value = { Carried };
+
+    ghost view = { λ a. record { source = a.source; target = a.target; name = a.name; message = a.message } };
+
+    ghost invariant = { λ a. a.source ≢ a.target };
+}
+
+impl<A: Allocator> Packet<A> {
+    /// The packet of these parts. Takes no memory.
+    pub fn new(source: NodeId, target: NodeId, name: Name, message: Message<A>) -> Packet<A>
+        requires { source ≢ target }
+        ensures { result ≡ record { source = source; target = target; name = name; message = message } }
+    {
+        Packet {
+            source,
+            target,
+            name,
+            message,
+        }
+    }
+
+    /// The node that sends it.
+    pub fn source(&self) -> NodeId
+        ensures { result ≡ self.now.source }
+    {
+        self.source
+    }
+
+    /// The node that it is sent to, another one.
+    pub fn target(&self) -> NodeId
+        ensures value { result ≡ self.now.target }
+        ensures apart { self.now.source ≢ self.now.target }
+    {
+        self.target
+    }
+
+    /// The name of its message.
+    pub fn name(&self) -> Name
+        ensures { result ≡ self.now.name }
+    {
+        self.name
+    }
+
+    /// Its message.
+    pub fn message(&self) -> &Message<A>
+        ensures { result.now ≡ self.now.message }
+    {
+        &self.message
+    }
+
+    /// Its message, without a copy.
+    pub fn into_message(self) -> Message<A>
+        ensures { result ≡ self.message }
+    {
+        let Packet { message, .. } = self;
+        message
+    }
+
+    /// That every packet is one of the grammar: for proofs alone, since it does nothing.
+    pub fn limits(&self)
+        ensures { IsPacket self.now }
+    {
+        let _source = self.source.number();
+        let _target = self.target.number();
+        self.name.limits();
+        self.message.limits();
+    }
+}

@@ -1,0 +1,210 @@
+// Why a call was refused.
+ghost use Rattle.std.specs.Prelude.{◌≡◌};
+ghost use Rattle.urb_names.specs.Refusing.{number_of, detail_of};
+
+use crate::{Name, NodeId};
+use std::alloc::{AllocError, AllocFailed};
+use thiserror::Error;
+
+/// A growth of memory was refused. What the call was made on is as it was before, so the same call may be made again.
+#[derive(Clone, Copy, Debug, PartialEq, Eq, Error)]
+#[error("no memory")]
+pub struct NoMemory;
+
+impl From<AllocError> for NoMemory {
+    fn from(_: AllocError) -> NoMemory {
+        NoMemory
+    }
+}
+
+impl<T: Drop> From<AllocFailed<T>> for NoMemory {
+    fn from(_: AllocFailed<T>) -> NoMemory {
+        NoMemory
+    }
+}
+
+/// Why bytes are no packet: the first of these that holds.
+#[derive(Clone, Copy, Debug, PartialEq, Eq, Error)]
+pub enum PacketFault {
+    /// There are fewer than the 18 bytes of a header.
+    #[error("the packet is too short")]
+    Short,
+    /// The first two bytes are not 55 42: it is no packet of this program.
+    #[error("the packet begins with other bytes")]
+    Magic,
+    /// The third byte is not 01: it is a packet of another version.
+    #[error("the packet has another version")]
+    Version,
+    /// The length of the payload is over 1,024, or not the number of the bytes behind the header.
+    #[error("the packet has another length")]
+    Length,
+    /// A node is not 1 to 7, a number is 0, or source and target are the same.
+    #[error("a field of the packet is out of range")]
+    Range,
+}
+
+/// A rule that the stored records of a group's nodes, their images, have to meet together.
+#[derive(Clone, Copy, Debug, PartialEq, Eq)]
+pub enum Rule {
+    /// A record fits the group, names its message for the first time, or certifies once what is pending.
+    A,
+    /// A node's own messages are numbered 1, 2, 3, .., and so are each client's among them.
+    B,
+    /// What a node holds of another is pending at that one.
+    C,
+    /// What is certified is pending at a majority of the nodes.
+    D,
+}
+
+/// Why a call was refused. A refused call changes nothing, unless the call says otherwise.
+#[derive(Clone, Copy, Debug, PartialEq, Eq, Error)]
+pub enum Refusal {
+    /// A growth of memory was refused. The same call may be made again.
+    #[error("no memory")]
+    NoMemory,
+    /// The group has no such node, or the packet was sent to another one.
+    #[error("there is no such node")]
+    BadNode,
+    /// The node is down: restart it first.
+    #[error("the node is down")]
+    Down,
+    /// The node waits for its storage: finish that record first.
+    #[error("the node holds a draft")]
+    Busy,
+    /// The payload has more than 1,024 bytes.
+    #[error("the payload is too long")]
+    TooLong,
+    /// The client gave this number to another payload before.
+    #[error("the number was used with another payload")]
+    Conflict,
+    /// The client has to give this number next.
+    #[error("the next number is {0}")]
+    Gap(u32),
+    /// The sender has broadcast as many messages as the group allows each node.
+    #[error("the sender has sent all that it may")]
+    Full,
+    /// The packet's source doesn't hold this message under this name, so it can't have sent it.
+    #[error("the source does not hold this message")]
+    Forged,
+    /// The bytes are no packet, and this is their first fault.
+    #[error("{0}")]
+    Packet(PacketFault),
+    /// The node holds no draft, or another than that of the receipt.
+    #[error("the node holds no such draft")]
+    Stale,
+    /// Only a node that is down may be restarted.
+    #[error("the node is not down")]
+    NotDown,
+    /// The image is neither what the node stored nor that with its doubtful record.
+    #[error("the image is not what was stored")]
+    BadImage,
+    /// The images don't fit together: this is the first record that breaks a rule, by its node and its name.
+    #[error("the images do not fit together")]
+    Inconsistent {
+        rule: Rule,
+        node: NodeId,
+        name: Name,
+    },
+    /// The storage failed in this call.
+    #[error("the storage failed")]
+    Device,
+    /// The storage keeps a record at this position next, or has a doubtful record and wants a retrieve first.
+    #[error("the next position is {0}")]
+    Place(u32),
+    /// What stands at this place of the storage, counted from 1, is no record.
+    #[error("row {0} is no record")]
+    BadRow(u32),
+    /// This line of the script, counted from 1, is no command.
+    #[error("line {0} is no command")]
+    BadLine(u64),
+    /// The client's bytes are no request, and this is the fault's code.
+    #[error("the frame has fault {0}")]
+    Frame(u8),
+}
+
+impl Refusal {
+    /// The refusal's number in what clients are sent and programs print, 1 to 19.
+    pub fn number(&self) -> u8
+        ensures { result ≡ number_of self.now }
+    {
+        match self {
+            Refusal::NoMemory => 1,
+            Refusal::BadNode => 2,
+            Refusal::Down => 3,
+            Refusal::Busy => 4,
+            Refusal::TooLong => 5,
+            Refusal::Conflict => 6,
+            Refusal::Gap(_) => 7,
+            Refusal::Full => 8,
+            Refusal::Forged => 9,
+            Refusal::Packet(_) => 10,
+            Refusal::Stale => 11,
+            Refusal::NotDown => 12,
+            Refusal::BadImage => 13,
+            Refusal::Inconsistent { .. } => 14,
+            Refusal::Device => 15,
+            Refusal::Place(_) => 16,
+            Refusal::BadRow(_) => 17,
+            Refusal::BadLine(_) => 18,
+            Refusal::Frame(_) => 19,
+        }
+    }
+
+    /// What goes with the number: the number that a client has to give next, the next position, the place of a row or the
+    /// code of a frame's fault; else 0.
+    pub fn detail(&self) -> u32
+        ensures { result ≡ detail_of self.now }
+    {
+        match self {
+            Refusal::Gap(expected) => *expected,
+            Refusal::Place(next) => *next,
+            Refusal::BadRow(place) => *place,
+            Refusal::Frame(code) => u32::from(*code),
+            _ => 0,
+        }
+    }
+}
+
+impl From<PacketFault> for Refusal {
+    ghost use Rattle.urb_names.specs.declared.refusal.Refusal.TheVariants.{Packet as packet};
+    ghost use Rattle.std.specs.Prelude.{◌≡◌};
+
+    ghost from_gives = { λ fault e. e ≡ packet fault };
+
+    fn from(fault: PacketFault) -> Refusal {
+        Refusal::Packet(fault)
+    }
+}
+
+impl From<NoMemory> for Refusal {
+    ghost use Rattle.urb_names.specs.declared.refusal.Refusal.TheVariants.{NoMemory as no_memory};
+    ghost use Rattle.std.specs.Prelude.{◌≡◌};
+
+    ghost from_gives = { λ _ e. e ≡ no_memory };
+
+    fn from(_: NoMemory) -> Refusal {
+        Refusal::NoMemory
+    }
+}
+
+impl From<AllocError> for Refusal {
+    ghost use Rattle.urb_names.specs.declared.refusal.Refusal.TheVariants.{NoMemory as no_memory};
+    ghost use Rattle.std.specs.Prelude.{◌≡◌};
+
+    ghost from_gives = { λ _ e. e ≡ no_memory };
+
+    fn from(_: AllocError) -> Refusal {
+        Refusal::NoMemory
+    }
+}
+
+impl<T: Drop> From<AllocFailed<T>> for Refusal {
+    ghost use Rattle.urb_names.specs.declared.refusal.Refusal.TheVariants.{NoMemory as no_memory};
+    ghost use Rattle.std.specs.Prelude.{◌≡◌};
+
+    ghost from_gives = { λ _ e. e ≡ no_memory };
+
+    fn from(_: AllocFailed<T>) -> Refusal {
+        Refusal::NoMemory
+    }
+}

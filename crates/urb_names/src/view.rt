@@ -1,0 +1,120 @@
+// Packets whose payload is lent.
+ghost use Rattle.std.specs.Prelude.{◌≡◌, ◌≢◌, ◌<◌, ◌≤◌, length, IfOk};
+ghost use Rattle.urb_names.specs.Packets.{IsPacket};
+
+use crate::{ClientId, Message, Name, NoMemory, NodeId, Packet};
+use std::alloc::Allocator;
+use std::marker::Model;
+
+/// A packet whose payload is lent: what `parse` finds in a datagram, without a copy.
+#[derive(Debug, Drop)]
+pub struct PacketView<'a> {
+    source: NodeId,
+    target: NodeId,
+    name: Name,
+    client: ClientId,
+    number: u32,
+    payload: &'a [u8],
+}
+
+impl<'a> Model for PacketView<'a> {
+    ghost use Rattle.std.specs.Prelude.{◌≢◌, ◌<◌, ◌≤◌, length};
+    ghost use Rattle.urb_names.specs.Carried.{Carried};
+
+    ghost Value = { Carried };
+
+    ghost view = { λ a. record { source = a.source; target = a.target; name = a.name; message = record { client = a.client; number = a.number; payload = a.payload.now } } };
+
+    ghost invariant = { λ a. (a.source ≢ a.target) × (0 < a.number) × (length a.payload.now ≤ 1024) };
+}
+
+impl<'a> PacketView<'a> {
+    // The packet of these parts.
+    pub(crate) fn new(
+        source: NodeId,
+        target: NodeId,
+        name: Name,
+        client: ClientId,
+        number: u32,
+        payload: &'a [u8],
+    ) -> PacketView<'a>
+        requires apart { source ≢ target }
+        requires number { 0 < number }
+        requires payload { length payload.now ≤ 1024 }
+        ensures { result ≡ record { source = source; target = target; name = name; message = record { client = client; number = number; payload = payload.now } } }
+    {
+        PacketView {
+            source,
+            target,
+            name,
+            client,
+            number,
+            payload,
+        }
+    }
+
+    /// The node that sent it.
+    pub fn source(&self) -> NodeId
+        ensures { result ≡ self.now.source }
+    {
+        self.source
+    }
+
+    /// The node that it was sent to, another one.
+    pub fn target(&self) -> NodeId
+        ensures value { result ≡ self.now.target }
+        ensures apart { self.now.source ≢ self.now.target }
+    {
+        self.target
+    }
+
+    /// The name of its message.
+    pub fn name(&self) -> Name
+        ensures { result ≡ self.now.name }
+    {
+        self.name
+    }
+
+    /// Whose message it is.
+    pub fn client(&self) -> ClientId
+        ensures { result ≡ self.now.message.client }
+    {
+        self.client
+    }
+
+    /// The number that the client gave the message.
+    pub fn number(&self) -> u32
+        ensures value { result ≡ self.now.message.number }
+        ensures range { 0 < self.now.message.number }
+    {
+        self.number
+    }
+
+    /// The bytes that the client sent.
+    pub fn payload(&self) -> &[u8]
+        ensures value { result.now ≡ self.now.message.payload }
+        ensures limit { length self.now.message.payload ≤ 1024 }
+    {
+        self.payload
+    }
+
+    /// The packet, with a copy of the payload. Its memory comes from `alloc`.
+    pub fn to_packet<A: Allocator>(&self, alloc: A) -> Result<Packet<A>, NoMemory>
+        ensures { IfOk result (λ p. p ≡ self.now) }
+    {
+        let message = Message::copied(alloc, self.client, self.number, self.payload)?;
+        Ok(Packet::new(self.source, self.target, self.name, message))
+    }
+
+    /// That every packet is one of the grammar: for proofs alone, since it does nothing.
+    pub fn limits(&self)
+        ensures { IsPacket self.now }
+    {
+        let _source = self.source.number();
+        let _target = self.target.number();
+        self.name.limits();
+        let _client = self.client.number();
+        let _number = self.number;
+        let _payload = self.payload;
+    }
+}

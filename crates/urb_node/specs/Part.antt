@@ -1,0 +1,32 @@
+-- One node's part of the world: what it has stored, its state, and what it holds beside that.
+use Rattle.std.specs.Prelude.{List, None, Option, map, ℕ}
+use Rattle.urb_names.specs.Naming.{Content, Label}
+use Rattle.urb_names.specs.Pairs.{own}
+use Rattle.urb_stable.specs.Entries.{Entry}
+use Rattle.urb_stable.specs.Records.{pend}
+
+-- ready; storing a record, with the node whose arrival caused it, or none; down, perhaps with one doubtful record
+pub data State : Type 0 where
+  Ready : State
+  Storing : (entry : Entry) (cause : Option ℕ) → State
+  Down : (doubtful : Option Entry) → State
+
+-- one node's part of the world
+pub record Node : Type 0 where
+  pub records : List Entry  -- what its storage holds
+  pub state : State
+  pub acks : List (Label × ℕ)  -- the acknowledgements counted
+  pub cursor : Option Label
+  pub broadcast : List Content  -- what it has broadcast
+
+-- a node's own acknowledgements of these pairs
+abbrev pub self_acks : ℕ → List (Label × Content) → List (Label × ℕ)
+self_acks p pairs = map (λ pair. (pair.0, p)) pairs
+
+-- a node's own acknowledgements of all its pending names
+abbrev pub own_acks : ℕ → List Entry → List (Label × ℕ)
+own_acks p records = self_acks p (pend records)
+
+-- a ready node that has read these records
+abbrev pub opened_node : ℕ → List Entry → Node
+opened_node p records = record { records = records; state = Ready; acks = own_acks p records; cursor = None; broadcast = own p (pend records) }

@@ -1,0 +1,34 @@
+-- What is answered to an event at a node.
+use Rattle.std.specs.Prelude.{Bool, List, [], ℕ}
+use Rattle.urb_names.specs.Carried.{Carried}
+use Rattle.urb_names.specs.Naming.{Label}
+use Rattle.urb_names.specs.declared.refusal.Refusal.{Refusal}
+use Rattle.urb_node.specs.declared.answer.Answer.{Answer}
+
+-- what is told when a record is stored
+pub record Done : Type 0 where
+  pub accepted : Bool  -- whether it is a pending record of the node's own
+  pub name : Label
+  pub sent : List Carried
+  pub released : ℕ  -- how many names are delivered by it
+
+-- a draft was made; an answer was given at once; a record was stored; a tick sent packets; node p went down or came up;
+-- or nothing was done
+pub data Reply : Type 0 where
+  Drafted : (x : Label) (position : ℕ) → Reply
+  Same : (answer : Answer) → Reply
+  Stored : (done : Done) → Reply
+  Sent : (packets : List Carried) → Reply
+  WentDown : (p : ℕ) → Reply
+  Up : (p : ℕ) → Reply
+  Refused : (refusal : Refusal) → Reply
+
+-- the packets that a reply hands out
+abbrev pub packets_in : Reply → List Carried
+packets_in (Drafted x position) = []
+packets_in (Same answer) = []
+packets_in (Stored done) = done.sent
+packets_in (Sent packets) = packets
+packets_in (WentDown p) = []
+packets_in (Up p) = []
+packets_in (Refused refusal) = []

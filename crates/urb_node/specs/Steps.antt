@@ -1,0 +1,244 @@
+-- One node's part of each step: each function gives the reply, and the node after the event.
+use Rattle.std.specs.List.{list_all, position_or_len}
+use Rattle.std.specs.Prelude.{Bool, List, None, Option, Some, [], bytes_eq, false, find, flat_map, if◌then◌else◌, is_none, length, nat_lt, not, suc, true, ℕ, ◌&&◌, ◌++◌, ◌-◌, ◌==◌, ◌||◌, ◌∷◌}
+use Rattle.urb_names.specs.Acknowledged.{acked, with_ack}
+use Rattle.urb_names.specs.Carried.{Carried, to_others}
+use Rattle.urb_names.specs.Cyclic.{last_name, resent, rising}
+use Rattle.urb_names.specs.Names.{has_name, name, same_message, same_name}
+use Rattle.urb_names.specs.Naming.{Content, Label, Limits}
+use Rattle.urb_names.specs.Nodes.{majority_passes}
+use Rattle.urb_names.specs.Pairs.{has_pair, is_numbered, message_of, next_number}
+use Rattle.urb_names.specs.declared.refusal.Refusal.{Refusal}
+use Rattle.urb_node.specs.Part.{Down, Node, Ready, State, Storing, own_acks}
+use Rattle.urb_node.specs.Replies.{Done, Drafted, Refused, Reply, Same, Sent, Stored, Up, WentDown}
+use Rattle.urb_node.specs.declared.answer.Answer.TheVariants.{Accepted, Again, Noted}
+use Rattle.urb_stable.specs.Entries.{Entry, name_of}
+use Rattle.urb_stable.specs.Log.{log}
+use Rattle.urb_stable.specs.Records.{cert, pend}
+use Rattle.urb_stable.specs.declared.record.Record.TheVariants.{Cert, Pend, PendCert}
+use Rattle.urb_names.specs.declared.refusal.Refusal.TheVariants as refusal
+
+-- whether the node is down
+abbrev pub is_down : State → Bool
+is_down Ready = false
+is_down (Storing entry cause) = false
+is_down (Down doubtful) = true
+
+-- whether it holds a draft
+abbrev pub is_storing : State → Bool
+is_storing Ready = false
+is_storing (Storing entry cause) = true
+is_storing (Down doubtful) = false
+
+-- the position of the next record
+abbrev pub next_position : Node → ℕ
+next_position node = suc (length node.records)
+
+-- the node holds a draft of this record, caused by this node or by none
+abbrev pub drafts : Node → Entry → Option ℕ → Reply × Node
+drafts node entry cause = (Drafted (name_of entry) (next_position node), record node { state = Storing entry cause })
+
+-- the node stays as it is
+abbrev pub refuses : Node → Refusal → Reply × Node
+refuses node refusal = (Refused refusal, node)
+
+-- A submit whose client number is new at this node: the next number of its client, and there is room for the message. It
+-- is drafted under the node's next name, certified at once where the node is alone.
+abbrev pub submits_new : Limits → ℕ → Content → Node → Reply × Node
+submits_new size p m node =
+    if not (m.number == next_number m.client node.broadcast) then refuses node (refusal.Gap (next_number m.client node.broadcast))
+    else (if not (nat_lt (length node.broadcast) size.cap) then refuses node refusal.Full
+    else (let x = name p (suc (length node.broadcast)) in
+    if size.n == 1 then drafts node (PendCert x m) None else drafts node (Pend x m) None))
+
+-- a submit whose client number the first message has: the same payload is accepted under that message's name
+abbrev pub submits_again : ℕ → Content → Content → Node → Reply × Node
+submits_again p m first node =
+    if bytes_eq first.payload m.payload
+    then (Same (Accepted (name p (suc (position_or_len (is_numbered m.client m.number) node.broadcast)))), node)
+    else refuses node refusal.Conflict
+
+-- a submit, by the message that has its client number, where there is one
+abbrev pub submits_by_number : Limits → ℕ → Content → Option Content → Node → Reply × Node
+submits_by_number size p m None node = submits_new size p m node
+submits_by_number size p m (Some first) node = submits_again p m first node
+
+-- a submit of this message
+abbrev pub submits : Limits → ℕ → Content → Node → Reply × Node
+submits size p m node =
+    if is_down node.state then refuses node refusal.Down
+    else (if is_storing node.state then refuses node refusal.Busy
+    else (if nat_lt 1024 (length m.payload) then refuses node refusal.TooLong
+    else submits_by_number size p m (find (is_numbered m.client m.number) node.broadcast) node))
+
+-- An arrival from q of a name that is not pending: the pair is drafted, certified at once where p and q are a majority.
+abbrev pub takes : Limits → ℕ → ℕ → Label → Content → Node → Reply × Node
+takes size p q x m node =
+    if majority_passes size.n (λ z. (z == p) || (z == q)) then drafts node (PendCert x m) (Some q)
+    else drafts node (Pend x m) (Some q)
+
+-- An arrival from q of a name that is pending and not certified: q is counted, and a certificate is drafted where the
+-- counted nodes are a majority.
+abbrev pub counts : Limits → ℕ → Label → Node → Reply × Node
+counts size q x node =
+    let after = record node { acks = with_ack node.acks x q } in
+    if majority_passes size.n (acked after.acks x) then drafts after (Cert x) (Some q)
+    else (if acked node.acks x q then (Same (Again x), after) else (Same (Noted x), after))
+
+-- a truthful packet comes from q to a ready node
+abbrev pub arrives : Limits → ℕ → ℕ → Label → Content → Node → Reply × Node
+arrives size p q x m node =
+    if is_none (message_of (pend node.records) x) then takes size p q x m node
+    else (if not (has_name (cert node.records) x) then counts size q x node
+    else (Same (Again x), node))
+
+-- the acknowledgements with the causing node counted, where there is one
+abbrev pub with_cause : List (Label × ℕ) → Label → Option ℕ → List (Label × ℕ)
+with_cause acks x None = acks
+with_cause acks x (Some q) = with_ack acks x q
+
+-- the acknowledgements once a record is stored: of a pending one the node itself and the causing node are counted
+abbrev pub acks_after : ℕ → Entry → Option ℕ → List (Label × ℕ) → List (Label × ℕ)
+acks_after p (Pend x m) cause acks = with_cause (with_ack acks x p) x cause
+acks_after p (PendCert x m) cause acks = with_cause (with_ack acks x p) x cause
+acks_after p (Cert x) cause acks = acks
+
+-- the messages broadcast once a record is stored: a pending one of the node's own is a broadcast
+abbrev pub broadcast_after : ℕ → Entry → List Content → List Content
+broadcast_after p (Pend x m) messages = if x.sender == p then messages ++ m ∷ [] else messages
+broadcast_after p (PendCert x m) messages = if x.sender == p then messages ++ m ∷ [] else messages
+broadcast_after p (Cert x) messages = messages
+
+-- the packets of a stored record: of a pending one, to each other node
+abbrev pub packets_of : ℕ → ℕ → Entry → List Carried
+packets_of n p (Pend x m) = to_others n p (x, m)
+packets_of n p (PendCert x m) = to_others n p (x, m)
+packets_of n p (Cert x) = []
+
+-- whether the record is a pending one of the node's own
+abbrev pub is_accepted : ℕ → Entry → Bool
+is_accepted p (Pend x m) = x.sender == p
+is_accepted p (PendCert x m) = x.sender == p
+is_accepted p (Cert x) = false
+
+-- what is told when this record is stored
+abbrev pub done : ℕ → ℕ → Entry → Node → Done
+done n p entry node =
+    record {
+      accepted = is_accepted p entry;
+      name = name_of entry;
+      sent = packets_of n p entry;
+      released = length (log (node.records ++ entry ∷ [])) - length (log node.records);
+    }
+
+-- the node once its held record is stored
+abbrev pub keeps_record : ℕ → Entry → Option ℕ → Node → Node
+keeps_record p entry cause node =
+    record {
+      records = node.records ++ entry ∷ [];
+      state = Ready;
+      acks = acks_after p entry cause node.acks;
+      cursor = node.cursor;
+      broadcast = broadcast_after p entry node.broadcast;
+    }
+
+-- whether two records are the same
+abbrev pub same_record : Entry → Entry → Bool
+same_record (Pend x m) (Pend y o) = same_name x y && same_message m o
+same_record (Pend x m) (PendCert y o) = false
+same_record (Pend x m) (Cert y) = false
+same_record (PendCert x m) (Pend y o) = false
+same_record (PendCert x m) (PendCert y o) = same_name x y && same_message m o
+same_record (PendCert x m) (Cert y) = false
+same_record (Cert x) (Pend y o) = false
+same_record (Cert x) (PendCert y o) = false
+same_record (Cert x) (Cert y) = same_name x y
+
+-- a receipt for this record at this position comes: it is taken where it is the held draft's
+abbrev pub commits : ℕ → ℕ → ℕ → Entry → Node → State → Reply × Node
+commits n p position entry node Ready = refuses node refusal.Stale
+commits n p position entry node (Storing held cause) =
+    if (position == next_position node) && same_record entry held
+    then (Stored (done n p held node), keeps_record p held cause node)
+    else refuses node refusal.Stale
+commits n p position entry node (Down doubtful) = refuses node refusal.Down
+
+-- what is doubtful once the node is down
+abbrev pub doubt : State → Option Entry
+doubt Ready = None
+doubt (Storing entry cause) = Some entry
+doubt (Down doubtful) = doubtful
+
+-- the node loses its memory, and a record that it holds is doubtful
+abbrev pub goes_down : ℕ → Node → Reply × Node
+goes_down p node = (WentDown p, record node { state = Down (doubt node.state); acks = [] })
+
+-- the store of the held record failed
+abbrev pub fails : ℕ → Node → State → Reply × Node
+fails p node Ready = refuses node refusal.Stale
+fails p node (Storing entry cause) = goes_down p node
+fails p node (Down doubtful) = refuses node refusal.Down
+
+-- the node crashes
+abbrev pub crashes : ℕ → Node → Reply × Node
+crashes p node = if is_down node.state then refuses node refusal.Down else goes_down p node
+
+-- whether two lists have the same pairs
+abbrev pub same_pairs : List (Label × Content) → List (Label × Content) → Bool
+same_pairs xs ys = list_all (λ pair. has_pair ys pair.0 pair.1) xs && list_all (λ pair. has_pair xs pair.0 pair.1) ys
+
+-- whether two lists have the same names
+abbrev pub same_names : List Label → List Label → Bool
+same_names xs ys = list_all (has_name ys) xs && list_all (has_name xs) ys
+
+-- whether two lists are the same list of names
+abbrev pub same_list : List Label → List Label → Bool
+same_list [] [] = true
+same_list [] (y ∷ ys) = false
+same_list (x ∷ xs) [] = false
+same_list (x ∷ xs) (y ∷ ys) = same_name x y && same_list xs ys
+
+-- whether an image has these pairs, certified names, log and count of records
+abbrev pub tells : List Entry → List (Label × Content) → List Label → List Label → ℕ → Bool
+tells image pairs certified delivered count =
+    same_pairs (pend image) pairs && (same_names (cert image) certified
+    && (same_list (log image) delivered && (length image == count)))
+
+-- whether an image says what the records say
+abbrev pub says : List Entry → List Entry → Bool
+says image records = tells image (pend records) (cert records) (log records) (length records)
+
+-- the node is ready again, with these records
+abbrev pub comes_up : ℕ → List Entry → List Content → Reply × Node
+comes_up p records messages =
+    (Up p, record { records = records; state = Ready; acks = own_acks p records; cursor = None; broadcast = messages })
+
+-- the image is that of the stored records, or of these with the doubtful one, which then counts as stored
+abbrev pub restarts_with : ℕ → List Entry → Node → Option Entry → Reply × Node
+restarts_with p image node None =
+    if says image node.records then comes_up p node.records node.broadcast else refuses node refusal.BadImage
+restarts_with p image node (Some entry) =
+    if says image node.records then comes_up p node.records node.broadcast
+    else (if says image (node.records ++ entry ∷ []) then comes_up p (node.records ++ entry ∷ []) (broadcast_after p entry node.broadcast)
+    else refuses node refusal.BadImage)
+
+-- a restart with this image
+abbrev pub restarts : ℕ → List Entry → Node → State → Reply × Node
+restarts p image node Ready = refuses node refusal.NotDown
+restarts p image node (Storing entry cause) = refuses node refusal.NotDown
+restarts p image node (Down doubtful) = restarts_with p image node doubtful
+
+-- the pending pairs that a tick resends
+abbrev pub due : Node → List (Label × Content)
+due node = resent node.cursor (rising (pend node.records))
+
+-- they are sent to each other node, and the cursor is the last of their names
+abbrev pub resends : ℕ → ℕ → Node → Reply × Node
+resends n p node = (Sent (flat_map (to_others n p) (due node)), record node { cursor = last_name node.cursor (due node) })
+
+-- a tick
+abbrev pub ticks : ℕ → ℕ → Node → Reply × Node
+ticks n p node =
+    if is_down node.state then refuses node refusal.Down
+    else (if is_storing node.state then refuses node refusal.Busy
+    else resends n p node)

@@ -1,0 +1,6 @@
+//! One node of a group, in its three states.
+#![tactic(auto)]
+
+mod answer;
+
+pub use answer::Answer;

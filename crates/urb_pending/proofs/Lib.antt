@@ -1,0 +1,5 @@
+pub mod Ordered
+pub mod Mine
+pub mod Bounded
+pub mod Turned
+pub mod Kept

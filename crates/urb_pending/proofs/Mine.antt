@@ -1,0 +1,206 @@
+-- A sender's own pairs among pairs in order.
+use Rattle.std.proofs.Common.{◌≡◌, ℕ, zero, suc, ◌+◌, ◌<◌, ◌≤◌, Bool, true, false, cond, not, ◌&&◌, ◌==◌, List, [], ◌∷◌, ◌++◌, map, filter, length, count_by, None, Some, refl, sym, ap, ◌∙◌, subst, arith, eq-eqb, lt-ltb, nat_lt}
+use Rattle.std.specs.Prelude.{find, option_map}
+use Rattle.std.specs.List.{list_all, position_or_len}
+use Rattle.std.proofs.lemmas.Bool.{and_parts, and_from, false≢true, cond-true, cond-false, or_right}
+use Rattle.std.proofs.lemmas.List.{map-append, length-map}
+use Rattle.std.proofs.lemmas.List.Sums.{length-filter, sum_by-cons}
+use Rattle.std.proofs.lemmas.List.Folds.{list_all-map}
+use Rattle.urb_names.specs.Naming.{Label, Content}
+use Rattle.urb_names.specs.Nodes.{numbers_from}
+use Rattle.urb_names.specs.Names.{name, names, name_lt, same_name}
+use Rattle.urb_names.specs.Release.{part_of}
+use Rattle.urb_names.specs.Pairs.{own, message_of, is_numbered}
+use Rattle.urb_names.specs.Cyclic.{are_rising, inserted}
+use Rattle.urb_names.proofs.SameNames.{same_name-true}
+use Rattle.urb_pending.specs.PendingSet.{name_given}
+use Rattle.urb_names.proofs.RisingPairs.{name_lt-trans}
+use Rattle.urb_pending.proofs.Ordered.{not_before_itself}
+
+-- whether a pair is this sender's
+abbrev pub is_of : ℕ → Label × Content → Bool
+is_of s pair = pair.0.sender == s
+
+-- this sender's pairs
+abbrev pub mine : ℕ → List (Label × Content) → List (Label × Content)
+mine s ps = filter (is_of s) ps
+
+pub own_mine : (s : ℕ) (ps : List (Label × Content)) → own s ps ≡ map (λ pair. pair.1) (mine s ps)
+own_mine s [] = refl
+own_mine s (p ∷ ps) = step (own_mine s ps) (p.0.sender == s)
+  where
+    step : own s ps ≡ map (λ pair. pair.1) (mine s ps) → (b : Bool) → cond b (p.1 ∷ own s ps) (own s ps) ≡ map (λ pair. pair.1) (cond b (p ∷ mine s ps) (mine s ps))
+    step ih true = ap (λ ms. p.1 ∷ ms) ih
+    step ih false = ih
+
+pub part_mine : (s : ℕ) (ps : List (Label × Content)) → part_of s (map (λ pair. pair.0) ps) ≡ map (λ pair. pair.0) (mine s ps)
+part_mine s [] = refl
+part_mine s (p ∷ ps) = step (part_mine s ps) (p.0.sender == s)
+  where
+    step : part_of s (map (λ pair. pair.0) ps) ≡ map (λ pair. pair.0) (mine s ps) → (b : Bool)
+        → cond b (p.0 ∷ part_of s (map (λ pair. pair.0) ps)) (part_of s (map (λ pair. pair.0) ps)) ≡ map (λ pair. pair.0) (cond b (p ∷ mine s ps) (mine s ps))
+    step ih true = ap (λ xs. p.0 ∷ xs) ih
+    step ih false = ih
+
+-- how many are the sender's
+pub length-own : (s : ℕ) (ps : List (Label × Content)) → length (own s ps) ≡ count_by (is_of s) ps
+length-own s ps = ap length (own_mine s ps) ∙ (length-map (mine s ps) (λ (pair : Label × Content). pair.1) ∙ length-filter (is_of s) ps)
+
+-- another sender's pair is none of them
+pub mine_other : (s : ℕ) (p : Label × Content) (ps : List (Label × Content)) → is_of s p ≡ false → mine s (inserted p ps) ≡ mine s ps
+mine_other s p [] e = cond-false (is_of s p) _ _ e
+mine_other s p (q ∷ qs) e = step (mine_other s p qs e) (name_lt q.0 p.0)
+  where
+    step : mine s (inserted p qs) ≡ mine s qs → (b : Bool) → mine s (cond b (q ∷ inserted p qs) (p ∷ q ∷ qs)) ≡ mine s (q ∷ qs)
+    step ih true = ap (λ ps. cond (is_of s q) (q ∷ ps) ps) ih
+    step ih false = cond-false (is_of s p) (p ∷ mine s (q ∷ qs)) (mine s (q ∷ qs)) e
+
+-- behind a name that all of them stand before there is none of them
+none_behind : (s : ℕ) (x y : Label) (ps : List (Label × Content)) → name_lt y x ≡ false → list_all (λ q. name_lt y q.0) ps ≡ true → list_all (λ q. name_lt q.0 x) (mine s ps) ≡ true → mine s ps ≡ []
+none_behind s x y [] e h k = refl
+none_behind s x y (q ∷ qs) e h k = step (none_behind s x y qs e parts.1) (is_of s q) k
+  where
+    parts : (name_lt y q.0 ≡ true) × (list_all (λ r. name_lt y r.0) qs ≡ true)
+    parts = and_parts (name_lt y q.0) _ h
+
+    step : (list_all (λ r. name_lt r.0 x) (mine s qs) ≡ true → mine s qs ≡ []) → (b : Bool) → list_all (λ r. name_lt r.0 x) (cond b (q ∷ mine s qs) (mine s qs)) ≡ true → cond b (q ∷ mine s qs) (mine s qs) ≡ []
+    step ih true l = absurd (false≢true (sym e ∙ name_lt-trans y q.0 x parts.0 (and_parts (name_lt q.0 x) _ l).0))
+    step ih false l = ih l
+
+-- a pair of the sender's, behind all that it has, becomes the last of them
+pub mine_inserted : (s : ℕ) (p : Label × Content) (ps : List (Label × Content)) → is_of s p ≡ true → are_rising ps ≡ true → list_all (λ q. name_lt q.0 p.0) (mine s ps) ≡ true → mine s (inserted p ps) ≡ mine s ps ++ p ∷ []
+mine_inserted s p [] e h k = cond-true (is_of s p) _ _ e
+mine_inserted s p (q ∷ qs) e h k = step (mine_inserted s p qs e (and_parts _ (are_rising qs) h).1) (name_lt q.0 p.0) refl
+  where
+    parts : (list_all (λ r. name_lt q.0 r.0) qs ≡ true) × (are_rising qs ≡ true)
+    parts = and_parts _ (are_rising qs) h
+
+    further : (b : Bool) → list_all (λ r. name_lt r.0 p.0) (cond b (q ∷ mine s qs) (mine s qs)) ≡ true
+        → (list_all (λ r. name_lt r.0 p.0) (mine s qs) ≡ true → mine s (inserted p qs) ≡ mine s qs ++ p ∷ [])
+        → cond b (q ∷ mine s (inserted p qs)) (mine s (inserted p qs)) ≡ cond b (q ∷ mine s qs) (mine s qs) ++ p ∷ []
+    further true l ih = ap (λ ps. q ∷ ps) (ih (and_parts (name_lt q.0 p.0) _ l).1)
+    further false l ih = ih l
+
+    none : (b : Bool) → name_lt q.0 p.0 ≡ false → list_all (λ r. name_lt r.0 p.0) (cond b (q ∷ mine s qs) (mine s qs)) ≡ true → cond b (q ∷ mine s qs) (mine s qs) ≡ []
+    none true f l = absurd (false≢true (sym f ∙ (and_parts (name_lt q.0 p.0) _ l).0))
+    none false f l = none_behind s p.0 q.0 qs f parts.0 l
+
+    step : (list_all (λ r. name_lt r.0 p.0) (mine s qs) ≡ true → mine s (inserted p qs) ≡ mine s qs ++ p ∷ []) → (b : Bool) → name_lt q.0 p.0 ≡ b → mine s (cond b (q ∷ inserted p qs) (p ∷ q ∷ qs)) ≡ mine s (q ∷ qs) ++ p ∷ []
+    step ih true f = further (is_of s q) k ih
+    step ih false f =
+        cond-true (is_of s p) (p ∷ mine s (q ∷ qs)) (mine s (q ∷ qs)) e
+        ∙ (ap (λ ps. p ∷ ps) (none (is_of s q) f k) ∙ sym (ap (λ ps. ps ++ p ∷ []) (none (is_of s q) f k)))
+
+-- a name that all of the sender's stand before is new
+pub new_behind : (x : Label) (ps : List (Label × Content)) → list_all (λ q. name_lt q.0 x) (mine x.sender ps) ≡ true → message_of ps x ≡ None
+new_behind x [] h = refl
+new_behind x (q ∷ qs) h = at (new_behind x qs) (same_name q.0 x) refl
+  where
+    further : (b : Bool) → list_all (λ r. name_lt r.0 x) (cond b (q ∷ mine x.sender qs) (mine x.sender qs)) ≡ true → list_all (λ r. name_lt r.0 x) (mine x.sender qs) ≡ true
+    further true l = (and_parts (name_lt q.0 x) _ l).1
+    further false l = l
+
+    not_here : (q.0 ≡ x) → (b : Bool) → (q.0.sender == x.sender) ≡ b → list_all (λ r. name_lt r.0 x) (cond b (q ∷ mine x.sender qs) (mine x.sender qs)) ≡ true → ⊥
+    not_here e true f l = false≢true (sym (not_before_itself x) ∙ subst (λ (y : Label). name_lt y x ≡ true) e (and_parts (name_lt q.0 x) _ l).0)
+    not_here e false f l = false≢true (sym f ∙ eq-eqb q.0.sender x.sender (ap (λ (y : Label). y.sender) e))
+
+    at : (list_all (λ r. name_lt r.0 x) (mine x.sender qs) ≡ true → message_of qs x ≡ None) → (b : Bool) → same_name q.0 x ≡ b → cond b (Some q.1) (message_of qs x) ≡ None
+    at ih true e = absurd (not_here (same_name-true q.0 x e) (q.0.sender == x.sender) refl h)
+    at ih false e = ih (further (q.0.sender == x.sender) h)
+
+-- ---- own names are numbered 1, 2, 3, ..
+
+-- one more number
+pub numbers_more : (first count : ℕ) → numbers_from first (suc count) ≡ numbers_from first count ++ (first + count) ∷ []
+numbers_more first zero = ap (λ n. n ∷ []) (at first)
+  where
+    at : (n : ℕ) → n ≡ n + 0
+    at n = omega arith
+numbers_more first (suc count) = ap (λ ns. first ∷ ns) (numbers_more (suc first) count ∙ ap (λ n. numbers_from (suc first) count ++ n ∷ []) (at first count))
+  where
+    at : (m n : ℕ) → suc m + n ≡ m + suc n
+    at m n = omega arith
+
+-- the next name behind the first ones
+pub names_more : (s count : ℕ) → names s (count + 1) ≡ names s count ++ name s (count + 1) ∷ []
+names_more s count =
+    ap (λ n. map (name s) (numbers_from 1 n)) (more count)
+    ∙ (ap (map (name s)) (numbers_more 1 count) ∙ (map-append (name s) (numbers_from 1 count) ((1 + count) ∷ []) ∙ ap (λ n. names s count ++ name s n ∷ []) (turn count)))
+  where
+    more : (n : ℕ) → n + 1 ≡ suc n
+    more n = omega arith
+
+    turn : (n : ℕ) → 1 + n ≡ n + 1
+    turn n = omega arith
+
+before_next : (s first count next : ℕ) → first + count ≤ next → list_all (λ x. name_lt x (name s next)) (map (name s) (numbers_from first count)) ≡ true
+before_next s first zero next h = refl
+before_next s first (suc count) next h =
+    and_from (name_lt (name s first) (name s next)) _
+    (or_right (nat_lt s s) ((s == s) && nat_lt first next) (and_from (s == s) (nat_lt first next) (eq-eqb s s refl) (lt-ltb first next (omega arith))))
+    (before_next s (suc first) count next (omega arith))
+
+-- all names that the sender has stand before its next
+pub mine_before : (s : ℕ) (ps : List (Label × Content)) (next : ℕ) → part_of s (map (λ pair. pair.0) ps) ≡ names s (length (own s ps)) → length (own s ps) < next → list_all (λ q. name_lt q.0 (name s next)) (mine s ps) ≡ true
+mine_before s ps next e h =
+    sym (list_all-map (λ x. name_lt x (name s next)) (λ (q : Label × Content). q.0) (mine s ps))
+    ∙ subst (λ xs. list_all (λ x. name_lt x (name s next)) xs ≡ true) (sym e ∙ part_mine s ps) (before_next s 1 (length (own s ps)) next (omega arith))
+
+-- ---- clients
+
+-- the messages of a client among the sender's
+pub count-own : (s client : ℕ) (ps : List (Label × Content)) → count_by (λ pair. is_of s pair && (pair.1.client == client)) ps ≡ count_by (λ m. m.client == client) (own s ps)
+count-own s client [] = refl
+count-own s client (p ∷ ps) = sum_by-cons (λ pair. cond (is_of s pair && (pair.1.client == client)) 1 0) p ps ∙ step (count-own s client ps) (is_of s p)
+  where
+    step : count_by (λ pair. is_of s pair && (pair.1.client == client)) ps ≡ count_by (λ m. m.client == client) (own s ps) → (b : Bool)
+        → cond (b && (p.1.client == client)) 1 0 + count_by (λ pair. is_of s pair && (pair.1.client == client)) ps ≡ count_by (λ m. m.client == client) (cond b (p.1 ∷ own s ps) (own s ps))
+    step ih true = ap (λ n. cond (p.1.client == client) 1 0 + n) ih ∙ sym (sum_by-cons (λ m. cond (m.client == client) 1 0) p.1 (own s ps))
+    step ih false = omega (arith, ih)
+
+-- ---- a message by its number
+
+find_mine : (s : ℕ) (test : Content → Bool) (ps : List (Label × Content)) → find (λ pair. is_of s pair && test pair.1) ps ≡ find (λ pair. test pair.1) (mine s ps)
+find_mine s test [] = refl
+find_mine s test (p ∷ ps) = step (find_mine s test ps) (is_of s p)
+  where
+    step : find (λ pair. is_of s pair && test pair.1) ps ≡ find (λ pair. test pair.1) (mine s ps) → (b : Bool)
+        → cond (b && test p.1) (Some p) (find (λ pair. is_of s pair && test pair.1) ps) ≡ find (λ pair. test pair.1) (cond b (p ∷ mine s ps) (mine s ps))
+    step ih true = ap (λ o. cond (test p.1) (Some p) o) ih
+    step ih false = ih
+
+find_names : (s first : ℕ) (test : Content → Bool) (ps : List (Label × Content)) → map (λ pair. pair.0) ps ≡ map (name s) (numbers_from first (length ps))
+    → option_map (λ pair. pair.0) (find (λ pair. test pair.1) ps) ≡ option_map (λ m. name s (first + position_or_len test (map (λ pair. pair.1) ps))) (find test (map (λ pair. pair.1) ps))
+find_names s first test [] e = refl
+find_names s first test (p ∷ ps) e = step (find_names s (suc first) test ps) (test p.1)
+  where
+    step : (map (λ pair. pair.0) ps ≡ map (name s) (numbers_from (suc first) (length ps))
+        → option_map (λ pair. pair.0) (find (λ pair. test pair.1) ps) ≡ option_map (λ m. name s (suc first + position_or_len test (map (λ pair. pair.1) ps))) (find test (map (λ pair. pair.1) ps)))
+        → (b : Bool)
+        → option_map (λ pair. pair.0) (cond b (Some p) (find (λ pair. test pair.1) ps))
+        ≡ option_map (λ m. name s (first + cond (not b) (1 + position_or_len test (map (λ pair. pair.1) ps)) 0)) (cond b (Some p.1) (find test (map (λ pair. pair.1) ps)))
+    step ih true = let head : p.0 ≡ name s first = cc in ap Some (head ∙ ap (name s) (at first))
+      where
+        at : (n : ℕ) → n ≡ n + 0
+        at n = omega arith
+    step ih false =
+        let tail : map (λ pair. pair.0) ps ≡ map (name s) (numbers_from (suc first) (length ps)) = cc in
+        ih tail ∙ ap (λ n. option_map (λ m. name s n) (find test (map (λ pair. pair.1) ps))) (at first (position_or_len test (map (λ pair. pair.1) ps)))
+      where
+        at : (m n : ℕ) → suc m + n ≡ m + (1 + n)
+        at m n = omega arith
+
+-- where own names are numbered 1, 2, 3, .., a message's name is told by its place
+pub find_own : (s client number : ℕ) (ps : List (Label × Content)) → part_of s (map (λ pair. pair.0) ps) ≡ names s (length (own s ps))
+    → option_map (λ pair. pair.0) (find (λ pair. is_of s pair && is_numbered client number pair.1) ps) ≡ name_given s client number (own s ps)
+find_own s client number ps e =
+    ap (option_map (λ (pair : Label × Content). pair.0)) (find_mine s (is_numbered client number) ps)
+    ∙ (find_names s 1 (is_numbered client number) (mine s ps) numbered
+    ∙ (ap (λ n. option_map (λ m. name s n) (find (is_numbered client number) (map (λ pair. pair.1) (mine s ps)))) (at (position_or_len (is_numbered client number) (map (λ pair. pair.1) (mine s ps))))
+    ∙ ap (name_given s client number) (sym (own_mine s ps))))
+  where
+    at : (n : ℕ) → 1 + n ≡ suc n
+    at n = omega arith
+
+    numbered : map (λ pair. pair.0) (mine s ps) ≡ names s (length (mine s ps))
+    numbered = sym (part_mine s ps) ∙ (e ∙ ap (names s) (ap length (own_mine s ps) ∙ length-map (mine s ps) (λ (pair : Label × Content). pair.1)))

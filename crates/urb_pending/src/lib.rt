@@ -1,0 +1,9 @@
+//! The pending messages of a node: `pending` of logged uniform reliable broadcast (Cachin, Guerraoui and Rodrigues 2011,
+//! section 3.7).
+#![tactic(auto)]
+
+mod pending;
+#[cfg(test)]
+mod tests;
+
+pub use pending::Pending;

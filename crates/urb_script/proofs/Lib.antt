@@ -1,0 +1,11 @@
+pub mod Clients
+pub mod Kept
+pub mod Nodes
+pub mod Numbered
+pub mod Numbers
+pub mod Outcomes
+pub mod Parts
+pub mod Progress
+pub mod Rows
+pub mod Safety
+pub mod Spellings

@@ -1,0 +1,80 @@
+//! Whole lines of what a reader has.
+
+ghost use Rattle.std.specs.Prelude.{◌≡◌, ℕ, ◌<◌, ◌≤◌, take, length, IfOk, None, option_to_list, vec_capacity, OnOk, OnErr};
+ghost use Rattle.std.specs.Io.KnownBytes.{Consumes, IsAtEnd, Keeps};
+ghost use Rattle.urb_script.specs.Lines.{ReadsLine, TookPart, IsOneLine, IsPlain};
+
+use std::alloc::Allocator;
+use std::io::{ErrorKind, Read};
+
+/// The reader failed.
+pub struct ReadFailed;
+
+/// The longest line, in bytes, without its LF.
+pub const LONGEST_LINE: usize = 65_536;
+
+/// One more byte than a line may have.
+pub const TOO_LONG: usize = LONGEST_LINE + 1;
+
+/// What was read of a line.
+pub enum LineRead {
+    /// The input has ended.
+    End,
+    /// A line.
+    Whole,
+    /// The front of a line that is too long.
+    Long,
+}
+
+// The next byte, or none at the end. A read that a signal interrupts is tried again.
+fn next_byte<R: Read>(reader: &mut R) -> Result<Option<u8>, ReadFailed>
+    ensures bytes { IfOk result (λ next. Consumes (R.remaining reader.old) (R.remaining reader.new) (option_to_list next)) }
+    ensures end { IfOk result (λ next. next ≡ None → IsAtEnd (R.remaining reader.new)) }
+    ensures err { OnErr result (Keeps (R.remaining reader.old) (R.remaining reader.new)) }
+{
+    let mut byte = [0u8; 1];
+    for _ in 0..u64::MAX {
+        match reader.read(&mut byte) {
+            Ok(0) => return Ok(None),
+            Ok(_) => return Ok(Some(byte[0])),
+            Err(error) => {
+                if error.kind() != ErrorKind::Interrupted {
+                    return Err(ReadFailed);
+                }
+            }
+        }
+    }
+    Err(ReadFailed)
+}
+
+/// Reads a line into `line`, which has room for it, and nothing of the line after it.
+pub fn read_line<R: Read, A: Allocator>(
+    reader: &mut R,
+    line: &mut Vec<u8, A>,
+) -> Result<LineRead, ReadFailed>
+    requires { 65537 ≤ vec_capacity line.old }
+    ensures line { IfOk result (λ read. ReadsLine (R.remaining reader.old) (R.remaining reader.new) line.new.items read) }
+    ensures took { OnOk result (TookPart IsOneLine (R.remaining reader.old) (R.remaining reader.new)) }
+    ensures err { OnErr result (TookPart IsPlain (R.remaining reader.old) (R.remaining reader.new)) }
+    ensures room { vec_capacity line.new ≡ vec_capacity line.old }
+{
+    line.clear();
+    for _ in 0..TOO_LONG {
+        match next_byte(reader)? {
+            None => {
+                return if line.is_empty() {
+                    Ok(LineRead::End)
+                } else {
+                    Ok(LineRead::Whole)
+                };
+            }
+            Some(byte) => {
+                if byte == b'\n' {
+                    return Ok(LineRead::Whole);
+                }
+                line.push_reserved(byte);
+            }
+        }
+    }
+    Ok(LineRead::Long)
+}

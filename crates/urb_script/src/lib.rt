@@ -1,0 +1,15 @@
+//! Scripts: lines of commands in, answer lines out, over a plain world in memory.
+#![tactic(auto)]
+
+mod commands;
+mod input;
+mod node;
+mod replies;
+mod runs;
+mod words;
+mod world;
+
+pub use runs::{Ended, RunFault, run};
+
+#[cfg(test)]
+mod tests;

@@ -1,0 +1,201 @@
+//! Runs of scripts.
+
+ghost use Rattle.std.specs.Prelude.{◌≡◌, ℕ, ◌≤◌, [], Some, None, IfOk, IfErr, OnOk, IfSome, ◌⊎◌, vec_capacity};
+ghost use Rattle.std.specs.Option.{option_map};
+ghost use Rattle.std.specs.Io.KnownBytes.{Appends};
+ghost use Rattle.urb_script.specs.Commands.{Command, Group, command, InRange};
+ghost use Rattle.urb_script.specs.Worlds.{World};
+ghost use Rattle.urb_script.specs.Steps.{Takes, MayCome};
+ghost use Rattle.urb_script.specs.Scripts.{Answered, WholeScript, BreaksOff, StaysSafe, HasOneOutcome, bad_line};
+
+use crate::commands::{CommandLine, parse_command};
+use crate::input::{LineRead, ReadFailed, TOO_LONG, read_line};
+use crate::world::World;
+use std::alloc::Allocator;
+use std::io::{Read, Write};
+use thiserror::Error;
+use urb_names::{Config, NoMemory};
+
+/// Room for every answer line that shows no log, so that a `stored` line takes no memory.
+const ANSWER_ROOM: usize = 128;
+
+/// How a script ended.
+#[derive(Clone, Copy, Debug, PartialEq, Eq)]
+pub enum Ended {
+    /// Each line was a command and is answered.
+    Whole,
+    /// The line with this number, from 1, is no command that may come there; the lines before it are answered.
+    BadLine(u64),
+}
+
+/// Why a run broke off before the end of its script.
+#[derive(Clone, Copy, Debug, PartialEq, Eq, Error)]
+pub enum RunFault {
+    /// The reader failed, or has more lines than can be counted. The lines read whole are answered.
+    #[error("read failed")]
+    Read,
+    /// The writer failed. How much of the last answer went out isn't known.
+    #[error("write failed")]
+    Write,
+    /// A growth was refused. All lines before the one that needed it are answered.
+    #[error("no memory")]
+    NoMemory,
+}
+
+/// What a script runs over.
+pub trait Play<A: Allocator>: Drop {
+    // The world that it shows.
+    ghost world: { Self → World };
+
+    /// Makes the group, and writes the answer.
+    fn open(alloc: A, config: Config, text: &mut Vec<u8, A>) -> Result<Self, NoMemory>
+    where
+        Self: Sized,
+        requires { text.old.items ≡ [] }
+        ensures { IfOk result (λ new. Takes None (Group config) text.new.items (world new)) };
+
+    /// Does what a command says, and writes the answer.
+    fn play(&mut self, found: CommandLine<'_>, text: &mut Vec<u8, A>) -> Result<(), NoMemory>
+        requires fresh { text.old.items ≡ [] }
+        requires may_come { MayCome (Some (world self.old)) (command found) }
+        requires range { InRange (command found) }
+        ensures { OnOk result (Takes (Some (world self.old)) (command found.entry) text.new.items (world self.new)) };
+}
+
+// Answers a line, and gives what it leads to; none where the line is no command that may come now.
+fn answer_line<A: Allocator, P: Play<A>>(
+    alloc: A,
+    state: Option<P>,
+    line: &[u8],
+    text: &mut Vec<u8, A>,
+) -> Result<Option<P>, NoMemory>
+    ensures { IfOk result (λ next. Answered (option_map P.world state) line.now text.new.items (option_map P.world next)) }
+{
+    text.clear();
+    let Some(found) = parse_command(line) else {
+        return Ok(None);
+    };
+    match found {
+        CommandLine::Group(config) => match state {
+            None => Ok(Some(P::open(alloc, config, text)?)),
+            Some(_) => Ok(None),
+        },
+        _ => match state {
+            None => Ok(None),
+            Some(mut state) => {
+                state.play(found, text)?;
+                Ok(Some(state))
+            }
+        },
+    }
+}
+
+// Writes bytes, so that they are seen at once.
+fn write_now<W: Write>(writer: &mut W, bytes: &[u8]) -> Result<(), RunFault>
+    ensures ok { OnOk result (Appends (W.contents writer.old) (W.contents writer.new) bytes.now) }
+    ensures err { IfErr result (λ fault. fault ≡ RunFault.Write) }
+{
+    if writer.write_all(bytes).is_err() {
+        return Err(RunFault::Write);
+    }
+    if writer.flush().is_err() {
+        return Err(RunFault::Write);
+    }
+    Ok(())
+}
+
+// Writes that a line is no command. Without memory nothing is written.
+fn write_bad_line<A: Allocator, W: Write>(
+    writer: &mut W,
+    text: &mut Vec<u8, A>,
+    number: u64,
+) -> Result<(), RunFault>
+    ensures ok { OnOk result (Appends (W.contents writer.old) (W.contents writer.new) (bad_line number)) }
+    ensures err { IfErr result (λ fault. (fault ≡ RunFault.Write) ⊎ ((fault ≡ RunFault.NoMemory) × (writer.new ≡ writer.old))) }
+{
+    text.clear();
+    if writeln!(text, "bad line {number}").is_err() {
+        return Err(RunFault::NoMemory);
+    }
+    write_now(writer, text.as_slice())
+}
+
+// Runs the script that the reader has, over what it makes of its first line.
+fn run_over<A: Allocator + Copy, P: Play<A>, R: Read, W: Write>(
+    alloc: A,
+    reader: &mut R,
+    writer: &mut W,
+) -> Result<Ended, RunFault>
+    ensures whole { IfOk result (λ ended. IfSome (R.remaining reader.old) (λ input. WholeScript input ended (W.contents writer.old) (W.contents writer.new))) }
+    ensures broken_off { IfErr result (λ fault. IfSome (R.remaining reader.old) (λ input. BreaksOff fault input (R.remaining reader.new) (W.contents writer.old) (W.contents writer.new))) }
+{
+    let mut line = match Vec::with_capacity(alloc, TOO_LONG) {
+        Ok(line) => line,
+        Err(_) => return Err(RunFault::NoMemory),
+    };
+    let mut text = match Vec::with_capacity(alloc, ANSWER_ROOM) {
+        Ok(text) => text,
+        Err(_) => return Err(RunFault::NoMemory),
+    };
+    let mut state: Option<P> = None;
+    for before in 0..u64::MAX {
+        let number = before + 1;
+        match read_line(reader, &mut line) {
+            Err(ReadFailed) => return Err(RunFault::Read),
+            Ok(LineRead::Whole) => {}
+            Ok(LineRead::End) => {
+                if state.is_some() {
+                    return Ok(Ended::Whole);
+                }
+                match write_bad_line(writer, &mut text, number) {
+                    Ok(()) => return Ok(Ended::BadLine(number)),
+                    Err(fault) => return Err(fault),
+                }
+            }
+            Ok(LineRead::Long) => {
+                match write_bad_line(writer, &mut text, number) {
+                    Ok(()) => return Ok(Ended::BadLine(number)),
+                    Err(fault) => return Err(fault),
+                }
+            }
+        }
+        let next = match answer_line(alloc, state, line.as_slice(), &mut text) {
+            Ok(next) => next,
+            Err(NoMemory) => return Err(RunFault::NoMemory),
+        };
+        let Some(next) = next else {
+            match write_bad_line(writer, &mut text, number) {
+                Ok(()) => return Ok(Ended::BadLine(number)),
+                Err(fault) => return Err(fault),
+            }
+        };
+        if text.push(b'\n').is_err() {
+            return Err(RunFault::NoMemory);
+        }
+        write_now(writer, text.as_slice())?;
+        state = Some(next);
+    }
+    Err(RunFault::Read)
+}
+
+/// Runs the script that the reader has, line by line, over a new plain world in memory: each answer line is written and
+/// flushed before the next line is read. It keeps the messages of the script and one line; after a fault it reads and
+/// writes no further byte. After 18,446,744,073,709,551,615 lines it ends with `Read`.
+pub fn run<A: Allocator + Copy, R: Read, W: Write>(
+    alloc: A,
+    reader: &mut R,
+    writer: &mut W,
+) -> Result<Ended, RunFault>
+    // What was written is the answers to all lines that the reader held, or to those before the first bad line and its
+    // own answer.
+    ensures whole { IfOk result (λ ended. IfSome (R.remaining reader.old) (λ input. WholeScript input ended (W.contents writer.old) (W.contents writer.new))) }
+    // After want of memory, or a failed read, the lines before are answered, and nothing else is written.
+    ensures broken_off { IfErr result (λ fault. IfSome (R.remaining reader.old) (λ input. BreaksOff fault input (R.remaining reader.new) (W.contents writer.old) (W.contents writer.new))) }
+    // In whatever world answered lines lead to, each log has of each sender the first messages that its storage took, in
+    // order and once.
+    ensures safe { StaysSafe }
+    // All that the reader held determines the end, and what was written.
+    ensures one { HasOneOutcome }
+{
+    run_over::<A, World<A>, R, W>(alloc, reader, writer)
+}

@@ -1,0 +1,338 @@
+//! Whole scripts, bad lines, and scripts in which memory, the reader or the writer fails.
+
+use super::*;
+use crate::replies::{Reply, push_reply};
+use std::alloc::Global;
+use std::process::Abort;
+use std::test::Fail;
+use urb_names::{Config, Name, NodeId, PacketFault, Refusal, Rule};
+use urb_refusing::{FailingReader, FailingWriter, Refusing};
+
+const ONE_NODE: &[u8] = b"group 1 10\nsubmit 1 7 1 hi\nstored 1\nlog 1\n";
+
+const ONE_NODE_ANSWERS: &[u8] =
+    b"group 1 10\ndraft 1.1 at 1\naccepted 1.1 sent 0 released 1\nlog 1: 1.1=hi\n";
+
+/// A text in which each `@` stands for 1,024 letters x.
+fn spelled(alloc: Global, text: &[u8]) -> Result<Vec<u8>, Fail> {
+    let mut whole = Vec::new(alloc);
+    for byte in text {
+        if *byte == b'@' {
+            whole.extend_from_slice([b'x'; 1024].as_slice())?;
+        } else {
+            whole.push(*byte)?;
+        }
+    }
+    Ok(whole)
+}
+
+const LONG_PAYLOADS: &[u8] =
+    b"group 1 3\nsubmit 1 7 1 -\nstored 1\nsubmit 1 7 2 @\nstored 1\nsubmit 1 7 3 @x\nlog 1\n";
+
+const LONG_PAYLOADS_ANSWERS: &[u8] =
+    b"group 1 3\ndraft 1.1 at 1\naccepted 1.1 sent 0 released 1\ndraft 1.2 at 2\naccepted 1.2 sent 0 released 1\nrefused toolong\nlog 1: 1.1=- 1.2=@\n";
+
+/// Runs a script into a new text, and compares; `@` is as in `spelled`.
+fn gives(
+    rt: &(impl Abort + AllocGlobal),
+    script: &[u8],
+    answers: &[u8],
+    wanted: Ended,
+) -> Result<(), Fail> {
+    let script = spelled(rt.alloc(), script)?;
+    let answers = spelled(rt.alloc(), answers)?;
+    let mut input = script.as_slice();
+    let mut output = Vec::new(rt.alloc());
+    let ended = run(rt.alloc(), &mut input, &mut output)?;
+    assert_eq!(rt; ended, wanted);
+    assert_eq!(rt; output.as_slice(), answers.as_slice());
+    Ok(())
+}
+
+#[test]
+fn whole_scripts_are_answered(rt: HostRuntime) -> Result<(), Fail> {
+    gives(&rt, ONE_NODE, ONE_NODE_ANSWERS, Ended::Whole)?;
+    // Numbers come in order, from 1.
+    gives(
+        &rt,
+        b"group 3 10\nsubmit 1 7 2 a\nsubmit 1 7 0 a\n",
+        b"group 3 10\nrefused gap 1\nrefused gap 1\n",
+        Ended::Whole,
+    )?;
+    // A full sender still answers a repeat.
+    gives(
+        &rt,
+        b"group 1 2\nsubmit 1 7 1 a\nstored 1\nsubmit 1 7 2 b\nstored 1\nsubmit 1 7 3 c\nsubmit 1 7 2 b\n",
+        b"group 1 2\ndraft 1.1 at 1\naccepted 1.1 sent 0 released 1\ndraft 1.2 at 2\naccepted 1.2 sent 0 released 1\nrefused full\naccepted 1.2\n",
+        Ended::Whole,
+    )?;
+    gives(&rt, LONG_PAYLOADS, LONG_PAYLOADS_ANSWERS, Ended::Whole)?;
+    // A message is sent to each other node, and released by none before a majority has it.
+    gives(
+        &rt,
+        b"group 3 10\nsubmit 2 7 1 a\nstored 2\nlog 2\nlog 1",
+        b"group 3 10\ndraft 2.1 at 1\naccepted 2.1 sent 2 released 0\nlog 2:\nlog 1:\n",
+        Ended::Whole,
+    )?;
+    // Refusals, the first that holds.
+    gives(
+        &rt,
+        b"group 2 10\nstored 1\nstored 3\nsubmit 3 7 1 @x\nlog 3\nsubmit 1 7 1 a\nsubmit 1 7 9 @x\nstored 1\nsubmit 1 7 1 b\nsubmit 1 8 1 b\nstored 1\nsubmit 1 7 2 c\nstored 1\nsubmit 1 7 1 a\nsubmit 1 8 3 c\n",
+        b"group 2 10\nrefused stale\nrefused badnode\nrefused badnode\nrefused badnode\ndraft 1.1 at 1\nrefused busy\naccepted 1.1 sent 1 released 0\nrefused conflict\ndraft 1.2 at 2\naccepted 1.2 sent 1 released 0\ndraft 1.3 at 3\naccepted 1.3 sent 1 released 0\naccepted 1.1\nrefused gap 2\n",
+        Ended::Whole,
+    )
+}
+
+/// A bad line after a first one that is answered.
+fn is_bad(rt: &(impl Abort + AllocGlobal), line: &[u8]) -> Result<(), Fail> {
+    let mut script = Vec::new(rt.alloc());
+    script.extend_from_slice(b"group 1 10\n")?;
+    script.extend_from_slice(line)?;
+    script.extend_from_slice(b"\nlog 1\n")?;
+    gives(
+        rt,
+        script.as_slice(),
+        b"group 1 10\nbad line 2\n",
+        Ended::BadLine(2),
+    )
+}
+
+#[test]
+fn bad_lines_end_the_run(rt: HostRuntime) -> Result<(), Fail> {
+    for script in [
+        b"".as_slice(),
+        b"\n",
+        b"log 1\n",
+        b"stored 1\ngroup 1 10\n",
+        b"group 0 10\n",
+        b"group 8 10\n",
+        b"group 1 0\n",
+        b"group 1 1000001\n",
+        b"group 1\n",
+        b"group 1 10 \n",
+        b" group 1 10\n",
+        b"Group 1 10\n",
+    ] {
+        gives(&rt, script, b"bad line 1\n", Ended::BadLine(1))?;
+    }
+    for line in [
+        b"".as_slice(),
+        b"group 1 10",
+        b"log  1",
+        b" log 1",
+        b"log 1 ",
+        b"log",
+        b"log 01",
+        b"log +1",
+        b"log -1",
+        b"log 0",
+        b"log 8",
+        b"log 1 1",
+        b"log 18446744073709551617",
+        b"stored",
+        b"stored x",
+        b"stored 1\r",
+        b"submit 1 7",
+        b"submit 1 7 1",
+        b"submit 1 7 1 ",
+        b"submit 1 7 1 a b",
+        b"submit 1 07 1 a",
+        b"submit 1 0 1 a",
+        b"submit 1 65536 1 a",
+        b"submit 1 7 4294967296 a",
+        b"submit 1 7 1 \x7f",
+        b"submit 1 7 1 \xc3\xa9",
+        b"submit 8 7 1 a",
+        b"restart 1",
+        b"arrive 1 2 1 1",
+    ] {
+        is_bad(&rt, line)?;
+    }
+    Ok(())
+}
+
+#[test]
+fn a_line_has_at_most_its_greatest_length(rt: HostRuntime) -> Result<(), Fail> {
+    // 13 bytes, and 63 times 1,024 or 64 times: 64,525 bytes, 65,536 and 65,537.
+    for (times, more, ended, answers) in [
+        (
+            63,
+            0,
+            Ended::Whole,
+            b"group 1 10\nrefused toolong\n".as_slice(),
+        ),
+        (63, 1011, Ended::Whole, b"group 1 10\nrefused toolong\n"),
+        (63, 1012, Ended::BadLine(2), b"group 1 10\nbad line 2\n"),
+        (64, 1024, Ended::BadLine(2), b"group 1 10\nbad line 2\n"),
+    ] {
+        let mut script = Vec::new(rt.alloc());
+        script.extend_from_slice(b"group 1 10\nsubmit 1 7 1 ")?;
+        for _ in 0..times {
+            script.extend_from_slice([b'x'; 1024].as_slice())?;
+        }
+        for _ in 0..more {
+            script.push(b'x')?;
+        }
+        gives(&rt, script.as_slice(), answers, ended)?;
+    }
+    Ok(())
+}
+
+#[test]
+fn a_last_line_may_lack_its_end(rt: HostRuntime) -> Result<(), Fail> {
+    gives(&rt, b"group 1 10", b"group 1 10\n", Ended::Whole)?;
+    gives(
+        &rt,
+        b"group 1 10\nstored 1",
+        b"group 1 10\nrefused stale\n",
+        Ended::Whole,
+    )?;
+    for script in [
+        b"group 1 10\nstored".as_slice(),
+        b"group 1 10\nsubmit 1 7",
+        b"group 1 10\n\n",
+    ] {
+        gives(&rt, script, b"group 1 10\nbad line 2\n", Ended::BadLine(2))?;
+    }
+    Ok(())
+}
+
+#[test]
+fn refusals_have_their_words(rt: HostRuntime) -> Result<(), Fail> {
+    let node = NodeId::new(2).ok_or("a node")?;
+    let name = Name {
+        sender: NodeId::new(1).ok_or("a sender")?,
+        seq: 1,
+    };
+    for (refusal, words) in [
+        (Refusal::BadNode, b"badnode".as_slice()),
+        (Refusal::Down, b"down"),
+        (Refusal::Busy, b"busy"),
+        (Refusal::TooLong, b"toolong"),
+        (Refusal::Conflict, b"conflict"),
+        (Refusal::Gap(4_294_967_295), b"gap 4294967295"),
+        (Refusal::Full, b"full"),
+        (Refusal::Forged, b"forged"),
+        (Refusal::Packet(PacketFault::Short), b"packet short"),
+        (Refusal::Packet(PacketFault::Magic), b"packet magic"),
+        (Refusal::Packet(PacketFault::Version), b"packet version"),
+        (Refusal::Packet(PacketFault::Length), b"packet length"),
+        (Refusal::Packet(PacketFault::Range), b"packet range"),
+        (Refusal::Stale, b"stale"),
+        (Refusal::NotDown, b"notdown"),
+        (Refusal::BadImage, b"badimage"),
+        (
+            Refusal::Inconsistent {
+                rule: Rule::C,
+                node,
+                name,
+            },
+            b"inconsistent c 2 1.1",
+        ),
+        (Refusal::Device, b"device"),
+        (Refusal::Place(7), b"place 7"),
+        (Refusal::BadRow(3), b"badrow 3"),
+    ] {
+        let mut text = Vec::new(rt.alloc());
+        push_reply(&mut text, Reply::Refused(refusal))?;
+        let mut wanted = Vec::new(rt.alloc());
+        wanted.extend_from_slice(b"refused ")?;
+        wanted.extend_from_slice(words)?;
+        assert_eq!(rt; text.as_slice(), wanted.as_slice());
+    }
+    Ok(())
+}
+
+/// Whether a text is whole lines that begin the other.
+fn begins_lines(text: &[u8], whole: &[u8]) -> bool {
+    whole.starts_with(text) && (text.is_empty() || text.ends_with(b"\n"))
+}
+
+#[test]
+fn each_refused_growth_ends_the_run(rt: HostRuntime) -> Result<(), Fail> {
+    for (script, answers) in [
+        (ONE_NODE, ONE_NODE_ANSWERS),
+        (LONG_PAYLOADS, LONG_PAYLOADS_ANSWERS),
+    ] {
+        let script = spelled(rt.alloc(), script)?;
+        let answers = spelled(rt.alloc(), answers)?;
+        let mut ran = false;
+        for refused in 1..500u64 {
+            let heap = Refusing::new(rt.alloc(), refused);
+            let mut room = [0u8; 1500];
+            let mut writer = FailingWriter::new(&mut room, 700, 0);
+            let mut input = script.as_slice();
+            let ended = run(&heap, &mut input, &mut writer);
+            if !heap.met() {
+                assert!(rt; matches!(ended, Ok(Ended::Whole)));
+                assert_eq!(rt; writer.written(), answers.as_slice());
+                ran = true;
+                break;
+            }
+            assert!(rt;
+                matches!(ended, Err(RunFault::NoMemory)),
+                "growth {refused}"
+            );
+            let written = writer.written();
+            assert!(rt;
+                begins_lines(written, answers.as_slice()),
+                "growth {refused}"
+            );
+            // The line after a draft is `stored`, which takes no memory.
+            assert!(rt; !written.ends_with(b"at 1\n"), "growth {refused}");
+            assert!(rt; !written.ends_with(b"at 2\n"), "growth {refused}");
+        }
+        assert!(rt; ran);
+    }
+    Ok(())
+}
+
+#[test]
+fn each_failing_read_ends_the_run(rt: HostRuntime) -> Result<(), Fail> {
+    let mut ran = false;
+    for failing in 1..500u64 {
+        let mut reader = FailingReader::new(ONE_NODE, 5, failing);
+        let mut output = Vec::new(rt.alloc());
+        let ended = run(rt.alloc(), &mut reader, &mut output);
+        if matches!(ended, Ok(Ended::Whole)) {
+            assert!(rt; reader.reads() < failing);
+            assert_eq!(rt; output.as_slice(), ONE_NODE_ANSWERS);
+            ran = true;
+            break;
+        }
+        assert!(rt; matches!(ended, Err(RunFault::Read)), "read {failing}");
+        assert!(rt; reader.failed_last(), "read {failing}");
+        assert!(rt;
+            begins_lines(output.as_slice(), ONE_NODE_ANSWERS),
+            "read {failing}"
+        );
+    }
+    assert!(rt; ran);
+    Ok(())
+}
+
+#[test]
+fn each_failing_write_ends_the_run(rt: HostRuntime) -> Result<(), Fail> {
+    let mut ran = false;
+    for failing in 1..500u64 {
+        // A byte a read, so that the reads count the bytes.
+        let mut reader = FailingReader::new(ONE_NODE, 1, 0);
+        let mut room = [0u8; 300];
+        let mut writer = FailingWriter::new(&mut room, 5, failing);
+        let ended = run(rt.alloc(), &mut reader, &mut writer);
+        if matches!(ended, Ok(Ended::Whole)) {
+            assert_eq!(rt; writer.written(), ONE_NODE_ANSWERS);
+            ran = true;
+            break;
+        }
+        assert!(rt; matches!(ended, Err(RunFault::Write)), "write {failing}");
+        assert!(rt; writer.failed_last(), "write {failing}");
+        // Nothing of the line after the last one was read.
+        let Some(read) = ONE_NODE.get(..reader.reads() as usize) else {
+            return Err("more bytes than there are".into());
+        };
+        assert!(rt; read.ends_with(b"\n"), "write {failing}");
+    }
+    assert!(rt; ran);
+    Ok(())
+}

@@ -1,0 +1,71 @@
+//! The words of a line.
+
+ghost use Rattle.std.specs.Prelude.{◌≡◌, ◌≢◌, ℕ, ◌^◌, ◌<◌, ◌≤◌, List, [], ◌∷◌, IfSome, IfNone, position, ◌==◌};
+ghost use Rattle.std.specs.Fmt.{decimal};
+ghost use Rattle.urb_script.specs.Lines.{words_of, words_left};
+
+/// The number below 2^64 that a word spells, in decimal without a sign and without a leading zero.
+pub fn number(word: &[u8]) -> Option<u64>
+    ensures some { IfSome result (λ n. word.now ≡ decimal n) }
+    ensures none { IfNone result ((n : ℕ) → n < 2 ^ 64 → word.now ≢ decimal n) }
+{
+    if word.is_empty() {
+        return None;
+    }
+    let first = word[0];
+    if first == b'+' {
+        return None;
+    }
+    if first == b'0' {
+        return if word.len() == 1 { Some(0) } else { None };
+    }
+    let Ok(text) = str::from_utf8(word) else {
+        return None;
+    };
+    let Ok(number) = text.parse::<u64>() else {
+        return None;
+    };
+    Some(number)
+}
+
+/// The number from `low` to `high` that a word spells.
+pub fn number_in(word: &[u8], low: u64, high: u64) -> Option<u64>
+    ensures some { IfSome result (λ n. (word.now ≡ decimal n) × (low ≤ n) × (n ≤ high)) }
+    ensures none { IfNone result ((n : ℕ) → low ≤ n → n ≤ high → word.now ≢ decimal n) }
+{
+    let number = number(word)?;
+    if number < low {
+        return None;
+    }
+    if high < number {
+        return None;
+    }
+    Some(number)
+}
+
+/// Where the first space is.
+fn space_at(text: &[u8]) -> Option<usize>
+    ensures { result ≡ position (λ byte. byte == 32) text.now }
+{
+    text.iter().position(|byte| *byte == b' ')
+}
+
+/// The first word of a text, and what follows its space.
+pub fn first_word(text: &[u8]) -> (&[u8], Option<&[u8]>)
+    ensures { words_of text.now ≡ result.0.now ∷ words_left result.1 }
+{
+    match space_at(text) {
+        Some(at) => (&text[..at], Some(&text[at + 1..])),
+        None => (text, None),
+    }
+}
+
+/// The number from `low` to `high` that the next word spells, and what follows it.
+pub fn number_word(rest: Option<&[u8]>, low: u64, high: u64) -> Option<(u64, Option<&[u8]>)>
+    ensures some { IfSome result (λ r. (words_left rest.entry ≡ decimal r.0 ∷ words_left r.1) × (low ≤ r.0) × (r.0 ≤ high)) }
+    ensures none { IfNone result ((n : ℕ) (words : List (List ℕ)) → low ≤ n → n ≤ high → words_left rest.entry ≢ decimal n ∷ words) }
+{
+    let (word, rest) = first_word(rest?);
+    let number = number_in(word, low, high)?;
+    Some((number, rest))
+}

@@ -1,0 +1,281 @@
+-- What each statement of a journal does to the records that it stands for.
+use Rattle.std.proofs.Common.{◌≡◌, ◌⊎◌, inl, inr, ℕ, ◌+◌, ◌<◌, ◌≤◌, false, List, [], ◌∷◌, ◌++◌, map, length-append, slice_get, Option, Some, None, Ok, Err, IsTrue, refl, sym, ap, subst, ◌∙◌, arith}
+use Rattle.std.proofs.lemmas.Bool.{cases_Bool}
+use Rattle.sqlite.specs.Order.{Row}
+use Rattle.sqlite.specs.Tree.{Trees, put_row}
+use Rattle.sqlite.specs.View.{doubt}
+use Rattle.std.proofs.lemmas.List.Sorted.{IsPermutation-sym, IsPermutation-trans}
+use Rattle.sqlite_keyed.proofs.SortLemmas.{sorted_unique, IsPermutation-sort_by}
+use Rattle.sqlite.specs.Effect.{Database}
+use Rattle.sqlite_catalog.specs.Listing.{IsSound}
+use Rattle.sqlite.specs.declared.error.Error.{Error}
+use Rattle.sqlite.specs.Clock.{timed}
+use Rattle.sqlite.specs.Does.{Tally, AtPlace, OnRows}
+use Rattle.sqlite_schema.specs.declared.schema.Keys.TheVariants.{Enforced}
+use Rattle.sqlite_schema.specs.declared.command.Source.{Source}
+use Rattle.sqlite.specs.Table.{Table}
+use Rattle.sqlite.specs.Command.TheVariants.{Insert}
+use Rattle.sqlite.specs.State.{State, IsLive, mode_of, text_of, Runs, Writes, HasCleanDisk, Executes, ExecutesIn, IsNotRun, IsUnchanged, IsRolledBack, KeepsCommit, shows_rows, Shown, Survives, CommitsBy, CommitsShowing, FailsToQuery}
+use Rattle.urb_stable.specs.Entries.{Entry, IsEntry}
+use Rattle.urb_stable.specs.declared.record.Record.TheVariants.{Pend, PendCert, Cert}
+use Rattle.urb_sqlite.specs.Journal.{insert_text, select_text, journal_schema, journal_tree, journal_limit}
+use Rattle.urb_sqlite.specs.Rows.{row_of, kept_of, rows_in, by_pos, shown, IsWithin, IsInOrder, StandsFor}
+use Rattle.urb_sqlite.specs.Reading.{read_from, records_of}
+use Rattle.urb_sqlite.specs.OpenJournal.{IsCounted, IsKept, IsInStep, IsHonestJournal, IsAppended, IsLeft, IsSafeAtRest, LeavesOnly}
+use Rattle.urb_sqlite.proofs.InsertLemmas.{IsPut, inserts, commits_put, went, same_value}
+use Rattle.urb_sqlite.proofs.AnyLemmas.{inserts_in_any, reads_in_any}
+use Rattle.urb_sqlite.proofs.OrderLemmas.{sort_is}
+use Rattle.urb_sqlite.proofs.SelectLemmas.{selects}
+use Rattle.urb_sqlite.proofs.StandLemmas.{stands_more, stands_if_read, reads_if_stands, records_are, placed, by_pos_total}
+
+-- A statement that is refused changed nothing, or went back to the last commit.
+pub left_by_err : (sql : List ℕ) (params : Row) (old new : State) (e : Error) → Executes sql params old new (Err e) → IsUnchanged old new ⊎ IsRolledBack old new
+unfolding ExecutesIn IsNotRun
+left_by_err sql params old new e (inl (inl none)) = inl none.1
+left_by_err sql params old new e (inl (inr failed)) = inr failed.3
+left_by_err sql params old new e (inr ran) = elim (cases_Bool (shows_rows false ran.0)) [
+  | inl shows ↦ inl (rw shows at ran.2).1
+  | inr runs ↦ elim (rw runs at ran.2) [ inl refused ↦ inl refused.1 | inr failed ↦ inr failed.3 ]
+]
+
+-- what a call leaves that changed no row: while the connection is open, the records and the next position
+pub record IsSame (old new : State) : Type 0 where
+  pub was_open : IsTrue new.is_open → IsTrue old.is_open
+  pub now_is : IsTrue new.is_open → new.now ≡ old.now
+  pub committed_is : IsTrue new.is_open → new.committed ≡ old.committed
+  pub autocommit : old.in_transaction ≡ false → new.in_transaction ≡ false
+
+pub same_if_unchanged : (old new : State) → IsUnchanged old new → IsSame old new
+same_if_unchanged old new h = record {
+  was_open = λ _. h.0.was_open;
+  now_is = λ _. h.0.now_is;
+  committed_is = λ _. h.0.committed_is;
+  autocommit = λ auto. h.0.mode ∙ auto;
+}
+
+pub same_if_undone : (old new : State) → old.now ≡ old.committed → IsRolledBack old new → IsSame old new
+same_if_undone old new settled h = record {
+  was_open = h.was_open;
+  now_is = λ is_open. (h.undone is_open).0 ∙ sym settled;
+  committed_is = λ is_open. (h.undone is_open).1;
+  autocommit = λ _. h.autocommit;
+}
+
+pub same_if_refused : (sql : List ℕ) (params : Row) (old new : State) (e : Error) → old.now ≡ old.committed → Executes sql params old new (Err e) → IsSame old new
+same_if_refused sql params old new e settled h = elim (left_by_err sql params old new e h) [
+  | inl same ↦ same_if_unchanged old new same
+  | inr undone ↦ same_if_undone old new settled undone
+]
+
+pub kept_same : (old new : State) (next : ℕ) → IsTrue new.is_open → IsSame old new → IsKept old next → IsKept new next
+kept_same old new next is_open same h =
+    let now = same.now_is is_open in
+    record {
+      autocommit = same.autocommit h.autocommit;
+      settled = now ∙ h.settled ∙ sym (same.committed_is is_open);
+      counted = λ has. subst (λ (d : Database). IsCounted d.trees next) (sym now) (h.counted (ap (λ (d : Database). d.schema) (sym now) ∙ has));
+    }
+
+pub puts_record : (old new : State) (place : ℕ) (r : Entry) (count : ℕ) → old.now.schema ≡ journal_schema → Executes insert_text (row_of place r) old new (Ok count) → IsPut old new (kept_of place r)
+puts_record old new place (Pend name m) count has h = inserts old new place 1 name.sender name.seq m.client m.number m.payload count has h
+puts_record old new place (PendCert name m) count has h = inserts old new place 2 name.sender name.seq m.client m.number m.payload count has h
+puts_record old new place (Cert name) count has h = inserts old new place 3 name.sender name.seq 0 0 [] count has h
+
+-- Whatever the schema, an INSERT that succeeds leaves it, and outside a transaction it is committed.
+pub record IsOwnWrite (old new : State) : Type 0 where
+  pub schema : new.now.schema ≡ old.now.schema
+  pub committed : old.in_transaction ≡ false → new.now ≡ new.committed
+  pub mode : new.in_transaction ≡ old.in_transaction
+  pub was_open : IsTrue old.is_open
+  pub is_open : IsTrue new.is_open
+
+pub writes_in_any : (params : Row) (old new : State) (count : ℕ) → Executes insert_text params old new (Ok count) → IsOwnWrite old new
+unfolding ExecutesIn
+writes_in_any params old new count h =
+    let c = h.0 in
+    let full = timed params c.formats h.1.now in
+    let is = inserts_in_any old.now.schema c h.1.is in
+    let ran : Runs old new c.returning c.command (text_of insert_text c) full count = elim (cases_Bool (shows_rows false c)) [
+      | inl shows ↦ absurd (let e = (rw shows at h.2).0 in cc)
+      | inr runs ↦ rw runs at h.2
+    ] in
+    let w : Writes old new None (Insert is.0.0 is.0.1) (text_of insert_text c) full count = rw (is.1, is.0.2) at ran in
+    record {
+      schema = same_schema is.0.0 is.0.1 full (slice_get old.now.schema.tables is.0.0) w.tally w.changed;
+      committed = λ auto. sym (rw auto at w.shown.committed_is);
+      mode = w.shown.mode;
+      was_open = w.shown.was_open;
+      is_open = w.shown.is_open;
+    }
+  where
+    same_schema : (at : ℕ) (from : Source) (full : Row) (o : Option Table) (tally : Tally)
+        → AtPlace (λ table. OnRows (record { limit = old.step_limit; keys = Enforced; schema = old.now.schema; table = table; params = full }) (mode_of old) None (Insert at from) old.now.trees) o (Ok (tally, new.now))
+        → new.now.schema ≡ old.now.schema
+    same_schema at from full None tally done = absurd (let e = done in cc)
+    same_schema at from full (Some table) tally done = ap (λ (p : Tally × Database). p.1.schema) (same_value (went (went (went done).2).2).2)
+
+-- a record's payload is within the journal's limit
+within : (r : Entry) → IsEntry r → IsWithin journal_limit r
+within (Pend name m) h = record { entry = h; payload = h.1.payload }
+within (PendCert name m) h = record { entry = h; payload = h.1.payload }
+within (Cert name) h = record { entry = h; payload = omega arith }
+
+-- The record is added.
+pub record IsAdded (old new : State) (place : ℕ) (r : Entry) : Type 0 where
+  pub records : records_of new.now.trees ≡ records_of old.now.trees ++ r ∷ []
+  pub counted : IsCounted new.now.trees (place + 1)
+
+pub adds_record : (old new : State) (place : ℕ) (r : Entry) (count : ℕ) → old.now.schema ≡ journal_schema → IsCounted old.now.trees place → place < 4294967295 → IsEntry r
+    → Executes insert_text (row_of place r) old new (Ok count) → IsAdded old new place r
+adds_record old new place r count has h low valid ran =
+    let put = puts_record old new place r count has ran in
+    let stands = stands_more old.now.trees new.now.trees (records_of old.now.trees) place r h.stands h.place low (within r valid) put.rows in
+    let records = records_are new.now.trees _ stands in
+    record {
+      records = records;
+      counted = record {
+        stands = subst (StandsFor new.now.trees) (sym records) stands;
+        place = rw records (omega (arith, h.place, length-append (records_of old.now.trees) (r ∷ [])));
+      };
+    }
+
+pub kept_more : (old new : State) (place : ℕ) (r : Entry) (count : ℕ) → IsKept old place → place < 4294967295 → IsEntry r → Executes insert_text (row_of place r) old new (Ok count) → IsKept new (place + 1)
+kept_more old new place r count h low valid ran =
+    let own = writes_in_any _ old new count ran in
+    record {
+      autocommit = own.mode ∙ h.autocommit;
+      settled = own.committed h.autocommit;
+      counted = λ has. let was = sym own.schema ∙ has in (adds_record old new place r count was (h.counted was) low valid ran).counted;
+    }
+
+-- ---- a stop
+
+-- a journal that stands for these records
+abbrev IsJournalOf : Trees → List Entry → Type 0
+IsJournalOf db records = IsSound journal_schema db × StandsFor db records
+
+pub commits_record : (old : State) (place : ℕ) (r : Entry) (db : Trees) → old.now.schema ≡ journal_schema → IsCounted old.now.trees place → place < 4294967295 → IsEntry r
+    → CommitsBy insert_text (row_of place r) old db → IsJournalOf db (records_of old.now.trees ++ r ∷ [])
+commits_record old place r db has h low valid commits =
+    let it = put r commits in (it.0, stands_more old.now.trees db (records_of old.now.trees) place r h.stands h.place low (within r valid) it.1)
+  where
+    put : (r : Entry) → CommitsBy insert_text (row_of place r) old db → IsSound journal_schema db × (db 0 ≡ put_row (kept_of place r) (old.now.trees 0))
+    put (Pend name m) c = commits_put old place 1 name.sender name.seq m.client m.number m.payload db has c
+    put (PendCert name m) c = commits_put old place 2 name.sender name.seq m.client m.number m.payload db has c
+    put (Cert name) c = commits_put old place 3 name.sender name.seq 0 0 [] db has c
+
+-- While the connection is open, a stop leaves the last commit.
+abbrev pub IsSettled : State → Type 0
+IsSettled s = (db : Trees) → s.may_leave db → db ≡ s.committed.trees
+
+last_commit : (s : State) (next : ℕ) (db : Trees) → IsSettled s → IsLive s → IsHonestJournal s → IsKept s next → s.may_leave db → IsJournalOf db (records_of s.now.trees)
+last_commit s next db settled live honest kept left =
+    let is : db ≡ s.now.trees = settled db left ∙ ap (λ (d : Database). d.trees) (sym kept.settled) in
+    let sound : IsSound journal_schema s.now.trees = subst (λ m. IsSound m s.now.trees) honest.schema (live honest.is_open).0 in
+    subst (λ d. IsJournalOf d (records_of s.now.trees)) (sym is) (sound, (kept.counted honest.schema).stands)
+
+pub stops_at_insert : (old new : State) (place : ℕ) (r : Entry) → IsInStep old place → place < 4294967295 → IsEntry r → IsSettled old → IsLive old
+    → Survives old new (CommitsBy insert_text (row_of place r) old) → IsHonestJournal old → HasCleanDisk new
+    → LeavesOnly new (λ records. (records ≡ records_of old.now.trees) ⊎ (records ≡ records_of old.now.trees ++ r ∷ []))
+stops_at_insert old new place r step low valid settled live survives honest clean db left =
+    let kept = step honest.clean honest.is_open in
+    elim (survives.crash clean db left) [
+      | inl before ↦ let it = last_commit old place db settled live honest kept before in (it.0, records_of old.now.trees, it.1, inl refl)
+      | inr after ↦ let it = commits_record old place r db honest.schema (kept.counted honest.schema) low valid after in (it.0, records_of old.now.trees ++ r ∷ [], it.1, inr refl)
+    ]
+
+pub stops_at_select : (old new : State) (place : ℕ) → IsInStep old place → IsSettled old → IsLive old → Survives old new (λ _. ⊥) → IsHonestJournal old → HasCleanDisk new
+    → LeavesOnly new (λ records. records ≡ records_of old.now.trees)
+stops_at_select old new place step settled live survives honest clean db left =
+    elim (survives.crash clean db left) [
+      | inl before ↦ let it = last_commit old place db settled live honest (step honest.clean honest.is_open) before in (it.0, records_of old.now.trees, it.1, refl)
+      | inr none ↦ absurd none
+    ]
+
+-- ---- reading
+
+pub unchanged_by_select : (old new : State) (rows : List Row) → Shown select_text [] old new rows → IsUnchanged old new
+unfolding Shown
+unchanged_by_select old new rows h = (rw (reads_in_any old.now.schema h.0 h.1.is) at h.2).3
+
+pub left_by_query : (old new : State) (e : Error) → FailsToQuery select_text [] old new e → IsUnchanged old new ⊎ IsRolledBack old new
+unfolding FailsToQuery IsNotRun
+left_by_query old new e (inl (inl none)) = inl none.1
+left_by_query old new e (inl (inr failed)) = inr failed.3
+left_by_query old new e (inr ran) = inl (rw (reads_in_any old.now.schema ran.0 ran.1.is) at ran.2).3
+
+pub select_commits_nothing : (s : State) (db : Trees) → ¬ CommitsShowing select_text [] s db
+unfolding CommitsShowing
+select_commits_nothing s db h = absurd (let e = rw (reads_in_any s.now.schema h.0 h.1.is) at h.2 in cc)
+
+-- What the SELECT shows is the journal, once each row is a record.
+pub stands_if_shown : (old new : State) (rows : List Row) (rs : List Entry) → old.now.schema ≡ journal_schema → Shown select_text [] old new rows → read_from journal_limit 1 rows ≡ Ok rs → StandsFor old.now.trees rs
+stands_if_shown old new rows rs has h read =
+    let same = (selects old new rows has h).0 in
+    let rising = (placed journal_limit 1 rows rs read).rising in
+    stands_if_read old.now.trees rs (ap (read_from journal_limit 1) (sort_is by_pos by_pos_total _ rows rising (IsPermutation-sym _ _ same)) ∙ read)
+
+-- Of a journal that stands for records, the SELECT shows these rows.
+pub reads_records : (old new : State) (rows : List Row) (next : ℕ) → old.now.schema ≡ journal_schema → IsCounted old.now.trees next → Shown select_text [] old new rows → read_from journal_limit 1 rows ≡ Ok (records_of old.now.trees)
+reads_records old new rows next has h shows =
+    let got = selects old new rows has shows in
+    let read = reads_if_stands old.now.trees _ h.stands in
+    let at = placed journal_limit 1 (rows_in journal_tree old.now.trees) _ read in
+    let same = IsPermutation-trans _ _ _ (IsPermutation-sort_by by_pos by_pos_total (map shown (old.now.trees journal_tree))) got.0 in
+    ap (read_from journal_limit 1) (sorted_unique by_pos by_pos_total (rows_in journal_tree old.now.trees) rows at.rising same got.1) ∙ read
+
+-- ---- the calls
+
+pub earlier_clean : (old new : State) → doubt old.is_clean ≤ doubt new.is_clean → HasCleanDisk new → HasCleanDisk old
+earlier_clean old new below clean = omega arith
+
+pub appended : (old new : State) (place : ℕ) (r : Entry) (count : ℕ) → IsInStep old place → place < 4294967295 → IsEntry r → doubt old.is_clean ≤ doubt new.is_clean
+    → (HasCleanDisk new → Executes insert_text (row_of place r) old new (Ok count)) → IsAppended old new place r
+appended old new place r count step low valid below ran =
+    let own = λ (clean : HasCleanDisk new). writes_in_any (row_of place r) old new count (ran clean) in
+    let was = λ (clean : HasCleanDisk new). step (earlier_clean old new below clean) (own clean).was_open in
+    record {
+      kept = λ clean is_open. kept_more old new place r count (was clean) low valid (ran clean);
+      honest = λ h. record { clean = earlier_clean old new below h.clean; is_open = (own h.clean).was_open; schema = sym (own h.clean).schema ∙ h.schema };
+      alive = λ was clean. record { clean = clean; is_open = (own clean).is_open; schema = (own clean).schema ∙ was.schema };
+      records = λ h. let has = sym (own h.clean).schema ∙ h.schema in (adds_record old new place r count has ((was h.clean).counted has) low valid (ran h.clean)).records;
+    }
+
+was_open : (old new : State) → IsUnchanged old new ⊎ IsRolledBack old new → IsTrue new.is_open → IsTrue old.is_open
+was_open old new (inl same) is_open = same.0.was_open
+was_open old new (inr undone) is_open = undone.was_open is_open
+
+same_if_left : (old new : State) → old.now ≡ old.committed → IsUnchanged old new ⊎ IsRolledBack old new → IsSame old new
+same_if_left old new settled (inl same) = same_if_unchanged old new same
+same_if_left old new settled (inr undone) = same_if_undone old new settled undone
+
+pub left : (old new : State) (place : ℕ) → IsInStep old place → doubt old.is_clean ≤ doubt new.is_clean → (HasCleanDisk new → IsUnchanged old new ⊎ IsRolledBack old new) → IsLeft old new place
+left old new place step below how =
+    let was = λ (clean : HasCleanDisk new) (is_open : IsTrue new.is_open). step (earlier_clean old new below clean) (was_open old new (how clean) is_open) in
+    let same = λ (clean : HasCleanDisk new) (is_open : IsTrue new.is_open). same_if_left old new (was clean is_open).settled (how clean) in
+    record {
+      kept = λ clean is_open. kept_same old new place is_open (same clean is_open) (was clean is_open);
+      honest = λ h. record {
+        clean = earlier_clean old new below h.clean;
+        is_open = was_open old new (how h.clean) h.is_open;
+        schema = ap (λ (d : Database). d.schema) (sym ((same h.clean h.is_open).now_is h.is_open)) ∙ h.schema;
+      };
+      records = λ h. ap (λ (d : Database). records_of d.trees) ((same h.clean h.is_open).now_is h.is_open);
+    }
+
+pub in_order : (old new : State) (rows : List Row) → old.now.schema ≡ journal_schema → Shown select_text [] old new rows → IsInOrder journal_tree old.now.trees rows
+in_order old new rows has h = let got = selects old new rows has h in record { same = got.0; sorted = got.1 }
+
+-- While nothing was called, a stop leaves the records.
+pub stops_now : (s : State) (next : ℕ) → IsInStep s next → (IsTrue s.is_open → IsSettled s) → IsLive s → IsSafeAtRest s
+stops_now s next step settled live honest db left =
+    let it = last_commit s next db (settled honest.is_open) live honest (step honest.clean honest.is_open) left in (it.0, records_of s.now.trees, it.1, refl)
+
+-- ---- what stays committed
+
+pub keeps_if_left : (old new : State) → IsUnchanged old new ⊎ IsRolledBack old new → KeepsCommit old new
+keeps_if_left old new (inl same) = record { was_open = λ _. same.0.was_open; committed = λ _. same.0.committed_is }
+keeps_if_left old new (inr undone) = record { was_open = undone.was_open; committed = λ is_open. (undone.undone is_open).1 }
+
+pub keeps_then : (a b c : State) → KeepsCommit a b → KeepsCommit b c → KeepsCommit a c
+keeps_then a b c p q = record { was_open = λ h. p.was_open (q.was_open h); committed = λ h. q.committed h ∙ p.committed (q.was_open h) }

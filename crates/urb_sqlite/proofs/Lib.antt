@@ -1,0 +1,12 @@
+pub mod TextLemmas
+pub mod InsertLemmas
+pub mod OrderLemmas
+pub mod SelectLemmas
+pub mod ReadLemmas
+pub mod AnyLemmas
+pub mod SpellLemmas
+pub mod StandLemmas
+pub mod KeepLemmas
+pub mod CreateLemmas
+pub mod SchemaLemmas
+pub mod StopLemmas

@@ -1,0 +1,134 @@
+-- A table that stands for records stands for these and one more where their next row is put.
+use Rattle.std.proofs.Common.{◌≡◌, ℕ, suc, ◌+◌, ◌<◌, ◌≤◌, pos, List, [], ◌∷◌, ◌++◌, length, map, add-zero, Some, Ok, refl, sym, ap, ◌∙◌, arith, Less}
+use Rattle.std.specs.Prelude.{⊤}
+use Rattle.std.specs.List.{AllByRecursion}
+use Rattle.std.specs.Cmp.{IsTotalOrder}
+use Rattle.std.proofs.lemmas.Cmp.{on_total}
+use Rattle.std.proofs.lemmas.Int.{ints}
+use Rattle.std.proofs.lemmas.List.Elements.{recursion_from_All, All-from_recursion}
+use Rattle.std.proofs.lemmas.List.Sorted.{All-permutation, IsPermutation-append_left}
+use Rattle.sqlite.specs.declared.types.Value.TheVariants.{Int}
+use Rattle.sqlite.specs.Order.{Row, column, value_cmp}
+use Rattle.sqlite.specs.Tree.{Trees, rowid, put_row, IsAscending}
+use Rattle.sqlite_value.proofs.OrderLemmas.{value_cmp-Int, value_cmp_total}
+use Rattle.sqlite_keyed.proofs.KeyedLemmas.{Less-from_lt}
+use Rattle.sqlite_keyed.specs.Lists.{sort_by}
+use Rattle.sqlite_keyed.proofs.ListLemmas.{all_weaker, all_unmap, ascending-append}
+use Rattle.sqlite_keyed.proofs.SortLemmas.{IsPermutation-sort_by}
+use Rattle.urb_stable.specs.Entries.{Entry}
+use Rattle.urb_stable.specs.declared.record.Record.TheVariants.{Pend, PendCert, Cert}
+use Rattle.urb_sqlite.specs.Journal.{journal_limit, journal_tree}
+use Rattle.urb_sqlite.specs.Rows.{shown, by_pos, rows_in, row_of, kept_of, IsWithin, Spells, StandsFor}
+use Rattle.urb_sqlite.specs.Reading.{record_at, joined, read_from, ok_or_none, records_of}
+use Rattle.urb_sqlite.proofs.OrderLemmas.{sort_is}
+use Rattle.urb_sqlite.proofs.SpellLemmas.{at_place, went_on, is_read_as, spells_if_read, read_if_spelled}
+
+pub by_pos_total : IsTotalOrder by_pos
+by_pos_total = on_total (λ (r : Row). column r 0) value_cmp_total
+
+-- ---- rows that are records are at their places
+
+-- the first column is a number from low up to high
+abbrev pub Between : ℕ → ℕ → Row → Type 0
+Between low high r = (k : ℕ) × (low ≤ k) × (k < high) × (column r 0 ≡ Int (pos k))
+
+less : (a b : Row) (m n : ℕ) → column a 0 ≡ Int (pos m) → column b 0 ≡ Int (pos n) → m < n → by_pos a b ≡ Less
+less a b m n p q low = rw (p, q) (value_cmp-Int (pos m) (pos n) ∙ Less-from_lt (pos m) (pos n) (omega (arith, ints)))
+
+pub record Placed (place : ℕ) (rows : List Row) (rs : List Entry) : Type 0 where
+  pub between : AllByRecursion (Between place (place + length rows)) rows
+  pub rising : IsAscending (λ a b. by_pos a b ≡ Less) rows
+  pub count : length rs ≡ length rows
+
+pub placed : (limit place : ℕ) (rows : List Row) (rs : List Entry) → read_from limit place rows ≡ Ok rs → Placed place rows rs
+unfolding read_from
+placed limit place [] rs h = let e : [] ≡ rs = cc in rw (← e) (record { between = tt; rising = tt; count = refl })
+placed limit place (row ∷ rows) rs h =
+    let on = went_on place (record_at limit place row) (read_from limit (place + 1) rows) rs h in
+    let later = placed limit (place + 1) rows on.2 on.3 in
+    let here = at_place limit place row on.0 on.1 in
+    rw on.4 (record {
+      between = ((place, omega arith, omega arith, here), all_weaker _ (Between place (place + suc (length rows))) (λ r b. (b.0, omega arith, omega arith, b.3)) rows later.between);
+      rising = (all_weaker _ (λ r. by_pos row r ≡ Less) (λ r b. less row r place b.0 here b.3 (omega arith)) rows later.between, later.rising);
+      count = ap suc later.count;
+    })
+
+-- ---- the next row goes to the end
+
+put_end : (new : Row) (rows : List Row) → AllByRecursion (λ r. value_cmp (rowid r) (rowid new) ≡ Less) rows → put_row new rows ≡ rows ++ new ∷ []
+put_end new [] below = refl
+put_end new (r ∷ rows) below = rw below.0 (ap (λ rs. r ∷ rs) (put_end new rows below.1))
+
+map_push : {X Y : Type 0} (f : X → Y) (xs : List X) (x : X) → map f (xs ++ x ∷ []) ≡ map f xs ++ f x ∷ []
+map_push f [] x = refl
+map_push f (y ∷ xs) x = ap (λ ys. f y ∷ ys) (map_push f xs x)
+
+sort_push : (rows : List Row) (new : Row) → IsAscending (λ a b. by_pos a b ≡ Less) (sort_by by_pos rows) → AllByRecursion (λ r. by_pos r new ≡ Less) (sort_by by_pos rows)
+    → sort_by by_pos (rows ++ new ∷ []) ≡ sort_by by_pos rows ++ new ∷ []
+sort_push rows new rising below =
+    sort_is by_pos by_pos_total (rows ++ new ∷ []) (sort_by by_pos rows ++ new ∷ [])
+    (ascending-append _ (sort_by by_pos rows) (new ∷ []) rising (tt, tt) (all_weaker _ (λ r. (by_pos r new ≡ Less) × ⊤) (λ r h. (h, tt)) _ below))
+    (IsPermutation-append_left (new ∷ []) _ _ (IsPermutation-sort_by by_pos by_pos_total rows))
+
+shown_kept : (place : ℕ) (r : Entry) → shown (kept_of place r) ≡ row_of place r
+shown_kept place (Pend name m) = refl
+shown_kept place (PendCert name m) = refl
+shown_kept place (Cert name) = refl
+
+kept_place : (place : ℕ) (r : Entry) → column (kept_of place r) 0 ≡ Int (pos place)
+kept_place place (Pend name m) = refl
+kept_place place (PendCert name m) = refl
+kept_place place (Cert name) = refl
+
+module _ (limit tree : ℕ) where
+  -- The table's rows, where the row of the next place was put.
+  rows_push : (old new : Trees) (rs : List Entry) (first place : ℕ) (row : Row) → read_from limit first (rows_in tree old) ≡ Ok rs → place ≡ first + length rs → column row 0 ≡ Int (pos place) → new tree ≡ put_row row (old tree)
+      → rows_in tree new ≡ rows_in tree old ++ shown row ∷ []
+  rows_push old new rs first place row read next here put =
+      let at = placed limit first (rows_in tree old) rs read in
+      let below : AllByRecursion (λ r. value_cmp (column r 0) (column row 0) ≡ Less) (rows_in tree old) =
+      all_weaker _ (λ r. value_cmp (column r 0) (column row 0) ≡ Less) (λ r b. less r row b.0 place b.3 here (omega (arith, at.count, b.2))) _ at.between in
+      let same = IsPermutation-sort_by by_pos by_pos_total (map shown (old tree)) in
+      let all = recursion_from_All _ _ (All-permutation (λ r. value_cmp (column r 0) (column row 0) ≡ Less) _ _ same (All-from_recursion _ _ below)) in
+      let ended : new tree ≡ old tree ++ row ∷ [] = put ∙ put_end row (old tree) (all_unmap (λ r. value_cmp (column r 0) (column row 0) ≡ Less) shown (old tree) all) in
+      ap (λ rows. sort_by by_pos (map shown rows)) ended ∙ ap (sort_by by_pos) (map_push shown (old tree) row) ∙ sort_push (map shown (old tree)) (shown row) at.rising below
+
+  pub read_end : (place : ℕ) (rows : List Row) (rs : List Entry) (row : Row) (r : Entry) → read_from limit place rows ≡ Ok rs → record_at limit (place + length rows) row ≡ Some r
+      → read_from limit place (rows ++ row ∷ []) ≡ Ok (rs ++ r ∷ [])
+  unfolding read_from
+  read_end place [] rs row r h found = let e : [] ≡ rs = cc in rw (← e) (ap (λ o. joined place o (Ok [])) (rw add-zero at found))
+  read_end place (x ∷ rows) rs row r h found =
+      let on = went_on place (record_at limit place x) (read_from limit (place + 1) rows) rs h in
+      let same : place + suc (length rows) ≡ place + 1 + length rows = omega arith in
+      let more = read_end (place + 1) rows on.2 row r on.3 (rw same at found) in
+      rw (on.1, more) (ap (λ (all : List Entry). Ok (all ++ r ∷ [])) (sym on.4))
+
+  -- Putting the row of the next place adds its record.
+  pub reads_more : (old new : Trees) (rs : List Entry) (first place : ℕ) (r : Entry) → read_from limit first (rows_in tree old) ≡ Ok rs → place ≡ first + length rs → place < 4294967295 → IsWithin limit r
+      → new tree ≡ put_row (kept_of place r) (old tree) → read_from limit first (rows_in tree new) ≡ Ok (rs ++ r ∷ [])
+  reads_more old new rs first place r read next low valid put =
+      let all = rows_push old new rs first place (kept_of place r) read next (kept_place place r) put ∙ ap (λ row. rows_in tree old ++ row ∷ []) (shown_kept place r) in
+      let count = (placed limit first (rows_in tree old) rs read).count in
+      let last : first + length (rows_in tree old) ≡ place = omega arith in
+      ap (read_from limit first) all ∙ read_end first (rows_in tree old) rs (row_of place r) r read (rw last (is_read_as limit place (row_of place r) r low valid (columns_same place r)))
+    where
+      columns_same : (place : ℕ) (r : Entry) → Rattle.urb_sqlite.specs.Rows.columns_in (row_of place r) ≡ row_of place r
+      columns_same place (Pend name m) = refl
+      columns_same place (PendCert name m) = refl
+      columns_same place (Cert name) = refl
+
+-- ---- the table journal
+
+pub stands_if_read : (db : Trees) (rs : List Entry) → read_from journal_limit 1 (rows_in journal_tree db) ≡ Ok rs → StandsFor db rs
+stands_if_read db rs h = spells_if_read journal_limit (omega arith) 1 (rows_in journal_tree db) rs (omega arith) h
+
+pub reads_if_stands : (db : Trees) (rs : List Entry) → StandsFor db rs → read_from journal_limit 1 (rows_in journal_tree db) ≡ Ok rs
+reads_if_stands db rs h = read_if_spelled journal_limit 1 (rows_in journal_tree db) rs h
+
+pub stands_more : (old new : Trees) (rs : List Entry) (place : ℕ) (r : Entry) → StandsFor old rs → place ≡ length rs + 1 → place < 4294967295 → IsWithin journal_limit r
+    → new journal_tree ≡ put_row (kept_of place r) (old journal_tree) → StandsFor new (rs ++ r ∷ [])
+stands_more old new rs place r stands next low valid put =
+    stands_if_read new (rs ++ r ∷ []) (reads_more journal_limit journal_tree old new rs 1 place r (reads_if_stands old rs stands) (omega (arith, next)) low valid put)
+
+pub records_are : (db : Trees) (rs : List Entry) → StandsFor db rs → records_of db ≡ rs
+records_are db rs h = ap ok_or_none (reads_if_stands db rs h)

@@ -1,0 +1,32 @@
+use Rattle.std.proofs.Common.{◌≡◌, subst}
+use Rattle.sqlite.specs.State.{HasCleanDisk}
+use Rattle.sqlite.specs.Held.{state}
+use Rattle.urb_sqlite.specs.OpenJournal.{OpenJournal, IsHonestJournal, LeavesOnly}
+use Rattle.urb_sqlite.specs.Reading.{records_of}
+use Rattle.urb_sqlite.proofs.KeepLemmas.{stops_at_select}
+use Rattle.urb_sqlite.proofs.CreateLemmas.{given_by_read}
+use Rattle.urb_sqlite.proofs.journal.SqlStableStable.retrieve.Goals as goal
+
+pub returns-in_err-records-clause-stop : goal.returns-in_err-records-clause-stop
+returns-in_err-records-clause-stop g c =
+    let new = state g.S.Store c.read.new.conn in
+    subst (λ (s : OpenJournal _). IsHonestJournal (state g.S.Store s.conn) → HasCleanDisk new → LeavesOnly new (λ records. records ≡ records_of (state g.S.Store s.conn).now.trees)) c.self.view_is
+    (λ honest clean. stops_at_select (state g.S.Store c.self.inside.conn) new c.self.inside.next c.self.invariant (λ db. g.met.S.Store.settled c.self.inside.conn.store db honest.is_open) c.read.ensures.live_before c.read.ensures.stop honest clean)
+
+pub returns-clause-stop : goal.returns-clause-stop
+returns-clause-stop g c =
+    let new = state g.S.Store c.read.new.conn in
+    subst (λ (s : OpenJournal _). IsHonestJournal (state g.S.Store s.conn) → HasCleanDisk new → LeavesOnly new (λ records. records ≡ records_of (state g.S.Store s.conn).now.trees)) c.self.view_is
+    (λ honest clean. stops_at_select (state g.S.Store c.self.inside.conn) new c.self.inside.next c.self.invariant (λ db. g.met.S.Store.settled c.self.inside.conn.store db honest.is_open) c.read.ensures.live_before c.read.ensures.stop honest clean)
+
+pub returns-clause-given : goal.returns-clause-given
+returns-clause-given g c honest =
+    let new = state g.S.Store c.read.new.conn in
+    subst (λ (s : OpenJournal _). (records_of new.now.trees ≡ c.in_ok-records.records.items) × (c.in_ok-records.records.items ≡ records_of (state g.S.Store s.conn).now.trees)) c.self.view_is
+    (given_by_read (state g.S.Store c.self.inside.conn) new c.in_ok-records.records.items honest (c.in_ok-records.ensures.same honest.clean) (c.in_ok-records.ensures.found honest.clean))
+
+pub returns-in_err-records-clause-rest : goal.returns-in_err-records-clause-rest
+returns-in_err-records-clause-rest g c = c.read.ensures.rest c.self.inside.next c.self.invariant
+
+pub returns-clause-rest : goal.returns-clause-rest
+returns-clause-rest g c = c.read.ensures.rest c.self.inside.next c.self.invariant

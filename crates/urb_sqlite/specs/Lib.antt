@@ -1,0 +1,6 @@
+pub mod Journal
+pub mod Rows
+pub mod Reading
+pub mod OpenJournal
+pub mod Blame
+pub mod Stops

@@ -1,0 +1,69 @@
+-- What contracts see of a journal that is open.
+use Rattle.std.specs.Prelude.{◌≡◌, ℕ, ◌+◌, Bool, false, List, [], ◌∷◌, ◌++◌, length, IsTrue, refl}
+use Rattle.std.specs.Coded.{Coded, code_by, coded×, coded_ℕ, coded_bool}
+use Rattle.sqlite.specs.Held.{Held, held_code}
+use Rattle.sqlite.specs.State.{State, HasCleanDisk}
+use Rattle.sqlite.specs.Tree.{Trees}
+use Rattle.sqlite_catalog.specs.Listing.{IsSound}
+use Rattle.urb_stable.specs.Entries.{Entry}
+use Rattle.urb_sqlite.specs.Journal.{journal_schema}
+use Rattle.urb_sqlite.specs.Rows.{StandsFor}
+use Rattle.urb_sqlite.specs.Reading.{records_of}
+
+-- the connection, the next position, whether a store has failed since the last retrieve, and how often the device has failed
+pub record OpenJournal (S : Type 0) : Type 0 where
+  pub conn : Held S
+  pub next : ℕ
+  pub doubtful : Bool
+  pub failures : ℕ
+
+abbrev pub open_code : {S : Type 0} → Coded S → Coded (OpenJournal S)
+open_code {S} store =
+    code_by (Held S × (ℕ × (Bool × ℕ))) (coded× (held_code store) (coded× coded_ℕ (coded× coded_bool coded_ℕ)))
+    (λ s. (s.conn, (s.next, (s.doubtful, s.failures))))
+    (λ p. record { conn = p.0; next = p.1.0; doubtful = p.1.1.0; failures = p.1.1.1 })
+    (λ _. refl)
+
+-- each row of the journal is a record, and the next position follows the last
+pub record IsCounted (db : Trees) (next : ℕ) : Type 0 where
+  pub stands : StandsFor db (records_of db)
+  pub place : next ≡ length (records_of db) + 1
+
+-- No transaction is open, all rows are committed, and where the one table is the journal they are counted.
+pub record IsKept (s : State) (next : ℕ) : Type 0 where
+  pub autocommit : s.in_transaction ≡ false
+  pub settled : s.now ≡ s.committed
+  pub counted : s.now.schema ≡ journal_schema → IsCounted s.now.trees next
+
+-- While the disk is clean and the connection open, the next position is in step with the rows.
+abbrev pub IsInStep : State → ℕ → Type 0
+IsInStep s next = HasCleanDisk s → IsTrue s.is_open → IsKept s next
+
+-- So far the disk has given back what was written, no fault has shut the database, and its one table is the journal.
+pub record IsHonestJournal (s : State) : Type 0 where
+  pub clean : HasCleanDisk s
+  pub is_open : IsTrue s.is_open
+  pub schema : s.now.schema ≡ journal_schema
+
+-- Whatever a stop leaves is a journal of records of which P holds.
+abbrev pub LeavesOnly : State → (List Entry → Type 0) → Type 0
+LeavesOnly s P = (db : Trees) → s.may_leave db → IsSound journal_schema db × (records : List Entry) × StandsFor db records × P records
+
+-- ---- what a call does to a journal
+
+-- the record was added, and the connection stays open
+pub record IsAppended (old new : State) (place : ℕ) (r : Entry) : Type 0 where
+  pub kept : IsInStep new (place + 1)
+  pub honest : IsHonestJournal new → IsHonestJournal old
+  pub alive : IsHonestJournal old → HasCleanDisk new → IsHonestJournal new
+  pub records : IsHonestJournal new → records_of new.now.trees ≡ records_of old.now.trees ++ r ∷ []
+
+-- no row changed
+pub record IsLeft (old new : State) (place : ℕ) : Type 0 where
+  pub kept : IsInStep new place
+  pub honest : IsHonestJournal new → IsHonestJournal old
+  pub records : IsHonestJournal new → records_of new.now.trees ≡ records_of old.now.trees
+
+-- At rest a stop leaves the records that the journal shows.
+abbrev pub IsSafeAtRest : State → Type 0
+IsSafeAtRest s = IsHonestJournal s → LeavesOnly s (λ records. records ≡ records_of s.now.trees)

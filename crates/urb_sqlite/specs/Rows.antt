@@ -1,0 +1,100 @@
+-- The row of a record, the rows of a table, and the records that they stand for.
+use Rattle.std.specs.Prelude.{◌≡◌, IsPermutation, IsSorted, All, ℕ, ◌+◌, ◌<◌, ◌≤◌, pos, List, [], ◌∷◌, ◌++◌, length, map}
+use Rattle.sqlite.specs.declared.types.Value.TheVariants.{Null, Int, Blob}
+use Rattle.sqlite.specs.Order.{Row, column, value_cmp}
+use Rattle.sqlite.specs.Tree.{Trees}
+use Rattle.std.specs.declared.cmp.Ordering.{Ordering}
+use Rattle.sqlite_keyed.specs.Lists.{sort_by}
+use Rattle.urb_stable.specs.Entries.{Entry, IsEntry}
+use Rattle.urb_stable.specs.declared.record.Record.TheVariants.{Pend, PendCert, Cert}
+use Rattle.urb_sqlite.specs.Journal.{journal_tree, journal_limit}
+
+-- ---- a record as a row
+
+-- the columns pos, kind, sender, seq, client, number and payload
+abbrev pub columns_of : ℕ → ℕ → ℕ → ℕ → ℕ → ℕ → List ℕ → Row
+columns_of place kind sender seq client number payload =
+    Int (pos place) ∷ Int (pos kind) ∷ Int (pos sender) ∷ Int (pos seq) ∷ Int (pos client) ∷ Int (pos number) ∷ Blob payload ∷ []
+
+-- The row of a record at a place. Its kind is 1, 2 or 3; a certificate alone has client 0, number 0 and no bytes.
+abbrev pub row_of : ℕ → Entry → Row
+row_of place (Pend name m) = columns_of place 1 name.sender name.seq m.client m.number m.payload
+row_of place (PendCert name m) = columns_of place 2 name.sender name.seq m.client m.number m.payload
+row_of place (Cert name) = columns_of place 3 name.sender name.seq 0 0 []
+
+-- the rows of records, the first of which is at this place
+abbrev pub rows_of : ℕ → List Entry → List Row
+rows_of place [] = []
+rows_of place (r ∷ records) = row_of place r ∷ rows_of (place + 1) records
+
+-- what a table's tree has for a row: its number, no value for the key's own column, and the other columns
+abbrev pub kept_row : ℕ → ℕ → ℕ → ℕ → ℕ → ℕ → List ℕ → Row
+kept_row place kind sender seq client number payload =
+    Int (pos place) ∷ Null ∷ Int (pos kind) ∷ Int (pos sender) ∷ Int (pos seq) ∷ Int (pos client) ∷ Int (pos number) ∷ Blob payload ∷ []
+
+-- the same for the row of a record
+abbrev pub kept_of : ℕ → Entry → Row
+kept_of place (Pend name m) = kept_row place 1 name.sender name.seq m.client m.number m.payload
+kept_of place (PendCert name m) = kept_row place 2 name.sender name.seq m.client m.number m.payload
+kept_of place (Cert name) = kept_row place 3 name.sender name.seq 0 0 []
+
+-- ---- the rows of a table
+
+-- the seven columns that a row of the tree shows
+abbrev pub shown : Row → Row
+shown row = column row 0 ∷ column row 2 ∷ column row 3 ∷ column row 4 ∷ column row 5 ∷ column row 6 ∷ column row 7 ∷ []
+
+-- rows are ordered by their first column
+abbrev pub by_pos : Row → Row → Ordering
+by_pos a b = value_cmp (column a 0) (column b 0)
+
+-- the rows of the table in this tree, in order of pos
+abbrev pub rows_in : ℕ → Trees → List Row
+rows_in tree db = sort_by by_pos (map shown (db tree))
+
+-- these are the rows of the table in this tree, in an order that their pos allows
+pub record IsInOrder (tree : ℕ) (db : Trees) (rows : List Row) : Type 0 where
+  pub same : IsPermutation (map shown (db tree)) rows
+  pub sorted : IsSorted by_pos rows
+
+-- ---- the records of rows
+
+-- the bytes of a record's payload
+abbrev pub payload_of : Entry → List ℕ
+payload_of (Pend name m) = m.payload
+payload_of (PendCert name m) = m.payload
+payload_of (Cert name) = []
+
+-- its name and message are within their limits, and its payload within that of the table
+pub record IsWithin (limit : ℕ) (r : Entry) : Type 0 where
+  pub entry : IsEntry r
+  pub payload : length (payload_of r) ≤ limit
+
+-- the first seven columns of a row
+abbrev pub columns_in : Row → Row
+columns_in row = column row 0 ∷ column row 1 ∷ column row 2 ∷ column row 3 ∷ column row 4 ∷ column row 5 ∷ column row 6 ∷ []
+
+-- These rows are those of the records, the first at this place. The last place, 4,294,967,295, has none.
+pub record Spells (limit first : ℕ) (rows : List Row) (records : List Entry) : Type 0 where
+  pub spelled : map columns_in rows ≡ rows_of first records
+  pub limits : All (IsWithin limit) records
+  pub places : first + length records ≤ 4294967295
+
+-- no record has this row at this place
+abbrev pub IsNoRecord : ℕ → ℕ → Row → Type 0
+IsNoRecord limit place row = (r : Entry) → IsWithin limit r → place < 4294967295 → columns_in row ≡ row_of place r → ⊥
+
+-- The row at this place is no record, and those before it are records.
+pub record IsFirstBad (limit first : ℕ) (rows : List Row) (place : ℕ) : Type 0 where
+  pub good : List Row
+  pub records : List Entry
+  pub row : Row
+  pub rest : List Row
+  pub parts : rows ≡ good ++ row ∷ rest
+  pub before : Spells limit first good records
+  pub here : place ≡ first + length records
+  pub bad : IsNoRecord limit place row
+
+-- the table journal stands for these records
+abbrev pub StandsFor : Trees → List Entry → Type 0
+StandsFor db = Spells journal_limit 1 (rows_in journal_tree db)

@@ -1,0 +1,172 @@
+//! A journal as stable storage.
+
+ghost use Rattle.std.specs.Prelude.{ℕ, ◌≡◌, ◌⊎◌, ◌<◌, ◌≤◌, ◌+◌, ◌∷◌, ◌++◌, [], length, None, Some, true, false, IfOk, IfErr, OnOk, OnErr, IsTrue, Ok, Err};
+ghost use Rattle.sqlite.specs.State.{HasCleanDisk, KeepsCommit, Survives, CommitsBy};
+ghost use Rattle.sqlite.specs.Held.{state};
+ghost use Rattle.urb_stable.specs.Storing.{is_place, is_bad_row, is_out_of_place, IsPlaced, IsContents};
+ghost use Rattle.urb_sqlite.specs.Journal.{create_text, no_schema, journal_schema, journal_tree, journal_limit};
+ghost use Rattle.urb_sqlite.specs.Rows.{IsInOrder, IsFirstBad, StandsFor};
+ghost use Rattle.urb_sqlite.specs.Reading.{records_of};
+ghost use Rattle.urb_sqlite.specs.OpenJournal.{OpenJournal, IsInStep, IsHonestJournal, IsSafeAtRest, LeavesOnly};
+
+use crate::calls;
+use sqlite::{Alter, Connection};
+use std::alloc::Global;
+use std::marker::Model;
+use urb_stable::{Record, Stable, StoreFault};
+
+/// A node's journal: stable storage in the table `journal` of a database. A record is one row, stored by one INSERT outside
+/// any transaction. Nothing else may write the database while this holds it.
+///
+/// `Device` stands for any refusal of the database but for memory, and each one raises the count of failures by one; where
+/// that count is at its greatest value, 2^64 - 1, the next failure answers `NoMemory`.
+pub struct SqlStable<S: Alter> {
+    conn: Connection<S>,
+    next: u32,
+    doubtful: bool,
+    failures: u64,
+}
+
+impl<S: Alter> Model for SqlStable<S> {
+    ghost use Rattle.sqlite.specs.Held.{state};
+    ghost use Rattle.urb_sqlite.specs.OpenJournal.{OpenJournal, open_code, IsInStep};
+
+    ghost Value = { OpenJournal S };
+
+    ghost coded = { open_code S.code };
+
+    ghost view = { λ s. record { conn = s.conn; next = s.next; doubtful = s.doubtful; failures = s.failures } };
+
+    ghost invariant = { λ s. IsInStep (state S.Store s.conn) s.next };
+}
+
+// It is written out, so that a caller does not prove again how each part is dropped.
+impl<S: Alter + Drop> Drop for SqlStable<S> {
+    fn drop(self) {
+        let SqlStable {
+            conn: _,
+            next: _,
+            doubtful: _,
+            failures: _,
+        } = self;
+    }
+}
+
+impl<S: Alter> SqlStable<S> {
+    /// Takes over an open connection: makes the table where it is absent, and reads the rows once, so that the next position
+    /// is known. A refusal hands the connection back with the fault:
+    /// - `NoMemory`: a growth was refused.
+    /// - `Device`: the database refused, also where the table `journal` is another one, or where a transaction is open.
+    /// - `BadRow(place)`: the row at this place, from 1 in order of `pos`, is no record.
+    pub fn adopt(
+        alloc: Global,
+        mut conn: Connection<S>,
+    ) -> Result<SqlStable<S>, (Connection<S>, StoreFault)>
+        // No record is doubtful, and no failure is counted.
+        ensures new { IfOk result (λ s. (s.doubtful ≡ false) × (s.failures ≡ 0)) }
+        // A database with no table becomes a journal with no record.
+        ensures fresh { IfOk result (λ s. HasCleanDisk (state S.Store s.conn) → (state S.Store conn).now.schema ≡ no_schema → IsHonestJournal (state S.Store s.conn) × (records_of (state S.Store s.conn).now.trees ≡ [])) }
+        // A journal that is there has its records.
+        ensures found { IfOk result (λ s. HasCleanDisk (state S.Store s.conn) → (state S.Store conn).now.schema ≡ journal_schema
+            → IsHonestJournal (state S.Store s.conn) × StandsFor (state S.Store conn).now.trees (records_of (state S.Store s.conn).now.trees)) }
+        // BadRow names the first row that is no record, and no refusal is Place.
+        ensures bad { IfErr result (λ e. HasCleanDisk (state S.Store e.0) → (state S.Store conn).now.schema ≡ journal_schema
+            → (place : ℕ) → e.1 ≡ StoreFault.BadRow place → (rows : _) × IsInOrder journal_tree (state S.Store conn).now.trees rows × IsFirstBad journal_limit 1 rows place) }
+        ensures rowless { IfErr result (λ e. HasCleanDisk (state S.Store e.0) → (state S.Store conn).now.schema ≡ no_schema → is_bad_row e.1 ≡ false) }
+        ensures placed { IfErr result (λ e. is_place e.1 ≡ false) }
+        // A journal that is refused keeps its rows.
+        ensures kept { IfErr result (λ e. HasCleanDisk (state S.Store e.0) → (state S.Store conn).now.schema ≡ journal_schema → KeepsCommit (state S.Store conn) (state S.Store e.0)) }
+        // A stop inside this call leaves what was there before, or what the CREATE commits; one after it, the records.
+        ensures stop { IfOk result (λ s. Survives (state S.Store conn) (state S.Store s.conn) (CommitsBy create_text [] (state S.Store conn))) }
+        ensures stop_refused { IfErr result (λ e. Survives (state S.Store conn) (state S.Store e.0) (CommitsBy create_text [] (state S.Store conn))) }
+        ensures rest { IfOk result (λ s. IsSafeAtRest (state S.Store s.conn)) }
+    {
+        let mut failures = 0;
+        if let Err(fault) = calls::prepare(&mut conn, &mut failures) {
+            return Err((conn, fault));
+        }
+        match calls::read(alloc, &mut conn, &mut failures) {
+            Ok(found) => {
+                let next = found.len() as u32 + 1;
+                Ok(SqlStable {
+                    conn,
+                    next,
+                    doubtful: false,
+                    failures,
+                })
+            }
+            Err(fault) => Err((conn, fault)),
+        }
+    }
+
+    /// The connection, as it stands.
+    pub fn into_connection(self) -> Connection<S>
+        ensures { result ≡ self.conn }
+    {
+        let SqlStable {
+            conn: connection,
+            next: _,
+            doubtful: _,
+            failures: _,
+        } = self;
+        connection
+    }
+}
+
+impl<S: Alter> Stable for SqlStable<S> {
+    ghost use Rattle.std.specs.Prelude.{None};
+    ghost use Rattle.sqlite.specs.Held.{state};
+    ghost use Rattle.sqlite.specs.State.{HasCleanDisk};
+    ghost use Rattle.urb_sqlite.specs.Reading.{records_of};
+    ghost use Rattle.urb_sqlite.specs.OpenJournal.{IsHonestJournal, LeavesOnly};
+
+    type Alloc = Global;
+
+    ghost certain = { λ s. records_of (state S.Store s.conn).now.trees };
+
+    ghost doubt = { λ _. None };
+
+    ghost is_doubtful = { λ s. s.doubtful };
+
+    ghost place = { λ s. s.next };
+
+    ghost failures = { λ s. s.failures };
+
+    ghost is_clean = { λ s. HasCleanDisk (state S.Store s.conn) };
+
+    ghost is_honest = { λ s. IsHonestJournal (state S.Store s.conn) };
+
+    ghost leaves_only = { λ s P. LeavesOnly (state S.Store s.conn) P };
+
+    fn next(&self) -> u32 {
+        self.next
+    }
+
+    fn doubtful(&self) -> bool {
+        self.doubtful
+    }
+
+    fn store(&mut self, pos: u32, entry: &Record) -> Result<(), StoreFault> {
+        if self.doubtful || pos != self.next || self.next == u32::MAX {
+            // For its clause that the database obeys its schema.
+            let _schema = self.conn.schema();
+            return Err(StoreFault::Place(self.next));
+        }
+        match calls::append(&mut self.conn, &mut self.failures, pos, entry) {
+            Ok(()) => {
+                self.next += 1;
+                Ok(())
+            }
+            Err(fault) => {
+                self.doubtful = true;
+                Err(fault)
+            }
+        }
+    }
+
+    fn retrieve(&mut self, alloc: Global) -> Result<Vec<Record>, StoreFault> {
+        let records = calls::read(alloc, &mut self.conn, &mut self.failures)?;
+        self.doubtful = false;
+        Ok(records)
+    }
+}

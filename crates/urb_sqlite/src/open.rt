@@ -1,0 +1,94 @@
+//! Opening a journal: at a path, and over a pair of files.
+
+ghost use Rattle.std.specs.Prelude.{◌≡◌, false, IfOk, IfErr, IsTrue};
+ghost use Rattle.sqlite.specs.State.{HasCleanDisk};
+ghost use Rattle.sqlite.specs.Files.{file_state, image_of, HoldsDatabase};
+ghost use Rattle.sqlite.specs.WalFiles.{image_at};
+ghost use Rattle.sqlite_wal.specs.Reads.{AreClean};
+ghost use Rattle.sqlite_catalog.specs.Listing.{IsSound};
+ghost use Rattle.urb_stable.specs.Storing.{is_place};
+ghost use Rattle.urb_sqlite.specs.Blame.{blamed};
+ghost use Rattle.urb_sqlite.specs.Journal.{journal_schema};
+ghost use Rattle.urb_sqlite.specs.Rows.{StandsFor};
+ghost use Rattle.urb_sqlite.specs.Reading.{records_of};
+ghost use Rattle.urb_sqlite.specs.OpenJournal.{IsHonestJournal, IsSafeAtRest};
+
+use crate::{SqlStable, calls};
+use sqlite::{Connection, Error, File, FileFrom, FileStore, Files, Options, Start, Unknown};
+use sqlite_disk::Disk;
+use std::alloc::Global;
+use std::rt::HostRuntime;
+use urb_stable::StoreFault;
+
+/// Why the database could not be opened: NoMemory for want of memory, else Device.
+fn open_fault(error: Error) -> StoreFault
+    ensures { result ≡ (blamed error 0).0 }
+{
+    let mut failures = 0;
+    calls::blame(&mut failures, error)
+}
+
+impl SqlStable<FileStore<File>> {
+    /// Opens the journal at this path, and makes the file and its table where they are absent; its directory has to be there.
+    /// The refusals are those of `adopt`. No clause says what a file held that was there: `open_from` does, for a caller that
+    /// names it.
+    pub fn open(rt: &HostRuntime, path: &str) -> Result<SqlStable<FileStore<File>>, StoreFault>
+        ensures fault { IfErr result (λ e. is_place e ≡ false) }
+        ensures new { IfOk result (λ s. (s.doubtful ≡ false) × (s.failures ≡ 0)) }
+        ensures rest { IfOk result (λ s. IsSafeAtRest (file_state s.conn)) }
+    {
+        SqlStable::open_from(rt, path, Unknown)
+    }
+}
+
+impl<S: Start> SqlStable<FileStore<FileFrom<S>>> {
+    /// The same, where `S` stands for what the files at this path hold: the way to state a theorem over a real file.
+    pub fn open_from(
+        rt: &HostRuntime,
+        path: &str,
+        start: S,
+    ) -> Result<SqlStable<FileStore<FileFrom<S>>>, StoreFault>
+        ensures fault { IfErr result (λ e. is_place e ≡ false) }
+        ensures new { IfOk result (λ s. (s.doubtful ≡ false) × (s.failures ≡ 0)) }
+        ensures rest { IfOk result (λ s. IsSafeAtRest (file_state s.conn)) }
+        // Where the files hold a database whose one table is the journal, its rows are records, and these are found.
+        ensures found { IfOk result (λ s. HasCleanDisk (file_state s.conn) → (db : _) → HoldsDatabase (image_at S.Start) db → IsSound journal_schema db
+            → IsHonestJournal (file_state s.conn) × StandsFor db (records_of (file_state s.conn).now.trees)) }
+    {
+        match Connection::open_from(rt, path, false, start) {
+            Ok(conn) => match SqlStable::adopt(rt.alloc(), conn) {
+                Ok(journal) => Ok(journal),
+                Err((_, fault)) => Err(fault),
+            },
+            Err((error, _)) => Err(open_fault(error)),
+        }
+    }
+}
+
+impl<D: Disk + Drop> SqlStable<FileStore<D>> {
+    /// The same over a pair of files, which no failed sync may have spoiled.
+    pub fn open_files(
+        alloc: Global,
+        files: Files<D>,
+        options: Options,
+    ) -> Result<SqlStable<FileStore<D>>, StoreFault>
+        requires log { IsTrue (D.Disk.is_usable files.log) }
+        requires db { IsTrue (D.Disk.is_usable files.db) }
+        ensures fault { IfErr result (λ e. is_place e ≡ false) }
+        ensures new { IfOk result (λ s. (s.doubtful ≡ false) × (s.failures ≡ 0)) }
+        ensures rest { IfOk result (λ s. IsSafeAtRest (file_state s.conn)) }
+        // A journal over a clean disk was opened over clean files.
+        ensures clean { IfOk result (λ s. HasCleanDisk (file_state s.conn) → AreClean D.Disk files.log files.db) }
+        // Where the files hold a database whose one table is the journal, its rows are records, and these are found.
+        ensures found { IfOk result (λ s. HasCleanDisk (file_state s.conn) → (db : _) → HoldsDatabase (image_of D.Disk files) db → IsSound journal_schema db
+            → IsHonestJournal (file_state s.conn) × StandsFor db (records_of (file_state s.conn).now.trees)) }
+    {
+        match Connection::open_files(alloc, files, options) {
+            Ok(conn) => match SqlStable::adopt(alloc, conn) {
+                Ok(journal) => Ok(journal),
+                Err((_, fault)) => Err(fault),
+            },
+            Err((error, _)) => Err(open_fault(error)),
+        }
+    }
+}

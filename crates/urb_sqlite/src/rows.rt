@@ -1,0 +1,156 @@
+//! The rows of a table of records, and the records that they stand for.
+
+ghost use Rattle.std.specs.Prelude.{◌≡◌, ◌⊎◌, ◌<◌, ◌≤◌, ◌+◌, ℕ, length, IfOk, IfErr, option_copied, option_map, Option, Some, None, IsTrue};
+ghost use Rattle.sqlite.specs.Order.{column};
+ghost use Rattle.urb_sqlite.specs.Reading as reading;
+ghost use Rattle.urb_sqlite.specs.Reading.{read_from};
+
+use sqlite::Row;
+use sqlite::types::ValueRef;
+use std::alloc::Global;
+use urb_names::{ClientId, Message, Name, NoMemory, NodeId};
+use urb_stable::{Record, StoreFault};
+
+/// The numbers of a row.
+#[derive(Clone, Copy, Drop)]
+pub struct Columns {
+    pub pos: u32,
+    pub kind: u32,
+    pub sender: u32,
+    pub seq: u32,
+    pub client: u32,
+    pub number: u32,
+}
+
+/// The number in a column, where it is one of 32 bits.
+fn number_at(row: &Row, at: usize) -> Option<u32>
+    ensures { result ≡ reading.number_in (column row.now at) }
+{
+    match row.get_ref(at) {
+        Ok(ValueRef::Int(n)) => u32::try_from(n).ok(),
+        _ => None,
+    }
+}
+
+fn numbers_in(row: &Row) -> Option<Columns>
+    ensures { result ≡ reading.numbers_in row.now }
+{
+    Some(Columns {
+        pos: number_at(row, 0)?,
+        kind: number_at(row, 1)?,
+        sender: number_at(row, 2)?,
+        seq: number_at(row, 3)?,
+        client: number_at(row, 4)?,
+        number: number_at(row, 5)?,
+    })
+}
+
+fn payload_at(row: &Row) -> Option<&[u8]>
+    ensures { option_map (λ b. b.now) result ≡ reading.bytes_in (column row.now 6) }
+{
+    match row.get_ref(6) {
+        Ok(ValueRef::Blob(bytes)) => Some(bytes),
+        _ => None,
+    }
+}
+
+fn is_name(columns: Columns) -> bool
+    ensures { result ≡ reading.is_name columns.sender columns.seq }
+{
+    0 < columns.sender && columns.sender < 8 && 0 < columns.seq
+}
+
+fn is_message(limit: usize, columns: Columns, payload: &[u8]) -> bool
+    ensures { result ≡ reading.is_message limit columns.client columns.number payload.now }
+{
+    0 < columns.client && columns.client < 65536 && 0 < columns.number && payload.len() <= limit
+}
+
+fn is_bare(columns: Columns, payload: &[u8]) -> bool
+    ensures { result ≡ reading.is_bare columns payload.now }
+{
+    columns.client == 0 && columns.number == 0 && payload.is_empty()
+}
+
+fn name_in(columns: Columns) -> Name
+    requires { IsTrue (reading.is_name columns.sender columns.seq) }
+    ensures { result ≡ reading.name_in columns }
+{
+    Name {
+        sender: NodeId::new(columns.sender as u8).unwrap(),
+        seq: columns.seq,
+    }
+}
+
+fn message_in(alloc: Global, columns: Columns, payload: &[u8]) -> Result<Message, NoMemory>
+    requires { IsTrue (reading.is_message 1024 columns.client columns.number payload.now) }
+    ensures { IfOk result (λ m. m ≡ reading.message_in columns payload.now) }
+{
+    let client = ClientId::new(columns.client as u16).unwrap();
+    Message::copied(alloc, client, columns.number, payload)
+}
+
+fn record_in(
+    alloc: Global,
+    limit: usize,
+    place: u32,
+    columns: Columns,
+    payload: &[u8],
+) -> Result<Option<Record>, NoMemory>
+    requires { limit ≤ 1024 }
+    ensures { IfOk result (λ found. found ≡ reading.record_in limit place columns payload.now) }
+{
+    if columns.pos != place || place == u32::MAX || !is_name(columns) {
+        return Ok(None);
+    }
+    let name = name_in(columns);
+    match columns.kind {
+        1 if is_message(limit, columns, payload) => {
+            Ok(Some(Record::Pend(name, message_in(alloc, columns, payload)?)))
+        }
+        2 if is_message(limit, columns, payload) => {
+            Ok(Some(Record::PendCert(name, message_in(alloc, columns, payload)?)))
+        }
+        3 if is_bare(columns, payload) => Ok(Some(Record::Cert(name))),
+        _ => Ok(None),
+    }
+}
+
+/// The record of the row at this place, where it is one.
+fn record_at(alloc: Global, limit: usize, place: u32, row: &Row) -> Result<Option<Record>, NoMemory>
+    requires { limit ≤ 1024 }
+    ensures { IfOk result (λ found. found ≡ reading.record_at limit place row.now) }
+{
+    let Some(columns) = numbers_in(row) else {
+        return Ok(None);
+    };
+    let Some(payload) = payload_at(row) else {
+        return Ok(None);
+    };
+    record_in(alloc, limit, place, columns, payload)
+}
+
+/// The records of rows, the first of which is at the place `first`, or the place of the first row that is no record.
+/// A payload has at most `limit` bytes.
+pub fn records_in(
+    alloc: Global,
+    limit: usize,
+    first: u32,
+    rows: &[Row],
+) -> Result<Vec<Record>, StoreFault>
+    requires { limit ≤ 1024 }
+    ensures records { IfOk result (λ records. read_from limit first rows.now ≡ Ok records.items) }
+    ensures short { IfOk result (λ records. first + length records.items ≤ 4294967295) }
+    ensures fault { IfErr result (λ e. (e ≡ StoreFault.NoMemory) ⊎ ((bad : ℕ) × (e ≡ StoreFault.BadRow bad) × (read_from limit first rows.now ≡ Err bad))) }
+{
+    let mut records = Vec::new(alloc);
+    let mut place = first;
+    'rows: for row in rows {
+        match record_at(alloc, limit, place, row)? {
+            Some(record) => records.push(record)?,
+            None => return Err(StoreFault::BadRow(place)),
+        }
+        place += 1;
+    }
+    Ok(records)
+}

@@ -1,0 +1,13 @@
+-- What storage may turn out to hold, in two cases.
+use Rattle.std.proofs.Common.{List, None, Option, Some, [], inl, inr, refl, ◌++◌, ◌∷◌, ◌≡◌, ◌⊎◌}
+use Rattle.urb_stable.specs.Entries.{Entry}
+use Rattle.urb_stable.specs.Storing.{IsContents}
+
+-- the certain list, or that with a doubtful record behind it
+abbrev pub IsEither : List Entry → Option Entry → List Entry → Type 0
+IsEither certain doubtful records = (records ≡ certain) ⊎ ((r : Entry) × (doubtful ≡ Some r) × (records ≡ certain ++ r ∷ []))
+
+pub contents-either : (certain : List Entry) (doubtful : Option Entry) (records : List Entry) → IsContents certain doubtful records → IsEither certain doubtful records
+contents-either certain None records h = inl h
+contents-either certain (Some r) records (inl h) = inl h
+contents-either certain (Some r) records (inr h) = inr (r, refl, h)

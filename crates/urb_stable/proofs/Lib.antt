@@ -1,0 +1,7 @@
+pub mod Kept
+pub mod Contents
+pub mod JoinedRecords
+pub mod KeptRules
+pub mod Logs
+pub mod OwnRules
+pub mod RisingRecords

@@ -1,0 +1,20 @@
+-- A record, as contracts see it.
+use Rattle.urb_names.specs.Naming.{Label, Content, IsLabel, IsContent}
+use Rattle.urb_stable.specs.declared.record.Record.{Record}
+use Rattle.urb_stable.specs.declared.record.Record.TheVariants.{Pend, PendCert, Cert}
+
+-- a record, wherever its message lies in memory
+abbrev pub Entry : Type 0
+Entry = Record Content
+
+-- the name that a record is about
+abbrev pub name_of : Entry → Label
+name_of (Pend x m) = x
+name_of (PendCert x m) = x
+name_of (Cert x) = x
+
+-- its name and message are within their limits
+abbrev pub IsEntry : Entry → Type 0
+IsEntry (Pend x m) = IsLabel x × IsContent m
+IsEntry (PendCert x m) = IsLabel x × IsContent m
+IsEntry (Cert x) = IsLabel x

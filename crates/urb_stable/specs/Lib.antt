@@ -1,0 +1,10 @@
+pub mod Entries
+pub mod Records
+pub mod Log
+pub mod Placed
+pub mod Doubted
+pub mod Storing
+pub mod Answering
+pub mod Memory
+pub mod IsMemory
+pub mod Fitting

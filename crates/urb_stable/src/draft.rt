@@ -1,0 +1,97 @@
+// Drafts: what a node wants stored.
+ghost use Rattle.std.specs.Prelude.{◌≡◌, ◌⊎◌, ◌<◌, ◌≤◌, ◌++◌, [], ◌∷◌, true, false, None, Some, Err, IsTrue, IfErr, OnOk, OnErr, MatchResult};
+ghost use Rattle.urb_stable.specs.Storing.{IsContents, is_out_of_place, is_place, IsPlaced};
+ghost use Rattle.urb_stable.specs.Answering.{answer_of};
+
+use crate::{Doubt, Receipt, Record, Stable, StoreFault};
+use std::alloc::{Allocator, Global};
+use std::marker::Model;
+use urb_names::{Message, NodeId};
+
+/// A record that a node wants stored, at its position in the node's storage, from 1. It may be dropped: the node then
+/// waits for its storage until it is told of a failure or crashes.
+#[derive(Drop)]
+#[derive_where(Debug)]
+pub struct Draft<A: Allocator = Global> {
+    node: NodeId,
+    pos: u32,
+    entry: Record<Message<A>>,
+}
+
+impl<A: Allocator> Model for Draft<A> {
+    ghost use Rattle.std.specs.Prelude.{◌<◌};
+    ghost use Rattle.urb_stable.specs.Placed.{Placed};
+
+    ghost Value = { Placed };
+
+    ghost view = { λ a. record { node = a.node; pos = a.pos; entry = a.entry } };
+
+    ghost invariant = { λ a. 0 < a.pos };
+}
+
+impl<A: Allocator> Draft<A> {
+    /// A draft of the record. Takes no memory.
+    pub fn new(node: NodeId, pos: u32, entry: Record<Message<A>>) -> Draft<A>
+        requires { 0 < pos }
+        ensures { result ≡ record { node = node; pos = pos; entry = entry } }
+    {
+        Draft { node, pos, entry }
+    }
+
+    /// The node whose record it is.
+    pub fn node(&self) -> NodeId
+        ensures { result ≡ self.now.node }
+    {
+        self.node
+    }
+
+    /// The position of the record in the node's storage, from 1.
+    pub fn pos(&self) -> u32
+        ensures value { result ≡ self.now.pos }
+        ensures range { 0 < self.now.pos }
+    {
+        self.pos
+    }
+
+    /// The record.
+    pub fn entry(&self) -> &Record<Message<A>>
+        ensures { result.now ≡ self.now.entry }
+    {
+        &self.entry
+    }
+
+    /// Has a store keep the record, as the book's `store` does before a step's effects are seen (section 2.2 of the
+    /// book). A doubt of `Place` says that nothing has changed; after any other, only a `retrieve` can tell whether the
+    /// record is kept.
+    pub fn keep<S: Stable<Alloc = A>>(self, store: &mut S) -> Result<Receipt<A>, Doubt>
+        // A receipt is of this draft, and a doubt of its node.
+        ensures receipt { MatchResult result (λ receipt. receipt ≡ self) (λ doubt. doubt.node ≡ self.node) }
+
+        // Place comes exactly where the store is out of place, and then nothing changes.
+        ensures placed { IsPlaced (is_out_of_place (S.is_doubtful store.old) (S.place store.old) self.pos) (S.place store.old) (answer_of result) }
+        ensures same { IsTrue (is_out_of_place (S.is_doubtful store.old) (S.place store.old) self.pos) → store.new ≡ store.old }
+
+        // The record is certain after a receipt, and may be there after another doubt.
+        ensures stored { S.is_honest store.new → OnOk (answer_of result) (S.certain store.new ≡ S.certain store.old ++ self.entry ∷ []) }
+        ensures failed { S.is_honest store.new → OnErr (answer_of result) (S.certain store.new ≡ S.certain store.old) }
+        ensures clear { OnOk (answer_of result) ((S.is_doubtful store.new ≡ false) × (S.doubt store.new ≡ None)) }
+        ensures doubtful { IfErr (answer_of result) (λ e. is_place e ≡ false → S.is_doubtful store.new ≡ true) }
+        ensures doubt { IfErr (answer_of result) (λ e. is_place e ≡ false → (S.doubt store.new ≡ None) ⊎ (S.doubt store.new ≡ Some self.entry)) }
+
+        // A stop, also inside this call, leaves what the storage may hold, or its certain records with this one.
+        ensures stop { S.is_honest store.old → S.is_clean store.new → S.leaves_only store.new (λ records. IsContents (S.certain store.old) (S.doubt store.old) records ⊎ (records ≡ S.certain store.old ++ self.entry ∷ [])) }
+        ensures rest { S.is_honest store.new → S.leaves_only store.new (IsContents (S.certain store.new) (S.doubt store.new)) }
+
+        // Device comes only where the count of failures rose.
+        ensures device { answer_of result ≡ Err StoreFault.Device → S.failures store.old < S.failures store.new }
+        ensures counts { S.failures store.old ≤ S.failures store.new }
+        ensures honest { S.is_honest store.new → S.is_honest store.old }
+        ensures alive { OnOk (answer_of result) (S.is_honest store.old → S.is_clean store.new → S.is_honest store.new) }
+    {
+        let Draft { node, pos, entry } = self;
+        match store.store(pos, &entry) {
+            Ok(()) => Ok(Receipt::new(node, pos, entry)),
+            Err(fault) => Err(Doubt::new(node, fault)),
+        }
+    }
+}

@@ -1,0 +1,19 @@
+//! Records, drafts and stores.
+#![tactic(auto)]
+
+mod doubt;
+mod draft;
+mod memory;
+mod receipt;
+mod record;
+mod stable;
+
+pub use doubt::Doubt;
+pub use draft::Draft;
+pub use memory::{Failure, MemStable};
+pub use receipt::Receipt;
+pub use record::Record;
+pub use stable::{Stable, StoreFault};
+
+#[cfg(test)]
+mod tests;

@@ -1,0 +1,188 @@
+// A store in memory.
+ghost use Rattle.std.specs.Prelude.{◌≡◌, ◌⊎◌, ◌<◌, ◌≤◌, ◌+◌, List, [], ◌∷◌, ◌++◌, None, Some, Ok, Err, false, true, length, IsTrue, OnOk, OnErr, IfOk, IfErr};
+ghost use Rattle.urb_stable.specs.Memory.{empty_memory, armed_with, with_record, without_memory, after_failure, with_doubt, retrieved};
+ghost use Rattle.urb_stable.specs.Entries.{Entry};
+ghost use Rattle.urb_stable.specs.Storing.{IsContents, is_out_of_place, is_place, is_bad_row, IsPlaced};
+
+use crate::{Record, Stable, StoreFault};
+use std::alloc::{Allocator, Global};
+use std::marker::Model;
+use urb_names::{Message, NoMemory};
+
+/// How a store in memory is to fail.
+#[derive(Clone, Copy, Debug, PartialEq, Eq)]
+pub enum Failure {
+    /// It keeps nothing of the record.
+    Old,
+    /// It keeps the record; where no memory is left for it, it answers `NoMemory` and keeps nothing.
+    New,
+}
+
+/// A store in memory, which fails when it is told to: for tests, and for scripts that play failures.
+#[derive(Drop)]
+#[derive_where(Debug)]
+pub struct MemStable<A: Allocator = Global> {
+    #[derive_where(skip)]
+    alloc: A,
+    // The certain records, and behind them one at most that is in doubt.
+    records: Vec<Record<Message<A>>, A>,
+    certain: u32,
+    doubtful: bool,
+    armed: Option<Failure>,
+    failures: u64,
+}
+
+impl<A: Allocator> Model for MemStable<A> {
+    ghost use Rattle.std.specs.Prelude.{take, slice_get};
+    ghost use Rattle.urb_stable.specs.Memory.{Memory};
+    ghost use Rattle.urb_stable.specs.IsMemory.{IsMemory};
+
+    ghost Value = { Memory };
+
+    ghost view = { λ a. record { certain = take a.certain a.records.items; doubt = slice_get a.records.items a.certain; doubtful = a.doubtful; failures = a.failures; armed = a.armed } };
+
+    ghost invariant = { IsMemory };
+}
+
+// Puts a copy of a record behind the others.
+fn keep<A: Allocator>(
+    records: &mut Vec<Record<Message<A>>, A>,
+    alloc: A,
+    entry: &Record<Message<A>>,
+) -> Result<(), NoMemory>
+    ensures ok { OnOk result (records.new.items ≡ records.old.items ++ entry.now ∷ []) }
+    ensures err { OnErr result (records.new.items ≡ records.old.items) }
+{
+    records.push(entry.copy(alloc)?)?;
+    Ok(())
+}
+
+// Copies of all records.
+fn copies<A: Allocator + Copy>(
+    records: &[Record<Message<A>>],
+    alloc: A,
+) -> Result<Vec<Record<Message<A>>, A>, NoMemory>
+    ensures { IfOk result (λ v. v.items ≡ records.now) }
+{
+    let mut copies = Vec::new(alloc);
+    for entry in records {
+        keep(&mut copies, alloc, entry)?;
+    }
+    Ok(copies)
+}
+
+impl<A: Allocator + Copy> MemStable<A> {
+    /// A store with no records. Takes no memory; that of its records comes from `alloc`.
+    pub fn new(alloc: A) -> MemStable<A>
+        ensures { result ≡ empty_memory }
+    {
+        MemStable {
+            alloc,
+            records: Vec::new(alloc),
+            certain: 0,
+            doubtful: false,
+            armed: None,
+            failures: 0,
+        }
+    }
+
+    /// Has the next store fail that isn't answered `Place`; an arming that was not used is replaced. After 2 ^ 64 - 1
+    /// failures it does nothing.
+    pub fn arm(&mut self, failure: Failure)
+        ensures { self.new ≡ armed_with failure self.old }
+    {
+        if self.failures < u64::MAX {
+            self.armed = Some(failure);
+        }
+    }
+}
+
+impl<A: Allocator + Copy> Stable for MemStable<A> {
+    type Alloc = A;
+
+    ghost certain = { λ s. s.certain };
+
+    ghost doubt = { λ s. s.doubt };
+
+    ghost is_doubtful = { λ s. s.doubtful };
+
+    ghost failures = { λ s. s.failures };
+
+    ghost place = { λ s. length s.certain + 1 };
+
+    ghost is_clean = { λ s. Unit {0} };
+
+    ghost is_honest = { λ s. Unit {0} };
+
+    ghost leaves_only = { λ s P. (records : List Entry) → IsContents s.certain s.doubt records → P records };
+
+    fn next(&self) -> u32 {
+        self.certain + 1
+    }
+
+    fn doubtful(&self) -> bool {
+        self.doubtful
+    }
+
+    fn store(&mut self, pos: u32, entry: &Record<Message<A>>) -> Result<(), StoreFault>
+        // As every store does.
+        ensures placed { IsPlaced (is_out_of_place self.old.doubtful (length self.old.certain + 1) pos) (length self.old.certain + 1) result }
+        ensures same { IsTrue (is_out_of_place self.old.doubtful (length self.old.certain + 1) pos) → self.new ≡ self.old }
+        ensures stored { OnOk result (self.new.certain ≡ self.old.certain ++ entry.now ∷ []) }
+        ensures failed { OnErr result (self.new.certain ≡ self.old.certain) }
+        ensures clear { OnOk result ((self.new.doubtful ≡ false) × (self.new.doubt ≡ None)) }
+        ensures doubtful { IfErr result (λ e. is_place e ≡ false → self.new.doubtful ≡ true) }
+        ensures doubt { IfErr result (λ e. is_place e ≡ false → (self.new.doubt ≡ None) ⊎ (self.new.doubt ≡ Some entry.now)) }
+        ensures stop { (records : List Entry) → IsContents self.new.certain self.new.doubt records → IsContents self.old.certain self.old.doubt records ⊎ (records ≡ self.old.certain ++ entry.now ∷ []) }
+        ensures device { result ≡ Err StoreFault.Device → self.old.failures < self.new.failures }
+        ensures counts { self.old.failures ≤ self.new.failures }
+
+        // What it answers and leaves exactly, where it is in place: unarmed, and armed with each failure.
+        ensures unarmed { is_out_of_place self.old.doubtful (length self.old.certain + 1) pos ≡ false → self.old.armed ≡ None → ((result ≡ Ok tt) × (self.new ≡ with_record entry.now self.old)) ⊎ ((result ≡ Err StoreFault.NoMemory) × (self.new ≡ without_memory self.old)) }
+        ensures keeps_nothing { is_out_of_place self.old.doubtful (length self.old.certain + 1) pos ≡ false → self.old.armed ≡ Some Failure.Old → (result ≡ Err StoreFault.Device) × (self.new ≡ after_failure None self.old) }
+        ensures keeps_it { is_out_of_place self.old.doubtful (length self.old.certain + 1) pos ≡ false → self.old.armed ≡ Some Failure.New → ((result ≡ Err StoreFault.Device) × (self.new ≡ after_failure (Some entry.now) self.old)) ⊎ ((result ≡ Err StoreFault.NoMemory) × (self.new ≡ without_memory self.old)) }
+    {
+        let next = self.next();
+        if pos != next || self.doubtful || next == u32::MAX {
+            return Err(StoreFault::Place(next));
+        }
+        let armed = self.armed.take();
+        if armed == Some(Failure::Old) {
+            self.doubtful = true;
+            self.failures += 1;
+            return Err(StoreFault::Device);
+        }
+        if keep(&mut self.records, self.alloc, entry).is_err() {
+            self.doubtful = true;
+            return Err(StoreFault::NoMemory);
+        }
+        if armed == Some(Failure::New) {
+            self.doubtful = true;
+            self.failures += 1;
+            return Err(StoreFault::Device);
+        }
+        self.certain += 1;
+        Ok(())
+    }
+
+    fn retrieve(&mut self, alloc: A) -> Result<Vec<Record<Message<A>>, A>, StoreFault>
+        // As every store does.
+        ensures given { IfOk result (λ records. (self.new.certain ≡ records.items) × IsContents self.old.certain self.old.doubt records.items) }
+        ensures clear { OnOk result ((self.new.doubtful ≡ false) × (self.new.doubt ≡ None)) }
+        ensures failed { OnErr result (self.new.certain ≡ self.old.certain) }
+        ensures kept { OnErr result ((self.new.doubtful ≡ self.old.doubtful) × (self.new.doubt ≡ self.old.doubt) × (length self.new.certain + 1 ≡ length self.old.certain + 1)) }
+        ensures faults { IfErr result (λ e. (is_place e ≡ false) × (is_bad_row e ≡ false)) }
+        ensures stop { (records : List Entry) → IsContents self.new.certain self.new.doubt records → IsContents self.old.certain self.old.doubt records }
+        ensures device { result ≡ Err StoreFault.Device → self.old.failures < self.new.failures }
+        ensures counts { self.old.failures ≤ self.new.failures }
+
+        // It gives all records; a fault is never of the device, and leaves the store as it was.
+        ensures all { IfOk result (λ records. (records.items ≡ with_doubt self.old.certain self.old.doubt) × (self.new ≡ retrieved self.old)) }
+        ensures refused { IfErr result (λ e. (e ≡ StoreFault.NoMemory) × (self.new ≡ self.old)) }
+    {
+        let records = copies(&self.records, alloc)?;
+        self.certain = self.records.len() as u32;
+        self.doubtful = false;
+        Ok(records)
+    }
+}

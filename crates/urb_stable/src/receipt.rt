@@ -1,0 +1,62 @@
+// Receipts: that a record is stored.
+ghost use Rattle.std.specs.Prelude.{◌≡◌};
+
+use crate::Record;
+use std::alloc::{Allocator, Global};
+use std::marker::Model;
+use urb_names::{Message, NodeId};
+
+/// That a store took a node's record. Only `Draft::keep` makes one.
+#[derive(Drop)]
+#[derive_where(Debug)]
+pub struct Receipt<A: Allocator = Global> {
+    node: NodeId,
+    pos: u32,
+    entry: Record<Message<A>>,
+}
+
+impl<A: Allocator> Model for Receipt<A> {
+    ghost use Rattle.urb_stable.specs.Placed.{Placed};
+
+    ghost Value = { Placed };
+
+    ghost view = { λ a. record { node = a.node; pos = a.pos; entry = a.entry } };
+}
+
+impl<A: Allocator> Receipt<A> {
+    // That a store took this record: for `Draft::keep` alone.
+    pub(crate) fn new(node: NodeId, pos: u32, entry: Record<Message<A>>) -> Receipt<A>
+        ensures { result ≡ record { node = node; pos = pos; entry = entry } }
+    {
+        Receipt { node, pos, entry }
+    }
+
+    /// The node whose record it is.
+    pub fn node(&self) -> NodeId
+        ensures { result ≡ self.now.node }
+    {
+        self.node
+    }
+
+    /// The position of the record in the node's storage, from 1.
+    pub fn pos(&self) -> u32
+        ensures { result ≡ self.now.pos }
+    {
+        self.pos
+    }
+
+    /// The record.
+    pub fn entry(&self) -> &Record<Message<A>>
+        ensures { result.now ≡ self.now.entry }
+    {
+        &self.entry
+    }
+
+    /// The record, without a copy.
+    pub fn into_entry(self) -> Record<Message<A>>
+        ensures { result ≡ self.entry }
+    {
+        let Receipt { entry, .. } = self;
+        entry
+    }
+}

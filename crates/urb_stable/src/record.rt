@@ -1,0 +1,68 @@
+// What a node keeps in its storage.
+ghost use Rattle.std.specs.Prelude.{◌≡◌, IfOk};
+ghost use Rattle.std.specs.Bool.{MatchBool};
+ghost use Rattle.urb_stable.specs.Entries.{name_of, IsEntry};
+
+use std::alloc::Allocator;
+use urb_names::{Message, Name, NoMemory};
+
+/// What a node stores. Its list of records says which messages are pending at it, and which of them are certified
+/// (section 3.7 of the book, where they are called delivered).
+#[derive(Debug, Drop)]
+pub enum Record<M = Message> {
+    /// The message is pending.
+    Pend(Name, M),
+    /// The message is pending, and certified at once.
+    PendCert(Name, M),
+    /// A pending message is certified.
+    Cert(Name),
+}
+
+impl<A: Allocator> Record<Message<A>> {
+    /// The name that it is about.
+    pub fn name(&self) -> Name
+        ensures { result ≡ name_of self.now }
+    {
+        match self {
+            Record::Pend(name, _) => *name,
+            Record::PendCert(name, _) => *name,
+            Record::Cert(name) => *name,
+        }
+    }
+
+    /// Another record with the same content. Its memory comes from `alloc`.
+    pub fn copy(&self, alloc: A) -> Result<Record<Message<A>>, NoMemory>
+        ensures { IfOk result (λ r. r ≡ self.now) }
+    {
+        match self {
+            Record::Pend(name, message) => Ok(Record::Pend(*name, message.copy(alloc)?)),
+            Record::PendCert(name, message) => Ok(Record::PendCert(*name, message.copy(alloc)?)),
+            Record::Cert(name) => Ok(Record::Cert(*name)),
+        }
+    }
+
+    /// Whether the other is the same record.
+    pub fn is_same(&self, other: &Record<Message<A>>) -> bool
+        ensures { MatchBool result (self.now ≡ other.now) (¬ (self.now ≡ other.now)) }
+    {
+        match (self, other) {
+            (Record::Pend(a, m), Record::Pend(b, n)) => a == b && m.is_same(n),
+            (Record::PendCert(a, m), Record::PendCert(b, n)) => a == b && m.is_same(n),
+            (Record::Cert(a), Record::Cert(b)) => a == b,
+            _ => false,
+        }
+    }
+
+    /// That every record is within its limits: for proofs alone, since it does nothing.
+    pub fn limits(&self)
+        ensures { IsEntry self.now }
+    {
+        match self {
+            Record::Pend(name, message) | Record::PendCert(name, message) => {
+                name.limits();
+                message.limits();
+            }
+            Record::Cert(name) => name.limits(),
+        }
+    }
+}

@@ -1,0 +1,162 @@
+// Stable storage: what each store promises.
+ghost use Rattle.std.specs.Prelude.{◌≡◌, ◌⊎◌, ◌+◌, ◌<◌, ◌≤◌, List, [], ◌∷◌, ◌++◌, ℕ, Bool, true, false, Option, Some, None, Err, length, IsTrue, IfOk, IfErr, OnOk, OnErr};
+ghost use Rattle.urb_stable.specs.Entries.{Entry};
+ghost use Rattle.urb_stable.specs.Storing.{refusal_of, IsContents, is_out_of_place, is_place, is_bad_row, IsPlaced};
+
+use crate::Record;
+use std::alloc::{AllocError, AllocFailed, Allocator};
+use thiserror::Error;
+use urb_names::{Message, NoMemory, Refusal};
+
+/// Why a store did not do what it was asked.
+#[derive(Clone, Copy, Debug, PartialEq, Eq, Error)]
+pub enum StoreFault {
+    /// A growth of memory was refused.
+    #[error("no memory")]
+    NoMemory,
+    /// The storage failed in this call.
+    #[error("the storage failed")]
+    Device,
+    /// The record has another position than the next, which is this one; or a doubtful record stands, and a `retrieve`
+    /// has to come first; or the list has its greatest length. Nothing has changed.
+    #[error("the next position is {0}")]
+    Place(u32),
+    /// What stands at this place of the storage, from 1, is no record: it was not written by a store.
+    #[error("row {0} is no record")]
+    BadRow(u32),
+}
+
+impl From<NoMemory> for StoreFault {
+    ghost use Rattle.std.specs.Prelude.{◌≡◌};
+    ghost use Rattle.urb_stable.specs.declared.stable.StoreFault.TheVariants.{NoMemory as no_memory};
+
+    ghost from_gives = { λ _ e. e ≡ no_memory };
+
+    fn from(_: NoMemory) -> StoreFault {
+        StoreFault::NoMemory
+    }
+}
+
+impl From<AllocError> for StoreFault {
+    ghost use Rattle.std.specs.Prelude.{◌≡◌};
+    ghost use Rattle.urb_stable.specs.declared.stable.StoreFault.TheVariants.{NoMemory as no_memory};
+
+    ghost from_gives = { λ _ e. e ≡ no_memory };
+
+    fn from(_: AllocError) -> StoreFault {
+        StoreFault::NoMemory
+    }
+}
+
+impl<T: Drop> From<AllocFailed<T>> for StoreFault {
+    ghost use Rattle.std.specs.Prelude.{◌≡◌};
+    ghost use Rattle.urb_stable.specs.declared.stable.StoreFault.TheVariants.{NoMemory as no_memory};
+
+    ghost from_gives = { λ _ e. e ≡ no_memory };
+
+    fn from(_: AllocFailed<T>) -> StoreFault {
+        StoreFault::NoMemory
+    }
+}
+
+impl StoreFault {
+    /// The refusal that tells of it. Takes no memory.
+    pub fn refusal(&self) -> Refusal
+        ensures { result ≡ refusal_of self.now }
+    {
+        match self {
+            StoreFault::NoMemory => Refusal::NoMemory,
+            StoreFault::Device => Refusal::Device,
+            StoreFault::Place(next) => Refusal::Place(*next),
+            StoreFault::BadRow(place) => Refusal::BadRow(*place),
+        }
+    }
+}
+
+/// A list of records that outlives a crash: stable storage, as in section 2.2 of the book. A list has at most
+/// 4,294,967,294 records.
+pub trait Stable {
+    /// Where the messages of its records lie.
+    type Alloc: Allocator + Copy;
+
+    /// The records that are surely kept.
+    ghost certain: { Self → List Entry };
+
+    /// A record that a failed store may have kept behind them.
+    ghost doubt: { Self → Option Entry };
+
+    /// Whether a store has failed since the last retrieve.
+    ghost is_doubtful: { Self → Bool };
+
+    /// The position that the next store has to name.
+    ghost place: { Self → ℕ };
+
+    /// How often the device has failed.
+    ghost failures: { Self → ℕ };
+
+    /// So far the storage has given back what was written.
+    ghost is_clean: { Self → Type 0 };
+
+    /// The same, and no failure has shut it.
+    ghost is_honest: { Self → Type 0 };
+
+    /// Whatever a stop at this moment leaves is records of which this holds.
+    ghost leaves_only: { Self → (List Entry → Type 0) → Type 0 };
+
+    /// The position of the next record, from 1.
+    fn next(&self) -> u32
+        ensures value { result ≡ place self.now }
+        ensures counted { is_honest self.now → result ≡ length (certain self.now) + 1 };
+
+    /// Whether a record may stand behind the certain ones, so that nothing more is stored before a `retrieve`.
+    fn doubtful(&self) -> bool
+        ensures { result ≡ is_doubtful self.now };
+
+    /// Keeps a record behind the others. After `Place` nothing has changed. After any other fault the record may be kept
+    /// or not, and only a `retrieve` can tell.
+    fn store(&mut self, pos: u32, entry: &Record<Message<Self::Alloc>>) -> Result<(), StoreFault>
+        // Place comes exactly where the store is out of place, and then nothing changes.
+        ensures placed { IsPlaced (is_out_of_place (is_doubtful self.old) (place self.old) pos) (place self.old) result }
+        ensures same { IsTrue (is_out_of_place (is_doubtful self.old) (place self.old) pos) → self.new ≡ self.old }
+
+        // The record is certain after Ok, and may be there after another fault.
+        ensures stored { is_honest self.new → OnOk result (certain self.new ≡ certain self.old ++ entry.now ∷ []) }
+        ensures failed { is_honest self.new → OnErr result (certain self.new ≡ certain self.old) }
+        ensures clear { OnOk result ((is_doubtful self.new ≡ false) × (doubt self.new ≡ None)) }
+        ensures doubtful { IfErr result (λ e. is_place e ≡ false → is_doubtful self.new ≡ true) }
+        ensures doubt { IfErr result (λ e. is_place e ≡ false → (doubt self.new ≡ None) ⊎ (doubt self.new ≡ Some entry.now)) }
+
+        // A stop, also inside this call, leaves what the storage may hold, or its certain records with this one.
+        ensures stop { is_honest self.old → is_clean self.new → leaves_only self.new (λ records. IsContents (certain self.old) (doubt self.old) records ⊎ (records ≡ certain self.old ++ entry.now ∷ [])) }
+        ensures rest { is_honest self.new → leaves_only self.new (IsContents (certain self.new) (doubt self.new)) }
+
+        // Device comes only where the count of failures rose.
+        ensures device { result ≡ Err StoreFault.Device → failures self.old < failures self.new }
+        ensures counts { failures self.old ≤ failures self.new }
+        ensures honest { is_honest self.new → is_honest self.old }
+        ensures alive { OnOk result (is_honest self.old → is_clean self.new → is_honest self.new) };
+
+    /// All records; what it gives is certain from then on. One that fails changes nothing but the count of failures.
+    fn retrieve(
+        &mut self,
+        alloc: Self::Alloc,
+    ) -> Result<Vec<Record<Message<Self::Alloc>>, Self::Alloc>, StoreFault>
+        // It gives what the storage may hold, and that is certain then.
+        ensures given { is_honest self.new → IfOk result (λ records. (certain self.new ≡ records.items) × IsContents (certain self.old) (doubt self.old) records.items) }
+        ensures clear { OnOk result ((is_doubtful self.new ≡ false) × (doubt self.new ≡ None)) }
+
+        // A fault leaves what was there, and is never Place; nor BadRow, where the storage is honest.
+        ensures failed { is_honest self.new → OnErr result (certain self.new ≡ certain self.old) }
+        ensures kept { OnErr result ((is_doubtful self.new ≡ is_doubtful self.old) × (doubt self.new ≡ doubt self.old) × (place self.new ≡ place self.old)) }
+        ensures faults { IfErr result (λ e. (is_place e ≡ false) × (is_honest self.new → is_bad_row e ≡ false)) }
+
+        // A stop, also inside this call, leaves what the storage may hold.
+        ensures stop { is_honest self.old → is_clean self.new → leaves_only self.new (IsContents (certain self.old) (doubt self.old)) }
+        ensures rest { is_honest self.new → leaves_only self.new (IsContents (certain self.new) (doubt self.new)) }
+
+        // Device comes only where the count of failures rose.
+        ensures device { result ≡ Err StoreFault.Device → failures self.old < failures self.new }
+        ensures counts { failures self.old ≤ failures self.new }
+        ensures honest { is_honest self.new → is_honest self.old }
+        ensures alive { OnOk result (is_honest self.old → is_clean self.new → is_honest self.new) };
+}

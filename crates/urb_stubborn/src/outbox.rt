@@ -1,0 +1,107 @@
+//! The packets that a call of a node hands out.
+
+ghost use Rattle.std.specs.Prelude.{◌≡◌, ◌≤◌, ◌++◌, [], length, slice_get, option_map, vec_len, IfOk, OnOk};
+ghost use Rattle.urb_names.specs.Carried.{to_others};
+
+use std::alloc::{Allocator, Global};
+use std::marker::Model;
+use urb_names::{Config, Message, Name, NoMemory, NodeId, Packet};
+
+/// Packets for the other nodes, at most 96: sixteen names, each to six nodes.
+#[derive(Drop)]
+#[derive_where(Debug)]
+pub struct Outbox<A: Allocator = Global> {
+    packets: Vec<Packet<A>, A>,
+}
+
+impl<A: Allocator> Model for Outbox<A> {
+    ghost use Rattle.std.specs.Prelude.{◌≤◌, List, vec_len};
+    ghost use Rattle.urb_names.specs.Carried.{Carried};
+
+    ghost Value = { List Carried };
+
+    ghost view = { λ a. a.packets.items };
+
+    ghost invariant = { λ a. vec_len a.packets ≤ 96 };
+}
+
+impl<A: Allocator + Copy> Outbox<A> {
+    /// No packets, as for what sends nothing. Takes no memory.
+    pub fn empty(alloc: A) -> Outbox<A>
+        ensures { result ≡ [] }
+    {
+        Outbox {
+            packets: Vec::new(alloc),
+        }
+    }
+
+    /// One packet of a message to every other node of the group, as a best-effort broadcast sends it (section 3.2 of the
+    /// book, without the node itself).
+    pub fn of_pair(
+        alloc: A,
+        config: Config,
+        node: NodeId,
+        name: Name,
+        message: &Message<A>,
+    ) -> Result<Outbox<A>, NoMemory>
+        requires { node ≤ config.n }
+        ensures { IfOk result (λ outbox. outbox ≡ to_others config.n node (name, message.now)) }
+    {
+        let mut packets = Vec::new(alloc);
+        push_to_others(&mut packets, alloc, config, node, name, message)?;
+        Ok(Outbox { packets })
+    }
+
+    /// How many packets there are.
+    pub fn len(&self) -> usize
+        ensures value { result ≡ length self.now }
+        ensures range { result ≤ 96 }
+    {
+        self.packets.len()
+    }
+
+    /// The packet at a place, from 0.
+    pub fn get(&self, index: usize) -> Option<&Packet<A>>
+        ensures { option_map (λ packet. packet.now) result ≡ slice_get self.now index }
+    {
+        self.packets.get(index)
+    }
+
+    /// The packets themselves, in order, without a copy.
+    pub fn into_packets(self) -> Vec<Packet<A>, A>
+        ensures { result.items ≡ self }
+    {
+        let Outbox { packets } = self;
+        packets
+    }
+}
+
+impl<A: Allocator> Outbox<A> {
+    // These packets.
+    pub(crate) fn of(packets: Vec<Packet<A>, A>) -> Outbox<A>
+        requires { vec_len packets ≤ 96 }
+        ensures { result ≡ packets.items }
+    {
+        Outbox { packets }
+    }
+}
+
+// Appends one packet of the message to every other node.
+pub(crate) fn push_to_others<A: Allocator + Copy>(
+    packets: &mut Vec<Packet<A>, A>,
+    alloc: A,
+    config: Config,
+    node: NodeId,
+    name: Name,
+    message: &Message<A>,
+) -> Result<(), NoMemory>
+    ensures { OnOk result (packets.new.items ≡ packets.old.items ++ to_others config.n node (name, message.now)) }
+{
+    for number in 1..config.n() + 1 {
+        let target = NodeId::new(number).unwrap();
+        if target != node {
+            packets.push(Packet::new(node, target, name, message.copy(alloc)?))?;
+        }
+    }
+    Ok(())
+}
