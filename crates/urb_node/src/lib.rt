@@ -2,5 +2,6 @@
 #![tactic(auto)]
 
 mod answer;
+pub mod laws;
 
 pub use answer::Answer;
