@@ -1,3 +1,5 @@
+//! Release by number: the certified names, and the log that they deliver.
+
 ghost use Rattle.std.specs.Prelude.{◌≡◌, ℕ, suc, ◌<◌, ◌≤◌, ◌+◌, ◌-◌, ◌*◌, ◌^◌, ◌==◌, true, false, [], ◌∷◌, ◌++◌, None, Some, map, length, count_by, vec_len, vec_capacity, List, IsOk, IfOk, OnOk, OnErr};
 ghost use Rattle.std.specs.List.{prefix_len};
 ghost use Rattle.urb_names.specs.Nodes.{numbers_from};

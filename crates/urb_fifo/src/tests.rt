@@ -1,3 +1,5 @@
+//! Release of names in and out of order, refused growth, and certificates with room reserved for them.
+
 ghost use Rattle.std.specs.Prelude.{◌≡◌, ◌<◌, IfOk};
 
 use super::*;

@@ -1,3 +1,5 @@
+//! The acknowledgements counted for each name, and the certified names.
+
 ghost use Rattle.std.specs.Prelude.{◌≡◌, ◌<◌, ◌≤◌, ◌&&◌, ◌==◌, true, [], None, Some, IsOk, IfOk, OnOk, OnErr, count_by, length};
 ghost use Rattle.std.specs.List.{prefix_len};
 ghost use Rattle.urb_names.specs.Names.{has_name, name_lt, same_name};

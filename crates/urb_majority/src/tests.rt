@@ -1,3 +1,5 @@
+//! Counting to a majority, refused growth, and calls with room reserved for them.
+
 use super::*;
 use std::alloc::Allocator;
 use std::test::Fail;
