@@ -3,4 +3,12 @@ pub mod NextRecords
 pub mod Drafts
 pub mod JoinedMemory
 pub mod Openings
+pub mod Told
+pub mod SubmitOutcomes
+pub mod ArriveOutcomes
+pub mod RecordOutcomes
+pub mod Leads
+pub mod Wanted
 pub mod Calls
+pub mod JoinedLayers
+pub mod ConfirmLeads

@@ -3,3 +3,9 @@ pub mod Steps
 pub mod Part
 pub mod Shown
 pub mod Next
+pub mod Values
+pub mod Layers
+pub mod Outcomes
+pub mod Held
+pub mod Found
+pub mod Moves

@@ -1,7 +1,17 @@
-//! One node of a group, in its three states.
+//! One node of a group, in three typed states that its calls move from one to the next.
 #![tactic(auto)]
 
 mod answer;
+mod down;
+mod found;
+mod held;
 pub mod laws;
+mod ready;
+mod step;
+mod storing;
 
 pub use answer::Answer;
+pub use down::Down;
+pub use ready::Ready;
+pub use step::{Done, Step};
+pub use storing::Storing;

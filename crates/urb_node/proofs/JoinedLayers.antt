@@ -1,0 +1,214 @@
+-- The layers of a node once one more record has joined them.
+use Rattle.std.proofs.Common.{◌≡◌, ℕ, suc, ◌+◌, ◌≤◌, Bool, true, false, cond, ◌&&◌, ◌||◌, List, [], ◌∷◌, ◌++◌, length, Option, Some, None, is_some, refl, sym, ap, ◌∙◌, subst, arith, inl, inr, ◌⊎◌, ⊎_elim}
+use Rattle.std.specs.Prelude.{if◌then◌else◌}
+use Rattle.std.proofs.lemmas.Bool.{false≢true, or_left, or_right, or_cases, and_from}
+use Rattle.std.proofs.lemmas.List.Edits.{length-insert}
+use Rattle.std.proofs.lemmas.List.Sums.{prefix_len-le-length}
+use Rattle.std.specs.List.{prefix_len}
+use Rattle.urb_names.specs.declared.refusal.Refusal.TheVariants as refusal
+use Rattle.urb_names.specs.Naming.{Label, Content}
+use Rattle.urb_names.specs.Names.{has_name, name_lt, same_name, same_message}
+use Rattle.urb_names.specs.Pairs.{has_pair, message_of}
+use Rattle.urb_names.specs.Cyclic.{inserted}
+use Rattle.urb_names.specs.Ordered.{placed, reserved_for}
+use Rattle.urb_names.proofs.FoundPairs.{has_pair-found, some_found}
+use Rattle.urb_names.proofs.Ordered.{any_insert}
+use Rattle.urb_names.proofs.OrderedPairs.{has_pair-inserted}
+use Rattle.urb_names.proofs.SameNames.{same_name-same, same_name-true, same_message-same}
+use Rattle.urb_pending.specs.PendingSet.{PendingSet, added}
+use Rattle.urb_majority.specs.Acks.{AckSet}
+use Rattle.urb_majority.specs.Counting.{certifying as acks_certifying}
+use Rattle.urb_fifo.specs.Delivery.{Delivery}
+use Rattle.urb_fifo.specs.Releasing.{certifying as fifo_certifying, newly_released}
+use Rattle.urb_stable.specs.Entries.{Entry}
+use Rattle.urb_node.specs.declared.held.Held.{Held}
+use Rattle.urb_node.specs.Held.{memory_of, IsFallen, IsHeld, IsNextHeld}
+use Rattle.urb_node.specs.Moves.{Crashes, Fails}
+use Rattle.urb_node.specs.Part.{State, Storing, Down}
+use Rattle.urb_node.specs.Replies.{WentDown}
+use Rattle.urb_node.specs.Steps.{fails, goes_down, is_down, refuses}
+use Rattle.urb_node.specs.Values.{Memory, Holding, ShowsDown, ShowsStoring, view_in}
+use Rattle.urb_node.specs.Layers.{certified_with}
+use Rattle.urb_node.proofs.Drafts.{down-shows}
+
+-- ---- what is pending
+
+named : (pairs : List (Label × Content)) (x : Label) (m : Content) → has_pair pairs x m ≡ true → is_some (message_of pairs x) ≡ true
+named [] x m h = absurd (false≢true h)
+named (p ∷ pairs) x m h = at (named pairs x m) (same_name p.0 x) h
+  where
+    at : (has_pair pairs x m ≡ true → is_some (message_of pairs x) ≡ true) → (b : Bool) → ((b && same_message p.1 m) || has_pair pairs x m) ≡ true → is_some (cond b (Some p.1) (message_of pairs x)) ≡ true
+    at ih true k = refl
+    at ih false k = ih k
+
+-- what was pending stays pending
+pub stays-pending : (pairs : List (Label × Content)) (p : Label × Content) (x : Label) → is_some (message_of pairs x) ≡ true → is_some (message_of (inserted p pairs) x) ≡ true
+stays-pending pairs p x h =
+    let found = some_found (message_of pairs x) h in
+    named (inserted p pairs) x found.0 (has_pair-inserted p pairs x found.0 ∙ or_right (same_name p.0 x && same_message p.1 found.0) _ (has_pair-found pairs x found.0 found.1))
+
+-- a pair that joins is pending
+pub joined-pending : (pairs : List (Label × Content)) (x : Label) (m : Content) → is_some (message_of (inserted (x, m) pairs) x) ≡ true
+joined-pending pairs x m = named (inserted (x, m) pairs) x m (has_pair-inserted (x, m) pairs x m ∙ or_left (same_name x x && same_message m m) _ (and_from (same_name x x) _ (same_name-same x) (same_message-same m)))
+
+length-inserted : (p : Label × Content) (pairs : List (Label × Content)) → length (inserted p pairs) ≡ suc (length pairs)
+length-inserted p [] = refl
+length-inserted p (q ∷ pairs) = at (length-inserted p pairs) (name_lt q.0 p.0)
+  where
+    at : length (inserted p pairs) ≡ suc (length pairs) → (b : Bool) → length (cond b (q ∷ inserted p pairs) (p ∷ q ∷ pairs)) ≡ suc (suc (length pairs))
+    at ih true = ap suc ih
+    at ih false = refl
+
+-- ---- one more pair
+
+pub pair-kept : {A : Type 0} (old : Held A) (pending : PendingSet) (acks : AckSet) (x : Label) (m : Content) → IsHeld old → pending ≡ added x m old.pending → (acks.limits ≡ old.acks.limits) × (acks.certified ≡ old.acks.certified)
+    → IsHeld (record old { stored = old.stored + 1; pending = pending; acks = acks })
+pair-kept old pending acks x m h joined same =
+    record {
+      node = h.node;
+      pending_limits = ap (λ (s : PendingSet). s.limits) joined ∙ h.pending_limits;
+      pending_node = ap (λ (s : PendingSet). s.node) joined ∙ h.pending_node;
+      acks_limits = same.0 ∙ h.acks_limits;
+      fifo_limits = h.fifo_limits;
+      resend_limits = h.resend_limits;
+      resend_node = h.resend_node;
+      certified = h.certified ∙ sym same.1;
+      pending = λ y k. subst (λ (s : PendingSet). is_some (message_of s.pairs y) ≡ true) (sym joined) (stays-pending old.pending.pairs (x, m) y (h.pending y (ap (λ names. has_name names y) (sym same.1) ∙ k)));
+      count =
+          let more : length pending.pairs ≡ suc (length old.pending.pairs) = ap (λ (s : PendingSet). length s.pairs) joined ∙ length-inserted (x, m) old.pending.pairs in
+          let names : length acks.certified ≡ length old.acks.certified = ap length same.1 in
+          omega (arith, more, names, h.count);
+    }
+
+-- ---- one more certificate
+
+length-placed : (names : List Label) (x : Label) → length names ≤ length (placed name_lt names x)
+length-placed names x =
+    let e : length (placed name_lt names x) ≡ length names + 1 = length-insert names (prefix_len (λ y. name_lt y x) names) x (prefix_len-le-length (λ y. name_lt y x) names) in
+    omega (arith, e)
+
+acks-certified : (a : AckSet) (x : Label) → ((acks_certifying a x).certified ≡ certified_with a.certified x) × ((acks_certifying a x).limits ≡ a.limits)
+acks-certified a x = at (has_name a.certified x)
+  where
+    at : (b : Bool) → ((if b then a else record a { certified = placed name_lt a.certified x; reserved = reserved_for a.reserved x }).certified ≡ (if b then a.certified else placed name_lt a.certified x))
+        × ((if b then a else record a { certified = placed name_lt a.certified x; reserved = reserved_for a.reserved x }).limits ≡ a.limits)
+    at true = (refl, refl)
+    at false = (refl, refl)
+
+fifo-certified : (d : Delivery) (x : Label) → ((fifo_certifying d x).certified ≡ certified_with d.certified x) × ((fifo_certifying d x).limits ≡ d.limits)
+fifo-certified d x = at (has_name d.certified x)
+  where
+    after : Delivery
+    after = record d { certified = placed name_lt d.certified x; log = d.log ++ newly_released d.log d.certified x; reserved = reserved_for d.reserved x }
+
+    at : (b : Bool) → ((if b then d else after).certified ≡ (if b then d.certified else placed name_lt d.certified x)) × ((if b then d else after).limits ≡ d.limits)
+    at true = (refl, refl)
+    at false = (refl, refl)
+
+-- a name among those with one more is that one, or was there
+with-cases : (names : List Label) (x y : Label) → has_name (certified_with names x) y ≡ true → (has_name names y ≡ true) ⊎ (same_name x y ≡ true)
+with-cases names x y = at (has_name names x)
+  where
+    at : (b : Bool) → has_name (if b then names else placed name_lt names x) y ≡ true → (has_name names y ≡ true) ⊎ (same_name x y ≡ true)
+    at true k = inl k
+    at false k = ⊎_elim (λ e. inr e) (λ e. inl e) (or_cases (same_name x y) (has_name names y) (sym (any_insert (λ z. same_name z y) names _ x) ∙ k))
+
+with-grows : (names : List Label) (x : Label) → length names ≤ length (certified_with names x)
+with-grows names x = at (has_name names x)
+  where
+    at : (b : Bool) → length names ≤ length (if b then names else placed name_lt names x)
+    at true = omega arith
+    at false = let more = length-placed names x in omega (arith, more)
+
+pub certificate-kept : {A : Type 0} (old : Held A) (acks : AckSet) (fifo : Delivery) (x : Label) → IsHeld old → is_some (message_of old.pending.pairs x) ≡ true → acks ≡ acks_certifying old.acks x → fifo ≡ fifo_certifying old.fifo x
+    → IsHeld (record old { acks = acks; fifo = fifo })
+certificate-kept old acks fifo x h pending a f =
+    record {
+      node = h.node;
+      pending_limits = h.pending_limits;
+      pending_node = h.pending_node;
+      acks_limits = ap (λ (s : AckSet). s.limits) a ∙ ((acks-certified old.acks x).1 ∙ h.acks_limits);
+      fifo_limits = ap (λ (s : Delivery). s.limits) f ∙ ((fifo-certified old.fifo x).1 ∙ h.fifo_limits);
+      resend_limits = h.resend_limits;
+      resend_node = h.resend_node;
+      certified = ap (λ (s : Delivery). s.certified) f ∙ ((fifo-certified old.fifo x).0 ∙ (ap (λ names. certified_with names x) h.certified ∙ sym now));
+      pending = λ y k. ⊎_elim (λ e. h.pending y e) (λ e. subst (λ (z : Label). is_some (message_of old.pending.pairs z) ≡ true) (same_name-true x y e) pending) (with-cases old.acks.certified x y (ap (λ names. has_name names y) (sym now) ∙ k));
+      count =
+          let more : length old.acks.certified ≤ length (certified_with old.acks.certified x) = with-grows old.acks.certified x in
+          let names : length acks.certified ≡ length (certified_with old.acks.certified x) = ap length now in
+          omega (arith, more, names, h.count);
+    }
+  where
+    now : acks.certified ≡ certified_with old.acks.certified x
+    now = ap (λ (s : AckSet). s.certified) a ∙ (acks-certified old.acks x).0
+
+-- one more record can be counted
+pub counted-kept : {A : Type 0} (h : Held A) → IsHeld h → h.stored + 1 ≤ length h.pending.pairs + length h.acks.certified → IsHeld (record h { stored = h.stored + 1 })
+counted-kept h k more =
+    record {
+      node = k.node;
+      pending_limits = k.pending_limits;
+      pending_node = k.pending_node;
+      acks_limits = k.acks_limits;
+      fifo_limits = k.fifo_limits;
+      resend_limits = k.resend_limits;
+      resend_node = k.resend_node;
+      certified = k.certified;
+      pending = k.pending;
+      count = more;
+    }
+
+-- ---- down
+
+-- the memory once its acknowledgements are forgotten
+abbrev pub forgetful : Memory → Memory
+forgetful a = record a { acks = [] }
+
+pub falls : (h : Holding) → Fails h (record { memory = forgetful h.memory; doubt = Some h.entry })
+falls h = (
+  (refl, refl),
+  λ node s. subst (λ (state : State). ((fails h.memory.node node state).0 ≡ WentDown h.memory.node) × ShowsDown (record { memory = forgetful h.memory; doubt = Some h.entry }) (fails h.memory.node node state).1) s.state
+      (refl, down-shows h.memory.limits h.memory.node (view_in (Storing h.entry h.cause) h.memory) (view_in (Down (Some h.entry)) (forgetful h.memory)) node s refl),
+)
+
+pub crashes-storing : (h : Holding) → Crashes (ShowsStoring h) h.memory (record { memory = forgetful h.memory; doubt = Some h.entry })
+crashes-storing h = (
+  (refl, refl),
+  λ node s.
+      let down = down-shows h.memory.limits h.memory.node (view_in (Storing h.entry h.cause) h.memory) (view_in (Down (Some h.entry)) (forgetful h.memory)) node s refl in
+      subst (λ (state : State). ((if is_down state then refuses node refusal.Down else goes_down h.memory.node node).0 ≡ WentDown h.memory.node)
+      × ShowsDown (record { memory = forgetful h.memory; doubt = Some h.entry }) (if is_down state then refuses node refusal.Down else goes_down h.memory.node node).1) s.state (refl, down),
+)
+
+-- the layers once their acknowledgements are forgotten: the node is down, and the record that it held is in doubt
+pub fallen-kept : {A : Type 0} (h : Held A) (acks : AckSet) (entry : Entry) → IsHeld h → IsNextHeld h entry → acks ≡ record h.acks { counted = []; reserved = None } → IsFallen (record h { acks = acks }) (Some entry)
+fallen-kept h acks entry k next e =
+    subst (λ (a : AckSet). IsFallen (record h { acks = a }) (Some entry)) (sym e)
+    (record {
+      held = record {
+        node = k.node;
+        pending_limits = k.pending_limits;
+        pending_node = k.pending_node;
+        acks_limits = k.acks_limits;
+        fifo_limits = k.fifo_limits;
+        resend_limits = k.resend_limits;
+        resend_node = k.resend_node;
+        certified = k.certified;
+        pending = k.pending;
+        count = k.count;
+      };
+      uncounted = refl;
+      doubtful = λ r is. (let same : entry ≡ r = cc in subst (λ (x : Entry). IsNextHeld h x) same next);
+    })
+
+pub fail-leads : {A : Type 0} (h : Held A) (acks : AckSet) (entry : Entry) (cause : Option ℕ) → acks ≡ record h.acks { counted = []; reserved = None }
+    → Fails (record { memory = memory_of h; entry = entry; cause = cause }) (record { memory = memory_of (record h { acks = acks }); doubt = Some entry })
+fail-leads h acks entry cause e =
+    subst (λ (a : AckSet). Fails (record { memory = memory_of h; entry = entry; cause = cause }) (record { memory = memory_of (record h { acks = a }); doubt = Some entry })) (sym e)
+    (falls (record { memory = memory_of h; entry = entry; cause = cause }))
+
+pub crash-leads : {A : Type 0} (h : Held A) (acks : AckSet) (entry : Entry) (cause : Option ℕ) → acks ≡ record h.acks { counted = []; reserved = None }
+    → Crashes (ShowsStoring (record { memory = memory_of h; entry = entry; cause = cause })) (memory_of h) (record { memory = memory_of (record h { acks = acks }); doubt = Some entry })
+crash-leads h acks entry cause e =
+    subst (λ (a : AckSet). Crashes (ShowsStoring (record { memory = memory_of h; entry = entry; cause = cause })) (memory_of h) (record { memory = memory_of (record h { acks = a }); doubt = Some entry })) (sym e)
+    (crashes-storing (record { memory = memory_of h; entry = entry; cause = cause }))

@@ -1,0 +1,156 @@
+-- What a node's memory holds once its record is stored is what the definition says for every node that it shows.
+use Rattle.std.proofs.Common.{◌≡◌, ℕ, suc, ◌-◌, Bool, true, false, not, ◌&&◌, ◌||◌, ◌==◌, List, ◌∷◌, ◌++◌, length, filter, Option, Some, None, refl, sym, ap, ap₂, ◌∙◌, subst, eq-eqb}
+use Rattle.std.specs.Prelude.{if◌then◌else◌}
+use Rattle.std.proofs.lemmas.Bool.{and_from, cond-true}
+use Rattle.urb_names.specs.Naming.{Label, Limits}
+use Rattle.urb_names.specs.Names.{has_name, name_lt, same_name, same_message}
+use Rattle.urb_names.specs.Pairs.{has_pair}
+use Rattle.urb_names.specs.Cyclic.{are_rising}
+use Rattle.urb_names.specs.Acknowledged.{acked, with_ack}
+use Rattle.urb_names.specs.Ordered.{placed}
+use Rattle.urb_names.specs.Release.{beginning, released}
+use Rattle.urb_names.proofs.OrderedPairs.{has_pair-inserted}
+use Rattle.urb_names.proofs.Ordered.{any_insert}
+use Rattle.urb_names.proofs.Released.{row, beginning_is}
+use Rattle.urb_names.proofs.Reached.{reach-same}
+use Rattle.urb_fifo.specs.Releasing.{newly_released}
+use Rattle.urb_stable.specs.Entries.{Entry, name_of}
+use Rattle.urb_stable.specs.declared.record.Record.TheVariants.{Pend, PendCert, Cert}
+use Rattle.urb_node.specs.Part.{Node, State, Ready, Storing}
+use Rattle.urb_node.specs.Next.{IsNext}
+use Rattle.urb_node.specs.Replies.{Done, Reply, Stored}
+use Rattle.urb_node.specs.Shown.{NodeView, ShowsNode}
+use Rattle.urb_node.specs.Steps.{acks_after, commits, done, is_accepted, keeps_record, packets_of, same_record}
+use Rattle.urb_node.specs.Values.{Memory, Holding, ShowsReady, ShowsStoring, view_in, ready_view}
+use Rattle.urb_node.specs.Layers.{counted_with, certified_with, delivered_with, with_record}
+use Rattle.urb_node.proofs.Calls.{same_record-same}
+use Rattle.urb_node.proofs.ShownNodes.{with-same}
+use Rattle.urb_node.proofs.JoinedMemory.{SaysMore, confirm-shows, done-shown, log-stays, log-released}
+use Rattle.urb_node.proofs.ArriveOutcomes.{counted-with}
+
+-- the log is the release of certificates, the newest first, and they are all that is certified
+pub record IsReleased (a : Memory) : Type 0 where
+  pub certificates : List Label
+  pub log : a.log ≡ released certificates
+  pub certified : (x : Label) → has_name certificates x ≡ has_name a.certified x
+
+-- a record that certifies a name is the first to do so
+abbrev pub IsFirst : Memory → Entry → Type 0
+IsFirst a (Pend x m) = Unit {0}
+IsFirst a (PendCert x m) = has_name a.certified x ≡ false
+IsFirst a (Cert x) = has_name a.certified x ≡ false
+
+behind : (a b : Bool) → (a || b) ≡ (b || (a || false))
+behind true true = refl
+behind true false = refl
+behind false true = refl
+behind false false = refl
+
+none_more : (a : Bool) → a ≡ (a || false)
+none_more true = refl
+none_more false = refl
+
+-- ---- certificates
+
+named-with : (certified : List Label) (x y : Label) → has_name certified x ≡ false → has_name (certified_with certified x) y ≡ (has_name certified y || (same_name x y || false))
+named-with certified x y new =
+    ap (λ (c : Bool). has_name (if c then certified else placed name_lt certified x) y) new
+    ∙ (any_insert (λ z. same_name z y) certified _ x ∙ behind (same_name x y) (has_name certified y))
+
+-- what a memory delivers by one more certificate
+delivers-more : (a : Memory) (x : Label) (h : IsReleased a) → has_name a.certified x ≡ false → delivered_with a.log a.certified x ≡ released (x ∷ h.certificates)
+delivers-more a x h new =
+    ap (λ (c : Bool). if c then a.log else a.log ++ newly_released a.log a.certified x) new
+    ∙ ap₂ (λ (before beginnings : List Label). before ++ filter (λ y. not (has_name before y)) beginnings) h.log begins
+  where
+    begins : beginning x.sender (x ∷ a.certified) ≡ beginning x.sender (x ∷ h.certificates)
+    begins =
+        beginning_is x.sender (x ∷ a.certified)
+        ∙ (ap (row x.sender 1) (reach-same x.sender (x ∷ a.certified) (x ∷ h.certificates) (λ y. ap (λ b. same_name x y || b) (sym (h.certified y))))
+        ∙ sym (beginning_is x.sender (x ∷ h.certificates)))
+
+-- ---- the memory with the record
+
+pub record-more : (state new : State) (a : Memory) (r : Entry) (cause : Option ℕ) → IsReleased a → IsFirst a r → SaysMore (view_in state a) (view_in new (with_record a r cause)) r
+record-more state new a (Pend x m) cause h f =
+    record {
+      pairs = λ y o. has_pair-inserted (x, m) a.pairs y o ∙ behind (same_name x y && same_message m o) (has_pair a.pairs y o);
+      certified = λ y. none_more (has_name a.certified y);
+      log = log-stays (view_in state a) a.log (Pend x m) refl refl;
+      count = refl;
+    }
+record-more state new a (PendCert x m) cause h f =
+    record {
+      pairs = λ y o. has_pair-inserted (x, m) a.pairs y o ∙ behind (same_name x y && same_message m o) (has_pair a.pairs y o);
+      certified = λ y. named-with a.certified x y f;
+      log = log-released (view_in state a) (delivered_with a.log a.certified x) h.certificates (PendCert x m) x refl h.log h.certified (delivers-more a x h f);
+      count = refl;
+    }
+record-more state new a (Cert x) cause h f =
+    record {
+      pairs = λ y o. none_more (has_pair a.pairs y o);
+      certified = λ y. named-with a.certified x y f;
+      log = log-released (view_in state a) (delivered_with a.log a.certified x) h.certificates (Cert x) x refl h.log h.certified (delivers-more a x h f);
+      count = refl;
+    }
+
+record-acks : (a : Memory) (r : Entry) (cause : Option ℕ) (y : Label) (z : ℕ) → acked (with_record a r cause).acks y z ≡ acked (acks_after a.node r cause a.acks) y z
+record-acks a (Pend x m) None y z = counted-with a.acks x a.node y z
+record-acks a (PendCert x m) None y z = counted-with a.acks x a.node y z
+record-acks a (Cert x) cause y z = refl
+record-acks a (Pend x m) (Some q) y z = counted-with (counted_with a.acks x a.node) x q y z ∙ with-same (counted_with a.acks x a.node) (with_ack a.acks x a.node) x q y z (counted-with a.acks x a.node y z)
+record-acks a (PendCert x m) (Some q) y z = counted-with (counted_with a.acks x a.node) x q y z ∙ with-same (counted_with a.acks x a.node) (with_ack a.acks x a.node) x q y z (counted-with a.acks x a.node y z)
+
+pub same_limits : (a : Memory) (r : Entry) (cause : Option ℕ) → ((with_record a r cause).limits ≡ a.limits) × ((with_record a r cause).node ≡ a.node)
+same_limits a (Pend x m) cause = (refl, refl)
+same_limits a (PendCert x m) cause = (refl, refl)
+same_limits a (Cert x) cause = (refl, refl)
+
+-- ---- the commit
+
+-- what is told of the held record once it is stored
+abbrev pub told_of : Holding → Done
+told_of h =
+    record {
+      accepted = is_accepted h.memory.node h.entry;
+      name = name_of h.entry;
+      sent = packets_of h.memory.limits.n h.memory.node h.entry;
+      released = length (with_record h.memory h.entry h.cause).log - length h.memory.log;
+    }
+
+-- For every node that a node with a draft shows: the draft's receipt is committed, and the memory with the record shows
+-- the node after it.
+pub commit-says : (h : Holding) (node : Node) → ShowsStoring h node → are_rising h.memory.pairs ≡ true
+    → IsNext h.memory.limits h.memory.node h.memory.pairs h.memory.certified h.entry → IsReleased h.memory → IsFirst h.memory h.entry
+    → ((commits h.memory.limits.n h.memory.node (suc h.memory.count) h.entry node node.state).0 ≡ Stored (told_of h))
+    × ShowsReady (with_record h.memory h.entry h.cause) (commits h.memory.limits.n h.memory.node (suc h.memory.count) h.entry node node.state).1
+commit-says h node s rise next released first =
+    subst (λ (told : Reply × Node). (told.0 ≡ Stored (told_of h)) × ShowsReady (with_record h.memory h.entry h.cause) told.1) (sym committed)
+    (ap Stored (done-shown h.memory.limits h.memory.limits.n h.memory.node before after node h.entry s more), shows)
+  where
+    before : NodeView
+    before = view_in (Storing h.entry h.cause) h.memory
+
+    after : NodeView
+    after = ready_view (with_record h.memory h.entry h.cause)
+
+    more : SaysMore before after h.entry
+    more = record-more (Storing h.entry h.cause) Ready h.memory h.entry h.cause released first
+
+    cursor : (r : Entry) → (with_record h.memory r h.cause).cursor ≡ h.memory.cursor
+    cursor (Pend x m) = refl
+    cursor (PendCert x m) = refl
+    cursor (Cert x) = refl
+
+    shows : ShowsReady (with_record h.memory h.entry h.cause) (keeps_record h.memory.node h.entry h.cause node)
+    shows =
+        let same = same_limits h.memory h.entry h.cause in
+        subst (λ (limits : Limits). ShowsNode limits (with_record h.memory h.entry h.cause).node after (keeps_record h.memory.node h.entry h.cause node)) (sym same.0)
+        (subst (λ (p : ℕ). ShowsNode h.memory.limits p after (keeps_record h.memory.node h.entry h.cause node)) (sym same.1)
+        (confirm-shows h.memory.limits h.memory.node before after node h.entry h.cause s rise next more refl (cursor h.entry) (λ x q c. record-acks h.memory h.entry h.cause x q)))
+
+    committed : commits h.memory.limits.n h.memory.node (suc h.memory.count) h.entry node node.state ≡ (Stored (done h.memory.limits.n h.memory.node h.entry node), keeps_record h.memory.node h.entry h.cause node)
+    committed =
+        ap (commits h.memory.limits.n h.memory.node (suc h.memory.count) h.entry node) (sym s.state)
+        ∙ cond-true ((suc h.memory.count == suc (length node.records)) && same_record h.entry h.entry) _ _
+        (and_from (suc h.memory.count == suc (length node.records)) _ (eq-eqb (suc h.memory.count) (suc (length node.records)) (ap suc s.count)) (same_record-same h.entry))

@@ -1,0 +1,14 @@
+-- A definition's outcome for a node, and what the node's memory finds out, say the same.
+use Rattle.std.proofs.Common.{◌≡◌, suc}
+use Rattle.urb_stable.specs.Entries.{name_of}
+use Rattle.urb_node.specs.Part.{Node}
+use Rattle.urb_node.specs.Replies.{Reply, Drafted, Same, Refused}
+use Rattle.urb_node.specs.Values.{ShowsReady, ShowsStoring}
+use Rattle.urb_node.specs.Outcomes.{Outcome, Answers, Refuses, Wants}
+
+-- the reply is the answer, and the memory shows the node after it; or the reply is the refusal; or it is a draft of the
+-- record that is wanted, and the memory with that record shows the node after it
+abbrev pub Says : Reply × Node → Outcome → Type 0
+Says told (Answers answer a) = (told.0 ≡ Same answer) × ShowsReady a told.1
+Says told (Refuses refusal) = told.0 ≡ Refused refusal
+Says told (Wants entry cause a) = (told.0 ≡ Drafted (name_of entry) (suc a.count)) × ShowsStoring (record { memory = a; entry = entry; cause = cause }) told.1

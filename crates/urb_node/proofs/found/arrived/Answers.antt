@@ -1,0 +1,32 @@
+use Rattle.std.proofs.Common.{rules, ◌≡◌, None, not, sym, ap, ap₂, ◌∙◌, subst}
+use Rattle.urb_names.specs.Naming.{Label, Content}
+use Rattle.urb_names.specs.Names.{has_name}
+use Rattle.urb_names.specs.Pairs.{message_of}
+use Rattle.urb_node.specs.Found.{Finds}
+use Rattle.urb_node.specs.Held.{memory_of}
+use Rattle.urb_node.specs.Next.{IsNext}
+use Rattle.urb_node.specs.Outcomes.{Outcome, counted_outcome}
+use Rattle.urb_node.proofs.Wanted.{arrived-next, arrive-counts, pending_entry, some-pending}
+use Rattle.urb_node.proofs.found.arrived.Goals as goal
+
+pub make_wanted-requires-clause-next : goal.make_wanted-requires-clause-next
+make_wanted-requires-clause-next g c =
+    let held = c.args.held.now in
+    let packet = c.args.packet.now in
+    let fresh : message_of held.pending.pairs c.name-name.result ≡ None = search rules in
+    let message : c.in_ok-message.message ≡ packet.message = c.in_ok-message.ensures ∙ (λ i. record { client = c.client.ensures i; number = c.number.ensures.value i; payload = c.payload.ensures.value i }) in
+    subst (λ (m : Content). IsNext held.config held.node held.pending.pairs held.acks.certified (pending_entry c.is_majority-is_certified.result c.name-name.result m)) (sym message)
+    (subst (λ (x : Label). IsNext held.config held.node held.pending.pairs held.acks.certified (pending_entry c.is_majority-is_certified.result x packet.message)) (sym c.name-name.ensures)
+    (arrived-next held.config held.node held.pending.pairs held.acks.certified packet.name packet.message c.is_majority-is_certified.result c.requires.packet.pair
+    (ap (message_of held.pending.pairs) (sym c.name-name.ensures) ∙ fresh)))
+
+pub returns-clause-outcome : goal.returns-clause-outcome
+returns-clause-outcome g c =
+    let held = c.args.held.now in
+    let packet = c.args.packet.now in
+    let old = memory_of held in
+    let pending = some-pending _ c.message.result (message_of held.pending.pairs c.name-name.result) (c.is_none.ensures ∙ ap not c.if-is_none.false) c.message.ensures in
+    let open_ = ap (has_name held.acks.certified) (sym c.name-name.ensures) ∙ (sym c.certified.ensures ∙ c.if-certified.false) in
+    subst (λ (outcome : Outcome). Finds old outcome c.counted.result (memory_of c.counted.new.held))
+    (sym (arrive-counts old packet.source packet.name packet.message pending.0 (ap (message_of held.pending.pairs) (sym c.name-name.ensures) ∙ pending.1) open_ ∙ ap₂ (counted_outcome old) (sym c.source-source.ensures) (sym c.name-name.ensures)))
+    c.counted.ensures.outcome

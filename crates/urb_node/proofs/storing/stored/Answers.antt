@@ -1,0 +1,27 @@
+use Rattle.std.proofs.Common.{rules, ◌≡◌, true, false, is_some, ap, sym, subst, arith}
+use Rattle.urb_names.specs.Names.{has_name}
+use Rattle.urb_names.specs.Pairs.{message_of}
+use Rattle.urb_node.specs.Values.{Memory}
+use Rattle.urb_node.proofs.JoinedLayers.{counted-kept, joined-pending}
+use Rattle.urb_node.proofs.Wanted.{one_more_fits}
+use Rattle.urb_node.proofs.storing.stored.Goals as goal
+
+pub join_pair-requires-clause-fits : goal.join_pair-requires-clause-fits
+join_pair-requires-clause-fits g c = omega (arith, one_more_fits c.args.held c.requires.kept c.limits.ensures c.limits-2.ensures)
+
+pub join_pair-requires-in-PendCert-clause-fits : goal.join_pair-requires-in-PendCert-clause-fits
+join_pair-requires-in-PendCert-clause-fits g c = omega (arith, one_more_fits c.args.held c.requires.kept c.limits.ensures c.limits-2.ensures)
+
+pub join_certificate-released-requires-clause-pending : goal.join_certificate-released-requires-clause-pending
+join_certificate-released-requires-clause-pending g c =
+    subst (λ (a : Memory). is_some (message_of a.pairs c.in-PendCert.name) ≡ true) (sym c.join_pair-in-PendCert.ensures.memory) (joined-pending c.args.held.pending.pairs c.in-PendCert.name c.in-PendCert.message)
+
+pub overflow_add-held : goal.overflow_add-held
+overflow_add-held g c =
+    let same : c.join_certificate-released-in-Cert.new.held.stored ≡ c.args.held.stored = ap (λ (a : Memory). a.count) c.join_certificate-released-in-Cert.ensures.memory in
+    omega (arith, one_more_fits c.args.held c.requires.kept c.limits.ensures c.limits-2.ensures, same)
+
+pub returns-in-Cert-clause-kept : goal.returns-in-Cert-clause-kept
+returns-in-Cert-clause-kept g c =
+    let open_ : has_name c.args.held.acks.certified c.in-Cert.name ≡ false = search rules in
+    counted-kept c.join_certificate-released-in-Cert.new.held c.join_certificate-released-in-Cert.ensures.kept (c.join_certificate-released-in-Cert.ensures.one_more open_)

@@ -1,0 +1,70 @@
+-- What a node holds in memory, seen from the layers that keep it, and what holds of it in each state.
+use Rattle.std.specs.Prelude.{◌≡◌, ◌≤◌, ◌+◌, ℕ, true, is_some, List, [], length, Some, Option}
+use Rattle.std.specs.Option.{ForSome}
+use Rattle.urb_names.specs.Naming.{Label}
+use Rattle.urb_names.specs.Names.{has_name}
+use Rattle.urb_names.specs.Pairs.{message_of}
+use Rattle.urb_names.specs.Carried.{Carried}
+use Rattle.urb_stable.specs.Entries.{Entry}
+use Rattle.urb_stable.specs.declared.record.Record.TheVariants.{Pend, PendCert, Cert}
+use Rattle.urb_node.specs.Next.{IsNext}
+use Rattle.urb_node.specs.Steps.{packets_of}
+use Rattle.urb_node.specs.Values.{Memory}
+use Rattle.urb_node.specs.declared.held.Held.{Held}
+
+-- what the layers keep, as one memory
+abbrev pub memory_of : {A : Type 0} → Held A → Memory
+memory_of h =
+    record {
+      limits = h.config;
+      node = h.node;
+      pairs = h.pending.pairs;
+      certified = h.acks.certified;
+      log = h.fifo.log;
+      count = h.stored;
+      acks = h.acks.counted;
+      cursor = h.resend.cursor;
+    }
+
+-- The layers are of one node of one group and agree on the certified names, which are all pending; and each record is a
+-- pair or a certificate.
+pub record IsHeld {A : Type 0} (h : Held A) : Type 0 where
+  pub node : (1 ≤ h.node) × (h.node ≤ h.config.n)
+  pub pending_limits : h.pending.limits ≡ h.config
+  pub pending_node : h.pending.node ≡ h.node
+  pub acks_limits : h.acks.limits ≡ h.config
+  pub fifo_limits : h.fifo.limits ≡ h.config
+  pub resend_limits : h.resend.limits ≡ h.config
+  pub resend_node : h.resend.node ≡ h.node
+  pub certified : h.fifo.certified ≡ h.acks.certified
+  pub pending : (x : Label) → has_name h.acks.certified x ≡ true → is_some (message_of h.pending.pairs x) ≡ true
+  pub count : h.stored ≤ length h.pending.pairs + length h.acks.certified
+
+-- the record is next behind this memory
+abbrev pub IsNextIn : Memory → Entry → Type 0
+IsNextIn a r = IsNext a.limits a.node a.pairs a.certified r
+
+-- the record is next behind what the layers keep
+abbrev pub IsNextHeld : {A : Type 0} → Held A → Entry → Type 0
+IsNextHeld h r = IsNextIn (memory_of h) r
+
+-- room is reserved for all that the record will add
+abbrev pub HasRoom : {A : Type 0} → Held A → Entry → Type 0
+HasRoom h (Pend x m) = (h.pending.reserved ≡ Some (x, m.client)) × (h.acks.reserved ≡ Some x)
+HasRoom h (PendCert x m) = (h.pending.reserved ≡ Some (x, m.client)) × (h.acks.reserved ≡ Some x) × (h.fifo.reserved ≡ Some x)
+HasRoom h (Cert x) = (h.acks.reserved ≡ Some x) × (h.fifo.reserved ≡ Some x)
+
+-- a draft of the record can be held: the record is next, there is room for it, a node of the group caused it if any did,
+-- and these are its packets
+pub record IsDrafted {A : Type 0} (h : Held A) (entry : Entry) (cause : Option ℕ) (packets : List Carried) : Type 0 where
+  pub held : IsHeld h
+  pub next : IsNextHeld h entry
+  pub room : HasRoom h entry
+  pub caused : ForSome cause (λ q. (1 ≤ q) × (q ≤ h.config.n))
+  pub sends : packets ≡ packets_of h.config.n h.node entry
+
+-- nothing is counted, and a doubtful record is next
+pub record IsFallen {A : Type 0} (h : Held A) (doubt : Option Entry) : Type 0 where
+  pub held : IsHeld h
+  pub uncounted : h.acks.counted ≡ []
+  pub doubtful : ForSome doubt (IsNextHeld h)

@@ -1,0 +1,48 @@
+-- What the layers of a node's memory hold once one more acknowledgement, certificate or record has come.
+use Rattle.std.specs.Prelude.{ℕ, suc, if◌then◌else◌, List, ◌++◌, Option, None, Some}
+use Rattle.urb_names.specs.Naming.{Label, Content}
+use Rattle.urb_names.specs.Names.{has_name, name_lt}
+use Rattle.urb_names.specs.Cyclic.{inserted}
+use Rattle.urb_names.specs.Acknowledged.{acked}
+use Rattle.urb_names.specs.Ordered.{placed}
+use Rattle.urb_majority.specs.Acks.{ack_lt}
+use Rattle.urb_fifo.specs.Releasing.{newly_released}
+use Rattle.urb_stable.specs.Entries.{Entry}
+use Rattle.urb_stable.specs.declared.record.Record.TheVariants.{Pend, PendCert, Cert}
+use Rattle.urb_node.specs.Values.{Memory}
+
+-- the acknowledgements with this node counted for the name, in its place
+abbrev pub counted_with : List (Label × ℕ) → Label → ℕ → List (Label × ℕ)
+counted_with acks x q = if acked acks x q then acks else placed ack_lt acks (x, q)
+
+-- and with the node that caused a record, where there is one
+abbrev pub counted_cause : List (Label × ℕ) → Label → Option ℕ → List (Label × ℕ)
+counted_cause acks x None = acks
+counted_cause acks x (Some q) = counted_with acks x q
+
+-- the certified names with this one, in its place
+abbrev pub certified_with : List Label → Label → List Label
+certified_with certified x = if has_name certified x then certified else placed name_lt certified x
+
+-- the log with what this certificate releases
+abbrev pub delivered_with : List Label → List Label → Label → List Label
+delivered_with log certified x = if has_name certified x then log else log ++ newly_released log certified x
+
+-- the memory with one more pending pair, for which the node itself and the one that caused it are counted
+abbrev pub with_pair : Memory → Label → Content → Option ℕ → Memory
+with_pair a x m cause =
+    record a {
+      pairs = inserted (x, m) a.pairs;
+      count = suc a.count;
+      acks = counted_cause (counted_with a.acks x a.node) x cause;
+    }
+
+-- the memory with one more certificate
+abbrev pub with_certificate : Memory → Label → Memory
+with_certificate a x = record a { certified = certified_with a.certified x; log = delivered_with a.log a.certified x }
+
+-- the memory once a record is stored
+abbrev pub with_record : Memory → Entry → Option ℕ → Memory
+with_record a (Pend x m) cause = with_pair a x m cause
+with_record a (PendCert x m) cause = with_certificate (with_pair a x m cause) x
+with_record a (Cert x) cause = with_certificate (record a { count = suc a.count }) x

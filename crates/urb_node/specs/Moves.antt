@@ -1,0 +1,83 @@
+-- What each call of a node does, by the definition's outcome for every node of a world that it shows.
+use Rattle.std.specs.Prelude.{◌≡◌, ◌≤◌, ℕ, List, Result, Ok, Err}
+use Rattle.urb_names.specs.declared.refusal.NoMemory.{NoMemory}
+use Rattle.urb_names.specs.Naming.{Label, Content}
+use Rattle.urb_names.specs.Carried.{Carried}
+use Rattle.urb_names.specs.declared.refusal.Refusal.{Refusal}
+use Rattle.urb_names.specs.declared.refusal.Refusal.TheVariants as refusal
+use Rattle.urb_stable.specs.Entries.{name_of}
+use Rattle.urb_stable.specs.Placed.{Placed}
+use Rattle.urb_node.specs.declared.answer.Answer.TheVariants as answer
+use Rattle.urb_node.specs.declared.step.Step.{Step}
+use Rattle.urb_node.specs.declared.step.Step.TheVariants as step
+use Rattle.urb_node.specs.Next.{MayArrive}
+use Rattle.urb_node.specs.Part.{Node}
+use Rattle.urb_node.specs.Replies.{Done, Reply, Drafted, Same, Stored, Sent, WentDown, Up, Refused}
+use Rattle.urb_node.specs.Steps.{submits, arrives, commits, fails, crashes, ticks}
+use Rattle.urb_node.specs.Values.{Memory, Holding, Fallen, ShowsReady, ShowsStoring, ShowsDown, IsSameNode, draft_of}
+
+-- a call that drafts, or that counts an acknowledgement, may be refused for memory; a repeat, an Again and a call that
+-- is refused otherwise may not
+abbrev pub MayGrow : Reply → Type 0
+MayGrow (Drafted x position) = Unit {0}
+MayGrow (Same (answer.Accepted x)) = ⊥
+MayGrow (Same (answer.Noted x)) = Unit {0}
+MayGrow (Same (answer.Again x)) = ⊥
+MayGrow (Stored done) = ⊥
+MayGrow (Sent packets) = ⊥
+MayGrow (WentDown p) = ⊥
+MayGrow (Up p) = ⊥
+MayGrow (Refused r) = ⊥
+
+-- the refusal is the reply's, or memory was refused where it may be
+abbrev pub IsRefusedAs : Reply → Refusal → Type 0
+IsRefusedAs reply refusal.NoMemory = MayGrow reply
+IsRefusedAs reply r = reply ≡ Refused r
+
+-- where a ready node's call leads, by an outcome: it stays ready with the outcome's answer, or it holds the outcome's
+-- draft, or it is refused as the outcome is and stays as it was
+abbrev pub LeadsTo : {A : Type 0} → Reply × Node → Memory → Result (Step A) (Memory × Refusal) → Type 0
+LeadsTo outcome old (Ok (step.Same ready told)) = (outcome.0 ≡ Same told) × ShowsReady ready outcome.1 × IsSameNode old ready
+LeadsTo outcome old (Ok (step.Store storing draft)) =
+    (outcome.0 ≡ Drafted (name_of draft.entry) draft.pos) × ShowsStoring storing outcome.1 × IsSameNode old storing.memory × (draft ≡ draft_of storing)
+LeadsTo outcome old (Err e) = IsRefusedAs outcome.0 e.1 × (e.0 ≡ old)
+
+-- a client's message: for every node that is shown, as the definition says of a submit
+abbrev pub Submits : {A : Type 0} → Memory → Content → Result (Step A) (Memory × Refusal) → Type 0
+Submits old m result = (node : Node) → ShowsReady old node → LeadsTo (submits old.limits old.node m node) old result
+
+-- a truthful packet from q: as the definition says of an arrival
+abbrev pub Arrives : {A : Type 0} → Memory → ℕ → Label → Content → Result (Step A) (Memory × Refusal) → Type 0
+Arrives old q x m result = (node : Node) → ShowsReady old node → LeadsTo (arrives old.limits old.node q x m node) old result
+
+-- a packet that a node may be given: it is for this node, from a node of the group, and its pair may come there
+pub record IsForNode (a : Memory) (packet : Carried) : Type 0 where
+  pub target : packet.target ≡ a.node
+  pub source : packet.source ≤ a.limits.n
+  pub pair : MayArrive a.limits a.node a.pairs packet.name packet.message
+
+-- a receipt: taken exactly where it is the held draft's, and then as the definition says of a commit
+abbrev pub Confirms : Holding → Placed → Result (Memory × Done) (Holding × Placed) → Type 0
+Confirms h receipt (Ok r) =
+    (receipt ≡ draft_of h) × IsSameNode h.memory r.0
+    × ((node : Node) → ShowsStoring h node → ((commits h.memory.limits.n h.memory.node receipt.pos receipt.entry node node.state).0 ≡ Stored r.1)
+    × ShowsReady r.0 (commits h.memory.limits.n h.memory.node receipt.pos receipt.entry node node.state).1)
+Confirms h receipt (Err e) = ¬ (receipt ≡ draft_of h) × (e.0 ≡ h) × (e.1 ≡ receipt)
+
+-- the store of the held record failed: as the definition says
+abbrev pub Fails : Holding → Fallen → Type 0
+Fails h result =
+    IsSameNode h.memory result.memory
+    × ((node : Node) → ShowsStoring h node → ((fails h.memory.node node node.state).0 ≡ WentDown h.memory.node) × ShowsDown result (fails h.memory.node node node.state).1)
+
+-- a crash, in a state in which the memory shows a node: as the definition says
+abbrev pub Crashes : (Node → Type 0) → Memory → Fallen → Type 0
+Crashes Shows old result =
+    IsSameNode old result.memory
+    × ((node : Node) → Shows node → ((crashes old.node node).0 ≡ WentDown old.node) × ShowsDown result (crashes old.node node).1)
+
+-- a tick: as the definition says; refused for memory, nothing changes
+abbrev pub Ticks : Memory → Memory × Result (List Carried) NoMemory → Type 0
+Ticks old (new, Ok packets) =
+    IsSameNode old new × ((node : Node) → ShowsReady old node → ((ticks old.limits.n old.node node).0 ≡ Sent packets) × ShowsReady new (ticks old.limits.n old.node node).1)
+Ticks old (new, Err e) = new ≡ old

@@ -1,0 +1,76 @@
+-- What a ready node finds out about a call, from its memory, in the order in which it looks.
+use Rattle.std.specs.Prelude.{ℕ, suc, not, ◌==◌, nat_lt, bytes_eq, if◌then◌else◌, length, List, Option, None, Some}
+use Rattle.urb_names.specs.Naming.{Label, Content}
+use Rattle.urb_names.specs.Names.{name, has_name}
+use Rattle.urb_names.specs.Nodes.{is_majority, majority_passes}
+use Rattle.urb_names.specs.Pairs.{message_of, own, next_number}
+use Rattle.urb_names.specs.Acknowledged.{acked, with_ack}
+use Rattle.urb_names.specs.declared.refusal.Refusal.{Refusal}
+use Rattle.urb_names.specs.declared.refusal.Refusal.TheVariants as refusal
+use Rattle.urb_stable.specs.Entries.{Entry}
+use Rattle.urb_stable.specs.declared.record.Record.TheVariants.{Pend, PendCert, Cert}
+use Rattle.urb_pending.specs.PendingSet.{name_given}
+use Rattle.urb_node.specs.declared.answer.Answer.{Answer}
+use Rattle.urb_node.specs.declared.answer.Answer.TheVariants as answer
+use Rattle.urb_node.specs.Values.{Memory}
+use Rattle.urb_node.specs.Layers.{counted_with}
+
+-- what a call leads to: an answer, a refusal, or a record to be stored, with the node that caused it; and the memory then
+pub data Outcome : Type 0 where
+  Answers : Answer → Memory → Outcome
+  Refuses : Refusal → Outcome
+  Wants : Entry → Option ℕ → Memory → Outcome
+
+-- the node's own messages
+abbrev pub own_of : Memory → List Content
+own_of a = own a.node a.pairs
+
+-- ---- submit
+
+-- the record of a new message of the node's own
+abbrev pub own_record : Memory → Content → Entry
+own_record a m =
+    let x = name a.node (suc (length (own_of a))) in
+    if is_majority 1 a.limits.n then PendCert x m else Pend x m
+
+-- a message whose number is new
+abbrev pub fresh_outcome : Memory → Content → Outcome
+fresh_outcome a m =
+    if not (m.number == next_number m.client (own_of a)) then Refuses (refusal.Gap (next_number m.client (own_of a)))
+    else if not (nat_lt (length (own_of a)) a.limits.cap) then Refuses refusal.Full
+    else Wants (own_record a m) None a
+
+-- a message whose number is that of one which is pending under this name
+abbrev pub repeat_outcome : Memory → Content → Label → Option Content → Outcome
+repeat_outcome a m x None = Refuses refusal.Conflict
+repeat_outcome a m x (Some first) = if bytes_eq first.payload m.payload then Answers (answer.Accepted x) a else Refuses refusal.Conflict
+
+abbrev pub numbered_outcome : Memory → Content → Option Label → Outcome
+numbered_outcome a m None = fresh_outcome a m
+numbered_outcome a m (Some x) = repeat_outcome a m x (message_of a.pairs x)
+
+abbrev pub submit_outcome : Memory → Content → Outcome
+submit_outcome a m =
+    if nat_lt 1024 (length m.payload) then Refuses refusal.TooLong
+    else numbered_outcome a m (name_given a.node m.client m.number (own_of a))
+
+-- ---- arrival
+
+-- the memory with a node counted for a name
+abbrev pub with_counted : Memory → Label → ℕ → Memory
+with_counted a x q = record a { acks = counted_with a.acks x q }
+
+-- a packet of a name that is pending and not certified
+abbrev pub counted_outcome : Memory → ℕ → Label → Outcome
+counted_outcome a q x =
+    if majority_passes a.limits.n (acked (with_ack a.acks x q) x) then Wants (Cert x) (Some q) (with_counted a x q)
+    else if acked a.acks x q then Answers (answer.Again x) a
+    else Answers (answer.Noted x) (with_counted a x q)
+
+abbrev pub pending_outcome : Memory → ℕ → Label → Content → Option Content → Outcome
+pending_outcome a q x m None = Wants (if is_majority 2 a.limits.n then PendCert x m else Pend x m) (Some q) a
+pending_outcome a q x m (Some first) = if has_name a.certified x then Answers (answer.Again x) a else counted_outcome a q x
+
+-- a packet from q
+abbrev pub arrive_outcome : Memory → ℕ → Label → Content → Outcome
+arrive_outcome a q x m = pending_outcome a q x m (message_of a.pairs x)

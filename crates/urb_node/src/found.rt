@@ -1,0 +1,242 @@
+//! What a ready node finds out about a call, before it goes anywhere.
+
+ghost use Rattle.std.specs.Prelude.{◌≡◌, ◌≢◌, ◌≤◌, false, Some, IsTrue, IsOk, OnOk, OnErr, IfOk, is_some, if◌then◌else◌};
+ghost use Rattle.std.specs.Option.{ForSome};
+ghost use Rattle.urb_names.specs.Names.{has_name};
+ghost use Rattle.urb_names.specs.Pairs.{message_of};
+ghost use Rattle.urb_stable.specs.declared.record.Record.TheVariants.{Pend, PendCert};
+ghost use Rattle.urb_node.specs.Held.{memory_of, IsHeld, IsNextHeld};
+ghost use Rattle.urb_node.specs.Found.{Finds, IsFoundIn, IsWanted};
+ghost use Rattle.urb_node.specs.Layers.{counted_with};
+ghost use Rattle.urb_node.specs.Moves.{IsForNode};
+ghost use Rattle.urb_node.specs.Outcomes.{arrive_outcome, counted_outcome, repeat_outcome, submit_outcome};
+ghost use Rattle.urb_node.specs.Values.{IsSameNode};
+
+use crate::Answer;
+use crate::held::Held;
+use std::alloc::{Allocator, Global};
+use urb_majority::Acks;
+use urb_names::{
+    ClientId, MAX_PAYLOAD, Message, Name, NoMemory, NodeId, PacketView, Refusal, is_majority,
+};
+use urb_stable::Record;
+use urb_stubborn::Outbox;
+
+/// A record to be stored, with its copy for the store, the node whose packet caused it, and the packets to send then.
+#[derive(Drop)]
+#[derive_where(Debug)]
+pub(crate) struct Wanted<A: Allocator = Global> {
+    pub(crate) entry: Record<Message<A>>,
+    pub(crate) copy: Record<Message<A>>,
+    pub(crate) cause: Option<NodeId>,
+    pub(crate) packets: Outbox<A>,
+}
+
+/// What a call found: an answer, or a record that it wants stored.
+#[derive(Drop)]
+#[derive_where(Debug)]
+pub(crate) enum Found<A: Allocator = Global> {
+    Known(Answer),
+    New(Wanted<A>),
+}
+
+// Makes room for all that a pending record of this name will add.
+fn make_room<A: Allocator + Copy>(
+    held: &mut Held<A>,
+    name: Name,
+    client: ClientId,
+) -> Result<(), NoMemory>
+    requires kept { IsHeld held.old }
+    requires sender { name.sender ≤ held.old.config.n }
+    requires seq { name.seq ≤ held.old.config.cap }
+    ensures kept { IsHeld held.new }
+    ensures same { memory_of held.new ≡ memory_of held.old }
+    ensures room { OnOk result ((held.new.pending.reserved ≡ Some (name, client)) × (held.new.acks.reserved ≡ Some name) × (held.new.fifo.reserved ≡ Some name)) }
+{
+    held.pending.reserve(name, client)?;
+    held.acks.reserve(name)?;
+    held.fifo.reserve(name)?;
+    Ok(())
+}
+
+// The record of a pending message, certified at once or not.
+fn pending_record<A: Allocator>(
+    name: Name,
+    message: Message<A>,
+    is_certified: bool,
+) -> Record<Message<A>>
+    ensures { result ≡ (if is_certified then PendCert name message else Pend name message) }
+{
+    if is_certified {
+        Record::PendCert(name, message)
+    } else {
+        Record::Pend(name, message)
+    }
+}
+
+// Makes room for a pending message, and all its copies.
+fn make_wanted<A: Allocator + Copy>(
+    held: &mut Held<A>,
+    alloc: A,
+    name: Name,
+    message: Message<A>,
+    is_certified: bool,
+    cause: Option<NodeId>,
+) -> Result<Wanted<A>, NoMemory>
+    requires kept { IsHeld held.old }
+    requires next { IsNextHeld held.old (if is_certified then PendCert name message else Pend name message) }
+    requires caused { ForSome cause (λ q. (1 ≤ q) × (q ≤ held.old.config.n)) }
+    ensures kept { IsHeld held.new }
+    ensures same { memory_of held.new ≡ memory_of held.old }
+    ensures wanted { IfOk result (λ w. IsWanted held.new w × (w.entry ≡ (if is_certified then PendCert name message else Pend name message)) × (w.cause ≡ cause)) }
+{
+    make_room(held, name, message.client())?;
+    let packets = Outbox::of_pair(alloc, held.config, held.node, name, &message)?;
+    let copy = pending_record(name, message.copy(alloc)?, is_certified);
+    let entry = pending_record(name, message, is_certified);
+    Ok(Wanted {
+        entry,
+        copy,
+        cause,
+        packets,
+    })
+}
+
+// What is found about a message whose client has numbered it as one that is pending under this name.
+fn repeated<A: Allocator + Copy>(
+    held: &Held<A>,
+    name: Name,
+    client: ClientId,
+    number: u32,
+    payload: &[u8],
+) -> Result<Found<A>, Refusal>
+    ensures { Finds (memory_of held.now) (repeat_outcome (memory_of held.now) (record { client = client; number = number; payload = payload.now }) name (message_of held.now.pending.pairs name)) result (memory_of held.now) }
+{
+    match held.pending.message(name) {
+        Some(message) => {
+            if message.payload() == payload {
+                Ok(Found::Known(Answer::Accepted(name)))
+            } else {
+                Err(Refusal::Conflict)
+            }
+        }
+        None => Err(Refusal::Conflict),
+    }
+}
+
+/// What a submit leads to: the checks of a submit at a ready node, in their order.
+pub(crate) fn submitted<A: Allocator + Copy>(
+    held: &mut Held<A>,
+    alloc: A,
+    client: ClientId,
+    number: u32,
+    payload: &[u8],
+) -> Result<Found<A>, Refusal>
+    requires kept { IsHeld held.old }
+    ensures kept { IsHeld held.new }
+    ensures same { IsSameNode (memory_of held.old) (memory_of held.new) }
+    ensures wanted { IfOk result (λ found. IsFoundIn held.new found) }
+    ensures outcome { Finds (memory_of held.old) (submit_outcome (memory_of held.old) (record { client = client; number = number; payload = payload.now })) result (memory_of held.new) }
+{
+    if payload.len() > MAX_PAYLOAD {
+        return Err(Refusal::TooLong);
+    }
+    if let Some(name) = held.pending.find(client, number) {
+        return repeated(held, name, client, number, payload);
+    }
+    let next = held.pending.client_next(client);
+    if number != next {
+        return Err(Refusal::Gap(next));
+    }
+    let own = held.pending.own_len();
+    if own >= held.config.cap() {
+        return Err(Refusal::Full);
+    }
+    held.pending.limits();
+    let name = Name {
+        sender: held.node,
+        seq: own + 1,
+    };
+    let message = Message::copied(alloc, client, number, payload)?;
+    let is_certified = is_majority(1, held.config.n());
+    Ok(Found::New(make_wanted(held, alloc, name, message, is_certified, None)?))
+}
+
+// Counts a node for a name.
+pub(crate) fn note<A: Allocator + Copy>(
+    acks: &mut Acks<A>,
+    name: Name,
+    node: NodeId,
+) -> Result<(), NoMemory>
+    ensures ok { OnOk result ((acks.new.counted ≡ counted_with acks.old.counted name node) × (acks.new.limits ≡ acks.old.limits) × (acks.new.certified ≡ acks.old.certified)) }
+    ensures reserved { acks.old.reserved ≡ Some name → acks.new.reserved ≡ Some name }
+    ensures err { OnErr result (acks.new ≡ acks.old) }
+    ensures roomy { acks.old.reserved ≡ Some name → IsOk result }
+{
+    acks.note(name, node)?;
+    Ok(())
+}
+
+// What is found about a packet of a name that is pending and not certified.
+fn counted<A: Allocator + Copy>(
+    held: &mut Held<A>,
+    alloc: A,
+    source: NodeId,
+    name: Name,
+) -> Result<Found<A>, Refusal>
+    requires kept { IsHeld held.old }
+    requires source { (1 ≤ source) × (source ≤ held.old.config.n) }
+    requires sender { name.sender ≤ held.old.config.n }
+    requires seq { name.seq ≤ held.old.config.cap }
+    requires pending { IsTrue (is_some (message_of held.old.pending.pairs name)) }
+    requires open { has_name held.old.acks.certified name ≡ false }
+    ensures kept { IsHeld held.new }
+    ensures same { IsSameNode (memory_of held.old) (memory_of held.new) }
+    ensures wanted { IfOk result (λ found. IsFoundIn held.new found) }
+    ensures outcome { Finds (memory_of held.old) (counted_outcome (memory_of held.old) source name) result (memory_of held.new) }
+{
+    let is_counted = held.acks.noted(name, source);
+    if held.acks.majority_with(name, source) {
+        held.acks.reserve(name)?;
+        held.fifo.reserve(name)?;
+        note(&mut held.acks, name, source).unwrap();
+        return Ok(Found::New(Wanted {
+            entry: Record::Cert(name),
+            copy: Record::Cert(name),
+            cause: Some(source),
+            packets: Outbox::empty(alloc),
+        }));
+    }
+    if is_counted {
+        return Ok(Found::Known(Answer::Again(name)));
+    }
+    note(&mut held.acks, name, source)?;
+    Ok(Found::Known(Answer::Noted(name)))
+}
+
+/// What a packet leads to, at a ready node.
+pub(crate) fn arrived<A: Allocator + Copy>(
+    held: &mut Held<A>,
+    alloc: A,
+    packet: &PacketView<'_>,
+) -> Result<Found<A>, Refusal>
+    requires kept { IsHeld held.old }
+    requires packet { IsForNode (memory_of held.old) packet.now }
+    ensures kept { IsHeld held.new }
+    ensures same { IsSameNode (memory_of held.old) (memory_of held.new) }
+    ensures wanted { IfOk result (λ found. IsFoundIn held.new found) }
+    ensures outcome { Finds (memory_of held.old) (arrive_outcome (memory_of held.old) packet.now.source packet.now.name packet.now.message) result (memory_of held.new) }
+{
+    let name = packet.name();
+    let source = packet.source();
+    let _range = source.number();
+    if held.pending.message(name).is_none() {
+        let message = Message::copied(alloc, packet.client(), packet.number(), packet.payload())?;
+        let is_certified = is_majority(2, held.config.n());
+        return Ok(Found::New(make_wanted(held, alloc, name, message, is_certified, Some(source))?));
+    }
+    if held.acks.certified(name) {
+        return Ok(Found::Known(Answer::Again(name)));
+    }
+    counted(held, alloc, source, name)
+}

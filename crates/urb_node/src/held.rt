@@ -1,0 +1,22 @@
+//! What a node holds in memory in each of its states.
+
+use std::alloc::{Allocator, Global};
+use urb_fifo::Fifo;
+use urb_majority::Acks;
+use urb_names::{Config, NodeId};
+use urb_pending::Pending;
+use urb_stubborn::Resend;
+
+/// What a node holds of what it has stored and counted.
+#[derive(Drop)]
+#[derive_where(Debug)]
+pub(crate) struct Held<A: Allocator = Global> {
+    pub(crate) config: Config,
+    pub(crate) node: NodeId,
+    /// How many records are stored.
+    pub(crate) stored: u32,
+    pub(crate) pending: Pending<A>,
+    pub(crate) acks: Acks<A>,
+    pub(crate) fifo: Fifo<A>,
+    pub(crate) resend: Resend,
+}

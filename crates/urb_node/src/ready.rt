@@ -1,0 +1,134 @@
+//! A node that holds no draft.
+
+ghost use Rattle.std.specs.Prelude.{◌≡◌, ◌≤◌, IsOk, OnOk};
+ghost use Rattle.urb_node.specs.Held.{memory_of, IsHeld};
+ghost use Rattle.urb_node.specs.Found.{IsFoundIn, step_from};
+ghost use Rattle.urb_node.specs.Moves.{Arrives, Crashes, IsForNode, Submits, Ticks};
+ghost use Rattle.urb_node.specs.Values.{ShowsReady, new_memory};
+
+use crate::found::{Found, arrived, submitted};
+use crate::held::Held;
+use crate::{Answer, Down, Step, Storing};
+use std::alloc::{Allocator, Global};
+use std::marker::Model;
+use urb_fifo::Fifo;
+use urb_majority::Acks;
+use urb_names::{ClientId, Config, NoMemory, NodeId, PacketView, Refusal};
+use urb_pending::Pending;
+use urb_stable::Draft;
+use urb_stubborn::{Outbox, Resend};
+
+/// A node that holds no draft: it takes submits, packets and ticks.
+#[derive(Drop)]
+#[derive_where(Debug)]
+pub struct Ready<A: Allocator = Global> {
+    pub(crate) held: Held<A>,
+}
+
+impl<A: Allocator> Model for Ready<A> {
+    ghost use Rattle.urb_node.specs.Held.{memory_of, IsHeld};
+    ghost use Rattle.urb_node.specs.Values.{Memory};
+
+    ghost Value = { Memory };
+
+    ghost view = { λ a. memory_of a.held };
+
+    ghost invariant = { λ a. IsHeld a.held };
+}
+
+// Where a node goes with what was found.
+fn step_of<A: Allocator + Copy>(held: Held<A>, found: Found<A>) -> Step<A>
+    requires kept { IsHeld held }
+    requires wanted { IsFoundIn held found }
+    ensures { result ≡ step_from (memory_of held) found }
+{
+    match found {
+        Found::Known(answer) => Step::Same(Ready { held }, answer),
+        Found::New(wanted) => {
+            held.pending.limits();
+            held.fifo.limits();
+            let draft = Draft::new(held.node, held.stored + 1, wanted.copy);
+            let storing = Storing {
+                held,
+                entry: wanted.entry,
+                cause: wanted.cause,
+                packets: wanted.packets,
+            };
+            Step::Store(storing, draft)
+        }
+    }
+}
+
+impl<A: Allocator + Copy> Ready<A> {
+    /// A node of a group that has stored nothing: a process of the book as it is initialized (section 3.9).
+    pub fn new(alloc: A, config: Config, node: NodeId) -> Ready<A>
+        requires { node ≤ config.n }
+        ensures { result ≡ new_memory config node }
+    {
+        let _range = node.number();
+        Ready {
+            held: Held {
+                config,
+                node,
+                stored: 0,
+                pending: Pending::new(alloc, config, node),
+                acks: Acks::new(alloc, config),
+                fifo: Fifo::new(alloc, config),
+                resend: Resend::new(config, node),
+            },
+        }
+    }
+
+    /// A client's message: the broadcast of the book's algorithm (section 3.9.6), as far as its store.
+    pub fn submit(
+        self,
+        alloc: A,
+        client: ClientId,
+        number: u32,
+        payload: &[u8],
+    ) -> Result<Step<A>, (Ready<A>, Refusal)>
+        ensures { Submits self (record { client = client; number = number; payload = payload.now }) result }
+    {
+        let Ready { mut held } = self;
+        held.pending.limits();
+        match submitted(&mut held, alloc, client, number, payload) {
+            Ok(found) => Ok(step_of(held, found)),
+            Err(refusal) => Err((Ready { held }, refusal)),
+        }
+    }
+
+    /// A packet of another node of the group, of a message that its source holds: the delivery of a best-effort broadcast
+    /// in the book's algorithm (section 3.9.6), as far as its store.
+    pub fn arrive(self, alloc: A, packet: PacketView<'_>) -> Result<Step<A>, (Ready<A>, Refusal)>
+        requires { IsForNode self packet }
+        ensures { Arrives self packet.entry.source packet.entry.name packet.entry.message result }
+    {
+        let Ready { mut held } = self;
+        let _apart = packet.target();
+        let _range = packet.source().number();
+        match arrived(&mut held, alloc, &packet) {
+            Ok(found) => Ok(step_of(held, found)),
+            Err(refusal) => Err((Ready { held }, refusal)),
+        }
+    }
+
+    /// A timeout: sends pending messages again (stubborn links, section 2.4 of the book). Refused for memory, the next
+    /// tick sends what this one would have sent.
+    pub fn tick(self, alloc: A) -> (Ready<A>, Result<Outbox<A>, NoMemory>)
+        ensures { Ticks self result }
+    {
+        let Ready { mut held } = self;
+        held.pending.limits();
+        let sent = held.resend.tick(alloc, &held.pending);
+        (Ready { held }, sent)
+    }
+
+    /// The node stops and loses what it has not stored.
+    pub fn crash(self) -> Down<A>
+        ensures { Crashes (ShowsReady self) self result }
+    {
+        let Ready { mut held } = self;
+        held.acks.forget();
+        Down { held, doubt: None }
+    }
+}

@@ -1,0 +1,222 @@
+//! A node that holds a draft.
+
+ghost use Rattle.std.specs.Prelude.{◌≡◌, ◌≤◌, ◌<◌, ◌+◌, ◌^◌, true, false, length, is_some, Some};
+ghost use Rattle.std.specs.Bool.{MatchBool};
+ghost use Rattle.urb_names.specs.Names.{has_name};
+ghost use Rattle.urb_names.specs.Pairs.{message_of};
+ghost use Rattle.urb_stable.specs.declared.record.Record.TheVariants.{Pend};
+ghost use Rattle.urb_node.specs.Held.{memory_of, HasRoom, IsHeld, IsNextHeld};
+ghost use Rattle.urb_node.specs.Layers.{counted_cause, counted_with, with_certificate, with_pair, with_record};
+ghost use Rattle.urb_node.specs.Moves.{Confirms, Crashes, Fails};
+ghost use Rattle.urb_node.specs.Steps.{is_accepted};
+ghost use Rattle.urb_node.specs.Values.{ShowsStoring};
+
+use crate::found::note;
+use crate::held::Held;
+use crate::{Done, Down, Ready};
+use std::alloc::{Allocator, Global};
+use std::marker::Model;
+use urb_majority::Acks;
+use urb_names::{Message, Name, NodeId};
+use urb_stable::{Receipt, Record};
+use urb_stubborn::Outbox;
+
+/// A node that holds a draft: it waits for its store, and takes nothing else.
+#[derive(Drop)]
+#[derive_where(Debug)]
+pub struct Storing<A: Allocator = Global> {
+    pub(crate) held: Held<A>,
+    pub(crate) entry: Record<Message<A>>,
+    pub(crate) cause: Option<NodeId>,
+    // What is sent once the record is stored. It leaves this value by `confirm` alone.
+    pub(crate) packets: Outbox<A>,
+}
+
+impl<A: Allocator> Model for Storing<A> {
+    ghost use Rattle.urb_node.specs.Held.{memory_of, IsDrafted};
+    ghost use Rattle.urb_node.specs.Values.{Holding};
+
+    ghost Value = { Holding };
+
+    ghost view = { λ a. record { memory = memory_of a.held; entry = a.entry; cause = a.cause } };
+
+    ghost invariant = { λ a. IsDrafted a.held a.entry a.cause a.packets };
+}
+
+// A stored message is acknowledged by the node, and by the one whose packet caused it.
+fn count<A: Allocator + Copy>(acks: &mut Acks<A>, name: Name, node: NodeId, cause: Option<NodeId>)
+    requires { acks.old.reserved ≡ Some name }
+    ensures counted { acks.new.counted ≡ counted_cause (counted_with acks.old.counted name node) name cause }
+    ensures same { (acks.new.limits ≡ acks.old.limits) × (acks.new.certified ≡ acks.old.certified) }
+    ensures reserved { acks.new.reserved ≡ Some name }
+{
+    note(acks, name, node).unwrap();
+    if let Some(source) = cause {
+        note(acks, name, source).unwrap();
+    }
+}
+
+// One more pending pair is stored.
+fn join_pair<A: Allocator + Copy>(
+    held: &mut Held<A>,
+    name: Name,
+    message: Message<A>,
+    cause: Option<NodeId>,
+)
+    requires kept { IsHeld held.old }
+    requires next { IsNextHeld held.old (Pend name message) }
+    requires room { (held.old.pending.reserved ≡ Some (name, message.client)) × (held.old.acks.reserved ≡ Some name) }
+    requires fits { held.old.stored + 1 < 2 ^ 32 }
+    ensures kept { IsHeld held.new }
+    ensures memory { memory_of held.new ≡ with_pair (memory_of held.old) name message cause }
+    ensures room { (held.new.acks.reserved ≡ Some name) × (held.new.fifo ≡ held.old.fifo) }
+{
+    let node = held.node;
+    held.pending.add(name, message).unwrap();
+    count(&mut held.acks, name, node, cause);
+    held.stored += 1;
+}
+
+// A pending name is certified; this says how many names are released.
+fn join_certificate<A: Allocator + Copy>(held: &mut Held<A>, name: Name) -> u32
+    requires kept { IsHeld held.old }
+    requires range { (name.sender ≤ held.old.config.n) × (name.seq ≤ held.old.config.cap) }
+    requires pending { is_some (message_of held.old.pending.pairs name) ≡ true }
+    requires room { (held.old.acks.reserved ≡ Some name) × (held.old.fifo.reserved ≡ Some name) }
+    ensures kept { IsHeld held.new }
+    ensures memory { memory_of held.new ≡ with_certificate (memory_of held.old) name }
+    ensures released { length held.new.fifo.log ≡ length held.old.fifo.log + result }
+    ensures one_more { has_name held.old.acks.certified name ≡ false → held.new.stored + 1 ≤ length held.new.pending.pairs + length held.new.acks.certified }
+{
+    held.acks.certify(name).unwrap();
+    held.fifo.certify(name).unwrap()
+}
+
+// What a node holds once its record is stored, and how many names are released by it.
+fn stored<A: Allocator + Copy>(
+    mut held: Held<A>,
+    entry: Record<Message<A>>,
+    cause: Option<NodeId>,
+) -> (Held<A>, u32)
+    requires kept { IsHeld held }
+    requires next { IsNextHeld held entry }
+    requires room { HasRoom held entry }
+    ensures kept { IsHeld result.0 }
+    ensures memory { memory_of result.0 ≡ with_record (memory_of held) entry cause }
+    ensures released { length (memory_of result.0).log ≡ length (memory_of held).log + result.1 }
+{
+    held.pending.limits();
+    held.fifo.limits();
+    match entry {
+        Record::Pend(name, message) => {
+            join_pair(&mut held, name, message, cause);
+            (held, 0)
+        }
+        Record::PendCert(name, message) => {
+            join_pair(&mut held, name, message, cause);
+            let released = join_certificate(&mut held, name);
+            (held, released)
+        }
+        Record::Cert(name) => {
+            let released = join_certificate(&mut held, name);
+            held.stored += 1;
+            (held, released)
+        }
+    }
+}
+
+// Whether a receipt is of this record of this node at this position.
+fn is_receipt_of<A: Allocator>(
+    receipt: &Receipt<A>,
+    node: NodeId,
+    pos: u32,
+    entry: &Record<Message<A>>,
+) -> bool
+    ensures { MatchBool result (receipt.now ≡ record { node = node; pos = pos; entry = entry.now }) (¬ (receipt.now ≡ record { node = node; pos = pos; entry = entry.now })) }
+{
+    receipt.node() == node && receipt.pos() == pos && receipt.entry().is_same(entry)
+}
+
+// Whether a record is a pending one of this node's own.
+fn is_own_message<A: Allocator>(entry: &Record<Message<A>>, node: NodeId) -> bool
+    ensures { result ≡ is_accepted node entry.now }
+{
+    match entry {
+        Record::Pend(name, _) | Record::PendCert(name, _) => {
+            let name = *name;
+            name.sender == node
+        }
+        Record::Cert(_) => false,
+    }
+}
+
+impl<A: Allocator + Copy> Storing<A> {
+    /// The store took the record: the node goes on with it, and sends its packets. The receipt is the proof of that, so a
+    /// receipt of another draft comes back. Takes no memory.
+    pub fn confirm(
+        self,
+        receipt: Receipt<A>,
+    ) -> Result<(Ready<A>, Done<A>), (Storing<A>, Receipt<A>)>
+        ensures { Confirms self receipt result }
+    {
+        let Storing {
+            held,
+            entry,
+            cause,
+            packets,
+        } = self;
+        held.pending.limits();
+        held.fifo.limits();
+        if !is_receipt_of(&receipt, held.node, held.stored + 1, &entry) {
+            let storing = Storing {
+                held,
+                entry,
+                cause,
+                packets,
+            };
+            return Err((storing, receipt));
+        }
+        let name = entry.name();
+        let accepted = is_own_message(&entry, held.node);
+        let (held, released) = stored(held, entry, cause);
+        let done = Done {
+            accepted,
+            name,
+            sent: packets,
+            released,
+        };
+        Ok((Ready { held }, done))
+    }
+
+    /// The store did not take the record for certain: the node is down, and the record is in doubt. Takes no memory.
+    pub fn fail(self) -> Down<A>
+        ensures { Fails self result }
+    {
+        let Storing {
+            mut held,
+            entry,
+            ..
+        } = self;
+        held.acks.forget();
+        Down {
+            held,
+            doubt: Some(entry),
+        }
+    }
+
+    /// The node stops while it holds a draft: as `fail`.
+    pub fn crash(self) -> Down<A>
+        ensures { Crashes (ShowsStoring self) self.memory result }
+    {
+        let Storing {
+            mut held,
+            entry,
+            ..
+        } = self;
+        held.acks.forget();
+        Down {
+            held,
+            doubt: Some(entry),
+        }
+    }
+}
