@@ -12,3 +12,4 @@ pub mod Wanted
 pub mod Calls
 pub mod JoinedLayers
 pub mod ConfirmLeads
+pub mod Telling

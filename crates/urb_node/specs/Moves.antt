@@ -1,32 +1,37 @@
 -- What each call of a node does, by the definition's outcome for every node of a world that it shows.
-use Rattle.std.specs.Prelude.{◌≡◌, ◌≤◌, ℕ, List, Result, Ok, Err}
+use Rattle.std.specs.Prelude.{◌≡◌, ◌≤◌, ℕ, Bool, List, length, Option, Result, Ok, Err}
 use Rattle.urb_names.specs.declared.refusal.NoMemory.{NoMemory}
 use Rattle.urb_names.specs.Naming.{Label, Content}
 use Rattle.urb_names.specs.Carried.{Carried}
+use Rattle.urb_names.specs.Pairs.{has_pair, message_of}
 use Rattle.urb_names.specs.declared.refusal.Refusal.{Refusal}
 use Rattle.urb_names.specs.declared.refusal.Refusal.TheVariants as refusal
-use Rattle.urb_stable.specs.Entries.{name_of}
+use Rattle.urb_stable.specs.Entries.{Entry, name_of}
+use Rattle.urb_stable.specs.Log.{log}
 use Rattle.urb_stable.specs.Placed.{Placed}
+use Rattle.urb_stable.specs.Records.{pend}
 use Rattle.urb_node.specs.declared.answer.Answer.TheVariants as answer
 use Rattle.urb_node.specs.declared.step.Step.{Step}
 use Rattle.urb_node.specs.declared.step.Step.TheVariants as step
 use Rattle.urb_node.specs.Next.{MayArrive}
 use Rattle.urb_node.specs.Part.{Node}
 use Rattle.urb_node.specs.Replies.{Done, Reply, Drafted, Same, Stored, Sent, WentDown, Up, Refused}
-use Rattle.urb_node.specs.Steps.{submits, arrives, commits, fails, crashes, ticks}
+use Rattle.urb_node.specs.Steps.{submits, arrives, commits, fails, crashes, restarts, ticks}
 use Rattle.urb_node.specs.Values.{Memory, Holding, Fallen, ShowsReady, ShowsStoring, ShowsDown, IsSameNode, draft_of}
 
--- a call that drafts, or that counts an acknowledgement, may be refused for memory; a repeat, an Again and a call that
--- is refused otherwise may not
+-- An event that drafts, counts an acknowledgement or sends packets may be refused for memory, and so may a restart, which
+-- asks for what judging its image takes before it judges. A repeat, an Again, a receipt, a failed store, a crash and an
+-- event that is refused otherwise may not.
 abbrev pub MayGrow : Reply → Type 0
 MayGrow (Drafted x position) = Unit {0}
 MayGrow (Same (answer.Accepted x)) = ⊥
 MayGrow (Same (answer.Noted x)) = Unit {0}
 MayGrow (Same (answer.Again x)) = ⊥
 MayGrow (Stored done) = ⊥
-MayGrow (Sent packets) = ⊥
+MayGrow (Sent packets) = Unit {0}
 MayGrow (WentDown p) = ⊥
-MayGrow (Up p) = ⊥
+MayGrow (Up p) = Unit {0}
+MayGrow (Refused refusal.BadImage) = Unit {0}
 MayGrow (Refused r) = ⊥
 
 -- the refusal is the reply's, or memory was refused where it may be
@@ -81,3 +86,24 @@ abbrev pub Ticks : Memory → Memory × Result (List Carried) NoMemory → Type 
 Ticks old (new, Ok packets) =
     IsSameNode old new × ((node : Node) → ShowsReady old node → ((ticks old.limits.n old.node node).0 ≡ Sent packets) × ShowsReady new (ticks old.limits.n old.node node).1)
 Ticks old (new, Err e) = new ≡ old
+
+-- a restart with this image: as the definition says
+abbrev pub Restarts : Fallen → List Entry → Result Memory (Fallen × Refusal) → Type 0
+Restarts old image (Ok ready) =
+    IsSameNode old.memory ready
+    × ((node : Node) → ShowsDown old node → ((restarts old.memory.node image node node.state).0 ≡ Up old.memory.node) × ShowsReady ready (restarts old.memory.node image node node.state).1)
+Restarts old image (Err e) = ((node : Node) → ShowsDown old node → IsRefusedAs (restarts old.memory.node image node node.state).0 e.1) × (e.0 ≡ old)
+
+-- what a node answers of its stored records, where it shows nodes so: whether a pair is pending, the message under a name, the
+-- log, and how many messages it has broadcast
+abbrev pub Holds : (Node → Type 0) → Label → Content → Bool → Type 0
+Holds Shows x m result = (node : Node) → Shows node → result ≡ has_pair (pend node.records) x m
+
+abbrev pub FindsMessage : (Node → Type 0) → Label → Option Content → Type 0
+FindsMessage Shows x result = (node : Node) → Shows node → result ≡ message_of (pend node.records) x
+
+abbrev pub TellsLog : (Node → Type 0) → List Label → Type 0
+TellsLog Shows result = (node : Node) → Shows node → result ≡ log node.records
+
+abbrev pub CountsOwn : (Node → Type 0) → ℕ → Type 0
+CountsOwn Shows result = (node : Node) → Shows node → result ≡ length node.broadcast

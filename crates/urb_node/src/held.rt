@@ -1,5 +1,9 @@
 //! What a node holds in memory in each of its states.
 
+ghost use Rattle.std.specs.Prelude.{◌≡◌, length, true};
+ghost use Rattle.urb_names.specs.Cyclic.{are_rising};
+ghost use Rattle.urb_names.specs.Pairs.{own};
+
 use std::alloc::{Allocator, Global};
 use urb_fifo::Fifo;
 use urb_majority::Acks;
@@ -19,4 +23,15 @@ pub(crate) struct Held<A: Allocator = Global> {
     pub(crate) acks: Acks<A>,
     pub(crate) fifo: Fifo<A>,
     pub(crate) resend: Resend,
+}
+
+impl<A: Allocator + Copy> Held<A> {
+    /// How many messages of the node's own are stored.
+    pub(crate) fn own_len(&self) -> u32
+        ensures value { result ≡ length (own self.now.pending.node self.now.pending.pairs) }
+        ensures rising { are_rising self.now.pending.pairs ≡ true }
+    {
+        self.pending.limits();
+        self.pending.own_len()
+    }
 }

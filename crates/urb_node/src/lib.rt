@@ -6,6 +6,7 @@ mod down;
 mod found;
 mod held;
 pub mod laws;
+mod queries;
 mod ready;
 mod step;
 mod storing;
