@@ -1,6 +1,7 @@
 //! Release by number: the certified names, and the log that they deliver.
 
 ghost use Rattle.std.specs.Prelude.{◌≡◌, ℕ, suc, ◌<◌, ◌≤◌, ◌+◌, ◌-◌, ◌*◌, ◌^◌, ◌==◌, true, false, [], ◌∷◌, ◌++◌, None, Some, map, length, count_by, vec_len, vec_capacity, List, IsOk, IfOk, OnOk, OnErr};
+ghost use Rattle.std.specs.Bool.{Decides};
 ghost use Rattle.std.specs.List.{prefix_len};
 ghost use Rattle.urb_names.specs.Nodes.{numbers_from};
 ghost use Rattle.urb_names.specs.Names.{has_name, name, name_lt};
@@ -70,6 +71,12 @@ fn reserved_for(reserved: Option<Name>, name: Name) -> Option<Name>
         Some(kept) => if kept == name { Some(kept) } else { None },
         None => None,
     }
+}
+
+fn are_same(first: &[Name], second: &[Name]) -> bool
+    ensures { Decides result (first.now ≡ second.now) }
+{
+    first == second
 }
 
 fn is_of(name: &Name, sender: NodeId) -> bool
@@ -168,6 +175,23 @@ impl<A: Allocator + Copy> Fifo<A> {
         ensures most { result ≤ self.now.limits.cap }
     {
         count_of(&self.log, sender) as u32
+    }
+
+    /// The same names certified and released, with no room reserved. Its memory comes from `alloc`.
+    pub fn copy(&self, alloc: A) -> Result<Fifo<A>, NoMemory>
+        ensures { IfOk result (λ copy. copy ≡ record self.now { reserved = None }) }
+    {
+        let mut copy = Fifo::new(alloc, self.config);
+        copy.certified.extend_from_slice(&self.certified)?;
+        copy.log.extend_from_slice(&self.log)?;
+        Ok(copy)
+    }
+
+    /// Whether both have the same names certified, and have released the same log.
+    pub fn is_same(&self, other: &Fifo<A>) -> bool
+        ensures { Decides result ((self.now.certified ≡ other.now.certified) × (self.now.log ≡ other.now.log)) }
+    {
+        are_same(&self.certified, &other.certified) && are_same(&self.log, &other.log)
     }
 
     // The number behind which names of a certificate's sender would be released by it, and the last that would be.

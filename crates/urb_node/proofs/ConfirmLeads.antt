@@ -22,7 +22,7 @@ use Rattle.urb_node.specs.Values.{Memory, Holding, ShowsReady, draft_of}
 use Rattle.urb_node.proofs.RecordOutcomes.{IsFirst, IsReleased, commit-says, same_limits, told_of}
 
 -- a certified name is pending, so one that is not pending is not certified
-first_held : {A : Type 0} (h : Held A) (r : Entry) → IsHeld h → IsNextHeld h r → IsFirst (memory_of h) r
+pub first_held : {A : Type 0} (h : Held A) (r : Entry) → IsHeld h → IsNextHeld h r → IsFirst (memory_of h) r
 first_held h (Pend x m) k next = tt
 first_held h (PendCert x m) k next = ⊎_elim (λ e. absurd (false≢true (sym (gone (none_found _ free)) ∙ k.pending x e))) (λ e. e) (cases_Bool (has_name h.acks.certified x))
   where
@@ -35,7 +35,7 @@ first_held h (Cert x) k next =
     let parts = and_parts (in_range h.config x) (is_some (message_of h.pending.pairs x) && not (has_name h.acks.certified x)) next.new in
     not-true (has_name h.acks.certified x) (and_parts (is_some (message_of h.pending.pairs x)) (not (has_name h.acks.certified x)) parts.1).1
 
-released_held : {A : Type 0} (h : Held A) → IsHeld h → IsDelivery h.fifo → IsReleased (memory_of h)
+pub released_held : {A : Type 0} (h : Held A) → IsHeld h → IsDelivery h.fifo → IsReleased (memory_of h)
 released_held h k d =
     record {
       certificates = d.released.0;

@@ -5,6 +5,7 @@ use Rattle.std.proofs.lemmas.Bool.{false≢true, or_left, or_right, or_cases, an
 use Rattle.std.proofs.lemmas.List.Edits.{length-insert}
 use Rattle.std.proofs.lemmas.List.Sums.{prefix_len-le-length}
 use Rattle.std.specs.List.{prefix_len}
+use Rattle.std.specs.Option.{ForSome}
 use Rattle.urb_names.specs.declared.refusal.Refusal.TheVariants as refusal
 use Rattle.urb_names.specs.Naming.{Label, Content}
 use Rattle.urb_names.specs.Names.{has_name, name_lt, same_name, same_message}
@@ -106,7 +107,7 @@ fifo-certified d x = at (has_name d.certified x)
     at false = (refl, refl)
 
 -- a name among those with one more is that one, or was there
-with-cases : (names : List Label) (x y : Label) → has_name (certified_with names x) y ≡ true → (has_name names y ≡ true) ⊎ (same_name x y ≡ true)
+pub with-cases : (names : List Label) (x y : Label) → has_name (certified_with names x) y ≡ true → (has_name names y ≡ true) ⊎ (same_name x y ≡ true)
 with-cases names x y = at (has_name names x)
   where
     at : (b : Bool) → has_name (if b then names else placed name_lt names x) y ≡ true → (has_name names y ≡ true) ⊎ (same_name x y ≡ true)
@@ -180,10 +181,10 @@ crashes-storing h = (
       × ShowsDown (record { memory = forgetful h.memory; doubt = Some h.entry }) (if is_down state then refuses node refusal.Down else goes_down h.memory.node node).1) s.state (refl, down),
 )
 
--- the layers once their acknowledgements are forgotten: the node is down, and the record that it held is in doubt
-pub fallen-kept : {A : Type 0} (h : Held A) (acks : AckSet) (entry : Entry) → IsHeld h → IsNextHeld h entry → acks ≡ record h.acks { counted = []; reserved = None } → IsFallen (record h { acks = acks }) (Some entry)
-fallen-kept h acks entry k next e =
-    subst (λ (a : AckSet). IsFallen (record h { acks = a }) (Some entry)) (sym e)
+-- the layers once their acknowledgements are forgotten: the node is down, and a record may be in doubt
+pub down-kept : {A : Type 0} (h : Held A) (acks : AckSet) (doubt : Option Entry) → IsHeld h → ForSome doubt (IsNextHeld h) → acks ≡ record h.acks { counted = []; reserved = None } → IsFallen (record h { acks = acks }) doubt
+down-kept h acks doubt k next e =
+    subst (λ (a : AckSet). IsFallen (record h { acks = a }) doubt) (sym e)
     (record {
       held = record {
         node = k.node;
@@ -198,8 +199,12 @@ fallen-kept h acks entry k next e =
         count = k.count;
       };
       uncounted = refl;
-      doubtful = λ r is. (let same : entry ≡ r = cc in subst (λ (x : Entry). IsNextHeld h x) same next);
+      doubtful = next;
     })
+
+-- and that is the record that it held
+pub fallen-kept : {A : Type 0} (h : Held A) (acks : AckSet) (entry : Entry) → IsHeld h → IsNextHeld h entry → acks ≡ record h.acks { counted = []; reserved = None } → IsFallen (record h { acks = acks }) (Some entry)
+fallen-kept h acks entry k next e = down-kept h acks (Some entry) k (λ r is. (let same : entry ≡ r = cc in subst (λ (x : Entry). IsNextHeld h x) same next)) e
 
 pub fail-leads : {A : Type 0} (h : Held A) (acks : AckSet) (entry : Entry) (cause : Option ℕ) → acks ≡ record h.acks { counted = []; reserved = None }
     → Fails (record { memory = memory_of h; entry = entry; cause = cause }) (record { memory = memory_of (record h { acks = acks }); doubt = Some entry })

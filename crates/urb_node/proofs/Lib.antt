@@ -13,3 +13,7 @@ pub mod Calls
 pub mod JoinedLayers
 pub mod ConfirmLeads
 pub mod Telling
+pub mod ImagePairs
+pub mod ImageNames
+pub mod Verdicts
+pub mod RestartLeads

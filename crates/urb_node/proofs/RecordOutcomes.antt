@@ -94,7 +94,7 @@ record-more state new a (Cert x) cause h f =
       count = refl;
     }
 
-record-acks : (a : Memory) (r : Entry) (cause : Option ℕ) (y : Label) (z : ℕ) → acked (with_record a r cause).acks y z ≡ acked (acks_after a.node r cause a.acks) y z
+pub record-acks : (a : Memory) (r : Entry) (cause : Option ℕ) (y : Label) (z : ℕ) → acked (with_record a r cause).acks y z ≡ acked (acks_after a.node r cause a.acks) y z
 record-acks a (Pend x m) None y z = counted-with a.acks x a.node y z
 record-acks a (PendCert x m) None y z = counted-with a.acks x a.node y z
 record-acks a (Cert x) cause y z = refl

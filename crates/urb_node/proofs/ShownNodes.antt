@@ -119,7 +119,7 @@ from_in : (ps qs : List (Label × Content)) → ((x : Label) (m : Content) → h
 from_in [] qs h = refl
 from_in (p ∷ ps) qs h = and_from (has_pair qs p.0 p.1) _ (h p.0 p.1 (has_pair-head p ps)) (from_in ps qs (λ x m k. h x m (has_pair-behind p ps x m k)))
 
-pairs-told : (xs ps qs : List (Label × Content)) → ((x : Label) (m : Content) → has_pair ps x m ≡ has_pair qs x m) → same_pairs xs ps ≡ same_pairs xs qs
+pub pairs-told : (xs ps qs : List (Label × Content)) → ((x : Label) (m : Content) → has_pair ps x m ≡ has_pair qs x m) → same_pairs xs ps ≡ same_pairs xs qs
 pairs-told xs ps qs h =
     both_ways (same_pairs xs ps) (same_pairs xs qs) (λ e. to ps qs h e) (λ e. to qs ps (λ x m. sym (h x m)) e)
   where
@@ -128,13 +128,13 @@ pairs-told xs ps qs h =
         let parts = and_parts (list_all (λ pair. has_pair ps pair.0 pair.1) xs) (list_all (λ pair. has_pair xs pair.0 pair.1) ps) e in
         and_from (list_all (λ pair. has_pair qs pair.0 pair.1) xs) _ (from_in xs qs (λ x m k. sym (h x m) ∙ all_in xs ps parts.0 x m k)) (from_in qs xs (λ x m k. all_in ps xs parts.1 x m (h x m ∙ k)))
 
-all_named : (xs ys : List Label) → list_all (has_name ys) xs ≡ true → (x : Label) → has_name xs x ≡ true → has_name ys x ≡ true
+pub all_named : (xs ys : List Label) → list_all (has_name ys) xs ≡ true → (x : Label) → has_name xs x ≡ true → has_name ys x ≡ true
 all_named [] ys h x k = absurd (false≢true k)
 all_named (y ∷ xs) ys h x k =
     let parts = and_parts (has_name ys y) (list_all (has_name ys) xs) h in
     ⊎_elim (λ e. subst (λ (z : Label). has_name ys z ≡ true) (same_name-true y x e) parts.0) (λ e. all_named xs ys parts.1 x e) (or_cases (same_name y x) (has_name xs x) k)
 
-from_named : (xs ys : List Label) → ((x : Label) → has_name xs x ≡ true → has_name ys x ≡ true) → list_all (has_name ys) xs ≡ true
+pub from_named : (xs ys : List Label) → ((x : Label) → has_name xs x ≡ true → has_name ys x ≡ true) → list_all (has_name ys) xs ≡ true
 from_named [] ys h = refl
 from_named (x ∷ xs) ys h = and_from (has_name ys x) _ (h x (or_left (same_name x x) _ (same_name-same x))) (from_named xs ys (λ y k. h y (or_right (same_name x y) _ k)))
 

@@ -120,7 +120,7 @@ arrive-counts a q x m first pending open_ = ap (pending_outcome a q x m) pending
 paired : Content → List Label → List (Label × Content)
 paired m names = map (λ x. (x, m)) names
 
-paired_rising : (m : Content) (names : List Label) → is_rising name_lt names ≡ true → is_rising (λ (p : Label × Content) (q : Label × Content). name_lt p.0 q.0) (map (λ x. (x, m)) names) ≡ true
+pub paired_rising : (m : Content) (names : List Label) → is_rising name_lt names ≡ true → is_rising (λ (p : Label × Content) (q : Label × Content). name_lt p.0 q.0) (map (λ x. (x, m)) names) ≡ true
 paired_rising m [] h = refl
 paired_rising m (x ∷ names) h = let parts = and_parts (list_all (name_lt x) names) (is_rising name_lt names) h in and_from (list_all (λ (q : Label × Content). name_lt x q.0) (map (λ y. (y, m)) names)) _ (all names parts.0) (paired_rising m names parts.1)
   where

@@ -46,3 +46,8 @@ abbrev pub with_record : Memory → Entry → Option ℕ → Memory
 with_record a (Pend x m) cause = with_pair a x m cause
 with_record a (PendCert x m) cause = with_certificate (with_pair a x m cause) x
 with_record a (Cert x) cause = with_certificate (record a { count = suc a.count }) x
+
+-- the memory once a doubtful record counts as stored, where there is one
+abbrev pub with_doubtful : Memory → Option Entry → Memory
+with_doubtful a None = a
+with_doubtful a (Some r) = with_record a r None

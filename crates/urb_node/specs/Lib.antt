@@ -9,3 +9,4 @@ pub mod Outcomes
 pub mod Held
 pub mod Found
 pub mod Moves
+pub mod Judging

@@ -1,10 +1,20 @@
 //! A node that is down.
 
+ghost use Rattle.std.specs.Prelude.{◌≡◌, [], None, Option};
+ghost use Rattle.std.specs.Option.{ForSome};
+ghost use Rattle.urb_node.specs.Held.{memory_of, HasRoom, IsHeld, IsNextHeld};
+ghost use Rattle.urb_node.specs.Layers.{with_doubtful};
+ghost use Rattle.urb_node.specs.Moves.{Restarts};
+
+use crate::Ready;
 use crate::held::Held;
+use crate::judging::{Verdict, judge};
+use crate::storing::stored;
 use std::alloc::{Allocator, Global};
 use std::marker::Model;
-use urb_names::Message;
+use urb_names::{Message, NoMemory, Refusal};
 use urb_stable::Record;
+use urb_stubborn::Resend;
 
 /// A node that is down: it takes nothing until it is restarted with what its storage holds.
 #[derive(Drop)]
@@ -23,4 +33,66 @@ impl<A: Allocator> Model for Down<A> {
     ghost view = { λ a. record { memory = memory_of a.held; doubt = a.doubt } };
 
     ghost invariant = { λ a. IsFallen a.held a.doubt };
+}
+
+// A node goes down: what it has counted is lost, and a record may be in doubt.
+pub(crate) fn fallen<A: Allocator + Copy>(
+    mut held: Held<A>,
+    doubt: Option<Record<Message<A>>>,
+) -> Down<A>
+    requires kept { IsHeld held }
+    requires next { ForSome doubt (IsNextHeld held) }
+    ensures { result ≡ record { memory = record (memory_of held) { acks = [] }; doubt = doubt } }
+{
+    held.acks.forget();
+    Down { held, doubt }
+}
+
+// It comes up with what it holds: its resends begin anew.
+fn risen<A: Allocator + Copy>(mut held: Held<A>) -> Ready<A>
+    requires { IsHeld held }
+    ensures { result ≡ record (memory_of held) { cursor = None } }
+{
+    held.resend = Resend::new(held.config, held.node);
+    Ready { held }
+}
+
+// What it holds with the doubtful record, which counts as stored.
+fn with_doubtful<A: Allocator + Copy>(held: Held<A>, doubt: Option<Record<Message<A>>>) -> Held<A>
+    requires kept { IsHeld held }
+    requires next { ForSome doubt (IsNextHeld held) }
+    requires room { ForSome doubt (HasRoom held) }
+    ensures kept { IsHeld result }
+    ensures memory { memory_of result ≡ with_doubtful (memory_of held) doubt }
+{
+    match doubt {
+        Some(record) => stored(held, record, None).0,
+        None => held,
+    }
+}
+
+impl<A: Allocator + Copy> Down<A> {
+    /// The node comes up again with its image: the recovery of the book's algorithm (section 3.7), which retrieves
+    /// `pending` and `delivered`. The image has to say what the node had stored, or that with the record in doubt, which
+    /// then counts as stored: else it is another node's, or storage has lost or made up a record (`BadImage`). Nothing is
+    /// sent. Refused, the node stays down as it was; `NoMemory` comes before the image is judged.
+    pub fn restart(
+        self,
+        alloc: A,
+        image: Vec<Record<Message<A>>, A>,
+    ) -> Result<Ready<A>, (Down<A>, Refusal)>
+        ensures { Restarts self image.items result }
+    {
+        let Down { mut held, doubt } = self;
+        held.pending.limits();
+        held.fifo.limits();
+        match judge(&mut held, alloc, &doubt, &image) {
+            Ok(verdict) => match verdict {
+                Verdict::Stored => Ok(risen(held)),
+                Verdict::WithDoubtful => Ok(risen(with_doubtful(held, doubt))),
+                Verdict::Neither => Err((fallen(held, doubt), Refusal::BadImage)),
+            },
+            Err(NoMemory) => Err((fallen(held, doubt), Refusal::NoMemory)),
+        }
+    }
 }

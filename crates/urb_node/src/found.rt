@@ -41,7 +41,7 @@ pub(crate) enum Found<A: Allocator = Global> {
 }
 
 // Makes room for all that a pending record of this name will add.
-fn make_room<A: Allocator + Copy>(
+pub(crate) fn make_room<A: Allocator + Copy>(
     held: &mut Held<A>,
     name: Name,
     client: ClientId,

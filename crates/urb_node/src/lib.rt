@@ -5,6 +5,7 @@ mod answer;
 mod down;
 mod found;
 mod held;
+mod judging;
 pub mod laws;
 mod queries;
 mod ready;

@@ -93,7 +93,7 @@ fn join_certificate<A: Allocator + Copy>(held: &mut Held<A>, name: Name) -> u32
 }
 
 // What a node holds once its record is stored, and how many names are released by it.
-fn stored<A: Allocator + Copy>(
+pub(crate) fn stored<A: Allocator + Copy>(
     mut held: Held<A>,
     entry: Record<Message<A>>,
     cause: Option<NodeId>,

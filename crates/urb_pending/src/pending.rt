@@ -1,6 +1,6 @@
 //! The set of pending pairs, each a name with its message.
 
-ghost use Rattle.std.specs.Prelude.{◌≡◌, ◌≤◌, ◌+◌, ◌*◌, ◌&&◌, ◌==◌, [], suc, length, count_by, find, not, IsTrue, IsOk, OnOk, OnErr, IfErr, None, Some, option_map};
+ghost use Rattle.std.specs.Prelude.{◌≡◌, ◌≤◌, ◌+◌, ◌*◌, ◌&&◌, ◌==◌, [], suc, length, count_by, find, not, IsTrue, IsOk, OnOk, OnErr, IfErr, None, Some, option_map, slice_get};
 ghost use Rattle.std.specs.List.{list_any, prefix_len};
 ghost use Rattle.urb_names.specs.Names.{name_lt, same_name, same_message};
 ghost use Rattle.urb_names.specs.Pairs.{has_pair, message_of, own, is_numbered, next_number};
@@ -98,6 +98,14 @@ impl<A: Allocator + Copy> Pending<A> {
             }
         }
         None
+    }
+
+    /// The pending message at a place in the order of names, from 0, with its name.
+    pub fn get(&self, index: usize) -> Option<(Name, &Message<A>)>
+        ensures { option_map (λ pair. (pair.0, pair.1.now)) result ≡ slice_get self.now.pairs index }
+    {
+        let pair = self.pairs.get(index)?;
+        Some((pair.0, &pair.1))
     }
 
     /// How many messages are pending.

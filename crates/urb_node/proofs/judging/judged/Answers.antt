@@ -1,0 +1,14 @@
+use Rattle.std.proofs.Common.{◌≤◌, subst, sym}
+use Rattle.urb_names.specs.Naming.{Limits}
+use Rattle.urb_stable.specs.Entries.{name_of}
+use Rattle.urb_node.specs.Held.{memory_of}
+use Rattle.urb_node.proofs.Verdicts.{next_range, strange_is_neither}
+use Rattle.urb_node.proofs.judging.judged.Goals as goal
+
+pub joined_with-requires : goal.joined_with-requires
+joined_with-requires g c r there = subst (λ (size : Limits). ((name_of r).sender ≤ size.n) × ((name_of r).seq ≤ size.cap)) (sym c.requires.kept.fifo_limits) (next_range (memory_of c.args.held.now) r (c.requires.next r there))
+
+pub returns : goal.returns
+returns g c =
+    let strange = c.in_ok-released.ensures.strange c.in-None.is in
+    strange_is_neither c.args.held.now c.args.doubt.now c.args.image.now strange.0 c.requires.kept c.limits.ensures c.requires.next strange.1 strange.2

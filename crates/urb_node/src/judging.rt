@@ -1,0 +1,470 @@
+//! Whether an image says what a node has stored, with or without the record that is in doubt.
+
+ghost use Rattle.std.specs.Prelude.{◌≡◌, ◌≤◌, ◌&&◌, ◌||◌, ℕ, true, false, List, [], ◌∷◌, ◌++◌, reverse, IfOk, IfSome, OnOk, None, Some};
+ghost use Rattle.std.specs.Bool.{MatchBool};
+ghost use Rattle.std.specs.List.{list_all};
+ghost use Rattle.std.specs.Option.{ForSome};
+ghost use Rattle.urb_names.specs.Acknowledged.{acked};
+ghost use Rattle.urb_names.specs.Naming.{Label};
+ghost use Rattle.urb_names.specs.Pairs.{has_pair};
+ghost use Rattle.urb_names.specs.Names.{has_name};
+ghost use Rattle.urb_fifo.specs.Delivery.{IsReleaseOf};
+ghost use Rattle.urb_stable.specs.Fitting.{in_range};
+ghost use Rattle.urb_stable.specs.Entries.{name_of};
+ghost use Rattle.urb_stable.specs.Log.{log};
+ghost use Rattle.urb_stable.specs.Records.{cert, pend};
+ghost use Rattle.urb_node.specs.Held.{memory_of, HasRoom, IsFallen, IsHeld, IsNextHeld};
+ghost use Rattle.urb_node.specs.Judging.{certified_by, delivered_by, pairs_with, CountsItself, IsOther, IsOtherThan, IsVerdict, Says, SaysWith};
+ghost use Rattle.urb_node.specs.Part.{self_acks};
+ghost use Rattle.urb_node.specs.Steps.{same_list, same_names, same_pairs, tells};
+
+use crate::found::{make_room, note};
+use crate::held::Held;
+use std::alloc::Allocator;
+use urb_fifo::Fifo;
+use urb_majority::Acks;
+use urb_names::{Config, Message, Name, NoMemory, NodeId};
+use urb_pending::Pending;
+use urb_stable::Record;
+
+/// What an image says.
+#[derive(Clone, Copy, Debug, PartialEq, Eq)]
+pub(crate) enum Verdict {
+    /// What is stored.
+    Stored,
+    /// What is stored, and the record in doubt.
+    WithDoubtful,
+    /// Neither.
+    Neither,
+}
+
+// ---- pairs
+
+// Whether a record is of this pair.
+fn is_of_pair<A: Allocator>(record: &Record<Message<A>>, name: Name, message: &Message<A>) -> bool
+    ensures { result ≡ has_pair (pend (record.now ∷ [])) name message.now }
+{
+    match record {
+        Record::Pend(own, other) | Record::PendCert(own, other) => {
+            *own == name && other.is_same(message)
+        }
+        Record::Cert(_) => false,
+    }
+}
+
+// Whether an image has a record of this pair.
+#[tactic(auto, using(crate::proofs::ImagePairs::record_has))]
+fn has_record<A: Allocator>(image: &[Record<Message<A>>], name: Name, message: &Message<A>) -> bool
+    ensures { result ≡ has_pair (pend image.now) name message.now }
+{
+    for record in image {
+        if is_of_pair(record, name, message) {
+            return true;
+        }
+    }
+    false
+}
+
+// Whether the pair is pending, or is the doubtful record's.
+#[tactic(auto, using(crate::proofs::ImagePairs::pair_with))]
+fn is_known<A: Allocator + Copy>(
+    pending: &Pending<A>,
+    doubt: &Option<Record<Message<A>>>,
+    name: Name,
+    message: &Message<A>,
+) -> bool
+    ensures { result ≡ has_pair (pairs_with pending.now.pairs doubt.now) name message.now }
+{
+    match doubt {
+        Some(record) => pending.has(&name, message) || is_of_pair(record, name, message),
+        None => pending.has(&name, message),
+    }
+}
+
+// Whether a record of the image has no pair, or a known one.
+fn is_record_known<A: Allocator + Copy>(
+    record: &Record<Message<A>>,
+    pending: &Pending<A>,
+    doubt: &Option<Record<Message<A>>>,
+) -> bool
+    ensures { result ≡ list_all (λ pair. has_pair (pairs_with pending.now.pairs doubt.now) pair.0 pair.1) (pend (record.now ∷ [])) }
+{
+    match record {
+        Record::Pend(name, message) | Record::PendCert(name, message) => {
+            is_known(pending, doubt, *name, message)
+        }
+        Record::Cert(_) => true,
+    }
+}
+
+// Whether every pair of the image is known.
+#[tactic(auto, using(crate::proofs::ImagePairs::record_all))]
+fn are_known<A: Allocator + Copy>(
+    image: &[Record<Message<A>>],
+    pending: &Pending<A>,
+    doubt: &Option<Record<Message<A>>>,
+) -> bool
+    ensures { result ≡ list_all (λ pair. has_pair (pairs_with pending.now.pairs doubt.now) pair.0 pair.1) (pend image.now) }
+{
+    for record in image {
+        if !is_record_known(record, pending, doubt) {
+            return false;
+        }
+    }
+    true
+}
+
+// Whether a record has no pair, or one that the image has.
+fn is_record_in<A: Allocator>(record: &Record<Message<A>>, image: &[Record<Message<A>>]) -> bool
+    ensures { result ≡ list_all (λ pair. has_pair (pend image.now) pair.0 pair.1) (pend (record.now ∷ [])) }
+{
+    match record {
+        Record::Pend(name, message) | Record::PendCert(name, message) => {
+            has_record(image, *name, message)
+        }
+        Record::Cert(_) => true,
+    }
+}
+
+// Whether the image has every pending pair.
+fn has_pending<A: Allocator + Copy>(image: &[Record<Message<A>>], pending: &Pending<A>) -> bool
+    ensures { result ≡ list_all (λ pair. has_pair (pend image.now) pair.0 pair.1) pending.now.pairs }
+{
+    for index in 0..pending.count() as usize {
+        if let Some((name, message)) = pending.get(index) {
+            if !has_record(image, name, message) {
+                return false;
+            }
+        }
+    }
+    true
+}
+
+// Whether the image has every known pair.
+#[tactic(auto, using(crate::proofs::ImagePairs::all_with))]
+fn has_known<A: Allocator + Copy>(
+    image: &[Record<Message<A>>],
+    pending: &Pending<A>,
+    doubt: &Option<Record<Message<A>>>,
+) -> bool
+    ensures { result ≡ list_all (λ pair. has_pair (pend image.now) pair.0 pair.1) (pairs_with pending.now.pairs doubt.now) }
+{
+    match doubt {
+        Some(record) => has_pending(image, pending) && is_record_in(record, image),
+        None => has_pending(image, pending),
+    }
+}
+
+// Whether the image has the known pairs, and no others.
+fn has_same_pairs<A: Allocator + Copy>(
+    image: &[Record<Message<A>>],
+    pending: &Pending<A>,
+    doubt: &Option<Record<Message<A>>>,
+) -> bool
+    ensures { result ≡ same_pairs (pend image.now) (pairs_with pending.now.pairs doubt.now) }
+{
+    are_known(image, pending, doubt) && has_known(image, pending, doubt)
+}
+
+// ---- certificates
+
+// Whether a group of these limits may have the name.
+fn is_in_range(config: Config, name: Name) -> bool
+    ensures { result ≡ in_range config name }
+{
+    name.sender.number() <= config.n() && name.seq <= config.cap()
+}
+
+// Certifies the name of a record that certifies one. False where the group can't have that name.
+fn certify_record<A: Allocator + Copy>(
+    fifo: &mut Fifo<A>,
+    config: Config,
+    record: &Record<Message<A>>,
+) -> Result<bool, NoMemory>
+    requires limits { fifo.old.limits ≡ config }
+    ensures limits { fifo.new.limits ≡ config }
+    ensures released { IfOk result (λ fits. fits ≡ true → (older : List Label) → IsReleaseOf older fifo.old → IsReleaseOf (cert (record.now ∷ []) ++ older) fifo.new) }
+    ensures strange { IfOk result (λ fits. fits ≡ false → (x : Label) × (cert (record.now ∷ []) ≡ x ∷ []) × (in_range config x ≡ false)) }
+{
+    match record {
+        Record::Pend(_, _) => Ok(true),
+        Record::PendCert(name, _) | Record::Cert(name) => {
+            if !is_in_range(config, *name) {
+                return Ok(false);
+            }
+            fifo.certify(*name)?;
+            Ok(true)
+        }
+    }
+}
+
+// What the certificates of an image release. None where the group can't have one of them.
+fn released_by<A: Allocator + Copy>(
+    alloc: A,
+    config: Config,
+    image: &[Record<Message<A>>],
+) -> Result<Option<Fifo<A>>, NoMemory>
+    ensures released { IfOk result (λ found. IfSome found (IsReleaseOf (reverse (cert image.now)))) }
+    ensures strange { IfOk result (λ found. found ≡ None → (x : Label) × (has_name (cert image.now) x ≡ true) × (in_range config x ≡ false)) }
+{
+    let mut fifo = Fifo::new(alloc, config);
+    for record in image {
+        if !certify_record(&mut fifo, config, record)? {
+            return Ok(None);
+        }
+    }
+    Ok(Some(fifo))
+}
+
+// Whether the image, by what its certificates release, has the same names certified and delivered.
+fn has_same_names<A: Allocator + Copy>(
+    image: &[Record<Message<A>>],
+    released: &Fifo<A>,
+    fifo: &Fifo<A>,
+) -> bool
+    requires { IsReleaseOf (reverse (cert image.now)) released.now }
+    ensures { result ≡ (same_names (cert image.now) fifo.now.certified && same_list (log image.now) fifo.now.log) }
+{
+    released.limits();
+    fifo.limits();
+    released.is_same(fifo)
+}
+
+// Whether the image says what is known, of so many records.
+#[tactic(auto, using(crate::proofs::ImageNames::parts_tell))]
+fn says<A: Allocator + Copy>(
+    image: &[Record<Message<A>>],
+    released: &Fifo<A>,
+    pending: &Pending<A>,
+    fifo: &Fifo<A>,
+    doubt: &Option<Record<Message<A>>>,
+    count: u32,
+) -> bool
+    requires { IsReleaseOf (reverse (cert image.now)) released.now }
+    ensures { result ≡ tells image.now (pairs_with pending.now.pairs doubt.now) fifo.now.certified fifo.now.log count }
+{
+    let pairs = has_same_pairs(image, pending, doubt);
+    let names = has_same_names(image, released, fifo);
+    pairs && names && image.len() == count as usize
+}
+
+// ---- with the doubtful record
+
+// Certifies the name of a record that certifies one.
+fn certify_doubtful<A: Allocator + Copy>(
+    fifo: &mut Fifo<A>,
+    record: &Record<Message<A>>,
+) -> Result<(), NoMemory>
+    requires sender { (name_of record.now).sender ≤ fifo.old.limits.n }
+    requires seq { (name_of record.now).seq ≤ fifo.old.limits.cap }
+    ensures { OnOk result ((fifo.new.certified ≡ certified_by fifo.old.certified (Some record.now)) × (fifo.new.log ≡ delivered_by fifo.old.log fifo.old.certified (Some record.now))) }
+{
+    match record {
+        Record::Pend(_, _) => Ok(()),
+        Record::PendCert(name, _) | Record::Cert(name) => {
+            fifo.certify(*name)?;
+            Ok(())
+        }
+    }
+}
+
+// The certificates and the log of a node, with the doubtful record's.
+fn joined_with<A: Allocator + Copy>(
+    alloc: A,
+    fifo: &Fifo<A>,
+    doubt: &Option<Record<Message<A>>>,
+) -> Result<Fifo<A>, NoMemory>
+    requires { ForSome doubt.now (λ r. ((name_of r).sender ≤ fifo.now.limits.n) × ((name_of r).seq ≤ fifo.now.limits.cap)) }
+    ensures { IfOk result (λ joined. (joined.certified ≡ certified_by fifo.now.certified doubt.now) × (joined.log ≡ delivered_by fifo.now.log fifo.now.certified doubt.now)) }
+{
+    let mut joined = fifo.copy(alloc)?;
+    if let Some(record) = doubt {
+        certify_doubtful(&mut joined, record)?;
+    }
+    Ok(joined)
+}
+
+// ---- acknowledgements
+
+// Counts the node for each of its pending names.
+fn count_itself<A: Allocator + Copy>(
+    acks: &mut Acks<A>,
+    pending: &Pending<A>,
+    node: NodeId,
+) -> Result<(), NoMemory>
+    ensures same { (acks.new.limits ≡ acks.old.limits) × (acks.new.certified ≡ acks.old.certified) }
+    ensures counted { OnOk result ((x : Label) (q : ℕ) → acked acks.new.counted x q ≡ (acked (self_acks node pending.now.pairs) x q || acked acks.old.counted x q)) }
+{
+    for index in 0..pending.count() as usize {
+        if let Some((name, _message)) = pending.get(index) {
+            note(acks, name, node)?;
+        }
+    }
+    Ok(())
+}
+
+// Makes room for all that a record will add.
+fn make_room_for_record<A: Allocator + Copy>(
+    held: &mut Held<A>,
+    record: &Record<Message<A>>,
+) -> Result<(), NoMemory>
+    requires kept { IsHeld held.old }
+    requires next { IsNextHeld held.old record.now }
+    ensures kept { IsHeld held.new }
+    ensures same { memory_of held.new ≡ memory_of held.old }
+    ensures room { OnOk result (HasRoom held.new record.now) }
+{
+    match record {
+        Record::Pend(name, message) | Record::PendCert(name, message) => {
+            make_room(held, *name, message.client())
+        }
+        Record::Cert(name) => {
+            held.acks.reserve(*name)?;
+            held.fifo.reserve(*name)?;
+            Ok(())
+        }
+    }
+}
+
+// Makes room for all that the doubtful record will add, where it counts as stored.
+fn make_room_for<A: Allocator + Copy>(
+    held: &mut Held<A>,
+    doubt: &Option<Record<Message<A>>>,
+) -> Result<(), NoMemory>
+    requires kept { IsHeld held.old }
+    requires next { ForSome doubt.now (IsNextHeld held.old) }
+    ensures kept { IsHeld held.new }
+    ensures same { memory_of held.new ≡ memory_of held.old }
+    ensures room { OnOk result (ForSome doubt.now (HasRoom held.new)) }
+{
+    match doubt {
+        Some(record) => make_room_for_record(held, record),
+        None => Ok(()),
+    }
+}
+
+// Asks for all that a restart takes: the node is counted for its pending names, and there is room for what the doubtful
+// record will add.
+fn prepare<A: Allocator + Copy>(
+    held: &mut Held<A>,
+    doubt: &Option<Record<Message<A>>>,
+) -> Result<(), NoMemory>
+    requires fallen { IsFallen held.old doubt.now }
+    ensures kept { IsHeld held.new }
+    ensures same { memory_of held.new ≡ record (memory_of held.old) { acks = held.new.acks.counted } }
+    ensures next { ForSome doubt.now (IsNextHeld held.new) }
+    ensures counted { OnOk result (CountsItself (memory_of held.old) held.new.acks.counted) }
+    ensures room { OnOk result (ForSome doubt.now (HasRoom held.new)) }
+{
+    let node = held.node;
+    count_itself(&mut held.acks, &held.pending, node)?;
+    make_room_for(held, doubt)
+}
+
+// Whether an image, whose certificates release this, says what is stored.
+fn says_stored<A: Allocator + Copy>(
+    held: &Held<A>,
+    image: &[Record<Message<A>>],
+    released: &Fifo<A>,
+) -> bool
+    requires kept { IsHeld held.now }
+    requires released { IsReleaseOf (reverse (cert image.now)) released.now }
+    ensures { MatchBool result (Says image.now (memory_of held.now)) (IsOther image.now (memory_of held.now)) }
+{
+    says(
+        image,
+        released,
+        &held.pending,
+        &held.fifo,
+        &None,
+        held.stored,
+    )
+}
+
+// Whether it says what is stored and the doubtful record, which leads to these certificates and this log.
+fn says_joined<A: Allocator + Copy>(
+    held: &Held<A>,
+    doubt: &Option<Record<Message<A>>>,
+    image: &[Record<Message<A>>],
+    released: &Fifo<A>,
+    joined: &Fifo<A>,
+) -> bool
+    requires kept { IsHeld held.now }
+    requires released { IsReleaseOf (reverse (cert image.now)) released.now }
+    requires joined { (joined.now.certified ≡ certified_by held.now.fifo.certified doubt.now) × (joined.now.log ≡ delivered_by held.now.fifo.log held.now.fifo.certified doubt.now) }
+    ensures { MatchBool result (SaysWith image.now (memory_of held.now) doubt.now) (IsOtherThan image.now (memory_of held.now) doubt.now) }
+{
+    held.pending.limits();
+    held.fifo.limits();
+    match doubt {
+        Some(_) => says(
+            image,
+            released,
+            &held.pending,
+            joined,
+            doubt,
+            held.stored + 1,
+        ),
+        None => false,
+    }
+}
+
+// What an image says, whose certificates release this, where the doubtful record leads to that.
+fn verdict_of<A: Allocator + Copy>(
+    held: &Held<A>,
+    doubt: &Option<Record<Message<A>>>,
+    image: &[Record<Message<A>>],
+    released: &Fifo<A>,
+    joined: &Fifo<A>,
+) -> Verdict
+    requires kept { IsHeld held.now }
+    requires released { IsReleaseOf (reverse (cert image.now)) released.now }
+    requires joined { (joined.now.certified ≡ certified_by held.now.fifo.certified doubt.now) × (joined.now.log ≡ delivered_by held.now.fifo.log held.now.fifo.certified doubt.now) }
+    ensures { IsVerdict image.now (memory_of held.now) doubt.now result }
+{
+    if says_stored(held, image, released) {
+        Verdict::Stored
+    } else if says_joined(held, doubt, image, released, joined) {
+        Verdict::WithDoubtful
+    } else {
+        Verdict::Neither
+    }
+}
+
+// What an image says of what is held.
+fn judged<A: Allocator + Copy>(
+    held: &Held<A>,
+    alloc: A,
+    doubt: &Option<Record<Message<A>>>,
+    image: &[Record<Message<A>>],
+) -> Result<Verdict, NoMemory>
+    requires kept { IsHeld held.now }
+    requires next { ForSome doubt.now (IsNextHeld held.now) }
+    ensures { IfOk result (IsVerdict image.now (memory_of held.now) doubt.now) }
+{
+    held.fifo.limits();
+    let joined = joined_with(alloc, &held.fifo, doubt)?;
+    match released_by(alloc, held.config, image)? {
+        Some(released) => Ok(verdict_of(held, doubt, image, &released, &joined)),
+        None => Ok(Verdict::Neither),
+    }
+}
+
+/// What an image says of a node that is down. All that a restart takes is asked for before the image is judged.
+pub(crate) fn judge<A: Allocator + Copy>(
+    held: &mut Held<A>,
+    alloc: A,
+    doubt: &Option<Record<Message<A>>>,
+    image: &[Record<Message<A>>],
+) -> Result<Verdict, NoMemory>
+    requires fallen { IsFallen held.old doubt.now }
+    ensures kept { IsHeld held.new }
+    ensures same { memory_of held.new ≡ record (memory_of held.old) { acks = held.new.acks.counted } }
+    ensures next { ForSome doubt.now (IsNextHeld held.new) }
+    ensures verdict { IfOk result (IsVerdict image.now (memory_of held.old) doubt.now) }
+    ensures counted { OnOk result (CountsItself (memory_of held.old) held.new.acks.counted) }
+    ensures room { OnOk result (ForSome doubt.now (HasRoom held.new)) }
+{
+    prepare(held, doubt)?;
+    judged(held, alloc, doubt, image)
+}
