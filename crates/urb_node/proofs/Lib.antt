@@ -12,6 +12,7 @@ pub mod Wanted
 pub mod Calls
 pub mod JoinedLayers
 pub mod ConfirmLeads
+pub mod ReadRecords
 pub mod Telling
 pub mod ImagePairs
 pub mod ImageNames

@@ -5,7 +5,7 @@ ghost use Rattle.std.specs.Option.{ForSome};
 ghost use Rattle.urb_names.specs.Names.{has_name};
 ghost use Rattle.urb_names.specs.Pairs.{message_of};
 ghost use Rattle.urb_stable.specs.declared.record.Record.TheVariants.{Pend, PendCert};
-ghost use Rattle.urb_node.specs.Held.{memory_of, IsHeld, IsNextHeld};
+ghost use Rattle.urb_node.specs.Held.{memory_of, HasRoom, IsHeld, IsNextHeld};
 ghost use Rattle.urb_node.specs.Found.{Finds, IsFoundIn, IsWanted};
 ghost use Rattle.urb_node.specs.Layers.{counted_with};
 ghost use Rattle.urb_node.specs.Moves.{IsForNode};
@@ -41,7 +41,7 @@ pub(crate) enum Found<A: Allocator = Global> {
 }
 
 // Makes room for all that a pending record of this name will add.
-pub(crate) fn make_room<A: Allocator + Copy>(
+fn make_room<A: Allocator + Copy>(
     held: &mut Held<A>,
     name: Name,
     client: ClientId,
@@ -57,6 +57,29 @@ pub(crate) fn make_room<A: Allocator + Copy>(
     held.acks.reserve(name)?;
     held.fifo.reserve(name)?;
     Ok(())
+}
+
+/// Makes room for all that a record will add.
+pub(crate) fn make_room_for<A: Allocator + Copy>(
+    held: &mut Held<A>,
+    entry: &Record<Message<A>>,
+) -> Result<(), NoMemory>
+    requires kept { IsHeld held.old }
+    requires next { IsNextHeld held.old entry.now }
+    ensures kept { IsHeld held.new }
+    ensures same { memory_of held.new ≡ memory_of held.old }
+    ensures room { OnOk result (HasRoom held.new entry.now) }
+{
+    match entry {
+        Record::Pend(name, message) | Record::PendCert(name, message) => {
+            make_room(held, *name, message.client())
+        }
+        Record::Cert(name) => {
+            held.acks.reserve(*name)?;
+            held.fifo.reserve(*name)?;
+            Ok(())
+        }
+    }
 }
 
 // The record of a pending message, certified at once or not.

@@ -18,7 +18,7 @@ ghost use Rattle.urb_node.specs.Judging.{certified_by, delivered_by, pairs_with,
 ghost use Rattle.urb_node.specs.Part.{self_acks};
 ghost use Rattle.urb_node.specs.Steps.{same_list, same_names, same_pairs, tells};
 
-use crate::found::{make_room, note};
+use crate::found::{make_room_for, note};
 use crate::held::Held;
 use std::alloc::Allocator;
 use urb_fifo::Fifo;
@@ -303,31 +303,8 @@ fn count_itself<A: Allocator + Copy>(
     Ok(())
 }
 
-// Makes room for all that a record will add.
-fn make_room_for_record<A: Allocator + Copy>(
-    held: &mut Held<A>,
-    record: &Record<Message<A>>,
-) -> Result<(), NoMemory>
-    requires kept { IsHeld held.old }
-    requires next { IsNextHeld held.old record.now }
-    ensures kept { IsHeld held.new }
-    ensures same { memory_of held.new ≡ memory_of held.old }
-    ensures room { OnOk result (HasRoom held.new record.now) }
-{
-    match record {
-        Record::Pend(name, message) | Record::PendCert(name, message) => {
-            make_room(held, *name, message.client())
-        }
-        Record::Cert(name) => {
-            held.acks.reserve(*name)?;
-            held.fifo.reserve(*name)?;
-            Ok(())
-        }
-    }
-}
-
 // Makes room for all that the doubtful record will add, where it counts as stored.
-fn make_room_for<A: Allocator + Copy>(
+fn make_room_for_doubt<A: Allocator + Copy>(
     held: &mut Held<A>,
     doubt: &Option<Record<Message<A>>>,
 ) -> Result<(), NoMemory>
@@ -338,7 +315,7 @@ fn make_room_for<A: Allocator + Copy>(
     ensures room { OnOk result (ForSome doubt.now (HasRoom held.new)) }
 {
     match doubt {
-        Some(record) => make_room_for_record(held, record),
+        Some(record) => make_room_for(held, record),
         None => Ok(()),
     }
 }
@@ -358,7 +335,7 @@ fn prepare<A: Allocator + Copy>(
 {
     let node = held.node;
     count_itself(&mut held.acks, &held.pending, node)?;
-    make_room_for(held, doubt)
+    make_room_for_doubt(held, doubt)
 }
 
 // Whether an image, whose certificates release this, says what is stored.

@@ -7,6 +7,7 @@ mod found;
 mod held;
 mod judging;
 pub mod laws;
+mod opening;
 mod queries;
 mod ready;
 mod step;

@@ -92,7 +92,7 @@ fn join_certificate<A: Allocator + Copy>(held: &mut Held<A>, name: Name) -> u32
     held.fifo.certify(name).unwrap()
 }
 
-// What a node holds once its record is stored, and how many names are released by it.
+/// What a node holds once its record is stored, and how many names are released by it.
 pub(crate) fn stored<A: Allocator + Copy>(
     mut held: Held<A>,
     entry: Record<Message<A>>,

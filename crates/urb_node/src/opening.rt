@@ -1,0 +1,58 @@
+//! A node that is opened from its image, the list of its stored records.
+
+ghost use Rattle.std.specs.Prelude.{◌≡◌, ◌≤◌, [], None, IfOk};
+ghost use Rattle.urb_stable.specs.Fitting.{KeepsOwn};
+ghost use Rattle.urb_node.specs.Held.{memory_of, IsHeld, IsNextHeld};
+ghost use Rattle.urb_node.specs.Layers.{with_record};
+ghost use Rattle.urb_node.specs.Part.{opened_node};
+ghost use Rattle.urb_node.specs.Values.{ShowsReady};
+
+use crate::Ready;
+use crate::found::make_room_for;
+use crate::held::Held;
+use crate::storing::stored;
+use std::alloc::Allocator;
+use urb_names::{Config, Message, NoMemory, NodeId};
+use urb_stable::Record;
+
+#[cfg(test)]
+mod tests;
+
+// What a node holds once it has read one more record.
+fn joined<A: Allocator + Copy>(
+    mut held: Held<A>,
+    entry: Record<Message<A>>,
+) -> Result<Held<A>, NoMemory>
+    requires kept { IsHeld held }
+    requires next { IsNextHeld held entry }
+    ensures { IfOk result (λ h. IsHeld h × (memory_of h ≡ with_record (memory_of held) entry None)) }
+{
+    make_room_for(&mut held, &entry)?;
+    let (held, _released) = stored(held, entry, None);
+    Ok(held)
+}
+
+impl<A: Allocator + Copy> Ready<A> {
+    /// A node that comes up with what its storage holds: the recovery of a process (sections 2.2 and 3.7 of the book). The
+    /// records are taken as they lie in memory.
+    pub fn open(
+        alloc: A,
+        config: Config,
+        node: NodeId,
+        records: Vec<Record<Message<A>>, A>,
+    ) -> Result<Ready<A>, NoMemory>
+        requires node { node ≤ config.n }
+
+        // No record breaks the rules about its own image.
+        requires rules { KeepsOwn config node [] records.items }
+        ensures { IfOk result (λ ready. (ready.limits ≡ config) × (ready.node ≡ node) × ShowsReady ready (opened_node node records.items)) }
+    {
+        let Ready { mut held } = Ready::new(alloc, config, node);
+        for record in records {
+            held.pending.limits();
+            held.fifo.limits();
+            held = joined(held, record)?;
+        }
+        Ok(Ready { held })
+    }
+}
