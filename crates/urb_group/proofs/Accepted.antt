@@ -80,7 +80,7 @@ module _ (w : World) (kept : NodesKept w) (p : ℕ) (m : Content) (x : Label) wh
 
 -- ---- a store
 
-same_record-true : (a b : Entry) → same_record a b ≡ true → a ≡ b
+pub same_record-true : (a b : Entry) → same_record a b ≡ true → a ≡ b
 same_record-true (Pend x m) (Pend y o) h = let parts = and_parts (same_name x y) (same_message m o) h in ap₂ Pend (same_name-true x y parts.0) (same_message-true m o parts.1)
 same_record-true (Pend x m) (PendCert y o) h = absurd (false≢true h)
 same_record-true (Pend x m) (Cert y) h = absurd (false≢true h)

@@ -17,3 +17,8 @@ pub mod Refusals
 pub mod KeptWorlds
 pub mod Conditions
 pub mod Accepted
+pub mod Replaced
+pub mod PlaceMoves
+pub mod Lifting
+pub mod GroupMoves
+pub mod NewPlaces

@@ -7,5 +7,8 @@ pub mod Accepting
 pub mod Stopping
 pub mod Invariant
 pub mod Shown
+pub mod Places
+pub mod Moving
+pub mod Calls
 pub mod Examples
 pub mod Scripts

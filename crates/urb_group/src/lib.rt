@@ -1,5 +1,17 @@
-//! All nodes of a group: the laws that hold in every world that a run of them reaches, and worked examples.
+//! All nodes of a group: the group itself, the laws that hold in every world that a run of it reaches, and worked examples.
 #![tactic(auto)]
 
+mod group;
 pub mod laws;
+mod places;
+mod state;
+mod taken;
 pub mod worked;
+
+pub use group::Group;
+pub use state::State;
+pub use taken::Taken;
+pub use urb_names::{ClientId, Config, Message, Name, NoMemory, NodeId, PacketFault, Refusal};
+pub use urb_node::{Answer, Done};
+pub use urb_stable::{Doubt, Draft, Receipt, Record};
+pub use urb_stubborn::Outbox;

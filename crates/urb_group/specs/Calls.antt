@@ -1,0 +1,88 @@
+-- What each call of a group does, for every world that the group shows before it.
+use Rattle.std.specs.Prelude.{◌≡◌, ◌&&◌, IsTrue, List, None, Option, Some, Result, Ok, Err, Bool, if◌then◌else◌, is_some, length, suc, ℕ}
+use Rattle.urb_names.specs.Carried.{Carried}
+use Rattle.urb_names.specs.Naming.{Content, Label}
+use Rattle.urb_names.specs.Nodes.{is_node}
+use Rattle.urb_names.specs.Pairs.{message_of}
+use Rattle.urb_names.specs.declared.refusal.Refusal.{Refusal}
+use Rattle.urb_stable.specs.Entries.{name_of}
+use Rattle.urb_stable.specs.Log.{log}
+use Rattle.urb_stable.specs.Placed.{Placed}
+use Rattle.urb_stable.specs.Records.{pend}
+use Rattle.urb_node.specs.Moves.{IsRefusedAs}
+use Rattle.urb_node.specs.Part.{Storing}
+use Rattle.urb_node.specs.Replies.{Done, Drafted, Reply, Same, Sent, Stored, Up, WentDown, packets_in}
+use Rattle.urb_group.specs.Shown.{GroupView, Shows, view_of}
+use Rattle.urb_group.specs.Step.{Commit, Event, step}
+use Rattle.urb_group.specs.Truth.{AreTruthful}
+use Rattle.urb_group.specs.World.{World, stored, truthful}
+use Rattle.urb_group.specs.declared.taken.Taken.{Taken}
+use Rattle.urb_group.specs.declared.taken.Taken.TheVariants as taken
+
+-- The event happened in this world, and its reply was told: the group shows the world after it. What was truthful is
+-- truthful after it, and so is each packet that the reply hands out.
+pub record Happens (event : Event) (IsTold : Reply → Type 0) (new : GroupView) (w : World) : Type 0 where
+  pub told : IsTold (step w event).0
+  pub shows : Shows new (step w event).1
+  pub truth : (packet : Carried) → IsTrue (truthful w packet) → IsTrue (truthful (step w event).1 packet)
+  pub sent : AreTruthful (step w event).1 (packets_in (step w event).0)
+
+-- it happened in every world that the group showed
+abbrev pub Steps : GroupView → Event → (Reply → Type 0) → GroupView → Type 0
+Steps old event IsTold new = (w : World) → Shows old w → Happens event IsTold new w
+
+-- the event is refused in every world that the group shows, or memory was refused where it may be; and the group stays
+abbrev pub IsRefused : GroupView → Event → Refusal → GroupView → Type 0
+IsRefused old event refusal new = ((w : World) → Shows old w → IsRefusedAs (step w event).0 refusal) × (new ≡ old)
+
+-- the group's node holds this draft
+pub record HoldsDraft (group : GroupView) (draft : Placed) : Type 0 where
+  pub cause : Option ℕ
+  pub state : (view_of group draft.node).state ≡ Storing draft.entry cause
+  pub position : draft.pos ≡ suc (view_of group draft.node).count
+
+-- a submit or an arrival at p, by its event: an answer, a draft that the node holds then, or a refusal
+abbrev pub Takes : {A : Type 0} → GroupView → ℕ → Event → Result (Taken A) Refusal → GroupView → Type 0
+Takes old p event (Ok (taken.Same answer)) new = Steps old event (λ reply. reply ≡ Same answer) new
+Takes old p event (Ok (taken.Store draft)) new =
+    Steps old event (λ reply. reply ≡ Drafted (name_of draft.entry) draft.pos) new × (draft.node ≡ p) × HoldsDraft new draft
+Takes old p event (Err refusal) new = IsRefused old event refusal new
+
+-- a receipt: taken, or handed back
+abbrev pub Commits : GroupView → Placed → Result Done (Placed × Refusal) → GroupView → Type 0
+Commits old receipt (Ok done) new = Steps old (Commit receipt.node receipt.pos receipt.entry) (λ reply. reply ≡ Stored done) new
+Commits old receipt (Err e) new = IsRefused old (Commit receipt.node receipt.pos receipt.entry) e.1 new × (e.0 ≡ receipt)
+
+-- a tick, by its event: packets are sent, or it is refused
+abbrev pub Ticks : GroupView → Event → Result (List Carried) Refusal → GroupView → Type 0
+Ticks old event (Ok packets) new = Steps old event (λ reply. reply ≡ Sent packets) new
+Ticks old event (Err refusal) new = IsRefused old event refusal new
+
+-- a failed store or a crash of p, by its event: the node goes down, or it is refused
+abbrev pub GoesDown : GroupView → ℕ → Event → Result (Unit {0}) Refusal → GroupView → Type 0
+GoesDown old p event (Ok done) new = Steps old event (λ reply. reply ≡ WentDown p) new
+GoesDown old p event (Err refusal) new = IsRefused old event refusal new
+
+-- a restart of p, by its event: the node comes up, or it is refused
+abbrev pub ComesUp : GroupView → ℕ → Event → Result (Unit {0}) Refusal → GroupView → Type 0
+ComesUp old p event (Ok done) new = Steps old event (λ reply. reply ≡ Up p) new
+ComesUp old p event (Err refusal) new = IsRefused old event refusal new
+
+-- ---- questions: None where there is no such node, and else the world's answer
+
+-- what is answered of node p of every world that the group shows
+abbrev pub Answers : {T : Type 0} → (World → Option T) → GroupView → ℕ → Option T → Type 0
+Answers of group p result = (w : World) → Shows group w → result ≡ (if is_node w.size.n p then of w else None)
+
+abbrev pub TellsLog : GroupView → ℕ → Option (List Label) → Type 0
+TellsLog group p result = Answers (λ w. Some (log (stored w p))) group p result
+
+abbrev pub FindsMessage : GroupView → ℕ → Label → Option Content → Type 0
+FindsMessage group p x result = Answers (λ w. message_of (pend (stored w p)) x) group p result
+
+abbrev pub CountsOwn : GroupView → ℕ → Option ℕ → Type 0
+CountsOwn group p result = Answers (λ w. Some (length (w.node p).broadcast)) group p result
+
+-- whether node p has stored a message under this name
+abbrev pub Holds : GroupView → ℕ → Label → Bool → Type 0
+Holds group p x result = (w : World) → Shows group w → result ≡ (is_node w.size.n p && is_some (message_of (pend (stored w p)) x))

@@ -1,0 +1,155 @@
+//! The nodes of a group, each in its place.
+
+ghost use Rattle.std.specs.Prelude.{◌<◌, ◌≡◌, Some, slice_get, suc, vec_len};
+ghost use Rattle.std.specs.Option.{MatchOption};
+ghost use Rattle.urb_group.specs.Moving.{ArrivesAt, CommitsAt, CrashesAt, FailsAt, MayReach, Moved, SubmitsAt, TicksAt};
+
+use crate::Taken;
+use std::alloc::{Allocator, Global};
+use urb_names::{ClientId, Config, NoMemory, NodeId, PacketView, Refusal};
+use urb_node::{Done, Down, Ready, Step, Storing};
+use urb_stable::Receipt;
+use urb_stubborn::Outbox;
+
+/// The place of a node in its group, where it is one of its nodes.
+pub(crate) fn place_of(config: Config, node: NodeId) -> Option<usize>
+    ensures { MatchOption result (config.n < node) (λ at. (at < config.n) × (node ≡ suc at)) }
+{
+    let number = node.number();
+    if number > config.n() {
+        return None;
+    }
+    Some(usize::from(number) - 1)
+}
+
+/// A node in one of its three states.
+#[derive(Drop)]
+#[derive_where(Debug)]
+pub(crate) enum Node<A: Allocator = Global> {
+    Ready(Ready<A>),
+    Storing(Storing<A>),
+    Down(Down<A>),
+}
+
+/// What stands in one place moves, and the others stay.
+pub(crate) fn move_at<T, A: Allocator, R, F: FnOnce(T) -> (T, R)>(
+    nodes: &mut Vec<T, A>,
+    at: usize,
+    moves: F,
+) -> R
+    requires within { at < vec_len nodes.old }
+    requires callable { (node : _) → slice_get nodes.old.items at ≡ Some node → F.pre moves node }
+    ensures { Moved (λ node r. F.post moves node r) nodes.old.items at result nodes.new.items }
+{
+    let (moved, result) = moves(nodes.remove(at));
+    nodes.insert(at, moved).unwrap();
+    result
+}
+
+/// A node moves by a client's message, or stays with a refusal.
+pub(crate) fn submitted<A: Allocator + Copy>(
+    node: Node<A>,
+    alloc: A,
+    client: ClientId,
+    number: u32,
+    payload: &[u8],
+) -> (Node<A>, Result<Taken<A>, Refusal>)
+    ensures { SubmitsAt node (record { client = client; number = number; payload = payload.now }) result }
+{
+    match node {
+        Node::Ready(ready) => match ready.submit(alloc, client, number, payload) {
+            Ok(Step::Same(ready, answer)) => (Node::Ready(ready), Ok(Taken::Same(answer))),
+            Ok(Step::Store(storing, draft)) => (Node::Storing(storing), Ok(Taken::Store(draft))),
+            Err((ready, refusal)) => (Node::Ready(ready), Err(refusal)),
+        },
+        Node::Storing(storing) => (Node::Storing(storing), Err(Refusal::Busy)),
+        Node::Down(down) => (Node::Down(down), Err(Refusal::Down)),
+    }
+}
+
+/// A node moves by a packet that is for it, or stays with a refusal.
+pub(crate) fn arrived<A: Allocator + Copy>(
+    node: Node<A>,
+    alloc: A,
+    packet: PacketView<'_>,
+    is_truthful: bool,
+) -> (Node<A>, Result<Taken<A>, Refusal>)
+    requires { MayReach node packet is_truthful }
+    ensures { ArrivesAt node packet.entry is_truthful result }
+{
+    match node {
+        Node::Ready(ready) => {
+            if !is_truthful {
+                return (Node::Ready(ready), Err(Refusal::Forged));
+            }
+            match ready.arrive(alloc, packet) {
+                Ok(Step::Same(ready, answer)) => (Node::Ready(ready), Ok(Taken::Same(answer))),
+                Ok(Step::Store(storing, draft)) => {
+                    (Node::Storing(storing), Ok(Taken::Store(draft)))
+                }
+                Err((ready, refusal)) => (Node::Ready(ready), Err(refusal)),
+            }
+        }
+        Node::Storing(storing) => (Node::Storing(storing), Err(Refusal::Busy)),
+        Node::Down(down) => (Node::Down(down), Err(Refusal::Down)),
+    }
+}
+
+/// A node takes a receipt, or stays and hands it back.
+pub(crate) fn committed<A: Allocator + Copy>(
+    node: Node<A>,
+    receipt: Receipt<A>,
+) -> (Node<A>, Result<Done<A>, (Receipt<A>, Refusal)>)
+    ensures { CommitsAt node receipt result }
+{
+    match node {
+        Node::Ready(ready) => (Node::Ready(ready), Err((receipt, Refusal::Stale))),
+        Node::Storing(storing) => match storing.confirm(receipt) {
+            Ok((ready, done)) => (Node::Ready(ready), Ok(done)),
+            Err((storing, receipt)) => (Node::Storing(storing), Err((receipt, Refusal::Stale))),
+        },
+        Node::Down(down) => (Node::Down(down), Err((receipt, Refusal::Down))),
+    }
+}
+
+/// A node's store did not take its record.
+pub(crate) fn failed<A: Allocator + Copy>(node: Node<A>) -> (Node<A>, Result<(), Refusal>)
+    ensures { FailsAt node result }
+{
+    match node {
+        Node::Ready(ready) => (Node::Ready(ready), Err(Refusal::Stale)),
+        Node::Storing(storing) => (Node::Down(storing.fail()), Ok(())),
+        Node::Down(down) => (Node::Down(down), Err(Refusal::Down)),
+    }
+}
+
+/// A node crashes, where it isn't down.
+pub(crate) fn crashed<A: Allocator + Copy>(node: Node<A>) -> (Node<A>, Result<(), Refusal>)
+    ensures { CrashesAt node result }
+{
+    match node {
+        Node::Ready(ready) => (Node::Down(ready.crash()), Ok(())),
+        Node::Storing(storing) => (Node::Down(storing.crash()), Ok(())),
+        Node::Down(down) => (Node::Down(down), Err(Refusal::Down)),
+    }
+}
+
+/// A node sends again, where it is ready.
+pub(crate) fn ticked<A: Allocator + Copy>(
+    node: Node<A>,
+    alloc: A,
+) -> (Node<A>, Result<Outbox<A>, Refusal>)
+    ensures { TicksAt node result }
+{
+    match node {
+        Node::Ready(ready) => {
+            let (ready, sent) = ready.tick(alloc);
+            match sent {
+                Ok(packets) => (Node::Ready(ready), Ok(packets)),
+                Err(NoMemory) => (Node::Ready(ready), Err(Refusal::NoMemory)),
+            }
+        }
+        Node::Storing(storing) => (Node::Storing(storing), Err(Refusal::Busy)),
+        Node::Down(down) => (Node::Down(down), Err(Refusal::Down)),
+    }
+}
