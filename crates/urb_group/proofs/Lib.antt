@@ -22,3 +22,6 @@ pub mod PlaceMoves
 pub mod Lifting
 pub mod GroupMoves
 pub mod NewPlaces
+pub mod Answered
+pub mod Ends
+pub mod Reached

@@ -9,6 +9,8 @@ pub mod Invariant
 pub mod Shown
 pub mod Places
 pub mod Moving
+pub mod States
 pub mod Calls
+pub mod Reaching
 pub mod Examples
 pub mod Scripts

@@ -1,9 +1,12 @@
 //! All nodes of a group: the group itself, the laws that hold in every world that a run of it reaches, and worked examples.
 #![tactic(auto)]
 
+mod arriving;
 mod group;
 pub mod laws;
 mod places;
+mod promise;
+mod queries;
 mod state;
 mod taken;
 pub mod worked;

@@ -1,0 +1,70 @@
+//! The arrival of a packet at a group.
+
+ghost use Rattle.std.specs.Prelude.{◌≡◌, false, MatchOption};
+ghost use Rattle.std.specs.Bool.{MatchBool};
+ghost use Rattle.urb_names.specs.Packets.{packet_of};
+ghost use Rattle.urb_group.specs.Calls.{Takes};
+ghost use Rattle.urb_group.specs.Reaching.{AreEnds, TellsTruth, is_for_node};
+ghost use Rattle.urb_group.specs.Step.{Arrive};
+
+use crate::places::{Node, arrived, move_at, place_of};
+use crate::{Group, Taken};
+use std::alloc::Allocator;
+use urb_names::{Config, Message, NodeId, PacketView, Refusal, parse};
+
+// The places of a packet's source and of the node that it is for, where it is for this node and names only nodes of the
+// group.
+fn ends_of(config: Config, node: NodeId, packet: &PacketView<'_>) -> Option<(usize, usize)>
+    ensures { MatchOption result (is_for_node config.n node packet.now ≡ false) (λ ends. AreEnds config.n node packet.now ends) }
+{
+    if packet.target() != node {
+        return None;
+    }
+    place_of(config, packet.name().sender)?;
+    let source = place_of(config, packet.source())?;
+    let at = place_of(config, node)?;
+    Some((source, at))
+}
+
+// Whether a message is the one that a packet carries.
+fn is_carried<A: Allocator>(message: &Message<A>, packet: &PacketView<'_>) -> bool
+    ensures { MatchBool result (message.now ≡ packet.now.message) (¬ (message.now ≡ packet.now.message)) }
+{
+    message.client() == packet.client()
+        && message.number() == packet.number()
+        && message.payload() == packet.payload()
+}
+
+// Whether a node has stored the message that a packet carries, under its name.
+fn tells_truth<A: Allocator + Copy>(node: &Node<A>, packet: &PacketView<'_>) -> bool
+    ensures { TellsTruth node.now packet.now result }
+{
+    match node.message(packet.name()) {
+        Some(message) => is_carried(message, packet),
+        None => false,
+    }
+}
+
+impl<A: Allocator + Copy> Group<A> {
+    /// Bytes come to a node, as a datagram brings them, from wherever: only a packet for this node is taken, of a message
+    /// that the packet's source has stored.
+    ///
+    /// `Packet`: the bytes are no packet. `BadNode`: it names a node that is none, or another than this one. `Down`,
+    /// `Busy`: the node takes none now; the packet is sent again. `Forged`: its source has not stored its message.
+    /// `NoMemory`: the packet is lost, and sent again.
+    pub fn arrive(&mut self, alloc: A, node: NodeId, bytes: &[u8]) -> Result<Taken<A>, Refusal>
+        ensures { Takes self.old node (Arrive node (packet_of bytes.now)) result self.new }
+    {
+        let packet = match parse(bytes) {
+            Ok(packet) => packet,
+            Err(fault) => return Err(Refusal::Packet(fault)),
+        };
+        let Some((source, at)) = ends_of(self.config, node, &packet) else {
+            return Err(Refusal::BadNode);
+        };
+        let is_truthful = tells_truth(&self.nodes[source], &packet);
+        move_at(&mut self.nodes, at, move |node| {
+            arrived(node, alloc, packet, is_truthful)
+        })
+    }
+}

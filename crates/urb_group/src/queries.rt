@@ -1,0 +1,101 @@
+//! What a group tells of its nodes, in whatever state each of them is.
+
+ghost use Rattle.std.specs.Prelude.{◌≡◌, Some, option_map};
+ghost use Rattle.urb_node.specs.Moves.{CountsOwn as CountsOwnAt, FindsMessage as FindsMessageAt, TellsLog as TellsLogAt};
+ghost use Rattle.urb_group.specs.Calls.{Answers, CountsOwn, FindsMessage, Holds, TellsLog};
+ghost use Rattle.urb_group.specs.Places.{ShowsAt, state_in};
+ghost use Rattle.urb_group.specs.States.{state_of};
+
+use crate::places::{Node, place_of};
+use crate::{Group, State};
+use std::alloc::Allocator;
+use urb_names::{Message, Name, NodeId};
+
+impl<A: Allocator + Copy> Node<A> {
+    // How the node is.
+    fn state(&self) -> State
+        ensures { result ≡ state_of (state_in self.now) }
+    {
+        match self {
+            Node::Ready(_) => State::Ready,
+            Node::Storing(_) => State::Storing,
+            Node::Down(_) => State::Down,
+        }
+    }
+
+    // The names that the node has delivered.
+    fn log(&self) -> &[Name]
+        ensures { TellsLogAt (ShowsAt self.now) result.now }
+    {
+        match self {
+            Node::Ready(ready) => ready.log(),
+            Node::Storing(storing) => storing.log(),
+            Node::Down(down) => down.log(),
+        }
+    }
+
+    /// The message that the node has stored under a name.
+    pub(crate) fn message(&self, name: Name) -> Option<&Message<A>>
+        ensures { FindsMessageAt (ShowsAt self.now) name (option_map (λ m. m.now) result) }
+    {
+        match self {
+            Node::Ready(ready) => ready.message(name),
+            Node::Storing(storing) => storing.message(name),
+            Node::Down(down) => down.message(name),
+        }
+    }
+
+    // How many messages of its own the node has stored.
+    fn own_len(&self) -> u32
+        ensures { CountsOwnAt (ShowsAt self.now) result }
+    {
+        match self {
+            Node::Ready(ready) => ready.own_len(),
+            Node::Storing(storing) => storing.own_len(),
+            Node::Down(down) => down.own_len(),
+        }
+    }
+}
+
+impl<A: Allocator + Copy> Group<A> {
+    /// How a node is; none where there is no such node.
+    pub fn state(&self, node: NodeId) -> Option<State>
+        ensures { Answers (λ w. Some (state_of (w.node node).state)) self.now node result }
+    {
+        let at = place_of(self.config, node)?;
+        Some(self.nodes[at].state())
+    }
+
+    /// The names that a node has delivered, in the order of their delivery, down or not; none where there is no such
+    /// node. A record that is held or in doubt doesn't count.
+    pub fn log(&self, node: NodeId) -> Option<&[Name]>
+        ensures { TellsLog self.now node (option_map (λ names. names.now) result) }
+    {
+        let at = place_of(self.config, node)?;
+        Some(self.nodes[at].log())
+    }
+
+    /// The message that a node has stored under a name; none where it has stored none, or there is no such node. A record
+    /// that is held or in doubt doesn't count.
+    pub fn message(&self, node: NodeId, name: Name) -> Option<&Message<A>>
+        ensures { FindsMessage self.now node name (option_map (λ m. m.now) result) }
+    {
+        let at = place_of(self.config, node)?;
+        self.nodes[at].message(name)
+    }
+
+    /// Whether a node has stored a message under a name.
+    pub fn holds(&self, node: NodeId, name: Name) -> bool
+        ensures { Holds self.now node name result }
+    {
+        self.message(node, name).is_some()
+    }
+
+    /// How many messages a node has broadcast, that is, stored as its own; none where there is no such node.
+    pub fn own_len(&self, node: NodeId) -> Option<u32>
+        ensures { CountsOwn self.now node result }
+    {
+        let at = place_of(self.config, node)?;
+        Some(self.nodes[at].own_len())
+    }
+}
