@@ -4,15 +4,16 @@ use Rattle.std.specs.Prelude.{slice_get}
 use Rattle.urb_names.specs.Carried.{Carried}
 use Rattle.urb_names.specs.Naming.{Content, Limits}
 use Rattle.urb_names.specs.declared.refusal.Refusal.{Refusal}
+use Rattle.urb_stable.specs.Entries.{Entry}
 use Rattle.urb_stable.specs.Placed.{Placed}
 use Rattle.urb_node.specs.Part.{Node}
 use Rattle.urb_node.specs.Replies.{Done}
 use Rattle.urb_node.specs.Steps.{submits}
-use Rattle.urb_group.specs.Calls.{Commits, GoesDown, Takes, Ticks}
-use Rattle.urb_group.specs.Moving.{CommitsAt, CrashesAt, FailsAt, HandsBack, HoldsAt, Leads, LeadsAt, Moved, Outcomes, SubmitsAt, TicksAt, commits_as, crashes_as, fails_as, ticks_as, told_down, told_sent, told_stored, told_taken}
+use Rattle.urb_group.specs.Calls.{ComesUp, Commits, GoesDown, Takes, Ticks}
+use Rattle.urb_group.specs.Moving.{CommitsAt, CrashesAt, FailsAt, HandsBack, HoldsAt, Leads, LeadsAt, Moved, Outcomes, RestartsAt, SubmitsAt, TicksAt, commits_as, crashes_as, fails_as, restarts_as, ticks_as, told_down, told_sent, told_stored, told_taken, told_up}
 use Rattle.urb_group.specs.Places.{IsGroup, ShowsAt, memory_in, shown}
 use Rattle.urb_group.specs.Shown.{Shows}
-use Rattle.urb_group.specs.Step.{Commit, Crash, Event, Fail, Submit, Tick, at_node, step}
+use Rattle.urb_group.specs.Step.{Commit, Crash, Event, Fail, Restart, Submit, Tick, at_node, step}
 use Rattle.urb_group.specs.World.{World}
 use Rattle.urb_group.specs.declared.places.Node.{Node as Place}
 use Rattle.urb_group.specs.declared.taken.Taken.{Taken}
@@ -40,6 +41,10 @@ crash-step w p = refl
 pub tick-step : (w : World) (p : ℕ) → step w (Tick p) ≡ at_node w p (ticks_as w.size p (w.node p))
 unfolding step
 tick-step w p = refl
+
+pub restart-step : (w : World) (p : ℕ) (image : List Entry) → step w (Restart p image) ≡ at_node w p (restarts_as image w.size p (w.node p))
+unfolding step
+restart-step w p image = refl
 
 -- ---- one node moved
 
@@ -75,6 +80,14 @@ module _ {A : Type 0} (size : Limits) (places : List (Place A)) (group : IsGroup
       where
         at : (result : Result (Unit {0}) Refusal) → LeadsAt outcome node (told_down (suc i) result) moved → GoesDown (shown size places) (suc i) event result (shown size after) × IsGroup size after
         at (Ok done) leads = (lifted size places group i node moved was event outcome is (told_down (suc i) (Ok done)) leads, still_group size places group i node moved was event outcome is (told_down (suc i) (Ok done)) leads)
+        at (Err r) leads = (lifted size places group i node moved was event outcome is (Err r) leads, still_group size places group i node moved was event outcome is (Err r) leads)
+
+    pub comes_up : (result : Result (Unit {0}) Refusal) → LeadsAt outcome node (told_up (memory_in node).node result) moved
+        → ComesUp (shown size places) (suc i) event result (shown size after) × IsGroup size after
+    comes_up result leads = at result (subst (λ (p : ℕ). LeadsAt outcome node (told_up p result) moved) own_number leads)
+      where
+        at : (result : Result (Unit {0}) Refusal) → LeadsAt outcome node (told_up (suc i) result) moved → ComesUp (shown size places) (suc i) event result (shown size after) × IsGroup size after
+        at (Ok done) leads = (lifted size places group i node moved was event outcome is (told_up (suc i) (Ok done)) leads, still_group size places group i node moved was event outcome is (told_up (suc i) (Ok done)) leads)
         at (Err r) leads = (lifted size places group i node moved was event outcome is (Err r) leads, still_group size places group i node moved was event outcome is (Err r) leads)
 
     pub ticks : (result : Result (List Carried) Refusal) → LeadsAt outcome node (told_sent result) moved → Ticks (shown size places) event result (shown size after) × IsGroup size after
@@ -131,3 +144,10 @@ tick-moved {A = A} size places new i p result group own moved =
     subst (λ (p : ℕ). Ticks (shown size places) (Tick p) result (shown size new) × IsGroup size new) (sym own)
     (subst (λ (ps : List (Place A)). Ticks (shown size places) (Tick (suc i)) result (shown size ps) × IsGroup size ps) (sym moved.is)
     (ticks size places group i moved.node moved.moved moved.was (Tick (suc i)) ticks_as (λ w s. tick-step w (suc i)) result moved.step))
+
+pub restart-moved : {A : Type 0} (size : Limits) (places new : List (Place A)) (i p : ℕ) (image : List Entry) (result : Result (Unit {0}) Refusal) → IsGroup size places → IsIn p i
+    → Moved (λ node r. RestartsAt node image r) places i result new → ComesUp (shown size places) p (Restart p image) result (shown size new) × IsGroup size new
+restart-moved {A = A} size places new i p image result group own moved =
+    subst (λ (p : ℕ). ComesUp (shown size places) p (Restart p image) result (shown size new) × IsGroup size new) (sym own)
+    (subst (λ (ps : List (Place A)). ComesUp (shown size places) (suc i) (Restart (suc i) image) result (shown size ps) × IsGroup size ps) (sym moved.is)
+    (comes_up size places group i moved.node moved.moved moved.was (Restart (suc i) image) (restarts_as image) (λ w s. restart-step w (suc i) image) result moved.step))

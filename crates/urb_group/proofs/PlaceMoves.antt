@@ -6,15 +6,16 @@ use Rattle.urb_names.specs.Naming.{Content, Limits}
 use Rattle.urb_names.specs.declared.refusal.NoMemory.{NoMemory}
 use Rattle.urb_names.specs.declared.refusal.Refusal.{Refusal}
 use Rattle.urb_names.specs.declared.refusal.Refusal.TheVariants as refusal
+use Rattle.urb_stable.specs.Entries.{Entry}
 use Rattle.urb_stable.specs.Placed.{Placed}
-use Rattle.urb_node.specs.Moves.{Arrives, Confirms, Crashes, Fails, IsRefusedAs, LeadsTo, Submits, Ticks}
+use Rattle.urb_node.specs.Moves.{Arrives, Confirms, Crashes, Fails, IsRefusedAs, LeadsTo, Restarts, Submits, Ticks}
 use Rattle.urb_node.specs.Part.{Node, Ready, State}
 use Rattle.urb_node.specs.Replies.{Done, Refused, Reply}
 use Rattle.urb_node.specs.Steps.{arrives, commits, is_down, is_storing, next_position, same_record, submits, ticks}
 use Rattle.urb_node.specs.Values.{Fallen, Holding, Memory, ShowsReady, ShowsStoring, draft_of}
 use Rattle.urb_node.specs.declared.step.Step.{Step}
 use Rattle.urb_node.specs.declared.step.Step.TheVariants as step
-use Rattle.urb_group.specs.Moving.{ArrivesAt, CommitsAt, CrashesAt, FailsAt, HoldsAt, Leads, SubmitsAt, TicksAt, arrives_as, told_taken}
+use Rattle.urb_group.specs.Moving.{ArrivesAt, CommitsAt, CrashesAt, FailsAt, HoldsAt, Leads, RestartsAt, SubmitsAt, TicksAt, arrives_as, told_taken}
 use Rattle.urb_group.specs.declared.places.Node.{Node as Place}
 use Rattle.urb_group.specs.declared.places.Node.TheVariants as place
 use Rattle.urb_group.specs.declared.taken.Taken.{Taken}
@@ -115,3 +116,15 @@ tick_at A node a r e t = subst (λ (p : Place A). TicksAt p (after_tick {A = A} 
     at : (r : Memory × Result (List Carried) NoMemory) → Ticks a r → TicksAt (at_ready A a) (after_tick {A = A} r)
     at (new, Ok packets) t = λ n s. record { told = (t.1 n s).0; shows = (t.1 n s).1; same = t.0 }
     at (new, Err e) t = λ n s. (sends a.limits.n a.node n s.state, ap place.Ready t)
+
+-- where a restart leads a node that is down, in its place
+abbrev pub after_restart : {A : Type 0} → Result Memory (Fallen × Refusal) → Place A × Result (Unit {0}) Refusal
+after_restart (Ok a) = (place.Ready a, Ok tt)
+after_restart (Err e) = (place.Down e.0, Err e.1)
+
+pub restart_at : (A : Type 0) (node : Place A) (f : Fallen) (image : List Entry) (r : Result Memory (Fallen × Refusal)) → node ≡ place.Down f → Restarts f image r → RestartsAt node image (after_restart {A = A} r)
+restart_at A node f image r e c = subst (λ (p : Place A). RestartsAt p image (after_restart {A = A} r)) (sym e) (at r c)
+  where
+    at : (r : Result Memory (Fallen × Refusal)) → Restarts f image r → RestartsAt (at_down A f) image (after_restart {A = A} r)
+    at (Ok a) c = λ n s. record { told = (c.1 n s).0; shows = (c.1 n s).1; same = c.0 }
+    at (Err e) c = λ n s. (c.0 n s, ap place.Down c.1)

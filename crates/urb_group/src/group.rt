@@ -1,18 +1,21 @@
 //! The group: all nodes, one event a call.
 
 ghost use Rattle.std.specs.Prelude.{◌≡◌, IfOk};
-ghost use Rattle.urb_group.specs.Calls.{Commits, GoesDown, Takes, Ticks};
+ghost use Rattle.urb_group.specs.Calls.{ComesUp, Commits, GoesDown, Takes, Ticks};
+ghost use Rattle.urb_group.specs.Moving.{RestartsAt};
 ghost use Rattle.urb_group.specs.Shown.{Shows};
-ghost use Rattle.urb_group.specs.Step.{Crash, Fail, Submit, Tick};
+ghost use Rattle.urb_group.specs.Step.{Crash, Fail, Restart, Submit, Tick};
 ghost use Rattle.urb_group.specs.World.{started};
 
 use crate::Taken;
-use crate::places::{Node, committed, crashed, failed, move_at, place_of, submitted, ticked};
+use crate::places::{
+    Node, committed, crashed, failed, move_at, place_of, restarted, submitted, ticked,
+};
 use std::alloc::{Allocator, Global};
 use std::marker::Model;
-use urb_names::{ClientId, Config, NoMemory, NodeId, Refusal};
+use urb_names::{ClientId, Config, Message, NoMemory, NodeId, Refusal};
 use urb_node::{Done, Ready};
-use urb_stable::{Doubt, Receipt};
+use urb_stable::{Doubt, Receipt, Record};
 use urb_stubborn::Outbox;
 
 /// All nodes of a group, 1 to `Config::n`, as one process holds them. A call is one event at one node: it changes that
@@ -116,5 +119,29 @@ impl<A: Allocator + Copy> Group<A> {
             return Err(Refusal::BadNode);
         };
         move_at(&mut self.nodes, at, crashed)
+    }
+
+    /// A node comes up again with what its storage gave back, all of it. Nothing is sent.
+    ///
+    /// `NotDown`: it is up. `BadImage`: the image is neither what the node had stored nor that with the record in doubt.
+    /// `NoMemory`: ask again, with the image read again.
+    pub fn restart(
+        &mut self,
+        alloc: A,
+        node: NodeId,
+        image: Vec<Record<Message<A>>, A>,
+    ) -> Result<(), Refusal>
+        ensures { ComesUp self.old node (Restart node image.items) result self.new }
+    {
+        let Some(at) = place_of(self.config, node) else {
+            return Err(Refusal::BadNode);
+        };
+        move_at(
+            &mut self.nodes,
+            at,
+            move |node| -> (Node<A>, Result<(), Refusal>)
+                ensures { RestartsAt node image.items result }
+            { restarted(node, alloc, image) },
+        )
     }
 }

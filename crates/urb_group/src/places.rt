@@ -2,13 +2,13 @@
 
 ghost use Rattle.std.specs.Prelude.{◌<◌, ◌≡◌, Some, slice_get, suc, vec_len};
 ghost use Rattle.std.specs.Option.{MatchOption};
-ghost use Rattle.urb_group.specs.Moving.{ArrivesAt, CommitsAt, CrashesAt, FailsAt, MayReach, Moved, SubmitsAt, TicksAt};
+ghost use Rattle.urb_group.specs.Moving.{ArrivesAt, CommitsAt, CrashesAt, FailsAt, MayReach, Moved, RestartsAt, SubmitsAt, TicksAt};
 
 use crate::Taken;
 use std::alloc::{Allocator, Global};
-use urb_names::{ClientId, Config, NoMemory, NodeId, PacketView, Refusal};
+use urb_names::{ClientId, Config, Message, NoMemory, NodeId, PacketView, Refusal};
 use urb_node::{Done, Down, Ready, Step, Storing};
-use urb_stable::Receipt;
+use urb_stable::{Receipt, Record};
 use urb_stubborn::Outbox;
 
 /// The place of a node in its group, where it is one of its nodes.
@@ -151,5 +151,23 @@ pub(crate) fn ticked<A: Allocator + Copy>(
         }
         Node::Storing(storing) => (Node::Storing(storing), Err(Refusal::Busy)),
         Node::Down(down) => (Node::Down(down), Err(Refusal::Down)),
+    }
+}
+
+/// A node comes up with its image, where it is down.
+pub(crate) fn restarted<A: Allocator + Copy>(
+    node: Node<A>,
+    alloc: A,
+    image: Vec<Record<Message<A>>, A>,
+) -> (Node<A>, Result<(), Refusal>)
+    ensures { RestartsAt node image.items result }
+{
+    match node {
+        Node::Ready(ready) => (Node::Ready(ready), Err(Refusal::NotDown)),
+        Node::Storing(storing) => (Node::Storing(storing), Err(Refusal::NotDown)),
+        Node::Down(down) => match down.restart(alloc, image) {
+            Ok(ready) => (Node::Ready(ready), Ok(())),
+            Err((down, refusal)) => (Node::Down(down), Err(refusal)),
+        },
     }
 }
