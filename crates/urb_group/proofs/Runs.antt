@@ -27,7 +27,8 @@ use Rattle.urb_node.specs.Part.{Node}
 use Rattle.urb_node.specs.Replies.{Refused, Reply, packets_in}
 use Rattle.urb_node.specs.Steps.{is_down, is_storing}
 use Rattle.urb_stable.specs.Entries.{Entry, name_of}
-use Rattle.urb_stable.specs.Fitting.{Fits, Kept, Misfit, Rules, broken, keeps_a, keeps_b, keeps_c, keeps_d, misfits_behind}
+use Rattle.urb_stable.specs.Fitting.{Fits, Kept, Rules, broken, keeps_a, keeps_b, keeps_c, keeps_d, misfits_behind}
+use Rattle.urb_stable.specs.declared.fitting.Misfit.{Misfit}
 use Rattle.urb_names.specs.declared.refusal.Refusal.TheVariants as refusal
 
 -- ---- one step

@@ -8,7 +8,8 @@ use Rattle.urb_names.specs.Naming.{Content, Label, Limits}
 use Rattle.urb_names.specs.Nodes.{numbers_from}
 use Rattle.urb_names.specs.declared.refusal.Rule.{Rule}
 use Rattle.urb_stable.specs.Entries.{Entry}
-use Rattle.urb_stable.specs.Fitting.{Misfit, first_misfit}
+use Rattle.urb_stable.specs.Fitting.{first_misfit}
+use Rattle.urb_stable.specs.declared.fitting.Misfit.{Misfit}
 use Rattle.urb_stable.specs.declared.record.Record.TheVariants.{Pend, PendCert}
 
 -- a pair's record, its message the one of client 7 that has the name's number, with no payload

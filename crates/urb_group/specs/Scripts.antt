@@ -17,9 +17,10 @@ use Rattle.urb_node.specs.Steps.{next_position}
 use Rattle.urb_node.specs.declared.answer.Answer.TheVariants.{Accepted, Again, Noted}
 use Rattle.urb_node.specs.declared.answer.Answer.{Answer}
 use Rattle.urb_stable.specs.Entries.{Entry}
-use Rattle.urb_stable.specs.Fitting.{Misfit, first_misfit}
+use Rattle.urb_stable.specs.Fitting.{first_misfit}
 use Rattle.urb_stable.specs.Log.{entries}
 use Rattle.urb_stable.specs.Records.{pend}
+use Rattle.urb_stable.specs.declared.fitting.Misfit.{Misfit}
 use Rattle.urb_stable.specs.declared.record.Record.TheVariants.{Cert}
 
 -- ---- answers

@@ -1,11 +1,12 @@
 -- The world: all nodes, and every packet ever sent.
-use Rattle.std.specs.Prelude.{Bool, List, [], if◌then◌else◌, length, slice_index_or, suc, zero, ℕ, ◌==◌, ◌≡◌}
+use Rattle.std.specs.Prelude.{Bool, List, [], if◌then◌else◌, length, ℕ, ◌==◌, ◌≡◌}
 use Rattle.std.specs.List.{All}
 use Rattle.urb_names.specs.Carried.{Carried}
 use Rattle.urb_names.specs.Naming.{Limits}
 use Rattle.urb_names.specs.Pairs.{has_pair}
 use Rattle.urb_node.specs.Part.{Node, opened_node}
 use Rattle.urb_stable.specs.Entries.{Entry, IsEntry}
+pub use Rattle.urb_stable.specs.Images.{image_of}
 use Rattle.urb_stable.specs.Records.{pend}
 
 -- a group's limits, the part of each node, and every packet ever sent
@@ -29,11 +30,6 @@ opened size images = record { size = size; node = λ p. opened_node p (images p)
 -- the world of a new group
 abbrev pub started : Limits → World
 started size = opened size (λ p. [])
-
--- the image of a node, in the list of the images of the nodes 1, 2, ..
-abbrev pub image_of : List (List Entry) → ℕ → List Entry
-image_of images zero = []
-image_of images (suc before) = slice_index_or images before []
 
 -- images of all nodes: one for each, of records within their limits
 pub record AreImages (size : Limits) (images : List (List Entry)) : Type 0 where

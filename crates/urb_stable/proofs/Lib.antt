@@ -5,3 +5,5 @@ pub mod KeptRules
 pub mod Logs
 pub mod OwnRules
 pub mod RisingRecords
+pub mod FoundRecords
+pub mod FirstMisfits

@@ -1,5 +1,5 @@
 -- Which images of the nodes' storages fit together: the rules A to D, and the misfits of images that break one.
-use Rattle.std.specs.Prelude.{Bool, List, None, Option, Some, [], false, filter, flat_map, if◌then◌else◌, is_none, is_some, length, map, nat_lt, not, suc, true, ℕ, ◌&&◌, ◌++◌, ◌==◌, ◌∷◌, ◌≡◌}
+use Rattle.std.specs.Prelude.{Bool, List, None, Option, Some, [], false, filter, find, flat_map, if◌then◌else◌, is_none, is_some, length, map, nat_lt, not, suc, true, ℕ, ◌&&◌, ◌++◌, ◌==◌, ◌∷◌, ◌≡◌}
 use Rattle.urb_names.specs.Names.{has_name}
 use Rattle.urb_names.specs.Naming.{Content, Label, Limits}
 use Rattle.urb_names.specs.Nodes.{majority_passes, nodes}
@@ -8,6 +8,7 @@ use Rattle.urb_names.specs.declared.refusal.Rule.{Rule}
 use Rattle.urb_names.specs.declared.refusal.Rule.TheVariants.{A, B, C, D}
 use Rattle.urb_stable.specs.Entries.{Entry, name_of}
 use Rattle.urb_stable.specs.Records.{cert, pend}
+use Rattle.urb_stable.specs.declared.fitting.Misfit.{Misfit}
 use Rattle.urb_stable.specs.declared.record.Record.TheVariants.{Cert, Pend, PendCert}
 
 -- whether a group with these limits may have the name
@@ -67,11 +68,9 @@ keeps size images p earlier r B = keeps_b p earlier r
 keeps size images p earlier r C = keeps_c images p r
 keeps size images p earlier r D = keeps_d size.n images earlier r
 
--- a rule that is broken, and the record's node and name
-pub record Misfit : Type 0 where
-  pub rule : Rule
-  pub node : ℕ
-  pub name : Label
+-- the first rule that a record breaks, where it breaks one
+abbrev pub first_broken : Limits → (ℕ → List Entry) → ℕ → List Entry → Entry → Option Rule
+first_broken size images p earlier r = find (λ rule. not (keeps size images p earlier r rule)) (A ∷ B ∷ C ∷ D ∷ [])
 
 -- the rules that a record breaks, in order
 abbrev pub broken : Limits → (ℕ → List Entry) → ℕ → List Entry → Entry → List Misfit

@@ -7,4 +7,5 @@ pub mod Storing
 pub mod Answering
 pub mod Memory
 pub mod IsMemory
+pub mod Images
 pub mod Fitting

@@ -3,6 +3,7 @@
 
 mod doubt;
 mod draft;
+mod fitting;
 mod memory;
 mod receipt;
 mod record;
@@ -10,6 +11,7 @@ mod stable;
 
 pub use doubt::Doubt;
 pub use draft::Draft;
+pub use fitting::{Misfit, first_misfit};
 pub use memory::{Failure, MemStable};
 pub use receipt::Receipt;
 pub use record::Record;
