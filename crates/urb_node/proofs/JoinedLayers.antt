@@ -1,12 +1,11 @@
 -- The layers of a node once one more record has joined them.
-use Rattle.std.proofs.Common.{◌≡◌, ℕ, suc, ◌+◌, ◌≤◌, Bool, true, false, cond, ◌&&◌, ◌||◌, List, [], ◌∷◌, ◌++◌, length, Option, Some, None, is_some, refl, sym, ap, ◌∙◌, subst, arith, inl, inr, ◌⊎◌, ⊎_elim}
+use Rattle.std.proofs.Common.{◌≡◌, suc, ◌+◌, ◌≤◌, Bool, true, false, cond, ◌&&◌, ◌||◌, List, [], ◌∷◌, ◌++◌, length, Option, Some, None, is_some, refl, sym, ap, ◌∙◌, subst, arith, inl, inr, ◌⊎◌, ⊎_elim}
 use Rattle.std.specs.Prelude.{if◌then◌else◌}
 use Rattle.std.proofs.lemmas.Bool.{false≢true, or_left, or_right, or_cases, and_from}
 use Rattle.std.proofs.lemmas.List.Edits.{length-insert}
 use Rattle.std.proofs.lemmas.List.Sums.{prefix_len-le-length}
 use Rattle.std.specs.List.{prefix_len}
 use Rattle.std.specs.Option.{ForSome}
-use Rattle.urb_names.specs.declared.refusal.Refusal.TheVariants as refusal
 use Rattle.urb_names.specs.Naming.{Label, Content}
 use Rattle.urb_names.specs.Names.{has_name, name_lt, same_name, same_message}
 use Rattle.urb_names.specs.Pairs.{has_pair, message_of}
@@ -23,12 +22,12 @@ use Rattle.urb_fifo.specs.Delivery.{Delivery}
 use Rattle.urb_fifo.specs.Releasing.{certifying as fifo_certifying, newly_released}
 use Rattle.urb_stable.specs.Entries.{Entry}
 use Rattle.urb_node.specs.declared.held.Held.{Held}
-use Rattle.urb_node.specs.Held.{memory_of, IsFallen, IsHeld, IsNextHeld}
-use Rattle.urb_node.specs.Moves.{Crashes, Fails}
+use Rattle.urb_node.specs.Held.{IsFallen, IsHeld, IsNextHeld}
+use Rattle.urb_node.specs.Moves.{Fails}
 use Rattle.urb_node.specs.Part.{State, Storing, Down}
 use Rattle.urb_node.specs.Replies.{WentDown}
-use Rattle.urb_node.specs.Steps.{fails, goes_down, is_down, refuses}
-use Rattle.urb_node.specs.Values.{Memory, Holding, ShowsDown, ShowsStoring, view_in}
+use Rattle.urb_node.specs.Steps.{fails}
+use Rattle.urb_node.specs.Values.{Memory, Holding, ShowsDown, view_in}
 use Rattle.urb_node.specs.Layers.{certified_with}
 use Rattle.urb_node.proofs.Drafts.{down-shows}
 
@@ -172,15 +171,6 @@ falls h = (
       (refl, down-shows h.memory.limits h.memory.node (view_in (Storing h.entry h.cause) h.memory) (view_in (Down (Some h.entry)) (forgetful h.memory)) node s refl),
 )
 
-pub crashes-storing : (h : Holding) → Crashes (ShowsStoring h) h.memory (record { memory = forgetful h.memory; doubt = Some h.entry })
-crashes-storing h = (
-  (refl, refl),
-  λ node s.
-      let down = down-shows h.memory.limits h.memory.node (view_in (Storing h.entry h.cause) h.memory) (view_in (Down (Some h.entry)) (forgetful h.memory)) node s refl in
-      subst (λ (state : State). ((if is_down state then refuses node refusal.Down else goes_down h.memory.node node).0 ≡ WentDown h.memory.node)
-      × ShowsDown (record { memory = forgetful h.memory; doubt = Some h.entry }) (if is_down state then refuses node refusal.Down else goes_down h.memory.node node).1) s.state (refl, down),
-)
-
 -- the layers once their acknowledgements are forgotten: the node is down, and a record may be in doubt
 pub down-kept : {A : Type 0} (h : Held A) (acks : AckSet) (doubt : Option Entry) → IsHeld h → ForSome doubt (IsNextHeld h) → acks ≡ record h.acks { counted = []; reserved = None } → IsFallen (record h { acks = acks }) doubt
 down-kept h acks doubt k next e =
@@ -201,19 +191,3 @@ down-kept h acks doubt k next e =
       uncounted = refl;
       doubtful = next;
     })
-
--- and that is the record that it held
-pub fallen-kept : {A : Type 0} (h : Held A) (acks : AckSet) (entry : Entry) → IsHeld h → IsNextHeld h entry → acks ≡ record h.acks { counted = []; reserved = None } → IsFallen (record h { acks = acks }) (Some entry)
-fallen-kept h acks entry k next e = down-kept h acks (Some entry) k (λ r is. (let same : entry ≡ r = cc in subst (λ (x : Entry). IsNextHeld h x) same next)) e
-
-pub fail-leads : {A : Type 0} (h : Held A) (acks : AckSet) (entry : Entry) (cause : Option ℕ) → acks ≡ record h.acks { counted = []; reserved = None }
-    → Fails (record { memory = memory_of h; entry = entry; cause = cause }) (record { memory = memory_of (record h { acks = acks }); doubt = Some entry })
-fail-leads h acks entry cause e =
-    subst (λ (a : AckSet). Fails (record { memory = memory_of h; entry = entry; cause = cause }) (record { memory = memory_of (record h { acks = a }); doubt = Some entry })) (sym e)
-    (falls (record { memory = memory_of h; entry = entry; cause = cause }))
-
-pub crash-leads : {A : Type 0} (h : Held A) (acks : AckSet) (entry : Entry) (cause : Option ℕ) → acks ≡ record h.acks { counted = []; reserved = None }
-    → Crashes (ShowsStoring (record { memory = memory_of h; entry = entry; cause = cause })) (memory_of h) (record { memory = memory_of (record h { acks = acks }); doubt = Some entry })
-crash-leads h acks entry cause e =
-    subst (λ (a : AckSet). Crashes (ShowsStoring (record { memory = memory_of h; entry = entry; cause = cause })) (memory_of h) (record { memory = memory_of (record h { acks = a }); doubt = Some entry })) (sym e)
-    (crashes-storing (record { memory = memory_of h; entry = entry; cause = cause }))

@@ -18,3 +18,4 @@ pub mod ImagePairs
 pub mod ImageNames
 pub mod Verdicts
 pub mod RestartLeads
+pub mod Falling

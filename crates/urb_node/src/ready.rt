@@ -6,6 +6,7 @@ ghost use Rattle.urb_node.specs.Found.{IsFoundIn, step_from};
 ghost use Rattle.urb_node.specs.Moves.{Arrives, Crashes, IsForNode, Submits, Ticks};
 ghost use Rattle.urb_node.specs.Values.{ShowsReady, new_memory};
 
+use crate::down::fallen;
 use crate::found::{Found, arrived, submitted};
 use crate::held::Held;
 use crate::{Answer, Down, Step, Storing};
@@ -127,8 +128,7 @@ impl<A: Allocator + Copy> Ready<A> {
     pub fn crash(self) -> Down<A>
         ensures { Crashes (ShowsReady self) self result }
     {
-        let Ready { mut held } = self;
-        held.acks.forget();
-        Down { held, doubt: None }
+        let Ready { held } = self;
+        fallen(held, None)
     }
 }

@@ -11,6 +11,7 @@ ghost use Rattle.urb_node.specs.Moves.{Confirms, Crashes, Fails};
 ghost use Rattle.urb_node.specs.Steps.{is_accepted};
 ghost use Rattle.urb_node.specs.Values.{ShowsStoring};
 
+use crate::down::fallen;
 use crate::found::note;
 use crate::held::Held;
 use crate::{Done, Down, Ready};
@@ -192,31 +193,14 @@ impl<A: Allocator + Copy> Storing<A> {
     pub fn fail(self) -> Down<A>
         ensures { Fails self result }
     {
-        let Storing {
-            mut held,
-            entry,
-            ..
-        } = self;
-        held.acks.forget();
-        Down {
-            held,
-            doubt: Some(entry),
-        }
+        let Storing { held, entry, .. } = self;
+        fallen(held, Some(entry))
     }
 
     /// The node stops while it holds a draft: as `fail`.
     pub fn crash(self) -> Down<A>
         ensures { Crashes (ShowsStoring self) self.memory result }
     {
-        let Storing {
-            mut held,
-            entry,
-            ..
-        } = self;
-        held.acks.forget();
-        Down {
-            held,
-            doubt: Some(entry),
-        }
+        self.fail()
     }
 }

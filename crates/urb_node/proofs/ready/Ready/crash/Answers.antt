@@ -1,0 +1,11 @@
+use Rattle.std.proofs.Common.{subst, sym}
+use Rattle.urb_node.specs.Held.{memory_of}
+use Rattle.urb_node.specs.Moves.{Crashes}
+use Rattle.urb_node.specs.Values.{Fallen, Memory, ShowsReady}
+use Rattle.urb_node.proofs.Falling.{crashes-ready}
+use Rattle.urb_node.proofs.ready.Ready.crash.Goals as goal
+
+pub returns : goal.returns
+returns g c =
+    let old : Memory = memory_of c.self.inside.held in
+    subst (λ (a : Memory). Crashes (ShowsReady a) a c.fallen.result) c.self.view_is (subst (λ (f : Fallen). Crashes (ShowsReady old) old f) (sym c.fallen.ensures) (crashes-ready old))

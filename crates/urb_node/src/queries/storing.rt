@@ -1,0 +1,48 @@
+//! What a node tells of its stored records while it holds a draft.
+
+ghost use Rattle.std.specs.Prelude.{◌≡◌, length, option_map};
+ghost use Rattle.urb_names.specs.Pairs.{has_pair, message_of, own};
+ghost use Rattle.urb_node.specs.Moves.{CountsOwn, FindsMessage, Holds, TellsLog};
+ghost use Rattle.urb_node.specs.Values.{ShowsStoring};
+
+use crate::Storing;
+use std::alloc::Allocator;
+use urb_names::{Message, Name};
+
+impl<A: Allocator + Copy> Storing<A> {
+    #[tactic(auto, using(crate::proofs::Telling::holds_says))]
+    /// Whether the node has stored this message under this name: its held record isn't stored.
+    pub fn holds(&self, name: &Name, message: &Message<A>) -> bool
+        ensures memory { result ≡ has_pair self.now.memory.pairs name.now message.now }
+        ensures stored { Holds (ShowsStoring self.now) name.now message.now result }
+    {
+        self.held.pending.has(name, message)
+    }
+
+    #[tactic(auto, using(crate::proofs::Telling::message_says))]
+    /// The message that the node has stored under a name: that of its held record isn't stored.
+    pub fn message(&self, name: Name) -> Option<&Message<A>>
+        ensures memory { option_map (λ m. m.now) result ≡ message_of self.now.memory.pairs name }
+        ensures stored { FindsMessage (ShowsStoring self.now) name (option_map (λ m. m.now) result) }
+    {
+        self.held.pending.message(name)
+    }
+
+    #[tactic(auto, using(crate::proofs::Telling::log_says))]
+    /// The names that the node has delivered, in the order of their delivery, without what its held record will release.
+    pub fn log(&self) -> &[Name]
+        ensures memory { result.now ≡ self.now.memory.log }
+        ensures stored { TellsLog (ShowsStoring self.now) result.now }
+    {
+        self.held.fifo.log()
+    }
+
+    #[tactic(auto, using(crate::proofs::Telling::own_says))]
+    /// How many messages of its own the node has stored: its held record doesn't count.
+    pub fn own_len(&self) -> u32
+        ensures memory { result ≡ length (own self.now.memory.node self.now.memory.pairs) }
+        ensures stored { CountsOwn (ShowsStoring self.now) result }
+    {
+        self.held.own_len()
+    }
+}
