@@ -25,3 +25,4 @@ pub mod NewPlaces
 pub mod Answered
 pub mod Ends
 pub mod Reached
+pub mod Opened
