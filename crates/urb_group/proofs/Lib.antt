@@ -26,3 +26,10 @@ pub mod Answered
 pub mod Ends
 pub mod Reached
 pub mod Opened
+pub mod CalmSteps
+pub mod HeldDrafts
+pub mod ClusterSteps
+pub mod Unasked
+pub mod StoreMoves
+pub mod Breaking
+pub mod PlayedRuns

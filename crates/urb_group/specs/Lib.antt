@@ -12,5 +12,11 @@ pub mod Moving
 pub mod States
 pub mod Calls
 pub mod Reaching
+pub mod Commands
+pub mod Clustered
+pub mod Asked
+pub mod Clusters
+pub mod Drafts
+pub mod Plays
 pub mod Examples
 pub mod Scripts

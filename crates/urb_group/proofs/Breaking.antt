@@ -1,0 +1,55 @@
+-- A store in memory that was armed, and a group of nodes that hold nothing.
+use Rattle.std.proofs.Common.{Bool, Err, List, None, Ok, Option, Result, Some, false, length, refl, true, zero, suc, ℕ, ◌≡◌, ◌⊎◌, ◌∙◌, sym}
+use Rattle.std.specs.Prelude.{replicate}
+use Rattle.std.proofs.lemmas.Bool.{cond_both}
+use Rattle.std.proofs.lemmas.List.{length-replicate}
+use Rattle.std.proofs.Common.{ap, ⊎_elim, inl, inr}
+use Rattle.urb_group.proofs.Shows.{sound-new}
+use Rattle.urb_group.specs.Clustered.{IsTied, draft_at, held_draft, held_in}
+use Rattle.urb_group.specs.Clusters.{Breaks}
+use Rattle.urb_group.specs.Shown.{GroupView, Shows, view_of}
+use Rattle.urb_group.specs.World.{started}
+use Rattle.urb_names.specs.Naming.{Limits}
+use Rattle.urb_names.specs.Nodes.{is_node}
+use Rattle.urb_node.specs.Part.{State}
+use Rattle.urb_stable.specs.Entries.{Entry}
+use Rattle.urb_stable.specs.Memory.{Memory, after_failure, with_record, without_memory}
+use Rattle.urb_stable.specs.Placed.{Placed}
+use Rattle.urb_stable.specs.declared.memory.Failure.{Failure}
+use Rattle.urb_stable.specs.declared.memory.Failure.TheVariants as failure
+use Rattle.urb_stable.specs.declared.stable.StoreFault.{StoreFault}
+use Rattle.urb_stable.specs.declared.stable.StoreFault.TheVariants as fault
+
+-- what a store in memory says by its cases is what it leaves
+pub breaks-so : (out : Bool) (armed : Option Failure) (m : Memory) (entry : Entry) (after : Memory) (answer : Result (Unit {0}) StoreFault)
+    → (out ≡ true → after ≡ m)
+    → (out ≡ false → armed ≡ None → ((answer ≡ Ok tt) × (after ≡ with_record entry m)) ⊎ ((answer ≡ Err fault.NoMemory) × (after ≡ without_memory m)))
+    → (out ≡ false → armed ≡ Some failure.Old → (answer ≡ Err fault.Device) × (after ≡ after_failure None m))
+    → (out ≡ false → armed ≡ Some failure.New → ((answer ≡ Err fault.Device) × (after ≡ after_failure (Some entry) m)) ⊎ ((answer ≡ Err fault.NoMemory) × (after ≡ without_memory m)))
+    → Breaks out armed m entry after
+breaks-so true armed m entry after answer a b c d = a refl
+breaks-so false None m entry after answer a b c d = ⊎_elim (λ h. inl h.1) (λ h. inr h.1) (b refl refl)
+breaks-so false (Some failure.Old) m entry after answer a b c d = (c refl refl).1
+breaks-so false (Some failure.New) m entry after answer a b c d = ⊎_elim (λ h. inl h.1) (λ h. inr h.1) (d refl refl)
+
+-- ---- a new group
+
+no-places : (n p : ℕ) → draft_at (replicate n None) p ≡ None
+no-places n zero = refl
+no-places zero (suc p) = refl
+no-places (suc n) (suc zero) = refl
+no-places (suc n) (suc (suc p)) = no-places n (suc p)
+
+none-started : (group : GroupView) (size : Limits) (p : ℕ) → Shows group (started size) → held_draft group p ≡ None
+none-started group size p s =
+    cond_both (is_node group.size.n p) (held_in (view_of group p).state p (view_of group p).count) None (λ (d : Option Placed). d ≡ None)
+    (λ _. ap (λ (t : State). held_in t p (view_of group p).count) (s.nodes p).state) (λ _. refl)
+
+pub started-tied : (group : GroupView) (size : Limits) (stores : ℕ) (drafts : List (Option Placed)) → Shows group (started size) → stores ≡ size.n → drafts ≡ replicate size.n None → IsTied group stores drafts
+started-tied group size stores drafts s count e =
+    record {
+      sound = sound-new group size s;
+      all_stores = count ∙ ap (λ (l : Limits). l.n) (sym s.size);
+      all_places = (ap length e ∙ length-replicate size.n None) ∙ ap (λ (l : Limits). l.n) (sym s.size);
+      held = λ p. ap (λ (ds : List (Option Placed)). draft_at ds p) e ∙ (no-places size.n p ∙ sym (none-started group size p s));
+    }

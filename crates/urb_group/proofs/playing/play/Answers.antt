@@ -1,0 +1,8 @@
+use Rattle.urb_group.proofs.PlayedRuns.{plays-runs, plays-sound, sound-holds}
+use Rattle.urb_group.proofs.playing.play.Goals as goal
+
+pub returns-clause-runs : goal.returns-clause-runs
+returns-clause-runs g c = plays-runs g.S.Stable _ _ _ _ c.played.ensures c.group-sound.ensures.sound
+
+pub returns-clause-headline : goal.returns-clause-headline
+returns-clause-headline g c = λ w s. sound-holds _ w (plays-sound g.S.Stable _ _ _ _ c.played.ensures c.group-sound.ensures.sound) s

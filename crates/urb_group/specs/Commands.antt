@@ -1,0 +1,51 @@
+-- What a reply tells, and which event a command is.
+use Rattle.std.specs.Prelude.{Bool, List, false, true, ℕ, ◌∷◌, ◌≡◌, ◌⊎◌, []}
+use Rattle.urb_names.specs.Packets.{packet_of}
+use Rattle.urb_names.specs.declared.refusal.Refusal.TheVariants as refusal
+use Rattle.urb_stable.specs.Entries.{Entry}
+use Rattle.urb_stable.specs.Storing.{refusal_of}
+use Rattle.urb_stable.specs.declared.stable.StoreFault.{StoreFault}
+use Rattle.urb_node.specs.Replies as told
+use Rattle.urb_group.specs.Step.{Arrive, Commit, Crash, Event, Fail, Restart, Submit, Tick}
+use Rattle.urb_group.specs.declared.command.Command.{Command}
+use Rattle.urb_group.specs.declared.command.Command.TheVariants as command
+use Rattle.urb_group.specs.declared.reply.Reply.{Reply}
+use Rattle.urb_group.specs.declared.reply.Reply.TheVariants as reply
+
+-- what the reply tells
+abbrev pub reply_of : {A : Type 0} → Reply A → told.Reply
+reply_of (reply.Drafted x position) = told.Drafted x position
+reply_of (reply.Same answer) = told.Same answer
+reply_of (reply.Stored done) = told.Stored done
+reply_of (reply.Sent packets) = told.Sent packets
+reply_of (reply.WentDown p) = told.WentDown p
+reply_of (reply.Up p) = told.Up p
+reply_of (reply.Refused r) = told.Refused r
+
+-- whether it tells that memory was refused to the command
+abbrev pub is_no_memory : {A : Type 0} → Reply A → Bool
+is_no_memory (reply.Refused refusal.NoMemory) = true
+is_no_memory _ = false
+
+-- the event is this command's: of a store what the store made of it, of a restart one with an image
+abbrev pub IsEventOf : {A : Type 0} → Command A → Event → Type 0
+IsEventOf (command.Submit p client number payload) event = event ≡ Submit p (record { client = client; number = number; payload = payload.items })
+IsEventOf (command.Arrive p bytes) event = event ≡ Arrive p (packet_of bytes.items)
+IsEventOf (command.Tick p) event = event ≡ Tick p
+IsEventOf (command.Store p) event = ((position : ℕ) × (entry : Entry) × (event ≡ Commit p position entry)) ⊎ (event ≡ Fail p)
+IsEventOf (command.Crash p) event = event ≡ Crash p
+IsEventOf (command.Restart p) event = (image : List Entry) × (event ≡ Restart p image)
+
+-- a restart whose store gave no records, which is no event: it is refused with the store's fault
+abbrev pub IsUnread : {A : Type 0} → Command A → told.Reply → Type 0
+IsUnread (command.Restart p) reply = (fault : StoreFault) × (reply ≡ told.Refused (refusal_of fault))
+IsUnread _ reply = ⊥
+
+-- Of the commands, as many as there are replies are these events, one after the other, each with its reply; those that are
+-- no event are left out.
+pub data AreEvents {A : Type 0} : List (Command A) → List told.Reply → List Event → List told.Reply → Type 0 where
+  At_end : (commands : List (Command A)) → AreEvents commands [] [] []
+  By_event : (command : Command A) (commands : List (Command A)) (reply : told.Reply) (replies : List told.Reply) (event : Event) (events : List Event) (seen : List told.Reply)
+      → IsEventOf command event → AreEvents commands replies events seen → AreEvents (command ∷ commands) (reply ∷ replies) (event ∷ events) (reply ∷ seen)
+  By_none : (command : Command A) (commands : List (Command A)) (reply : told.Reply) (replies : List told.Reply) (events : List Event) (seen : List told.Reply)
+      → IsUnread command reply → AreEvents commands replies events seen → AreEvents (command ∷ commands) (reply ∷ replies) events seen

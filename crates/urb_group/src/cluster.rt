@@ -1,0 +1,175 @@
+//! A group with its stores.
+
+ghost use Rattle.std.specs.List.{All};
+ghost use Rattle.std.specs.Prelude.{◌≡◌, length};
+ghost use Rattle.urb_names.specs.Packets.{packet_of};
+ghost use Rattle.urb_group.specs.Asked.{IsBlank};
+ghost use Rattle.urb_group.specs.Clustered.{held_draft};
+ghost use Rattle.urb_group.specs.Clusters.{Alone, Applies, FailsHeld, RestartsBy, Starts, StoresHeld, is_fallen};
+ghost use Rattle.urb_group.specs.Commands.{reply_of};
+ghost use Rattle.urb_group.specs.Shown.{IsSound};
+ghost use Rattle.urb_group.specs.Step.{Arrive, Crash, Submit, Tick};
+
+use crate::drafts::{dropped, no_drafts, noted, taken_out};
+use crate::stores::{broken, lost, read, stored, unfallen, unstored};
+use crate::{Command, Group, Reply};
+use std::alloc::Allocator;
+use std::marker::Model;
+use urb_names::{ClientId, Config, NoMemory, NodeId};
+use urb_stable::{Draft, Failure, MemStable, Stable};
+
+/// All nodes of a group, each with its store, and the drafts that they hold.
+#[derive(Drop)]
+pub struct Cluster<S: Stable> {
+    group: Group<S::Alloc>,
+    stores: Vec<S, S::Alloc>,
+    drafts: Vec<Option<Draft<S::Alloc>>, S::Alloc>,
+}
+
+impl<S: Stable> Model for Cluster<S> {
+    ghost use Rattle.std.specs.Prelude.{length};
+    ghost use Rattle.urb_group.specs.Clustered.{Clustered, IsTied};
+
+    ghost Value = { Clustered S };
+
+    ghost view = { λ a. record { group = a.group; stores = a.stores.items } };
+
+    ghost invariant = { λ a. IsTied a.group (length a.stores.items) a.drafts.items };
+}
+
+impl<S: Stable> Cluster<S> {
+    /// A cluster of a new group, with a store for each node that nothing was stored in. Refused, the stores come back.
+    pub fn new(
+        alloc: S::Alloc,
+        config: Config,
+        stores: Vec<S, S::Alloc>,
+    ) -> Result<Cluster<S>, (Vec<S, S::Alloc>, NoMemory)>
+        requires counted { length stores.items ≡ config.n }
+        requires blank { All (IsBlank S.Stable) stores.items }
+        ensures { Starts config stores.items stores result }
+    {
+        let Ok(group) = Group::new(alloc, config) else {
+            return Err((stores, NoMemory));
+        };
+        match no_drafts(alloc, config.n()) {
+            Ok(drafts) => Ok(Cluster {
+                group,
+                stores,
+                drafts,
+            }),
+            Err(refused) => Err((stores, refused)),
+        }
+    }
+
+    /// The group: its logs, messages and states.
+    pub fn group(&self) -> &Group<S::Alloc>
+        ensures value { result.now ≡ self.now.group }
+        ensures sound { IsSound self.now.group }
+    {
+        &self.group
+    }
+
+    // A client's message.
+    fn submit(
+        &mut self,
+        alloc: S::Alloc,
+        node: NodeId,
+        client: ClientId,
+        number: u32,
+        payload: &[u8],
+    ) -> Reply<S::Alloc>
+        ensures { Alone self.old (Submit node (record { client = client; number = number; payload = payload.now })) (reply_of result) self.new }
+    {
+        let taken = self.group.submit(alloc, node, client, number, payload);
+        noted(&mut self.drafts, taken)
+    }
+
+    // Bytes come.
+    fn arrive(&mut self, alloc: S::Alloc, node: NodeId, bytes: &[u8]) -> Reply<S::Alloc>
+        ensures { Alone self.old (Arrive node (packet_of bytes.now)) (reply_of result) self.new }
+    {
+        let taken = self.group.arrive(alloc, node, bytes);
+        noted(&mut self.drafts, taken)
+    }
+
+    // A timeout.
+    fn tick(&mut self, alloc: S::Alloc, node: NodeId) -> Reply<S::Alloc>
+        ensures { Alone self.old (Tick node) (reply_of result) self.new }
+    {
+        match self.group.tick(alloc, node) {
+            Ok(outbox) => Reply::Sent(outbox),
+            Err(refusal) => Reply::Refused(refusal),
+        }
+    }
+
+    // A node stops, and a draft that it holds is dropped.
+    fn crash(&mut self, node: NodeId) -> Reply<S::Alloc>
+        ensures { Alone self.old (Crash node) (reply_of result) self.new }
+    {
+        match self.group.crash(node) {
+            Ok(()) => {
+                dropped(&mut self.drafts, node);
+                Reply::WentDown(node)
+            }
+            Err(refusal) => Reply::Refused(refusal),
+        }
+    }
+
+    // The store of a node is to keep the draft that the node holds.
+    fn store(&mut self, node: NodeId) -> Reply<S::Alloc>
+        ensures { StoresHeld S.Stable self.old node (held_draft self.old.group node) (reply_of result) self.new }
+    {
+        if let Some(refusal) = unstored(&self.group, node) {
+            return Reply::Refused(refusal);
+        }
+        let draft = taken_out(&mut self.drafts, node);
+        let at = usize::from(node.number()) - 1;
+        stored(&mut self.group, draft, &mut self.stores[at])
+    }
+
+    // A node comes back with what its store gives.
+    fn restart(&mut self, alloc: S::Alloc, node: NodeId) -> Reply<S::Alloc>
+        ensures { RestartsBy S.Stable (is_fallen self.old.group node) self.old node (reply_of result) self.new }
+    {
+        if let Some(refusal) = unfallen(&self.group, node) {
+            return Reply::Refused(refusal);
+        }
+        let at = usize::from(node.number()) - 1;
+        read(&mut self.group, alloc, node, &mut self.stores[at])
+    }
+
+    /// Does what a command says.
+    pub fn apply(&mut self, alloc: S::Alloc, command: &Command<S::Alloc>) -> Reply<S::Alloc>
+        ensures { Applies S.Stable self.old command.now (reply_of result) self.new }
+    {
+        match command {
+            Command::Submit {
+                node,
+                client,
+                number,
+                payload,
+            } => self.submit(alloc, *node, *client, *number, payload),
+            Command::Arrive { node, bytes } => self.arrive(alloc, *node, bytes),
+            Command::Tick(node) => self.tick(alloc, *node),
+            Command::Store(node) => self.store(*node),
+            Command::Crash(node) => self.crash(*node),
+            Command::Restart(node) => self.restart(alloc, *node),
+        }
+    }
+}
+
+impl<A: Allocator + Copy> Cluster<MemStable<A>> {
+    /// Has the store of a node fail while it is to keep the draft that the node holds: for tests, and for scripts that play
+    /// failures.
+    pub fn fail(&mut self, node: NodeId, failure: Failure) -> Reply<A>
+        ensures { FailsHeld self.old node (held_draft self.old.group node) failure (reply_of result) self.new }
+    {
+        if let Some(why) = unstored(&self.group, node) {
+            return Reply::Refused(why);
+        }
+        let draft = taken_out(&mut self.drafts, node);
+        let at = usize::from(node.number()) - 1;
+        broken(&mut self.stores[at], &draft, failure);
+        lost(&mut self.group, draft)
+    }
+}

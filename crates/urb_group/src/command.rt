@@ -1,0 +1,30 @@
+//! What a cluster may be told to do.
+
+use std::alloc::{Allocator, Global};
+use urb_names::{ClientId, NodeId};
+
+/// One thing that happens at a node of a cluster.
+#[derive(Drop)]
+#[derive_where(Debug)]
+pub enum Command<A: Allocator = Global> {
+    /// A client sends a message to a node.
+    Submit {
+        node: NodeId,
+        client: ClientId,
+        number: u32,
+        payload: Vec<u8, A>,
+    },
+    /// Bytes come to a node, whatever they are.
+    Arrive {
+        node: NodeId,
+        bytes: Vec<u8, A>,
+    },
+    /// A timeout at a node.
+    Tick(NodeId),
+    /// The store of a node is to keep the draft that the node holds.
+    Store(NodeId),
+    /// A node stops, and loses what it has not stored; a draft that it holds is dropped.
+    Crash(NodeId),
+    /// A node that is down comes back with what its store gives.
+    Restart(NodeId),
+}

@@ -1,0 +1,60 @@
+//! Whole lists of commands.
+
+ghost use Rattle.std.specs.Prelude.{◌≡◌};
+ghost use Rattle.urb_group.specs.Commands.{is_no_memory};
+ghost use Rattle.urb_group.specs.Plays.{IsPromised, Plays, Runs, told_in};
+ghost use Rattle.urb_group.specs.Shown.{Shows};
+ghost use Rattle.urb_group.specs.World.{World};
+
+use crate::{Cluster, Command, Reply};
+use std::alloc::Allocator;
+use urb_names::{NoMemory, Refusal};
+use urb_stable::Stable;
+
+// Whether memory was refused to the command.
+fn is_short<A: Allocator>(reply: &Reply<A>) -> bool
+    ensures { result ≡ is_no_memory reply.now }
+{
+    matches!(reply, Reply::Refused(Refusal::NoMemory))
+}
+
+// The commands one after the other, until memory is refused.
+fn played<S: Stable>(
+    alloc: S::Alloc,
+    cluster: &mut Cluster<S>,
+    commands: &[Command<S::Alloc>],
+) -> Result<Vec<Reply<S::Alloc>, S::Alloc>, (Vec<Reply<S::Alloc>, S::Alloc>, NoMemory)>
+    ensures { Plays S.Stable cluster.old commands.now result cluster.new }
+{
+    let mut replies = Vec::new(alloc);
+    for command in commands {
+        let Ok(()) = replies.reserve(1) else {
+            return Err((replies, NoMemory));
+        };
+        let reply = cluster.apply(alloc, command);
+        if is_short(&reply) {
+            return Err((replies, NoMemory));
+        }
+        replies.push_reserved(reply);
+    }
+    Ok(replies)
+}
+
+/// Does what the commands say, one after the other. Where memory is refused to one of them, or to its reply before it is
+/// done, the replies of the commands before it come back. A store that has no memory takes its node down, and ends nothing.
+///
+/// This is the whole promise of the broadcast: logged uniform reliable broadcast (section 3.7 of the book) with FIFO order
+/// (section 3.9; Hadzilacos and Toueg 1994, uniform FIFO order), whatever was lost, repeated or reordered, and whatever
+/// failed.
+pub fn play<S: Stable>(
+    alloc: S::Alloc,
+    cluster: &mut Cluster<S>,
+    commands: &[Command<S::Alloc>],
+) -> Result<Vec<Reply<S::Alloc>, S::Alloc>, (Vec<Reply<S::Alloc>, S::Alloc>, NoMemory)>
+    ensures played { Plays S.Stable cluster.old commands.now result cluster.new }
+    ensures runs { (w : World) → Shows cluster.old.group w → Runs w commands.now (told_in result) cluster.new.group }
+    ensures headline { (w : World) → Shows cluster.new.group w → IsPromised w }
+{
+    let _sound = cluster.group();
+    played(alloc, cluster, commands)
+}

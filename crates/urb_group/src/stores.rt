@@ -1,0 +1,155 @@
+//! What a group and the store of one node do together.
+
+ghost use Rattle.std.specs.Prelude.{◌≡◌, ℕ, None, Some};
+ghost use Rattle.urb_stable.specs.Memory.{armed_with};
+ghost use Rattle.urb_stable.specs.Placed.{Placed};
+ghost use Rattle.urb_group.specs.Calls.{Steps};
+ghost use Rattle.urb_group.specs.Clustered.{held_draft};
+ghost use Rattle.urb_group.specs.Clusters.{BreaksArmed, Reacts, Reads, Stores};
+ghost use Rattle.urb_group.specs.Commands.{reply_of};
+ghost use Rattle.urb_group.specs.Drafts.{IsUnfallen, IsUnstored, unfallen_in, unstored_in};
+ghost use Rattle.urb_group.specs.Shown.{IsSound};
+ghost use Rattle.urb_group.specs.Step.{Commit, Fail, Restart};
+
+use crate::{Group, Reply, State};
+use std::alloc::Allocator;
+use urb_names::{Message, NodeId, Refusal};
+use urb_stable::{Doubt, Draft, Failure, MemStable, Receipt, Record, Stable};
+
+// Why a node in this state has nothing for its store.
+fn unstored_by(state: Option<State>) -> Option<Refusal>
+    ensures { result ≡ unstored_in state }
+{
+    match state {
+        None => Some(Refusal::BadNode),
+        Some(State::Down) => Some(Refusal::Down),
+        Some(State::Ready) => Some(Refusal::Stale),
+        Some(State::Storing) => None,
+    }
+}
+
+// Why a node in this state can't be restarted.
+fn unfallen_by(state: Option<State>) -> Option<Refusal>
+    ensures { result ≡ unfallen_in state }
+{
+    match state {
+        None => Some(Refusal::BadNode),
+        Some(State::Down) => None,
+        Some(State::Ready) | Some(State::Storing) => Some(Refusal::NotDown),
+    }
+}
+
+// Why a node has nothing for its store; none where it holds a draft.
+pub(crate) fn unstored<A: Allocator + Copy>(group: &Group<A>, node: NodeId) -> Option<Refusal>
+    requires { IsSound group.now }
+    ensures { IsUnstored group.now node result }
+{
+    unstored_by(group.state(node))
+}
+
+// Why a node can't be restarted; none where it is down.
+pub(crate) fn unfallen<A: Allocator + Copy>(group: &Group<A>, node: NodeId) -> Option<Refusal>
+    requires { IsSound group.now }
+    ensures { IsUnfallen group.now node result }
+{
+    unfallen_by(group.state(node))
+}
+
+// The store took the draft that the node holds.
+fn committed<A: Allocator + Copy>(group: &mut Group<A>, receipt: Receipt<A>) -> Reply<A>
+    requires sound { IsSound group.old }
+    requires held { held_draft group.old receipt.node ≡ Some receipt }
+    ensures event { Steps group.old (Commit receipt.node receipt.pos receipt.entry) (λ told. told ≡ reply_of result) group.new }
+    ensures free { held_draft group.new receipt.node ≡ None }
+{
+    Reply::Stored(group.commit(receipt).unwrap())
+}
+
+// The store failed, and the node holds a draft.
+fn failed<A: Allocator + Copy>(group: &mut Group<A>, doubt: Doubt) -> Reply<A>
+    requires sound { IsSound group.old }
+    requires held { (draft : Placed) × (draft.node ≡ doubt.node) × (held_draft group.old draft.node ≡ Some draft) }
+    ensures event { Steps group.old (Fail doubt.node) (λ told. told ≡ reply_of result) group.new }
+    ensures free { held_draft group.new doubt.node ≡ None }
+{
+    let node = doubt.node();
+    group.fail(doubt).unwrap();
+    Reply::WentDown(node)
+}
+
+// A store is to keep the draft that its node holds.
+pub(crate) fn stored<S: Stable>(
+    group: &mut Group<S::Alloc>,
+    draft: Draft<S::Alloc>,
+    store: &mut S,
+) -> Reply<S::Alloc>
+    requires sound { IsSound group.old }
+    requires held { held_draft group.old draft.node ≡ Some draft }
+    ensures stores { Stores S.Stable group.old store.old draft (reply_of result) group.new store.new }
+    ensures free { held_draft group.new draft.node ≡ None }
+{
+    match draft.keep(store) {
+        Ok(receipt) => committed(group, receipt),
+        Err(doubt) => failed(group, doubt),
+    }
+}
+
+// A node comes back with these records.
+fn restarted<A: Allocator + Copy>(
+    group: &mut Group<A>,
+    alloc: A,
+    node: NodeId,
+    image: Vec<Record<Message<A>>, A>,
+) -> Reply<A>
+    requires sound { IsSound group.old }
+    requires free { held_draft group.old node ≡ None }
+    ensures event { Reacts group.old (Restart node image.items) (reply_of result) group.new }
+    ensures free { held_draft group.new node ≡ None }
+{
+    match group.restart(alloc, node, image) {
+        Ok(()) => Reply::Up(node),
+        Err(refusal) => Reply::Refused(refusal),
+    }
+}
+
+// A node comes back with what its store gives.
+pub(crate) fn read<S: Stable>(
+    group: &mut Group<S::Alloc>,
+    alloc: S::Alloc,
+    node: NodeId,
+    store: &mut S,
+) -> Reply<S::Alloc>
+    requires sound { IsSound group.old }
+    requires free { held_draft group.old node ≡ None }
+    ensures reads { Reads S.Stable group.old store.old node (reply_of result) group.new store.new }
+    ensures free { held_draft group.new node ≡ None }
+{
+    match store.retrieve(alloc) {
+        Ok(image) => restarted(group, alloc, node, image),
+        Err(fault) => Reply::Refused(fault.refusal()),
+    }
+}
+
+// The store of a node's draft failed. To a node that holds a draft a crash is the same.
+pub(crate) fn lost<A: Allocator + Copy>(group: &mut Group<A>, draft: Draft<A>) -> Reply<A>
+    requires sound { IsSound group.old }
+    requires held { held_draft group.old draft.node ≡ Some draft }
+    ensures event { Steps group.old (Fail draft.node) (λ told. told ≡ reply_of result) group.new }
+    ensures free { held_draft group.new draft.node ≡ None }
+{
+    let node = draft.node();
+    group.crash(node).unwrap();
+    Reply::WentDown(node)
+}
+
+// A store in memory is to keep a draft, and to fail so.
+pub(crate) fn broken<A: Allocator + Copy>(
+    store: &mut MemStable<A>,
+    draft: &Draft<A>,
+    failure: Failure,
+)
+    ensures { BreaksArmed (armed_with failure store.old) draft.now store.new }
+{
+    store.arm(failure);
+    let _answer = store.store(draft.pos(), draft.entry());
+}
