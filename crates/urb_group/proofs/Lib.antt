@@ -33,3 +33,7 @@ pub mod Unasked
 pub mod StoreMoves
 pub mod Breaking
 pub mod PlayedRuns
+pub mod StockedSteps
+pub mod StockedNodes
+pub mod StockedClusters
+pub mod StockedPlays

@@ -12,6 +12,7 @@ module _ {S A : Type 0} (g : Ghosts S A) where
   pub record IsBlank (store : S) : Type 0 where
     pub certain : g.certain store ≡ []
     pub doubtful : g.is_doubtful store ≡ false
+    pub doubt : g.doubt store ≡ None
 
   -- The store was to keep the draft, and gave this answer: as a store promises of each record.
   pub record Keeps (before : S) (draft : Placed) (answer : Result (Unit {0}) StoreFault) (after : S) : Type 0 where

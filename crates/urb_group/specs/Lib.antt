@@ -20,3 +20,4 @@ pub mod Drafts
 pub mod Plays
 pub mod Examples
 pub mod Scripts
+pub mod Stocked

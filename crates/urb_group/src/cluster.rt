@@ -1,13 +1,14 @@
 //! A group with its stores.
 
 ghost use Rattle.std.specs.List.{All};
-ghost use Rattle.std.specs.Prelude.{◌≡◌, length};
+ghost use Rattle.std.specs.Prelude.{◌≡◌, length, IfOk};
 ghost use Rattle.urb_names.specs.Packets.{packet_of};
 ghost use Rattle.urb_group.specs.Asked.{IsBlank};
 ghost use Rattle.urb_group.specs.Clustered.{held_draft};
 ghost use Rattle.urb_group.specs.Clusters.{Alone, Applies, FailsHeld, RestartsBy, Starts, StoresHeld, is_fallen};
 ghost use Rattle.urb_group.specs.Commands.{reply_of};
 ghost use Rattle.urb_group.specs.Shown.{IsSound};
+ghost use Rattle.urb_group.specs.Stocked.{ContentsFit, IsStocked};
 ghost use Rattle.urb_group.specs.Step.{Arrive, Crash, Submit, Tick};
 
 use crate::drafts::{dropped, no_drafts, noted, taken_out};
@@ -46,6 +47,19 @@ impl<S: Stable> Cluster<S> {
     ) -> Result<Cluster<S>, (Vec<S, S::Alloc>, NoMemory)>
         requires counted { length stores.items ≡ config.n }
         requires blank { All (IsBlank S.Stable) stores.items }
+        ensures started { Starts config stores.items stores result }
+        ensures stocked { IfOk result (λ cluster. IsStocked S.Stable cluster) }
+    {
+        Cluster::started(alloc, config, stores)
+    }
+
+    // The same, as far as the group is concerned.
+    fn started(
+        alloc: S::Alloc,
+        config: Config,
+        stores: Vec<S, S::Alloc>,
+    ) -> Result<Cluster<S>, (Vec<S, S::Alloc>, NoMemory)>
+        requires { length stores.items ≡ config.n }
         ensures { Starts config stores.items stores result }
     {
         let Ok(group) = Group::new(alloc, config) else {
@@ -67,6 +81,15 @@ impl<S: Stable> Cluster<S> {
         ensures sound { IsSound self.now.group }
     {
         &self.group
+    }
+
+    /// That whatever the stores of a stocked cluster may turn out to hold fits together, and opens a group that goes on from
+    /// this one: so a stop of the process loses nothing (sections 2.2 and 3.7 of the book). A new cluster is stocked, and
+    /// each call keeps it so. For proofs alone, since it does nothing.
+    pub fn contents_fit(&self)
+        ensures { IsStocked S.Stable self.now → ContentsFit S.Stable self.now }
+    {
+        self.group.promise();
     }
 
     // A client's message.
@@ -140,6 +163,14 @@ impl<S: Stable> Cluster<S> {
 
     /// Does what a command says.
     pub fn apply(&mut self, alloc: S::Alloc, command: &Command<S::Alloc>) -> Reply<S::Alloc>
+        ensures applied { Applies S.Stable self.old command.now (reply_of result) self.new }
+        ensures stocked { IsStocked S.Stable self.old → IsStocked S.Stable self.new }
+    {
+        self.applied(alloc, command)
+    }
+
+    // A command, by its kind.
+    fn applied(&mut self, alloc: S::Alloc, command: &Command<S::Alloc>) -> Reply<S::Alloc>
         ensures { Applies S.Stable self.old command.now (reply_of result) self.new }
     {
         match command {

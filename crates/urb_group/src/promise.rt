@@ -1,6 +1,6 @@
 //! What holds of every group, whatever calls made it.
 
-ghost use Rattle.std.specs.Prelude.{◌≡◌, ℕ};
+ghost use Rattle.std.specs.Prelude.{◌≡◌, ℕ, length};
 ghost use Rattle.urb_names.specs.Naming.{Content, Label};
 ghost use Rattle.urb_node.specs.Replies.{Same};
 ghost use Rattle.urb_node.specs.declared.answer.Answer.TheVariants.{Accepted};
@@ -20,6 +20,7 @@ impl<A: Allocator + Copy> Group<A> {
     /// survives a stop, and accepts a repeat only of what is stored (sections 3.7 and 3.9 of the book): for proofs alone,
     /// since it does nothing.
     pub fn promise(&self)
+        ensures counted { length self.now.nodes ≡ self.now.size.n }
         ensures sound { IsSound self.now }
         ensures safe { (w : World) → Shows self.now w → Safe w }
         ensures one_message { (w : World) → Shows self.now w → OneMessage w }

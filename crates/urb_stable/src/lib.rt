@@ -14,7 +14,7 @@ pub use draft::Draft;
 pub use fitting::{Misfit, first_misfit};
 pub use memory::{Failure, MemStable};
 pub use receipt::Receipt;
-pub use record::Record;
+pub use record::{Record, limits_of};
 pub use stable::{Stable, StoreFault};
 
 #[cfg(test)]

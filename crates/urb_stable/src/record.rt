@@ -1,6 +1,7 @@
 // What a node keeps in its storage.
 ghost use Rattle.std.specs.Prelude.{◌≡◌, IfOk};
 ghost use Rattle.std.specs.Bool.{MatchBool};
+ghost use Rattle.std.specs.List.{All};
 ghost use Rattle.urb_stable.specs.Entries.{name_of, IsEntry};
 
 use std::alloc::Allocator;
@@ -64,5 +65,14 @@ impl<A: Allocator> Record<Message<A>> {
             }
             Record::Cert(name) => name.limits(),
         }
+    }
+}
+
+/// That every record of a list is within its limits: for proofs alone, since it does nothing.
+pub fn limits_of<A: Allocator>(records: &[Record<Message<A>>])
+    ensures { All IsEntry records.now }
+{
+    for record in records {
+        record.limits();
     }
 }

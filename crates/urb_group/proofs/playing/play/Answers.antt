@@ -1,4 +1,5 @@
 use Rattle.urb_group.proofs.PlayedRuns.{plays-runs, plays-sound, sound-holds}
+use Rattle.urb_group.proofs.StockedPlays.{plays-stocked}
 use Rattle.urb_group.proofs.playing.play.Goals as goal
 
 pub returns-clause-runs : goal.returns-clause-runs
@@ -6,3 +7,6 @@ returns-clause-runs g c = plays-runs g.S.Stable _ _ _ _ c.played.ensures c.group
 
 pub returns-clause-headline : goal.returns-clause-headline
 returns-clause-headline g c = λ w s. sound-holds _ w (plays-sound g.S.Stable _ _ _ _ c.played.ensures c.group-sound.ensures.sound) s
+
+pub returns-clause-stocked : goal.returns-clause-stocked
+returns-clause-stocked g c = plays-stocked g.S.Stable _ _ _ _ c.played.ensures

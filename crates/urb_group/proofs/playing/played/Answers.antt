@@ -14,7 +14,7 @@ returns-then-is_short g c =
     let short : is_no_memory c.apply-reply.result ≡ true = sym c.is_short.ensures ∙ c.if-is_short.true in
     rw c.reserve.ensures.items
     (stops-short g.S.Stable c.args.cluster.now c.loop-command.cluster c.apply-reply.new.self c.args.commands.now c.loop-command.replies.items c.loop-command.command-index c.command-item.result
-    c.loop-command-test.true c.command-item.is c.loop-command.invariant.follows c.loop-command.invariant.count c.apply-reply.result c.apply-reply.ensures short)
+    c.loop-command-test.true c.command-item.is c.loop-command.invariant.follows c.loop-command.invariant.count c.apply-reply.result c.apply-reply.ensures.applied short)
 
 pub loop-command-preserved : goal.loop-command-preserved
 loop-command-preserved g c =
@@ -24,6 +24,6 @@ loop-command-preserved g c =
       follows =
           rw items
           (follows-next g.S.Stable c.args.cluster.now c.loop-command.cluster c.apply-reply.new.self c.args.commands.now c.loop-command.replies.items c.loop-command.command-index c.command-item.result
-          c.loop-command-test.true c.command-item.is c.loop-command.invariant.follows c.loop-command.invariant.count c.apply-reply.result c.apply-reply.ensures told_is);
+          c.loop-command-test.true c.command-item.is c.loop-command.invariant.follows c.loop-command.invariant.count c.apply-reply.result c.apply-reply.ensures.applied told_is);
       count = search rules;
     }

@@ -1,6 +1,5 @@
-use Rattle.std.proofs.Common.{rules}
-use Rattle.urb_group.proofs.Breaking.{started-tied}
+use Rattle.urb_group.proofs.StockedPlays.{starts-stocked}
 use Rattle.urb_group.proofs.cluster.Cluster.new.Goals as goal
 
-pub invariant_of-result : goal.invariant_of-result
-invariant_of-result g c = started-tied _ c.args.config _ _ (search rules) c.requires.counted (search rules)
+pub returns-clause-stocked : goal.returns-clause-stocked
+returns-clause-stocked g c = starts-stocked g.S.Stable c.args.config c.args.stores.items c.args.stores c.started.result c.requires.blank c.started.ensures

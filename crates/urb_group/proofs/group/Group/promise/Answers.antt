@@ -1,4 +1,6 @@
-use Rattle.std.proofs.Common.{[], refl}
+use Rattle.std.proofs.Common.{[], refl, ◌∙◌}
+use Rattle.std.proofs.lemmas.List.{length-map}
+use Rattle.urb_group.specs.Places.{view_at}
 use Rattle.urb_group.specs.Step.{Run, run}
 use Rattle.urb_group.specs.World.{World}
 use Rattle.urb_group.proofs.Accepted.{accepted-stored}
@@ -11,6 +13,9 @@ use Rattle.urb_group.proofs.group.Group.promise.Goals as goal
 nothing_ran : (w : World) → Run w [] [] w
 unfolding run
 nothing_ran w = refl
+
+pub returns-clause-counted : goal.returns-clause-counted
+returns-clause-counted g c = rw (← c.self.view_is) (length-map c.self.inside.nodes.items view_at ∙ c.self.invariant.placed.count)
 
 pub returns-clause-sound : goal.returns-clause-sound
 returns-clause-sound g c = rw (← c.self.view_is) c.self.invariant.sound

@@ -1,0 +1,114 @@
+-- The stores of a new cluster, after a failure that was asked for, and after commands that were played; and what they come to.
+use Rattle.std.proofs.Common.{Bool, Err, List, None, Ok, Option, Result, Some, [], ap, arith, false, inl, inr, length, refl, subst, suc, sym, true, zero, ℕ, ◌-◌, ◌<◌, ◌+◌, ◌++◌, ◌∙◌, ◌∷◌, ◌≡◌, ◌≤◌, ◌⊎◌, ⊎_elim, IfOk}
+use Rattle.std.specs.Prelude.{slice_get, slice_index_or}
+use Rattle.std.specs.List.{All, AllByRecursion}
+use Rattle.std.specs.Prelude.{Vec}
+use Rattle.std.proofs.lemmas.Bool.{cases_lt}
+use Rattle.std.proofs.lemmas.List.{get_or_past}
+use Rattle.std.proofs.lemmas.Option.{get_or_from_slice_get}
+use Rattle.urb_names.proofs.Places.{get_some}
+use Rattle.urb_node.specs.Shown.{no_view, NodeView}
+use Rattle.std.proofs.lemmas.List.Elements.{recursion_from_All}
+use Rattle.urb_names.specs.Naming.{Limits}
+use Rattle.urb_names.specs.Nodes.{is_node}
+use Rattle.urb_names.specs.declared.refusal.NoMemory.{NoMemory}
+use Rattle.urb_names.specs.declared.refusal.Refusal.TheVariants as refusal
+use Rattle.urb_node.specs.Part.{Down, Node, Ready, State, Storing}
+use Rattle.urb_node.specs.Replies as told
+use Rattle.urb_node.specs.Steps.{doubt, is_down}
+use Rattle.urb_stable.specs.Entries.{Entry}
+use Rattle.urb_stable.specs.Memory.{Memory, after_failure, armed_with, with_record, without_memory}
+use Rattle.urb_stable.specs.Placed.{Placed}
+use Rattle.urb_stable.specs.Storing.{IsContents, is_out_of_place}
+use Rattle.urb_stable.specs.declared.memory.Failure.{Failure}
+use Rattle.urb_stable.specs.declared.memory.Failure.TheVariants as failure
+use Rattle.urb_stable.specs.declared.stable.Stable.{Ghosts}
+use Rattle.urb_group.proofs.StockedClusters.{applies-stocked}
+use Rattle.urb_group.specs.Asked.{IsBlank}
+use Rattle.urb_group.specs.Clustered.{Clustered}
+use Rattle.urb_group.specs.Clusters.{Applies, Starts}
+use Rattle.urb_group.specs.Commands.{reply_of}
+use Rattle.urb_group.specs.Plays.{Follows, Plays, Stops}
+use Rattle.urb_group.specs.Shown.{GroupView, IsSound, Shows, view_of}
+use Rattle.urb_group.specs.Stocked.{AreChosen, AreStoresOf, ContentsFit, IsStocked, IsStoreOf}
+use Rattle.urb_group.specs.Stopping.{GoesOnIn, MayLeave}
+use Rattle.urb_group.specs.World.{World, image_of, started}
+use Rattle.urb_group.specs.declared.command.Command.{Command}
+use Rattle.urb_group.specs.declared.reply.Reply.{Reply}
+use Rattle.urb_group.proofs.Alike.{sound-kept}
+use Rattle.urb_group.proofs.Stops.{survives}
+
+-- ---- a new cluster
+
+blank-at : {S A : Type 0} (g : Ghosts S A) (stores : List S) → AllByRecursion (IsBlank g) stores → (i : ℕ) (store : S) → slice_get stores i ≡ Some store → IsBlank g store
+blank-at g [] h i store e = cc
+blank-at g (s ∷ stores) h zero store e = (let f : s ≡ store = cc in subst (λ t. IsBlank g t) f h.0)
+blank-at g (s ∷ stores) h (suc i) store e = blank-at g stores h.1 i store e
+
+-- a store in which nothing was stored is that of a node that has stored nothing
+blank-store : {S A : Type 0} (g : Ghosts S A) (size : Limits) (p : ℕ) (store : S) → IsBlank g store → IsStoreOf g ((started size).node p) store
+blank-store g size p store blank =
+    record {
+      contents = λ honest records c. subst (λ (o : Option Entry). IsContents (g.certain store) o records) blank.doubt c ∙ blank.certain;
+      up = λ honest e. (blank.certain, blank.doubt);
+    }
+
+pub new-stocked : {S A : Type 0} (g : Ghosts S A) (size : Limits) (stores : List S) (cluster : Clustered S) → All (IsBlank g) stores → Shows cluster.group (started size) → cluster.stores ≡ stores → IsStocked g cluster
+new-stocked g size stores cluster blank shows same =
+    record {
+      world = started size;
+      shows = shows;
+      stores = λ i store got. blank-store g size (suc i) store (blank-at g stores (recursion_from_All (IsBlank g) stores blank) i store (subst (λ xs. slice_get xs i ≡ Some store) same got));
+    }
+
+pub starts-stocked : {S A T : Type 0} (g : Ghosts S A) (size : Limits) (stores : List S) (passed : T) (result : Result (Clustered S) (T × NoMemory)) → All (IsBlank g) stores → Starts size stores passed result → IfOk result (λ cluster. IsStocked g cluster)
+starts-stocked g size stores passed (Ok cluster) blank h = new-stocked g size stores cluster blank h.0 h.1
+starts-stocked g size stores passed (Err e) blank h = tt
+
+-- ---- commands that were played
+
+follows-stocked : {S A : Type 0} (g : Ghosts S A) (old new : Clustered S) (commands : List (Command A)) (replies : List (Reply A)) → Follows g old commands replies new → IsStocked g old → IsStocked g new
+follows-stocked g old new commands [] h stocked = subst (λ c. IsStocked g c) (sym h) stocked
+follows-stocked g old new [] (reply ∷ replies) h stocked = absurd h
+follows-stocked g old new (command ∷ commands) (reply ∷ replies) h stocked = follows-stocked g h.0 new commands replies h.3 (applies-stocked g old h.0 command (reply_of reply) h.1 stocked)
+
+pub plays-stocked : {S A : Type 0} (g : Ghosts S A) (old new : Clustered S) (commands : List (Command A)) (result : Result (Vec (Reply A) A) (Vec (Reply A) A × NoMemory)) → Plays g old commands result new → IsStocked g old → IsStocked g new
+plays-stocked g old new commands (Ok replies) h stocked = follows-stocked g old new commands replies.items h.0 stocked
+plays-stocked g old new commands (Err e) h stocked =
+    let last = follows-stocked g old h.last commands e.0.items h.follows stocked in
+    ⊎_elim (λ same. subst (λ c. IsStocked g c) (sym same) last) (λ applied. applies-stocked g h.last new h.command (told.Refused refusal.NoMemory) applied last) h.refused
+
+-- ---- all that the stores may turn out to hold
+
+-- a node that the group has no place for has stored nothing
+no-place : (group : GroupView) (w : World) (p : ℕ) → Shows group w → view_of group p ≡ no_view → MayLeave (w.node p) []
+no-place group w p shows none = at ((w.node p).records) refl
+  where
+    at : (records : List Entry) → (w.node p).records ≡ records → MayLeave (w.node p) []
+    at [] e = subst (λ (s : State). IsContents (w.node p).records (doubt s) []) (ap (λ (v : NodeView). v.state) (sym none) ∙ (shows.nodes p).state) (sym e)
+    at (r ∷ records) e = (let count : 0 ≡ suc (length records) = ap (λ (v : NodeView). v.count) (sym none) ∙ ((shows.nodes p).count ∙ ap length e) in absurd (omega (arith, count)))
+
+-- a choice for each store is a choice for each node
+chosen-left : {S A : Type 0} (g : Ghosts S A) (cluster : Clustered S) (images : List (List Entry)) (h : IsStocked g cluster) → length cluster.stores ≡ length cluster.group.nodes → AreChosen g cluster.stores images → (p : ℕ) → MayLeave (h.world.node p) (image_of images p)
+chosen-left g cluster images h places chosen zero = no-place cluster.group h.world 0 h.shows refl
+chosen-left g cluster images h places chosen (suc i) = ⊎_elim within past (cases_lt i (length images))
+  where
+    within : i < length images → MayLeave (h.world.node (suc i)) (image_of images (suc i))
+    within less =
+        let image = get_some images i less in
+        let store = get_some cluster.stores i (let e = chosen.one_each in omega (arith, e, less)) in
+        let one = chosen.each i store.0 image.0 store.1 image.1 in
+        subst (λ (records : List Entry). MayLeave (h.world.node (suc i)) records) (sym (get_or_from_slice_get images i image.0 [] image.1)) ((h.stores i store.0 store.1).contents one.0 image.0 one.1)
+
+    past : length images ≤ i → MayLeave (h.world.node (suc i)) (image_of images (suc i))
+    past more =
+        let beyond : length cluster.group.nodes ≤ i = (let e = chosen.one_each in omega (arith, e, places, more)) in
+        subst (λ (records : List Entry). MayLeave (h.world.node (suc i)) records) (sym (get_or_past images i [] more)) (no-place cluster.group h.world (suc i) h.shows (get_or_past cluster.group.nodes i no_view beyond))
+
+pub stocked-fits : {S A : Type 0} (g : Ghosts S A) (cluster : Clustered S) → IsSound cluster.group → length cluster.stores ≡ length cluster.group.nodes → IsStocked g cluster → ContentsFit g cluster
+stocked-fits g cluster sound places h =
+    record {
+      world = h.world;
+      shows = h.shows;
+      fit = λ images chosen. survives h.world (sound-kept cluster.group h.world sound h.shows) (image_of images) (chosen-left g cluster images h places chosen);
+    }

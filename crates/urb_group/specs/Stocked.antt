@@ -1,0 +1,40 @@
+-- What the stores of a cluster may hold, beside a world that its group shows.
+use Rattle.std.specs.Prelude.{List, None, Some, false, length, slice_get, suc, ℕ, ◌≡◌}
+use Rattle.urb_stable.specs.Entries.{Entry}
+use Rattle.urb_stable.specs.Storing.{IsContents}
+use Rattle.urb_stable.specs.declared.stable.Stable.{Ghosts}
+use Rattle.urb_node.specs.Part.{Node}
+use Rattle.urb_node.specs.Steps.{is_down}
+use Rattle.urb_group.specs.Clustered.{Clustered}
+use Rattle.urb_group.specs.Shown.{Shows}
+use Rattle.urb_group.specs.Stopping.{GoesOnIn, MayLeave}
+use Rattle.urb_group.specs.World.{World, image_of}
+
+module _ {S A : Type 0} (g : Ghosts S A) where
+  -- An honest store of this node: whatever it may turn out to hold, a stop may leave of the node; and while the node is up,
+  -- it holds the node's records for certain, and none is in doubt.
+  pub record IsStoreOf (node : Node) (store : S) : Type 0 where
+    pub contents : g.is_honest store → (records : List Entry) → IsContents (g.certain store) (g.doubt store) records → MayLeave node records
+    pub up : g.is_honest store → is_down node.state ≡ false → (g.certain store ≡ node.records) × (g.doubt store ≡ None)
+
+  -- the stores, one after the other, are those of the world's nodes
+  abbrev pub AreStoresOf : World → List S → Type 0
+  AreStoresOf w stores = (i : ℕ) (store : S) → slice_get stores i ≡ Some store → IsStoreOf (w.node (suc i)) store
+
+  -- the cluster's group shows a world of whose nodes its stores are
+  pub record IsStocked (cluster : Clustered S) : Type 0 where
+    pub world : World
+    pub shows : Shows cluster.group world
+    pub stores : AreStoresOf world cluster.stores
+
+  -- images of all nodes, each of which its honest store may turn out to hold
+  pub record AreChosen (stores : List S) (images : List (List Entry)) : Type 0 where
+    pub one_each : length images ≡ length stores
+    pub each : (i : ℕ) (store : S) (image : List Entry) → slice_get stores i ≡ Some store → slice_get images i ≡ Some image → g.is_honest store × IsContents (g.certain store) (g.doubt store) image
+
+  -- the group shows a world in which all that its stores may turn out to hold fits together, and opens a group that goes on
+  -- from there
+  pub record ContentsFit (cluster : Clustered S) : Type 0 where
+    pub world : World
+    pub shows : Shows cluster.group world
+    pub fit : (images : List (List Entry)) → AreChosen cluster.stores images → GoesOnIn world (image_of images)
