@@ -1,4 +1,4 @@
-use Rattle.std.proofs.Common.{Some, arith, refl, rules, ◌≡◌}
+use Rattle.std.proofs.Common.{Some, arith, rules, ◌≡◌}
 use Rattle.std.specs.Prelude.{slice_get}
 use Rattle.urb_names.specs.Packets.{packet_of}
 use Rattle.urb_group.specs.Moving.{ArrivesAt}
@@ -8,9 +8,6 @@ use Rattle.urb_group.proofs.group.Group.arrive.Goals as goal
 
 pub returns-in-Err : goal.returns-in-Err
 returns-in-Err g c = arrive-fault c.args.self.now c.args.node (packet_of c.args.bytes.now) c.in-Err.fault c.in-Err.ensures.exact
-
-pub same-self : goal.same-self
-same-self g c = refl
 
 pub returns-in_default : goal.returns-in_default
 returns-in_default g c =
