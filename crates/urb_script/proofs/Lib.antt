@@ -1,5 +1,7 @@
 pub mod Clients
+pub mod HexWords
 pub mod Kept
+pub mod NameWords
 pub mod Nodes
 pub mod Numbered
 pub mod Numbers

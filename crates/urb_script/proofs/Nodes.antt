@@ -105,10 +105,7 @@ node_settled world p act all from_one keeps = found_settled world p act all from
 
 pub taken_settled : (old : Option World) (asked : Command) (text : List ℕ) (new : World) → InRange asked → ((world : World) → old ≡ Some world → AreSettled world) → Takes old asked text new → AreSettled new
 taken_settled None (Group limits) text new range all t = subst AreSettled (sym t.1) (settled_world limits (new_world limits).nodes limits.n refl)
-taken_settled None (Submit p client number payload) text new range all t = absurd t
-taken_settled None (Stored p) text new range all t = absurd t
-taken_settled None (Log p) text new range all t = absurd t
-taken_settled (Some world) (Group limits) text new range all t = absurd t
+taken_settled None asked text new range all t = absurd t
 taken_settled (Some world) (Submit p client number payload) text new range all t =
     subst AreSettled (sym (ap (λ (s : List ℕ × World). s.1) t))
     (node_settled world p (submits world.limits p (record { client = client; number = number; payload = payload })) (all world refl) (omega (arith, range.0.0))
@@ -117,3 +114,4 @@ taken_settled (Some world) (Stored p) text new range all t =
     subst AreSettled (sym (ap (λ (s : List ℕ × World). s.1) t))
     (node_settled world p (stores world.limits) (all world refl) (omega (arith, range.0)) (λ node s. settled-stores world.limits p node s))
 taken_settled (Some world) (Log p) text new range all t = subst AreSettled (sym (ap (λ (s : List ℕ × World). s.1) t)) (all world refl)
+taken_settled (Some world) asked text new range all t = absurd t

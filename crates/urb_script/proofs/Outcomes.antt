@@ -1,19 +1,26 @@
 -- A script has one outcome.
-use Rattle.std.proofs.Common.{◌≡◌, ℕ, suc, ◌+◌, ◌≤◌, List, [], ◌∷◌, ◌++◌, length, get_or, Option, Some, None, refl, sym, ap, ap₂, ◌∙◌, subst, arith, append_assoc}
+use Rattle.std.proofs.Common.{◌≡◌, ℕ, Bool, true, suc, ◌+◌, ◌≤◌, List, [], ◌∷◌, ◌++◌, length, get_or, Option, Some, None, refl, sym, ap, ap₂, ◌∙◌, subst, arith, append_assoc}
 use Rattle.std.specs.Fmt.{decimal}
 use Rattle.std.proofs.lemmas.Fmt.{decimal_injective}
-use Rattle.urb_names.specs.Naming.{Limits}
+use Rattle.std.specs.Str.{bytes_eq}
+use Rattle.std.specs.Prelude.{codes}
+use Rattle.urb_names.specs.Naming.{Limits, Label, IsLabel}
+use Rattle.urb_stable.specs.declared.memory.Failure.{Failure}
+use Rattle.urb_stable.specs.declared.memory.Failure.TheVariants.{Old, New}
+use Rattle.urb_script.specs.Lines.{words_of}
+use Rattle.urb_script.specs.Hex.{IsHexWord}
+use Rattle.urb_script.specs.Wording.{IsNodeNumber, HasWord, payload_word, failure_word, name_text}
+use Rattle.urb_script.proofs.HexWords.{same_bytes}
+use Rattle.urb_script.proofs.NameWords.{name_sender, name_seq}
+use Rattle.urb_script.proofs.Spellings.{test}
 use Rattle.urb_script.specs.Worlds.{World}
-use Rattle.urb_script.specs.Commands.{Command, Group, Submit, Stored, Log, spelling, payload_word, HasWord, InRange, Spells}
+use Rattle.urb_script.specs.Commands.{Command, Group, Submit, Stored, Fail, Crash, Restart, Arrive, Raw, Tick, Log, Held, keyword, AreArguments, IsSpelled, InRange, Spells}
 use Rattle.urb_script.specs.Steps.{Takes, MayCome}
 use Rattle.urb_script.specs.Scripts.{Answers, Ends, IsBad, HasOneOutcome, bad_line}
 use Rattle.urb_script.specs.declared.runs.Ended.{Ended}
 use Rattle.urb_script.specs.declared.runs.Ended.TheVariants.{Whole, BadLine}
 
 -- ---- a line spells one command
-
-limits_of : ℕ → ℕ → Limits
-limits_of n cap = record { n = n; cap = cap }
 
 same_number : (m n : ℕ) → m ≤ 4294967295 → n ≤ 4294967295 → decimal m ≡ decimal n → m ≡ n
 same_number m n l u e = decimal_injective m n (omega (arith, l)) (omega (arith, u)) e
@@ -24,58 +31,90 @@ same_payload [] (byte ∷ bytes) h k e = absurd (k.1 (sym e))
 same_payload (byte ∷ bytes) [] h k e = absurd (h.1 e)
 same_payload (byte ∷ bytes) (first ∷ others) h k e = e
 
--- equal lists of words have equal words and bytes
+-- equal lists of words have equal words
 word : (k : ℕ) {words others : List (List ℕ)} → words ≡ others → get_or words k [] ≡ get_or others k []
 word k e = ap (λ (words : List (List ℕ)). get_or words k []) e
 
-second_byte : {words others : List (List ℕ)} → words ≡ others → get_or (get_or words 0 []) 1 0 ≡ get_or (get_or others 0 []) 1 0
-second_byte e = ap (λ (words : List (List ℕ)). get_or (get_or words 0 []) 1 0) e
+-- equal words spell the same node alone
+same_node : (f : ℕ → Command) (words : List (List ℕ)) (node p : ℕ) → IsNodeNumber node → IsNodeNumber p → words ≡ decimal node ∷ [] → words ≡ decimal p ∷ [] → f node ≡ f p
+same_node f words node p r s e g = ap f (same_number node p (omega (arith, r.1)) (omega (arith, s.1)) (word 0 (sym e ∙ g)))
 
-one_command : (asked other : Command) → InRange asked → InRange other → spelling asked ≡ spelling other → asked ≡ other
-one_command (Group limits) (Group more) r s e =
-    ap₂ (λ (n cap : ℕ). Group (record { n = n; cap = cap })) (same_number limits.n more.n (omega (arith, r.1)) (omega (arith, s.1)) (word 1 e)) (same_number limits.cap more.cap (omega (arith, r.3)) (omega (arith, s.3)) (word 2 e))
-one_command (Group limits) (Submit node client number payload) r s e = absurd (cc)
-one_command (Group limits) (Stored node) r s e = absurd (cc)
-one_command (Group limits) (Log node) r s e = absurd (cc)
-one_command (Submit node client number payload) (Group limits) r s e = absurd (cc)
-one_command (Submit node client number payload) (Submit p c k other) r s e =
-    ap₂ (λ (a b : ℕ). Submit a b number payload) (same_number node p (omega (arith, r.0.1)) (omega (arith, s.0.1)) (word 1 e)) (same_number client c (omega (arith, r.2)) (omega (arith, s.2)) (word 2 e))
-    ∙ ap₂ (λ (a : ℕ) (b : List ℕ). Submit p c a b) (same_number number k r.3 s.3 (word 3 e)) (same_payload payload other r.4 s.4 (word 4 e))
-one_command (Submit node client number payload) (Stored p) r s e = absurd (omega (arith, second_byte e))
-one_command (Submit node client number payload) (Log p) r s e = absurd (cc)
-one_command (Stored node) (Group limits) r s e = absurd (cc)
-one_command (Stored node) (Submit p client number payload) r s e = absurd (omega (arith, second_byte e))
-one_command (Stored node) (Stored p) r s e = ap Stored (same_number node p (omega (arith, r.1)) (omega (arith, s.1)) (word 1 e))
-one_command (Stored node) (Log p) r s e = absurd (cc)
-one_command (Log node) (Group limits) r s e = absurd (cc)
-one_command (Log node) (Submit p client number payload) r s e = absurd (cc)
-one_command (Log node) (Stored p) r s e = absurd (cc)
-one_command (Log node) (Log p) r s e = ap Log (same_number node p (omega (arith, r.1)) (omega (arith, s.1)) (word 1 e))
+same_failure : (failure other : Failure) → failure_word failure ≡ failure_word other → failure ≡ other
+same_failure Old Old e = refl
+same_failure Old New e = let f = test (codes "old") (codes "old") (codes "new") refl e in absurd (cc)
+same_failure New Old e = let f = test (codes "new") (codes "new") (codes "old") refl e in absurd (cc)
+same_failure New New e = refl
+
+same_label : (x y : Label) → IsLabel x → IsLabel y → decimal x.sender ≡ decimal y.sender → decimal x.seq ≡ decimal y.seq → x ≡ y
+same_label x y l k e f =
+    ap₂ (λ (sender seq : ℕ). record { sender = sender; seq = seq })
+    (same_number x.sender y.sender (omega (arith, l.sender)) (omega (arith, k.sender)) e)
+    (same_number x.seq y.seq (omega (arith, l.seq)) (omega (arith, k.seq)) f)
+
+same_name : (x y : Label) → IsLabel x → IsLabel y → name_text x ≡ name_text y → x ≡ y
+same_name x y l k e = same_label x y l k (name_sender x y l k e) (name_seq x y l k e)
+
+same_arguments : (asked other : Command) (words : List (List ℕ)) → bytes_eq (keyword asked) (keyword other) ≡ true → InRange asked → InRange other → AreArguments asked words → AreArguments other words → asked ≡ other
+same_arguments (Group limits) (Group more) words k r s a b =
+    let e = sym a ∙ b in
+    ap₂ (λ (n cap : ℕ). Group (record { n = n; cap = cap })) (same_number limits.n more.n (omega (arith, r.1)) (omega (arith, s.1)) (word 0 e)) (same_number limits.cap more.cap (omega (arith, r.3)) (omega (arith, s.3)) (word 1 e))
+same_arguments (Group limits) other words k r s a b = absurd (cc)
+same_arguments (Submit node client number payload) (Submit p c n other) words k r s a b =
+    let e = sym a ∙ b in
+    ap₂ (λ (x y : ℕ). Submit x y number payload) (same_number node p (omega (arith, r.0.1)) (omega (arith, s.0.1)) (word 0 e)) (same_number client c (omega (arith, r.2)) (omega (arith, s.2)) (word 1 e))
+    ∙ ap₂ (λ (x : ℕ) (y : List ℕ). Submit p c x y) (same_number number n r.3 s.3 (word 2 e)) (same_payload payload other r.4 s.4 (word 3 e))
+same_arguments (Submit node client number payload) other words k r s a b = absurd (cc)
+same_arguments (Stored node) (Stored p) words k r s a b = same_node Stored words node p r s a b
+same_arguments (Stored node) other words k r s a b = absurd (cc)
+same_arguments (Fail node failure) (Fail p other) words k r s a b =
+    let e = sym a ∙ b in
+    ap₂ (λ (x : ℕ) (y : Failure). Fail x y) (same_number node p (omega (arith, r.1)) (omega (arith, s.1)) (word 0 e)) (same_failure failure other (word 1 e))
+same_arguments (Fail node failure) other words k r s a b = absurd (cc)
+same_arguments (Crash node) (Crash p) words k r s a b = same_node Crash words node p r s a b
+same_arguments (Crash node) other words k r s a b = absurd (cc)
+same_arguments (Restart node) (Restart p) words k r s a b = same_node Restart words node p r s a b
+same_arguments (Restart node) other words k r s a b = absurd (cc)
+same_arguments (Arrive source node name) (Arrive q p x) words k r s a b =
+    let e = sym a ∙ b in
+    ap₂ (λ (y z : ℕ). Arrive y z name) (same_number source q (omega (arith, r.0.1)) (omega (arith, s.0.1)) (word 0 e)) (same_number node p (omega (arith, r.1.1)) (omega (arith, s.1.1)) (word 1 e))
+    ∙ ap (λ (y : Label). Arrive q p y) (same_label name x r.3 s.3 (word 2 e) (word 3 e))
+same_arguments (Arrive source node name) other words k r s a b = absurd (cc)
+same_arguments (Raw node bytes) (Raw p others) words k r s a b =
+    let e = sym a.1 ∙ b.1 in
+    ap₂ (λ (x : ℕ) (y : List ℕ). Raw x y) (same_number node p (omega (arith, r.1)) (omega (arith, s.1)) (word 0 e))
+    (same_bytes bytes others b.0 (subst (IsHexWord bytes) (word 1 e) a.2) b.2)
+same_arguments (Raw node bytes) other words k r s a b = absurd (cc)
+same_arguments (Tick node) (Tick p) words k r s a b = same_node Tick words node p r s a b
+same_arguments (Tick node) other words k r s a b = absurd (cc)
+same_arguments (Log node) (Log p) words k r s a b = same_node Log words node p r s a b
+same_arguments (Log node) other words k r s a b = absurd (cc)
+same_arguments (Held name) (Held x) words k r s a b = ap Held (same_name name x r s (word 0 (sym a ∙ b)))
+same_arguments (Held name) other words k r s a b = absurd (cc)
+
+one_command : (words : List (List ℕ)) (asked other : Command) → InRange asked → InRange other → IsSpelled words asked → IsSpelled words other → asked ≡ other
+one_command [] asked other r s a b = absurd a
+one_command (first ∷ others) asked other r s a b = same_arguments asked other others (test first (keyword asked) (keyword other) a.0 b.0) r s a.1 b.1
 
 spells_one : (line : List ℕ) (asked other : Command) → Spells line asked → Spells line other → asked ≡ other
-spells_one line asked other s t = one_command asked other s.range t.range (sym s.words ∙ t.words)
+spells_one line asked other s t = one_command (words_of line) asked other s.range t.range s.words t.words
 
 -- ---- a command has one answer
 
 takes_one : (old : Option World) (asked : Command) (text said : List ℕ) (new next : World) → Takes old asked text new → Takes old asked said next → (text ≡ said) × (new ≡ next)
 takes_one None (Group limits) text said new next t u = (t.0 ∙ sym u.0, t.1 ∙ sym u.1)
-takes_one None (Submit p client number payload) text said new next t u = absurd t
-takes_one None (Stored p) text said new next t u = absurd t
-takes_one None (Log p) text said new next t u = absurd t
-takes_one (Some world) (Group limits) text said new next t u = absurd t
+takes_one None asked text said new next t u = absurd t
 takes_one (Some world) (Submit p client number payload) text said new next t u = let e : ◌≡◌ {A = List ℕ × World} (text, new) (said, next) = t ∙ sym u in (ap (λ (s : List ℕ × World). s.0) e, ap (λ (s : List ℕ × World). s.1) e)
 takes_one (Some world) (Stored p) text said new next t u = let e : ◌≡◌ {A = List ℕ × World} (text, new) (said, next) = t ∙ sym u in (ap (λ (s : List ℕ × World). s.0) e, ap (λ (s : List ℕ × World). s.1) e)
 takes_one (Some world) (Log p) text said new next t u = let e : ◌≡◌ {A = List ℕ × World} (text, new) (said, next) = t ∙ sym u in (ap (λ (s : List ℕ × World). s.0) e, ap (λ (s : List ℕ × World). s.1) e)
+takes_one (Some world) asked text said new next t u = absurd t
 
 takes_may : (old : Option World) (asked : Command) (text : List ℕ) (new : World) → Takes old asked text new → MayCome old asked
 takes_may None (Group limits) text new t = tt
-takes_may None (Submit p client number payload) text new t = t
-takes_may None (Stored p) text new t = t
-takes_may None (Log p) text new t = t
-takes_may (Some world) (Group limits) text new t = t
+takes_may None asked text new t = absurd t
 takes_may (Some world) (Submit p client number payload) text new t = tt
 takes_may (Some world) (Stored p) text new t = tt
 takes_may (Some world) (Log p) text new t = tt
+takes_may (Some world) asked text new t = absurd t
 
 -- ---- a script ends in one way
 

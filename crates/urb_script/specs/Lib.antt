@@ -1,5 +1,7 @@
 pub mod Lines
 pub mod Worlds
+pub mod Hex
+pub mod Wording
 pub mod Commands
 pub mod Texts
 pub mod Steps

@@ -95,29 +95,25 @@ log_found p (Some node) = log_text p node.stored
 
 -- the answer to a command, and the world after it
 abbrev pub answer : World → Command → List ℕ × World
-answer world (Group limits) = ([], world)
 answer world (Submit p client number payload) = told (at_node world p (submits world.limits p (record { client = client; number = number; payload = payload })))
 answer world (Stored p) = told (at_node world p (stores world.limits))
 answer world (Log p) = (log_found p (node_at world p), world)
+answer world asked = ([], world)
 
 -- whether a command may come now: the first line makes the group, and no later line does
 abbrev pub MayCome : Option World → Command → Type 0
 MayCome None (Group limits) = Unit {0}
-MayCome None (Submit p client number payload) = ⊥
-MayCome None (Stored p) = ⊥
-MayCome None (Log p) = ⊥
-MayCome (Some world) (Group limits) = ⊥
+MayCome None asked = ⊥
 MayCome (Some world) (Submit p client number payload) = Unit {0}
 MayCome (Some world) (Stored p) = Unit {0}
 MayCome (Some world) (Log p) = Unit {0}
+MayCome (Some world) asked = ⊥
 
 -- From what there is so far, a command that may come is answered with this text and leads to this world.
 abbrev pub Takes : Option World → Command → List ℕ → World → Type 0
 Takes None (Group limits) text new = (text ≡ reply_text (reply.Grouped limits)) × (new ≡ new_world limits)
-Takes None (Submit p client number payload) text new = ⊥
-Takes None (Stored p) text new = ⊥
-Takes None (Log p) text new = ⊥
-Takes (Some world) (Group limits) text new = ⊥
+Takes None asked text new = ⊥
 Takes (Some world) (Submit p client number payload) text new = (text, new) ≡ answer world (Submit p client number payload)
 Takes (Some world) (Stored p) text new = (text, new) ≡ answer world (Stored p)
 Takes (Some world) (Log p) text new = (text, new) ≡ answer world (Log p)
+Takes (Some world) asked text new = ⊥

@@ -10,13 +10,9 @@ use Rattle.urb_names.specs.declared.refusal.Refusal.{Refusal}
 use Rattle.urb_names.specs.declared.refusal.Refusal.TheVariants as refusal
 use Rattle.urb_stable.specs.Entries.{Entry}
 use Rattle.urb_stable.specs.Log.{entries}
-use Rattle.urb_script.specs.Commands.{payload_word}
+use Rattle.urb_script.specs.Wording.{payload_word, name_text}
 use Rattle.urb_script.specs.declared.replies.Reply.{Reply}
 use Rattle.urb_script.specs.declared.replies.Reply.TheVariants.{Grouped, Drafted, Accepted, Stored, Refused}
-
--- a name: the sender, a full stop, the number
-abbrev pub name_text : Label → List ℕ
-name_text x = decimal x.sender ++ (46 ∷ decimal x.seq)
 
 -- a fault of a packet's bytes, as a word
 abbrev pub fault_word : PacketFault → List ℕ

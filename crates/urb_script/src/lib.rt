@@ -2,6 +2,7 @@
 #![tactic(auto)]
 
 mod commands;
+mod hex;
 mod input;
 mod node;
 mod replies;

@@ -28,7 +28,7 @@ pub enum Reply {
 struct NameWord(Name);
 
 impl fmt::Display for NameWord {
-    ghost use Rattle.urb_script.specs.Texts.{name_text};
+    ghost use Rattle.urb_script.specs.Wording.{name_text};
     ghost use Rattle.std.specs.Prelude.{Some};
 
     ghost output = { λ word. Some (name_text word.0) };

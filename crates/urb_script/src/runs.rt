@@ -80,7 +80,14 @@ fn answer_line<A: Allocator, P: Play<A>>(
             None => Ok(Some(P::open(alloc, config, text)?)),
             Some(_) => Ok(None),
         },
-        _ => match state {
+        CommandLine::Fail { .. }
+        | CommandLine::Crash(_)
+        | CommandLine::Restart(_)
+        | CommandLine::Arrive { .. }
+        | CommandLine::Raw { .. }
+        | CommandLine::Tick(_)
+        | CommandLine::Held(_) => Ok(None),
+        found => match state {
             None => Ok(None),
             Some(mut state) => {
                 state.play(found, text)?;

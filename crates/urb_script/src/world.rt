@@ -94,7 +94,6 @@ impl<A: Allocator + Copy> Play<A> for World<A> {
 
     fn play(&mut self, found: CommandLine<'_>, text: &mut Vec<u8, A>) -> Result<(), NoMemory> {
         match found {
-            CommandLine::Group(_) => Ok(()),
             CommandLine::Submit {
                 node,
                 client,
@@ -109,6 +108,7 @@ impl<A: Allocator + Copy> Play<A> for World<A> {
                 push_reply(text, reply)
             }
             CommandLine::Log(node) => self.push_log(node, text),
+            _ => Ok(()),
         }
     }
 }
