@@ -18,8 +18,8 @@ use Rattle.urb_script.specs.Steps.{pending, is_own_numbered, submits, submits_by
 use Rattle.urb_script.specs.Settled.{messages, numbered, HasNextNumber, IsCounted, IsNext, IsSettled}
 use Rattle.urb_script.specs.Searching.{passes, again_in, record_text}
 use Rattle.urb_script.specs.Texts.{log_text, entry_text}
-use Rattle.urb_script.specs.declared.replies.Reply.{Reply}
-use Rattle.urb_script.specs.declared.replies.Reply.TheVariants as reply
+use Rattle.urb_script.specs.declared.replies.Told.{Told}
+use Rattle.urb_script.specs.declared.replies.Told.TheVariants as reply
 use Rattle.urb_script.proofs.Numbered.{own-numbered, length-numbered, numbered-push, messages-numbered, log_growth, log_by_record}
 use Rattle.urb_script.proofs.Clients.{pair_by_record, pair_by_none, next_reverse}
 
@@ -44,13 +44,13 @@ ready : (limits : Limits) (p : ℕ) (m : Content) (node : Node) → is_some node
     → submits limits p m node ≡ submits_by_number limits p m (find (is_own_numbered p m.client m.number) (pend node.stored)) node
 ready limits p m node free short = cond-false (is_some node.held) _ _ free ∙ cond-false (nat_lt 1024 (length m.payload)) _ _ (le-ltb 1024 (length m.payload) short)
 
-pub repeat_is : (limits : Limits) (p client number : ℕ) (payload : List ℕ) (node : Node) (e : Entry) (said : Reply) → is_some node.held ≡ false → length payload ≤ 1024
-    → find (passes (is_own_numbered p client number)) node.stored ≡ Some e → said ≡ again_in payload e → ◌≡◌ {A = Reply × Node} (said, node) (submits limits p (message client number payload) node)
+pub repeat_is : (limits : Limits) (p client number : ℕ) (payload : List ℕ) (node : Node) (e : Entry) (said : Told) → is_some node.held ≡ false → length payload ≤ 1024
+    → find (passes (is_own_numbered p client number)) node.stored ≡ Some e → said ≡ again_in payload e → ◌≡◌ {A = Told × Node} (said, node) (submits limits p (message client number payload) node)
 repeat_is limits p client number payload node e said free short found is =
     let r = pair_by_record (is_own_numbered p client number) node.stored payload e found in
     sym (ready limits p (message client number payload) node free short
     ∙ (ap (λ (o : Option (Label × Content)). submits_by_number limits p (message client number payload) o node) r.found
-    ∙ ap (λ (said : Reply). (said, node)) (sym (is ∙ r.answer))))
+    ∙ ap (λ (said : Told). (said, node)) (sym (is ∙ r.answer))))
 
 fresh : (limits : Limits) (p client number : ℕ) (payload : List ℕ) (node : Node) → is_some node.held ≡ false → length payload ≤ 1024
     → find (passes (is_own_numbered p client number)) node.stored ≡ None → submits limits p (message client number payload) node ≡ submits_new limits p (message client number payload) node
@@ -63,7 +63,7 @@ next_is limits p client next node s e = ap (next_number client) (own_is limits p
 
 pub gap_is : (limits : Limits) (p client number next : ℕ) (payload : List ℕ) (node : Node) → IsSettled limits p node → is_some node.held ≡ false → length payload ≤ 1024
     → find (passes (is_own_numbered p client number)) node.stored ≡ None → next ≡ next_number client (messages node.stored) → number ≢ next
-    → ◌≡◌ {A = Reply × Node} (reply.Refused (refusal.Gap next), node) (submits limits p (message client number payload) node)
+    → ◌≡◌ {A = Told × Node} (reply.Refused (refusal.Gap next), node) (submits limits p (message client number payload) node)
 gap_is limits p client number next payload node s free short none e differs =
     let n = next_is limits p client next node s e in
     let test : not (number == next_number client (own p (pend node.stored))) ≡ true = ap (λ k. not (number == k)) n ∙ ap not (ne_eqb number next differs) in
@@ -81,7 +81,7 @@ counted limits p client number next payload node s free short none e same =
 
 pub full_is : (limits : Limits) (p client number next : ℕ) (payload : List ℕ) (node : Node) → IsSettled limits p node → is_some node.held ≡ false → length payload ≤ 1024
     → find (passes (is_own_numbered p client number)) node.stored ≡ None → next ≡ next_number client (messages node.stored) → number ≡ next → limits.cap ≤ length node.stored
-    → ◌≡◌ {A = Reply × Node} (reply.Refused refusal.Full, node) (submits limits p (message client number payload) node)
+    → ◌≡◌ {A = Told × Node} (reply.Refused refusal.Full, node) (submits limits p (message client number payload) node)
 full_is limits p client number next payload node s free short none e same full =
     let test : not (nat_lt (length (own p (pend node.stored))) limits.cap) ≡ true = ap (λ k. not (nat_lt k limits.cap)) (own_length limits p node s) ∙ ap not (le-ltb (length node.stored) limits.cap full) in
     sym (counted limits p client number next payload node s free short none e same ∙ cond-true (not (nat_lt (length (own p (pend node.stored))) limits.cap)) _ _ test)
@@ -95,12 +95,12 @@ draft_is limits p client number next payload node s free short none e same room 
 
 -- what is drafted, with the next name by the number of records
 pub drafts_is : (limits : Limits) (p position : ℕ) (m : Content) (node : Node) (entry : Entry) (stored : List Entry) → IsSettled limits p node → stored ≡ node.stored → position ≡ suc (length node.stored) → entry ≡ pending (limits.n == 1) (name p position, m)
-    → ◌≡◌ {A = Reply × Node} (reply.Drafted (name p position) position, record { stored = stored; held = Some entry }) (drafts limits p m node)
+    → ◌≡◌ {A = Told × Node} (reply.Drafted (name p position) position, record { stored = stored; held = Some entry }) (drafts limits p m node)
 drafts_is limits p position m node entry stored s kept e is =
     let own : position ≡ suc (length (own p (pend node.stored))) = e ∙ ap suc (sym (own_length limits p node s)) in
     rw (kept, is) (ap₂ told own e)
   where
-    told : ℕ → ℕ → Reply × Node
+    told : ℕ → ℕ → Told × Node
     told i j = (reply.Drafted (name p i) j, record { stored = node.stored; held = Some (pending (limits.n == 1) (name p i, m)) })
 
 -- ---- stored
@@ -131,19 +131,19 @@ growth limits p node entry s next =
 
 pub keeps : (limits : Limits) (p count sent released : ℕ) (node : Node) (entry : Entry) (stored : List Entry) (held : Option Entry) → IsSettled limits p node → node.held ≡ Some entry
     → stored ≡ node.stored ++ entry ∷ [] → held ≡ None → count ≡ length stored → sent ≡ limits.n - 1 → released ≡ cond (limits.n == 1) 1 0
-    → ◌≡◌ {A = Reply × Node} (reply.Stored (name p count) sent released, record { stored = stored; held = held }) (stores limits node)
+    → ◌≡◌ {A = Told × Node} (reply.Stored (name p count) sent released, record { stored = stored; held = held }) (stores limits node)
 keeps limits p count sent released node entry stored held s e after none counts sends releases =
     let next = held_is limits p node entry s e in
     let named : name p count ≡ name_of entry =
     ap (name p) (counts ∙ (ap length after ∙ one_longer node.stored entry)) ∙ sym (ap name_of next.under ∙ name_of-pending (limits.n == 1) (name p (suc (length node.stored))) next.message) in
     rw (e, none, after, sends) (ap₂ (λ (x : Label) (r : ℕ). told x r) named (releases ∙ sym (growth limits p node entry s next)))
   where
-    told : Label → ℕ → Reply × Node
+    told : Label → ℕ → Told × Node
     told x r = (reply.Stored x (limits.n - 1) r, record { stored = node.stored ++ entry ∷ []; held = None })
 
 -- ---- settled nodes stay settled
 
-choose : (P : Reply × Node → Type 0) (b : Bool) (x y : Reply × Node) → (b ≡ true → P x) → (b ≡ false → P y) → P (cond b x y)
+choose : (P : Told × Node → Type 0) (b : Bool) (x y : Told × Node) → (b ≡ true → P x) → (b ≡ false → P y) → P (cond b x y)
 choose P true x y h k = h refl
 choose P false x y h k = k refl
 
@@ -174,7 +174,7 @@ settled-submits limits p m node s =
     choose P (nat_lt 1024 (length m.payload)) _ _ (λ long. s) (λ short.
     by_number (find (is_own_numbered p m.client m.number) (pend node.stored))))
   where
-    P : Reply × Node → Type 0
+    P : Told × Node → Type 0
     P step = IsSettled limits p step.1
 
     by_number : (found : Option (Label × Content)) → IsSettled limits p (submits_by_number limits p m found node).1

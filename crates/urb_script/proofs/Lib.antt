@@ -10,4 +10,5 @@ pub mod Parts
 pub mod Progress
 pub mod Rows
 pub mod Safety
+pub mod Shown
 pub mod Spellings

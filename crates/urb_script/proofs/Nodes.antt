@@ -9,7 +9,7 @@ use Rattle.urb_script.specs.Commands.{Command, Group, Submit, Stored, Log, InRan
 use Rattle.urb_script.specs.Steps.{at_node, at_found, submits, stores, log_found, Takes}
 use Rattle.urb_script.specs.Texts.{log_text}
 use Rattle.urb_script.specs.Settled.{IsSettled, AreSettled}
-use Rattle.urb_script.specs.declared.replies.Reply.{Reply}
+use Rattle.urb_script.specs.declared.replies.Told.{Told}
 use Rattle.urb_script.proofs.Kept.{settled-new, settled-submits, settled-stores}
 
 same_some : {X : Type 0} {x y : X} → Some x ≡ Some y → x ≡ y
@@ -62,28 +62,28 @@ settled_world limits nodes count is k node e =
 
 -- ---- what is done at a node
 
-pub at_one : (limits : Limits) (nodes nodes' : List Node) (p : ℕ) (old after : Node) (world : World) (said : Reply) (act : Limits → Node → Reply × Node)
+pub at_one : (limits : Limits) (nodes nodes' : List Node) (p : ℕ) (old after : Node) (world : World) (said : Told) (act : Limits → Node → Told × Node)
     → record { limits = limits; nodes = nodes } ≡ world → slice_get nodes (p - 1) ≡ Some old → (said, after) ≡ act limits old → nodes' ≡ slice_set nodes (p - 1) after
-    → ◌≡◌ {A = Reply × World} (said, record { limits = limits; nodes = nodes' }) (at_node world p (act world.limits))
+    → ◌≡◌ {A = Told × World} (said, record { limits = limits; nodes = nodes' }) (at_node world p (act world.limits))
 at_one limits nodes nodes' p old after world said act is found step set =
-    subst (λ (w : World). ◌≡◌ {A = Reply × World} (said, record { limits = limits; nodes = nodes' }) (at_node w p (act w.limits))) is
-    (rw set (ap (λ (s : Reply × Node). told s) step
+    subst (λ (w : World). ◌≡◌ {A = Told × World} (said, record { limits = limits; nodes = nodes' }) (at_node w p (act w.limits))) is
+    (rw set (ap (λ (s : Told × Node). told s) step
     ∙ sym (ap (at_found (record { limits = limits; nodes = nodes }) p (act limits)) found)))
   where
-    told : Reply × Node → Reply × World
+    told : Told × Node → Told × World
     told s = (s.0, record { limits = limits; nodes = slice_set nodes (p - 1) s.1 })
 
-pub stored_settled : (limits : Limits) (p : ℕ) (old after : Node) (said : Reply) → IsSettled limits p old → (said, after) ≡ stores limits old → IsSettled limits p after
-stored_settled limits p old after said s step = subst (λ (r : Reply × Node). IsSettled limits p r.1) (sym step) (settled-stores limits p old s)
+pub stored_settled : (limits : Limits) (p : ℕ) (old after : Node) (said : Told) → IsSettled limits p old → (said, after) ≡ stores limits old → IsSettled limits p after
+stored_settled limits p old after said s step = subst (λ (r : Told × Node). IsSettled limits p r.1) (sym step) (settled-stores limits p old s)
 
 -- also where memory was refused, which leaves the node as before
-pub submitted_settled : (limits : Limits) (p : ℕ) (m : Content) (old after : Node) (result : Result Reply NoMemory) → IsSettled limits p old → IfOk result (λ said. (said, after) ≡ submits limits p m old) → OnErr result (after ≡ old) → IsSettled limits p after
-submitted_settled limits p m old after (Ok said) s step same = subst (λ (r : Reply × Node). IsSettled limits p r.1) (sym step) (settled-submits limits p m old s)
+pub submitted_settled : (limits : Limits) (p : ℕ) (m : Content) (old after : Node) (result : Result Told NoMemory) → IsSettled limits p old → IfOk result (λ said. (said, after) ≡ submits limits p m old) → OnErr result (after ≡ old) → IsSettled limits p after
+submitted_settled limits p m old after (Ok said) s step same = subst (λ (r : Told × Node). IsSettled limits p r.1) (sym step) (settled-submits limits p m old s)
 submitted_settled limits p m old after (Err fault) s step same = subst (IsSettled limits p) (sym same) s
 
-pub at_one_ok : (limits : Limits) (nodes nodes' : List Node) (p : ℕ) (old after : Node) (world : World) (result : Result Reply NoMemory) (act : Limits → Node → Reply × Node)
+pub at_one_ok : (limits : Limits) (nodes nodes' : List Node) (p : ℕ) (old after : Node) (world : World) (result : Result Told NoMemory) (act : Limits → Node → Told × Node)
     → record { limits = limits; nodes = nodes } ≡ world → slice_get nodes (p - 1) ≡ Some old → IfOk result (λ said. (said, after) ≡ act limits old) → nodes' ≡ slice_set nodes (p - 1) after
-    → IfOk result (λ said. ◌≡◌ {A = Reply × World} (said, record { limits = limits; nodes = nodes' }) (at_node world p (act world.limits)))
+    → IfOk result (λ said. ◌≡◌ {A = Told × World} (said, record { limits = limits; nodes = nodes' }) (at_node world p (act world.limits)))
 at_one_ok limits nodes nodes' p old after world (Ok said) act is found step set = at_one limits nodes nodes' p old after world said act is found step set
 at_one_ok limits nodes nodes' p old after world (Err fault) act is found step set = tt
 
@@ -94,13 +94,13 @@ log_at limits nodes p node world is found =
 
 -- ---- each command keeps all nodes settled
 
-found_settled : (world : World) (p : ℕ) (act : Node → Reply × Node) → AreSettled world → 0 < p → ((node : Node) → IsSettled world.limits p node → IsSettled world.limits p (act node).1)
+found_settled : (world : World) (p : ℕ) (act : Node → Told × Node) → AreSettled world → 0 < p → ((node : Node) → IsSettled world.limits p node → IsSettled world.limits p (act node).1)
     → (found : Option Node) → node_at world p ≡ found → AreSettled (at_found world p act found).1
 found_settled world p act all from_one keeps None e = all
 found_settled world p act all from_one keeps (Some node) e =
     settled_set world.limits world.nodes p (act node).1 all from_one (keeps node (settled_at world.limits world.nodes p node all from_one e))
 
-node_settled : (world : World) (p : ℕ) (act : Node → Reply × Node) → AreSettled world → 0 < p → ((node : Node) → IsSettled world.limits p node → IsSettled world.limits p (act node).1) → AreSettled (at_node world p act).1
+node_settled : (world : World) (p : ℕ) (act : Node → Told × Node) → AreSettled world → 0 < p → ((node : Node) → IsSettled world.limits p node → IsSettled world.limits p (act node).1) → AreSettled (at_node world p act).1
 node_settled world p act all from_one keeps = found_settled world p act all from_one keeps (node_at world p) refl
 
 pub taken_settled : (old : Option World) (asked : Command) (text : List ℕ) (new : World) → InRange asked → ((world : World) → old ≡ Some world → AreSettled world) → Takes old asked text new → AreSettled new

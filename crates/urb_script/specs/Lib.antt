@@ -4,6 +4,7 @@ pub mod Hex
 pub mod Wording
 pub mod Commands
 pub mod Texts
+pub mod Replying
 pub mod Steps
 pub mod Settled
 pub mod Searching

@@ -6,8 +6,8 @@ use Rattle.urb_stable.specs.Entries.{Entry}
 use Rattle.urb_stable.specs.declared.record.Record.TheVariants.{Pend, PendCert, Cert}
 use Rattle.urb_script.specs.Steps.{again}
 use Rattle.urb_script.specs.Texts.{entry_text}
-use Rattle.urb_script.specs.declared.replies.Reply.{Reply}
-use Rattle.urb_script.specs.declared.replies.Reply.TheVariants as reply
+use Rattle.urb_script.specs.declared.replies.Told.{Told}
+use Rattle.urb_script.specs.declared.replies.Told.TheVariants as reply
 
 -- the name and message of a pending record
 abbrev pub pair_in : Entry → Option (Label × Content)
@@ -28,7 +28,7 @@ number_in (PendCert x m) = m.number
 number_in (Cert x) = 0
 
 -- the answer to a repeat of the record's number with this payload
-abbrev pub again_in : List ℕ → Entry → Reply
+abbrev pub again_in : List ℕ → Entry → Told
 again_in payload (Pend x m) = again payload (x, m)
 again_in payload (PendCert x m) = again payload (x, m)
 again_in payload (Cert x) = reply.Refused refusal.Conflict

@@ -4,6 +4,7 @@
 mod commands;
 mod hex;
 mod input;
+mod lines;
 mod node;
 mod replies;
 mod runs;

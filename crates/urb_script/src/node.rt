@@ -6,9 +6,10 @@ ghost use Rattle.urb_names.specs.Pairs.{next_number};
 ghost use Rattle.urb_script.specs.Searching.{passes, number_in, again_in, record_text};
 ghost use Rattle.urb_script.specs.Settled.{IsSettled, IsCounted, messages};
 ghost use Rattle.urb_script.specs.Steps.{submits, drafts, stores, pending, is_own_numbered};
-ghost use Rattle.urb_script.specs.Texts.{log_text, entry_text};
+ghost use Rattle.urb_script.specs.Texts.{log_text};
 
-use crate::replies::Reply;
+use crate::lines::push_entry;
+use crate::replies::Told;
 use std::alloc::{Allocator, Global};
 use std::io::Write;
 use std::marker::Model;
@@ -73,18 +74,18 @@ fn number_in<A: Allocator>(entry: &Record<Message<A>>) -> u32
 }
 
 // What a repeat of the record's number with this payload is answered.
-fn again<A: Allocator>(entry: &Record<Message<A>>, payload: &[u8]) -> Reply
+fn again<A: Allocator>(entry: &Record<Message<A>>, payload: &[u8]) -> Told
     ensures { result ≡ again_in payload.now entry.now }
 {
     match entry {
         Record::Pend(name, message) | Record::PendCert(name, message) => {
             if message.payload() == payload {
-                Reply::Accepted(*name)
+                Told::Accepted(*name)
             } else {
-                Reply::Refused(Refusal::Conflict)
+                Told::Refused(Refusal::Conflict)
             }
         }
-        Record::Cert(_) => Reply::Refused(Refusal::Conflict),
+        Record::Cert(_) => Told::Refused(Refusal::Conflict),
     }
 }
 
@@ -96,31 +97,6 @@ fn pending<A: Allocator>(config: Config, name: Name, message: Message<A>) -> Rec
         Record::PendCert(name, message)
     } else {
         Record::Pend(name, message)
-    }
-}
-
-// Writes an entry of a log.
-fn push_entry<A: Allocator>(
-    text: &mut Vec<u8, A>,
-    name: Name,
-    message: &Message<A>,
-) -> Result<(), NoMemory>
-    ensures { OnOk result (text.new.items ≡ text.old.items ++ entry_text (name, Some message.now)) }
-{
-    let Name { sender, seq } = name;
-    let sender = sender.number();
-    if write!(text, " {sender}.{seq}=").is_err() {
-        return Err(NoMemory);
-    }
-    let payload = message.payload();
-    let word = if payload.is_empty() {
-        b"-".as_slice()
-    } else {
-        payload
-    };
-    match text.extend_from_slice(word) {
-        Ok(()) => Ok(()),
-        Err(_) => Err(NoMemory),
     }
 }
 
@@ -185,26 +161,26 @@ impl<A: Allocator + Copy> Node<A> {
         client: ClientId,
         number: u32,
         payload: &[u8],
-    ) -> Option<Reply>
+    ) -> Option<Told>
         requires { IsSettled config node self.now }
         ensures answer { let m : Content = record { client = client; number = number; payload = payload.now } in MatchOption result (submits config node m self.now ≡ drafts config node m self.now) (λ reply. (reply, self.now) ≡ submits config node m self.now) }
         ensures fits { IfNone result ((0 < number) × (length payload.now ≤ 1024) × (length self.now.stored < config.cap)) }
     {
         if self.held.is_some() {
-            return Some(Reply::Refused(Refusal::Busy));
+            return Some(Told::Refused(Refusal::Busy));
         }
         if MAX_PAYLOAD < payload.len() {
-            return Some(Reply::Refused(Refusal::TooLong));
+            return Some(Told::Refused(Refusal::TooLong));
         }
         let next = self.next_number(client);
         if let Some(record) = self.find(node, client, number, next) {
             return Some(again(record, payload));
         }
         if number != next {
-            return Some(Reply::Refused(Refusal::Gap(next)));
+            return Some(Told::Refused(Refusal::Gap(next)));
         }
         if config.cap() as usize <= self.stored.len() {
-            return Some(Reply::Refused(Refusal::Full));
+            return Some(Told::Refused(Refusal::Full));
         }
         None
     }
@@ -220,7 +196,7 @@ impl<A: Allocator + Copy> Node<A> {
         client: ClientId,
         number: u32,
         payload: &[u8],
-    ) -> Result<Reply, NoMemory>
+    ) -> Result<Told, NoMemory>
         requires { IsSettled config node self.old }
         ensures step { IfOk result (λ reply. (reply, self.new) ≡ submits config node (record { client = client; number = number; payload = payload.now }) self.old) }
         ensures err { OnErr result (self.new ≡ self.old) }
@@ -238,23 +214,23 @@ impl<A: Allocator + Copy> Node<A> {
             seq: position,
         };
         self.held = Some(pending(config, name, message));
-        Ok(Reply::Drafted { name, position })
+        Ok(Told::Drafted { name, position })
     }
 
     /// Stores the record that is held, and tells what that sends and releases. Takes no memory.
-    pub fn keep(&mut self, config: Config, node: NodeId) -> Reply
+    pub fn keep(&mut self, config: Config, node: NodeId) -> Told
         requires { IsSettled config node self.old }
         ensures { (result, self.new) ≡ stores config self.old }
     {
         let Some(record) = self.held.take() else {
-            return Reply::Refused(Refusal::Stale);
+            return Told::Refused(Refusal::Stale);
         };
         self.stored.push_reserved(record);
         let name = Name {
             sender: node,
             seq: self.stored.len() as u32,
         };
-        Reply::Stored {
+        Told::Stored {
             name,
             sent: config.n() - 1,
             released: if config.n() == 1 { 1 } else { 0 },

@@ -1,7 +1,7 @@
 //! Whole scripts, bad lines, and scripts in which memory, the reader or the writer fails.
 
 use super::*;
-use crate::replies::{Reply, push_reply};
+use crate::replies::{Told, push_told};
 use std::alloc::Global;
 use std::process::Abort;
 use std::test::Fail;
@@ -234,7 +234,7 @@ fn refusals_have_their_words(rt: HostRuntime) -> Result<(), Fail> {
         (Refusal::BadRow(3), b"badrow 3"),
     ] {
         let mut text = Vec::new(rt.alloc());
-        push_reply(&mut text, Reply::Refused(refusal))?;
+        push_told(&mut text, Told::Refused(refusal))?;
         let mut wanted = Vec::new(rt.alloc());
         wanted.extend_from_slice(b"refused ")?;
         wanted.extend_from_slice(words)?;

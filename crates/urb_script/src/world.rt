@@ -6,7 +6,7 @@ ghost use Rattle.urb_script.specs.Steps.{at_node, submits, stores, log_found};
 
 use crate::commands::CommandLine;
 use crate::node::Node;
-use crate::replies::{Reply, push_reply};
+use crate::replies::{Told, push_told};
 use crate::runs::Play;
 use std::alloc::{Allocator, Global};
 use std::marker::Model;
@@ -52,22 +52,22 @@ impl<A: Allocator + Copy> World<A> {
         client: ClientId,
         number: u32,
         payload: &[u8],
-    ) -> Result<Reply, NoMemory>
+    ) -> Result<Told, NoMemory>
         ensures { IfOk result (λ reply. (reply, self.new) ≡ at_node self.old node (submits self.old.limits node (record { client = client; number = number; payload = payload.now }))) }
     {
         let at = node.number() as usize - 1;
         if self.nodes.len() <= at {
-            return Ok(Reply::Refused(Refusal::BadNode));
+            return Ok(Told::Refused(Refusal::BadNode));
         }
         self.nodes[at].submit(self.alloc, self.config, node, client, number, payload)
     }
 
-    fn keep(&mut self, node: NodeId) -> Reply
+    fn keep(&mut self, node: NodeId) -> Told
         ensures { (result, self.new) ≡ at_node self.old node (stores self.old.limits) }
     {
         let at = node.number() as usize - 1;
         if self.nodes.len() <= at {
-            return Reply::Refused(Refusal::BadNode);
+            return Told::Refused(Refusal::BadNode);
         }
         self.nodes[at].keep(self.config, node)
     }
@@ -77,7 +77,7 @@ impl<A: Allocator + Copy> World<A> {
     {
         let at = node.number() as usize - 1;
         if self.nodes.len() <= at {
-            return push_reply(text, Reply::Refused(Refusal::BadNode));
+            return push_told(text, Told::Refused(Refusal::BadNode));
         }
         self.nodes[at].push_log(self.config, node, text)
     }
@@ -88,7 +88,7 @@ impl<A: Allocator + Copy> Play<A> for World<A> {
 
     fn open(alloc: A, config: Config, text: &mut Vec<u8, A>) -> Result<World<A>, NoMemory> {
         let world = World::new(alloc, config)?;
-        push_reply(text, Reply::Grouped(config))?;
+        push_told(text, Told::Grouped(config))?;
         Ok(world)
     }
 
@@ -101,11 +101,11 @@ impl<A: Allocator + Copy> Play<A> for World<A> {
                 payload,
             } => {
                 let reply = self.submit(node, client, number, payload)?;
-                push_reply(text, reply)
+                push_told(text, reply)
             }
             CommandLine::Stored(node) => {
                 let reply = self.keep(node);
-                push_reply(text, reply)
+                push_told(text, reply)
             }
             CommandLine::Log(node) => self.push_log(node, text),
             _ => Ok(()),
