@@ -4,7 +4,6 @@ pub mod Hex
 pub mod Wording
 pub mod Commands
 pub mod Texts
-pub mod Replying
 pub mod Steps
 pub mod Settled
 pub mod Searching

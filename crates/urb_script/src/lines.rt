@@ -3,35 +3,17 @@
 ghost use Rattle.std.specs.Prelude.{◌≡◌, ◌++◌, ◌∷◌, [], OnOk, Some, codes, flat_map};
 ghost use Rattle.std.specs.Fmt.{decimal};
 ghost use Rattle.urb_node.specs.Replies.{Same, Sent};
-ghost use Rattle.urb_script.specs.Replying.{reply_of};
+ghost use Rattle.urb_group.specs.Commands.{reply_of};
 ghost use Rattle.urb_script.specs.Texts.{done_text, entry_text, packet_text, reply_text};
 ghost use Rattle.urb_script.specs.Wording.{name_text};
 
 use crate::replies::{NameWord, Told, push_told};
-use std::alloc::{Allocator, Global};
+use std::alloc::Allocator;
 use std::io::Write;
-use urb_names::{Message, Name, NoMemory, NodeId, Packet, Refusal};
+use urb_group::Reply;
+use urb_names::{Message, Name, NoMemory, NodeId, Packet};
 use urb_node::{Answer, Done};
 use urb_stubborn::Outbox;
-
-/// What a command of a cluster led to.
-#[derive(Drop)]
-pub enum Reply<A: Allocator = Global> {
-    /// The node holds a draft of a record of this name, for this position in its store.
-    Drafted { name: Name, pos: u32 },
-    /// Nothing is to be stored.
-    Same(Answer),
-    /// The node's store took its draft.
-    Stored(Done<A>),
-    /// The node sends these packets.
-    Sent(Outbox<A>),
-    /// The node is down: it crashed, or its store failed.
-    WentDown(NodeId),
-    /// The node is ready again.
-    Up(NodeId),
-    /// The command was refused.
-    Refused(Refusal),
-}
 
 // Writes an answer that was given at once.
 fn push_answer<A: Allocator>(text: &mut Vec<u8, A>, answer: Answer) -> Result<(), NoMemory>
