@@ -1,7 +1,7 @@
 -- A store in memory that was armed, and a group of nodes that hold nothing.
-use Rattle.std.proofs.Common.{Bool, Err, List, None, Ok, Option, Result, Some, false, length, refl, true, zero, suc, ℕ, ◌≡◌, ◌⊎◌, ◌∙◌, sym}
+use Rattle.std.proofs.Common.{Bool, Err, List, None, Ok, Option, Result, Some, false, length, refl, true, zero, suc, ℕ, ◌-◌, ◌<◌, ◌^◌, ◌≡◌, ◌≤◌, ◌⊎◌, ◌∙◌, sym}
 use Rattle.std.specs.Prelude.{replicate}
-use Rattle.std.proofs.lemmas.Bool.{cond_both}
+use Rattle.std.proofs.lemmas.Bool.{cases_lt, cond_both}
 use Rattle.std.proofs.lemmas.List.{length-replicate}
 use Rattle.std.proofs.Common.{ap, ⊎_elim, inl, inr}
 use Rattle.urb_group.proofs.Shows.{sound-new}
@@ -13,24 +13,28 @@ use Rattle.urb_names.specs.Naming.{Limits}
 use Rattle.urb_names.specs.Nodes.{is_node}
 use Rattle.urb_node.specs.Part.{State}
 use Rattle.urb_stable.specs.Entries.{Entry}
-use Rattle.urb_stable.specs.Memory.{Memory, after_failure, with_record, without_memory}
+use Rattle.urb_stable.specs.Memory.{Memory, after_failure, without_memory}
 use Rattle.urb_stable.specs.Placed.{Placed}
 use Rattle.urb_stable.specs.declared.memory.Failure.{Failure}
 use Rattle.urb_stable.specs.declared.memory.Failure.TheVariants as failure
 use Rattle.urb_stable.specs.declared.stable.StoreFault.{StoreFault}
 use Rattle.urb_stable.specs.declared.stable.StoreFault.TheVariants as fault
 
--- what a store in memory says by its cases is what it leaves
-pub breaks-so : (out : Bool) (armed : Option Failure) (m : Memory) (entry : Entry) (after : Memory) (answer : Result (Unit {0}) StoreFault)
+-- what an armed store in memory says by its cases is what it leaves
+pub breaks-so : (out : Bool) (how : Failure) (m : Memory) (entry : Entry) (after : Memory) (answer : Result (Unit {0}) StoreFault)
     → (out ≡ true → after ≡ m)
-    → (out ≡ false → armed ≡ None → ((answer ≡ Ok tt) × (after ≡ with_record entry m)) ⊎ ((answer ≡ Err fault.NoMemory) × (after ≡ without_memory m)))
-    → (out ≡ false → armed ≡ Some failure.Old → (answer ≡ Err fault.Device) × (after ≡ after_failure None m))
-    → (out ≡ false → armed ≡ Some failure.New → ((answer ≡ Err fault.Device) × (after ≡ after_failure (Some entry) m)) ⊎ ((answer ≡ Err fault.NoMemory) × (after ≡ without_memory m)))
-    → Breaks out armed m entry after
-breaks-so true armed m entry after answer a b c d = a refl
-breaks-so false None m entry after answer a b c d = ⊎_elim (λ h. inl h.1) (λ h. inr h.1) (b refl refl)
-breaks-so false (Some failure.Old) m entry after answer a b c d = (c refl refl).1
-breaks-so false (Some failure.New) m entry after answer a b c d = ⊎_elim (λ h. inl h.1) (λ h. inr h.1) (d refl refl)
+    → (out ≡ false → how ≡ failure.Old → m.failures < 2 ^ 64 - 1 → (answer ≡ Err fault.Device) × (after ≡ after_failure None m))
+    → (out ≡ false → how ≡ failure.New → m.failures < 2 ^ 64 - 1 → ((answer ≡ Err fault.Device) × (after ≡ after_failure (Some entry) m)) ⊎ ((answer ≡ Err fault.NoMemory) × (after ≡ without_memory m)))
+    → (out ≡ false → 2 ^ 64 - 1 ≤ m.failures → (answer ≡ Err fault.NoMemory) × (after ≡ without_memory m))
+    → Breaks out how m entry after
+breaks-so true how m entry after answer same old new full = same refl
+breaks-so false how m entry after answer same old new full = at how refl (cases_lt m.failures (2 ^ 64 - 1))
+  where
+    at : (f : Failure) → how ≡ f → (m.failures < 2 ^ 64 - 1) ⊎ (2 ^ 64 - 1 ≤ m.failures) → Breaks false f m entry after
+    at failure.Old e (inl below) = inl (old refl e below).1
+    at failure.Old e (inr above) = inr (full refl above).1
+    at failure.New e (inl below) = ⊎_elim (λ h. inl h.1) (λ h. inr h.1) (new refl e below)
+    at failure.New e (inr above) = inr (full refl above).1
 
 -- ---- a new group
 

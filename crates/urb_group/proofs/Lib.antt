@@ -37,3 +37,4 @@ pub mod StockedSteps
 pub mod StockedNodes
 pub mod StockedClusters
 pub mod StockedPlays
+pub mod StockedFailures

@@ -125,20 +125,31 @@ took g node new before after draft keeps store up records ready =
     certain : g.is_honest after → g.certain after ≡ new.records
     certain honest = keeps.stored honest ∙ (ap (λ rs. rs ++ draft.entry ∷ []) (store.up (keeps.honest honest) up).0 ∙ sym records)
 
+-- Its node fell while it held this record: the store has the node's records for certain, and of the held one it knows nothing,
+-- or has it in doubt.
+pub fallen : {S A : Type 0} (g : Ghosts S A) (node new : Node) (after : S) (entry : Entry) → (g.is_honest after → g.certain after ≡ node.records) → (g.is_honest after → (g.doubt after ≡ None) ⊎ (g.doubt after ≡ Some entry))
+    → new.records ≡ node.records → new.state ≡ Down (Some entry) → IsStoreOf g new after
+fallen g node new after entry kept in_doubt records down =
+    record {
+      contents = λ honest image c. subst (λ (s : State). IsContents new.records (doubt s) image) (sym down) (held honest image (in_doubt honest) c);
+      up = λ honest e. absurd (false≢true (sym e ∙ ap is_down down));
+    }
+  where
+    certain : g.is_honest after → g.certain after ≡ new.records
+    certain honest = kept honest ∙ sym records
+
+    held : g.is_honest after → (image : List Entry) → (g.doubt after ≡ None) ⊎ (g.doubt after ≡ Some entry) → IsContents (g.certain after) (g.doubt after) image → (image ≡ new.records) ⊎ (image ≡ new.records ++ entry ∷ [])
+    held honest image (inl e) c = inl (subst (λ (o : Option Entry). IsContents (g.certain after) o image) e c ∙ certain honest)
+    held honest image (inr e) c = ⊎_elim (λ f. inl (f ∙ certain honest)) (λ f. inr (f ∙ ap (λ rs. rs ++ entry ∷ []) (certain honest))) (subst (λ (o : Option Entry). IsContents (g.certain after) o image) e c)
+
 -- it failed
 lost : {S A : Type 0} (g : Ghosts S A) (node new : Node) (before after : S) (draft : Placed) (fault : StoreFault) → Keeps g before draft (Err fault) after → IsStoreOf g node before → is_down node.state ≡ false
     → new.records ≡ node.records → new.state ≡ Down (Some draft.entry) → IsStoreOf g new after
 lost g node new before after draft fault keeps store up records down =
-    record {
-      contents = λ honest image c. subst (λ (s : State). IsContents new.records (doubt s) image) (sym down) (held honest image (in_doubt (is_place fault) refl honest) c);
-      up = λ honest e. absurd (false≢true (sym e ∙ ap is_down down));
-    }
+    fallen g node new after draft.entry (λ honest. keeps.failed honest ∙ (store.up (keeps.honest honest) up).0) (in_doubt (is_place fault) refl) records down
   where
     answer : Result (Unit {0}) StoreFault
     answer = Err fault
-
-    certain : g.is_honest after → g.certain after ≡ new.records
-    certain honest = keeps.failed honest ∙ ((store.up (keeps.honest honest) up).0 ∙ sym records)
 
     -- out of place, the store stayed; else the record is in doubt, or lost
     in_doubt : (b : Bool) → is_place fault ≡ b → g.is_honest after → (g.doubt after ≡ None) ⊎ (g.doubt after ≡ Some draft.entry)
@@ -149,46 +160,52 @@ lost g node new before after draft fault keeps store up records down =
         at true out = inl (ap g.doubt (keeps.same out) ∙ (store.up (keeps.honest honest) up).1)
         at false out = absurd (false≢true (sym (subst (λ (b : Bool). IsPlaced b (g.place before) answer) out keeps.placed).0 ∙ e))
 
-    held : g.is_honest after → (image : List Entry) → (g.doubt after ≡ None) ⊎ (g.doubt after ≡ Some draft.entry) → IsContents (g.certain after) (g.doubt after) image → (image ≡ new.records) ⊎ (image ≡ new.records ++ draft.entry ∷ [])
-    held honest image (inl e) c = inl (subst (λ (o : Option Entry). IsContents (g.certain after) o image) e c ∙ certain honest)
-    held honest image (inr e) c = ⊎_elim (λ f. inl (f ∙ certain honest)) (λ f. inr (f ∙ ap (λ rs. rs ++ draft.entry ∷ []) (certain honest))) (subst (λ (o : Option Entry). IsContents (g.certain after) o image) e c)
+-- a node of this world holds the draft
+record HoldsIn (w : World) (draft : Placed) : Type 0 where
+  pub cause : Option ℕ
+  pub positive : 0 < draft.node
+  pub there : is_node w.size.n draft.node ≡ true
+  pub storing : (w.node draft.node).state ≡ Storing draft.entry cause
+  pub position : draft.pos ≡ suc (length (w.node draft.node).records)
+
+holds-in : (group : GroupView) (w : World) (p : ℕ) (draft : Placed) → Shows group w → held_draft group p ≡ Some draft → HoldsIn w draft
+holds-in group w p draft shows there =
+    record {
+      cause = held.cause;
+      positive = subst (λ (q : ℕ). 0 < q) (sym held.node) (node-bounds group.size.n p held.there).0;
+      there = subst (λ (q : ℕ). is_node w.size.n q ≡ true) (sym held.node) (subst (λ (l : Limits). is_node l.n p ≡ true) shows.size held.there);
+      storing = subst (λ (q : ℕ). (w.node q).state ≡ Storing draft.entry held.cause) (sym held.node) (sym (shows.nodes p).state ∙ held.state);
+      position = subst (λ (q : ℕ). draft.pos ≡ suc (length (w.node q).records)) (sym held.node) (held.position ∙ ap suc (shows.nodes p).count);
+    }
+  where
+    held : IsHeldAs group p draft
+    held = held-as group p draft there
+
+-- a draft's node fell, whatever its store was left with
+pub fell-stocked : {S A : Type 0} (g : Ghosts S A) (old new : Clustered S) (p : ℕ) (draft : Placed) (reply : Reply) (before after : S) → held_draft old.group p ≡ Some draft
+    → StoreMoves old.stores draft.node before after new.stores → Steps old.group (Fail draft.node) (λ told. told ≡ reply) new.group
+    → ((node fell : Node) → IsStoreOf g node before → is_down node.state ≡ false → fell.records ≡ node.records → fell.state ≡ Down (Some draft.entry) → IsStoreOf g fell after)
+    → IsStocked g old → IsStocked g new
+fell-stocked g old new p draft reply before after there moves event left h =
+    let held = holds-in old.group h.world p draft h.shows there in
+    let node = fail-node h.world draft.node draft.entry held.cause held.there held.storing in
+    moved-stocked g old new draft.node (Fail draft.node) before after refl held.positive moves h (event h.world h.shows).shows
+    (left (h.world.node draft.node) ((step h.world (Fail draft.node)).1.node draft.node) (store-before g old draft.node before h held.positive moves.was) (ap is_down held.storing) node.0 node.1)
 
 stored-stocked : {S A : Type 0} (g : Ghosts S A) (old new : Clustered S) (p : ℕ) (draft : Placed) (reply : Reply) → held_draft old.group p ≡ Some draft → StoresDraft g old draft reply new → IsStocked g old → IsStocked g new
-stored-stocked {S} g old new p draft reply there stores h = at stores.stored.answer stores.stored.keeps stores.stored.event
+stored-stocked g old new p draft reply there stores h = at stores.stored.answer stores.stored.keeps stores.stored.event
   where
-    held : IsHeldAs old.group p draft
-    held = held-as old.group p draft there
-
-    node_is : draft.node ≡ p
-    node_is = held.node
-
-    positive : 0 < draft.node
-    positive = subst (λ (q : ℕ). 0 < q) (sym node_is) (node-bounds old.group.size.n p held.there).0
-
-    in_world : is_node h.world.size.n draft.node ≡ true
-    in_world = subst (λ (q : ℕ). is_node h.world.size.n q ≡ true) (sym node_is) (subst (λ (l : Limits). is_node l.n p ≡ true) h.shows.size held.there)
-
-    storing : (h.world.node draft.node).state ≡ Storing draft.entry held.cause
-    storing = subst (λ (q : ℕ). (h.world.node q).state ≡ Storing draft.entry held.cause) (sym node_is) (sym (h.shows.nodes p).state ∙ held.state)
-
-    position : draft.pos ≡ suc (length (h.world.node draft.node).records)
-    position = subst (λ (q : ℕ). draft.pos ≡ suc (length (h.world.node q).records)) (sym node_is) (held.position ∙ ap suc (h.shows.nodes p).count)
-
-    store : IsStoreOf g (h.world.node draft.node) stores.before
-    store = store-before g old draft.node stores.before h positive stores.moves.was
-
-    is_up : is_down (h.world.node draft.node).state ≡ false
-    is_up = ap is_down storing
+    held : HoldsIn h.world draft
+    held = holds-in old.group h.world p draft h.shows there
 
     at : (answer : Result (Unit {0}) StoreFault) → Keeps g stores.before draft answer stores.after → Steps old.group (stored_as draft answer) (λ told. told ≡ reply) new.group → IsStocked g new
     at (Ok tt) keeps event =
-        let node = commit-node h.world draft.node draft.pos draft.entry held.cause in_world storing position in
-        moved-stocked g old new draft.node (Commit draft.node draft.pos draft.entry) stores.before stores.after refl positive stores.moves h (event h.world h.shows).shows
-        (took g (h.world.node draft.node) ((step h.world (Commit draft.node draft.pos draft.entry)).1.node draft.node) stores.before stores.after draft keeps store is_up node.0 node.1)
+        let node = commit-node h.world draft.node draft.pos draft.entry held.cause held.there held.storing held.position in
+        moved-stocked g old new draft.node (Commit draft.node draft.pos draft.entry) stores.before stores.after refl held.positive stores.moves h (event h.world h.shows).shows
+        (took g (h.world.node draft.node) ((step h.world (Commit draft.node draft.pos draft.entry)).1.node draft.node) stores.before stores.after draft keeps
+        (store-before g old draft.node stores.before h held.positive stores.moves.was) (ap is_down held.storing) node.0 node.1)
     at (Err fault) keeps event =
-        let node = fail-node h.world draft.node draft.entry held.cause in_world storing in
-        moved-stocked g old new draft.node (Fail draft.node) stores.before stores.after refl positive stores.moves h (event h.world h.shows).shows
-        (lost g (h.world.node draft.node) ((step h.world (Fail draft.node)).1.node draft.node) stores.before stores.after draft fault keeps store is_up node.0 node.1)
+        fell-stocked g old new p draft reply stores.before stores.after there stores.moves event (λ node fell store up records down. lost g node fell stores.before stores.after draft fault keeps store up records down) h
 
 held-stocked : {S A : Type 0} (g : Ghosts S A) (old new : Clustered S) (p : ℕ) (reply : Reply) (d : Option Placed) → held_draft old.group p ≡ d → StoresHeld g old p d reply new → IsStocked g old → IsStocked g new
 held-stocked g old new p reply None e alone h = quiet-stocked g old new (Fail p) reply tt alone h

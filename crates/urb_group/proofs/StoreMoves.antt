@@ -18,7 +18,7 @@ use Rattle.urb_names.specs.declared.refusal.Refusal.{Refusal}
 use Rattle.urb_node.specs.Replies.{Refused, Reply}
 use Rattle.urb_node.specs.Steps.{is_down}
 use Rattle.urb_stable.specs.Entries.{Entry}
-use Rattle.urb_stable.specs.Memory.{Memory, armed_with}
+use Rattle.urb_stable.specs.Memory.{Memory}
 use Rattle.urb_stable.specs.Placed.{Placed}
 use Rattle.urb_stable.specs.declared.memory.Failure.{Failure}
 use Rattle.urb_stable.specs.declared.stable.Stable.{Ghosts}
@@ -69,7 +69,7 @@ lost-tied old new p q stores drafts places draft after reply tied held steps fre
     (stored-tied old new p (length stores) drafts draft (Fail draft.node) (λ told. told ≡ reply) tied held refl steps free))
 
 pub lost-fails : (old : Clustered Memory) (new : GroupView) (p q : ℕ) (drafts : List (Option Placed)) (draft : Placed) (before after : Memory) (failure : Failure) (reply : Reply)
-    → IsTied old.group (length old.stores) drafts → held_draft old.group p ≡ Some draft → q ≡ p → before ≡ get_or old.stores (q - 1) before → BreaksArmed (armed_with failure before) draft after
+    → IsTied old.group (length old.stores) drafts → held_draft old.group p ≡ Some draft → q ≡ p → before ≡ get_or old.stores (q - 1) before → BreaksArmed failure before draft after
     → Steps old.group (Fail draft.node) (λ told. told ≡ reply) new
     → FailsHeld old p (held_draft old.group p) failure reply (record { group = new; stores = slice_set old.stores (q - 1) after })
 lost-fails old new p q drafts draft before after failure reply tied held e lent breaks steps =

@@ -32,6 +32,7 @@ module _ {S A : Type 0} (g : Ghosts S A) where
 
   -- The store was to give its records, and gave this answer: as a store promises.
   pub record Gives (before : S) (answer : Result (List Entry) StoreFault) (after : S) : Type 0 where
+    pub answers : g.answers before answer
     pub given : g.is_honest after → IfOk answer (λ records. (g.certain after ≡ records) × IsContents (g.certain before) (g.doubt before) records)
     pub clear : OnOk answer ((g.is_doubtful after ≡ false) × (g.doubt after ≡ None))
     pub failed : g.is_honest after → OnErr answer (g.certain after ≡ g.certain before)

@@ -5,7 +5,7 @@ use Rattle.urb_names.specs.Nodes.{is_node}
 use Rattle.urb_names.specs.Packets.{packet_of}
 use Rattle.urb_names.specs.declared.refusal.NoMemory.{NoMemory}
 use Rattle.urb_stable.specs.Entries.{Entry}
-use Rattle.urb_stable.specs.Memory.{Memory, after_failure, armed_with, with_record, without_memory}
+use Rattle.urb_stable.specs.Memory.{Memory, after_failure, armed_with, without_memory}
 use Rattle.urb_stable.specs.Placed.{Placed}
 use Rattle.urb_stable.specs.Storing.{is_out_of_place, refusal_of}
 use Rattle.urb_stable.specs.declared.memory.Failure.{Failure}
@@ -109,24 +109,24 @@ abbrev pub Starts : {S T : Type 0} → Limits → List S → T → Result (Clust
 Starts size stores passed (Ok cluster) = Shows cluster.group (started size) × (cluster.stores ≡ stores)
 Starts size stores passed (Err e) = e.0 ≡ passed
 
--- What an armed store in memory holds once it was to keep a draft, by whether it was out of place and how it was to fail:
--- what it did before, out of place; at the greatest count of failures, where it is not armed, it may have taken the record.
-abbrev pub Breaks : Bool → Option Failure → Memory → Entry → Memory → Type 0
-Breaks true armed m entry after = after ≡ m
-Breaks false None m entry after = (after ≡ with_record entry m) ⊎ (after ≡ without_memory m)
-Breaks false (Some failure.Old) m entry after = after ≡ after_failure None m
-Breaks false (Some failure.New) m entry after = (after ≡ after_failure (Some entry) m) ⊎ (after ≡ without_memory m)
+-- What a store in memory, armed to fail so, holds once it was to keep a record, by whether it was out of place: what it did
+-- before, out of place; else nothing of the record, where it was to keep nothing; else the record in doubt, or nothing of it
+-- where no memory was left. The count of failures doesn't rise where it is at its greatest.
+abbrev pub Breaks : Bool → Failure → Memory → Entry → Memory → Type 0
+Breaks true failure m entry after = after ≡ m
+Breaks false failure.Old m entry after = (after ≡ after_failure None m) ⊎ (after ≡ without_memory m)
+Breaks false failure.New m entry after = (after ≡ after_failure (Some entry) m) ⊎ (after ≡ without_memory m)
 
--- the store was armed, and then it was to keep the draft
-abbrev pub BreaksArmed : Memory → Placed → Memory → Type 0
-BreaksArmed m draft after = Breaks (is_out_of_place m.doubtful (length m.certain + 1) draft.pos) m.armed m draft.entry after
+-- the store was armed to fail so, and then it was to keep the draft
+abbrev pub BreaksArmed : Failure → Memory → Placed → Memory → Type 0
+BreaksArmed failure m draft after = Breaks (is_out_of_place m.doubtful (length m.certain + 1) draft.pos) failure (armed_with failure m) draft.entry after
 
 -- the store of a held draft failed so, and that is the event
 pub record FailsDraft (old : Clustered Memory) (draft : Placed) (failure : Failure) (reply : Reply) (new : Clustered Memory) : Type 0 where
   pub before : Memory
   pub after : Memory
   pub moves : StoreMoves old.stores draft.node before after new.stores
-  pub breaks : BreaksArmed (armed_with failure before) draft after
+  pub breaks : BreaksArmed failure before draft after
   pub event : Steps old.group (Fail draft.node) (λ told. told ≡ reply) new.group
 
 -- where p holds no draft nothing is armed, and the refusal is that of a failed store

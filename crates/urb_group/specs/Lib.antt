@@ -21,3 +21,4 @@ pub mod Plays
 pub mod Examples
 pub mod Scripts
 pub mod Stocked
+pub mod InMemory

@@ -7,6 +7,7 @@ ghost use Rattle.urb_group.specs.Asked.{IsBlank};
 ghost use Rattle.urb_group.specs.Clustered.{held_draft};
 ghost use Rattle.urb_group.specs.Clusters.{Alone, Applies, FailsHeld, RestartsBy, Starts, StoresHeld, is_fallen};
 ghost use Rattle.urb_group.specs.Commands.{reply_of};
+ghost use Rattle.urb_group.specs.InMemory.{in_memory};
 ghost use Rattle.urb_group.specs.Shown.{IsSound};
 ghost use Rattle.urb_group.specs.Stocked.{ContentsFit, IsStocked};
 ghost use Rattle.urb_group.specs.Step.{Arrive, Crash, Submit, Tick};
@@ -193,6 +194,14 @@ impl<A: Allocator + Copy> Cluster<MemStable<A>> {
     /// Has the store of a node fail while it is to keep the draft that the node holds: for tests, and for scripts that play
     /// failures.
     pub fn fail(&mut self, node: NodeId, failure: Failure) -> Reply<A>
+        ensures failed { FailsHeld self.old node (held_draft self.old.group node) failure (reply_of result) self.new }
+        ensures stocked { IsStocked (in_memory A) self.old → IsStocked (in_memory A) self.new }
+    {
+        self.failed(node, failure)
+    }
+
+    // The same, as far as the group and the one store are concerned.
+    fn failed(&mut self, node: NodeId, failure: Failure) -> Reply<A>
         ensures { FailsHeld self.old node (held_draft self.old.group node) failure (reply_of result) self.new }
     {
         if let Some(why) = unstored(&self.group, node) {

@@ -28,3 +28,6 @@ pub use urb_names::{ClientId, Config, Message, Name, NoMemory, NodeId, PacketFau
 pub use urb_node::{Answer, Done};
 pub use urb_stable::{Doubt, Draft, Failure, MemStable, Receipt, Record, Stable};
 pub use urb_stubborn::Outbox;
+
+#[cfg(test)]
+mod tests;

@@ -1,7 +1,6 @@
 //! What a group and the store of one node do together.
 
 ghost use Rattle.std.specs.Prelude.{◌≡◌, ℕ, None, Some};
-ghost use Rattle.urb_stable.specs.Memory.{armed_with};
 ghost use Rattle.urb_stable.specs.Placed.{Placed};
 ghost use Rattle.urb_group.specs.Calls.{Steps};
 ghost use Rattle.urb_group.specs.Clustered.{held_draft};
@@ -148,7 +147,7 @@ pub(crate) fn broken<A: Allocator + Copy>(
     draft: &Draft<A>,
     failure: Failure,
 )
-    ensures { BreaksArmed (armed_with failure store.old) draft.now store.new }
+    ensures { BreaksArmed failure store.old draft.now store.new }
 {
     store.arm(failure);
     let _answer = store.store(draft.pos(), draft.entry());

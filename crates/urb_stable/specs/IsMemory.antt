@@ -1,6 +1,5 @@
 -- What a store in memory keeps to.
 use Rattle.std.specs.Prelude.{◌≡◌, ◌<◌, ◌≤◌, ◌+◌, ◌^◌, ◌-◌, false}
-use Rattle.std.specs.Option.{OnSome}
 use Rattle.std.specs.Vec.{vec_len}
 use Rattle.urb_stable.specs.declared.memory.MemStable.TheInside.{Inside}
 
@@ -10,4 +9,3 @@ pub record IsMemory {A : Type 0} (a : Inside A) : Type 0 where
   pub one : vec_len a.records ≤ a.certain + 1
   pub settled : a.doubtful ≡ false → vec_len a.records ≡ a.certain
   pub count : vec_len a.records < 2 ^ 32 - 1
-  pub armed : OnSome a.armed (a.failures + 1 < 2 ^ 64)

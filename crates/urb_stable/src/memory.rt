@@ -1,6 +1,7 @@
 // A store in memory.
-ghost use Rattle.std.specs.Prelude.{◌≡◌, ◌⊎◌, ◌<◌, ◌≤◌, ◌+◌, List, [], ◌∷◌, ◌++◌, None, Some, Ok, Err, false, true, length, IsTrue, OnOk, OnErr, IfOk, IfErr};
-ghost use Rattle.urb_stable.specs.Memory.{empty_memory, armed_with, with_record, without_memory, after_failure, with_doubt, retrieved};
+ghost use Rattle.std.specs.Prelude.{◌≡◌, ◌⊎◌, ◌<◌, ◌≤◌, ◌+◌, ◌-◌, ◌^◌, List, [], ◌∷◌, ◌++◌, None, Some, Ok, Err, false, true, length, IsTrue, OnOk, OnErr, IfOk, IfErr, MatchResult};
+ghost use Rattle.std.specs.Option.{OnSome};
+ghost use Rattle.urb_stable.specs.Memory.{empty_memory, armed_with, with_record, without_memory, after_failure, retrieved, Retrieves};
 ghost use Rattle.urb_stable.specs.Entries.{Entry};
 ghost use Rattle.urb_stable.specs.Storing.{IsContents, is_out_of_place, is_place, is_bad_row, IsPlaced};
 
@@ -86,14 +87,11 @@ impl<A: Allocator + Copy> MemStable<A> {
         }
     }
 
-    /// Has the next store fail that isn't answered `Place`; an arming that was not used is replaced. After 2 ^ 64 - 1
-    /// failures it does nothing.
+    /// Has the next store fail that isn't answered `Place`; an arming that was not used is replaced.
     pub fn arm(&mut self, failure: Failure)
         ensures { self.new ≡ armed_with failure self.old }
     {
-        if self.failures < u64::MAX {
-            self.armed = Some(failure);
-        }
+        self.armed = Some(failure);
     }
 }
 
@@ -116,6 +114,8 @@ impl<A: Allocator + Copy> Stable for MemStable<A> {
 
     ghost leaves_only = { λ s P. (records : List Entry) → IsContents s.certain s.doubt records → P records };
 
+    ghost answers = { Retrieves };
+
     fn next(&self) -> u32 {
         self.certain + 1
     }
@@ -137,16 +137,22 @@ impl<A: Allocator + Copy> Stable for MemStable<A> {
         ensures device { result ≡ Err StoreFault.Device → self.old.failures < self.new.failures }
         ensures counts { self.old.failures ≤ self.new.failures }
 
-        // What it answers and leaves exactly, where it is in place: unarmed, and armed with each failure.
+        // What it answers and leaves exactly, where it is in place: unarmed, and armed with each failure. Where no further
+        // failure can be counted, an armed store has no memory.
         ensures unarmed { is_out_of_place self.old.doubtful (length self.old.certain + 1) pos ≡ false → self.old.armed ≡ None → ((result ≡ Ok tt) × (self.new ≡ with_record entry.now self.old)) ⊎ ((result ≡ Err StoreFault.NoMemory) × (self.new ≡ without_memory self.old)) }
-        ensures keeps_nothing { is_out_of_place self.old.doubtful (length self.old.certain + 1) pos ≡ false → self.old.armed ≡ Some Failure.Old → (result ≡ Err StoreFault.Device) × (self.new ≡ after_failure None self.old) }
-        ensures keeps_it { is_out_of_place self.old.doubtful (length self.old.certain + 1) pos ≡ false → self.old.armed ≡ Some Failure.New → ((result ≡ Err StoreFault.Device) × (self.new ≡ after_failure (Some entry.now) self.old)) ⊎ ((result ≡ Err StoreFault.NoMemory) × (self.new ≡ without_memory self.old)) }
+        ensures keeps_nothing { is_out_of_place self.old.doubtful (length self.old.certain + 1) pos ≡ false → self.old.armed ≡ Some Failure.Old → self.old.failures < 2 ^ 64 - 1 → (result ≡ Err StoreFault.Device) × (self.new ≡ after_failure None self.old) }
+        ensures keeps_it { is_out_of_place self.old.doubtful (length self.old.certain + 1) pos ≡ false → self.old.armed ≡ Some Failure.New → self.old.failures < 2 ^ 64 - 1 → ((result ≡ Err StoreFault.Device) × (self.new ≡ after_failure (Some entry.now) self.old)) ⊎ ((result ≡ Err StoreFault.NoMemory) × (self.new ≡ without_memory self.old)) }
+        ensures uncounted { is_out_of_place self.old.doubtful (length self.old.certain + 1) pos ≡ false → OnSome self.old.armed (2 ^ 64 - 1 ≤ self.old.failures → (result ≡ Err StoreFault.NoMemory) × (self.new ≡ without_memory self.old)) }
     {
         let next = self.next();
         if pos != next || self.doubtful || next == u32::MAX {
             return Err(StoreFault::Place(next));
         }
         let armed = self.armed.take();
+        if armed.is_some() && self.failures == u64::MAX {
+            self.doubtful = true;
+            return Err(StoreFault::NoMemory);
+        }
         if armed == Some(Failure::Old) {
             self.doubtful = true;
             self.failures += 1;
@@ -167,6 +173,7 @@ impl<A: Allocator + Copy> Stable for MemStable<A> {
 
     fn retrieve(&mut self, alloc: A) -> Result<Vec<Record<Message<A>>, A>, StoreFault>
         // As every store does.
+        ensures answers { MatchResult result (λ records. Retrieves self.old (Ok records.items)) (λ e. Retrieves self.old (Err e)) }
         ensures given { IfOk result (λ records. (self.new.certain ≡ records.items) × IsContents self.old.certain self.old.doubt records.items) }
         ensures clear { OnOk result ((self.new.doubtful ≡ false) × (self.new.doubt ≡ None)) }
         ensures failed { OnErr result (self.new.certain ≡ self.old.certain) }
@@ -177,8 +184,8 @@ impl<A: Allocator + Copy> Stable for MemStable<A> {
         ensures counts { self.old.failures ≤ self.new.failures }
 
         // It gives all records; a fault is never of the device, and leaves the store as it was.
-        ensures all { IfOk result (λ records. (records.items ≡ with_doubt self.old.certain self.old.doubt) × (self.new ≡ retrieved self.old)) }
-        ensures refused { IfErr result (λ e. (e ≡ StoreFault.NoMemory) × (self.new ≡ self.old)) }
+        ensures all { OnOk result (self.new ≡ retrieved self.old) }
+        ensures refused { OnErr result (self.new ≡ self.old) }
     {
         let records = copies(&self.records, alloc)?;
         self.certain = self.records.len() as u32;

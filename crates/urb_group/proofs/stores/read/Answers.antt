@@ -7,6 +7,7 @@ returns-in-Ok-clause-reads g c =
       answer = Ok c.in-Ok.image.items;
       gives =
           record {
+            answers = c.in-Ok.ensures.answers;
             given = c.in-Ok.ensures.given;
             clear = c.in-Ok.ensures.clear;
             failed = c.in-Ok.ensures.failed;
@@ -28,6 +29,7 @@ returns-in-Err-clause-reads g c =
       answer = Err c.in-Err.fault;
       gives =
           record {
+            answers = c.in-Err.ensures.answers;
             given = c.in-Err.ensures.given;
             clear = c.in-Err.ensures.clear;
             failed = c.in-Err.ensures.failed;

@@ -1,4 +1,4 @@
-use Rattle.std.proofs.Common.{take, rules, true, length-append, ◌+◌, arith, ◌≡◌, ◌∙◌, sym, ap, refl, inl, length, [], ◌∷◌, ◌++◌, Some}
+use Rattle.std.proofs.Common.{rules, true, length-append, ◌+◌, arith, ◌≡◌, ◌∙◌, sym, ap, refl, inl, length, [], ◌∷◌, ◌++◌, Some}
 use Rattle.urb_stable.specs.Memory.{Memory, with_record, after_failure}
 use Rattle.urb_stable.proofs.Kept.{kept, doubtful_stop, certain_stop}
 use Rattle.urb_stable.proofs.memory.MemStableStable.store.Goals as goal
@@ -16,7 +16,7 @@ returns-then-eq-2-clause-keeps_it g c =
     let settled : c.self.inside.certain ≡ length c.self.inside.records.items = omega (arith, c.self.invariant.settled c.if-self.false, c.self.inside.records.ok.0) in
     let items : c.keep.new.records.items ≡ c.self.inside.records.items ++ c.args.entry.now ∷ [] = search rules in
     let k = kept c.self.inside.records.items c.args.entry.now c.self.inside.certain c.keep.new.records.items settled items in
-    λ p q. inl (refl, (λ i. record { certain = k.front i; doubt = k.here i; doubtful = true; failures = c.self.inside.failures + 1; armed = c.take-armed.ensures.after i }) ∙ ap (after_failure (Some c.args.entry.now)) c.self.view_is)
+    λ p q below. inl (refl, (λ i. record { certain = k.front i; doubt = k.here i; doubtful = true; failures = c.self.inside.failures + 1; armed = c.take-armed.ensures.after i }) ∙ ap (after_failure (Some c.args.entry.now)) c.self.view_is)
 
 -- the record is kept for certain
 pub invariant_of-self-2 : goal.invariant_of-self-2
@@ -32,7 +32,6 @@ invariant_of-self-2 g c =
       one = omega (arith, size, c.keep.new.records.ok.0);
       settled = λ h. omega (arith, size, c.keep.new.records.ok.0);
       count = omega (arith, size, c.keep.new.records.ok.0, next, c.if-next.false);
-      armed = rw c.take-armed.ensures.after tt;
     }
 
 pub returns-clause-clear : goal.returns-clause-clear
