@@ -82,9 +82,9 @@ fn a_failed_store_has_the_record_or_not(rt: HostRuntime) -> Result<(), Fail> {
 }
 
 // How a reply tells a refusal.
-fn refusal(reply: Reply) -> Option<Refusal> {
+fn refusal(reply: &Reply) -> Option<Refusal> {
     match reply {
-        Reply::Refused(why) => Some(why),
+        Reply::Refused(why) => Some(*why),
         _ => None,
     }
 }
@@ -95,7 +95,7 @@ fn refusal_of_store(alloc: Global, number: u8) -> Option<Refusal> {
     let mut cluster = cluster(alloc, 3)?;
     cluster.apply(alloc, &submit(alloc)?);
     cluster.apply(alloc, &Command::Crash(one));
-    refusal(cluster.apply(alloc, &Command::Store(node(number)?)))
+    refusal(&cluster.apply(alloc, &Command::Store(node(number)?)))
 }
 
 #[test]
@@ -121,9 +121,10 @@ fn commands<'h>(calm: Heap<'h>) -> Option<Vec<Command<Heap<'h>>, Heap<'h>>> {
 }
 
 // How many replies come back from a cluster of two that plays them; none where the cluster could not be made.
-fn replies<'h>(heap: Heap<'h>, commands: &[Command<Heap<'h>>]) -> Option<usize> {
+fn replies<'h>(heap: Heap<'h>, calm: Heap<'h>) -> Option<usize> {
+    let commands = commands(calm)?;
     let mut cluster = cluster(heap, 2)?;
-    match play(heap, &mut cluster, commands) {
+    match play(heap, &mut cluster, &commands) {
         Ok(replies) => Some(replies.len()),
         Err((replies, NoMemory)) => Some(replies.len()),
     }
@@ -132,12 +133,11 @@ fn replies<'h>(heap: Heap<'h>, commands: &[Command<Heap<'h>>]) -> Option<usize> 
 #[test]
 fn play_ends_where_memory_is_refused(rt: HostRuntime) -> Result<(), Fail> {
     let calm = Refusing::new(rt.alloc(), 0);
-    let commands = commands(&calm).ok_or("commands")?;
     let mut ended = 0;
     let mut last = None;
     for refused in 1..100 {
         let heap = Refusing::new(rt.alloc(), refused);
-        last = replies(&heap, &commands);
+        last = replies(&heap, &calm);
         if !heap.met() {
             break;
         }
