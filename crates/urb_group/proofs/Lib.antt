@@ -38,3 +38,4 @@ pub mod StockedNodes
 pub mod StockedClusters
 pub mod StockedPlays
 pub mod StockedFailures
+pub mod BlankStores

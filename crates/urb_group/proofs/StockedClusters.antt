@@ -1,7 +1,7 @@
 -- What a command makes of the stores of a cluster: they stay those of a world that its group shows.
-use Rattle.std.proofs.Common.{Bool, Err, List, None, Ok, Option, Result, Some, [], ap, arith, eqb-true, false, inl, inr, length, refl, subst, suc, sym, true, zero, ℕ, ◌&&◌, ◌-◌, ◌<◌, ◌==◌, ◌∙◌, ◌∷◌, ◌≡◌, ◌≢◌, ◌⊎◌, ⊎_elim, ◌++◌, ne_eqb, ◌≤◌}
+use Rattle.std.proofs.Common.{Bool, Err, List, None, Ok, Option, Result, Some, [], ap, arith, false, inl, inr, length, refl, subst, suc, sym, true, zero, ℕ, ◌&&◌, ◌-◌, ◌<◌, ◌∙◌, ◌∷◌, ◌≡◌, ◌≢◌, ◌⊎◌, ⊎_elim, ◌++◌, ne_eqb}
 use Rattle.std.specs.Prelude.{slice_get, slice_set}
-use Rattle.std.proofs.lemmas.Bool.{and_from, and_parts, false≢true}
+use Rattle.std.proofs.lemmas.Bool.{and_parts, false≢true}
 use Rattle.urb_names.specs.Naming.{Limits}
 use Rattle.urb_names.specs.Nodes.{is_node}
 use Rattle.urb_node.specs.Part.{Down, Node, Ready, State, Storing}
@@ -18,11 +18,11 @@ use Rattle.urb_group.proofs.StockedNodes.{Rises, commit-node, fail-node, restart
 use Rattle.urb_group.proofs.StockedSteps.{IsQuiet, quiet-stays, store-stays}
 use Rattle.urb_group.proofs.Unasked.{IsHeldAs, held-as}
 use Rattle.urb_group.specs.Asked.{Gives, Keeps}
-use Rattle.urb_group.specs.Calls.{Happens, Steps}
+use Rattle.urb_group.specs.Calls.{Steps}
 use Rattle.urb_group.specs.Clustered.{Clustered, held_draft}
-use Rattle.urb_group.specs.Clusters.{Alone, Applies, AsksStore, Reacts, Reads, RestartsBy, Returns, StoreMoves, Stores, StoresDraft, StoresHeld, is_fallen, stored_as}
+use Rattle.urb_group.specs.Clusters.{Alone, Applies, AsksStore, Reacts, RestartsBy, Returns, StoreMoves, StoresDraft, StoresHeld, is_fallen, stored_as}
 use Rattle.urb_group.specs.Shown.{GroupView, Shows, view_of}
-use Rattle.urb_group.specs.Step.{Arrive, Commit, Crash, Event, Fail, Restart, Submit, Tick, step}
+use Rattle.urb_group.specs.Step.{Commit, Crash, Event, Fail, Restart, Tick, step}
 use Rattle.urb_group.specs.Stocked.{AreStoresOf, IsStocked, IsStoreOf}
 use Rattle.urb_group.specs.Stopping.{MayLeave}
 use Rattle.urb_group.specs.World.{World}

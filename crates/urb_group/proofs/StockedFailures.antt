@@ -1,5 +1,5 @@
 -- What a store in memory that fails as it was told makes of a stocked cluster.
-use Rattle.std.proofs.Common.{Bool, None, Option, Some, false, inl, inr, length, refl, subst, sym, true, ℕ, ◌+◌, ◌∙◌, ◌≡◌, ◌⊎◌, ⊎_elim, ap}
+use Rattle.std.proofs.Common.{Bool, None, Option, Some, false, inl, inr, length, refl, true, ℕ, ◌+◌, ◌∙◌, ◌≡◌, ◌⊎◌, ⊎_elim, ap}
 use Rattle.urb_group.proofs.StockedClusters.{fallen, fell-stocked, quiet-stocked}
 use Rattle.urb_group.specs.Clustered.{Clustered, held_draft}
 use Rattle.urb_group.specs.Clusters.{Breaks, BreaksArmed, FailsDraft, FailsHeld}

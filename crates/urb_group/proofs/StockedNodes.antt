@@ -1,18 +1,17 @@
 -- A node whose record is stored, whose store fails, or that restarts, and what its store may hold then.
 use Rattle.std.proofs.Math.Path.{fun_ext}
-use Rattle.std.proofs.Common.{Bool, Err, List, None, Ok, Option, Result, Some, [], ap, ap₂, arith, cond, eq-eqb, false, inl, inr, length, length-append, refl, subst, suc, sym, true, ℕ, ◌&&◌, ◌+◌, ◌++◌, ◌==◌, ◌∙◌, ◌∷◌, ◌≡◌, ◌⊎◌, ⊎_elim, eqb-true}
+use Rattle.std.proofs.Common.{Bool, List, None, Option, Some, [], ap, arith, eq-eqb, false, length, length-append, refl, subst, suc, sym, true, ℕ, ◌&&◌, ◌+◌, ◌++◌, ◌==◌, ◌∙◌, ◌∷◌, ◌≡◌, ◌⊎◌, ⊎_elim, eqb-true}
 use Rattle.std.specs.List.{list_all}
 use Rattle.std.proofs.lemmas.Bool.{and_from, and_parts, cond-false, cond-true, cond_both, false≢true}
-use Rattle.urb_names.specs.Names.{has_name, same_name}
+use Rattle.urb_names.specs.Names.{has_name}
 use Rattle.urb_names.specs.Naming.{Content, Label}
 use Rattle.urb_names.specs.Nodes.{is_node}
 use Rattle.urb_names.specs.Pairs.{has_pair}
 use Rattle.urb_names.specs.declared.refusal.Refusal.TheVariants as refusal
 use Rattle.urb_names.proofs.OrderedPairs.{has_pair-behind, has_pair-head}
-use Rattle.urb_names.proofs.SameNames.{same_name-same}
 use Rattle.urb_node.specs.Part.{Down, Node, Ready, State, Storing}
 use Rattle.urb_node.specs.Replies.{Refused, Reply, Stored}
-use Rattle.urb_node.specs.Steps.{comes_up, commits, done, doubt, fails, goes_down, is_down, keeps_record, next_position, refuses, restarts, restarts_with, same_list, same_names, same_pairs, same_record, says, broadcast_after}
+use Rattle.urb_node.specs.Steps.{comes_up, commits, done, doubt, fails, is_down, keeps_record, next_position, refuses, restarts, restarts_with, same_list, same_names, same_pairs, same_record, says, broadcast_after}
 use Rattle.urb_node.proofs.Calls.{same_record-same}
 use Rattle.urb_node.proofs.ImageNames.{same_list-same}
 use Rattle.urb_node.proofs.ShownNodes.{from_named}
@@ -21,7 +20,6 @@ use Rattle.urb_stable.specs.Log.{log}
 use Rattle.urb_stable.specs.Records.{cert, pend}
 use Rattle.urb_stable.specs.Storing.{IsContents}
 use Rattle.urb_group.proofs.NodesSteps.{updated-at}
-use Rattle.urb_group.proofs.StockedSteps.{Stays}
 use Rattle.urb_group.specs.Step.{Commit, Fail, Restart, at_node, step, world_after}
 use Rattle.urb_group.specs.Stopping.{MayLeave}
 use Rattle.urb_group.specs.World.{World, updated}

@@ -1,6 +1,6 @@
 -- The stores of a new cluster, after a failure that was asked for, and after commands that were played; and what they come to.
-use Rattle.std.proofs.Common.{Bool, Err, List, None, Ok, Option, Result, Some, [], ap, arith, false, inl, inr, length, refl, subst, suc, sym, true, zero, ℕ, ◌-◌, ◌<◌, ◌+◌, ◌++◌, ◌∙◌, ◌∷◌, ◌≡◌, ◌≤◌, ◌⊎◌, ⊎_elim, IfOk}
-use Rattle.std.specs.Prelude.{slice_get, slice_index_or}
+use Rattle.std.proofs.Common.{Err, List, Ok, Option, Result, Some, [], ap, arith, length, refl, subst, suc, sym, zero, ℕ, ◌<◌, ◌∙◌, ◌∷◌, ◌≡◌, ◌≤◌, ⊎_elim, IfOk}
+use Rattle.std.specs.Prelude.{slice_get}
 use Rattle.std.specs.List.{All, AllByRecursion}
 use Rattle.std.specs.Prelude.{Vec}
 use Rattle.std.proofs.lemmas.Bool.{cases_lt}
@@ -10,28 +10,23 @@ use Rattle.urb_names.proofs.Places.{get_some}
 use Rattle.urb_node.specs.Shown.{no_view, NodeView}
 use Rattle.std.proofs.lemmas.List.Elements.{recursion_from_All}
 use Rattle.urb_names.specs.Naming.{Limits}
-use Rattle.urb_names.specs.Nodes.{is_node}
 use Rattle.urb_names.specs.declared.refusal.NoMemory.{NoMemory}
 use Rattle.urb_names.specs.declared.refusal.Refusal.TheVariants as refusal
-use Rattle.urb_node.specs.Part.{Down, Node, Ready, State, Storing}
+use Rattle.urb_node.specs.Part.{State}
 use Rattle.urb_node.specs.Replies as told
-use Rattle.urb_node.specs.Steps.{doubt, is_down}
+use Rattle.urb_node.specs.Steps.{doubt}
 use Rattle.urb_stable.specs.Entries.{Entry}
-use Rattle.urb_stable.specs.Memory.{Memory, after_failure, armed_with, with_record, without_memory}
-use Rattle.urb_stable.specs.Placed.{Placed}
-use Rattle.urb_stable.specs.Storing.{IsContents, is_out_of_place}
-use Rattle.urb_stable.specs.declared.memory.Failure.{Failure}
-use Rattle.urb_stable.specs.declared.memory.Failure.TheVariants as failure
+use Rattle.urb_stable.specs.Storing.{IsContents}
 use Rattle.urb_stable.specs.declared.stable.Stable.{Ghosts}
 use Rattle.urb_group.proofs.StockedClusters.{applies-stocked}
 use Rattle.urb_group.specs.Asked.{IsBlank}
 use Rattle.urb_group.specs.Clustered.{Clustered}
-use Rattle.urb_group.specs.Clusters.{Applies, Starts}
+use Rattle.urb_group.specs.Clusters.{Starts}
 use Rattle.urb_group.specs.Commands.{reply_of}
-use Rattle.urb_group.specs.Plays.{Follows, Plays, Stops}
+use Rattle.urb_group.specs.Plays.{Follows, Plays}
 use Rattle.urb_group.specs.Shown.{GroupView, IsSound, Shows, view_of}
-use Rattle.urb_group.specs.Stocked.{AreChosen, AreStoresOf, ContentsFit, IsStocked, IsStoreOf}
-use Rattle.urb_group.specs.Stopping.{GoesOnIn, MayLeave}
+use Rattle.urb_group.specs.Stocked.{AreChosen, ContentsFit, IsStocked, IsStoreOf}
+use Rattle.urb_group.specs.Stopping.{MayLeave}
 use Rattle.urb_group.specs.World.{World, image_of, started}
 use Rattle.urb_group.specs.declared.command.Command.{Command}
 use Rattle.urb_group.specs.declared.reply.Reply.{Reply}

@@ -1,12 +1,10 @@
 -- Events by which no record joins a node's list: what a stop may leave of the node stays, or grows by a held record.
-use Rattle.std.proofs.Common.{Bool, Err, List, None, Ok, Option, Result, Some, ap, bytes_eq, cond, eqb-true, false, find, inl, inr, is_none, length, nat_lt, not, refl, subst, sym, true, ℕ, ◌&&◌, ◌++◌, ◌==◌, ◌||◌, ◌∙◌, ◌∷◌, ◌≡◌, ◌⊎◌, ⊎_elim}
-use Rattle.std.proofs.lemmas.Bool.{cond-false, cond_both, false≢true}
-use Rattle.urb_group.proofs.CalmSteps.{event_node}
-use Rattle.urb_group.proofs.NodesSteps.{updated-at}
+use Rattle.std.proofs.Common.{Bool, Err, List, None, Ok, Option, Result, Some, bytes_eq, cond, eqb-true, false, find, inl, inr, is_none, length, nat_lt, not, refl, subst, sym, true, ℕ, ◌==◌, ◌||◌, ◌∙◌, ◌≡◌, ◌⊎◌, ⊎_elim}
+use Rattle.std.proofs.lemmas.Bool.{cond_both, false≢true}
 use Rattle.urb_group.specs.Step.{Arrive, Commit, Crash, Event, Fail, Restart, Submit, Tick, at_node, bytes_arrive, is_for, packet_arrives, step, world_after}
 use Rattle.urb_group.specs.Stocked.{IsStoreOf}
 use Rattle.urb_group.specs.Stopping.{MayLeave}
-use Rattle.urb_group.specs.World.{World, truthful, updated}
+use Rattle.urb_group.specs.World.{World, truthful}
 use Rattle.urb_names.specs.Acknowledged.{acked, with_ack}
 use Rattle.urb_names.specs.Carried.{Carried}
 use Rattle.urb_names.specs.Names.{has_name}
@@ -17,7 +15,7 @@ use Rattle.urb_names.specs.declared.refusal.PacketFault.{PacketFault}
 use Rattle.urb_names.specs.declared.refusal.Refusal.TheVariants as refusal
 use Rattle.urb_node.specs.Part.{Down, Node, Ready, State, Storing}
 use Rattle.urb_node.specs.Replies.{Refused, Reply}
-use Rattle.urb_node.specs.Steps.{arrives, crashes, doubt, fails, is_down, is_storing, restarts, submits, submits_by_number, ticks}
+use Rattle.urb_node.specs.Steps.{arrives, crashes, doubt, fails, is_down, is_storing, submits, submits_by_number, ticks}
 use Rattle.urb_stable.specs.Entries.{Entry}
 use Rattle.urb_stable.specs.Records.{cert, pend}
 use Rattle.urb_stable.specs.Storing.{IsContents}

@@ -8,13 +8,13 @@ use urb_names::encode;
 use urb_refusing::Refusing;
 use urb_stable::{Failure, MemStable};
 
-// A cluster of as many nodes, with new stores.
-fn cluster<A: Allocator + Copy>(alloc: A, n: u8) -> Option<Cluster<MemStable<A>>> {
-    let config = Config::new(n, 10)?;
+// A cluster of three nodes, with new stores.
+fn cluster<A: Allocator + Copy>(alloc: A) -> Option<Cluster<MemStable<A>>> {
+    let config = Config::new(3, 10)?;
     let mut stores = Vec::new(alloc);
-    for _ in 0..config.n() {
-        stores.push(MemStable::new(alloc)).ok()?;
-    }
+    stores.push(MemStable::new(alloc)).ok()?;
+    stores.push(MemStable::new(alloc)).ok()?;
+    stores.push(MemStable::new(alloc)).ok()?;
     Cluster::new(alloc, config, stores).ok()
 }
 
@@ -48,7 +48,7 @@ fn arrival(alloc: Global, sent: &Outbox) -> Option<Command> {
 // How many names nodes 1 and 2 of three release, each by the other's packet.
 fn released(alloc: Global) -> Option<(u32, u32)> {
     let (one, two) = (node(1)?, node(2)?);
-    let mut cluster = cluster(alloc, 3)?;
+    let mut cluster = cluster(alloc)?;
     cluster.apply(alloc, &submit(alloc)?);
     let first = done(cluster.apply(alloc, &Command::Store(one)))?;
     cluster.apply(alloc, &arrival(alloc, &first.sent)?);
@@ -67,7 +67,7 @@ fn a_message_travels_by_its_packets(rt: HostRuntime) -> Result<(), Fail> {
 // Whether node 1 has its message stored after a store that failed so, and a restart.
 fn holds_after(alloc: Global, failure: Failure) -> Option<bool> {
     let one = node(1)?;
-    let mut cluster = cluster(alloc, 3)?;
+    let mut cluster = cluster(alloc)?;
     cluster.apply(alloc, &submit(alloc)?);
     cluster.fail(one, failure);
     cluster.apply(alloc, &Command::Restart(one));
@@ -92,7 +92,7 @@ fn refusal(reply: &Reply) -> Option<Refusal> {
 // How a store of a node of three is refused, once node 1 holds a draft and has crashed.
 fn refusal_of_store(alloc: Global, number: u8) -> Option<Refusal> {
     let one = node(1)?;
-    let mut cluster = cluster(alloc, 3)?;
+    let mut cluster = cluster(alloc)?;
     cluster.apply(alloc, &submit(alloc)?);
     cluster.apply(alloc, &Command::Crash(one));
     refusal(&cluster.apply(alloc, &Command::Store(node(number)?)))
@@ -120,10 +120,10 @@ fn commands<'h>(calm: Heap<'h>) -> Option<Vec<Command<Heap<'h>>, Heap<'h>>> {
     Some(commands)
 }
 
-// How many replies come back from a cluster of two that plays them; none where the cluster could not be made.
+// How many replies come back from a cluster that plays them; none where the cluster could not be made.
 fn replies<'h>(heap: Heap<'h>, calm: Heap<'h>) -> Option<usize> {
     let commands = commands(calm)?;
-    let mut cluster = cluster(heap, 2)?;
+    let mut cluster = cluster(heap)?;
     match play(heap, &mut cluster, &commands) {
         Ok(replies) => Some(replies.len()),
         Err((replies, NoMemory)) => Some(replies.len()),
@@ -142,7 +142,7 @@ fn play_ends_where_memory_is_refused(rt: HostRuntime) -> Result<(), Fail> {
             break;
         }
         if last.is_some() {
-            ended += 1;
+            ended = refused;
         }
     }
     assert!(rt; 3 < ended);

@@ -1,4 +1,4 @@
-use Rattle.std.proofs.Common.{Err, Result, Some, ap, length, subst, ℕ, ◌+◌, ◌-◌, ◌^◌, ◌∙◌, ◌≡◌, ◌≤◌, Option}
+use Rattle.std.proofs.Common.{Err, Some, ap, length, subst, ℕ, ◌+◌, ◌-◌, ◌^◌, ◌∙◌, ◌≡◌, ◌≤◌, Option}
 use Rattle.std.specs.Option.{OnSome}
 use Rattle.urb_group.proofs.Breaking.{breaks-so}
 use Rattle.urb_group.specs.Clusters.{Breaks}
