@@ -1,5 +1,5 @@
 -- A store in memory that was armed, and a group of nodes that hold no draft.
-use Rattle.std.proofs.Common.{Bool, Err, List, None, Ok, Option, Result, Some, false, length, refl, true, zero, suc, ℕ, ◌-◌, ◌<◌, ◌^◌, ◌≡◌, ◌≤◌, ◌⊎◌, ◌∙◌, sym}
+use Rattle.std.proofs.Common.{Bool, Err, List, None, Option, Result, Some, false, length, refl, true, zero, suc, ℕ, ◌-◌, ◌<◌, ◌^◌, ◌≡◌, ◌≤◌, ◌⊎◌, ◌∙◌, sym}
 use Rattle.std.specs.Prelude.{replicate}
 use Rattle.std.proofs.lemmas.Bool.{cases_lt, cond_both}
 use Rattle.std.proofs.lemmas.List.{length-replicate}

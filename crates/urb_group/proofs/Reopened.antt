@@ -8,7 +8,7 @@ use Rattle.std.proofs.lemmas.List.Elements.{recursion_from_All}
 use Rattle.urb_names.specs.Naming.{Limits}
 use Rattle.urb_names.specs.declared.refusal.Refusal.{Refusal}
 use Rattle.urb_names.specs.declared.refusal.Refusal.TheVariants as refusal
-use Rattle.urb_node.specs.Part.{opened_node}
+use Rattle.urb_node.specs.Part.{Node, opened_node}
 use Rattle.urb_stable.specs.Entries.{Entry}
 use Rattle.urb_stable.specs.Fitting.{Fits}
 use Rattle.urb_stable.specs.Images.{image_of}
@@ -94,6 +94,94 @@ opens-stocked g size stores (Ok cluster) h =
     }
 opens-stocked g size stores (Err e) h = tt
 
+-- ---- stores that were asked are still those of their nodes
+
+-- whichever node the one store was of, the other is of it
+StaysOf : {S A : Type 0} → Ghosts S A → S → S → Type 0
+StaysOf g before after = (node : Node) → IsStoreOf g node before → IsStoreOf g node after
+
+-- it gave its list
+gave-stays : {S A : Type 0} (g : Ghosts S A) (before after : S) (image : List Entry) → Gives g before (Ok image) after → StaysOf g before after
+unfolding StaysOf
+gave-stays g before after image gives =
+    λ node store.
+    record {
+      contents = λ honest records c.
+          (let same : records ≡ image = subst (λ (o : Option Entry). IsContents (g.certain after) o records) gives.clear.1 c ∙ (gives.given honest).0 in
+          store.contents (gives.honest honest) records (subst (λ (rs : List Entry). IsContents (g.certain before) (g.doubt before) rs) (sym same) (gives.given honest).1));
+      up = λ honest e.
+          (let was = store.up (gives.honest honest) e in
+          ((gives.given honest).0 ∙ (subst (λ (o : Option Entry). IsContents (g.certain before) o image) was.1 (gives.given honest).1 ∙ was.0), gives.clear.1));
+    }
+
+-- it answered a fault
+failed-stays : {S A : Type 0} (g : Ghosts S A) (before after : S) (fault : StoreFault) → Gives g before (Err fault) after → StaysOf g before after
+unfolding StaysOf
+failed-stays g before after fault gives =
+    λ node store.
+    record {
+      contents = λ honest records c.
+          store.contents (gives.honest honest) records
+          (subst (λ (certain : List Entry). IsContents certain (g.doubt before) records) (gives.failed honest) (subst (λ (o : Option Entry). IsContents (g.certain after) o records) gives.kept.1 c));
+      up = λ honest e. (let was = store.up (gives.honest honest) e in (gives.failed honest ∙ was.0, gives.kept.1 ∙ was.1));
+    }
+
+-- each store stays so in its place
+record StayIn {S A : Type 0} (g : Ghosts S A) (stores asked : List S) (i : ℕ) (store : S) : Type 0 where
+  pub before : S
+  pub was : slice_get stores i ≡ Some before
+  pub stays : StaysOf g before store
+
+AllStay : {S A : Type 0} → Ghosts S A → List S → List S → Type 0
+AllStay g stores asked = (i : ℕ) (store : _) → slice_get asked i ≡ Some store → StayIn g stores asked i store
+
+same-stay : {S A : Type 0} (g : Ghosts S A) (stores : List S) → AllStay g stores stores
+unfolding AllStay StaysOf
+same-stay g stores = λ i store e. record { before = store; was = e; stays = λ node h. h }
+
+one-stays : {S A : Type 0} (g : Ghosts S A) (before after : S) (stores asked : List S) → StaysOf g before after → AllStay g stores asked → AllStay g (before ∷ stores) (after ∷ asked)
+unfolding AllStay
+one-stays {S} g before after stores asked stays all = at
+  where
+    at : (i : ℕ) (store : S) → slice_get (after ∷ asked) i ≡ Some store → StayIn g (before ∷ stores) (after ∷ asked) i store
+    at zero store e = record { before = before; was = refl; stays = subst (λ (s : S). StaysOf g before s) (let f : after ≡ store = cc in f) stays }
+    at (suc i) store e = (let one = all i store e in record { before = one.before; was = one.was; stays = one.stays })
+
+given-stay : {S A : Type 0} (g : Ghosts S A) (stores : List S) (images : List (List Entry)) (asked : List S) → AllGive g stores images asked → (later rest : List S) → AllStay g later rest → AllStay g (stores ++ later) (asked ++ rest)
+given-stay g [] [] [] h later rest all = all
+given-stay g [] [] (a ∷ asked) h later rest all = absurd h
+given-stay g [] (im ∷ images) asked h later rest all = absurd h
+given-stay g (s ∷ stores) [] asked h later rest all = absurd h
+given-stay g (s ∷ stores) (im ∷ images) [] h later rest all = absurd h
+given-stay g (s ∷ stores) (im ∷ images) (a ∷ asked) h later rest all = one-stays g s a (stores ++ later) (asked ++ rest) (gave-stays g s a im h.0) (given-stay g stores images asked h.1 later rest all)
+
+none-later : {S : Type 0} (xs : List S) → xs ++ [] ≡ xs
+none-later [] = refl
+none-later (x ∷ xs) = ap (λ zs. x ∷ zs) (none-later xs)
+
+all-given-stay : {S A : Type 0} (g : Ghosts S A) (stores : List S) (images : List (List Entry)) (asked : List S) → AllGive g stores images asked → AllStay g stores asked
+all-given-stay {S} g stores images asked h =
+    subst (λ (xs : List S). AllStay g xs asked) (none-later stores) (subst (λ (xs : List S). AllStay g (stores ++ []) xs) (none-later asked) (given-stay g stores images asked h [] [] (same-stay g [])))
+
+refused-stay : {S A : Type 0} (g : Ghosts S A) (stores asked : List S) (why : Refusal) → AreRefused g stores why asked → AllStay g stores asked
+refused-stay {S} g stores asked why h = ⊎_elim first (λ short. subst (λ (xs : List S). AllStay g stores xs) (sym short.0) (same-stay g stores)) h
+  where
+    first : (fault : StoreFault) × FirstFails g stores fault asked × (why ≡ refusal_of fault) → AllStay g stores asked
+    first f =
+        subst (λ (xs : List S). AllStay g xs asked) (sym f.1.were)
+        (subst (λ (xs : List S). AllStay g (f.1.earlier ++ f.1.before ∷ f.1.later) xs) (sym f.1.are)
+        (given-stay g f.1.earlier f.1.images f.1.gave f.1.given (f.1.before ∷ f.1.later) (f.1.after ∷ f.1.later) (one-stays g f.1.before f.1.after f.1.later f.1.later (failed-stays g f.1.before f.1.after f.0 f.1.failed) (same-stay g f.1.later))))
+
+-- so the cluster is stocked with them
+stays-stocked : {S A : Type 0} (g : Ghosts S A) (old : Clustered S) (asked : List S) → AllStay g old.stores asked → IsStocked g old → IsStocked g (record old { stores = asked })
+unfolding AllStay StaysOf
+stays-stocked g old asked all h =
+    record {
+      world = h.world;
+      shows = h.shows;
+      stores = λ i store got. (let one = all i store got in one.stays (h.world.node (suc i)) (h.stores i one.before one.was));
+    }
+
 -- ---- it goes on
 
 -- the fault of an honest store is want of memory, or of its device
@@ -162,4 +250,8 @@ module _ {S A : Type 0} (g : Ghosts S A) (old : Clustered S) (size : Limits) (st
 
   pub opens-goes_on : length stores ≡ size.n → (result : Result (Clustered S) (Vec S A × Refusal)) → OpensStores g size stores result → Continues g old result
   opens-goes_on count (Ok new) h = goes-on-from count new h
-  opens-goes_on count (Err e) h = λ honest. ⊎_elim (λ k. refused-so e.0.items e.1 k honest) (λ k. not-inconsistent count e.0.items e.1 k honest) h
+  opens-goes_on count (Err e) h =
+      let stay = ⊎_elim (λ k. refused-stay g stores e.0.items e.1 k) (λ k. all-given-stay g stores k.images e.0.items k.given) h in (
+        stays-stocked g old e.0.items (subst (λ (xs : List S). AllStay g xs e.0.items) (sym stopped.stores) stay) stopped.stocked,
+        λ honest. ⊎_elim (λ k. refused-so e.0.items e.1 k honest) (λ k. not-inconsistent count e.0.items e.1 k honest) h,
+      )

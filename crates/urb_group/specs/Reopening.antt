@@ -81,7 +81,8 @@ module _ {S A : Type 0} (g : Ghosts S A) where
     pub opens : Shows new.group (opened world.size (image_of images))
     pub ready : (p : ℕ) → (view_of new.group p).state ≡ Ready
 
-  -- over honest stores it goes on, unless memory is refused or a device fails
+  -- Over honest stores it goes on, unless memory is refused or a device fails. Refused, the stores still are those of the old
+  -- cluster, so that it may be asked for again.
   abbrev pub Continues : Clustered S → Result (Clustered S) (Vec S A × Refusal) → Type 0
   Continues old (Ok new) = All g.is_honest new.stores → ContinuesFrom old new
-  Continues old (Err e) = All g.is_honest e.0.items → (e.1 ≡ refusal.NoMemory) ⊎ (e.1 ≡ refusal.Device)
+  Continues old (Err e) = IsStocked g (record old { stores = e.0.items }) × (All g.is_honest e.0.items → (e.1 ≡ refusal.NoMemory) ⊎ (e.1 ≡ refusal.Device))
