@@ -39,3 +39,6 @@ pub mod StockedClusters
 pub mod StockedPlays
 pub mod StockedFailures
 pub mod BlankStores
+pub mod OpenedPlaces
+pub mod Reopened
+pub mod Asking
