@@ -1,66 +1,49 @@
 -- Words that spell no command.
-use Rattle.std.proofs.Common.{◌≡◌, ◌≢◌, ℕ, ◌≤◌, ◌==◌, List, [], ◌∷◌, Option, Some, None, true, length, get_or, ap, arith}
-use Rattle.std.specs.Option.{is_some}
+use Rattle.std.proofs.Common.{◌≡◌, ℕ, ◌≤◌, ◌==◌, List, [], ◌∷◌, Option, Some, None, Bool, true, false, length, get_or, sym, ◌∙◌, ap, arith}
+use Rattle.std.specs.Prelude.{codes}
+use Rattle.std.specs.Str.{bytes_eq}
+use Rattle.std.specs.Option.{IfNone, is_some}
 use Rattle.std.specs.Borrow.{Bor}
 use Rattle.std.specs.Fmt.{decimal}
+use Rattle.std.proofs.lemmas.Fmt.{decimal_injective}
 use Rattle.std.proofs.lemmas.List.Splits.{length-slice_split}
+use Rattle.std.proofs.lemmas.Slice.Eq.{bytes_eq-Decides}
 use Rattle.urb_script.specs.Lines.{words_of, words_left}
-use Rattle.urb_script.specs.Commands.{Command, Group, Submit, Stored, Log, spelling, InRange, payload_word}
-
--- equal lists of words have equal second bytes in their first words
-second_byte : {words others : List (List ℕ)} → words ≡ others → get_or (get_or words 0 []) 1 0 ≡ get_or (get_or others 0 []) 1 0
-second_byte e = ap (λ (words : List (List ℕ)). get_or (get_or words 0 []) 1 0) e
+use Rattle.urb_script.specs.Commands.{Command, Raw, keyword, AreArguments, IsSpelled, InRange}
 
 -- a text has a word
 words_some : (text : List ℕ) → words_of text ≡ [] → ⊥
 words_some text e = omega (arith, length-slice_split (λ byte. byte == 32) text, ap length e)
 
 -- where something is left, it is a word
-left_some : (rest : Option (Bor (List ℕ))) → is_some rest ≡ true → words_left rest ≡ [] → ⊥
+pub left_some : (rest : Option (Bor (List ℕ))) → is_some rest ≡ true → words_left rest ≡ [] → ⊥
 left_some None s e = absurd (cc)
 left_some (Some rest) s e = words_some rest.now e
 
-pub group_more : (words after : List (List ℕ)) (rest : Option (Bor (List ℕ))) (n cap : ℕ) → words ≡ decimal n ∷ after → after ≡ decimal cap ∷ words_left rest → is_some rest ≡ true
-    → (asked : Command) → (103 ∷ 114 ∷ 111 ∷ 117 ∷ 112 ∷ []) ∷ words ≡ spelling asked → InRange asked → ⊥
-group_more words after rest n cap one two s (Group limits) e r = left_some rest s (cc)
-group_more words after rest n cap one two s (Submit node client number payload) e r = absurd (cc)
-group_more words after rest n cap one two s (Stored node) e r = absurd (cc)
-group_more words after rest n cap one two s (Log node) e r = absurd (cc)
+-- what is a word alone has nothing left after it
+pub one_word : (word other : List ℕ) (rest : Option (Bor (List ℕ))) (words : List (List ℕ)) → words ≡ word ∷ words_left rest → is_some rest ≡ true → words ≡ other ∷ [] → ⊥
+one_word word other rest words e s f = left_some rest s (cc)
 
-pub group_second : (words after : List (List ℕ)) (n : ℕ) → words ≡ decimal n ∷ after → ((cap : ℕ) (others : List (List ℕ)) → 1 ≤ cap → cap ≤ 1000000 → after ≢ decimal cap ∷ others)
-    → (asked : Command) → (103 ∷ 114 ∷ 111 ∷ 117 ∷ 112 ∷ []) ∷ words ≡ spelling asked → InRange asked → ⊥
-group_second words after n one none (Group limits) e r = none limits.cap [] (omega (arith, r.2)) r.3 (cc)
-group_second words after n one none (Submit node client number payload) e r = absurd (cc)
-group_second words after n one none (Stored node) e r = absurd (cc)
-group_second words after n one none (Log node) e r = absurd (cc)
+-- the words after the first are the same
+pub next_words : {words after others : List (List ℕ)} {one other : List ℕ} → words ≡ one ∷ after → words ≡ other ∷ others → after ≡ others
+next_words e f = cc
 
-pub stored_more : (words : List (List ℕ)) (rest : Option (Bor (List ℕ))) (n : ℕ) → words ≡ decimal n ∷ words_left rest → is_some rest ≡ true
-    → (asked : Command) → (115 ∷ 116 ∷ 111 ∷ 114 ∷ 101 ∷ 100 ∷ []) ∷ words ≡ spelling asked → InRange asked → ⊥
-stored_more words rest n one s (Group limits) e r = absurd (cc)
-stored_more words rest n one s (Submit node client number payload) e r = absurd (omega (arith, second_byte e))
-stored_more words rest n one s (Stored node) e r = left_some rest s (cc)
-stored_more words rest n one s (Log node) e r = absurd (cc)
+-- and so is the number that the first spells
+pub first_number : {words after others : List (List ℕ)} (m n : ℕ) → m ≤ 7 → n ≤ 7 → words ≡ decimal m ∷ after → words ≡ decimal n ∷ others → m ≡ n
+first_number m n l u e f = decimal_injective m n (omega (arith, l)) (omega (arith, u)) (ap (λ (words : List (List ℕ)). get_or words 0 []) (sym e ∙ f))
 
-pub log_more : (words : List (List ℕ)) (rest : Option (Bor (List ℕ))) (n : ℕ) → words ≡ decimal n ∷ words_left rest → is_some rest ≡ true
-    → (asked : Command) → (108 ∷ 111 ∷ 103 ∷ []) ∷ words ≡ spelling asked → InRange asked → ⊥
-log_more words rest n one s (Group limits) e r = absurd (cc)
-log_more words rest n one s (Submit node client number payload) e r = absurd (cc)
-log_more words rest n one s (Stored node) e r = absurd (cc)
-log_more words rest n one s (Log node) e r = left_some rest s (cc)
+-- a word that is two others
+pub test : (word xs ys : List ℕ) → word ≡ xs → word ≡ ys → bytes_eq xs ys ≡ true
+test word xs ys e f = (bytes_eq-Decides xs ys).1 (sym e ∙ f)
 
-pub submit_second : (words after : List (List ℕ)) (n : ℕ) → words ≡ decimal n ∷ after → ((client : ℕ) (others : List (List ℕ)) → 1 ≤ client → client ≤ 65535 → after ≢ decimal client ∷ others)
-    → (asked : Command) → (115 ∷ 117 ∷ 98 ∷ 109 ∷ 105 ∷ 116 ∷ []) ∷ words ≡ spelling asked → InRange asked → ⊥
-submit_second words after n one none (Group limits) e r = absurd (cc)
-submit_second words after n one none (Submit node client number payload) e r = none client (decimal number ∷ payload_word payload ∷ []) r.1 r.2 (cc)
-submit_second words after n one none (Stored node) e r = absurd (omega (arith, second_byte e))
-submit_second words after n one none (Log node) e r = absurd (cc)
+-- no command `raw` has these words after it
+no_raw : (word : List ℕ) (others : List (List ℕ)) → word ≡ codes "raw"
+    → ((node : ℕ) (bytes : List ℕ) → InRange (Raw node bytes) → AreArguments (Raw node bytes) others → ⊥) → (asked : Command) → IsSpelled (word ∷ others) asked → InRange asked → ⊥
+no_raw word others same none (Raw node bytes) s r = none node bytes r s.1
+no_raw word others same none asked s r = let e = test word (codes "raw") (keyword asked) same s.0 in absurd (cc)
 
-pub submit_third : (words after last : List (List ℕ)) (n m : ℕ) → words ≡ decimal n ∷ after → after ≡ decimal m ∷ last → ((number : ℕ) (others : List (List ℕ)) → 0 ≤ number → number ≤ 4294967295 → last ≢ decimal number ∷ others)
-    → (asked : Command) → (115 ∷ 117 ∷ 98 ∷ 109 ∷ 105 ∷ 116 ∷ []) ∷ words ≡ spelling asked → InRange asked → ⊥
-submit_third words after last n m one two none (Group limits) e r = absurd (cc)
-submit_third words after last n m one two none (Submit node client number payload) e r = none number (payload_word payload ∷ []) (omega arith) r.3 (cc)
-submit_third words after last n m one two none (Stored node) e r = absurd (omega (arith, second_byte e))
-submit_third words after last n m one two none (Log node) e r = absurd (cc)
-
-pub payload_more : (word words : List ℕ) (rest : Option (Bor (List ℕ))) (text : List (List ℕ)) → text ≡ word ∷ words_left rest → is_some rest ≡ true → text ≡ words ∷ [] → ⊥
-payload_more word words rest text one s e = left_some rest s (cc)
+pub none_raw : {T : Type 0} (result : Option T) (word : List ℕ) (others : List (List ℕ)) → word ≡ codes "raw"
+    → IfNone result ((node : ℕ) (bytes : List ℕ) → InRange (Raw node bytes) → AreArguments (Raw node bytes) others → ⊥)
+    → IfNone result ((asked : Command) → IsSpelled (word ∷ others) asked → InRange asked → ⊥)
+none_raw None word others same none = no_raw word others same none
+none_raw (Some found) word others same none = tt

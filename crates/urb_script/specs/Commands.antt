@@ -1,59 +1,93 @@
 -- What a line of a script asks for, and how it is spelled.
-use Rattle.std.specs.Prelude.{◌≡◌, ℕ, ◌≤◌, List, [], ◌∷◌, length, codes}
-use Rattle.std.specs.List.{AllByRecursion}
+use Rattle.std.specs.Prelude.{◌≡◌, ◌≢◌, ℕ, ◌≤◌, List, [], ◌∷◌, length, codes}
 use Rattle.std.specs.Fmt.{decimal}
-use Rattle.urb_names.specs.Naming.{Limits, IsLimits}
+use Rattle.urb_names.specs.Naming.{Limits, IsLimits, Label, IsLabel}
+use Rattle.urb_stable.specs.declared.memory.Failure.{Failure}
+use Rattle.urb_script.specs.Hex.{IsHexWord}
 use Rattle.urb_script.specs.Lines.{words_of}
+use Rattle.urb_script.specs.Wording.{IsNodeNumber, HasWord, payload_word, failure_word, name_text}
 use Rattle.urb_script.specs.declared.commands.CommandLine.{CommandLine}
 use Rattle.urb_script.specs.declared.commands.CommandLine.TheVariants as line
 
--- a command: make the group; submit a client's message at a node; store what a node holds; show a node's log
+-- A command: make the group; submit a client's message at a node; store what a node holds, or have its store fail; crash
+-- or restart a node; bring it what another node has stored under a name, or any bytes; have it resend; show a node's log;
+-- show who has a name stored.
 pub data Command : Type 0 where
   Group : (limits : Limits) → Command
   Submit : (node client number : ℕ) (payload : List ℕ) → Command
   Stored : (node : ℕ) → Command
+  Fail : (node : ℕ) (failure : Failure) → Command
+  Crash : (node : ℕ) → Command
+  Restart : (node : ℕ) → Command
+  Arrive : (source node : ℕ) (name : Label) → Command
+  Raw : (node : ℕ) (bytes : List ℕ) → Command
+  Tick : (node : ℕ) → Command
   Log : (node : ℕ) → Command
+  Held : (name : Label) → Command
 
--- the command of a line, wherever its payload lies in memory
+-- the command of a line, wherever its payload or its digits lie in memory
 abbrev pub command : CommandLine → Command
 command (line.Group config) = Group config
 command (line.Submit node client number payload) = Submit node client number payload.now
 command (line.Stored node) = Stored node
+command (line.Fail node failure) = Fail node failure
+command (line.Crash node) = Crash node
+command (line.Restart node) = Restart node
+command (line.Arrive source node name) = Arrive source node name
+command (line.Raw node bytes) = Raw node bytes
+command (line.Tick node) = Tick node
 command (line.Log node) = Log node
+command (line.Held name) = Held name
 
--- a node's number is 1 to 7
-abbrev pub IsNodeNumber : ℕ → Type 0
-IsNodeNumber p = (1 ≤ p) × (p ≤ 7)
+-- the first word of a command
+abbrev pub keyword : Command → List ℕ
+keyword (Group limits) = codes "group"
+keyword (Submit node client number payload) = codes "submit"
+keyword (Stored node) = codes "stored"
+keyword (Fail node failure) = codes "fail"
+keyword (Crash node) = codes "crash"
+keyword (Restart node) = codes "restart"
+keyword (Arrive source node name) = codes "arrive"
+keyword (Raw node bytes) = codes "raw"
+keyword (Tick node) = codes "tick"
+keyword (Log node) = codes "log"
+keyword (Held name) = codes "held"
 
--- a byte from ! to ~
-abbrev pub IsPrinted : ℕ → Type 0
-IsPrinted byte = (33 ≤ byte) × (byte ≤ 126)
+-- the words after it
+abbrev pub AreArguments : Command → List (List ℕ) → Type 0
+AreArguments (Group limits) words = words ≡ decimal limits.n ∷ decimal limits.cap ∷ []
+AreArguments (Submit node client number payload) words = words ≡ decimal node ∷ decimal client ∷ decimal number ∷ payload_word payload ∷ []
+AreArguments (Stored node) words = words ≡ decimal node ∷ []
+AreArguments (Fail node failure) words = words ≡ decimal node ∷ failure_word failure ∷ []
+AreArguments (Crash node) words = words ≡ decimal node ∷ []
+AreArguments (Restart node) words = words ≡ decimal node ∷ []
+AreArguments (Arrive source node name) words = words ≡ decimal source ∷ decimal node ∷ decimal name.sender ∷ decimal name.seq ∷ []
+AreArguments (Raw node bytes) words = (word : List ℕ) × (words ≡ decimal node ∷ word ∷ []) × IsHexWord bytes word
+AreArguments (Tick node) words = words ≡ decimal node ∷ []
+AreArguments (Log node) words = words ≡ decimal node ∷ []
+AreArguments (Held name) words = words ≡ name_text name ∷ []
 
--- a payload as a word: a hyphen alone is the empty one
-abbrev pub payload_word : List ℕ → List ℕ
-payload_word [] = 45 ∷ []
-payload_word (byte ∷ bytes) = byte ∷ bytes
+-- the words of a command, the first and those after it
+abbrev pub IsSpelled : List (List ℕ) → Command → Type 0
+IsSpelled [] asked = ⊥
+IsSpelled (first ∷ others) asked = (first ≡ keyword asked) × AreArguments asked others
 
--- a payload that a word can spell: printed bytes, and not a hyphen alone
-abbrev pub HasWord : List ℕ → Type 0
-HasWord payload = AllByRecursion IsPrinted payload × (payload ≡ 45 ∷ [] → ⊥)
-
--- the words of a command
-abbrev pub spelling : Command → List (List ℕ)
-spelling (Group limits) = codes "group" ∷ decimal limits.n ∷ decimal limits.cap ∷ []
-spelling (Submit node client number payload) = codes "submit" ∷ decimal node ∷ decimal client ∷ decimal number ∷ payload_word payload ∷ []
-spelling (Stored node) = codes "stored" ∷ decimal node ∷ []
-spelling (Log node) = codes "log" ∷ decimal node ∷ []
-
--- each word is within its values
+-- each word is within its values; what arrives at a node comes from another one
 abbrev pub InRange : Command → Type 0
 InRange (Group limits) = IsLimits limits
 InRange (Submit node client number payload) = IsNodeNumber node × (1 ≤ client) × (client ≤ 65535) × (number ≤ 4294967295) × HasWord payload
 InRange (Stored node) = IsNodeNumber node
+InRange (Fail node failure) = IsNodeNumber node
+InRange (Crash node) = IsNodeNumber node
+InRange (Restart node) = IsNodeNumber node
+InRange (Arrive source node name) = IsNodeNumber source × IsNodeNumber node × (source ≢ node) × IsLabel name
+InRange (Raw node bytes) = IsNodeNumber node
+InRange (Tick node) = IsNodeNumber node
 InRange (Log node) = IsNodeNumber node
+InRange (Held name) = IsLabel name
 
 -- the line is this command: at most 65,536 bytes, the command's words parted by one space each, each within its values
 pub record Spells (line : List ℕ) (asked : Command) : Type 0 where
   pub short : length line ≤ 65536
-  pub words : words_of line ≡ spelling asked
+  pub words : IsSpelled (words_of line) asked
   pub range : InRange asked

@@ -1,9 +1,10 @@
 pub mod Lines
-pub mod Worlds
+pub mod Hex
+pub mod Wording
 pub mod Commands
 pub mod Texts
 pub mod Steps
-pub mod Settled
-pub mod Searching
-pub mod Safe
+pub mod Clustering
+pub mod Replying
+pub mod Staged
 pub mod Scripts

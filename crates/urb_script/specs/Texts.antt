@@ -1,5 +1,5 @@
 -- The texts of answers.
-use Rattle.std.specs.Prelude.{ℕ, List, [], ◌∷◌, ◌++◌, codes, flat_map, Option, Some, None}
+use Rattle.std.specs.Prelude.{◌≡◌, ◌≢◌, ℕ, List, [], ◌∷◌, ◌++◌, codes, flat_map, length, if◌then◌else◌, Option, Some, None}
 use Rattle.std.specs.Fmt.{decimal}
 use Rattle.urb_names.specs.Naming.{Label, Content}
 use Rattle.urb_names.specs.declared.refusal.PacketFault.{PacketFault}
@@ -8,15 +8,15 @@ use Rattle.urb_names.specs.declared.refusal.Rule.{Rule}
 use Rattle.urb_names.specs.declared.refusal.Rule.TheVariants as rule
 use Rattle.urb_names.specs.declared.refusal.Refusal.{Refusal}
 use Rattle.urb_names.specs.declared.refusal.Refusal.TheVariants as refusal
+use Rattle.urb_names.specs.Carried.{Carried}
+use Rattle.urb_node.specs.declared.answer.Answer.TheVariants as answer
+use Rattle.urb_node.specs.Replies.{Done, Reply}
+use Rattle.urb_node.specs.Replies as reply
 use Rattle.urb_stable.specs.Entries.{Entry}
 use Rattle.urb_stable.specs.Log.{entries}
-use Rattle.urb_script.specs.Commands.{payload_word}
-use Rattle.urb_script.specs.declared.replies.Reply.{Reply}
-use Rattle.urb_script.specs.declared.replies.Reply.TheVariants.{Grouped, Drafted, Accepted, Stored, Refused}
-
--- a name: the sender, a full stop, the number
-abbrev pub name_text : Label → List ℕ
-name_text x = decimal x.sender ++ (46 ∷ decimal x.seq)
+use Rattle.urb_script.specs.Wording.{payload_word, name_text}
+use Rattle.urb_script.specs.declared.replies.Told.{Told}
+use Rattle.urb_script.specs.declared.replies.Told.TheVariants as told
 
 -- a fault of a packet's bytes, as a word
 abbrev pub fault_word : PacketFault → List ℕ
@@ -56,13 +56,44 @@ refusal_words (refusal.BadRow place) = codes "badrow " ++ decimal place
 refusal_words (refusal.BadLine line) = []
 refusal_words (refusal.Frame code) = []
 
--- the answer line of a reply, without its LF
+-- the answer lines of fixed words, without their LF
+abbrev pub told_text : Told → List ℕ
+told_text (told.Grouped limits) = codes "group " ++ (decimal limits.n ++ (32 ∷ decimal limits.cap))
+told_text (told.Drafted x position) = codes "draft " ++ (name_text x ++ (codes " at " ++ decimal position))
+told_text (told.Accepted x) = codes "accepted " ++ name_text x
+told_text (told.Noted x) = codes "noted " ++ name_text x
+told_text (told.Again x) = codes "again " ++ name_text x
+told_text (told.Stored x sent released) = codes "accepted " ++ (name_text x ++ (codes " sent " ++ (decimal sent ++ (codes " released " ++ decimal released))))
+told_text (told.Taken x sent released) = codes "taken " ++ (name_text x ++ (codes " sent " ++ (decimal sent ++ (codes " released " ++ decimal released))))
+told_text (told.Down p) = codes "down " ++ decimal p
+told_text (told.Up p) = codes "up " ++ decimal p
+told_text (told.Refused why) = codes "refused " ++ refusal_words why
+
+-- a packet that is sent: a space, its target, a colon, and its name
+abbrev pub packet_text : Carried → List ℕ
+packet_text packet = 32 ∷ (decimal packet.target ++ (58 ∷ name_text packet.name))
+
+-- what is told when a record is stored: it is accepted where it is a message of the node's own
+abbrev pub done_text : Done → List ℕ
+done_text done =
+    if done.accepted then told_text (told.Stored done.name (length done.sent) done.released)
+    else told_text (told.Taken done.name (length done.sent) done.released)
+
+-- the answer line of a reply
 abbrev pub reply_text : Reply → List ℕ
-reply_text (Grouped limits) = codes "group " ++ (decimal limits.n ++ (32 ∷ decimal limits.cap))
-reply_text (Drafted x position) = codes "draft " ++ (name_text x ++ (codes " at " ++ decimal position))
-reply_text (Accepted x) = codes "accepted " ++ name_text x
-reply_text (Stored x sent released) = codes "accepted " ++ (name_text x ++ (codes " sent " ++ (decimal sent ++ (codes " released " ++ decimal released))))
-reply_text (Refused why) = codes "refused " ++ refusal_words why
+reply_text (reply.Drafted x position) = told_text (told.Drafted x position)
+reply_text (reply.Same (answer.Accepted x)) = told_text (told.Accepted x)
+reply_text (reply.Same (answer.Noted x)) = told_text (told.Noted x)
+reply_text (reply.Same (answer.Again x)) = told_text (told.Again x)
+reply_text (reply.Stored done) = done_text done
+reply_text (reply.Sent packets) = codes "sent" ++ flat_map packet_text packets
+reply_text (reply.WentDown p) = told_text (told.Down p)
+reply_text (reply.Up p) = told_text (told.Up p)
+reply_text (reply.Refused why) = told_text (told.Refused why)
+
+-- a reply is told at the end of a text, and it isn't that memory was refused
+abbrev pub IsToldAs : Reply → List ℕ → List ℕ → Type 0
+IsToldAs said old new = (new ≡ old ++ reply_text said) × (said ≢ reply.Refused refusal.NoMemory)
 
 -- the payload of a message as a word
 abbrev pub message_word : Option Content → List ℕ
@@ -76,3 +107,7 @@ entry_text entry = 32 ∷ (decimal entry.0.sender ++ (46 ∷ (decimal entry.0.se
 -- the answer that shows p's log: its entries in the order in which they were released
 abbrev pub log_text : ℕ → List Entry → List ℕ
 log_text p records = codes "log " ++ (decimal p ++ (58 ∷ flat_map entry_text (entries records)))
+
+-- the answer that shows which of the nodes have a name stored
+abbrev pub held_text : Label → List ℕ → List ℕ
+held_text x nodes = codes "held " ++ (name_text x ++ (58 ∷ flat_map (λ q. 32 ∷ decimal q) nodes))

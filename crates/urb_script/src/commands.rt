@@ -2,15 +2,21 @@
 
 ghost use Rattle.std.specs.Prelude.{◌≡◌, ◌≢◌, ℕ, ◌≤◌, ◌∷◌, List, length, codes, IfSome, IfNone, IsTrue, ◌↔◌, []};
 ghost use Rattle.std.specs.List.{AllByRecursion};
-ghost use Rattle.urb_script.specs.Lines.{words_of, words_left};
-ghost use Rattle.urb_script.specs.Commands.{Command, command, spelling, InRange, Spells, payload_word, HasWord, IsPrinted};
+ghost use Rattle.std.specs.Fmt.{decimal};
+ghost use Rattle.urb_names.specs.Naming.{Limits, IsLimits, Label, IsLabel};
+ghost use Rattle.urb_stable.specs.declared.memory.Failure.{Failure};
+ghost use Rattle.urb_script.specs.Lines.{words_left};
+ghost use Rattle.urb_script.specs.Wording.{IsNodeNumber, HasWord, IsPrinted, payload_word, failure_word, name_text};
+ghost use Rattle.urb_script.specs.Commands.{Command, command, AreArguments, IsSpelled, InRange, Spells, Submit, Arrive, Raw};
 
+use crate::hex::HexBytes;
 use crate::input::LONGEST_LINE;
-use crate::words::{first_word, number_word};
-use urb_names::{ClientId, Config, NodeId};
+use crate::words::{first_word, last_node, last_word, number_in, number_word};
+use urb_names::{ClientId, Config, Name, NodeId};
+use urb_stable::Failure;
 
-/// A command of a line, which lends its payload.
-#[derive(Clone, Copy)]
+/// A command of a line, which lends its payload and its digits.
+#[derive(Drop)]
 pub enum CommandLine<'a> {
     /// Make the group.
     Group(Config),
@@ -23,8 +29,32 @@ pub enum CommandLine<'a> {
     },
     /// Store the record that a node holds.
     Stored(NodeId),
+    /// Have the store of the record that a node holds fail.
+    Fail {
+        node: NodeId,
+        failure: Failure,
+    },
+    /// Crash a node.
+    Crash(NodeId),
+    /// Restart a node with what its storage holds.
+    Restart(NodeId),
+    /// Bring a node what the source has stored under a name.
+    Arrive {
+        source: NodeId,
+        node: NodeId,
+        name: Name,
+    },
+    /// Bring a node bytes.
+    Raw {
+        node: NodeId,
+        bytes: HexBytes<'a>,
+    },
+    /// Have a node resend.
+    Tick(NodeId),
     /// Show a node's log.
     Log(NodeId),
+    /// Show which nodes have a name stored.
+    Held(Name),
 }
 
 /// The command that a line spells.
@@ -36,66 +66,72 @@ pub fn parse_command(line: &[u8]) -> Option<CommandLine<'_>>
         return None;
     }
     let (word, rest) = first_word(line);
+    command_of(word, rest)
+}
+
+// The command of a first word and what follows it.
+fn command_of<'a>(word: &[u8], rest: Option<&'a [u8]>) -> Option<CommandLine<'a>>
+    ensures some { IfSome result (λ found. IsSpelled (word.now ∷ words_left rest.entry) (command found) × InRange (command found)) }
+    ensures none { IfNone result ((asked : Command) → IsSpelled (word.now ∷ words_left rest.entry) asked → InRange asked → ⊥) }
+{
     if word == b"group".as_slice() {
-        return group_of(rest);
+        return Some(CommandLine::Group(group_of(rest)?));
     }
     if word == b"submit".as_slice() {
         return submit_of(rest);
     }
     if word == b"stored".as_slice() {
-        return stored_of(rest);
+        return Some(CommandLine::Stored(last_node(rest)?));
+    }
+    if word == b"fail".as_slice() {
+        let (node, failure) = fail_of(rest)?;
+        return Some(CommandLine::Fail { node, failure });
+    }
+    if word == b"crash".as_slice() {
+        return Some(CommandLine::Crash(last_node(rest)?));
+    }
+    if word == b"restart".as_slice() {
+        return Some(CommandLine::Restart(last_node(rest)?));
+    }
+    if word == b"arrive".as_slice() {
+        return arrive_of(rest);
+    }
+    if word == b"raw".as_slice() {
+        return raw_of(rest);
+    }
+    if word == b"tick".as_slice() {
+        return Some(CommandLine::Tick(last_node(rest)?));
     }
     if word == b"log".as_slice() {
-        return log_of(rest);
+        return Some(CommandLine::Log(last_node(rest)?));
+    }
+    if word == b"held".as_slice() {
+        return Some(CommandLine::Held(name_of(last_word(rest)?)?));
     }
     None
 }
 
-fn group_of(rest: Option<&[u8]>) -> Option<CommandLine<'_>>
-    ensures some { IfSome result (λ found. (codes "group" ∷ words_left rest.entry ≡ spelling (command found)) × InRange (command found)) }
-    ensures none { IfNone result ((asked : Command) → codes "group" ∷ words_left rest.entry ≡ spelling asked → InRange asked → ⊥) }
+// The limits of a group.
+fn group_of(rest: Option<&[u8]>) -> Option<Config>
+    ensures some { IfSome result (λ limits. (words_left rest.entry ≡ decimal limits.n ∷ decimal limits.cap ∷ []) × IsLimits limits) }
+    ensures none { IfNone result ((limits : Limits) → IsLimits limits → words_left rest.entry ≢ decimal limits.n ∷ decimal limits.cap ∷ []) }
 {
     let (n, rest) = number_word(rest, 1, 7)?;
     let (cap, rest) = number_word(rest, 1, 1_000_000)?;
     if rest.is_some() {
         return None;
     }
-    let config = Config::new(n as u8, cap as u32).unwrap();
-    Some(CommandLine::Group(config))
-}
-
-fn stored_of(rest: Option<&[u8]>) -> Option<CommandLine<'_>>
-    ensures some { IfSome result (λ found. (codes "stored" ∷ words_left rest.entry ≡ spelling (command found)) × InRange (command found)) }
-    ensures none { IfNone result ((asked : Command) → codes "stored" ∷ words_left rest.entry ≡ spelling asked → InRange asked → ⊥) }
-{
-    let (number, rest) = number_word(rest, 1, 7)?;
-    if rest.is_some() {
-        return None;
-    }
-    let node = NodeId::new(number as u8).unwrap();
-    Some(CommandLine::Stored(node))
-}
-
-fn log_of(rest: Option<&[u8]>) -> Option<CommandLine<'_>>
-    ensures some { IfSome result (λ found. (codes "log" ∷ words_left rest.entry ≡ spelling (command found)) × InRange (command found)) }
-    ensures none { IfNone result ((asked : Command) → codes "log" ∷ words_left rest.entry ≡ spelling asked → InRange asked → ⊥) }
-{
-    let (number, rest) = number_word(rest, 1, 7)?;
-    if rest.is_some() {
-        return None;
-    }
-    let node = NodeId::new(number as u8).unwrap();
-    Some(CommandLine::Log(node))
+    Some(Config::new(n as u8, cap as u32).unwrap())
 }
 
 fn submit_of(rest: Option<&[u8]>) -> Option<CommandLine<'_>>
-    ensures some { IfSome result (λ found. (codes "submit" ∷ words_left rest.entry ≡ spelling (command found)) × InRange (command found)) }
-    ensures none { IfNone result ((asked : Command) → codes "submit" ∷ words_left rest.entry ≡ spelling asked → InRange asked → ⊥) }
+    ensures some { IfSome result (λ found. IsSpelled (codes "submit" ∷ words_left rest.entry) (command found) × InRange (command found)) }
+    ensures none { IfNone result ((node client number : ℕ) (payload : List ℕ) → InRange (Submit node client number payload) → AreArguments (Submit node client number payload) (words_left rest.entry) → ⊥) }
 {
     let (node, rest) = number_word(rest, 1, 7)?;
     let (client, rest) = number_word(rest, 1, 65_535)?;
     let (number, rest) = number_word(rest, 0, 4_294_967_295)?;
-    let payload = payload_of(rest)?;
+    let payload = payload_of(last_word(rest)?)?;
     let node = NodeId::new(node as u8).unwrap();
     let client = ClientId::new(client as u16).unwrap();
     Some(CommandLine::Submit {
@@ -106,22 +142,15 @@ fn submit_of(rest: Option<&[u8]>) -> Option<CommandLine<'_>>
     })
 }
 
-// The payload that the last word spells.
-fn payload_of(rest: Option<&[u8]>) -> Option<&[u8]>
-    ensures some { IfSome result (λ payload. (words_left rest.entry ≡ payload_word payload.now ∷ []) × HasWord payload.now) }
-    ensures none { IfNone result ((payload : List ℕ) → HasWord payload → words_left rest.entry ≢ payload_word payload ∷ []) }
+// The payload that a word spells.
+fn payload_of(word: &[u8]) -> Option<&[u8]>
+    ensures some { IfSome result (λ payload. (word.now ≡ payload_word payload.now) × HasWord payload.now) }
+    ensures none { IfNone result ((payload : List ℕ) → HasWord payload → word.now ≢ payload_word payload) }
 {
-    let (word, rest) = first_word(rest?);
-    if rest.is_some() {
-        return None;
-    }
     if word.len() == 1 && word[0] == b'-' {
         return Some(&word[..0]);
     }
-    if word.is_empty() {
-        return None;
-    }
-    if !all_printed(word) {
+    if word.is_empty() || !all_printed(word) {
         return None;
     }
     Some(word)
@@ -131,4 +160,85 @@ fn all_printed(word: &[u8]) -> bool
     ensures { IsTrue result ↔ AllByRecursion IsPrinted word.now }
 {
     word.iter().all(|byte| matches!(*byte, b'!'..=b'~'))
+}
+
+// A node, and what its storage keeps of a record whose store fails.
+fn fail_of(rest: Option<&[u8]>) -> Option<(NodeId, Failure)>
+    ensures some { IfSome result (λ r. (words_left rest.entry ≡ decimal r.0 ∷ failure_word r.1 ∷ []) × IsNodeNumber r.0) }
+    ensures none { IfNone result ((node : ℕ) (failure : Failure) → IsNodeNumber node → words_left rest.entry ≢ decimal node ∷ failure_word failure ∷ []) }
+{
+    let (number, rest) = number_word(rest, 1, 7)?;
+    let failure = failure_of(last_word(rest)?)?;
+    let node = NodeId::new(number as u8).unwrap();
+    Some((node, failure))
+}
+
+fn failure_of(word: &[u8]) -> Option<Failure>
+    ensures some { IfSome result (λ failure. word.now ≡ failure_word failure) }
+    ensures none { IfNone result ((failure : Failure) → word.now ≢ failure_word failure) }
+{
+    if word == b"old".as_slice() {
+        return Some(Failure::Old);
+    }
+    if word == b"new".as_slice() {
+        return Some(Failure::New);
+    }
+    None
+}
+
+fn arrive_of<'a>(rest: Option<&[u8]>) -> Option<CommandLine<'a>>
+    ensures some { IfSome result (λ found. IsSpelled (codes "arrive" ∷ words_left rest.entry) (command found) × InRange (command found)) }
+    ensures none { IfNone result ((source node : ℕ) (name : Label) → InRange (Arrive source node name) → AreArguments (Arrive source node name) (words_left rest.entry) → ⊥) }
+{
+    let (source, rest) = number_word(rest, 1, 7)?;
+    let (node, rest) = number_word(rest, 1, 7)?;
+    let (sender, rest) = number_word(rest, 1, 7)?;
+    let (seq, rest) = number_word(rest, 1, 4_294_967_295)?;
+    if rest.is_some() {
+        return None;
+    }
+    if source == node {
+        return None;
+    }
+    let source = NodeId::new(source as u8).unwrap();
+    let node = NodeId::new(node as u8).unwrap();
+    let sender = NodeId::new(sender as u8).unwrap();
+    let name = Name {
+        sender,
+        seq: seq as u32,
+    };
+    Some(CommandLine::Arrive { source, node, name })
+}
+
+fn raw_of(rest: Option<&[u8]>) -> Option<CommandLine<'_>>
+    ensures some { IfSome result (λ found. IsSpelled (codes "raw" ∷ words_left rest.entry) (command found) × InRange (command found)) }
+    ensures none { IfNone result ((node : ℕ) (bytes : List ℕ) → InRange (Raw node bytes) → AreArguments (Raw node bytes) (words_left rest.entry) → ⊥) }
+{
+    let (number, rest) = number_word(rest, 1, 7)?;
+    let word = last_word(rest)?;
+    let node = NodeId::new(number as u8).unwrap();
+    match HexBytes::new(word) {
+        Some(bytes) => Some(CommandLine::Raw { node, bytes }),
+        None => None,
+    }
+}
+
+// The name that a word spells: a node's digit, a full stop, and the number.
+fn name_of(word: &[u8]) -> Option<Name>
+    ensures some { IfSome result (λ name. (word.now ≡ name_text name) × IsLabel name) }
+    ensures none { IfNone result ((name : Label) → IsLabel name → word.now ≢ name_text name) }
+{
+    if word.len() < 2 {
+        return None;
+    }
+    if word[1] != b'.' {
+        return None;
+    }
+    let sender = number_in(&word[..1], 1, 7)?;
+    let seq = number_in(&word[2..], 1, 4_294_967_295)?;
+    let sender = NodeId::new(sender as u8).unwrap();
+    Some(Name {
+        sender,
+        seq: seq as u32,
+    })
 }

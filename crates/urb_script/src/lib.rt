@@ -1,15 +1,19 @@
-//! Scripts: lines of commands in, answer lines out, over a plain world in memory.
+//! Scripts: lines of commands in, answer lines out, over a cluster whose stores are in memory.
 #![tactic(auto)]
 
+mod cluster;
 mod commands;
+mod hex;
 mod input;
-mod node;
+mod lines;
 mod replies;
 mod runs;
+mod stage;
 mod words;
-mod world;
 
 pub use runs::{Ended, RunFault, run};
 
 #[cfg(test)]
 mod tests;
+#[cfg(test)]
+mod worked;

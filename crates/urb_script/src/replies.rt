@@ -1,34 +1,44 @@
 //! The answer lines of a script.
 
 ghost use Rattle.std.specs.Prelude.{◌≡◌, ◌++◌, OnOk};
-ghost use Rattle.urb_script.specs.Texts.{reply_text};
+ghost use Rattle.urb_script.specs.Texts.{told_text};
 
 use std::alloc::Allocator;
 use std::fmt;
 use std::io::Write;
-use urb_names::{Config, Name, NoMemory, PacketFault, Refusal, Rule};
+use urb_names::{Config, Name, NoMemory, NodeId, PacketFault, Refusal, Rule};
 
-/// What a command is answered.
+/// What a command is answered in fixed words.
 #[derive(Clone, Copy)]
-pub enum Reply {
+pub enum Told {
     /// The group is made.
     Grouped(Config),
     /// A node holds a record under this name, for this position of its storage.
     Drafted { name: Name, position: u32 },
     /// The message is stored already, under this name.
     Accepted(Name),
-    /// The record is stored: how many packets it sends, and by how many names the log grew.
+    /// The packet's source is counted for this name.
+    Noted(Name),
+    /// The packet told nothing new of this name.
+    Again(Name),
+    /// The record of an own message is stored: how many packets it sends, and by how many names the log grew.
     Stored { name: Name, sent: u8, released: u32 },
+    /// Any other record is stored: the same of it.
+    Taken { name: Name, sent: u8, released: u32 },
+    /// The node is down.
+    Down(NodeId),
+    /// The node is ready again.
+    Up(NodeId),
     /// The command did nothing.
     Refused(Refusal),
 }
 
-// A name as a word, as `1.7`.
+/// A name as a word, as `1.7`.
 #[derive(Clone, Copy)]
-struct NameWord(Name);
+pub struct NameWord(pub Name);
 
 impl fmt::Display for NameWord {
-    ghost use Rattle.urb_script.specs.Texts.{name_text};
+    ghost use Rattle.urb_script.specs.Wording.{name_text};
     ghost use Rattle.std.specs.Prelude.{Some};
 
     ghost output = { λ word. Some (name_text word.0) };
@@ -122,28 +132,36 @@ impl fmt::Display for RefusalWords {
     }
 }
 
-impl fmt::Display for Reply {
-    ghost use Rattle.urb_script.specs.Texts.{reply_text};
+impl fmt::Display for Told {
+    ghost use Rattle.urb_script.specs.Texts.{told_text};
     ghost use Rattle.std.specs.Prelude.{Some};
 
-    ghost output = { λ reply. Some (reply_text reply) };
+    ghost output = { λ reply. Some (told_text reply) };
 
     fn fmt<W: fmt::Write>(&self, f: &mut fmt::Formatter<W>) -> fmt::Result {
         match self {
-            Reply::Grouped(config) => {
+            Told::Grouped(config) => {
                 let n = config.n();
                 let cap = config.cap();
                 write!(f, "group {n} {cap}")
             }
-            Reply::Drafted { name, position } => {
+            Told::Drafted { name, position } => {
                 let name = NameWord(*name);
                 write!(f, "draft {name} at {position}")
             }
-            Reply::Accepted(name) => {
+            Told::Accepted(name) => {
                 let name = NameWord(*name);
                 write!(f, "accepted {name}")
             }
-            Reply::Stored {
+            Told::Noted(name) => {
+                let name = NameWord(*name);
+                write!(f, "noted {name}")
+            }
+            Told::Again(name) => {
+                let name = NameWord(*name);
+                write!(f, "again {name}")
+            }
+            Told::Stored {
                 name,
                 sent,
                 released,
@@ -151,7 +169,23 @@ impl fmt::Display for Reply {
                 let name = NameWord(*name);
                 write!(f, "accepted {name} sent {sent} released {released}")
             }
-            Reply::Refused(refusal) => {
+            Told::Taken {
+                name,
+                sent,
+                released,
+            } => {
+                let name = NameWord(*name);
+                write!(f, "taken {name} sent {sent} released {released}")
+            }
+            Told::Down(node) => {
+                let node = node.number();
+                write!(f, "down {node}")
+            }
+            Told::Up(node) => {
+                let node = node.number();
+                write!(f, "up {node}")
+            }
+            Told::Refused(refusal) => {
                 let words = RefusalWords(*refusal);
                 write!(f, "refused {words}")
             }
@@ -160,8 +194,8 @@ impl fmt::Display for Reply {
 }
 
 /// Writes an answer at the end of a text.
-pub fn push_reply<A: Allocator>(text: &mut Vec<u8, A>, reply: Reply) -> Result<(), NoMemory>
-    ensures { OnOk result (text.new.items ≡ text.old.items ++ reply_text reply) }
+pub fn push_told<A: Allocator>(text: &mut Vec<u8, A>, reply: Told) -> Result<(), NoMemory>
+    ensures { OnOk result (text.new.items ≡ text.old.items ++ told_text reply) }
 {
     match write!(text, "{reply}") {
         Ok(()) => Ok(()),

@@ -3,6 +3,9 @@
 ghost use Rattle.std.specs.Prelude.{◌≡◌, ◌≢◌, ℕ, ◌^◌, ◌<◌, ◌≤◌, List, [], ◌∷◌, IfSome, IfNone, position, ◌==◌};
 ghost use Rattle.std.specs.Fmt.{decimal};
 ghost use Rattle.urb_script.specs.Lines.{words_of, words_left};
+ghost use Rattle.urb_script.specs.Wording.{IsNodeNumber};
+
+use urb_names::NodeId;
 
 /// The number below 2^64 that a word spells, in decimal without a sign and without a leading zero.
 pub fn number(word: &[u8]) -> Option<u64>
@@ -68,4 +71,29 @@ pub fn number_word(rest: Option<&[u8]>, low: u64, high: u64) -> Option<(u64, Opt
     let (word, rest) = first_word(rest?);
     let number = number_in(word, low, high)?;
     Some((number, rest))
+}
+
+/// The word, where it is the last one.
+pub fn last_word(rest: Option<&[u8]>) -> Option<&[u8]>
+    ensures some { IfSome result (λ word. words_left rest.entry ≡ word.now ∷ []) }
+    ensures none { IfNone result ((word : List ℕ) → words_left rest.entry ≢ word ∷ []) }
+{
+    let (word, rest) = first_word(rest?);
+    if rest.is_some() {
+        return None;
+    }
+    Some(word)
+}
+
+/// The node that the last word spells.
+pub fn last_node(rest: Option<&[u8]>) -> Option<NodeId>
+    ensures some { IfSome result (λ node. (words_left rest.entry ≡ decimal node ∷ []) × IsNodeNumber node) }
+    ensures none { IfNone result ((node : ℕ) → IsNodeNumber node → words_left rest.entry ≢ decimal node ∷ []) }
+{
+    let (number, rest) = number_word(rest, 1, 7)?;
+    if rest.is_some() {
+        return None;
+    }
+    let node = NodeId::new(number as u8).unwrap();
+    Some(node)
 }

@@ -138,6 +138,8 @@ impl<S: Alter> Stable for SqlStable<S> {
 
     ghost leaves_only = { λ s P. LeavesOnly (state S.Store s.conn) P };
 
+    ghost answers = { λ s answer. Unit {0} };
+
     fn next(&self) -> u32 {
         self.next
     }

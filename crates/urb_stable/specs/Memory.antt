@@ -1,7 +1,9 @@
 -- A store in memory, as contracts see it, and what each of its calls leaves.
-use Rattle.std.specs.Prelude.{◌+◌, nat_lt, ℕ, Bool, true, false, List, [], ◌∷◌, ◌++◌, Option, None, Some, if◌then◌else◌}
+use Rattle.std.specs.Prelude.{◌≡◌, Result, Ok, Err, ◌+◌, nat_lt, ℕ, Bool, true, false, List, [], ◌∷◌, ◌++◌, Option, None, Some, if◌then◌else◌}
 use Rattle.urb_stable.specs.Entries.{Entry}
 use Rattle.urb_stable.specs.declared.memory.Failure.{Failure}
+use Rattle.urb_stable.specs.declared.stable.StoreFault.{StoreFault}
+use Rattle.urb_stable.specs.declared.stable.StoreFault.TheVariants as fault
 
 -- its certain records, one behind them that is in doubt, whether it waits for a retrieve, how often it has failed, and how
 -- the next store fails
@@ -40,3 +42,8 @@ with_doubt certain (Some entry) = certain ++ entry ∷ []
 -- the store after a retrieve
 abbrev pub retrieved : Memory → Memory
 retrieved m = record m { certain = with_doubt m.certain m.doubt; doubt = None; doubtful = false }
+
+-- what a retrieve may answer: all records, or that no memory is left for them
+abbrev pub Retrieves : Memory → Result (List Entry) StoreFault → Type 0
+Retrieves m (Ok records) = records ≡ with_doubt m.certain m.doubt
+Retrieves m (Err e) = e ≡ fault.NoMemory

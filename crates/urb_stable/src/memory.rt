@@ -1,6 +1,6 @@
 // A store in memory.
-ghost use Rattle.std.specs.Prelude.{◌≡◌, ◌⊎◌, ◌<◌, ◌≤◌, ◌+◌, List, [], ◌∷◌, ◌++◌, None, Some, Ok, Err, false, true, length, IsTrue, OnOk, OnErr, IfOk, IfErr};
-ghost use Rattle.urb_stable.specs.Memory.{empty_memory, armed_with, with_record, without_memory, after_failure, with_doubt, retrieved};
+ghost use Rattle.std.specs.Prelude.{◌≡◌, ◌⊎◌, ◌<◌, ◌≤◌, ◌+◌, List, [], ◌∷◌, ◌++◌, None, Some, Ok, Err, false, true, length, IsTrue, OnOk, OnErr, IfOk, IfErr, MatchResult};
+ghost use Rattle.urb_stable.specs.Memory.{empty_memory, armed_with, with_record, without_memory, after_failure, with_doubt, retrieved, Retrieves};
 ghost use Rattle.urb_stable.specs.Entries.{Entry};
 ghost use Rattle.urb_stable.specs.Storing.{IsContents, is_out_of_place, is_place, is_bad_row, IsPlaced};
 
@@ -116,6 +116,8 @@ impl<A: Allocator + Copy> Stable for MemStable<A> {
 
     ghost leaves_only = { λ s P. (records : List Entry) → IsContents s.certain s.doubt records → P records };
 
+    ghost answers = { Retrieves };
+
     fn next(&self) -> u32 {
         self.certain + 1
     }
@@ -167,6 +169,7 @@ impl<A: Allocator + Copy> Stable for MemStable<A> {
 
     fn retrieve(&mut self, alloc: A) -> Result<Vec<Record<Message<A>>, A>, StoreFault>
         // As every store does.
+        ensures answers { MatchResult result (λ records. Retrieves self.old (Ok records.items)) (λ e. Retrieves self.old (Err e)) }
         ensures given { IfOk result (λ records. (self.new.certain ≡ records.items) × IsContents self.old.certain self.old.doubt records.items) }
         ensures clear { OnOk result ((self.new.doubtful ≡ false) × (self.new.doubt ≡ None)) }
         ensures failed { OnErr result (self.new.certain ≡ self.old.certain) }

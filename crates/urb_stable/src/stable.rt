@@ -1,6 +1,7 @@
 // Stable storage: what each store promises.
-ghost use Rattle.std.specs.Prelude.{◌≡◌, ◌⊎◌, ◌+◌, ◌<◌, ◌≤◌, List, [], ◌∷◌, ◌++◌, ℕ, Bool, true, false, Option, Some, None, Err, length, IsTrue, IfOk, IfErr, OnOk, OnErr};
+ghost use Rattle.std.specs.Prelude.{◌≡◌, ◌⊎◌, ◌+◌, ◌<◌, ◌≤◌, List, [], ◌∷◌, ◌++◌, ℕ, Bool, true, false, Option, Some, None, Result, Ok, Err, length, IsTrue, IfOk, IfErr, MatchResult, OnOk, OnErr};
 ghost use Rattle.urb_stable.specs.Entries.{Entry};
+ghost use Rattle.urb_stable.specs.declared.stable.StoreFault.{StoreFault as Fault};
 ghost use Rattle.urb_stable.specs.Storing.{refusal_of, IsContents, is_out_of_place, is_place, is_bad_row, IsPlaced};
 
 use crate::Record;
@@ -103,6 +104,9 @@ pub trait Stable {
     /// Whatever a stop at this moment leaves is records of which this holds.
     ghost leaves_only: { Self → (List Entry → Type 0) → Type 0 };
 
+    /// What a retrieve may answer.
+    ghost answers: { Self → Result (List Entry) Fault → Type 0 };
+
     /// The position of the next record, from 1.
     fn next(&self) -> u32
         ensures value { result ≡ place self.now }
@@ -141,6 +145,9 @@ pub trait Stable {
         &mut self,
         alloc: Self::Alloc,
     ) -> Result<Vec<Record<Message<Self::Alloc>>, Self::Alloc>, StoreFault>
+        // It answers as this storage does.
+        ensures answers { MatchResult result (λ records. answers self.old (Ok records.items)) (λ e. answers self.old (Err e)) }
+
         // It gives what the storage may hold, and that is certain then.
         ensures given { is_honest self.new → IfOk result (λ records. (certain self.new ≡ records.items) × IsContents (certain self.old) (doubt self.old) records.items) }
         ensures clear { OnOk result ((is_doubtful self.new ≡ false) × (doubt self.new ≡ None)) }

@@ -1,10 +1,9 @@
-use Rattle.std.proofs.Common.{rules}
-use Rattle.urb_script.specs.Lines.{words_left}
-use Rattle.urb_script.proofs.Spellings.{group_more, group_second}
+use Rattle.std.proofs.Common.{rules, arith}
+use Rattle.urb_script.proofs.Spellings.{left_some, next_words}
 use Rattle.urb_script.proofs.commands.group_of.Goals as goal
 
 pub returns-in_err-cap-clause-none : goal.returns-in_err-cap-clause-none
-returns-in_err-cap-clause-none c = rw c.from_residual-in_err-cap.ensures (group_second (words_left c.args.rest) _ _ c.in_ok-n.ensures.some.0 c.in_err-cap.ensures.none)
+returns-in_err-cap-clause-none c = rw c.from_residual-in_err-cap.ensures (λ limits range e. c.in_err-cap.ensures.none limits.cap _ (omega (arith, range.2)) range.3 (next_words c.in_ok-n.ensures.some.0 e))
 
 pub returns-then-is_some-clause-none : goal.returns-then-is_some-clause-none
-returns-then-is_some-clause-none c = group_more (words_left c.args.rest) _ c.in_ok-cap.rest _ _ c.in_ok-n.ensures.some.0 c.in_ok-cap.ensures.some.0 (search rules)
+returns-then-is_some-clause-none c = λ limits range e. left_some c.in_ok-cap.rest (search rules) (next_words c.in_ok-cap.ensures.some.0 (next_words c.in_ok-n.ensures.some.0 e))

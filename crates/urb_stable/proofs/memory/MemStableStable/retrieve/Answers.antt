@@ -41,3 +41,11 @@ returns-clause-all g c =
     let all : take c.len.result c.self.inside.records.items ≡ with_doubt (take c.self.inside.certain c.self.inside.records.items) (slice_get c.self.inside.records.items c.self.inside.certain) = rw size (k.all ∙ k.whole) in
     let nothing : slice_get c.self.inside.records.items c.len.result ≡ None = rw size k.nothing in
     (items ∙ k.whole ∙ ap (λ (m : Memory). with_doubt m.certain m.doubt) c.self.view_is, (λ i. record { certain = all i; doubt = nothing i; doubtful = false; failures = c.self.inside.failures; armed = c.self.inside.armed }) ∙ ap retrieved c.self.view_is)
+
+pub returns-clause-answers : goal.returns-clause-answers
+returns-clause-answers g c =
+    let below : c.self.inside.certain ≤ length c.self.inside.records.items = omega (arith, c.self.invariant.below, c.self.inside.records.ok.0) in
+    let one : length c.self.inside.records.items ≤ c.self.inside.certain + 1 = omega (arith, c.self.invariant.one, c.self.inside.records.ok.0) in
+    let k = whole c.self.inside.records.items c.self.inside.certain below one in
+    let items = c.in_ok-records.ensures ∙ c.deref.ensures.value in
+    items ∙ k.whole ∙ ap (λ (m : Memory). with_doubt m.certain m.doubt) c.self.view_is
