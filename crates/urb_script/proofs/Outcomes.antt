@@ -13,9 +13,9 @@ use Rattle.urb_script.specs.Wording.{IsNodeNumber, HasWord, payload_word, failur
 use Rattle.urb_script.proofs.HexWords.{same_bytes}
 use Rattle.urb_script.proofs.NameWords.{name_sender, name_seq}
 use Rattle.urb_script.proofs.Spellings.{test}
-use Rattle.urb_script.specs.Worlds.{World}
+use Rattle.urb_group.specs.Scripts.{Scene}
 use Rattle.urb_script.specs.Commands.{Command, Group, Submit, Stored, Fail, Crash, Restart, Arrive, Raw, Tick, Log, Held, keyword, AreArguments, IsSpelled, InRange, Spells}
-use Rattle.urb_script.specs.Steps.{Takes, MayCome}
+use Rattle.urb_script.specs.Steps.{Plays, MayCome, answer}
 use Rattle.urb_script.specs.Scripts.{Answers, Ends, IsBad, HasOneOutcome, bad_line}
 use Rattle.urb_script.specs.declared.runs.Ended.{Ended}
 use Rattle.urb_script.specs.declared.runs.Ended.TheVariants.{Whole, BadLine}
@@ -95,63 +95,63 @@ one_command : (words : List (List ℕ)) (asked other : Command) → InRange aske
 one_command [] asked other r s a b = absurd a
 one_command (first ∷ others) asked other r s a b = same_arguments asked other others (test first (keyword asked) (keyword other) a.0 b.0) r s a.1 b.1
 
-spells_one : (line : List ℕ) (asked other : Command) → Spells line asked → Spells line other → asked ≡ other
+pub spells_one : (line : List ℕ) (asked other : Command) → Spells line asked → Spells line other → asked ≡ other
 spells_one line asked other s t = one_command (words_of line) asked other s.range t.range s.words t.words
 
 -- ---- a command has one answer
 
-takes_one : (old : Option World) (asked : Command) (text said : List ℕ) (new next : World) → Takes old asked text new → Takes old asked said next → (text ≡ said) × (new ≡ next)
-takes_one None (Group limits) text said new next t u = (t.0 ∙ sym u.0, t.1 ∙ sym u.1)
-takes_one None asked text said new next t u = absurd t
-takes_one (Some world) (Submit p client number payload) text said new next t u = let e : ◌≡◌ {A = List ℕ × World} (text, new) (said, next) = t ∙ sym u in (ap (λ (s : List ℕ × World). s.0) e, ap (λ (s : List ℕ × World). s.1) e)
-takes_one (Some world) (Stored p) text said new next t u = let e : ◌≡◌ {A = List ℕ × World} (text, new) (said, next) = t ∙ sym u in (ap (λ (s : List ℕ × World). s.0) e, ap (λ (s : List ℕ × World). s.1) e)
-takes_one (Some world) (Log p) text said new next t u = let e : ◌≡◌ {A = List ℕ × World} (text, new) (said, next) = t ∙ sym u in (ap (λ (s : List ℕ × World). s.0) e, ap (λ (s : List ℕ × World). s.1) e)
-takes_one (Some world) asked text said new next t u = absurd t
+pair_one : (text said : List ℕ) (new next : Scene) (given : List ℕ × Scene) → (text, new) ≡ given → (said, next) ≡ given → (text ≡ said) × (new ≡ next)
+pair_one text said new next given t u =
+    let e : ◌≡◌ {A = List ℕ × Scene} (text, new) (said, next) = t ∙ sym u in (ap (λ (s : List ℕ × Scene). s.0) e, ap (λ (s : List ℕ × Scene). s.1) e)
 
-takes_may : (old : Option World) (asked : Command) (text : List ℕ) (new : World) → Takes old asked text new → MayCome old asked
-takes_may None (Group limits) text new t = tt
-takes_may None asked text new t = absurd t
-takes_may (Some world) (Submit p client number payload) text new t = tt
-takes_may (Some world) (Stored p) text new t = tt
-takes_may (Some world) (Log p) text new t = tt
-takes_may (Some world) asked text new t = absurd t
+plays_one : (old : Option Scene) (asked : Command) (text said : List ℕ) (new next : Scene) → Plays old asked text new → Plays old asked said next → (text ≡ said) × (new ≡ next)
+plays_one None (Group limits) text said new next t u = (t.0 ∙ sym u.0, t.1 ∙ sym u.1)
+plays_one None asked text said new next t u = absurd t
+plays_one (Some scene) (Group limits) text said new next t u = absurd t
+plays_one (Some scene) asked text said new next t u = pair_one text said new next (answer scene asked) t u
+
+plays_may : (old : Option Scene) (asked : Command) (text : List ℕ) (new : Scene) → Plays old asked text new → MayCome old asked
+plays_may None (Group limits) text new t = tt
+plays_may None asked text new t = absurd t
+plays_may (Some scene) (Group limits) text new t = t
+plays_may (Some scene) asked text new t = tt
 
 -- ---- a script ends in one way
 
-ends_one : (state : Option World) (left : List (List ℕ)) (number : ℕ) (ended other : Ended) (last final : List ℕ) → Ends state left number ended last → Ends state left number other final → (ended ≡ other) × (last ≡ final)
+ends_one : (state : Option Scene) (left : List (List ℕ)) (number : ℕ) (ended other : Ended) (last final : List ℕ) → Ends state left number ended last → Ends state left number other final → (ended ≡ other) × (last ≡ final)
 ends_one state left number Whole Whole last final e f = (refl, e.1 ∙ sym f.1)
-ends_one state left number Whole (BadLine bad) last final e f = absurd (subst (λ (s : Option World). IsBad s []) e.2.1 (subst (IsBad state) e.0 f.0))
-ends_one state left number (BadLine bad) Whole last final e f = absurd (subst (λ (s : Option World). IsBad s []) f.2.1 (subst (IsBad state) f.0 e.0))
+ends_one state left number Whole (BadLine bad) last final e f = absurd (subst (λ (s : Option Scene). IsBad s []) e.2.1 (subst (IsBad state) e.0 f.0))
+ends_one state left number (BadLine bad) Whole last final e f = absurd (subst (λ (s : Option Scene). IsBad s []) f.2.1 (subst (IsBad state) f.0 e.0))
 ends_one state left number (BadLine bad) (BadLine worse) last final e f = (ap BadLine (e.1 ∙ sym f.1), e.2 ∙ (ap bad_line (e.1 ∙ sym f.1) ∙ sym f.2))
 
 -- a script doesn't end where a command stands that may come
-goes_on : (state : Option World) (line : List ℕ) (lines : List (List ℕ)) (number : ℕ) (ended : Ended) (last : List ℕ) (asked : Command) → MayCome state asked → Spells line asked → Ends state (line ∷ lines) number ended last → ⊥
+goes_on : (state : Option Scene) (line : List ℕ) (lines : List (List ℕ)) (number : ℕ) (ended : Ended) (last : List ℕ) (asked : Command) → MayCome state asked → Spells line asked → Ends state (line ∷ lines) number ended last → ⊥
 goes_on state line lines number Whole last asked may s e = absurd (cc (e.0))
 goes_on state line lines number (BadLine bad) last asked may s e = e.0 asked may s
 
 abbrev Same : Ended → Ended → List ℕ → List ℕ → Type 0
 Same ended other output text = (ended ≡ other) × (output ≡ text)
 
-one_way : (old state final : Option World) (done others left rest : List (List ℕ)) (said text last end : List ℕ) (number n m : ℕ) (ended other : Ended)
-    → done ++ left ≡ others ++ rest → Answers old done said state → Answers old others text final → n ≡ length done + number → m ≡ length others + number
+one_way : (old state final : Option Scene) (done others left rest : List (List ℕ)) (said text last end : List ℕ) (number n m : ℕ) (ended other : Ended)
+    → done ++ left ≡ others ++ rest → Answers Plays old done said state → Answers Plays old others text final → n ≡ length done + number → m ≡ length others + number
     → Ends state left n ended last → Ends final rest m other end → Same ended other (said ++ last) (text ++ end)
 one_way old state final [] [] left rest said text last end number n m ended other same a b c d e f =
     let lines : left ≡ rest = same in
     let counts : m ≡ n = omega (arith, c, d) in
-    let there : Ends old rest n ended last = subst (λ (l : List (List ℕ)). Ends old l n ended last) lines (subst (λ (s : Option World). Ends s left n ended last) a.1 e) in
-    let here : Ends old rest n other end = subst (λ (k : ℕ). Ends old rest k other end) counts (subst (λ (s : Option World). Ends s rest m other end) b.1 f) in
+    let there : Ends old rest n ended last = subst (λ (l : List (List ℕ)). Ends old l n ended last) lines (subst (λ (s : Option Scene). Ends s left n ended last) a.1 e) in
+    let here : Ends old rest n other end = subst (λ (k : ℕ). Ends old rest k other end) counts (subst (λ (s : Option Scene). Ends s rest m other end) b.1 f) in
     let one = ends_one old rest n ended other last end there here in
     (one.0, ap₂ (λ (x y : List ℕ). x ++ y) (a.0 ∙ sym b.0) one.1)
 one_way old state final [] (line ∷ others) left rest said text last end number n m ended other same a b c d e f =
-    absurd (goes_on old line (others ++ rest) n ended last b.0 (takes_may old b.0 b.1 b.2 b.5) b.4 (subst (λ (l : List (List ℕ)). Ends old l n ended last) same (subst (λ (s : Option World). Ends s left n ended last) a.1 e)))
+    absurd (goes_on old line (others ++ rest) n ended last b.0 (plays_may old b.0 b.1 b.2 b.5) b.4 (subst (λ (l : List (List ℕ)). Ends old l n ended last) same (subst (λ (s : Option Scene). Ends s left n ended last) a.1 e)))
 one_way old state final (line ∷ done) [] left rest said text last end number n m ended other same a b c d e f =
-    absurd (goes_on old line (done ++ left) m other end a.0 (takes_may old a.0 a.1 a.2 a.5) a.4 (subst (λ (l : List (List ℕ)). Ends old l m other end) (sym same) (subst (λ (s : Option World). Ends s rest m other end) b.1 f)))
+    absurd (goes_on old line (done ++ left) m other end a.0 (plays_may old a.0 a.1 a.2 a.5) a.4 (subst (λ (l : List (List ℕ)). Ends old l m other end) (sym same) (subst (λ (s : Option Scene). Ends s rest m other end) b.1 f)))
 one_way old state final (line ∷ done) (first ∷ others) left rest said text last end number n m ended other same a b c d e f =
     let lines : line ≡ first = cc same in
     let tail : done ++ left ≡ others ++ rest = cc same in
     let asked : a.0 ≡ b.0 = spells_one first a.0 b.0 (subst (λ (l : List ℕ). Spells l a.0) lines a.4) b.4 in
-    let answer : (a.1 ≡ b.1) × (a.2 ≡ b.2) = takes_one old b.0 a.1 b.1 a.2 b.2 (subst (λ (o : Command). Takes old o a.1 a.2) asked a.5) b.5 in
-    let later = one_way (Some b.2) state final done others left rest a.3 b.3 last end (suc number) n m ended other tail (subst (λ (w : World). Answers (Some w) done a.3 state) answer.1 a.7) b.7 (omega (arith, c)) (omega (arith, d)) e f in (
+    let answer : (a.1 ≡ b.1) × (a.2 ≡ b.2) = plays_one old b.0 a.1 b.1 a.2 b.2 (subst (λ (o : Command). Plays old o a.1 a.2) asked a.5) b.5 in
+    let later = one_way (Some b.2) state final done others left rest a.3 b.3 last end (suc number) n m ended other tail (subst (λ (w : Scene). Answers Plays (Some w) done a.3 state) answer.1 a.7) b.7 (omega (arith, c)) (omega (arith, d)) e f in (
       later.0,
       ap (λ x. x ++ last) a.6 ∙ append_assoc a.1 (10 ∷ a.3) last
           ∙ ap₂ (λ (x y : List ℕ). x ++ 10 ∷ y) answer.0 later.1

@@ -1,6 +1,6 @@
 -- A script so far: what was read, answered and written.
 use Rattle.std.proofs.Common.{inl, inr, ◌⊎◌, ◌≡◌, ℕ, ◌+◌, List, [], ◌∷◌, ◌++◌, Option, Some, None, true, false, length, refl, sym, ap, ◌∙◌, subst, append_assoc, append-nil, length-append, arith}
-use Rattle.std.specs.Option.{IfSome, is_some, option_map}
+use Rattle.std.specs.Option.{IfSome, is_some}
 use Rattle.std.specs.Io.KnownBytes.{Appends}
 use Rattle.std.proofs.KnownBytes.{Appends-nil, Appends-trans}
 use Rattle.urb_script.specs.declared.input.LineRead.TheVariants as read
@@ -8,18 +8,19 @@ use Rattle.urb_script.specs.declared.runs.Ended.TheVariants.{Whole, BadLine}
 use Rattle.urb_script.specs.Lines.{lines_of, ReadsLine, TookPart, IsOneLine}
 use Rattle.urb_script.specs.declared.runs.RunFault.{RunFault}
 use Rattle.urb_script.specs.declared.runs.RunFault.TheVariants as faults
-use Rattle.urb_script.specs.Commands.{Command, Spells}
-use Rattle.urb_script.specs.Worlds.{World}
+use Rattle.urb_names.specs.Naming.{Limits}
+use Rattle.urb_script.specs.Commands.{Command, Group, Spells}
+use Rattle.urb_group.specs.Scripts.{Scene}
 use Rattle.urb_script.specs.Steps.{Takes}
-use Rattle.urb_script.specs.Scripts.{Answers, Answered, IsBad, bad_line, WholeScript, BrokenOff, BreaksOff}
+use Rattle.urb_script.specs.Scripts.{Answers, Answered, AnsweredFrom, IsBad, OpensWith, ShowsSome, TakesFrom, bad_line, WholeScript, BrokenOff, BreaksOff}
 
-pub record Progress (input : List ℕ) (before after known : Option (List ℕ)) (count : ℕ) (state : Option World) : Type 0 where
-  pub done : List (List ℕ)
-  pub rest : List ℕ
+record Progress (input : List ℕ) (before after known : Option (List ℕ)) (count : ℕ) (state : Option Scene) : Type 0 where
+  done : List (List ℕ)
+  rest : List ℕ
   pub said : List ℕ
   pub at : known ≡ Some rest
   pub lines : lines_of input ≡ done ++ lines_of rest
-  pub answers : Answers None done said state
+  pub answers : Answers Takes None done said state
   pub written : Appends before after said
   pub counted : length done ≡ count
 
@@ -29,18 +30,18 @@ none_some e = cc
 some_same : {bytes rest : List ℕ} → Some bytes ≡ Some rest → rest ≡ bytes
 some_same e = cc
 
-pub nothing_yet : (known before : Option (List ℕ)) → IfSome known (λ input. Progress input before before known 0 None)
-nothing_yet None before = tt
-nothing_yet (Some input) before = record { done = []; rest = input; said = []; at = refl; lines = refl; answers = (refl, refl); written = Appends-nil before; counted = refl }
+nothing_here : (known before : Option (List ℕ)) → IfSome known (λ input. Progress input before before known 0 None)
+nothing_here None before = tt
+nothing_here (Some input) before = record { done = []; rest = input; said = []; at = refl; lines = refl; answers = (refl, refl); written = Appends-nil before; counted = refl }
 
-Answers_more : (old mid : Option World) (new : World) (lines : List (List ℕ)) (output line text : List ℕ) (asked : Command) → Answers old lines output mid → Spells line asked → Takes mid asked text new
-    → Answers old (lines ++ line ∷ []) (output ++ (text ++ 10 ∷ [])) (Some new)
+Answers_more : (old mid : Option Scene) (new : Scene) (lines : List (List ℕ)) (output line text : List ℕ) (asked : Command) → Answers Takes old lines output mid → Spells line asked → Takes mid asked text new
+    → Answers Takes old (lines ++ line ∷ []) (output ++ (text ++ 10 ∷ [])) (Some new)
 Answers_more old mid new [] output line text asked a s t =
     (asked, text, new, [], s, subst (λ from. Takes from asked text new) a.1 t, ap (λ out. out ++ (text ++ 10 ∷ [])) a.0, (refl, refl))
 Answers_more old mid new (first ∷ lines) output line text asked a s t =
     (a.0, a.1, a.2, a.3 ++ (text ++ 10 ∷ []), a.4, a.5, ap (λ out. out ++ (text ++ 10 ∷ [])) a.6 ∙ append_assoc a.1 (10 ∷ a.3) (text ++ 10 ∷ []), Answers_more (Some a.2) mid new lines a.3 line text asked a.7 s t)
 
-more : (input : List ℕ) (before after later left : Option (List ℕ)) (bytes : List ℕ) (count : ℕ) (state : Option World) (new : World) (line text : List ℕ)
+more : (input : List ℕ) (before after later left : Option (List ℕ)) (bytes : List ℕ) (count : ℕ) (state : Option Scene) (new : Scene) (line text : List ℕ)
     → Progress input before after (Some bytes) count state → ReadsLine (Some bytes) left line read.Whole → Answered state line text (Some new) → Appends after later (text ++ 10 ∷ [])
     → Progress input before later left (count + 1) (Some new)
 more input before after later left bytes count state new line text p r a w = record {
@@ -55,32 +56,32 @@ more input before after later left bytes count state new line text p r a w = rec
 }
 
 -- one more line is answered
-pub one_more : (from before after later known left : Option (List ℕ)) (count : ℕ) (state : Option World) (new : World) (line text : List ℕ)
+one_here : (from before after later known left : Option (List ℕ)) (count : ℕ) (state : Option Scene) (new : Scene) (line text : List ℕ)
     → IfSome from (λ input. Progress input before after known count state) → ReadsLine known left line read.Whole → Answered state line text (Some new) → Appends after later (text ++ 10 ∷ [])
     → IfSome from (λ input. Progress input before later left (count + 1) (Some new))
-one_more None before after later known left count state new line text p r a w = tt
-one_more (Some input) before after later None left count state new line text p r a w = absurd (none_some p.at)
-one_more (Some input) before after later (Some bytes) left count state new line text p r a w = more input before after later left bytes count state new line text p r a w
+one_here None before after later known left count state new line text p r a w = tt
+one_here (Some input) before after later None left count state new line text p r a w = absurd (none_some p.at)
+one_here (Some input) before after later (Some bytes) left count state new line text p r a w = more input before after later left bytes count state new line text p r a w
 
 -- the input ends after a line
-pub closes : (from before after known left : Option (List ℕ)) (count : ℕ) (world : World) (line : List ℕ)
-    → IfSome from (λ input. Progress input before after known count (Some world)) → ReadsLine known left line read.End → IfSome from (λ input. WholeScript input Whole before after)
-closes None before after known left count world line p r = tt
-closes (Some input) before after None left count world line p r = absurd (none_some p.at)
-closes (Some input) before after (Some bytes) left count world line p r = record {
+closes : (from before after known left : Option (List ℕ)) (count : ℕ) (scene : Scene) (line : List ℕ)
+    → IfSome from (λ input. Progress input before after known count (Some scene)) → ReadsLine known left line read.End → IfSome from (λ input. WholeScript Takes input Whole before after)
+closes None before after known left count scene line p r = tt
+closes (Some input) before after None left count scene line p r = absurd (none_some p.at)
+closes (Some input) before after (Some bytes) left count scene line p r = record {
   done = p.done;
   left = [];
   said = p.said;
   last = [];
-  state = Some world;
+  state = Some scene;
   lines = p.lines ∙ ap (λ rest. p.done ++ lines_of rest) (some_same p.at ∙ r);
   answers = p.answers;
-  ends = (refl, refl, (world, refl));
+  ends = (refl, refl, (scene, refl));
   written = rw append-nil p.written;
 }
 
-bad : (input : List ℕ) (before after later : Option (List ℕ)) (bytes : List ℕ) (count : ℕ) (state : Option World)
-    → Progress input before after (Some bytes) count state → IsBad state (lines_of bytes) → Appends after later (bad_line (count + 1)) → WholeScript input (BadLine (count + 1)) before later
+bad : (input : List ℕ) (before after later : Option (List ℕ)) (bytes : List ℕ) (count : ℕ) (state : Option Scene)
+    → Progress input before after (Some bytes) count state → IsBad state (lines_of bytes) → Appends after later (bad_line (count + 1)) → WholeScript Takes input (BadLine (count + 1)) before later
 bad input before after later bytes count state p b w = record {
   done = p.done;
   left = lines_of bytes;
@@ -94,36 +95,36 @@ bad input before after later bytes count state p b w = record {
 }
 
 -- nothing comes at all
-pub bad_end : (from before after later known left : Option (List ℕ)) (count : ℕ) (line : List ℕ)
-    → IfSome from (λ input. Progress input before after known count None) → ReadsLine known left line read.End → Appends after later (bad_line (count + 1)) → IfSome from (λ input. WholeScript input (BadLine (count + 1)) before later)
+bad_end : (from before after later known left : Option (List ℕ)) (count : ℕ) (line : List ℕ)
+    → IfSome from (λ input. Progress input before after known count None) → ReadsLine known left line read.End → Appends after later (bad_line (count + 1)) → IfSome from (λ input. WholeScript Takes input (BadLine (count + 1)) before later)
 bad_end None before after later known left count line p r w = tt
 bad_end (Some input) before after later None left count line p r w = absurd (none_some p.at)
 bad_end (Some input) before after later (Some bytes) left count line p r w =
     bad input before after later bytes count None p (subst (λ bytes. IsBad None (lines_of bytes)) (sym r) tt) w
 
 -- a line is too long
-pub bad_long : (from before after later known left : Option (List ℕ)) (count : ℕ) (state : Option World) (line : List ℕ)
-    → IfSome from (λ input. Progress input before after known count state) → ReadsLine known left line read.Long → Appends after later (bad_line (count + 1)) → IfSome from (λ input. WholeScript input (BadLine (count + 1)) before later)
-bad_long None before after later known left count state line p r w = tt
-bad_long (Some input) before after later None left count state line p r w = absurd (none_some p.at)
-bad_long (Some input) before after later (Some bytes) left count state line p r w =
+long_here : (from before after later known left : Option (List ℕ)) (count : ℕ) (state : Option Scene) (line : List ℕ)
+    → IfSome from (λ input. Progress input before after known count state) → ReadsLine known left line read.Long → Appends after later (bad_line (count + 1)) → IfSome from (λ input. WholeScript Takes input (BadLine (count + 1)) before later)
+long_here None before after later known left count state line p r w = tt
+long_here (Some input) before after later None left count state line p r w = absurd (none_some p.at)
+long_here (Some input) before after later (Some bytes) left count state line p r w =
     bad input before after later bytes count state p (subst (IsBad state) (sym r.2) (λ asked may s. omega (arith, s.short, r.3))) w
 
 -- a line is no command
-pub bad_command : (from before after later known left : Option (List ℕ)) (count : ℕ) (state : Option World) (line text : List ℕ)
+none_here : (from before after later known left : Option (List ℕ)) (count : ℕ) (state : Option Scene) (line text : List ℕ)
     → IfSome from (λ input. Progress input before after known count state) → ReadsLine known left line read.Whole → Answered state line text None → Appends after later (bad_line (count + 1))
-    → IfSome from (λ input. WholeScript input (BadLine (count + 1)) before later)
-bad_command None before after later known left count state line text p r a w = tt
-bad_command (Some input) before after later None left count state line text p r a w = absurd (none_some p.at)
-bad_command (Some input) before after later (Some bytes) left count state line text p r a w =
+    → IfSome from (λ input. WholeScript Takes input (BadLine (count + 1)) before later)
+none_here None before after later known left count state line text p r a w = tt
+none_here (Some input) before after later None left count state line text p r a w = absurd (none_some p.at)
+none_here (Some input) before after later (Some bytes) left count state line text p r a w =
     bad input before after later bytes count state p (subst (IsBad state) (sym r.2) a) w
 
 -- memory or the reader fails, after a part was read
-pub breaks_off : (P : List ℕ → Type 0) (from before after known left : Option (List ℕ)) (count : ℕ) (state : Option World)
+off_here : (P : List ℕ → Type 0) (from before after known left : Option (List ℕ)) (count : ℕ) (state : Option Scene)
     → IfSome from (λ input. Progress input before after known count state) → TookPart P known left → IfSome from (λ input. BrokenOff P input left before after)
-breaks_off P None before after known left count state p t = tt
-breaks_off P (Some input) before after None left count state p t = absurd (none_some p.at)
-breaks_off P (Some input) before after (Some bytes) left count state p t = record {
+off_here P None before after known left count state p t = tt
+off_here P (Some input) before after None left count state p t = absurd (none_some p.at)
+off_here P (Some input) before after (Some bytes) left count state p t = record {
   done = p.done;
   part = t.0;
   rest = t.1;
@@ -137,30 +138,122 @@ breaks_off P (Some input) before after (Some bytes) left count state p t = recor
 }
 
 -- nothing was read after the lines that are answered
-pub breaks_between : (P : List ℕ → Type 0) (from before after known : Option (List ℕ)) (count : ℕ) (state : Option World)
+between_here : (P : List ℕ → Type 0) (from before after known : Option (List ℕ)) (count : ℕ) (state : Option Scene)
     → IfSome from (λ input. Progress input before after known count state) → P [] → IfSome from (λ input. BrokenOff P input known before after)
-breaks_between P None before after known count state p none = tt
-breaks_between P (Some input) before after None count state p none = absurd (none_some p.at)
-breaks_between P (Some input) before after (Some bytes) count state p none = breaks_off P (Some input) before after (Some bytes) (Some bytes) count state p ([], bytes, refl, refl, none)
+between_here P None before after known count state p none = tt
+between_here P (Some input) before after None count state p none = absurd (none_some p.at)
+between_here P (Some input) before after (Some bytes) count state p none = off_here P (Some input) before after (Some bytes) (Some bytes) count state p ([], bytes, refl, refl, none)
 
--- the same two, by what a run holds
-pub closes_at : {S : Type 0} (view : S → World) (held : Option S) (from before after known left : Option (List ℕ)) (count : ℕ) (line : List ℕ) → is_some held ≡ true
-    → IfSome from (λ input. Progress input before after known count (option_map view held)) → ReadsLine known left line read.End → IfSome from (λ input. WholeScript input Whole before after)
-closes_at view (Some state) from before after known left count line s p r = closes from before after known left count (view state) line p r
-closes_at view None from before after known left count line s p r = absurd (cc)
+-- ---- the same, by what a run holds
 
-pub bad_end_at : {S : Type 0} (view : S → World) (held : Option S) (from before after later known left : Option (List ℕ)) (count : ℕ) (line : List ℕ) → is_some held ≡ false
-    → IfSome from (λ input. Progress input before after known count (option_map view held)) → ReadsLine known left line read.End → Appends after later (bad_line (count + 1)) → IfSome from (λ input. WholeScript input (BadLine (count + 1)) before later)
-bad_end_at view None from before after later known left count line s p r w = bad_end from before after later known left count line p r w
-bad_end_at view (Some state) from before after later known left count line s p r w = absurd (cc)
+-- a script so far, in a scene that what the run holds shows
+pub record Going {S : Type 0} (shows : S → Scene → Type 0) (input : List ℕ) (before after known : Option (List ℕ)) (count : ℕ) (held : Option S) : Type 0 where
+  scene : Option Scene
+  shown : ShowsSome shows held scene
+  progress : Progress input before after known count scene
+
+-- for known bytes, what holds of a script so far
+each : (known : Option (List ℕ)) (P Q : List ℕ → Type 0) → ((input : List ℕ) → P input → Q input) → IfSome known P → IfSome known Q
+each None P Q f p = tt
+each (Some input) P Q f p = f input p
+
+pub nothing_yet : {S : Type 0} (shows : S → Scene → Type 0) (known before : Option (List ℕ)) → IfSome known (λ input. Going shows input before before known 0 None)
+nothing_yet shows known before =
+    each known (λ input. Progress input before before known 0 None) (λ input. Going shows input before before known 0 None) (λ input p. record { scene = None; shown = tt; progress = p }) (nothing_here known before)
+
+someone : {S : Type 0} (shows : S → Scene → Type 0) (state : S) (after : Option Scene) → ShowsSome shows (Some state) after → (scene : Scene) × (after ≡ Some scene) × shows state scene
+someone shows state None s = absurd s
+someone shows state (Some scene) s = (scene, refl, s)
+
+no_one : {S : Type 0} (shows : S → Scene → Type 0) (after : Option Scene) → ShowsSome shows None after → after ≡ None
+no_one shows None s = refl
+no_one shows (Some scene) s = absurd s
+
+-- one more line is answered
+pub one_more : {S : Type 0} (shows : S → Scene → Type 0) (held : Option S) (state : S) (from before after later known left : Option (List ℕ)) (count : ℕ) (line text : List ℕ)
+    → IfSome from (λ input. Going shows input before after known count held) → ReadsLine known left line read.Whole → AnsweredFrom shows held line text (Some state) → Appends after later (text ++ 10 ∷ [])
+    → IfSome from (λ input. Going shows input before later left (count + 1) (Some state))
+one_more shows held state None before after later known left count line text g r a w = tt
+one_more shows held state (Some input) before after later known left count line text g r a w =
+    let next = a g.scene g.shown in
+    let one = someone shows state next.0 next.1 in
+    record {
+      scene = Some one.0;
+      shown = one.2;
+      progress = one_here (Some input) before after later known left count g.scene one.0 line text g.progress r (subst (Answered g.scene line text) one.1 next.2) w;
+    }
+
+-- the input ends after a line
+pub closes_at : {S : Type 0} (shows : S → Scene → Type 0) (held : Option S) (from before after known left : Option (List ℕ)) (count : ℕ) (line : List ℕ) → is_some held ≡ true
+    → IfSome from (λ input. Going shows input before after known count held) → ReadsLine known left line read.End → IfSome from (λ input. WholeScript Takes input Whole before after)
+closes_at shows held None before after known left count line s g r = tt
+closes_at shows None (Some input) before after known left count line s g r = absurd (cc)
+closes_at shows (Some state) (Some input) before after known left count line s g r =
+    let one = someone shows state g.scene g.shown in
+    closes (Some input) before after known left count one.0 line (subst (Progress input before after known count) one.1 g.progress) r
+
+-- nothing comes at all
+pub bad_end_at : {S : Type 0} (shows : S → Scene → Type 0) (held : Option S) (from before after later known left : Option (List ℕ)) (count : ℕ) (line : List ℕ) → is_some held ≡ false
+    → IfSome from (λ input. Going shows input before after known count held) → ReadsLine known left line read.End → Appends after later (bad_line (count + 1)) → IfSome from (λ input. WholeScript Takes input (BadLine (count + 1)) before later)
+bad_end_at shows held None before after later known left count line s g r w = tt
+bad_end_at shows None (Some input) before after later known left count line s g r w =
+    bad_end (Some input) before after later known left count line (subst (Progress input before after known count) (no_one shows g.scene g.shown) g.progress) r w
+bad_end_at shows (Some state) (Some input) before after later known left count line s g r w = absurd (cc)
+
+-- a line is too long
+pub bad_long : {S : Type 0} (shows : S → Scene → Type 0) (held : Option S) (from before after later known left : Option (List ℕ)) (count : ℕ) (line : List ℕ)
+    → IfSome from (λ input. Going shows input before after known count held) → ReadsLine known left line read.Long → Appends after later (bad_line (count + 1)) → IfSome from (λ input. WholeScript Takes input (BadLine (count + 1)) before later)
+bad_long shows held None before after later known left count line g r w = tt
+bad_long shows held (Some input) before after later known left count line g r w = long_here (Some input) before after later known left count g.scene line g.progress r w
+
+-- a line is no command
+pub bad_command : {S : Type 0} (shows : S → Scene → Type 0) (held : Option S) (from before after later known left : Option (List ℕ)) (count : ℕ) (line text : List ℕ)
+    → IfSome from (λ input. Going shows input before after known count held) → ReadsLine known left line read.Whole → AnsweredFrom shows held line text None → Appends after later (bad_line (count + 1))
+    → IfSome from (λ input. WholeScript Takes input (BadLine (count + 1)) before later)
+bad_command shows held None before after later known left count line text g r a w = tt
+bad_command shows held (Some input) before after later known left count line text g r a w =
+    let next = a g.scene g.shown in
+    none_here (Some input) before after later known left count g.scene line text g.progress r (subst (Answered g.scene line text) (no_one shows next.0 next.1) next.2) w
+
+-- memory or the reader fails, after a part was read
+pub breaks_off : {S : Type 0} (shows : S → Scene → Type 0) (P : List ℕ → Type 0) (held : Option S) (from before after known left : Option (List ℕ)) (count : ℕ)
+    → IfSome from (λ input. Going shows input before after known count held) → TookPart P known left → IfSome from (λ input. BrokenOff P input left before after)
+breaks_off shows P held None before after known left count g t = tt
+breaks_off shows P held (Some input) before after known left count g t = off_here P (Some input) before after known left count g.scene g.progress t
+
+-- nothing was read after the lines that are answered
+pub breaks_between : {S : Type 0} (shows : S → Scene → Type 0) (P : List ℕ → Type 0) (held : Option S) (from before after known : Option (List ℕ)) (count : ℕ)
+    → IfSome from (λ input. Going shows input before after known count held) → P [] → IfSome from (λ input. BrokenOff P input known before after)
+breaks_between shows P held None before after known count g none = tt
+breaks_between shows P held (Some input) before after known count g none = between_here P (Some input) before after known count g.scene g.progress none
 
 -- that a line is no command can't be written
-pub bad_breaks : (fault : RunFault) (from before after later known left : Option (List ℕ)) (count : ℕ) (state : Option World)
-    → IfSome from (λ input. Progress input before after known count state) → TookPart IsOneLine known left → (fault ≡ faults.Write) ⊎ ((fault ≡ faults.NoMemory) × (later ≡ after)) → IfSome from (λ input. BreaksOff fault input left before later)
-bad_breaks fault None before after later known left count state p t e = tt
-bad_breaks fault (Some input) before after later known left count state p t (inl e) = rw e tt
-bad_breaks fault (Some input) before after later known left count state p t (inr e) = rw (e.0, e.1) (breaks_off IsOneLine (Some input) before after known left count state p t)
+pub bad_breaks : {S : Type 0} (shows : S → Scene → Type 0) (held : Option S) (fault : RunFault) (from before after later known left : Option (List ℕ)) (count : ℕ)
+    → IfSome from (λ input. Going shows input before after known count held) → TookPart IsOneLine known left → (fault ≡ faults.Write) ⊎ ((fault ≡ faults.NoMemory) × (later ≡ after)) → IfSome from (λ input. BreaksOff fault input left before later)
+bad_breaks shows held fault None before after later known left count g t e = tt
+bad_breaks shows held fault (Some input) before after later known left count g t (inl e) = rw e tt
+bad_breaks shows held fault (Some input) before after later known left count g t (inr e) = rw (e.0, e.1) (breaks_off shows IsOneLine held (Some input) before after known left count g t)
 
 pub same_contents : {S : Type 0} (view : S → Option (List ℕ)) (fault : RunFault) (old new : S) → (fault ≡ faults.Write) ⊎ ((fault ≡ faults.NoMemory) × (new ≡ old)) → (fault ≡ faults.Write) ⊎ ((fault ≡ faults.NoMemory) × (view new ≡ view old))
 same_contents view fault old new (inl e) = inl e
 same_contents view fault old new (inr e) = inr (e.0, ap view e.1)
+
+-- ---- one line, by what the run holds
+
+shown_as : {S : Type 0} (shows : S → Scene → Type 0) (held other : Option S) (before : Option Scene) → held ≡ other → ShowsSome shows held before → ShowsSome shows other before
+shown_as shows held other before e s = subst (λ state. ShowsSome shows state before) e s
+
+-- the first line makes the group
+pub opens_line : {S : Type 0} (shows : S → Scene → Type 0) (held : Option S) (new : S) (limits : Limits) (line text : List ℕ)
+    → held ≡ None → Spells line (Group limits) → OpensWith shows limits text new → AnsweredFrom shows held line text (Some new)
+opens_line shows held new limits line text none s o before shown =
+    let e = no_one shows before (shown_as shows held None before none shown) in
+    (Some o.0, o.1, (Group limits, s, subst (λ (old : Option Scene). Takes old (Group limits) text o.0) (sym e) o.2))
+
+-- a later line is a command
+pub plays_line : {S : Type 0} (shows : S → Scene → Type 0) (held : Option S) (old new : S) (asked : Command) (line text : List ℕ)
+    → held ≡ Some old → Spells line asked → TakesFrom shows old asked text new → AnsweredFrom shows held line text (Some new)
+plays_line shows held old new asked line text some s t before shown =
+    let one = someone shows old before (shown_as shows held (Some old) before some shown) in
+    let next = t one.0 one.2 in
+    (Some next.0, next.1, (asked, s, subst (λ (from : Option Scene). Takes from asked text next.0) (sym one.1) next.2))

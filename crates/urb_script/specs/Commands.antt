@@ -6,6 +6,8 @@ use Rattle.urb_stable.specs.declared.memory.Failure.{Failure}
 use Rattle.urb_script.specs.Hex.{IsHexWord}
 use Rattle.urb_script.specs.Lines.{words_of}
 use Rattle.urb_script.specs.Wording.{IsNodeNumber, HasWord, payload_word, failure_word, name_text}
+use Rattle.urb_group.specs.declared.command.Command as acts
+use Rattle.urb_group.specs.declared.command.Command.TheVariants as act
 use Rattle.urb_script.specs.declared.commands.CommandLine.{CommandLine}
 use Rattle.urb_script.specs.declared.commands.CommandLine.TheVariants as line
 
@@ -38,6 +40,15 @@ command (line.Raw node bytes) = Raw node bytes
 command (line.Tick node) = Tick node
 command (line.Log node) = Log node
 command (line.Held name) = Held name
+
+-- the line that asks for what a command of a cluster does
+abbrev pub line_of : {A : Type 0} → acts.Command A → Command
+line_of (act.Submit p client number payload) = Submit p client number payload.items
+line_of (act.Arrive p bytes) = Raw p bytes.items
+line_of (act.Tick p) = Tick p
+line_of (act.Store p) = Stored p
+line_of (act.Crash p) = Crash p
+line_of (act.Restart p) = Restart p
 
 -- the first word of a command
 abbrev pub keyword : Command → List ℕ

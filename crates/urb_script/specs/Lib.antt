@@ -1,11 +1,9 @@
 pub mod Lines
-pub mod Worlds
 pub mod Hex
 pub mod Wording
 pub mod Commands
 pub mod Texts
 pub mod Steps
-pub mod Settled
-pub mod Searching
-pub mod Safe
+pub mod Staged
 pub mod Scripts
+pub mod LogLines

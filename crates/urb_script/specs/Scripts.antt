@@ -3,47 +3,52 @@ use Rattle.std.specs.Prelude.{◌≡◌, ℕ, ◌+◌, List, [], ◌∷◌, ◌+
 use Rattle.std.specs.Fmt.{decimal}
 use Rattle.std.specs.Io.KnownBytes.{Appends}
 use Rattle.urb_script.specs.Lines.{lines_of, IsPlain, IsOneLine}
-use Rattle.urb_script.specs.Commands.{Command, Spells}
-use Rattle.urb_script.specs.Worlds.{World}
-use Rattle.urb_script.specs.Steps.{Takes, MayCome}
-use Rattle.urb_script.specs.Safe.{IsSafe}
+use Rattle.urb_names.specs.Naming.{Limits}
+use Rattle.urb_script.specs.Commands.{Command, Group, Spells}
+use Rattle.urb_group.specs.Safe.{Safe}
+use Rattle.urb_group.specs.Scripts.{Scene}
+use Rattle.urb_script.specs.Steps.{Plays, Takes, MayCome}
 use Rattle.urb_script.specs.declared.runs.Ended.{Ended}
 use Rattle.urb_script.specs.declared.runs.Ended.TheVariants.{Whole, BadLine}
 use Rattle.urb_script.specs.declared.runs.RunFault.{RunFault}
 use Rattle.urb_script.specs.declared.runs.RunFault.TheVariants.{Read, Write, NoMemory}
 
--- each of the lines is a command that may come, and these are their answers, line by line
-abbrev pub Answers : Option World → List (List ℕ) → List ℕ → Option World → Type 0
-Answers old [] output new = (output ≡ []) × (new ≡ old)
-Answers old (line ∷ lines) output new =
-    (asked : Command) × (text : List ℕ) × (mid : World) × (rest : List ℕ)
-    × Spells line asked × Takes old asked text mid × (output ≡ text ++ 10 ∷ rest) × Answers (Some mid) lines rest new
+-- how a command may be answered, and where it leads: from what there is so far, with this text, to this scene
+abbrev pub Rule : Type 1
+Rule = Option Scene → Command → List ℕ → Scene → Type 0
+
+-- by a rule, each of the lines is a command that may come, and these are their answers, line by line
+abbrev pub Answers : Rule → Option Scene → List (List ℕ) → List ℕ → Option Scene → Type 0
+Answers By old [] output new = (output ≡ []) × (new ≡ old)
+Answers By old (line ∷ lines) output new =
+    (asked : Command) × (text : List ℕ) × (mid : Scene) × (rest : List ℕ)
+    × Spells line asked × By old asked text mid × (output ≡ text ++ 10 ∷ rest) × Answers By (Some mid) lines rest new
 
 -- no command stands at the front, where one has to
-abbrev pub IsBad : Option World → List (List ℕ) → Type 0
+abbrev pub IsBad : Option Scene → List (List ℕ) → Type 0
 IsBad state (line ∷ lines) = (asked : Command) → MayCome state asked → Spells line asked → ⊥
 IsBad None [] = Unit {0}
-IsBad (Some world) [] = ⊥
+IsBad (Some scene) [] = ⊥
 
 -- the answer to the line of this number that is no command
 abbrev pub bad_line : ℕ → List ℕ
 bad_line number = codes "bad line " ++ decimal number ++ 10 ∷ []
 
 -- how a script ends after the lines that were answered
-abbrev pub Ends : Option World → List (List ℕ) → ℕ → Ended → List ℕ → Type 0
-Ends state left number Whole output = (left ≡ []) × (output ≡ []) × ((world : World) × (state ≡ Some world))
+abbrev pub Ends : Option Scene → List (List ℕ) → ℕ → Ended → List ℕ → Type 0
+Ends state left number Whole output = (left ≡ []) × (output ≡ []) × ((scene : Scene) × (state ≡ Some scene))
 Ends state left number (BadLine bad) output = IsBad state left × (bad ≡ number) × (output ≡ bad_line bad)
 
--- A script from its first line to its end: the lines that are answered, the others, what was said of the first, and
+-- By a rule, a script from its first line to its end: the lines that are answered, the others, what was said of the first, and
 -- what was said at the end.
-pub record WholeScript (input : List ℕ) (ended : Ended) (before after : Option (List ℕ)) : Type 0 where
+pub record WholeScript (By : Rule) (input : List ℕ) (ended : Ended) (before after : Option (List ℕ)) : Type 0 where
   pub done : List (List ℕ)
   pub left : List (List ℕ)
   pub said : List ℕ
   pub last : List ℕ
-  pub state : Option World
+  pub state : Option Scene
   pub lines : lines_of input ≡ done ++ left
-  pub answers : Answers None done said state
+  pub answers : Answers By None done said state
   pub ends : Ends state left (length done + 1) ended last
   pub written : Appends before after (said ++ last)
 
@@ -53,11 +58,11 @@ pub record BrokenOff (P : List ℕ → Type 0) (input : List ℕ) (left before a
   pub part : List ℕ
   pub rest : List ℕ
   pub said : List ℕ
-  pub state : Option World
+  pub state : Option Scene
   pub lines : lines_of input ≡ done ++ lines_of (part ++ rest)
   pub reads : P part
   pub has : left ≡ Some rest
-  pub answers : Answers None done said state
+  pub answers : Answers Takes None done said state
   pub written : Appends before after said
 
 -- what was read and isn't answered: one line at most where memory was refused, and no whole line where the reader failed
@@ -67,16 +72,36 @@ BreaksOff Write input left before after = Unit {0}
 BreaksOff NoMemory input left before after = BrokenOff IsOneLine input left before after
 
 -- what a line is answered, from the state so far; no state after it, where it is no command that may come now
-abbrev pub Answered : Option World → List ℕ → List ℕ → Option World → Type 0
+abbrev pub Answered : Option Scene → List ℕ → List ℕ → Option Scene → Type 0
 Answered old line text (Some new) = (asked : Command) × Spells line asked × Takes old asked text new
 Answered old line text None = (asked : Command) → MayCome old asked → Spells line asked → ⊥
 
+-- what holds a state shows the scene, or there is none yet
+abbrev pub ShowsSome : {S : Type 0} → (S → Scene → Type 0) → Option S → Option Scene → Type 0
+ShowsSome shows None None = Unit {0}
+ShowsSome shows None (Some scene) = ⊥
+ShowsSome shows (Some state) None = ⊥
+ShowsSome shows (Some state) (Some scene) = shows state scene
+
+-- for each scene that was shown, the line is answered so, and a scene that it leads to is shown
+abbrev pub AnsweredFrom : {S : Type 0} → (S → Scene → Type 0) → Option S → List ℕ → List ℕ → Option S → Type 0
+AnsweredFrom shows old line text new =
+    (before : Option Scene) → ShowsSome shows old before → (after : Option Scene) × ShowsSome shows new after × Answered before line text after
+
+-- it shows the scene of a new group, and that is the answer
+abbrev pub OpensWith : {S : Type 0} → (S → Scene → Type 0) → Limits → List ℕ → S → Type 0
+OpensWith shows limits text new = (scene : Scene) × shows new scene × Takes None (Group limits) text scene
+
+-- for each scene that was shown, the command is answered so, and a scene that it leads to is shown
+abbrev pub TakesFrom : {S : Type 0} → (S → Scene → Type 0) → S → Command → List ℕ → S → Type 0
+TakesFrom shows old asked text new = (before : Scene) → shows old before → (after : Scene) × shows new after × Takes (Some before) asked text after
+
 -- whatever lines are answered, the world that they lead to is safe
 abbrev pub StaysSafe : Type 0
-StaysSafe = (lines : List (List ℕ)) (output : List ℕ) (world : World) → Answers None lines output (Some world) → IsSafe world
+StaysSafe = (lines : List (List ℕ)) (output : List ℕ) (scene : Scene) → Answers Takes None lines output (Some scene) → Safe scene.world
 
--- A script has one outcome: whatever end and output answer it, these are the only ones.
+-- A script has one outcome where no store is refused memory: whatever end and output answer it, these are the only ones.
 abbrev pub HasOneOutcome : Type 0
 HasOneOutcome =
-    (input : List ℕ) (ended other : Ended) (before after later : List ℕ) → WholeScript input ended (Some before) (Some after) → WholeScript input other (Some before) (Some later)
+    (input : List ℕ) (ended other : Ended) (before after later : List ℕ) → WholeScript Plays input ended (Some before) (Some after) → WholeScript Plays input other (Some before) (Some later)
     → (ended ≡ other) × (after ≡ later)

@@ -1,17 +1,18 @@
-//! Scripts: lines of commands in, answer lines out, over a plain world in memory.
+//! Scripts: lines of commands in, answer lines out, over a cluster whose stores are in memory.
 #![tactic(auto)]
 
 mod commands;
 mod hex;
 mod input;
 mod lines;
-mod node;
 mod replies;
 mod runs;
+mod stage;
 mod words;
-mod world;
 
 pub use runs::{Ended, RunFault, run};
 
 #[cfg(test)]
 mod tests;
+#[cfg(test)]
+mod worked;

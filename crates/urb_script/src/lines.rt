@@ -1,17 +1,17 @@
 //! The answer lines of a group's replies, and of what it is asked.
 
-ghost use Rattle.std.specs.Prelude.{◌≡◌, ◌++◌, ◌∷◌, [], OnOk, Some, codes, flat_map};
+ghost use Rattle.std.specs.Prelude.{◌≡◌, ◌++◌, ◌∷◌, [], OnOk, Some, codes, flat_map, option_map};
 ghost use Rattle.std.specs.Fmt.{decimal};
 ghost use Rattle.urb_node.specs.Replies.{Same, Sent};
 ghost use Rattle.urb_group.specs.Commands.{reply_of};
-ghost use Rattle.urb_script.specs.Texts.{done_text, entry_text, packet_text, reply_text};
-ghost use Rattle.urb_script.specs.Wording.{name_text};
+ghost use Rattle.urb_script.specs.Texts.{IsToldAs, done_text, entry_text, packet_text, reply_text};
+ghost use Rattle.urb_script.specs.Wording.{name_text, payload_word};
 
 use crate::replies::{NameWord, Told, push_told};
 use std::alloc::Allocator;
 use std::io::Write;
 use urb_group::Reply;
-use urb_names::{Message, Name, NoMemory, NodeId, Packet};
+use urb_names::{Message, Name, NoMemory, NodeId, Packet, Refusal};
 use urb_node::{Answer, Done};
 use urb_stubborn::Outbox;
 
@@ -111,19 +111,42 @@ pub fn push_reply<A: Allocator + Copy>(
     }
 }
 
+/// Writes the reply to a command, unless memory was refused to it.
+pub fn push_told_reply<A: Allocator + Copy>(
+    text: &mut Vec<u8, A>,
+    reply: &Reply<A>,
+) -> Result<(), NoMemory>
+    ensures { OnOk result (IsToldAs (reply_of reply.now) text.old.items text.new.items) }
+{
+    if let Reply::Refused(Refusal::NoMemory) = reply {
+        return Err(NoMemory);
+    }
+    push_reply(text, reply)
+}
+
 /// Writes an entry of a log at the end of a text.
 pub fn push_entry<A: Allocator>(
     text: &mut Vec<u8, A>,
     name: Name,
-    message: &Message<A>,
+    message: Option<&Message<A>>,
 ) -> Result<(), NoMemory>
-    ensures { OnOk result (text.new.items ≡ text.old.items ++ entry_text (name, Some message.now)) }
+    ensures { OnOk result (text.new.items ≡ text.old.items ++ entry_text (name, option_map (λ m. m.now) message.entry)) }
 {
     let Name { sender, seq } = name;
     let sender = sender.number();
     if write!(text, " {sender}.{seq}=").is_err() {
         return Err(NoMemory);
     }
+    match message {
+        Some(message) => push_payload(text, message),
+        None => Ok(()),
+    }
+}
+
+// Writes the payload of a message as a word.
+fn push_payload<A: Allocator>(text: &mut Vec<u8, A>, message: &Message<A>) -> Result<(), NoMemory>
+    ensures { OnOk result (text.new.items ≡ text.old.items ++ payload_word message.now.payload) }
+{
     let payload = message.payload();
     let word = if payload.is_empty() {
         b"-".as_slice()

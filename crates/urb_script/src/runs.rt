@@ -1,22 +1,23 @@
 //! Runs of scripts.
 
 ghost use Rattle.std.specs.Prelude.{◌≡◌, ℕ, ◌≤◌, [], Some, None, IfOk, IfErr, OnOk, IfSome, ◌⊎◌, vec_capacity};
-ghost use Rattle.std.specs.Option.{option_map};
 ghost use Rattle.std.specs.Io.KnownBytes.{Appends};
 ghost use Rattle.urb_script.specs.Commands.{Command, Group, command, InRange};
-ghost use Rattle.urb_script.specs.Worlds.{World};
-ghost use Rattle.urb_script.specs.Steps.{Takes, MayCome};
-ghost use Rattle.urb_script.specs.Scripts.{Answered, WholeScript, BreaksOff, StaysSafe, HasOneOutcome, bad_line};
+ghost use Rattle.urb_group.specs.Scripts.{Scene};
+ghost use Rattle.urb_script.specs.Steps.{IsLater, Takes};
+ghost use Rattle.urb_script.specs.LogLines.{LogsAgree, LogsAreSafe};
+ghost use Rattle.urb_script.specs.Scripts.{AnsweredFrom, OpensWith, TakesFrom, WholeScript, BreaksOff, StaysSafe, HasOneOutcome, bad_line};
 
 use crate::commands::{CommandLine, parse_command};
 use crate::input::{LineRead, ReadFailed, TOO_LONG, read_line};
-use crate::world::World;
+use crate::stage::Stage;
 use std::alloc::Allocator;
 use std::io::{Read, Write};
 use thiserror::Error;
+use urb_group::laws::{every_run_is_safe, everything_grows, logs_agree};
 use urb_names::{Config, NoMemory};
 
-/// Room for every answer line that shows no log, so that a `stored` line takes no memory.
+/// Room for every answer line but those of `log` and `tick`, so that a `stored` line takes memory for its record alone.
 const ANSWER_ROOM: usize = 128;
 
 /// How a script ended.
@@ -44,22 +45,22 @@ pub enum RunFault {
 
 /// What a script runs over.
 pub trait Play<A: Allocator>: Drop {
-    // The world that it shows.
-    ghost world: { Self → World };
+    // The scenes that it shows.
+    ghost shows: { Self → Scene → Type 0 };
 
     /// Makes the group, and writes the answer.
     fn open(alloc: A, config: Config, text: &mut Vec<u8, A>) -> Result<Self, NoMemory>
     where
         Self: Sized,
         requires { text.old.items ≡ [] }
-        ensures { IfOk result (λ new. Takes None (Group config) text.new.items (world new)) };
+        ensures { IfOk result (λ new. OpensWith shows config text.new.items new) };
 
     /// Does what a command says, and writes the answer.
     fn play(&mut self, found: CommandLine<'_>, text: &mut Vec<u8, A>) -> Result<(), NoMemory>
         requires fresh { text.old.items ≡ [] }
-        requires may_come { MayCome (Some (world self.old)) (command found) }
+        requires later { IsLater (command found) }
         requires range { InRange (command found) }
-        ensures { OnOk result (Takes (Some (world self.old)) (command found.entry) text.new.items (world self.new)) };
+        ensures { OnOk result (TakesFrom shows self.old (command found.entry) text.new.items self.new) };
 }
 
 // Answers a line, and gives what it leads to; none where the line is no command that may come now.
@@ -69,7 +70,7 @@ fn answer_line<A: Allocator, P: Play<A>>(
     line: &[u8],
     text: &mut Vec<u8, A>,
 ) -> Result<Option<P>, NoMemory>
-    ensures { IfOk result (λ next. Answered (option_map P.world state) line.now text.new.items (option_map P.world next)) }
+    ensures { IfOk result (λ next. AnsweredFrom P.shows state line.now text.new.items next) }
 {
     text.clear();
     let Some(found) = parse_command(line) else {
@@ -80,13 +81,6 @@ fn answer_line<A: Allocator, P: Play<A>>(
             None => Ok(Some(P::open(alloc, config, text)?)),
             Some(_) => Ok(None),
         },
-        CommandLine::Fail { .. }
-        | CommandLine::Crash(_)
-        | CommandLine::Restart(_)
-        | CommandLine::Arrive { .. }
-        | CommandLine::Raw { .. }
-        | CommandLine::Tick(_)
-        | CommandLine::Held(_) => Ok(None),
         found => match state {
             None => Ok(None),
             Some(mut state) => {
@@ -133,7 +127,7 @@ fn run_over<A: Allocator + Copy, P: Play<A>, R: Read, W: Write>(
     reader: &mut R,
     writer: &mut W,
 ) -> Result<Ended, RunFault>
-    ensures whole { IfOk result (λ ended. IfSome (R.remaining reader.old) (λ input. WholeScript input ended (W.contents writer.old) (W.contents writer.new))) }
+    ensures whole { IfOk result (λ ended. IfSome (R.remaining reader.old) (λ input. WholeScript Takes input ended (W.contents writer.old) (W.contents writer.new))) }
     ensures broken_off { IfErr result (λ fault. IfSome (R.remaining reader.old) (λ input. BreaksOff fault input (R.remaining reader.new) (W.contents writer.old) (W.contents writer.new))) }
 {
     let mut line = match Vec::with_capacity(alloc, TOO_LONG) {
@@ -185,9 +179,9 @@ fn run_over<A: Allocator + Copy, P: Play<A>, R: Read, W: Write>(
     Err(RunFault::Read)
 }
 
-/// Runs the script that the reader has, line by line, over a new plain world in memory: each answer line is written and
-/// flushed before the next line is read. It keeps the messages of the script and one line; after a fault it reads and
-/// writes no further byte. After 18,446,744,073,709,551,615 lines it ends with `Read`.
+/// Runs the script that the reader has, line by line, over a new cluster whose stores are in memory: each answer line is
+/// written and flushed before the next line is read. It keeps the messages of the script and one line; after a fault it
+/// reads and writes no further byte. After 18,446,744,073,709,551,615 lines it ends with `Read`.
 pub fn run<A: Allocator + Copy, R: Read, W: Write>(
     alloc: A,
     reader: &mut R,
@@ -195,14 +189,21 @@ pub fn run<A: Allocator + Copy, R: Read, W: Write>(
 ) -> Result<Ended, RunFault>
     // What was written is the answers to all lines that the reader held, or to those before the first bad line and its
     // own answer.
-    ensures whole { IfOk result (λ ended. IfSome (R.remaining reader.old) (λ input. WholeScript input ended (W.contents writer.old) (W.contents writer.new))) }
+    ensures whole { IfOk result (λ ended. IfSome (R.remaining reader.old) (λ input. WholeScript Takes input ended (W.contents writer.old) (W.contents writer.new))) }
     // After want of memory, or a failed read, the lines before are answered, and nothing else is written.
     ensures broken_off { IfErr result (λ fault. IfSome (R.remaining reader.old) (λ input. BreaksOff fault input (R.remaining reader.new) (W.contents writer.old) (W.contents writer.new))) }
     // In whatever world answered lines lead to, each log has of each sender the first messages that its storage took, in
-    // order and once.
+    // order and once, and a majority's storages hold each of them.
     ensures safe { StaysSafe }
-    // All that the reader held determines the end, and what was written.
+    // So it is of every log that a `log` line shows; and of what two `log` lines show of one sender, whichever nodes they ask
+    // and whatever stands between them, one begins the other.
+    ensures shown { LogsAreSafe }
+    ensures agree { LogsAgree }
+    // Where no store is refused memory, all that the reader held determines the end, and what was written.
     ensures one { HasOneOutcome }
 {
-    run_over::<A, World<A>, R, W>(alloc, reader, writer)
+    every_run_is_safe();
+    everything_grows();
+    logs_agree();
+    run_over::<A, Stage<A>, R, W>(alloc, reader, writer)
 }

@@ -33,7 +33,7 @@ const LONG_PAYLOADS_ANSWERS: &[u8] =
     b"group 1 3\ndraft 1.1 at 1\naccepted 1.1 sent 0 released 1\ndraft 1.2 at 2\naccepted 1.2 sent 0 released 1\nrefused toolong\nlog 1: 1.1=- 1.2=@\n";
 
 /// Runs a script into a new text, and compares; `@` is as in `spelled`.
-fn gives(
+pub fn gives(
     rt: &(impl Abort + AllocGlobal),
     script: &[u8],
     answers: &[u8],
@@ -51,22 +51,6 @@ fn gives(
 
 #[test]
 fn whole_scripts_are_answered(rt: HostRuntime) -> Result<(), Fail> {
-    gives(&rt, ONE_NODE, ONE_NODE_ANSWERS, Ended::Whole)?;
-    // Numbers come in order, from 1.
-    gives(
-        &rt,
-        b"group 3 10\nsubmit 1 7 2 a\nsubmit 1 7 0 a\n",
-        b"group 3 10\nrefused gap 1\nrefused gap 1\n",
-        Ended::Whole,
-    )?;
-    // A full sender still answers a repeat.
-    gives(
-        &rt,
-        b"group 1 2\nsubmit 1 7 1 a\nstored 1\nsubmit 1 7 2 b\nstored 1\nsubmit 1 7 3 c\nsubmit 1 7 2 b\n",
-        b"group 1 2\ndraft 1.1 at 1\naccepted 1.1 sent 0 released 1\ndraft 1.2 at 2\naccepted 1.2 sent 0 released 1\nrefused full\naccepted 1.2\n",
-        Ended::Whole,
-    )?;
-    gives(&rt, LONG_PAYLOADS, LONG_PAYLOADS_ANSWERS, Ended::Whole)?;
     // A message is sent to each other node, and released by none before a majority has it.
     gives(
         &rt,
@@ -79,6 +63,13 @@ fn whole_scripts_are_answered(rt: HostRuntime) -> Result<(), Fail> {
         &rt,
         b"group 2 10\nstored 1\nstored 3\nsubmit 3 7 1 @x\nlog 3\nsubmit 1 7 1 a\nsubmit 1 7 9 @x\nstored 1\nsubmit 1 7 1 b\nsubmit 1 8 1 b\nstored 1\nsubmit 1 7 2 c\nstored 1\nsubmit 1 7 1 a\nsubmit 1 8 3 c\n",
         b"group 2 10\nrefused stale\nrefused badnode\nrefused badnode\nrefused badnode\ndraft 1.1 at 1\nrefused busy\naccepted 1.1 sent 1 released 0\nrefused conflict\ndraft 1.2 at 2\naccepted 1.2 sent 1 released 0\ndraft 1.3 at 3\naccepted 1.3 sent 1 released 0\naccepted 1.1\nrefused gap 2\n",
+        Ended::Whole,
+    )?;
+    // A log, and who has a name, are shown in every state of a node; digits may be of either case.
+    gives(
+        &rt,
+        b"group 2 10\nsubmit 1 7 1 hi\nheld 1.1\nlog 1\nstored 1\nraw 2 5542010102010000000100070000000100026869\ncrash 2\nheld 1.1\nlog 2\nrestart 2\nraw 2 -\nraw 2 5542010102010000000100070000000100026A6b\nheld 3.1\nheld 2.7\nlog 3\ntick 2\n",
+        b"group 2 10\ndraft 1.1 at 1\nheld 1.1:\nlog 1:\naccepted 1.1 sent 1 released 0\ndraft 1.1 at 1\ndown 2\nheld 1.1: 1\nlog 2:\nup 2\nrefused packet short\nrefused forged\nrefused badnode\nheld 2.7:\nrefused badnode\nsent\n",
         Ended::Whole,
     )
 }
@@ -143,8 +134,33 @@ fn bad_lines_end_the_run(rt: HostRuntime) -> Result<(), Fail> {
         b"submit 1 7 1 \x7f",
         b"submit 1 7 1 \xc3\xa9",
         b"submit 8 7 1 a",
-        b"restart 1",
-        b"arrive 1 2 1 1",
+        b"reopen",
+        b"fail 1",
+        b"fail 1 Old",
+        b"fail 1 old new",
+        b"crash",
+        b"restart 0",
+        b"tick 1 1",
+        b"arrive 1 1 1 1",
+        b"arrive 1 2 1",
+        b"arrive 1 2 8 1",
+        b"arrive 1 2 1 0",
+        b"arrive 1 2 1 4294967296",
+        b"arrive 1 2 1.1",
+        b"raw 1",
+        b"raw 1 ",
+        b"raw 1 --",
+        b"raw 1 5",
+        b"raw 1 5g",
+        b"raw 1 55 42",
+        b"held 1",
+        b"held 1 1",
+        b"held 1.0",
+        b"held 1.01",
+        b"held 1.4294967296",
+        b"held 8.1",
+        b"held .1",
+        b"held 1.1.1",
     ] {
         is_bad(&rt, line)?;
     }
@@ -248,41 +264,67 @@ fn begins_lines(text: &[u8], whole: &[u8]) -> bool {
     whole.starts_with(text) && (text.is_empty() || text.ends_with(b"\n"))
 }
 
+const THREE_NODES: &[u8] =
+    b"group 3 10\nsubmit 1 7 1 a\nstored 1\narrive 1 2 1 1\nstored 2\ntick 2\nheld 1.1\nlog 2\ncrash 2\nrestart 2\n";
+
+const THREE_NODES_ANSWERS: &[u8] =
+    b"group 3 10\ndraft 1.1 at 1\naccepted 1.1 sent 2 released 0\ndraft 1.1 at 1\ntaken 1.1 sent 2 released 1\nsent 1:1.1 3:1.1\nheld 1.1: 1 2\nlog 2: 1.1=a\ndown 2\nup 2\n";
+
+/// Where the first line is that is not the same.
+fn parts_at(text: &[u8], whole: &[u8]) -> usize {
+    let mut line = 0;
+    for (at, (byte, other)) in text.iter().zip(whole).enumerate() {
+        if *byte != *other {
+            return line;
+        }
+        if *byte == b'\n' {
+            line = at + 1;
+        }
+    }
+    line
+}
+
 #[test]
-fn each_refused_growth_ends_the_run(rt: HostRuntime) -> Result<(), Fail> {
+fn each_refused_growth_ends_the_run_or_fails_a_store(rt: HostRuntime) -> Result<(), Fail> {
     for (script, answers) in [
         (ONE_NODE, ONE_NODE_ANSWERS),
         (LONG_PAYLOADS, LONG_PAYLOADS_ANSWERS),
+        (THREE_NODES, THREE_NODES_ANSWERS),
     ] {
         let script = spelled(rt.alloc(), script)?;
         let answers = spelled(rt.alloc(), answers)?;
         let mut ran = false;
+        let mut failed = false;
         for refused in 1..500u64 {
             let heap = Refusing::new(rt.alloc(), refused);
             let mut room = [0u8; 1500];
             let mut writer = FailingWriter::new(&mut room, 700, 0);
             let mut input = script.as_slice();
             let ended = run(&heap, &mut input, &mut writer);
+            let written = writer.written();
             if !heap.met() {
                 assert!(rt; matches!(ended, Ok(Ended::Whole)));
-                assert_eq!(rt; writer.written(), answers.as_slice());
+                assert_eq!(rt; written, answers.as_slice());
                 ran = true;
                 break;
             }
-            assert!(rt;
-                matches!(ended, Err(RunFault::NoMemory)),
-                "growth {refused}"
-            );
-            let written = writer.written();
-            assert!(rt;
-                begins_lines(written, answers.as_slice()),
-                "growth {refused}"
-            );
-            // The line after a draft is `stored`, which takes no memory.
-            assert!(rt; !written.ends_with(b"at 1\n"), "growth {refused}");
-            assert!(rt; !written.ends_with(b"at 2\n"), "growth {refused}");
+            if matches!(ended, Err(RunFault::NoMemory)) {
+                assert!(rt;
+                    begins_lines(written, answers.as_slice()),
+                    "growth {refused}"
+                );
+            } else {
+                assert!(rt; matches!(ended, Ok(Ended::Whole)), "growth {refused}");
+                let at = parts_at(written, answers.as_slice());
+                let Some(rest) = written.get(at..) else {
+                    return Err("no line parts".into());
+                };
+                assert!(rt; rest.starts_with(b"down "), "growth {refused}");
+                failed = true;
+            }
         }
         assert!(rt; ran);
+        assert!(rt; failed);
     }
     Ok(())
 }

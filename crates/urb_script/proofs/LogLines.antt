@@ -1,0 +1,211 @@
+-- Log lines show safe logs, which agree.
+use Rattle.std.proofs.Common.{◌≡◌, ◌⊎◌, inl, inr, ⊎_elim, ℕ, List, [], ◌∷◌, ◌++◌, Option, Some, None, Bool, true, false, ◌==◌, filter, map, refl, sym, ap, ap₂, ◌∙◌, subst, append_assoc}
+use Rattle.std.proofs.lemmas.List.Elements.{filter-append}
+use Rattle.urb_names.specs.Beginnings.{Begins, OneBegins}
+use Rattle.urb_names.specs.Naming.{Content, Label, Limits}
+use Rattle.urb_names.specs.Pairs.{message_of}
+use Rattle.urb_names.specs.Release.{part_of}
+use Rattle.urb_stable.specs.Entries.{Entry}
+use Rattle.urb_stable.specs.Log.{entries, entries_of, log}
+use Rattle.urb_stable.specs.Records.{pend}
+use Rattle.urb_stable.specs.declared.memory.Failure.TheVariants.{Old, New}
+use Rattle.urb_node.specs.Replies.{Reply}
+use Rattle.urb_group.proofs.Agree.{both_begin}
+use Rattle.urb_group.proofs.Growth.{begins-trans}
+use Rattle.urb_group.specs.Growing.{AgreeInTime, EntriesGrow}
+use Rattle.urb_group.specs.Safe.{Safe}
+use Rattle.urb_group.specs.Scripts.{Scene}
+use Rattle.urb_group.specs.Step.{Event, IsReached, Run, run, step}
+use Rattle.urb_group.specs.World.{World, stored}
+use Rattle.urb_script.specs.Commands.{Arrive, Command, Crash, Fail, Group, Held, Log, Raw, Restart, Spells, Stored, Submit, Tick}
+use Rattle.urb_script.specs.LogLines.{AreShownAgreeing, IsShownSafe, LogsAgree, LogsAreSafe}
+use Rattle.urb_script.specs.Scripts.{Answers}
+use Rattle.urb_script.specs.Steps.{Plays, Takes, answer, happens_with, shown_log}
+use Rattle.urb_script.proofs.Outcomes.{spells_one}
+use Rattle.urb_script.proofs.Reached.{answers_reached, takes_reached}
+
+-- ---- answers, cut in two
+
+record Parted (first second : List (List ℕ)) (output : List ℕ) (old new : Option Scene) : Type 0 where
+  mid : Option Scene
+  said : List ℕ
+  heard : List ℕ
+  is : output ≡ said ++ heard
+  before : Answers Takes old first said mid
+  after : Answers Takes mid second heard new
+
+parted : (first second : List (List ℕ)) (output : List ℕ) (old new : Option Scene) → Answers Takes old (first ++ second) output new → Parted first second output old new
+parted [] second output old new a = record { mid = old; said = []; heard = output; is = refl; before = (refl, refl); after = a }
+parted (line ∷ first) second output old new a =
+    let k = parted first second a.3 (Some a.2) new a.7 in
+    record {
+      mid = k.mid;
+      said = a.1 ++ 10 ∷ k.said;
+      heard = k.heard;
+      is = a.6 ∙ ap (λ (xs : List ℕ). a.1 ++ 10 ∷ xs) k.is ∙ sym (append_assoc a.1 (10 ∷ k.said) k.heard);
+      before = (a.0, a.1, a.2, k.said, a.4, a.5, refl, k.before);
+      after = k.after;
+    }
+
+-- ---- a log line
+
+record Shows (scene : Scene) (p : ℕ) (later : List (List ℕ)) (output : List ℕ) (new : Option Scene) : Type 0 where
+  rest : List ℕ
+  is : output ≡ shown_log scene.world p ++ 10 ∷ rest
+  after : Answers Takes (Some scene) later rest new
+
+log_plays : (scene next : Scene) (p : ℕ) (text : List ℕ) → Takes (Some scene) (Log p) text next → (text ≡ shown_log scene.world p) × (next ≡ scene)
+log_plays scene next p text (inl t) = (ap (λ (o : List ℕ × Scene). o.0) t, ap (λ (o : List ℕ × Scene). o.1) t)
+log_plays scene next p text (inr t) = absurd t.1
+
+record Starts (state : Option Scene) (p : ℕ) (later : List (List ℕ)) (output : List ℕ) (new : Option Scene) : Type 0 where
+  scene : Scene
+  was : state ≡ Some scene
+  shows : Shows scene p later output new
+
+log_shows : (state : Option Scene) (line : List ℕ) (p : ℕ) (later : List (List ℕ)) (output : List ℕ) (new : Option Scene) → Spells line (Log p) → Answers Takes state (line ∷ later) output new → Starts state p later output new
+log_shows None line p later output new s a =
+    let asked : a.0 ≡ Log p = spells_one line a.0 (Log p) a.4 s in
+    absurd (none (subst (λ (c : Command). Takes None c a.1 a.2) asked a.5))
+  where
+    none : Takes None (Log p) a.1 a.2 → ⊥
+    none (inl t) = t
+    none (inr t) = t.1
+log_shows (Some scene) line p later output new s a =
+    let asked : a.0 ≡ Log p = spells_one line a.0 (Log p) a.4 s in
+    let is = log_plays scene a.2 p a.1 (subst (λ (c : Command). Takes (Some scene) c a.1 a.2) asked a.5) in
+    record {
+      scene = scene;
+      was = refl;
+      shows = record {
+        rest = a.3;
+        is = a.6 ∙ ap (λ (xs : List ℕ). xs ++ 10 ∷ a.3) is.0;
+        after = subst (λ (next : Scene). Answers Takes (Some next) later a.3 new) is.1 a.7;
+      };
+    }
+
+-- ---- logs that are shown are safe
+
+pub logs_are_safe : ((w : World) → IsReached w → Safe w) → LogsAreSafe
+logs_are_safe safe earlier later line output p state s a =
+    let k = parted earlier (line ∷ later) output None state a in
+    let l = log_shows k.mid line p later k.heard state s k.after in
+    let before : Answers Takes None earlier k.said (Some l.scene) = subst (λ (m : Option Scene). Answers Takes None earlier k.said m) l.was k.before in
+    record {
+      scene = l.scene;
+      said = k.said;
+      rest = l.shows.rest;
+      before = before;
+      shown = k.is ∙ ap (λ (xs : List ℕ). k.said ++ xs) l.shows.is;
+      safe = safe l.scene.world (answers_reached None earlier k.said l.scene tt before);
+    }
+
+-- ---- logs grow from line to line
+
+-- each node's log, its names with their messages, has more behind it
+abbrev Grow : World → World → Type 0
+Grow old new = EntriesGrow old new
+
+begins_same : {A : Type 0} (xs : List A) → Begins xs xs
+begins_same xs = ([], append-nil xs)
+  where
+    append-nil : {A : Type 0} (xs : List A) → xs ++ [] ≡ xs
+    append-nil [] = refl
+    append-nil (x ∷ xs) = ap (λ ys. x ∷ ys) (append-nil xs)
+
+grow_same : (w : World) → Grow w w
+grow_same w p = begins_same (entries (stored w p))
+
+-- whatever runs, logs grow
+abbrev Growing : Type 0
+Growing = (old new : World) (events : List Event) (replies : List Reply) → IsReached old → Run old events replies new → EntriesGrow old new
+
+run_one : (w : World) (e : Event) → Run w (e ∷ []) ((step w e).0 ∷ []) (step w e).1
+unfolding run
+run_one w e = refl
+
+run_none : (w : World) → Run w [] [] w
+unfolding run
+run_none w = refl
+
+event_grows : (storage : ℕ → List Entry) (e : Event) (scene new : Scene) (text : List ℕ) → Growing → IsReached scene.world → (text, new) ≡ happens_with storage e scene → Grow scene.world new.world
+event_grows storage e scene new text grows r t =
+    subst (λ (w : World). Grow scene.world w) (sym (ap (λ (o : List ℕ × Scene). o.1.world) t)) (grows scene.world (step scene.world e).1 (e ∷ []) ((step scene.world e).0 ∷ []) r (run_one scene.world e))
+
+stays : (scene new : Scene) (text said : List ℕ) → ◌≡◌ {A = List ℕ × Scene} (text, new) (said, scene) → Grow scene.world new.world
+stays scene new text said t = subst (λ (w : World). Grow scene.world w) (sym (ap (λ (o : List ℕ × Scene). o.1.world) t)) (grow_same scene.world)
+
+plays_grows : (scene : Scene) (asked : Command) (text : List ℕ) (new : Scene) → Growing → IsReached scene.world → Plays (Some scene) asked text new → Grow scene.world new.world
+plays_grows scene (Group limits) text new g r t = absurd t
+plays_grows scene (Submit p client number payload) text new g r t = event_grows _ _ scene new text g r t
+plays_grows scene (Stored p) text new g r t = event_grows _ _ scene new text g r t
+plays_grows scene (Fail p Old) text new g r t = event_grows _ _ scene new text g r t
+plays_grows scene (Fail p New) text new g r t = event_grows _ _ scene new text g r t
+plays_grows scene (Crash p) text new g r t = event_grows _ _ scene new text g r t
+plays_grows scene (Restart p) text new g r t = event_grows _ _ scene new text g r t
+plays_grows scene (Arrive q p x) text new g r t = event_grows _ _ scene new text g r t
+plays_grows scene (Raw p bytes) text new g r t = event_grows _ _ scene new text g r t
+plays_grows scene (Tick p) text new g r t = event_grows _ _ scene new text g r t
+plays_grows scene (Log p) text new g r t = stays scene new text _ t
+plays_grows scene (Held x) text new g r t = stays scene new text _ t
+
+takes_grows : (scene : Scene) (asked : Command) (text : List ℕ) (new : Scene) → Growing → IsReached scene.world → Takes (Some scene) asked text new → Grow scene.world new.world
+takes_grows scene asked text new g r (inl t) = plays_grows scene asked text new g r t
+takes_grows scene asked text new g r (inr t) = plays_grows scene t.0 text new g r t.2
+
+answers_grow : (old : Scene) (lines : List (List ℕ)) (output : List ℕ) (new : Scene) → Growing → IsReached old.world → Answers Takes (Some old) lines output (Some new) → Grow old.world new.world
+answers_grow old [] output new g r a = subst (λ (scene : Scene). Grow old.world scene.world) (some_same a.1) (grow_same old.world)
+  where
+    some_same : {x y : Scene} → Some x ≡ Some y → y ≡ x
+    some_same e = cc
+answers_grow old (line ∷ lines) output new g r a = λ p.
+    begins-trans _ _ _ (takes_grows old a.0 a.1 a.2 g r a.5 p) (answers_grow a.2 lines a.3 new g (takes_reached (Some old) a.0 a.1 a.2 r a.5) a.7 p)
+
+-- ---- logs that are shown agree
+
+-- one sender's entries are those of its names among all
+of_sender : (s : ℕ) (xs : List Label) (f : Label → Option Content) → map (λ x. (x, f x)) (part_of s xs) ≡ filter (λ (e : Label × Option Content). e.0.sender == s) (map (λ x. (x, f x)) xs)
+of_sender s [] f = refl
+of_sender s (x ∷ xs) f = at (of_sender s xs f) (x.sender == s) refl
+  where
+    at : map (λ x. (x, f x)) (part_of s xs) ≡ filter (λ (e : Label × Option Content). e.0.sender == s) (map (λ x. (x, f x)) xs)
+        → (b : Bool) → (x.sender == s) ≡ b → map (λ x. (x, f x)) (part_of s (x ∷ xs)) ≡ filter (λ (e : Label × Option Content). e.0.sender == s) (map (λ x. (x, f x)) (x ∷ xs))
+    at rest true e = rw e (ap (λ (es : List (Label × Option Content)). (x, f x) ∷ es) rest)
+    at rest false e = rw e rest
+
+part_grows : (s : ℕ) (old new : List Entry) → Begins (entries old) (entries new) → Begins (entries_of s old) (entries_of s new)
+part_grows s old new b =
+    subst (λ (es : List (Label × Option Content)). Begins es (entries_of s new)) (sym (of_sender s (log old) (message_of (pend old))))
+    (subst (λ (es : List (Label × Option Content)). Begins (filter (λ e. e.0.sender == s) (entries old)) es) (sym (of_sender s (log new) (message_of (pend new))))
+    (filter (λ e. e.0.sender == s) b.0, sym (filter-append _ (entries old) b.0) ∙ ap (filter (λ e. e.0.sender == s)) b.1))
+
+agree_on : (old new : World) (p q s : ℕ) → Grow old new → AgreeInTime new new → OneBegins (entries_of s (stored old p)) (entries_of s (stored new q))
+agree_on old new p q s g a =
+    let grown : Begins (entries_of s (stored old p)) (entries_of s (stored new p)) = part_grows s (stored old p) (stored new p) (g p) in
+    ⊎_elim (λ h. inl (begins-trans _ _ _ grown h)) (λ h. both_begin _ _ _ grown h) (a p q s)
+
+-- whatever runs, logs agree
+abbrev Agreeing : Type 0
+Agreeing = (old new : World) (events : List Event) (replies : List Reply) → IsReached old → Run old events replies new → AgreeInTime old new
+
+pub logs_agree : Growing → Agreeing → LogsAgree
+logs_agree grows agree earlier between later line other output p q state s o a =
+    let k = parted earlier (line ∷ (between ++ other ∷ later)) output None state a in
+    let l = log_shows k.mid line p (between ++ other ∷ later) k.heard state s k.after in
+    let m = parted between (other ∷ later) l.shows.rest (Some l.scene) state l.shows.after in
+    let n = log_shows m.mid other q later m.heard state o m.after in
+    let before : Answers Takes None earlier k.said (Some l.scene) = subst (λ (x : Option Scene). Answers Takes None earlier k.said x) l.was k.before in
+    let meanwhile : Answers Takes (Some l.scene) between m.said (Some n.scene) = subst (λ (x : Option Scene). Answers Takes (Some l.scene) between m.said x) n.was m.before in
+    let reached : IsReached l.scene.world = answers_reached None earlier k.said l.scene tt before in
+    let later_reached : IsReached n.scene.world = answers_reached (Some l.scene) between m.said n.scene reached meanwhile in
+    record {
+      old = l.scene;
+      new = n.scene;
+      said = k.said;
+      heard = m.said;
+      rest = n.shows.rest;
+      before = before;
+      meanwhile = meanwhile;
+      shown = k.is ∙ ap (λ (xs : List ℕ). k.said ++ xs) (l.shows.is ∙ ap (λ (xs : List ℕ). shown_log l.scene.world p ++ 10 ∷ xs) (m.is ∙ ap (λ (xs : List ℕ). m.said ++ xs) n.shows.is));
+      agree = λ s. agree_on l.scene.world n.scene.world p q s (answers_grow l.scene between m.said n.scene grows reached meanwhile) (agree n.scene.world n.scene.world [] [] later_reached (run_none n.scene.world));
+    }

@@ -1,0 +1,43 @@
+-- What the stores in memory of a cluster show of a scene.
+use Rattle.std.specs.Prelude.{◌≡◌, ◌⊎◌, ◌++◌, ◌-◌, ℕ, false, true, List, None, Some, slice_get}
+use Rattle.urb_names.specs.Naming.{Limits}
+use Rattle.urb_names.specs.Nodes.{is_node}
+use Rattle.urb_stable.specs.Entries.{Entry}
+use Rattle.urb_stable.specs.Memory.{Memory, with_doubt}
+use Rattle.urb_stable.specs.Storing.{IsContents}
+use Rattle.urb_node.specs.Part.{Node}
+use Rattle.urb_node.specs.Steps.{doubt, is_down}
+use Rattle.urb_group.specs.Scripts.{Scene}
+use Rattle.urb_group.specs.Shown.{GroupView, Shows}
+use Rattle.urb_group.specs.World.{World}
+use Rattle.urb_group.specs.Clustered.{Clustered}
+use Rattle.urb_script.specs.declared.stage.Stage.{Stage}
+
+-- The store has what the scene's storage holds: the node's records, or these with the doubtful one. While the node is up,
+-- they are its records, and nothing is in doubt.
+pub record IsHeldBy (node : Node) (storage : List Entry) (m : Memory) : Type 0 where
+  pub holds : storage ≡ with_doubt m.certain m.doubt
+  pub contents : IsContents node.records (doubt node.state) storage
+  pub certain : is_down node.state ≡ false → (m.certain ≡ node.records) × (m.doubt ≡ None)
+
+-- it is so of each node's store
+abbrev pub AreHeldBy : ℕ → (ℕ → Node) → (ℕ → List Entry) → List Memory → Type 0
+AreHeldBy n nodes storage stores = (p : ℕ) (m : Memory) → is_node n p ≡ true → slice_get stores (p - 1) ≡ Some m → IsHeldBy (nodes p) (storage p) m
+
+-- the cluster shows the scene: its group the world, and its stores the storage
+pub record ShowsScene (limits : Limits) (cluster : Clustered Memory) (scene : Scene) : Type 0 where
+  pub size : scene.world.size ≡ limits
+  pub group : Shows cluster.group scene.world
+  pub stores : AreHeldBy limits.n scene.world.node scene.storage cluster.stores
+
+-- what the stage shows
+abbrev pub Shown : {A : Type 0} → Stage A → Scene → Type 0
+Shown stage scene = ShowsScene stage.config stage.cluster scene
+
+-- the answer that is the same in every world that the group shows
+abbrev pub TellsOf : (World → List ℕ) → GroupView → List ℕ → List ℕ → Type 0
+TellsOf of group old new = (w : World) → Shows group w → new ≡ old ++ of w
+
+-- the same, of a node of the group
+abbrev pub TellsAt : ℕ → (World → List ℕ) → GroupView → List ℕ → List ℕ → Type 0
+TellsAt p of group old new = (w : World) → Shows group w → is_node w.size.n p ≡ true → new ≡ old ++ of w

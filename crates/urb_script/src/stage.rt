@@ -1,0 +1,257 @@
+//! The cluster that a script plays on.
+
+ghost use Rattle.std.specs.Prelude.{◌≡◌, ◌≢◌, [], ◌∷◌, ◌++◌, All, IfOk, Ok, OnOk, flat_map, if◌then◌else◌, is_some, length, map, option_map};
+ghost use Rattle.urb_names.specs.Packets.{packet_of};
+ghost use Rattle.urb_names.specs.Pairs.{message_of};
+ghost use Rattle.urb_stable.specs.Memory.{empty_memory};
+ghost use Rattle.urb_stable.specs.Records.{pend};
+ghost use Rattle.urb_group.specs.Scripts.{or_nothing};
+ghost use Rattle.urb_group.specs.World.{World, stored};
+ghost use Rattle.urb_group.specs.Shown.{Shows};
+ghost use Rattle.std.specs.Fmt.{decimal};
+ghost use Rattle.urb_script.specs.Commands.{Arrive, Fail, Raw, Submit, line_of};
+ghost use Rattle.urb_script.specs.Scripts.{TakesFrom};
+ghost use Rattle.urb_script.specs.Staged.{Shown, ShowsScene, TellsAt, TellsOf};
+ghost use Rattle.urb_script.specs.Steps.{holders, shown_holders, shown_log};
+ghost use Rattle.urb_script.specs.Texts.{entry_text};
+
+use crate::commands::CommandLine;
+use crate::hex::HexBytes;
+use crate::lines::{push_entry, push_held_head, push_holder, push_log_head, push_told_reply};
+use crate::replies::{Told, push_told};
+use crate::runs::Play;
+use std::alloc::{Allocator, Global};
+use urb_group::{Cluster, Command};
+use urb_names::{ClientId, Config, Message, Name, NoMemory, NodeId, Packet, Refusal, encode};
+use urb_stable::{Failure, MemStable};
+
+/// A cluster whose stores are in memory.
+#[derive(Drop)]
+pub struct Stage<A: Allocator + Copy = Global> {
+    alloc: A,
+    config: Config,
+    cluster: Cluster<MemStable<A>>,
+}
+
+// New stores, one for each node.
+fn new_stores<A: Allocator + Copy>(alloc: A, n: u8) -> Result<Vec<MemStable<A>, A>, NoMemory>
+    ensures { IfOk result (λ stores. (length stores.items ≡ n) × All (λ m. m ≡ empty_memory) stores.items) }
+{
+    let mut stores = Vec::new(alloc);
+    for _ in 0..n {
+        stores.push(MemStable::new(alloc))?;
+    }
+    Ok(stores)
+}
+
+// A copy of a message; where there is none, the message that nobody sent.
+fn message_or_nothing<A: Allocator + Copy>(
+    alloc: A,
+    stored: Option<&Message<A>>,
+) -> Result<Message<A>, NoMemory>
+    ensures { IfOk result (λ message. message ≡ or_nothing (option_map (λ m. m.now) stored.entry)) }
+{
+    match stored {
+        Some(message) => message.copy(alloc),
+        None => Ok(Message::new(ClientId::new(1).unwrap(), 1, Vec::new(alloc))),
+    }
+}
+
+// The bytes of a packet of a message.
+fn packet_bytes<A: Allocator + Copy>(
+    alloc: A,
+    source: NodeId,
+    node: NodeId,
+    name: Name,
+    message: Message<A>,
+) -> Result<Vec<u8, A>, NoMemory>
+    requires { source ≢ node }
+    ensures { IfOk result (λ bytes. packet_of bytes.items ≡ Ok (record { source = source; target = node; name = name; message = message })) }
+{
+    let packet = Packet::new(source, node, name, message);
+    packet.limits();
+    encode(alloc, &packet)
+}
+
+impl<A: Allocator + Copy> Stage<A> {
+    // Applies a command, and writes the answer.
+    fn apply(&mut self, command: &Command<A>, text: &mut Vec<u8, A>) -> Result<(), NoMemory>
+        requires { text.old.items ≡ [] }
+        ensures { OnOk result (TakesFrom Shown self.old (line_of command.now) text.new.items self.new) }
+    {
+        let reply = self.cluster.apply(self.alloc, command);
+        push_told_reply(text, &reply)
+    }
+
+    // Submits a message.
+    fn submit(
+        &mut self,
+        node: NodeId,
+        client: ClientId,
+        number: u32,
+        payload: &[u8],
+        text: &mut Vec<u8, A>,
+    ) -> Result<(), NoMemory>
+        requires { text.old.items ≡ [] }
+        ensures { OnOk result (TakesFrom Shown self.old (Submit node client number payload.now) text.new.items self.new) }
+    {
+        let payload = Vec::from_slice(self.alloc, payload)?;
+        let command = Command::Submit {
+            node,
+            client,
+            number,
+            payload,
+        };
+        self.apply(&command, text)
+    }
+
+    // Has the store of the record that a node holds fail.
+    fn fail(
+        &mut self,
+        node: NodeId,
+        failure: Failure,
+        text: &mut Vec<u8, A>,
+    ) -> Result<(), NoMemory>
+        requires { text.old.items ≡ [] }
+        ensures { OnOk result (TakesFrom Shown self.old (Fail node failure) text.new.items self.new) }
+    {
+        let reply = self.cluster.fail(node, failure);
+        push_told_reply(text, &reply)
+    }
+
+    // Brings a node what the source has stored under a name.
+    fn arrive(
+        &mut self,
+        source: NodeId,
+        node: NodeId,
+        name: Name,
+        text: &mut Vec<u8, A>,
+    ) -> Result<(), NoMemory>
+        requires fresh { text.old.items ≡ [] }
+        requires apart { source ≢ node }
+        ensures { OnOk result (TakesFrom Shown self.old (Arrive source node name) text.new.items self.new) }
+    {
+        let stored = self.cluster.group().message(source, name);
+        let message = message_or_nothing(self.alloc, stored)?;
+        let bytes = packet_bytes(self.alloc, source, node, name, message)?;
+        self.apply(&Command::Arrive { node, bytes }, text)
+    }
+
+    // Brings a node bytes.
+    fn bring(
+        &mut self,
+        node: NodeId,
+        bytes: &HexBytes<'_>,
+        text: &mut Vec<u8, A>,
+    ) -> Result<(), NoMemory>
+        requires { text.old.items ≡ [] }
+        ensures { OnOk result (TakesFrom Shown self.old (Raw node bytes.now) text.new.items self.new) }
+    {
+        let bytes = bytes.decode(self.alloc)?;
+        self.apply(&Command::Arrive { node, bytes }, text)
+    }
+
+    // Writes the entries of a node's log.
+    fn push_entries(
+        &self,
+        node: NodeId,
+        names: &[Name],
+        text: &mut Vec<u8, A>,
+    ) -> Result<(), NoMemory>
+        ensures { OnOk result (TellsAt node (λ w. flat_map entry_text (map (λ x. (x, message_of (pend (stored w node)) x)) names.now)) self.now.cluster.group text.old.items text.new.items) }
+    {
+        for name in names {
+            push_entry(text, *name, self.cluster.group().message(node, *name))?;
+        }
+        Ok(())
+    }
+
+    // Shows a node's log.
+    fn push_log(&self, node: NodeId, text: &mut Vec<u8, A>) -> Result<(), NoMemory>
+        ensures { OnOk result (TellsOf (λ w. shown_log w node) self.now.cluster.group text.old.items text.new.items) }
+    {
+        match self.cluster.group().log(node) {
+            None => push_told(text, Told::Refused(Refusal::BadNode)),
+            Some(names) => {
+                push_log_head(text, node)?;
+                self.push_entries(node, names, text)
+            }
+        }
+    }
+
+    // Writes a node, if it has a name stored.
+    fn push_if_holder(
+        &self,
+        node: NodeId,
+        name: Name,
+        text: &mut Vec<u8, A>,
+    ) -> Result<(), NoMemory>
+        ensures { OnOk result (TellsAt node (λ w. if is_some (message_of (pend (stored w node)) name) then 32 ∷ decimal node else []) self.now.cluster.group text.old.items text.new.items) }
+    {
+        if self.cluster.group().holds(node, name) {
+            return push_holder(text, node);
+        }
+        Ok(())
+    }
+
+    // Writes the nodes that have a name stored.
+    fn push_holders(&self, name: Name, text: &mut Vec<u8, A>) -> Result<(), NoMemory>
+        ensures { OnOk result ((w : World) → Shows self.now.cluster.group w → self.now.config ≡ w.size → text.new.items ≡ text.old.items ++ flat_map (λ q. 32 ∷ decimal q) (holders w name)) }
+    {
+        for number in 1..self.config.n() + 1 {
+            let node = NodeId::new(number).unwrap();
+            self.push_if_holder(node, name, text)?;
+        }
+        Ok(())
+    }
+
+    // Shows which nodes have a name stored.
+    fn push_held(&self, name: Name, text: &mut Vec<u8, A>) -> Result<(), NoMemory>
+        ensures { OnOk result ((w : World) → Shows self.now.cluster.group w → self.now.config ≡ w.size → text.new.items ≡ text.old.items ++ shown_holders w name) }
+    {
+        if self.config.n() < name.sender.number() {
+            return push_told(text, Told::Refused(Refusal::BadNode));
+        }
+        push_held_head(text, name)?;
+        self.push_holders(name, text)
+    }
+}
+
+impl<A: Allocator + Copy> Play<A> for Stage<A> {
+    ghost shows = { λ stage scene. ShowsScene stage.config stage.cluster scene };
+
+    fn open(alloc: A, config: Config, text: &mut Vec<u8, A>) -> Result<Stage<A>, NoMemory> {
+        let stores = new_stores(alloc, config.n())?;
+        let cluster = match Cluster::new(alloc, config, stores) {
+            Ok(cluster) => cluster,
+            Err(_) => return Err(NoMemory),
+        };
+        push_told(text, Told::Grouped(config))?;
+        Ok(Stage {
+            alloc,
+            config,
+            cluster,
+        })
+    }
+
+    fn play(&mut self, found: CommandLine<'_>, text: &mut Vec<u8, A>) -> Result<(), NoMemory> {
+        match found {
+            CommandLine::Group(_) => Ok(()),
+            CommandLine::Submit {
+                node,
+                client,
+                number,
+                payload,
+            } => self.submit(node, client, number, payload, text),
+            CommandLine::Stored(node) => self.apply(&Command::Store(node), text),
+            CommandLine::Fail { node, failure } => self.fail(node, failure, text),
+            CommandLine::Crash(node) => self.apply(&Command::Crash(node), text),
+            CommandLine::Restart(node) => self.apply(&Command::Restart(node), text),
+            CommandLine::Arrive { source, node, name } => self.arrive(source, node, name, text),
+            CommandLine::Raw { node, bytes } => self.bring(node, &bytes, text),
+            CommandLine::Tick(node) => self.apply(&Command::Tick(node), text),
+            CommandLine::Log(node) => self.push_log(node, text),
+            CommandLine::Held(name) => self.push_held(name, text),
+        }
+    }
+}
