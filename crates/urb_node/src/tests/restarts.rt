@@ -70,14 +70,21 @@ fn the_image_of_what_was_stored_is_taken_and_acknowledgements_are_lost(
     Ok(())
 }
 
-/// Images that are not what node 1 of five has stored: that lack a record, have one more, another payload, another order
-/// of the certificates, and another form of a record.
-static OTHERS: [&[Kept]; 5] = [
+/// Images that are not what node 1 of five has stored: that lack a record, have another one twice in its place, have one
+/// more, another payload, another order of the certificates, and another form of a record.
+static OTHERS: [&[Kept]; 6] = [
     &[
         (Form::Pending, 1, b"m"),
         (Form::Pending, 2, b"m"),
         (Form::Certificate, 2, b""),
         (Form::Certificate, 1, b""),
+    ],
+    &[
+        (Form::Pending, 1, b"m"),
+        (Form::Pending, 2, b"m"),
+        (Form::Certificate, 2, b""),
+        (Form::Certificate, 1, b""),
+        (Form::Pending, 2, b"m"),
     ],
     &[
         (Form::Pending, 1, b"m"),
