@@ -84,6 +84,7 @@ impl<A: Allocator + Copy> Down<A> {
         ensures { Restarts self image.items result }
     {
         let Down { mut held, doubt } = self;
+        // These do nothing: they give the proof what the layers always keep.
         held.pending.limits();
         held.fifo.limits();
         match judge(&mut held, alloc, &doubt, &image) {

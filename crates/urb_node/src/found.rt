@@ -175,6 +175,7 @@ pub(crate) fn submitted<A: Allocator + Copy>(
     if own >= held.config.cap() {
         return Err(Refusal::Full);
     }
+    // This does nothing: it gives the proof what the pending pairs always keep.
     held.pending.limits();
     let name = Name {
         sender: held.node,
@@ -252,6 +253,7 @@ pub(crate) fn arrived<A: Allocator + Copy>(
 {
     let name = packet.name();
     let source = packet.source();
+    // This gives the proof the range of a node's number.
     let _range = source.number();
     if held.pending.message(name).is_none() {
         let message = Message::copied(alloc, packet.client(), packet.number(), packet.payload())?;

@@ -31,6 +31,7 @@ impl<A: Allocator + Copy> Held<A> {
         ensures value { result ≡ length (own self.now.pending.node self.now.pending.pairs) }
         ensures rising { are_rising self.now.pending.pairs ≡ true }
     {
+        // This does nothing: it gives the proof what the pending pairs always keep.
         self.pending.limits();
         self.pending.own_len()
     }

@@ -41,10 +41,10 @@ pub(crate) enum Verdict {
 // ---- pairs
 
 // Whether a record is of this pair.
-fn is_of_pair<A: Allocator>(record: &Record<Message<A>>, name: Name, message: &Message<A>) -> bool
-    ensures { result ≡ has_pair (pend (record.now ∷ [])) name message.now }
+fn is_of_pair<A: Allocator>(entry: &Record<Message<A>>, name: Name, message: &Message<A>) -> bool
+    ensures { result ≡ has_pair (pend (entry.now ∷ [])) name message.now }
 {
-    match record {
+    match entry {
         Record::Pend(own, other) | Record::PendCert(own, other) => {
             *own == name && other.is_same(message)
         }
@@ -83,13 +83,13 @@ fn is_known<A: Allocator + Copy>(
 
 // Whether a record of the image has no pair, or a known one.
 fn is_record_known<A: Allocator + Copy>(
-    record: &Record<Message<A>>,
+    entry: &Record<Message<A>>,
     pending: &Pending<A>,
     doubt: &Option<Record<Message<A>>>,
 ) -> bool
-    ensures { result ≡ list_all (λ pair. has_pair (pairs_with pending.now.pairs doubt.now) pair.0 pair.1) (pend (record.now ∷ [])) }
+    ensures { result ≡ list_all (λ pair. has_pair (pairs_with pending.now.pairs doubt.now) pair.0 pair.1) (pend (entry.now ∷ [])) }
 {
-    match record {
+    match entry {
         Record::Pend(name, message) | Record::PendCert(name, message) => {
             is_known(pending, doubt, *name, message)
         }
@@ -115,10 +115,10 @@ fn are_known<A: Allocator + Copy>(
 }
 
 // Whether a record has no pair, or one that the image has.
-fn is_record_in<A: Allocator>(record: &Record<Message<A>>, image: &[Record<Message<A>>]) -> bool
-    ensures { result ≡ list_all (λ pair. has_pair (pend image.now) pair.0 pair.1) (pend (record.now ∷ [])) }
+fn is_record_in<A: Allocator>(entry: &Record<Message<A>>, image: &[Record<Message<A>>]) -> bool
+    ensures { result ≡ list_all (λ pair. has_pair (pend image.now) pair.0 pair.1) (pend (entry.now ∷ [])) }
 {
-    match record {
+    match entry {
         Record::Pend(name, message) | Record::PendCert(name, message) => {
             has_record(image, *name, message)
         }
@@ -179,14 +179,14 @@ fn is_in_range(config: Config, name: Name) -> bool
 fn certify_record<A: Allocator + Copy>(
     fifo: &mut Fifo<A>,
     config: Config,
-    record: &Record<Message<A>>,
+    entry: &Record<Message<A>>,
 ) -> Result<bool, NoMemory>
     requires limits { fifo.old.limits ≡ config }
     ensures limits { fifo.new.limits ≡ config }
-    ensures released { IfOk result (λ fits. fits ≡ true → (older : List Label) → IsReleaseOf older fifo.old → IsReleaseOf (cert (record.now ∷ []) ++ older) fifo.new) }
-    ensures strange { IfOk result (λ fits. fits ≡ false → (x : Label) × (cert (record.now ∷ []) ≡ x ∷ []) × (in_range config x ≡ false)) }
+    ensures released { IfOk result (λ fits. fits ≡ true → (older : List Label) → IsReleaseOf older fifo.old → IsReleaseOf (cert (entry.now ∷ []) ++ older) fifo.new) }
+    ensures strange { IfOk result (λ fits. fits ≡ false → (x : Label) × (cert (entry.now ∷ []) ≡ x ∷ []) × (in_range config x ≡ false)) }
 {
-    match record {
+    match entry {
         Record::Pend(_, _) => Ok(true),
         Record::PendCert(name, _) | Record::Cert(name) => {
             if !is_in_range(config, *name) {
@@ -225,6 +225,7 @@ fn has_same_names<A: Allocator + Copy>(
     requires { IsReleaseOf (reverse (cert image.now)) released.now }
     ensures { result ≡ (same_names (cert image.now) fifo.now.certified && same_list (log image.now) fifo.now.log) }
 {
+    // These do nothing: they give the proof what the layers always keep.
     released.limits();
     fifo.limits();
     released.is_same(fifo)
@@ -253,13 +254,13 @@ fn says<A: Allocator + Copy>(
 // Certifies the name of a record that certifies one.
 fn certify_doubtful<A: Allocator + Copy>(
     fifo: &mut Fifo<A>,
-    record: &Record<Message<A>>,
+    entry: &Record<Message<A>>,
 ) -> Result<(), NoMemory>
-    requires sender { (name_of record.now).sender ≤ fifo.old.limits.n }
-    requires seq { (name_of record.now).seq ≤ fifo.old.limits.cap }
-    ensures { OnOk result ((fifo.new.certified ≡ certified_by fifo.old.certified (Some record.now)) × (fifo.new.log ≡ delivered_by fifo.old.log fifo.old.certified (Some record.now))) }
+    requires sender { (name_of entry.now).sender ≤ fifo.old.limits.n }
+    requires seq { (name_of entry.now).seq ≤ fifo.old.limits.cap }
+    ensures { OnOk result ((fifo.new.certified ≡ certified_by fifo.old.certified (Some entry.now)) × (fifo.new.log ≡ delivered_by fifo.old.log fifo.old.certified (Some entry.now))) }
 {
-    match record {
+    match entry {
         Record::Pend(_, _) => Ok(()),
         Record::PendCert(name, _) | Record::Cert(name) => {
             fifo.certify(*name)?;
@@ -371,6 +372,7 @@ fn says_joined<A: Allocator + Copy>(
     requires joined { (joined.now.certified ≡ certified_by held.now.fifo.certified doubt.now) × (joined.now.log ≡ delivered_by held.now.fifo.log held.now.fifo.certified doubt.now) }
     ensures { MatchBool result (SaysWith image.now (memory_of held.now) doubt.now) (IsOtherThan image.now (memory_of held.now) doubt.now) }
 {
+    // These do nothing: they give the proof what the layers always keep.
     held.pending.limits();
     held.fifo.limits();
     match doubt {
@@ -419,6 +421,7 @@ fn judged<A: Allocator + Copy>(
     requires next { ForSome doubt.now (IsNextHeld held.now) }
     ensures { IfOk result (IsVerdict image.now (memory_of held.now) doubt.now) }
 {
+    // This does nothing: it gives the proof what the certificates and the log always keep.
     held.fifo.limits();
     let joined = joined_with(alloc, &held.fifo, doubt)?;
     match released_by(alloc, held.config, image)? {

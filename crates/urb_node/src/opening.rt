@@ -49,6 +49,7 @@ impl<A: Allocator + Copy> Ready<A> {
     {
         let Ready { mut held } = Ready::new(alloc, config, node);
         for record in records {
+            // These do nothing: they give the proof what the layers always keep.
             held.pending.limits();
             held.fifo.limits();
             held = joined(held, record)?;

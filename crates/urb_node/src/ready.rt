@@ -46,6 +46,7 @@ fn step_of<A: Allocator + Copy>(held: Held<A>, found: Found<A>) -> Step<A>
     match found {
         Found::Known(answer) => Step::Same(Ready { held }, answer),
         Found::New(wanted) => {
+            // These do nothing: they give the proof what the layers always keep.
             held.pending.limits();
             held.fifo.limits();
             let draft = Draft::new(held.node, held.stored + 1, wanted.copy);
@@ -66,6 +67,7 @@ impl<A: Allocator + Copy> Ready<A> {
         requires { node ≤ config.n }
         ensures { result ≡ new_memory config node }
     {
+        // This gives the proof the range of a node's number.
         let _range = node.number();
         Ready {
             held: Held {
@@ -91,6 +93,7 @@ impl<A: Allocator + Copy> Ready<A> {
         ensures { Submits self (record { client = client; number = number; payload = payload.now }) result }
     {
         let Ready { mut held } = self;
+        // This does nothing: it gives the proof what the pending pairs always keep.
         held.pending.limits();
         match submitted(&mut held, alloc, client, number, payload) {
             Ok(found) => Ok(step_of(held, found)),
@@ -105,6 +108,7 @@ impl<A: Allocator + Copy> Ready<A> {
         ensures { Arrives self packet.entry.source packet.entry.name packet.entry.message result }
     {
         let Ready { mut held } = self;
+        // These give the proof that a packet's nodes differ, and the range of their numbers.
         let _apart = packet.target();
         let _range = packet.source().number();
         match arrived(&mut held, alloc, &packet) {
@@ -119,6 +123,7 @@ impl<A: Allocator + Copy> Ready<A> {
         ensures { Ticks self result }
     {
         let Ready { mut held } = self;
+        // This does nothing: it gives the proof what the pending pairs always keep.
         held.pending.limits();
         let sent = held.resend.tick(alloc, &held.pending);
         (Ready { held }, sent)

@@ -106,6 +106,7 @@ pub(crate) fn stored<A: Allocator + Copy>(
     ensures memory { memory_of result.0 ≡ with_record (memory_of held) entry cause }
     ensures released { length (memory_of result.0).log ≡ length (memory_of held).log + result.1 }
 {
+    // These do nothing: they give the proof what the layers always keep.
     held.pending.limits();
     held.fifo.limits();
     match entry {
@@ -166,6 +167,7 @@ impl<A: Allocator + Copy> Storing<A> {
             cause,
             packets,
         } = self;
+        // These do nothing: they give the proof what the layers always keep.
         held.pending.limits();
         held.fifo.limits();
         if !is_receipt_of(&receipt, held.node, held.stored + 1, &entry) {

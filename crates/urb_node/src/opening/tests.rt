@@ -74,29 +74,37 @@ fn is_opened<A: Allocator + Copy>(ready: &Ready<A>, alloc: A) -> Result<bool, Fa
     Ok(log && own && held)
 }
 
+// The answer to a message that the image has.
+fn told_again<A: Allocator + Copy>(ready: Ready<A>, alloc: A) -> Result<Answer, Fail> {
+    let client = ClientId::new(7).ok_or("a client")?;
+    match ready.submit(alloc, client, 2, b"d") {
+        Ok(Step::Same(_ready, answer)) => Ok(answer),
+        _ => Err(Fail::from("a repeat is no draft")),
+    }
+}
+
+// The position and the name of the draft of a new message.
+fn drafted_next<A: Allocator + Copy>(ready: Ready<A>, alloc: A) -> Result<(u32, Name), Fail> {
+    let client = ClientId::new(7).ok_or("a client")?;
+    match ready.submit(alloc, client, 3, b"e") {
+        Ok(Step::Store(_storing, draft)) => Ok((draft.pos(), draft.entry().name())),
+        _ => Err(Fail::from("a new message is drafted")),
+    }
+}
+
 #[test]
 fn an_opened_node_goes_on_from_its_image(rt: HostRuntime) -> Result<(), Fail> {
     let alloc = rt.alloc();
     let ready = opened(alloc, alloc)??;
     assert!(rt; is_opened(&ready, alloc)?);
-    let client = ClientId::new(7).ok_or("a client")?;
-    let ready = match ready.submit(alloc, client, 2, b"d") {
-        Ok(Step::Same(ready, answer)) => {
-            assert_eq!(rt;
-                answer,
-                Answer::Accepted(name(1, 3)?),
-                "a repeat has its name"
-            );
-            ready
-        }
-        _ => return Err(Fail::from("a repeat is accepted")),
-    };
-    match ready.submit(alloc, client, 3, b"e") {
-        Ok(Step::Store(_, draft)) => {
-            assert_eq!(rt; (draft.pos(), draft.entry().name()), (6, name(1, 4)?));
-        }
-        _ => return Err(Fail::from("a new message is drafted")),
-    }
+    let answer = told_again(ready, alloc)?;
+    assert_eq!(rt;
+        answer,
+        Answer::Accepted(name(1, 3)?),
+        "a repeat has its name"
+    );
+    let ready = opened(alloc, alloc)??;
+    assert_eq!(rt; drafted_next(ready, alloc)?, (6, name(1, 4)?));
     Ok(())
 }
 

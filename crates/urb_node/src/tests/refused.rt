@@ -1,0 +1,153 @@
+//! Calls of one node with each growth of its memory refused in turn, and calls that take no memory.
+
+use super::*;
+use std::alloc::Global;
+use urb_refusing::Refusing;
+
+// How many messages a node has broadcast and delivered, and whether it has one of this name.
+fn tells<A: Allocator + Copy>(tested: &Tested<A>, named: Name) -> (u32, usize, bool) {
+    let ready = &tested.ready;
+    (
+        ready.own_len(),
+        ready.log().len(),
+        ready.message(named).is_some(),
+    )
+}
+
+// Makes a call; where it is refused for memory, nothing has changed, and the same call is made again.
+fn make_twice<A: Allocator + Copy>(
+    tested: Tested<A>,
+    call: Call,
+    named: Name,
+) -> Result<(Tested<A>, Led), Fail> {
+    let before = tells(&tested, named);
+    let (tested, led) = tested.make(call, b"m", named)?;
+    if led != Led::Refused(Refusal::NoMemory) {
+        return Ok((tested, led));
+    }
+    if tells(&tested, named) != before {
+        return Err(Fail::from("a refused call changed the node"));
+    }
+    tested.make(call, b"m", named)
+}
+
+/// How many messages node 1 and node 2 broadcast.
+const COUNT: u32 = 6;
+
+/// The calls at node 1 of five for each number: what each is to lead to, for the message of which sender. The number of a
+/// submit is that one.
+static CALLS: [(Call, u8, What); 7] = [
+    (Call::Submit(0), 1, What::Stored(Form::Pending)),
+    (Call::Submit(0), 1, What::Accepted),
+    (Call::Arrive(2), 1, What::Noted),
+    (Call::Arrive(2), 1, What::Again),
+    (Call::Arrive(3), 1, What::Stored(Form::Certificate)),
+    (Call::Arrive(2), 1, What::Again),
+    (Call::Arrive(3), 2, What::Stored(Form::Pending)),
+];
+
+// The call with this number.
+fn numbered(call: Call, number: u32) -> Call {
+    match call {
+        Call::Submit(_) => Call::Submit(number),
+        Call::Arrive(source) => Call::Arrive(source),
+    }
+}
+
+// Makes the calls for the messages with this number.
+fn play_number<A: Allocator + Copy>(tested: Tested<A>, number: u32) -> Result<Tested<A>, Fail> {
+    let mut tested = tested;
+    for (call, sender, what) in &CALLS {
+        let named = name(*sender, number)?;
+        let (after, led) = make_twice(tested, numbered(*call, number), named)?;
+        if led != expected(*what, named) {
+            return Err(Fail::new(format_args!("{call:?} led to {led:?}")));
+        }
+        tested = after;
+    }
+    Ok(tested)
+}
+
+// All calls, and a tick, at node 1 of five.
+fn plays_all<A: Allocator + Copy>(heap: A, calm: A) -> Result<bool, Fail> {
+    let mut tested = Tested::new(5, 1, heap, calm)?;
+    for before in 0..COUNT {
+        tested = play_number(tested, before + 1)?;
+    }
+    let (ready, sent) = ticked(tested.ready, heap)?;
+    Ok(sent.len() == 48 && ready.own_len() == COUNT && ready.log().len() == 6)
+}
+
+#[test]
+fn a_refused_growth_gives_the_node_back_as_it_was(rt: HostRuntime) -> Result<(), Fail> {
+    let calm = Refusing::new(rt.alloc(), 0);
+    let mut met = 0;
+    for refused in 1..1000 {
+        let heap = Refusing::new(rt.alloc(), refused);
+        assert!(rt; plays_all(&heap, &calm)?);
+        if !heap.met() {
+            break;
+        }
+        met = refused;
+    }
+    assert!(rt; 100 < met && met < 999, "{met} growths");
+    Ok(())
+}
+
+/// Calls that note an acknowledgement and certify a name, and then calls that take no memory.
+static BEFORE: [Row; 4] = [
+    (Call::Submit(1), b"m", What::Stored(Form::Pending), (1, 1)),
+    (Call::Arrive(2), b"m", What::Noted, (1, 1)),
+    (Call::Arrive(2), b"m", What::Stored(Form::Pending), (2, 1)),
+    (
+        Call::Arrive(3),
+        b"m",
+        What::Stored(Form::Certificate),
+        (2, 1),
+    ),
+];
+
+static REPEATS: [Row; 3] = [
+    (Call::Submit(1), b"m", What::Accepted, (1, 1)),
+    (Call::Arrive(2), b"m", What::Again, (1, 1)),
+    (Call::Arrive(4), b"m", What::Again, (2, 1)),
+];
+
+// Whether repeats and a crash take no memory.
+fn repeats_without_memory(heap: &Refusing<Global>, calm: &Refusing<Global>) -> Result<bool, Fail> {
+    let tested = Tested::new(5, 1, heap, calm)?.play(&BEFORE)?;
+    let before = heap.asked();
+    let down = tested.play(&REPEATS)?.ready.crash();
+    Ok(heap.asked() == before && down.own_len() == 1)
+}
+
+#[test]
+fn a_repeat_takes_no_memory(rt: HostRuntime) -> Result<(), Fail> {
+    let calm = Refusing::new(rt.alloc(), 0);
+    let heap = Refusing::new(rt.alloc(), 0);
+    assert!(rt; repeats_without_memory(&heap, &calm)?);
+    Ok(())
+}
+
+// Whether a node that holds a draft takes no memory when it falls.
+fn falls_without_memory(
+    heap: &Refusing<Global>,
+    calm: &Refusing<Global>,
+    fails: bool,
+) -> Result<bool, Fail> {
+    let ready = Tested::new(3, 1, heap, calm)?.ready;
+    let (storing, _draft) = submitted(ready, heap, 1, b"m")?;
+    let before = heap.asked();
+    let down = falls(storing, fails);
+    Ok(heap.asked() == before && down.own_len() == 0)
+}
+
+#[test]
+fn a_failed_store_takes_no_memory(rt: HostRuntime) -> Result<(), Fail> {
+    let calm = Refusing::new(rt.alloc(), 0);
+    let heap = Refusing::new(rt.alloc(), 0);
+    for fails in [true, false] {
+        assert!(rt; falls_without_memory(&heap, &calm, fails)?);
+    }
+    Ok(())
+}
