@@ -46,7 +46,7 @@ impl<S: Stable> Cluster<S> {
     /// records, which are certain from then on, and the nodes come up with them. Drafts that were held are lost.
     ///
     /// Refused, all stores come back. `Device`, `BadRow`: a store failed, and those behind it were not asked.
-    /// `Inconsistent`: the stores' records don't fit together, as of [`Group::open`]. `NoMemory`: ask again.
+    /// `Inconsistent`: the stores' records don't fit together, as of `Group::open`. `NoMemory`: ask again.
     pub fn open(
         alloc: S::Alloc,
         config: Config,
@@ -87,7 +87,7 @@ impl<S: Stable> Cluster<S> {
     }
 
     /// Stops all nodes at once and opens the cluster again over its stores: what was stored comes back, held drafts and
-    /// acknowledgements are lost. Refused, the stores come back alone, as of [`Cluster::open`].
+    /// acknowledgements are lost. Refused, the stores come back alone, as of `Cluster::open`.
     pub fn reopen(self, alloc: S::Alloc) -> Result<Cluster<S>, (Vec<S, S::Alloc>, Refusal)>
         ensures opened { OpensStores S.Stable self.group.size self.stores result }
         ensures goes_on { IsStocked S.Stable self → Continues S.Stable self result }

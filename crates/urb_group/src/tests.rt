@@ -2,7 +2,9 @@
 
 mod clusters;
 mod growths;
+mod images;
 mod nodes;
+mod stops;
 
 use super::*;
 use nodes::{Nodes, first, is_answer, is_certificate, node};

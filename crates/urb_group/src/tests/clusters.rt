@@ -8,8 +8,8 @@ use urb_names::encode;
 use urb_refusing::Refusing;
 use urb_stable::{Failure, MemStable};
 
-// A cluster of three nodes, with new stores.
-fn cluster<A: Allocator + Copy>(alloc: A) -> Option<Cluster<MemStable<A>>> {
+/// A cluster of three nodes, with new stores.
+pub fn cluster<A: Allocator + Copy>(alloc: A) -> Option<Cluster<MemStable<A>>> {
     let config = Config::new(3, 10)?;
     let mut stores = Vec::new(alloc);
     stores.push(MemStable::new(alloc)).ok()?;
@@ -18,8 +18,8 @@ fn cluster<A: Allocator + Copy>(alloc: A) -> Option<Cluster<MemStable<A>>> {
     Cluster::new(alloc, config, stores).ok()
 }
 
-// Client 7 sends its first message to node 1.
-fn submit<A: Allocator + Copy>(alloc: A) -> Option<Command<A>> {
+/// Client 7 sends its first message to node 1.
+pub fn submit<A: Allocator + Copy>(alloc: A) -> Option<Command<A>> {
     Some(Command::Submit {
         node: node(1)?,
         client: ClientId::new(7)?,
@@ -28,16 +28,16 @@ fn submit<A: Allocator + Copy>(alloc: A) -> Option<Command<A>> {
     })
 }
 
-// What a stored record led to.
-fn done(reply: Reply) -> Option<Done> {
+/// What a stored record led to.
+pub fn done(reply: Reply) -> Option<Done> {
     match reply {
         Reply::Stored(done) => Some(done),
         _ => None,
     }
 }
 
-// The first packet, as it comes to its target.
-fn arrival(alloc: Global, sent: &Outbox) -> Option<Command> {
+/// The first packet, as it comes to its target.
+pub fn arrival(alloc: Global, sent: &Outbox) -> Option<Command> {
     let packet = sent.get(0)?;
     Some(Command::Arrive {
         node: packet.target(),
