@@ -1,4 +1,6 @@
 // Journals over memory, in a file, with changed rows, and stopped at each call of their disks.
+mod clusters;
+
 use super::*;
 use sqlite::{Alter, Connection, Error, FileStore, Files, MemStore, Options, params};
 use sqlite_disk::{Crash, Disk, Fuse, Memory};
