@@ -1,14 +1,14 @@
--- A store in memory that was armed, and a group of nodes that hold nothing.
-use Rattle.std.proofs.Common.{Bool, Err, List, None, Ok, Option, Result, Some, false, length, refl, true, zero, suc, ℕ, ◌-◌, ◌<◌, ◌^◌, ◌≡◌, ◌≤◌, ◌⊎◌, ◌∙◌, sym}
+-- A store in memory that was armed, and a group of nodes that hold no draft.
+use Rattle.std.proofs.Common.{Bool, Err, List, None, Option, Result, Some, false, length, refl, true, zero, suc, ℕ, ◌-◌, ◌<◌, ◌^◌, ◌≡◌, ◌≤◌, ◌⊎◌, ◌∙◌, sym}
 use Rattle.std.specs.Prelude.{replicate}
 use Rattle.std.proofs.lemmas.Bool.{cases_lt, cond_both}
 use Rattle.std.proofs.lemmas.List.{length-replicate}
-use Rattle.std.proofs.Common.{ap, ⊎_elim, inl, inr}
+use Rattle.std.proofs.Common.{[], ap, ⊎_elim, inl, inr}
 use Rattle.urb_group.proofs.Shows.{sound-new}
 use Rattle.urb_group.specs.Clustered.{IsTied, draft_at, held_draft, held_in}
 use Rattle.urb_group.specs.Clusters.{Breaks}
-use Rattle.urb_group.specs.Shown.{GroupView, Shows, view_of}
-use Rattle.urb_group.specs.World.{started}
+use Rattle.urb_group.specs.Shown.{GroupView, IsSound, Shows, view_of}
+use Rattle.urb_group.specs.World.{opened, started}
 use Rattle.urb_names.specs.Naming.{Limits}
 use Rattle.urb_names.specs.Nodes.{is_node}
 use Rattle.urb_node.specs.Part.{State}
@@ -36,7 +36,7 @@ breaks-so false how m entry after answer same old new full = at how refl (cases_
     at failure.New e (inl below) = ⊎_elim (λ h. inl h.1) (λ h. inr h.1) (new refl e below)
     at failure.New e (inr above) = inr (full refl above).1
 
--- ---- a new group
+-- ---- a group that is new, or opened from images
 
 no-places : (n p : ℕ) → draft_at (replicate n None) p ≡ None
 no-places n zero = refl
@@ -44,16 +44,21 @@ no-places zero (suc p) = refl
 no-places (suc n) (suc zero) = refl
 no-places (suc n) (suc (suc p)) = no-places n (suc p)
 
-none-started : (group : GroupView) (size : Limits) (p : ℕ) → Shows group (started size) → held_draft group p ≡ None
-none-started group size p s =
+none-opened : (group : GroupView) (size : Limits) (images : ℕ → List Entry) (p : ℕ) → Shows group (opened size images) → held_draft group p ≡ None
+none-opened group size images p s =
     cond_both (is_node group.size.n p) (held_in (view_of group p).state p (view_of group p).count) None (λ (d : Option Placed). d ≡ None)
     (λ _. ap (λ (t : State). held_in t p (view_of group p).count) (s.nodes p).state) (λ _. refl)
 
-pub started-tied : (group : GroupView) (size : Limits) (stores : ℕ) (drafts : List (Option Placed)) → Shows group (started size) → stores ≡ size.n → drafts ≡ replicate size.n None → IsTied group stores drafts
-started-tied group size stores drafts s count e =
+-- in what is opened from images every node is ready, so no draft is held
+pub opened-tied : (group : GroupView) (size : Limits) (images : ℕ → List Entry) (stores : ℕ) (drafts : List (Option Placed)) → IsSound group → Shows group (opened size images) → stores ≡ size.n → drafts ≡ replicate size.n None
+    → IsTied group stores drafts
+opened-tied group size images stores drafts sound s count e =
     record {
-      sound = sound-new group size s;
+      sound = sound;
       all_stores = count ∙ ap (λ (l : Limits). l.n) (sym s.size);
       all_places = (ap length e ∙ length-replicate size.n None) ∙ ap (λ (l : Limits). l.n) (sym s.size);
-      held = λ p. ap (λ (ds : List (Option Placed)). draft_at ds p) e ∙ (no-places size.n p ∙ sym (none-started group size p s));
+      held = λ p. ap (λ (ds : List (Option Placed)). draft_at ds p) e ∙ (no-places size.n p ∙ sym (none-opened group size images p s));
     }
+
+pub started-tied : (group : GroupView) (size : Limits) (stores : ℕ) (drafts : List (Option Placed)) → Shows group (started size) → stores ≡ size.n → drafts ≡ replicate size.n None → IsTied group stores drafts
+started-tied group size stores drafts s count e = opened-tied group size (λ p. []) stores drafts (sound-new group size s) s count e

@@ -38,3 +38,6 @@ pub mod StockedNodes
 pub mod StockedClusters
 pub mod StockedPlays
 pub mod StockedFailures
+pub mod OpenedPlaces
+pub mod Reopened
+pub mod Asking

@@ -17,7 +17,7 @@ first_places size zero = []
 first_places size (suc k) = first_places size k ++ place.Ready (new_memory size (suc k)) ∷ []
 
 -- what is read of a list with one more
-read_more : {X : Type 0} (xs : List X) (y z : X) (k : ℕ) → slice_get (xs ++ y ∷ []) k ≡ Some z → (slice_get xs k ≡ Some z) ⊎ ((k ≡ length xs) × (z ≡ y))
+pub read_more : {X : Type 0} (xs : List X) (y z : X) (k : ℕ) → slice_get (xs ++ y ∷ []) k ≡ Some z → (slice_get xs k ≡ Some z) ⊎ ((k ≡ length xs) × (z ≡ y))
 read_more [] y z zero e = inr (refl, cc)
 read_more [] y z (suc k) e = absurd cc
 read_more (x ∷ xs) y z zero e = inl e

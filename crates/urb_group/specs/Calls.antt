@@ -1,11 +1,13 @@
 -- What each call of a group does, for every world that the group shows before it.
 use Rattle.std.specs.Prelude.{◌≡◌, ◌&&◌, IsTrue, List, None, Option, Some, Result, Ok, Err, Bool, if◌then◌else◌, is_some, length, suc, ℕ}
 use Rattle.urb_names.specs.Carried.{Carried}
-use Rattle.urb_names.specs.Naming.{Content, Label}
+use Rattle.urb_names.specs.Naming.{Content, Label, Limits}
 use Rattle.urb_names.specs.Nodes.{is_node}
 use Rattle.urb_names.specs.Pairs.{message_of}
 use Rattle.urb_names.specs.declared.refusal.Refusal.{Refusal}
-use Rattle.urb_stable.specs.Entries.{name_of}
+use Rattle.urb_names.specs.declared.refusal.Refusal.TheVariants as refusal
+use Rattle.urb_stable.specs.Entries.{Entry, name_of}
+use Rattle.urb_stable.specs.Fitting.{Fits, first_misfit}
 use Rattle.urb_stable.specs.Log.{log}
 use Rattle.urb_stable.specs.Placed.{Placed}
 use Rattle.urb_stable.specs.Records.{pend}
@@ -15,7 +17,7 @@ use Rattle.urb_node.specs.Replies.{Done, Drafted, Reply, Same, Sent, Stored, Up,
 use Rattle.urb_group.specs.Shown.{GroupView, Shows, view_of}
 use Rattle.urb_group.specs.Step.{Commit, Event, step}
 use Rattle.urb_group.specs.Truth.{AreTruthful}
-use Rattle.urb_group.specs.World.{World, stored, truthful}
+use Rattle.urb_group.specs.World.{World, image_of, opened, stored, truthful}
 use Rattle.urb_group.specs.declared.taken.Taken.{Taken}
 use Rattle.urb_group.specs.declared.taken.Taken.TheVariants as taken
 
@@ -67,6 +69,14 @@ GoesDown old p event (Err refusal) new = IsRefused old event refusal new
 abbrev pub ComesUp : GroupView → ℕ → Event → Result (Unit {0}) Refusal → GroupView → Type 0
 ComesUp old p event (Ok done) new = Steps old event (λ reply. reply ≡ Up p) new
 ComesUp old p event (Err refusal) new = IsRefused old event refusal new
+
+-- Images are opened: they fit together, and the group shows the world that is opened from them; or their first misfit is
+-- told; or memory was refused.
+abbrev pub Opens : Limits → List (List Entry) → Result GroupView Refusal → Type 0
+Opens size images (Ok group) = Fits size (image_of images) × Shows group (opened size (image_of images))
+Opens size images (Err refusal.NoMemory) = Unit {0}
+Opens size images (Err (refusal.Inconsistent rule node name)) = first_misfit size (image_of images) ≡ Some (record { rule = rule; node = node; name = name })
+Opens size images (Err r) = ⊥
 
 -- ---- questions: None where there is no such node, and else the world's answer
 

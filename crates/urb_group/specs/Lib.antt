@@ -22,3 +22,4 @@ pub mod Examples
 pub mod Scripts
 pub mod Stocked
 pub mod InMemory
+pub mod Reopening

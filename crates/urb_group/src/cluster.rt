@@ -23,9 +23,9 @@ use urb_stable::{Draft, Failure, MemStable, Stable};
 /// All nodes of a group, each with its store, and the drafts that they hold.
 #[derive(Drop)]
 pub struct Cluster<S: Stable> {
-    group: Group<S::Alloc>,
-    stores: Vec<S, S::Alloc>,
-    drafts: Vec<Option<Draft<S::Alloc>>, S::Alloc>,
+    pub(crate) group: Group<S::Alloc>,
+    pub(crate) stores: Vec<S, S::Alloc>,
+    pub(crate) drafts: Vec<Option<Draft<S::Alloc>>, S::Alloc>,
 }
 
 impl<S: Stable> Model for Cluster<S> {

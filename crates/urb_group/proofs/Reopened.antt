@@ -1,0 +1,257 @@
+-- What a cluster that is opened over stores comes to: it is stocked, and where its stores are honest it goes on from the
+-- cluster that was stocked with them.
+use Rattle.std.proofs.Common.{Err, IfOk, List, Ok, Option, Result, Some, [], ap, false, inl, inr, length, refl, subst, suc, sym, zero, ℕ, ⊎_elim, ◌++◌, ◌∙◌, ◌∷◌, ◌≡◌, ◌⊎◌}
+use Rattle.std.specs.List.{All, AllByRecursion}
+use Rattle.std.specs.Prelude.{Vec, slice_get, slice_index_or}
+use Rattle.std.proofs.lemmas.Bool.{false≢true}
+use Rattle.std.proofs.lemmas.List.Elements.{recursion_from_All}
+use Rattle.urb_names.specs.Naming.{Limits}
+use Rattle.urb_names.specs.declared.refusal.Refusal.{Refusal}
+use Rattle.urb_names.specs.declared.refusal.Refusal.TheVariants as refusal
+use Rattle.urb_node.specs.Part.{Node, opened_node}
+use Rattle.urb_stable.specs.Entries.{Entry}
+use Rattle.urb_stable.specs.Fitting.{Fits}
+use Rattle.urb_stable.specs.Images.{image_of}
+use Rattle.urb_stable.specs.Storing.{IsContents, is_bad_row, is_place, refusal_of}
+use Rattle.urb_stable.specs.declared.stable.Stable.{Ghosts}
+use Rattle.urb_stable.specs.declared.stable.StoreFault.{StoreFault}
+use Rattle.urb_stable.specs.declared.stable.StoreFault.TheVariants as fault
+use Rattle.urb_group.proofs.Opened.{misfit-unfit}
+use Rattle.urb_group.proofs.StockedPlays.{stocked-fits}
+use Rattle.urb_group.specs.Asked.{Gives}
+use Rattle.urb_group.specs.Calls.{Opens}
+use Rattle.urb_group.specs.Clustered.{Clustered}
+use Rattle.urb_group.specs.Reopening.{AllGive, AreRefused, FirstFails, Continues, ContinuesFrom, HasStopped, OpensFrom, OpensGiven, OpensStores}
+use Rattle.urb_group.specs.Shown.{GroupView, Shows}
+use Rattle.urb_group.specs.Stocked.{AreChosen, ContentsFit, IsStocked, IsStoreOf}
+use Rattle.urb_group.specs.World.{opened}
+
+-- ---- stores that were asked one after the other
+
+pub give-more : {S A : Type 0} (g : Ghosts S A) (stores : List S) (images : List (List Entry)) (asked : List S) (before after : S) (image : List Entry) → AllGive g stores images asked → Gives g before (Ok image) after
+    → AllGive g (stores ++ before ∷ []) (images ++ image ∷ []) (asked ++ after ∷ [])
+give-more g [] [] [] before after image h one = (one, tt)
+give-more g [] [] (a ∷ asked) before after image h one = absurd h
+give-more g [] (i ∷ images) asked before after image h one = absurd h
+give-more g (s ∷ stores) [] asked before after image h one = absurd h
+give-more g (s ∷ stores) (i ∷ images) [] before after image h one = absurd h
+give-more g (s ∷ stores) (i ∷ images) (a ∷ asked) before after image h one = (h.0, give-more g stores images asked before after image h.1 one)
+
+pub given-count : {S A : Type 0} (g : Ghosts S A) (stores : List S) (images : List (List Entry)) (asked : List S) → AllGive g stores images asked → length images ≡ length stores
+given-count g [] [] [] h = refl
+given-count g [] [] (a ∷ asked) h = absurd h
+given-count g [] (i ∷ images) asked h = absurd h
+given-count g (s ∷ stores) [] asked h = absurd h
+given-count g (s ∷ stores) (i ∷ images) [] h = absurd h
+given-count g (s ∷ stores) (i ∷ images) (a ∷ asked) h = ap suc (given-count g stores images asked h.1)
+
+-- a group that is opened from all lists, or is not
+pub given-opens : {S A : Type 0} (g : Ghosts S A) (size : Limits) (stores asked : List S) (images : List (List Entry)) (result : Result GroupView Refusal) → AllGive g stores images asked → Opens size images result → OpensFrom g size stores result asked
+given-opens g size stores asked images (Ok group) given opens = record { images = images; given = given; opens = opens }
+given-opens g size stores asked images (Err why) given opens = inr (record { images = images; given = given; opens = opens })
+
+-- the store in a place gave the list in that place
+given-at : {S A : Type 0} (g : Ghosts S A) (stores : List S) (images : List (List Entry)) (asked : List S) → AllGive g stores images asked → (i : ℕ) (store : S) → slice_get asked i ≡ Some store
+    → (before : S) × Gives g before (Ok (slice_index_or images i [])) store
+given-at g [] [] [] h i store e = absurd (cc)
+given-at g [] [] (a ∷ asked) h i store e = absurd h
+given-at g [] (im ∷ images) asked h i store e = absurd h
+given-at g (s ∷ stores) [] asked h i store e = absurd h
+given-at g (s ∷ stores) (im ∷ images) [] h i store e = absurd h
+given-at g (s ∷ stores) (im ∷ images) (a ∷ asked) h zero store e = (let f : a ≡ store = cc in (s, subst (λ (t : _). Gives g s (Ok im) t) f h.0))
+given-at g (s ∷ stores) (im ∷ images) (a ∷ asked) h (suc i) store e = given-at g stores images asked h.1 i store e
+
+-- where all are honest then, each list is one that its store may have held
+given-chosen : {S A : Type 0} (g : Ghosts S A) (stores : List S) (images : List (List Entry)) (asked : List S) → AllGive g stores images asked → AllByRecursion g.is_honest asked
+    → (i : ℕ) (store : S) (image : List Entry) → slice_get stores i ≡ Some store → slice_get images i ≡ Some image → g.is_honest store × IsContents (g.certain store) (g.doubt store) image
+given-chosen g [] [] [] h honest i store image e f = absurd (cc)
+given-chosen g [] [] (a ∷ asked) h honest i store image e f = absurd h
+given-chosen g [] (im ∷ images) asked h honest i store image e f = absurd h
+given-chosen g (s ∷ stores) [] asked h honest i store image e f = absurd h
+given-chosen g (s ∷ stores) (im ∷ images) [] h honest i store image e f = absurd h
+given-chosen g (s ∷ stores) (im ∷ images) (a ∷ asked) h honest zero store image e f =
+    let one : s ≡ store = cc in
+    let two : im ≡ image = cc in
+    subst (λ (t : _). g.is_honest t × IsContents (g.certain t) (g.doubt t) image) one (subst (λ (records : List Entry). g.is_honest s × IsContents (g.certain s) (g.doubt s) records) two (h.0.honest honest.0, (h.0.given honest.0).1))
+given-chosen g (s ∷ stores) (im ∷ images) (a ∷ asked) h honest (suc i) store image e f = given-chosen g stores images asked h.1 honest.1 i store image e f
+
+-- ---- the opened cluster is stocked
+
+-- a store that gave this list is that of the node that is opened from it
+given-store : {S A : Type 0} (g : Ghosts S A) (p : ℕ) (image : List Entry) (before after : S) → Gives g before (Ok image) after → IsStoreOf g (opened_node p image) after
+given-store g p image before after gives =
+    record {
+      contents = λ honest records c. subst (λ (o : Option Entry). IsContents (g.certain after) o records) gives.clear.1 c ∙ (gives.given honest).0;
+      up = λ honest e. ((gives.given honest).0, gives.clear.1);
+    }
+
+pub opens-stocked : {S A : Type 0} (g : Ghosts S A) (size : Limits) (stores : List S) (result : Result (Clustered S) (Vec S A × Refusal)) → OpensStores g size stores result → IfOk result (λ cluster. IsStocked g cluster)
+opens-stocked g size stores (Ok cluster) h =
+    record {
+      world = opened size (image_of h.images);
+      shows = h.opens.1;
+      stores = λ i store got. (let one = given-at g stores h.images cluster.stores h.given i store got in given-store g (suc i) (slice_index_or h.images i []) one.0 store one.1);
+    }
+opens-stocked g size stores (Err e) h = tt
+
+-- ---- stores that were asked are still those of their nodes
+
+-- whichever node the one store was of, the other is of it
+StaysOf : {S A : Type 0} → Ghosts S A → S → S → Type 0
+StaysOf g before after = (node : Node) → IsStoreOf g node before → IsStoreOf g node after
+
+-- it gave its list
+gave-stays : {S A : Type 0} (g : Ghosts S A) (before after : S) (image : List Entry) → Gives g before (Ok image) after → StaysOf g before after
+unfolding StaysOf
+gave-stays g before after image gives =
+    λ node store.
+    record {
+      contents = λ honest records c.
+          (let same : records ≡ image = subst (λ (o : Option Entry). IsContents (g.certain after) o records) gives.clear.1 c ∙ (gives.given honest).0 in
+          store.contents (gives.honest honest) records (subst (λ (rs : List Entry). IsContents (g.certain before) (g.doubt before) rs) (sym same) (gives.given honest).1));
+      up = λ honest e.
+          (let was = store.up (gives.honest honest) e in
+          ((gives.given honest).0 ∙ (subst (λ (o : Option Entry). IsContents (g.certain before) o image) was.1 (gives.given honest).1 ∙ was.0), gives.clear.1));
+    }
+
+-- it answered a fault
+failed-stays : {S A : Type 0} (g : Ghosts S A) (before after : S) (fault : StoreFault) → Gives g before (Err fault) after → StaysOf g before after
+unfolding StaysOf
+failed-stays g before after fault gives =
+    λ node store.
+    record {
+      contents = λ honest records c.
+          store.contents (gives.honest honest) records
+          (subst (λ (certain : List Entry). IsContents certain (g.doubt before) records) (gives.failed honest) (subst (λ (o : Option Entry). IsContents (g.certain after) o records) gives.kept.1 c));
+      up = λ honest e. (let was = store.up (gives.honest honest) e in (gives.failed honest ∙ was.0, gives.kept.1 ∙ was.1));
+    }
+
+-- each store stays so in its place
+record StayIn {S A : Type 0} (g : Ghosts S A) (stores asked : List S) (i : ℕ) (store : S) : Type 0 where
+  pub before : S
+  pub was : slice_get stores i ≡ Some before
+  pub stays : StaysOf g before store
+
+AllStay : {S A : Type 0} → Ghosts S A → List S → List S → Type 0
+AllStay g stores asked = (i : ℕ) (store : _) → slice_get asked i ≡ Some store → StayIn g stores asked i store
+
+same-stay : {S A : Type 0} (g : Ghosts S A) (stores : List S) → AllStay g stores stores
+unfolding AllStay StaysOf
+same-stay g stores = λ i store e. record { before = store; was = e; stays = λ node h. h }
+
+one-stays : {S A : Type 0} (g : Ghosts S A) (before after : S) (stores asked : List S) → StaysOf g before after → AllStay g stores asked → AllStay g (before ∷ stores) (after ∷ asked)
+unfolding AllStay
+one-stays {S} g before after stores asked stays all = at
+  where
+    at : (i : ℕ) (store : S) → slice_get (after ∷ asked) i ≡ Some store → StayIn g (before ∷ stores) (after ∷ asked) i store
+    at zero store e = record { before = before; was = refl; stays = subst (λ (s : S). StaysOf g before s) (let f : after ≡ store = cc in f) stays }
+    at (suc i) store e = (let one = all i store e in record { before = one.before; was = one.was; stays = one.stays })
+
+given-stay : {S A : Type 0} (g : Ghosts S A) (stores : List S) (images : List (List Entry)) (asked : List S) → AllGive g stores images asked → (later rest : List S) → AllStay g later rest → AllStay g (stores ++ later) (asked ++ rest)
+given-stay g [] [] [] h later rest all = all
+given-stay g [] [] (a ∷ asked) h later rest all = absurd h
+given-stay g [] (im ∷ images) asked h later rest all = absurd h
+given-stay g (s ∷ stores) [] asked h later rest all = absurd h
+given-stay g (s ∷ stores) (im ∷ images) [] h later rest all = absurd h
+given-stay g (s ∷ stores) (im ∷ images) (a ∷ asked) h later rest all = one-stays g s a (stores ++ later) (asked ++ rest) (gave-stays g s a im h.0) (given-stay g stores images asked h.1 later rest all)
+
+none-later : {S : Type 0} (xs : List S) → xs ++ [] ≡ xs
+none-later [] = refl
+none-later (x ∷ xs) = ap (λ zs. x ∷ zs) (none-later xs)
+
+all-given-stay : {S A : Type 0} (g : Ghosts S A) (stores : List S) (images : List (List Entry)) (asked : List S) → AllGive g stores images asked → AllStay g stores asked
+all-given-stay {S} g stores images asked h =
+    subst (λ (xs : List S). AllStay g xs asked) (none-later stores) (subst (λ (xs : List S). AllStay g (stores ++ []) xs) (none-later asked) (given-stay g stores images asked h [] [] (same-stay g [])))
+
+refused-stay : {S A : Type 0} (g : Ghosts S A) (stores asked : List S) (why : Refusal) → AreRefused g stores why asked → AllStay g stores asked
+refused-stay {S} g stores asked why h = ⊎_elim first (λ short. subst (λ (xs : List S). AllStay g stores xs) (sym short.0) (same-stay g stores)) h
+  where
+    first : (fault : StoreFault) × FirstFails g stores fault asked × (why ≡ refusal_of fault) → AllStay g stores asked
+    first f =
+        subst (λ (xs : List S). AllStay g xs asked) (sym f.1.were)
+        (subst (λ (xs : List S). AllStay g (f.1.earlier ++ f.1.before ∷ f.1.later) xs) (sym f.1.are)
+        (given-stay g f.1.earlier f.1.images f.1.gave f.1.given (f.1.before ∷ f.1.later) (f.1.after ∷ f.1.later) (one-stays g f.1.before f.1.after f.1.later f.1.later (failed-stays g f.1.before f.1.after f.0 f.1.failed) (same-stay g f.1.later))))
+
+-- so the cluster is stocked with them
+stays-stocked : {S A : Type 0} (g : Ghosts S A) (old : Clustered S) (asked : List S) → AllStay g old.stores asked → IsStocked g old → IsStocked g (record old { stores = asked })
+unfolding AllStay StaysOf
+stays-stocked g old asked all h =
+    record {
+      world = h.world;
+      shows = h.shows;
+      stores = λ i store got. (let one = all i store got in one.stays (h.world.node (suc i)) (h.stores i one.before one.was));
+    }
+
+-- ---- it goes on
+
+-- the fault of an honest store is want of memory, or of its device
+honest-fault : (e : StoreFault) → is_place e ≡ false → is_bad_row e ≡ false → (refusal_of e ≡ refusal.NoMemory) ⊎ (refusal_of e ≡ refusal.Device)
+honest-fault fault.NoMemory p b = inl refl
+honest-fault fault.Device p b = inr refl
+honest-fault (fault.Place next) p b = absurd (false≢true (sym p))
+honest-fault (fault.BadRow place) p b = absurd (false≢true (sym b))
+
+-- the store behind some others is honest where all are
+honest-behind : {S : Type 0} (P : S → Type 0) (earlier later : List S) (s : S) → AllByRecursion P (earlier ++ s ∷ later) → P s
+honest-behind P [] later s h = h.0
+honest-behind P (x ∷ earlier) later s h = honest-behind P earlier later s h.1
+
+module _ {S A : Type 0} (g : Ghosts S A) (old : Clustered S) (size : Limits) (stores : List S) (stopped : HasStopped g old size stores) where
+  places : length stores ≡ size.n → length old.stores ≡ length old.group.nodes
+  places count = ap length stopped.stores ∙ (count ∙ sym stopped.counted)
+
+  fits : length stores ≡ size.n → ContentsFit g old
+  fits count = stocked-fits g old stopped.sound (places count) stopped.stocked
+
+  chosen : (images : List (List Entry)) (asked : List S) → AllGive g stores images asked → All g.is_honest asked → AreChosen g old.stores images
+  chosen images asked given honest =
+      record {
+        one_each = given-count g stores images asked given ∙ sym (ap length stopped.stores);
+        each = λ i store image e f. given-chosen g stores images asked given (recursion_from_All g.is_honest asked honest) i store image (subst (λ (xs : List S). slice_get xs i ≡ Some store) stopped.stores e) f;
+      }
+
+  goes-on-from : length stores ≡ size.n → (new : Clustered S) → OpensGiven g size stores new.stores (Ok new.group) → All g.is_honest new.stores → ContinuesFrom g old new
+  goes-on-from count new h honest =
+      let all = chosen h.images new.stores h.given honest in
+      let fit = fits count in
+      let same : fit.world.size ≡ size = sym fit.shows.size ∙ stopped.size in
+      record {
+        world = fit.world;
+        shows = fit.shows;
+        images = h.images;
+        chosen = all;
+        goes_on = fit.fit h.images all;
+        opens = subst (λ (l : Limits). Shows new.group (opened l (image_of h.images))) (sym same) h.opens.1;
+        ready = λ p. (h.opens.1.nodes p).state;
+      }
+
+  -- lists that such stores gave fit together
+  not-inconsistent : length stores ≡ size.n → (asked : List S) (why : Refusal) → OpensGiven g size stores asked (Err why) → All g.is_honest asked → (why ≡ refusal.NoMemory) ⊎ (why ≡ refusal.Device)
+  not-inconsistent count asked why h honest = at why h.opens
+    where
+      fit : Fits size (image_of h.images)
+      fit =
+          let all = fits count in
+          subst (λ (l : Limits). Fits l (image_of h.images)) (sym all.shows.size ∙ stopped.size) (all.fit h.images (chosen h.images asked h.given honest)).fits
+
+      at : (r : Refusal) → Opens size h.images (Err r) → (r ≡ refusal.NoMemory) ⊎ (r ≡ refusal.Device)
+      at refusal.NoMemory opens = inl refl
+      at (refusal.Inconsistent rule node name) opens = absurd (misfit-unfit size (image_of h.images) (record { rule = rule; node = node; name = name }) opens fit)
+      at _ opens = absurd opens
+
+  refused-so : (asked : List S) (why : Refusal) → AreRefused g stores why asked → All g.is_honest asked → (why ≡ refusal.NoMemory) ⊎ (why ≡ refusal.Device)
+  refused-so asked why h honest = ⊎_elim first (λ short. inl short.1) h
+    where
+      first : (fault : StoreFault) × FirstFails g stores fault asked × (why ≡ refusal_of fault) → (why ≡ refusal.NoMemory) ⊎ (why ≡ refusal.Device)
+      first f =
+          let was : AllByRecursion g.is_honest (f.1.gave ++ f.1.after ∷ f.1.later) = subst (λ (xs : List S). AllByRecursion g.is_honest xs) f.1.are (recursion_from_All g.is_honest asked honest) in
+          let told = honest-fault f.0 f.1.failed.faults.0 (f.1.failed.faults.1 (honest-behind g.is_honest f.1.gave f.1.later f.1.after was)) in
+          subst (λ (r : Refusal). (r ≡ refusal.NoMemory) ⊎ (r ≡ refusal.Device)) (sym f.2) told
+
+  pub opens-goes_on : length stores ≡ size.n → (result : Result (Clustered S) (Vec S A × Refusal)) → OpensStores g size stores result → Continues g old result
+  opens-goes_on count (Ok new) h = goes-on-from count new h
+  opens-goes_on count (Err e) h =
+      let stay = ⊎_elim (λ k. refused-stay g stores e.0.items e.1 k) (λ k. all-given-stay g stores k.images e.0.items k.given) h in (
+        stays-stocked g old e.0.items (subst (λ (xs : List S). AllStay g xs e.0.items) (sym stopped.stores) stay) stopped.stocked,
+        λ honest. ⊎_elim (λ k. refused-so e.0.items e.1 k honest) (λ k. not-inconsistent count e.0.items e.1 k honest) h,
+      )

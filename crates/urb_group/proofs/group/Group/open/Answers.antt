@@ -1,0 +1,91 @@
+use Rattle.std.proofs.Common.{List, None, Some, [], add-one, arith, length, map, refl, rules, subst, suc, sym, ℕ, ◌+◌, ◌++◌, ◌∙◌, ◌∷◌, ◌≡◌, ◌≤◌}
+use Rattle.std.proofs.lemmas.List.{length-map}
+use Rattle.std.specs.List.{All}
+use Rattle.urb_node.specs.Part.{opened_node}
+use Rattle.urb_node.specs.Values.{ShowsReady}
+use Rattle.urb_stable.specs.Entries.{IsEntry}
+use Rattle.urb_stable.specs.Fitting.{KeepsOwn, first_misfit}
+use Rattle.urb_stable.specs.Images.{image_of}
+use Rattle.urb_group.proofs.NewPlaces.{some_from}
+use Rattle.urb_group.proofs.OpenedPlaces.{HasOpened, all-group, all-opens, more-opened, next-counted, next-keeps, none-opened}
+use Rattle.urb_group.specs.World.{AreImages}
+use Rattle.urb_group.proofs.group.Group.open.Goals as goal
+
+none_left : {X : Type 0} (xs : List X) (n : ℕ) → n ≡ length xs → n ≡ 0 → xs ≡ []
+none_left [] n e z = refl
+none_left (x ∷ xs) n e z = absurd (omega arith)
+
+pub returns-in-Some : goal.returns-in-Some
+returns-in-Some g c =
+    let same : c.deref-2.result.now ≡ c.args.images.items = search rules in
+    subst (λ xs. first_misfit c.args.config (image_of (map (λ image. image.items) xs)) ≡ Some c.in-Some.misfit) same (sym c.first_misfit.ensures ∙ c.in-Some.is)
+
+pub loop-image-init : goal.loop-image-init
+loop-image-init g c =
+    let empty : c.in_ok-nodes.nodes.items ≡ [] = search rules in
+    record {
+      opened =
+          subst (λ left. HasOpened (λ image. image.items) c.args.config c.args.images.items [] left 0 c.in_ok-nodes.nodes.items) (sym c.into_iter-image-iterator.ensures.into_iter_gives.0)
+          (subst (λ places. HasOpened (λ image. image.items) c.args.config c.args.images.items [] c.args.images.items 0 places) (sym empty) (none-opened (λ image. image.items) c.args.config c.args.images.items));
+      count = search rules;
+      room = omega (arith, c.in_ok-nodes.ensures.capacity, c.requires, c.n-n.ensures.value, c.from.ensures);
+    }
+
+pub unwrap-node-requires : goal.unwrap-node-requires
+unwrap-node-requires g c =
+    let opened = subst (λ left. HasOpened (λ image. image.items) c.args.config c.args.images.items c.loop-image.yielded left c.loop-image.number c.loop-image.nodes.items) c.in-Some-image.ensures.steps.0 c.loop-image.invariant.opened in
+    let few = next-counted (λ image. image.items) c.args.config c.args.images.items c.loop-image.yielded c.next.new.self.rest.items c.in-Some-image.image c.loop-image.number c.loop-image.nodes.items opened in
+    let below : c.loop-image.number + 1 ≤ 7 = omega (arith, few, c.requires, c.n-n.ensures.range.1) in
+    some_from c.new.result _ c.new.ensures (omega arith, below)
+
+pub open-requires-clause-node : goal.open-requires-clause-node
+open-requires-clause-node g c =
+    let opened = subst (λ left. HasOpened (λ image. image.items) c.args.config c.args.images.items c.loop-image.yielded left c.loop-image.number c.loop-image.nodes.items) c.in-Some-image.ensures.steps.0 c.loop-image.invariant.opened in
+    let few = next-counted (λ image. image.items) c.args.config c.args.images.items c.loop-image.yielded c.next.new.self.rest.items c.in-Some-image.image c.loop-image.number c.loop-image.nodes.items opened in
+    let is : c.unwrap-node.result ≡ c.loop-image.number + 1 = search rules in
+    omega (arith, few, is, c.requires)
+
+pub open-requires-clause-rules : goal.open-requires-clause-rules
+open-requires-clause-rules g c =
+    let opened = subst (λ left. HasOpened (λ image. image.items) c.args.config c.args.images.items c.loop-image.yielded left c.loop-image.number c.loop-image.nodes.items) c.in-Some-image.ensures.steps.0 c.loop-image.invariant.opened in
+    let same : c.deref-2.result.now ≡ c.args.images.items = search rules in
+    let read : c.deref.result.now ≡ c.args.images.items = search rules in
+    let none = subst (λ xs. first_misfit c.args.config (image_of (map (λ image. image.items) xs)) ≡ None) same (sym c.first_misfit.ensures ∙ c.in_default.is) in
+    let are : AreImages c.args.config (map (λ image. image.items) c.args.images.items) =
+    record { one_each = length-map c.args.images.items (λ image. image.items) ∙ c.requires; limits = subst (λ xs. All (All IsEntry) (map (λ image. image.items) xs)) read c.limits_of_images.ensures } in
+    let is : c.unwrap-node.result ≡ c.loop-image.number + 1 = search rules in
+    subst (λ (p : ℕ). KeepsOwn c.args.config p [] c.in-Some-image.image.items) (sym (is ∙ add-one c.loop-image.number))
+    (next-keeps (λ image. image.items) c.args.config c.args.images.items c.loop-image.yielded c.next.new.self.rest.items c.in-Some-image.image c.loop-image.number c.loop-image.nodes.items opened are none)
+
+pub loop-image-preserved : goal.loop-image-preserved
+loop-image-preserved g c =
+    let opened = subst (λ left. HasOpened (λ image. image.items) c.args.config c.args.images.items c.loop-image.yielded left c.loop-image.number c.loop-image.nodes.items) c.in-Some-image.ensures.steps.0 c.loop-image.invariant.opened in
+    let is : c.unwrap-node.result ≡ suc c.loop-image.number = (search rules) ∙ add-one c.loop-image.number in
+    let shows = subst (λ (p : ℕ). ShowsReady c.in_ok-open.field-0 (opened_node p c.in-Some-image.image.items)) is c.in_ok-open.ensures.2 in
+    record {
+      opened =
+          subst (λ (n : ℕ). HasOpened (λ image. image.items) c.args.config c.args.images.items (c.loop-image.yielded ++ c.in-Some-image.image ∷ []) c.next.new.self.rest.items n c.push_reserved.new.self.items) (sym (add-one c.loop-image.number))
+          (more-opened (λ image. image.items) c.args.config c.args.images.items c.loop-image.yielded c.next.new.self.rest.items c.in-Some-image.image c.loop-image.number c.loop-image.nodes.items c.push_reserved.new.self.items c.in_ok-open.field-0 opened
+          c.in_ok-open.ensures.0 (c.in_ok-open.ensures.1 ∙ is) shows c.push_reserved.ensures.items);
+      count = omega (arith, c.push_reserved.ensures.len, c.loop-image.invariant.count);
+      room = omega (arith, c.push_reserved.ensures.capacity, c.loop-image.invariant.room);
+    }
+
+pub invariant_of-result : goal.invariant_of-result
+invariant_of-result g c =
+    let gone : c.loop-image.image-iterator.rest.items ≡ [] = none_left c.loop-image.image-iterator.rest.items c.loop-image.image-iterator.rest.len c.loop-image.image-iterator.rest.ok.0 c.in-None.ensures.steps.0 in
+    let same : c.deref-2.result.now ≡ c.args.images.items = search rules in
+    let read : c.deref.result.now ≡ c.args.images.items = search rules in
+    let none = subst (λ xs. first_misfit c.args.config (image_of (map (λ image. image.items) xs)) ≡ None) same (sym c.first_misfit.ensures ∙ c.in_default.is) in
+    let are : AreImages c.args.config (map (λ image. image.items) c.args.images.items) =
+    record { one_each = length-map c.args.images.items (λ image. image.items) ∙ c.requires; limits = subst (λ xs. All (All IsEntry) (map (λ image. image.items) xs)) read c.limits_of_images.ensures } in
+    all-group (λ image. image.items) c.args.config c.args.images.items c.loop-image.yielded c.loop-image.number c.loop-image.nodes.items
+    (subst (λ left. HasOpened (λ image. image.items) c.args.config c.args.images.items c.loop-image.yielded left c.loop-image.number c.loop-image.nodes.items) gone c.loop-image.invariant.opened) are none
+
+pub returns : goal.returns
+returns g c =
+    let gone : c.loop-image.image-iterator.rest.items ≡ [] = none_left c.loop-image.image-iterator.rest.items c.loop-image.image-iterator.rest.len c.loop-image.image-iterator.rest.ok.0 c.in-None.ensures.steps.0 in
+    let same : c.deref-2.result.now ≡ c.args.images.items = search rules in
+    let none = subst (λ xs. first_misfit c.args.config (image_of (map (λ image. image.items) xs)) ≡ None) same (sym c.first_misfit.ensures ∙ c.in_default.is) in
+    all-opens (λ image. image.items) c.args.config c.args.images.items c.loop-image.yielded c.loop-image.number c.loop-image.nodes.items
+    (subst (λ left. HasOpened (λ image. image.items) c.args.config c.args.images.items c.loop-image.yielded left c.loop-image.number c.loop-image.nodes.items) gone c.loop-image.invariant.opened) none

@@ -1,0 +1,88 @@
+-- What comes of a cluster that is opened over stores with records, and how it goes on from the cluster before.
+use Rattle.std.specs.Prelude.{Err, List, Ok, Result, Vec, [], length, map, ℕ, ◌++◌, ◌∷◌, ◌≡◌, ◌⊎◌}
+use Rattle.std.specs.List.{All}
+use Rattle.urb_names.specs.Naming.{Limits}
+use Rattle.urb_names.specs.declared.refusal.Refusal.{Refusal}
+use Rattle.urb_names.specs.declared.refusal.Refusal.TheVariants as refusal
+use Rattle.urb_stable.specs.Entries.{Entry}
+use Rattle.urb_stable.specs.Storing.{refusal_of}
+use Rattle.urb_stable.specs.declared.stable.Stable.{Ghosts}
+use Rattle.urb_stable.specs.declared.stable.StoreFault.{StoreFault}
+use Rattle.urb_node.specs.Part.{Ready}
+use Rattle.urb_group.specs.Asked.{Gives}
+use Rattle.urb_group.specs.Calls.{Opens}
+use Rattle.urb_group.specs.Clustered.{Clustered}
+use Rattle.urb_group.specs.Shown.{GroupView, IsSound, Shows, view_of}
+use Rattle.urb_group.specs.Stocked.{AreChosen, IsStocked}
+use Rattle.urb_group.specs.Stopping.{GoesOnIn}
+use Rattle.urb_group.specs.World.{World, image_of, opened}
+
+module _ {S A : Type 0} (g : Ghosts S A) where
+  -- each store was asked and gave its list, one after the other
+  abbrev pub AllGive : List S → List (List Entry) → List S → Type 0
+  AllGive [] [] [] = Unit {0}
+  AllGive (before ∷ stores) (image ∷ images) (after ∷ asked) = Gives g before (Ok image) after × AllGive stores images asked
+  AllGive stores images asked = ⊥
+
+  -- the first stores gave their lists, the next one answered this fault, and those behind it were not asked
+  pub record FirstFails (stores : List S) (fault : StoreFault) (asked : List S) : Type 0 where
+    pub earlier : List S
+    pub images : List (List Entry)
+    pub gave : List S
+    pub given : AllGive earlier images gave
+    pub before : S
+    pub after : S
+    pub failed : Gives g before (Err fault) after
+    pub later : List S
+    pub were : stores ≡ earlier ++ before ∷ later
+    pub are : asked ≡ gave ++ after ∷ later
+
+  -- The stores did not give all their lists: this refusal tells the first fault, or memory was refused before one was asked.
+  abbrev pub AreRefused : List S → Refusal → List S → Type 0
+  AreRefused stores why asked = ((fault : StoreFault) × FirstFails stores fault asked × (why ≡ refusal_of fault)) ⊎ ((asked ≡ stores) × (why ≡ refusal.NoMemory))
+
+  -- what asking all stores comes to
+  abbrev pub Retrieves : List S → Result (Vec (Vec Entry A) A) Refusal → List S → Type 0
+  Retrieves stores (Ok images) asked = AllGive stores (map (λ image. image.items) images.items) asked
+  Retrieves stores (Err why) asked = AreRefused stores why asked
+
+  -- all stores gave their lists, and these were opened as a group
+  pub record OpensGiven (size : Limits) (stores asked : List S) (result : Result GroupView Refusal) : Type 0 where
+    pub images : List (List Entry)
+    pub given : AllGive stores images asked
+    pub opens : Opens size images result
+
+  -- a group is opened from what the stores give, or it is not: because of a store, or of the lists that were given
+  abbrev pub OpensFrom : Limits → List S → Result GroupView Refusal → List S → Type 0
+  OpensFrom size stores (Ok group) asked = OpensGiven size stores asked (Ok group)
+  OpensFrom size stores (Err why) asked = AreRefused stores why asked ⊎ OpensGiven size stores asked (Err why)
+
+  -- A cluster of that group with its stores; or all stores come back in order.
+  abbrev pub OpensStores : Limits → List S → Result (Clustered S) (Vec S A × Refusal) → Type 0
+  OpensStores size stores (Ok cluster) = OpensFrom size stores (Ok cluster.group) cluster.stores
+  OpensStores size stores (Err e) = OpensFrom size stores (Err e.1) e.0.items
+
+  -- this cluster, with these limits and over these stores, was stocked when its process stopped
+  pub record HasStopped (old : Clustered S) (limits : Limits) (passed : List S) : Type 0 where
+    pub sound : IsSound old.group
+    pub counted : length old.group.nodes ≡ limits.n
+    pub size : old.group.size ≡ limits
+    pub stores : old.stores ≡ passed
+    pub stocked : IsStocked g old
+
+  -- The new cluster goes on from the old one: in a world that the old group showed, each of these lists is one that its store
+  -- may have held, and they go on; the new group shows what is opened from them, and all its nodes are ready.
+  pub record ContinuesFrom (old new : Clustered S) : Type 0 where
+    pub world : World
+    pub shows : Shows old.group world
+    pub images : List (List Entry)
+    pub chosen : AreChosen g old.stores images
+    pub goes_on : GoesOnIn world (image_of images)
+    pub opens : Shows new.group (opened world.size (image_of images))
+    pub ready : (p : ℕ) → (view_of new.group p).state ≡ Ready
+
+  -- Over honest stores it goes on, unless memory is refused or a device fails. Refused, the stores still are those of the old
+  -- cluster, so that it may be asked for again.
+  abbrev pub Continues : Clustered S → Result (Clustered S) (Vec S A × Refusal) → Type 0
+  Continues old (Ok new) = All g.is_honest new.stores → ContinuesFrom old new
+  Continues old (Err e) = IsStocked g (record old { stores = e.0.items }) × (All g.is_honest e.0.items → (e.1 ≡ refusal.NoMemory) ⊎ (e.1 ≡ refusal.Device))

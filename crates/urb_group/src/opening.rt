@@ -1,0 +1,57 @@
+//! A group that is opened from the images of its nodes.
+
+ghost use Rattle.std.specs.Prelude.{◌≡◌, ◌<◌, ◌≤◌, length, map, suc, slice_get, slice_index_or, Some, [], vec_capacity, vec_len};
+ghost use Rattle.std.specs.List.{All};
+ghost use Rattle.urb_stable.specs.Entries.{IsEntry};
+ghost use Rattle.urb_group.specs.Calls.{Opens};
+
+use crate::Group;
+use crate::places::Node;
+use std::alloc::Allocator;
+use urb_names::{Config, Message, NoMemory, NodeId, Refusal};
+use urb_node::Ready;
+use urb_stable::{Record, first_misfit, limits_of};
+
+// That every record of the images is within its limits: for proofs alone, since it does nothing.
+fn limits_of_images<A: Allocator>(images: &[Vec<Record<Message<A>>, A>])
+    ensures { All (All IsEntry) (map (λ image. image.items) images.now) }
+{
+    for image in images {
+        limits_of(image);
+    }
+}
+
+impl<A: Allocator + Copy> Group<A> {
+    /// A group whose nodes come up with what their storages hold, as after a stop of the whole process: the recovery of
+    /// all processes (sections 2.2 and 3.7 of the book). The image of node 1 comes first. The records are taken as they
+    /// lie in memory.
+    ///
+    /// `Inconsistent`: the images don't fit together, so some are not of this group, or a storage has lost a record or
+    /// made one up; the first record that breaks a fitting rule is told. `NoMemory`: ask again.
+    pub fn open(
+        alloc: A,
+        config: Config,
+        images: Vec<Vec<Record<Message<A>>, A>, A>,
+    ) -> Result<Group<A>, Refusal>
+        requires { length images.items ≡ config.n }
+        ensures { Opens config (map (λ image. image.items) images.items) result }
+    {
+        let n = config.n();
+        let mut nodes = Vec::with_capacity(alloc, usize::from(n))?;
+        limits_of_images(&images);
+        if let Some(misfit) = first_misfit(config, &images) {
+            return Err(Refusal::Inconsistent {
+                rule: misfit.rule,
+                node: misfit.node,
+                name: misfit.name,
+            });
+        }
+        let mut number = 0;
+        for image in images {
+            number += 1;
+            let node = NodeId::new(number).unwrap();
+            nodes.push_reserved(Node::Ready(Ready::open(alloc, config, node, image)?));
+        }
+        Ok(Group { config, nodes })
+    }
+}
