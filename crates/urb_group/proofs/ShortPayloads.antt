@@ -27,7 +27,7 @@ use Rattle.urb_names.specs.declared.refusal.Refusal.TheVariants as refusal
 -- ---- records
 
 -- the pairs of both lists
-short-append : (xs ys : List Entry) → AreShort (pend xs) → AreShort (pend ys) → AreShort (pend (xs ++ ys))
+pub short-append : (xs ys : List Entry) → AreShort (pend xs) → AreShort (pend ys) → AreShort (pend (xs ++ ys))
 short-append xs ys h k x m e =
     ⊎_elim (λ f. h x m f) (λ f. k x m f) (has_pair-cases (pend xs) (pend ys) x m (subst (λ (ps : List (Label × Content)). has_pair ps x m ≡ true) (pend-append xs ys) e))
 

@@ -31,7 +31,7 @@ use Rattle.urb_stable.specs.Entries.{Entry}
 use Rattle.urb_stable.specs.Fitting.{Kept}
 use Rattle.urb_stable.specs.Records.{pend}
 
-left-kept : (w : World) (inv : NodesKept w) (images : ℕ → List Entry) → ((p : ℕ) → MayLeave (w.node p) (images p)) → AllKept w.size images
+pub left-kept : (w : World) (inv : NodesKept w) (images : ℕ → List Entry) → ((p : ℕ) → MayLeave (w.node p) (images p)) → AllKept w.size images
 left-kept w inv images left p = go (contents-either (stored w p) (doubt (w.node p).state) (images p) (left p))
   where
     grows : Grows (stored w) images
