@@ -241,8 +241,8 @@ new_held : (p : ℕ) (m : Memory) → m ≡ empty_memory → IsHeldBy (opened_no
 new_held p m e = subst (IsHeldBy (opened_node p []) []) (sym e) (record { holds = refl; contents = refl; certain = λ up. (refl, refl) })
 
 pub opens : (limits : Limits) (cluster : Clustered Memory) (stores : List Memory) (before text : List ℕ) → Shows cluster.group (started limits) → cluster.stores ≡ stores → All (λ m. m ≡ empty_memory) stores
-    → before ≡ [] → text ≡ before ++ told_text (told.Grouped limits) → (scene : Scene) × ShowsScene limits cluster scene × Takes None (lines.Group limits) text scene
-opens limits cluster stores before text shows same blank fresh written = (
+    → length stores ≡ limits.n → before ≡ [] → text ≡ before ++ told_text (told.Grouped limits) → (scene : Scene) × ShowsScene limits cluster scene × Takes None (lines.Group limits) text scene
+opens limits cluster stores before text shows same blank count fresh written = (
   new_scene limits,
   record {
     size = refl;
@@ -250,6 +250,8 @@ opens limits cluster stores before text shows same blank fresh written = (
     stores = λ p m is found.
         let there : slice_get stores (p - 1) ≡ Some m = subst (λ (xs : List Memory). slice_get xs (p - 1) ≡ Some m) same found in
         new_held p m (sym (get_index stores (p - 1) m m there) ∙ blank (p - 1) m (slice_get_within stores (p - 1) m there));
+    counted = ap length same ∙ count;
+    beyond = λ p not. refl;
   },
   inl (written ∙ ap (λ (b : List ℕ). b ++ told_text (told.Grouped limits)) fresh, refl),
 )

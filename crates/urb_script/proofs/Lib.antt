@@ -6,7 +6,8 @@ pub mod Numbers
 pub mod Outcomes
 pub mod Parts
 pub mod Progress
-pub mod Reached
+pub mod Reopening
+pub mod SceneKept
 pub mod SceneSteps
 pub mod Staging
 pub mod Shown

@@ -6,23 +6,27 @@ use Rattle.urb_names.specs.Naming.{Content, Label, Limits}
 use Rattle.urb_names.specs.Pairs.{message_of}
 use Rattle.urb_names.specs.Release.{part_of}
 use Rattle.urb_stable.specs.Entries.{Entry}
+use Rattle.urb_stable.specs.Fitting.{first_misfit}
 use Rattle.urb_stable.specs.Log.{entries, entries_of, log}
 use Rattle.urb_stable.specs.Records.{pend}
+use Rattle.urb_stable.specs.declared.fitting.Misfit.{Misfit}
 use Rattle.urb_stable.specs.declared.memory.Failure.TheVariants.{Old, New}
 use Rattle.urb_node.specs.Replies.{Reply}
-use Rattle.urb_group.proofs.Agree.{both_begin}
-use Rattle.urb_group.proofs.Growth.{begins-trans}
-use Rattle.urb_group.specs.Growing.{AgreeInTime, EntriesGrow}
+use Rattle.urb_group.proofs.Agree.{agree-now, both_begin, entries-all_grow}
+use Rattle.urb_group.proofs.Growth.{begins-trans, step-goes_on}
+use Rattle.urb_group.proofs.SafeWorlds.{safe}
+use Rattle.urb_group.proofs.Stops.{survives}
+use Rattle.urb_group.specs.Growing.{EntriesGrow}
 use Rattle.urb_group.specs.Safe.{Safe}
 use Rattle.urb_group.specs.Scripts.{Scene}
-use Rattle.urb_group.specs.Step.{Event, IsReached, Run, run, step}
+use Rattle.urb_group.specs.Step.{Event, step}
 use Rattle.urb_group.specs.World.{World, stored}
-use Rattle.urb_script.specs.Commands.{Arrive, Command, Crash, Fail, Group, Held, Log, Raw, Restart, Spells, Stored, Submit, Tick}
+use Rattle.urb_script.specs.Commands.{Arrive, Command, Crash, Fail, Group, Held, Log, Raw, Reopen, Restart, Spells, Stored, Submit, Tick}
 use Rattle.urb_script.specs.LogLines.{AreShownAgreeing, IsShownSafe, LogsAgree, LogsAreSafe}
-use Rattle.urb_script.specs.Scripts.{Answers}
-use Rattle.urb_script.specs.Steps.{Plays, Takes, answer, happens_with, shown_log}
+use Rattle.urb_script.specs.Scripts.{Answers, StaysSafe}
+use Rattle.urb_script.specs.Steps.{Plays, Takes, answer, reopens, shown_log}
 use Rattle.urb_script.proofs.Outcomes.{spells_one}
-use Rattle.urb_script.proofs.Reached.{answers_reached, takes_reached}
+use Rattle.urb_script.proofs.SceneKept.{IsKeptScene, answers_kept, plays_answer, takes_kept}
 
 -- ---- answers, cut in two
 
@@ -86,8 +90,14 @@ log_shows (Some scene) line p later output new s a =
 
 -- ---- logs that are shown are safe
 
-pub logs_are_safe : ((w : World) → IsReached w → Safe w) → LogsAreSafe
-logs_are_safe safe earlier later line output p state s a =
+safe_scene : (scene : Scene) → IsKeptScene scene → Safe scene.world
+safe_scene scene k = safe scene.world k.kept.nodes
+
+pub stays_safe : StaysSafe
+stays_safe lines output scene a = safe_scene scene (answers_kept None lines output scene tt a)
+
+pub logs_are_safe : LogsAreSafe
+logs_are_safe earlier later line output p state s a =
     let k = parted earlier (line ∷ later) output None state a in
     let l = log_shows k.mid line p later k.heard state s k.after in
     let before : Answers Takes None earlier k.said (Some l.scene) = subst (λ (m : Option Scene). Answers Takes None earlier k.said m) l.was k.before in
@@ -97,7 +107,7 @@ logs_are_safe safe earlier later line output p state s a =
       rest = l.shows.rest;
       before = before;
       shown = k.is ∙ ap (λ (xs : List ℕ). k.said ++ xs) l.shows.is;
-      safe = safe l.scene.world (answers_reached None earlier k.said l.scene tt before);
+      safe = safe_scene l.scene (answers_kept None earlier k.said l.scene tt before);
     }
 
 -- ---- logs grow from line to line
@@ -116,50 +126,43 @@ begins_same xs = ([], append-nil xs)
 grow_same : (w : World) → Grow w w
 grow_same w p = begins_same (entries (stored w p))
 
--- whatever runs, logs grow
-abbrev Growing : Type 0
-Growing = (old new : World) (events : List Event) (replies : List Reply) → IsReached old → Run old events replies new → EntriesGrow old new
+event_grows : (scene : Scene) (e : Event) → IsKeptScene scene → Grow scene.world (step scene.world e).1
+event_grows scene e k = entries-all_grow scene.world (step scene.world e).1 (safe_scene scene k) (step-goes_on scene.world e)
 
-run_one : (w : World) (e : Event) → Run w (e ∷ []) ((step w e).0 ∷ []) (step w e).1
-unfolding run
-run_one w e = refl
+reopen_grows : (scene : Scene) (o : Option Misfit) → IsKeptScene scene → Grow scene.world (reopens o scene).1.world
+reopen_grows scene None k = (survives scene.world k.kept scene.storage (λ p. (k.holds p).1.contents)).entries
+reopen_grows scene (Some misfit) k = grow_same scene.world
 
-run_none : (w : World) → Run w [] [] w
-unfolding run
-run_none w = refl
+answer_grows : (scene : Scene) (asked : Command) → IsKeptScene scene → Grow scene.world (answer scene asked).1.world
+answer_grows scene (Group limits) k = grow_same scene.world
+answer_grows scene (Submit p client number payload) k = event_grows scene _ k
+answer_grows scene (Stored p) k = event_grows scene _ k
+answer_grows scene (Fail p Old) k = event_grows scene _ k
+answer_grows scene (Fail p New) k = event_grows scene _ k
+answer_grows scene (Crash p) k = event_grows scene _ k
+answer_grows scene (Restart p) k = event_grows scene _ k
+answer_grows scene Reopen k = reopen_grows scene (first_misfit scene.world.size scene.storage) k
+answer_grows scene (Arrive q p x) k = event_grows scene _ k
+answer_grows scene (Raw p bytes) k = event_grows scene _ k
+answer_grows scene (Tick p) k = event_grows scene _ k
+answer_grows scene (Log p) k = grow_same scene.world
+answer_grows scene (Held x) k = grow_same scene.world
 
-event_grows : (storage : ℕ → List Entry) (e : Event) (scene new : Scene) (text : List ℕ) → Growing → IsReached scene.world → (text, new) ≡ happens_with storage e scene → Grow scene.world new.world
-event_grows storage e scene new text grows r t =
-    subst (λ (w : World). Grow scene.world w) (sym (ap (λ (o : List ℕ × Scene). o.1.world) t)) (grows scene.world (step scene.world e).1 (e ∷ []) ((step scene.world e).0 ∷ []) r (run_one scene.world e))
+plays_grows : (scene : Scene) (asked : Command) (text : List ℕ) (new : Scene) → IsKeptScene scene → Plays (Some scene) asked text new → Grow scene.world new.world
+plays_grows scene asked text new k t =
+    subst (λ (next : Scene). Grow scene.world next.world) (sym (ap (λ (o : List ℕ × Scene). o.1) (plays_answer scene asked text new t))) (answer_grows scene asked k)
 
-stays : (scene new : Scene) (text said : List ℕ) → ◌≡◌ {A = List ℕ × Scene} (text, new) (said, scene) → Grow scene.world new.world
-stays scene new text said t = subst (λ (w : World). Grow scene.world w) (sym (ap (λ (o : List ℕ × Scene). o.1.world) t)) (grow_same scene.world)
+takes_grows : (scene : Scene) (asked : Command) (text : List ℕ) (new : Scene) → IsKeptScene scene → Takes (Some scene) asked text new → Grow scene.world new.world
+takes_grows scene asked text new k (inl t) = plays_grows scene asked text new k t
+takes_grows scene asked text new k (inr t) = plays_grows scene t.0 text new k t.2
 
-plays_grows : (scene : Scene) (asked : Command) (text : List ℕ) (new : Scene) → Growing → IsReached scene.world → Plays (Some scene) asked text new → Grow scene.world new.world
-plays_grows scene (Group limits) text new g r t = absurd t
-plays_grows scene (Submit p client number payload) text new g r t = event_grows _ _ scene new text g r t
-plays_grows scene (Stored p) text new g r t = event_grows _ _ scene new text g r t
-plays_grows scene (Fail p Old) text new g r t = event_grows _ _ scene new text g r t
-plays_grows scene (Fail p New) text new g r t = event_grows _ _ scene new text g r t
-plays_grows scene (Crash p) text new g r t = event_grows _ _ scene new text g r t
-plays_grows scene (Restart p) text new g r t = event_grows _ _ scene new text g r t
-plays_grows scene (Arrive q p x) text new g r t = event_grows _ _ scene new text g r t
-plays_grows scene (Raw p bytes) text new g r t = event_grows _ _ scene new text g r t
-plays_grows scene (Tick p) text new g r t = event_grows _ _ scene new text g r t
-plays_grows scene (Log p) text new g r t = stays scene new text _ t
-plays_grows scene (Held x) text new g r t = stays scene new text _ t
-
-takes_grows : (scene : Scene) (asked : Command) (text : List ℕ) (new : Scene) → Growing → IsReached scene.world → Takes (Some scene) asked text new → Grow scene.world new.world
-takes_grows scene asked text new g r (inl t) = plays_grows scene asked text new g r t
-takes_grows scene asked text new g r (inr t) = plays_grows scene t.0 text new g r t.2
-
-answers_grow : (old : Scene) (lines : List (List ℕ)) (output : List ℕ) (new : Scene) → Growing → IsReached old.world → Answers Takes (Some old) lines output (Some new) → Grow old.world new.world
-answers_grow old [] output new g r a = subst (λ (scene : Scene). Grow old.world scene.world) (some_same a.1) (grow_same old.world)
+answers_grow : (old : Scene) (lines : List (List ℕ)) (output : List ℕ) (new : Scene) → IsKeptScene old → Answers Takes (Some old) lines output (Some new) → Grow old.world new.world
+answers_grow old [] output new k a = subst (λ (scene : Scene). Grow old.world scene.world) (some_same a.1) (grow_same old.world)
   where
     some_same : {x y : Scene} → Some x ≡ Some y → y ≡ x
     some_same e = cc
-answers_grow old (line ∷ lines) output new g r a = λ p.
-    begins-trans _ _ _ (takes_grows old a.0 a.1 a.2 g r a.5 p) (answers_grow a.2 lines a.3 new g (takes_reached (Some old) a.0 a.1 a.2 r a.5) a.7 p)
+answers_grow old (line ∷ lines) output new k a = λ p.
+    begins-trans _ _ _ (takes_grows old a.0 a.1 a.2 k a.5 p) (answers_grow a.2 lines a.3 new (takes_kept (Some old) a.0 a.1 a.2 k a.5) a.7 p)
 
 -- ---- logs that are shown agree
 
@@ -179,25 +182,21 @@ part_grows s old new b =
     (subst (λ (es : List (Label × Option Content)). Begins (filter (λ e. e.0.sender == s) (entries old)) es) (sym (of_sender s (log new) (message_of (pend new))))
     (filter (λ e. e.0.sender == s) b.0, sym (filter-append _ (entries old) b.0) ∙ ap (filter (λ e. e.0.sender == s)) b.1))
 
-agree_on : (old new : World) (p q s : ℕ) → Grow old new → AgreeInTime new new → OneBegins (entries_of s (stored old p)) (entries_of s (stored new q))
-agree_on old new p q s g a =
+agree_on : (old new : World) (p q s : ℕ) → Grow old new → Safe new → OneBegins (entries_of s (stored old p)) (entries_of s (stored new q))
+agree_on old new p q s g safe =
     let grown : Begins (entries_of s (stored old p)) (entries_of s (stored new p)) = part_grows s (stored old p) (stored new p) (g p) in
-    ⊎_elim (λ h. inl (begins-trans _ _ _ grown h)) (λ h. both_begin _ _ _ grown h) (a p q s)
+    ⊎_elim (λ h. inl (begins-trans _ _ _ grown h)) (λ h. both_begin _ _ _ grown h) (agree-now new safe p q s)
 
--- whatever runs, logs agree
-abbrev Agreeing : Type 0
-Agreeing = (old new : World) (events : List Event) (replies : List Reply) → IsReached old → Run old events replies new → AgreeInTime old new
-
-pub logs_agree : Growing → Agreeing → LogsAgree
-logs_agree grows agree earlier between later line other output p q state s o a =
+pub logs_agree : LogsAgree
+logs_agree earlier between later line other output p q state s o a =
     let k = parted earlier (line ∷ (between ++ other ∷ later)) output None state a in
     let l = log_shows k.mid line p (between ++ other ∷ later) k.heard state s k.after in
     let m = parted between (other ∷ later) l.shows.rest (Some l.scene) state l.shows.after in
     let n = log_shows m.mid other q later m.heard state o m.after in
     let before : Answers Takes None earlier k.said (Some l.scene) = subst (λ (x : Option Scene). Answers Takes None earlier k.said x) l.was k.before in
     let meanwhile : Answers Takes (Some l.scene) between m.said (Some n.scene) = subst (λ (x : Option Scene). Answers Takes (Some l.scene) between m.said x) n.was m.before in
-    let reached : IsReached l.scene.world = answers_reached None earlier k.said l.scene tt before in
-    let later_reached : IsReached n.scene.world = answers_reached (Some l.scene) between m.said n.scene reached meanwhile in
+    let kept : IsKeptScene l.scene = answers_kept None earlier k.said l.scene tt before in
+    let later_kept : IsKeptScene n.scene = answers_kept (Some l.scene) between m.said n.scene kept meanwhile in
     record {
       old = l.scene;
       new = n.scene;
@@ -207,5 +206,5 @@ logs_agree grows agree earlier between later line other output p q state s o a =
       before = before;
       meanwhile = meanwhile;
       shown = k.is ∙ ap (λ (xs : List ℕ). k.said ++ xs) (l.shows.is ∙ ap (λ (xs : List ℕ). shown_log l.scene.world p ++ 10 ∷ xs) (m.is ∙ ap (λ (xs : List ℕ). m.said ++ xs) n.shows.is));
-      agree = λ s. agree_on l.scene.world n.scene.world p q s (answers_grow l.scene between m.said n.scene grows reached meanwhile) (agree n.scene.world n.scene.world [] [] later_reached (run_none n.scene.world));
+      agree = λ s. agree_on l.scene.world n.scene.world p q s (answers_grow l.scene between m.said n.scene kept meanwhile) (safe_scene n.scene later_kept);
     }

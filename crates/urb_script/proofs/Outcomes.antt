@@ -14,7 +14,7 @@ use Rattle.urb_script.proofs.HexWords.{same_bytes}
 use Rattle.urb_script.proofs.NameWords.{name_sender, name_seq}
 use Rattle.urb_script.proofs.Spellings.{test}
 use Rattle.urb_group.specs.Scripts.{Scene}
-use Rattle.urb_script.specs.Commands.{Command, Group, Submit, Stored, Fail, Crash, Restart, Arrive, Raw, Tick, Log, Held, keyword, AreArguments, IsSpelled, InRange, Spells}
+use Rattle.urb_script.specs.Commands.{Command, Group, Submit, Stored, Fail, Crash, Restart, Arrive, Raw, Tick, Log, Held, Reopen, keyword, AreArguments, IsSpelled, InRange, Spells}
 use Rattle.urb_script.specs.Steps.{Plays, MayCome, answer}
 use Rattle.urb_script.specs.Scripts.{Answers, Ends, IsBad, HasOneOutcome, bad_line}
 use Rattle.urb_script.specs.declared.runs.Ended.{Ended}
@@ -74,6 +74,8 @@ same_arguments (Crash node) (Crash p) words k r s a b = same_node Crash words no
 same_arguments (Crash node) other words k r s a b = absurd (cc)
 same_arguments (Restart node) (Restart p) words k r s a b = same_node Restart words node p r s a b
 same_arguments (Restart node) other words k r s a b = absurd (cc)
+same_arguments Reopen Reopen words k r s a b = refl
+same_arguments Reopen other words k r s a b = absurd (cc)
 same_arguments (Arrive source node name) (Arrive q p x) words k r s a b =
     let e = sym a ∙ b in
     ap₂ (λ (y z : ℕ). Arrive y z name) (same_number source q (omega (arith, r.0.1)) (omega (arith, s.0.1)) (word 0 e)) (same_number node p (omega (arith, r.1.1)) (omega (arith, s.1.1)) (word 1 e))

@@ -9,7 +9,7 @@ use Rattle.std.proofs.lemmas.Fmt.{decimal_injective}
 use Rattle.std.proofs.lemmas.List.Splits.{length-slice_split}
 use Rattle.std.proofs.lemmas.Slice.Eq.{bytes_eq-Decides}
 use Rattle.urb_script.specs.Lines.{words_of, words_left}
-use Rattle.urb_script.specs.Commands.{Command, Raw, keyword, AreArguments, IsSpelled, InRange}
+use Rattle.urb_script.specs.Commands.{Command, Raw, Reopen, keyword, AreArguments, IsSpelled, InRange}
 
 -- a text has a word
 words_some : (text : List ℕ) → words_of text ≡ [] → ⊥
@@ -47,3 +47,8 @@ pub none_raw : {T : Type 0} (result : Option T) (word : List ℕ) (others : List
     → IfNone result ((asked : Command) → IsSpelled (word ∷ others) asked → InRange asked → ⊥)
 none_raw None word others same none = no_raw word others same none
 none_raw (Some found) word others same none = tt
+
+-- nothing stands behind `reopen`
+pub none_reopen : (word : List ℕ) (rest : Option (Bor (List ℕ))) → word ≡ codes "reopen" → is_some rest ≡ true → (asked : Command) → IsSpelled (word ∷ words_left rest) asked → InRange asked → ⊥
+none_reopen word rest same some Reopen s r = left_some rest some s.1
+none_reopen word rest same some asked s r = let e = test word (codes "reopen") (keyword asked) same s.0 in absurd (cc)

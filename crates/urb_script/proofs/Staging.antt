@@ -1,7 +1,8 @@
 -- A cluster whose stores are in memory goes from scene to scene.
 use Rattle.std.proofs.Common.{◌≡◌, ◌≢◌, ◌⊎◌, inl, inr, ℕ, zero, suc, ◌+◌, ◌-◌, ◌<◌, Bool, true, false, cond, ◌&&◌, ◌==◌, List, [], ◌∷◌, ◌++◌, length, Option, Some, None, refl, sym, ap, ap₂, ◌∙◌, subst, arith, eqb-true, eq-eqb}
 use Rattle.std.specs.Prelude.{slice_get, slice_set}
-use Rattle.std.proofs.lemmas.Bool.{cond_both, cond-true, cond-false}
+use Rattle.std.proofs.lemmas.Bool.{cond_both, cond-true, cond-false, false≢true}
+use Rattle.std.proofs.lemmas.List.{length-set}
 use Rattle.urb_names.specs.Naming.{Limits}
 use Rattle.urb_names.specs.Nodes.{is_node}
 use Rattle.urb_names.specs.declared.refusal.Refusal.{Refusal}
@@ -46,7 +47,7 @@ bytes-size w p (Ok packet) =
     cond_both (is_for w p packet) (at_node w p (packet_arrives w p packet)) (Refused refusal.BadNode, w) (λ (o : Reply × World). o.1.size ≡ w.size)
     (λ _. at-size w p (packet_arrives w p packet)) (λ _. refl)
 
-step-size : (w : World) (e : Event) → (step w e).1.size ≡ w.size
+pub step-size : (w : World) (e : Event) → (step w e).1.size ≡ w.size
 unfolding step
 step-size w (Submit p m) = at-size w p _
 step-size w (Arrive p bytes) = bytes-size w p bytes
@@ -98,6 +99,8 @@ quiet_scene size old new scene e said i s not r same =
         size = step-size scene.world e ∙ s.size;
         group = tells.1;
         stores = λ p m is found. quiet_step scene.world e p (scene.storage p) m i (s.stores p m is (subst (λ (xs : List Memory). slice_get xs (p - 1) ≡ Some m) same found));
+        counted = ap length same ∙ s.counted;
+        beyond = s.beyond;
       },
     )
 
@@ -148,7 +151,7 @@ moved n nodes after_nodes storage after_storage stores after_stores p before aft
         let old = held q found j (set-other stores (p - 1) (q - 1) after found (apart n p q i j is) there) in
         subst (λ (node : Node). IsHeldBy node (after_storage q) found) (sym (same_node q is)) (subst (λ (rs : List Entry). IsHeldBy (nodes q) rs found) (sym (same_storage q is)) old)
 
-elsewhere : {X : Type 0} (f : ℕ → X) (p q : ℕ) (x : X) → (q == p) ≡ false → updated f p x q ≡ f q
+pub elsewhere : {X : Type 0} (f : ℕ → X) (p q : ℕ) (x : X) → (q == p) ≡ false → updated f p x q ≡ f q
 elsewhere f p q x e = cond-false (q == p) x (f q) e
 
 at_one : (w : World) (p q : ℕ) (o outcome : Reply × Node) → is_node w.size.n p ≡ true → o ≡ outcome → (at_node w p o).1.node q ≡ updated w.node p outcome.1 q
@@ -186,7 +189,7 @@ held group w p draft s e =
 
 -- ---- a store that takes or loses the held record
 
-commit_node : (w : World) (p q : ℕ) (entry : Entry) (cause : Option ℕ) → is_node w.size.n p ≡ true → (w.node p).state ≡ Storing entry cause
+pub commit_node : (w : World) (p q : ℕ) (entry : Entry) (cause : Option ℕ) → is_node w.size.n p ≡ true → (w.node p).state ≡ Storing entry cause
     → (step w (Commit p (next_position (w.node p)) entry)).1.node q ≡ updated w.node p (keeps_record p entry cause (w.node p)) q
 unfolding step
 commit_node w p q entry cause is state =
@@ -194,15 +197,23 @@ commit_node w p q entry cause is state =
     (ap (λ (s : State). commits w.size.n p (next_position (w.node p)) entry (w.node p) s) state
     ∙ cond-true ((next_position (w.node p) == next_position (w.node p)) && same_record entry entry) _ _ (ap₂ (λ (a b : Bool). a && b) (eq-eqb (next_position (w.node p)) (next_position (w.node p)) refl) (same_record-same entry)))
 
-fail_node : (w : World) (p q : ℕ) (entry : Entry) (cause : Option ℕ) → is_node w.size.n p ≡ true → (w.node p).state ≡ Storing entry cause
+pub fail_node : (w : World) (p q : ℕ) (entry : Entry) (cause : Option ℕ) → is_node w.size.n p ≡ true → (w.node p).state ≡ Storing entry cause
     → (step w (Fail p)).1.node q ≡ updated w.node p (goes_down p (w.node p)).1 q
 unfolding step
 fail_node w p q entry cause is state = at_one w p q _ (goes_down p (w.node p)) is (ap (λ (s : State). fails p (w.node p) s) state)
 
-restart_node : (w : World) (p q : ℕ) (image : List Entry) (d : Option Entry) → is_node w.size.n p ≡ true → (w.node p).state ≡ Down d
+pub restart_node : (w : World) (p q : ℕ) (image : List Entry) (d : Option Entry) → is_node w.size.n p ≡ true → (w.node p).state ≡ Down d
     → (step w (Restart p image)).1.node q ≡ updated w.node p (restarts_with p image (w.node p) d).1 q
 unfolding step
 restart_node w p q image d is state = at_one w p q _ (restarts_with p image (w.node p) d) is (ap (λ (s : State). restarts p image (w.node p) s) state)
+
+-- a number that is no node is another one
+other_node : (n p q : ℕ) → is_node n p ≡ true → is_node n q ≡ false → (q == p) ≡ false
+other_node n p q is not = at (q == p) refl
+  where
+    at : (b : Bool) → (q == p) ≡ b → (q == p) ≡ false
+    at true e = absurd (false≢true (sym not ∙ ap (is_node n) (eqb-true q p e) ∙ is))
+    at false e = e
 
 -- the scene after a step in which one node and its storage moved
 one_moved : (size : Limits) (old new : Clustered Memory) (scene : Scene) (e : Event) (p : ℕ) (node : Node) (storage : ℕ → List Entry) (before after : Memory)
@@ -215,6 +226,8 @@ one_moved size old new scene e p node storage before after is s shows m nodes st
   stores = moved size.n scene.world.node (step scene.world e).1.node scene.storage storage old.stores new.stores p before after (subst (λ (l : Limits). is_node l.n p ≡ true) s.size is) m s.stores
       (λ q not. nodes q ∙ elsewhere scene.world.node p q node not) stays
       (subst (λ (n : Node). IsHeldBy n (storage p) after) (sym (nodes p ∙ updated-at scene.world.node p node)) h);
+  counted = ap length m.is ∙ length-set old.stores (p - 1) after ∙ s.counted;
+  beyond = λ q not. stays q (other_node size.n p q (subst (λ (l : Limits). is_node l.n p ≡ true) s.size is) not) ∙ s.beyond q not;
 }
 
 -- what a store held before
@@ -313,10 +326,10 @@ up_stays p image node Ready e = refl
 up_stays p image node (Storing entry cause) e = refl
 up_stays p image node (Down d) e = absurd (cc)
 
-same_at : (w : World) (p q : ℕ) (o : Reply × Node) → o.1 ≡ w.node p → (world_after w p o).1.node q ≡ w.node q
+pub same_at : (w : World) (p q : ℕ) (o : Reply × Node) → o.1 ≡ w.node p → (world_after w p o).1.node q ≡ w.node q
 same_at w p q o e = cond_both (q == p) o.1 (w.node q) (λ (n : Node). n ≡ w.node q) (λ is. e ∙ ap w.node (sym (eqb-true q p is))) (λ _. refl)
 
-restart_stays : (w : World) (p q : ℕ) (image : List Entry) → (is_node w.size.n p && is_down (w.node p).state) ≡ false → (step w (Restart p image)).1.node q ≡ w.node q
+pub restart_stays : (w : World) (p q : ℕ) (image : List Entry) → (is_node w.size.n p && is_down (w.node p).state) ≡ false → (step w (Restart p image)).1.node q ≡ w.node q
 unfolding step
 restart_stays w p q image e =
     cond_both (is_node w.size.n p) (world_after w p (restarts p image (w.node p) (w.node p).state)) (Refused refusal.BadNode, w) (λ (o : Reply × World). o.1.node q ≡ w.node q)
@@ -339,6 +352,8 @@ not_down size old new scene p said s calm not r same =
         size = step-size w e ∙ s.size;
         group = tells.1;
         stores = λ q m is found. subst (λ (n : Node). IsHeldBy n (scene.storage q) m) (sym (restart_stays w p q (scene.storage p) calm)) (s.stores q m is (subst (λ (xs : List Memory). slice_get xs (q - 1) ≡ Some m) same found));
+        counted = ap length same ∙ s.counted;
+        beyond = s.beyond;
       },
     )
 

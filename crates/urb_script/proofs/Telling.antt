@@ -83,7 +83,7 @@ one_left w x k rest = at (Has w x k) refl
     at true e = rw e refl
     at false e = rw e refl
 
-node_within : (n k : ℕ) → 1 ≤ k → k ≤ n → is_node n k ≡ true
+pub node_within : (n k : ℕ) → 1 ≤ k → k ≤ n → is_node n k ≡ true
 node_within n k from to = rw (lt-ltb 0 k (omega (arith, from)), lt-ltb k (suc n) (omega (arith, to))) refl
 
 -- one more node

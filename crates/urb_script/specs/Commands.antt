@@ -12,8 +12,8 @@ use Rattle.urb_script.specs.declared.commands.CommandLine.{CommandLine}
 use Rattle.urb_script.specs.declared.commands.CommandLine.TheVariants as line
 
 -- A command: make the group; submit a client's message at a node; store what a node holds, or have its store fail; crash
--- or restart a node; bring it what another node has stored under a name, or any bytes; have it resend; show a node's log;
--- show who has a name stored.
+-- or restart a node; stop all nodes at once and open them again; bring a node what another one has stored under a name, or
+-- any bytes; have it resend; show a node's log; show who has a name stored.
 pub data Command : Type 0 where
   Group : (limits : Limits) → Command
   Submit : (node client number : ℕ) (payload : List ℕ) → Command
@@ -21,6 +21,7 @@ pub data Command : Type 0 where
   Fail : (node : ℕ) (failure : Failure) → Command
   Crash : (node : ℕ) → Command
   Restart : (node : ℕ) → Command
+  Reopen : Command
   Arrive : (source node : ℕ) (name : Label) → Command
   Raw : (node : ℕ) (bytes : List ℕ) → Command
   Tick : (node : ℕ) → Command
@@ -35,6 +36,7 @@ command (line.Stored node) = Stored node
 command (line.Fail node failure) = Fail node failure
 command (line.Crash node) = Crash node
 command (line.Restart node) = Restart node
+command line.Reopen = Reopen
 command (line.Arrive source node name) = Arrive source node name
 command (line.Raw node bytes) = Raw node bytes
 command (line.Tick node) = Tick node
@@ -58,6 +60,7 @@ keyword (Stored node) = codes "stored"
 keyword (Fail node failure) = codes "fail"
 keyword (Crash node) = codes "crash"
 keyword (Restart node) = codes "restart"
+keyword Reopen = codes "reopen"
 keyword (Arrive source node name) = codes "arrive"
 keyword (Raw node bytes) = codes "raw"
 keyword (Tick node) = codes "tick"
@@ -72,6 +75,7 @@ AreArguments (Stored node) words = words ≡ decimal node ∷ []
 AreArguments (Fail node failure) words = words ≡ decimal node ∷ failure_word failure ∷ []
 AreArguments (Crash node) words = words ≡ decimal node ∷ []
 AreArguments (Restart node) words = words ≡ decimal node ∷ []
+AreArguments Reopen words = words ≡ []
 AreArguments (Arrive source node name) words = words ≡ decimal source ∷ decimal node ∷ decimal name.sender ∷ decimal name.seq ∷ []
 AreArguments (Raw node bytes) words = (word : List ℕ) × (words ≡ decimal node ∷ word ∷ []) × IsHexWord bytes word
 AreArguments (Tick node) words = words ≡ decimal node ∷ []
@@ -91,6 +95,7 @@ InRange (Stored node) = IsNodeNumber node
 InRange (Fail node failure) = IsNodeNumber node
 InRange (Crash node) = IsNodeNumber node
 InRange (Restart node) = IsNodeNumber node
+InRange Reopen = Unit {0}
 InRange (Arrive source node name) = IsNodeNumber source × IsNodeNumber node × (source ≢ node) × IsLabel name
 InRange (Raw node bytes) = IsNodeNumber node
 InRange (Tick node) = IsNodeNumber node

@@ -1,5 +1,5 @@
 -- What the stores in memory of a cluster show of a scene.
-use Rattle.std.specs.Prelude.{◌≡◌, ◌⊎◌, ◌++◌, ◌-◌, ℕ, false, true, List, None, Some, slice_get}
+use Rattle.std.specs.Prelude.{[], length, ◌≡◌, ◌⊎◌, ◌++◌, ◌-◌, ℕ, false, true, List, None, Some, slice_get}
 use Rattle.urb_names.specs.Naming.{Limits}
 use Rattle.urb_names.specs.Nodes.{is_node}
 use Rattle.urb_stable.specs.Entries.{Entry}
@@ -24,11 +24,13 @@ pub record IsHeldBy (node : Node) (storage : List Entry) (m : Memory) : Type 0 w
 abbrev pub AreHeldBy : ℕ → (ℕ → Node) → (ℕ → List Entry) → List Memory → Type 0
 AreHeldBy n nodes storage stores = (p : ℕ) (m : Memory) → is_node n p ≡ true → slice_get stores (p - 1) ≡ Some m → IsHeldBy (nodes p) (storage p) m
 
--- the cluster shows the scene: its group the world, and its stores the storage
+-- the cluster shows the scene: its group the world, and its stores the storage, one for each node
 pub record ShowsScene (limits : Limits) (cluster : Clustered Memory) (scene : Scene) : Type 0 where
   pub size : scene.world.size ≡ limits
   pub group : Shows cluster.group scene.world
   pub stores : AreHeldBy limits.n scene.world.node scene.storage cluster.stores
+  pub counted : length cluster.stores ≡ limits.n
+  pub beyond : (p : ℕ) → is_node limits.n p ≡ false → scene.storage p ≡ []
 
 -- what the stage shows
 abbrev pub Shown : {A : Type 0} → Stage A → Scene → Type 0

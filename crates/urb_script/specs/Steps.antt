@@ -7,13 +7,15 @@ use Rattle.urb_names.specs.Packets.{packet_of}
 use Rattle.urb_names.specs.Pairs.{message_of}
 use Rattle.urb_names.specs.declared.refusal.Refusal.TheVariants as refusal
 use Rattle.urb_stable.specs.Entries.{Entry}
+use Rattle.urb_stable.specs.Fitting.{first_misfit}
 use Rattle.urb_stable.specs.Records.{pend}
+use Rattle.urb_stable.specs.declared.fitting.Misfit.{Misfit}
 use Rattle.urb_stable.specs.declared.memory.Failure.TheVariants.{Old, New}
-use Rattle.urb_group.specs.World.{World, started, stored}
+use Rattle.urb_group.specs.World.{World, opened, started, stored}
 use Rattle.urb_group.specs.Step.{Event, step}
 use Rattle.urb_group.specs.Step as event
 use Rattle.urb_group.specs.Scripts.{Scene, keeping, or_nothing, receipt}
-use Rattle.urb_script.specs.Commands.{Command, Group, Submit, Stored, Fail, Crash, Restart, Arrive, Raw, Tick, Log, Held}
+use Rattle.urb_script.specs.Commands.{Command, Group, Submit, Stored, Fail, Crash, Restart, Arrive, Raw, Tick, Log, Held, Reopen}
 use Rattle.urb_script.specs.Texts.{told_text, reply_text, log_text, held_text}
 use Rattle.urb_script.specs.declared.replies.Told.TheVariants as told
 
@@ -53,6 +55,12 @@ shown_log w p = if is_node w.size.n p then log_text p (stored w p) else bad_node
 abbrev pub shown_holders : World → Label → List ℕ
 shown_holders w x = if is_node w.size.n x.sender then held_text x (holders w x) else bad_node
 
+-- The process stops, and a group is opened of what storage holds: held records and what was counted are lost. Lists that don't
+-- fit together are refused, by their first misfit.
+abbrev pub reopens : Option Misfit → Scene → List ℕ × Scene
+reopens None scene = (told_text told.Opened, record { world = opened scene.world.size scene.storage; storage = scene.storage })
+reopens (Some misfit) scene = (told_text (told.Refused (refusal.Inconsistent misfit.rule misfit.node misfit.name)), scene)
+
 -- The answer to a command in a scene, and the scene after it. A stored record joins what its node's storage holds, as one
 -- does whose store failed and kept it; a restart's image is what the storage holds.
 abbrev pub answer : Scene → Command → List ℕ × Scene
@@ -63,6 +71,7 @@ answer scene (Fail p Old) = happens (event.Fail p) scene
 answer scene (Fail p New) = happens_with (keeping p scene) (event.Fail p) scene
 answer scene (Crash p) = happens (event.Crash p) scene
 answer scene (Restart p) = happens (event.Restart p (scene.storage p)) scene
+answer scene Reopen = reopens (first_misfit scene.world.size scene.storage) scene
 answer scene (Arrive q p x) = happens (event.Arrive p (Ok (carried scene.world q p x))) scene
 answer scene (Raw p bytes) = happens (event.Arrive p (packet_of bytes)) scene
 answer scene (Tick p) = happens (event.Tick p) scene

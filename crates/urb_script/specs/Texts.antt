@@ -67,6 +67,7 @@ told_text (told.Stored x sent released) = codes "accepted " ++ (name_text x ++ (
 told_text (told.Taken x sent released) = codes "taken " ++ (name_text x ++ (codes " sent " ++ (decimal sent ++ (codes " released " ++ decimal released))))
 told_text (told.Down p) = codes "down " ++ decimal p
 told_text (told.Up p) = codes "up " ++ decimal p
+told_text told.Opened = codes "open"
 told_text (told.Refused why) = codes "refused " ++ refusal_words why
 
 -- a packet that is sent: a space, its target, a colon, and its name

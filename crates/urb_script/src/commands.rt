@@ -38,6 +38,8 @@ pub enum CommandLine<'a> {
     Crash(NodeId),
     /// Restart a node with what its storage holds.
     Restart(NodeId),
+    /// Stop all nodes at once, and open them again with what their storages hold.
+    Reopen,
     /// Bring a node what the source has stored under a name.
     Arrive {
         source: NodeId,
@@ -92,6 +94,12 @@ fn command_of<'a>(word: &[u8], rest: Option<&'a [u8]>) -> Option<CommandLine<'a>
     }
     if word == b"restart".as_slice() {
         return Some(CommandLine::Restart(last_node(rest)?));
+    }
+    if word == b"reopen".as_slice() {
+        if rest.is_some() {
+            return None;
+        }
+        return Some(CommandLine::Reopen);
     }
     if word == b"arrive".as_slice() {
         return arrive_of(rest);

@@ -29,6 +29,8 @@ pub enum Told {
     Down(NodeId),
     /// The node is ready again.
     Up(NodeId),
+    /// The group is opened again.
+    Opened,
     /// The command did nothing.
     Refused(Refusal),
 }
@@ -185,6 +187,7 @@ impl fmt::Display for Told {
                 let node = node.number();
                 write!(f, "up {node}")
             }
+            Told::Opened => write!(f, "open"),
             Told::Refused(refusal) => {
                 let words = RefusalWords(*refusal);
                 write!(f, "refused {words}")

@@ -14,7 +14,6 @@ use crate::stage::Stage;
 use std::alloc::Allocator;
 use std::io::{Read, Write};
 use thiserror::Error;
-use urb_group::laws::{every_run_is_safe, everything_grows, logs_agree};
 use urb_names::{Config, NoMemory};
 
 /// Room for every answer line but those of `log` and `tick`, so that a `stored` line takes memory for its record alone.
@@ -48,19 +47,27 @@ pub trait Play<A: Allocator>: Drop {
     // The scenes that it shows.
     ghost shows: { Self → Scene → Type 0 };
 
+    // What it keeps from line to line.
+    ghost keeps: { Self → Type 0 };
+
     /// Makes the group, and writes the answer.
     fn open(alloc: A, config: Config, text: &mut Vec<u8, A>) -> Result<Self, NoMemory>
     where
         Self: Sized,
         requires { text.old.items ≡ [] }
-        ensures { IfOk result (λ new. OpensWith shows config text.new.items new) };
+        ensures shown { IfOk result (λ new. OpensWith shows config text.new.items new) }
+        ensures kept { IfOk result (λ new. keeps new) };
 
-    /// Does what a command says, and writes the answer.
-    fn play(&mut self, found: CommandLine<'_>, text: &mut Vec<u8, A>) -> Result<(), NoMemory>
+    /// Does what a command says, writes the answer, and gives what it leads to.
+    fn play(self, found: CommandLine<'_>, text: &mut Vec<u8, A>) -> Result<Self, NoMemory>
+    where
+        Self: Sized,
         requires fresh { text.old.items ≡ [] }
         requires later { IsLater (command found) }
         requires range { InRange (command found) }
-        ensures { OnOk result (TakesFrom shows self.old (command found.entry) text.new.items self.new) };
+        requires kept { keeps self }
+        ensures shown { IfOk result (λ new. TakesFrom shows self (command found.entry) text.new.items new) }
+        ensures kept { IfOk result (λ new. keeps new) };
 }
 
 // Answers a line, and gives what it leads to; none where the line is no command that may come now.
@@ -70,7 +77,9 @@ fn answer_line<A: Allocator, P: Play<A>>(
     line: &[u8],
     text: &mut Vec<u8, A>,
 ) -> Result<Option<P>, NoMemory>
-    ensures { IfOk result (λ next. AnsweredFrom P.shows state line.now text.new.items next) }
+    requires { IfSome state (λ it. P.keeps it) }
+    ensures answered { IfOk result (λ next. AnsweredFrom P.shows state line.now text.new.items next) }
+    ensures kept { IfOk result (λ next. IfSome next (λ it. P.keeps it)) }
 {
     text.clear();
     let Some(found) = parse_command(line) else {
@@ -83,10 +92,7 @@ fn answer_line<A: Allocator, P: Play<A>>(
         },
         found => match state {
             None => Ok(None),
-            Some(mut state) => {
-                state.play(found, text)?;
-                Ok(Some(state))
-            }
+            Some(state) => Ok(Some(state.play(found, text)?)),
         },
     }
 }
@@ -202,8 +208,5 @@ pub fn run<A: Allocator + Copy, R: Read, W: Write>(
     // Where no store is refused memory, all that the reader held determines the end, and what was written.
     ensures one { HasOneOutcome }
 {
-    every_run_is_safe();
-    everything_grows();
-    logs_agree();
     run_over::<A, Stage<A>, R, W>(alloc, reader, writer)
 }

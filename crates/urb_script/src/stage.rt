@@ -5,14 +5,16 @@ ghost use Rattle.urb_names.specs.Packets.{packet_of};
 ghost use Rattle.urb_names.specs.Pairs.{message_of};
 ghost use Rattle.urb_stable.specs.Memory.{empty_memory};
 ghost use Rattle.urb_stable.specs.Records.{pend};
+ghost use Rattle.urb_group.specs.InMemory.{in_memory};
 ghost use Rattle.urb_group.specs.Scripts.{or_nothing};
+ghost use Rattle.urb_group.specs.Stocked.{IsStocked};
 ghost use Rattle.urb_group.specs.World.{World, stored};
 ghost use Rattle.urb_group.specs.Shown.{Shows};
 ghost use Rattle.std.specs.Fmt.{decimal};
-ghost use Rattle.urb_script.specs.Commands.{Arrive, Fail, Raw, Submit, line_of};
+ghost use Rattle.urb_script.specs.Commands.{Arrive, Fail, InRange, Raw, Reopen, Submit, command, line_of};
 ghost use Rattle.urb_script.specs.Scripts.{TakesFrom};
 ghost use Rattle.urb_script.specs.Staged.{Shown, ShowsScene, TellsAt, TellsOf};
-ghost use Rattle.urb_script.specs.Steps.{holders, shown_holders, shown_log};
+ghost use Rattle.urb_script.specs.Steps.{IsLater, holders, shown_holders, shown_log};
 ghost use Rattle.urb_script.specs.Texts.{entry_text};
 
 use crate::commands::CommandLine;
@@ -73,11 +75,22 @@ fn packet_bytes<A: Allocator + Copy>(
     encode(alloc, &packet)
 }
 
+// The want of memory that a refusal tells.
+fn want_of(refusal: Refusal) -> NoMemory
+    requires { refusal ≡ Refusal.NoMemory }
+{
+    match refusal {
+        Refusal::NoMemory => NoMemory,
+        _ => unreachable!(),
+    }
+}
+
 impl<A: Allocator + Copy> Stage<A> {
     // Applies a command, and writes the answer.
     fn apply(&mut self, command: &Command<A>, text: &mut Vec<u8, A>) -> Result<(), NoMemory>
         requires { text.old.items ≡ [] }
-        ensures { OnOk result (TakesFrom Shown self.old (line_of command.now) text.new.items self.new) }
+        ensures shown { OnOk result (TakesFrom Shown self.old (line_of command.now) text.new.items self.new) }
+        ensures kept { IsStocked (in_memory A) self.old.cluster → IsStocked (in_memory A) self.new.cluster }
     {
         let reply = self.cluster.apply(self.alloc, command);
         push_told_reply(text, &reply)
@@ -93,7 +106,8 @@ impl<A: Allocator + Copy> Stage<A> {
         text: &mut Vec<u8, A>,
     ) -> Result<(), NoMemory>
         requires { text.old.items ≡ [] }
-        ensures { OnOk result (TakesFrom Shown self.old (Submit node client number payload.now) text.new.items self.new) }
+        ensures shown { OnOk result (TakesFrom Shown self.old (Submit node client number payload.now) text.new.items self.new) }
+        ensures kept { IsStocked (in_memory A) self.old.cluster → IsStocked (in_memory A) self.new.cluster }
     {
         let payload = Vec::from_slice(self.alloc, payload)?;
         let command = Command::Submit {
@@ -113,10 +127,35 @@ impl<A: Allocator + Copy> Stage<A> {
         text: &mut Vec<u8, A>,
     ) -> Result<(), NoMemory>
         requires { text.old.items ≡ [] }
-        ensures { OnOk result (TakesFrom Shown self.old (Fail node failure) text.new.items self.new) }
+        ensures shown { OnOk result (TakesFrom Shown self.old (Fail node failure) text.new.items self.new) }
+        ensures kept { IsStocked (in_memory A) self.old.cluster → IsStocked (in_memory A) self.new.cluster }
     {
         let reply = self.cluster.fail(node, failure);
         push_told_reply(text, &reply)
+    }
+
+    // Stops all nodes at once, and opens the cluster again of what its stores hold.
+    fn reopen(self, text: &mut Vec<u8, A>) -> Result<Stage<A>, NoMemory>
+        requires fresh { text.old.items ≡ [] }
+        requires kept { IsStocked (in_memory A) self.cluster }
+        ensures shown { IfOk result (λ new. TakesFrom Shown self Reopen text.new.items new) }
+        ensures kept { IfOk result (λ new. IsStocked (in_memory A) new.cluster) }
+    {
+        let Stage {
+            alloc,
+            config,
+            cluster,
+        } = self;
+        let cluster = match cluster.reopen(alloc) {
+            Ok(cluster) => cluster,
+            Err(refused) => return Err(want_of(refused.1)),
+        };
+        push_told(text, Told::Opened)?;
+        Ok(Stage {
+            alloc,
+            config,
+            cluster,
+        })
     }
 
     // Brings a node what the source has stored under a name.
@@ -129,7 +168,8 @@ impl<A: Allocator + Copy> Stage<A> {
     ) -> Result<(), NoMemory>
         requires fresh { text.old.items ≡ [] }
         requires apart { source ≢ node }
-        ensures { OnOk result (TakesFrom Shown self.old (Arrive source node name) text.new.items self.new) }
+        ensures shown { OnOk result (TakesFrom Shown self.old (Arrive source node name) text.new.items self.new) }
+        ensures kept { IsStocked (in_memory A) self.old.cluster → IsStocked (in_memory A) self.new.cluster }
     {
         let stored = self.cluster.group().message(source, name);
         let message = message_or_nothing(self.alloc, stored)?;
@@ -145,7 +185,8 @@ impl<A: Allocator + Copy> Stage<A> {
         text: &mut Vec<u8, A>,
     ) -> Result<(), NoMemory>
         requires { text.old.items ≡ [] }
-        ensures { OnOk result (TakesFrom Shown self.old (Raw node bytes.now) text.new.items self.new) }
+        ensures shown { OnOk result (TakesFrom Shown self.old (Raw node bytes.now) text.new.items self.new) }
+        ensures kept { IsStocked (in_memory A) self.old.cluster → IsStocked (in_memory A) self.new.cluster }
     {
         let bytes = bytes.decode(self.alloc)?;
         self.apply(&Command::Arrive { node, bytes }, text)
@@ -215,28 +256,18 @@ impl<A: Allocator + Copy> Stage<A> {
         push_held_head(text, name)?;
         self.push_holders(name, text)
     }
-}
 
-impl<A: Allocator + Copy> Play<A> for Stage<A> {
-    ghost shows = { λ stage scene. ShowsScene stage.config stage.cluster scene };
-
-    fn open(alloc: A, config: Config, text: &mut Vec<u8, A>) -> Result<Stage<A>, NoMemory> {
-        let stores = new_stores(alloc, config.n())?;
-        let cluster = match Cluster::new(alloc, config, stores) {
-            Ok(cluster) => cluster,
-            Err(_) => return Err(NoMemory),
-        };
-        push_told(text, Told::Grouped(config))?;
-        Ok(Stage {
-            alloc,
-            config,
-            cluster,
-        })
-    }
-
-    fn play(&mut self, found: CommandLine<'_>, text: &mut Vec<u8, A>) -> Result<(), NoMemory> {
+    // Does what a command says that goes on with this cluster, and writes the answer.
+    fn act(&mut self, found: CommandLine<'_>, text: &mut Vec<u8, A>) -> Result<(), NoMemory>
+        requires fresh { text.old.items ≡ [] }
+        requires later { IsLater (command found) }
+        requires range { InRange (command found) }
+        requires goes_on { command found ≢ Reopen }
+        ensures shown { OnOk result (TakesFrom Shown self.old (command found.entry) text.new.items self.new) }
+        ensures kept { IsStocked (in_memory A) self.old.cluster → IsStocked (in_memory A) self.new.cluster }
+    {
         match found {
-            CommandLine::Group(_) => Ok(()),
+            CommandLine::Group(_) | CommandLine::Reopen => Ok(()),
             CommandLine::Submit {
                 node,
                 client,
@@ -252,6 +283,37 @@ impl<A: Allocator + Copy> Play<A> for Stage<A> {
             CommandLine::Tick(node) => self.apply(&Command::Tick(node), text),
             CommandLine::Log(node) => self.push_log(node, text),
             CommandLine::Held(name) => self.push_held(name, text),
+        }
+    }
+}
+
+impl<A: Allocator + Copy> Play<A> for Stage<A> {
+    ghost shows = { λ stage scene. ShowsScene stage.config stage.cluster scene };
+
+    ghost keeps = { λ stage. IsStocked (in_memory A) stage.cluster };
+
+    fn open(alloc: A, config: Config, text: &mut Vec<u8, A>) -> Result<Stage<A>, NoMemory> {
+        let stores = new_stores(alloc, config.n())?;
+        let cluster = match Cluster::new(alloc, config, stores) {
+            Ok(cluster) => cluster,
+            Err(_) => return Err(NoMemory),
+        };
+        push_told(text, Told::Grouped(config))?;
+        Ok(Stage {
+            alloc,
+            config,
+            cluster,
+        })
+    }
+
+    fn play(self, found: CommandLine<'_>, text: &mut Vec<u8, A>) -> Result<Stage<A>, NoMemory> {
+        match found {
+            CommandLine::Reopen => self.reopen(text),
+            found => {
+                let mut stage = self;
+                stage.act(found, text)?;
+                Ok(stage)
+            }
         }
     }
 }

@@ -1,16 +1,15 @@
-use Rattle.urb_script.proofs.LogLines.{logs_agree, logs_are_safe}
+use Rattle.urb_script.proofs.LogLines.{logs_agree, logs_are_safe, stays_safe}
 use Rattle.urb_script.proofs.Outcomes.{one_outcome}
-use Rattle.urb_script.proofs.Reached.{stays_safe}
 use Rattle.urb_script.proofs.runs.run.Goals as goal
 
 pub returns-clause-safe : goal.returns-clause-safe
-returns-clause-safe g c = stays_safe c.every_run_is_safe.ensures
+returns-clause-safe g c = stays_safe
 
 pub returns-clause-shown : goal.returns-clause-shown
-returns-clause-shown g c = logs_are_safe c.every_run_is_safe.ensures
+returns-clause-shown g c = logs_are_safe
 
 pub returns-clause-agree : goal.returns-clause-agree
-returns-clause-agree g c = logs_agree c.everything_grows.ensures.entries c.logs_agree.ensures
+returns-clause-agree g c = logs_agree
 
 pub returns-clause-one : goal.returns-clause-one
 returns-clause-one g c = one_outcome

@@ -4,7 +4,7 @@ use Rattle.urb_script.proofs.Progress.{nothing_yet, one_more, closes_at, bad_end
 use Rattle.urb_script.proofs.runs.run_over.Goals as goal
 
 pub loop-before-init : goal.loop-before-init
-loop-before-init g c = record { room = search rules; going = nothing_yet g.P.Play.shows _ _ }
+loop-before-init g c = record { room = search rules; going = nothing_yet g.P.Play.shows _ _; kept = search rules }
 
 pub returns-in-Err-clause-broken_off : goal.returns-in-Err-clause-broken_off
 returns-in-Err-clause-broken_off g c = breaks_between g.P.Play.shows IsOneLine None (g.R.Read.remaining c.args.reader.now) (g.W.Write.contents c.args.writer.now) (g.W.Write.contents c.args.writer.now) (g.R.Read.remaining c.args.reader.now) 0 (nothing_yet g.P.Play.shows _ _) (omega arith)
@@ -42,6 +42,7 @@ pub loop-before-preserved : goal.loop-before-preserved
 loop-before-preserved g c = record {
   room = search rules;
   going = one_more g.P.Play.shows c.loop-before.state _ _ _ _ _ (g.R.Read.remaining c.loop-before.reader) (g.R.Read.remaining c.read_line.new.reader) _ c.read_line.new.line.items c.answer_line.new.text.items c.loop-before.invariant.going (rw c.in-Ok-Whole.field-0-is at c.in-Ok-Whole.ensures.line) (search rules) (search rules);
+  kept = search rules;
 }
 
 pub returns-clause-broken_off : goal.returns-clause-broken_off
