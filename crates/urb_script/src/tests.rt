@@ -266,10 +266,10 @@ fn begins_lines(text: &[u8], whole: &[u8]) -> bool {
 }
 
 const THREE_NODES: &[u8] =
-    b"group 3 10\nsubmit 1 7 1 a\nstored 1\narrive 1 2 1 1\nstored 2\ntick 2\nheld 1.1\nlog 2\ncrash 2\nrestart 2\n";
+    b"group 3 10\nsubmit 1 7 1 a\nstored 1\narrive 1 2 1 1\nstored 2\ntick 2\nheld 1.1\nlog 2\ncrash 2\nrestart 2\nreopen\nlog 2\n";
 
 const THREE_NODES_ANSWERS: &[u8] =
-    b"group 3 10\ndraft 1.1 at 1\naccepted 1.1 sent 2 released 0\ndraft 1.1 at 1\ntaken 1.1 sent 2 released 1\nsent 1:1.1 3:1.1\nheld 1.1: 1 2\nlog 2: 1.1=a\ndown 2\nup 2\n";
+    b"group 3 10\ndraft 1.1 at 1\naccepted 1.1 sent 2 released 0\ndraft 1.1 at 1\ntaken 1.1 sent 2 released 1\nsent 1:1.1 3:1.1\nheld 1.1: 1 2\nlog 2: 1.1=a\ndown 2\nup 2\nopen\nlog 2: 1.1=a\n";
 
 /// Where the first line is that is not the same.
 fn parts_at(text: &[u8], whole: &[u8]) -> usize {

@@ -98,6 +98,18 @@ fn worked_scripts_are_answered(rt: HostRuntime) -> Result<(), Fail> {
             b"group 2 20\ndraft 1.1 at 1\naccepted 1.1 sent 1 released 0\ndraft 1.2 at 2\naccepted 1.2 sent 1 released 0\ndraft 1.3 at 3\naccepted 1.3 sent 1 released 0\ndraft 1.4 at 4\naccepted 1.4 sent 1 released 0\ndraft 1.5 at 5\naccepted 1.5 sent 1 released 0\ndraft 1.6 at 6\naccepted 1.6 sent 1 released 0\ndraft 1.7 at 7\naccepted 1.7 sent 1 released 0\ndraft 1.8 at 8\naccepted 1.8 sent 1 released 0\ndraft 1.9 at 9\naccepted 1.9 sent 1 released 0\ndraft 1.10 at 10\naccepted 1.10 sent 1 released 0\ndraft 1.11 at 11\naccepted 1.11 sent 1 released 0\ndraft 1.12 at 12\naccepted 1.12 sent 1 released 0\ndraft 1.13 at 13\naccepted 1.13 sent 1 released 0\ndraft 1.14 at 14\naccepted 1.14 sent 1 released 0\ndraft 1.15 at 15\naccepted 1.15 sent 1 released 0\ndraft 1.16 at 16\naccepted 1.16 sent 1 released 0\ndraft 1.17 at 17\naccepted 1.17 sent 1 released 0\nsent 2:1.1 2:1.2 2:1.3 2:1.4 2:1.5 2:1.6 2:1.7 2:1.8 2:1.9 2:1.10 2:1.11 2:1.12 2:1.13 2:1.14 2:1.15 2:1.16\nsent 2:1.17 2:1.1 2:1.2 2:1.3 2:1.4 2:1.5 2:1.6 2:1.7 2:1.8 2:1.9 2:1.10 2:1.11 2:1.12 2:1.13 2:1.14 2:1.15\nsent\n",
             Ended::Whole,
         ),
+        // Logs outlive a stop of the whole process, and a repeat is accepted.
+        (
+            b"group 3 10\nsubmit 1 7 1 a\nstored 1\narrive 1 2 1 1\nstored 2\nlog 1\narrive 2 1 1 1\nstored 1\nreopen\nlog 1\nlog 2\nsubmit 1 7 1 a\n",
+            b"group 3 10\ndraft 1.1 at 1\naccepted 1.1 sent 2 released 0\ndraft 1.1 at 1\ntaken 1.1 sent 2 released 1\nlog 1:\ndraft 1.1 at 2\ntaken 1.1 sent 0 released 1\nopen\nlog 1: 1.1=a\nlog 2: 1.1=a\naccepted 1.1\n",
+            Ended::Whole,
+        ),
+        // It loses a draft, whose name is given anew, and keeps what a failed store has kept.
+        (
+            b"group 3 10\nsubmit 1 7 1 a\nreopen\nheld 1.1\nsubmit 1 7 1 b\nfail 1 new\nreopen\nheld 1.1\nsubmit 1 7 1 b\n",
+            b"group 3 10\ndraft 1.1 at 1\nopen\nheld 1.1:\ndraft 1.1 at 1\ndown 1\nopen\nheld 1.1: 1\naccepted 1.1\n",
+            Ended::Whole,
+        ),
         // All nodes stop at once: what was stored stays, a held record is lost, and numbers go on.
         (
             b"group 3 10\nsubmit 1 7 1 a\nstored 1\narrive 1 2 1 1\nstored 2\nsubmit 2 7 1 b\ncrash 3\nreopen\nlog 2\nlog 1\nheld 1.1\nheld 2.1\nsubmit 1 7 1 a\nsubmit 1 7 2 c\nrestart 3\n",
