@@ -1,8 +1,7 @@
 -- What a cluster whose stores are in memory answers, a line of a script takes.
-use Rattle.std.proofs.Common.{◌≡◌, ◌≢◌, ◌⊎◌, inl, inr, ℕ, zero, suc, ◌-◌, ◌<◌, Bool, true, false, ◌&&◌, List, ◌∷◌, [], ◌++◌, Option, Some, None, Result, Ok, Err, refl, sym, ap, ap₂, ◌∙◌, subst, arith, ltb-true}
+use Rattle.std.proofs.Common.{◌≡◌, ◌≢◌, ◌⊎◌, inl, inr, ℕ, zero, suc, ◌-◌, Bool, true, false, ◌&&◌, List, ◌∷◌, [], ◌++◌, Option, Some, None, Result, Ok, Err, refl, sym, ap, ap₂, ◌∙◌, subst, arith, ltb-true}
 use Rattle.urb_names.specs.Naming.{Limits}
 use Rattle.urb_names.specs.Nodes.{is_node}
-use Rattle.urb_names.specs.declared.refusal.Refusal.{Refusal}
 use Rattle.urb_names.specs.declared.refusal.Refusal.TheVariants as refusal
 use Rattle.std.specs.Prelude.{length, ◌+◌}
 use Rattle.urb_stable.specs.Entries.{Entry}
@@ -17,12 +16,11 @@ use Rattle.urb_node.specs.Replies.{Refused, Reply}
 use Rattle.urb_node.specs.Steps.{is_down}
 use Rattle.urb_group.specs.InMemory.{in_memory}
 use Rattle.urb_group.specs.Scripts.{Scene}
-use Rattle.urb_group.specs.Shown.{view_of}
 use Rattle.urb_group.specs.Step.{Arrive, Crash, Event, Submit, Tick}
 use Rattle.urb_group.specs.Step as event
 use Rattle.urb_group.specs.Asked.{Gives, Keeps}
 use Rattle.urb_group.specs.Clustered.{Clustered, held_draft}
-use Rattle.urb_group.specs.Clusters.{Alone, Applies, AsksStore, Breaks, FailsDraft, FailsHeld, RestartsBy, Returns, StoreMoves, StoresDraft, StoresHeld, is_fallen, stored_as}
+use Rattle.urb_group.specs.Clusters.{Alone, Applies, Breaks, FailsHeld, RestartsBy, Returns, StoreMoves, StoresHeld, is_fallen, stored_as}
 use Rattle.urb_group.specs.Calls.{Steps}
 use Rattle.urb_script.specs.Commands.{Command, Fail, Restart, Stored}
 use Rattle.urb_script.specs.Staged.{IsHeldBy, ShowsScene}

@@ -1,8 +1,8 @@
 -- Log lines show safe logs, which agree.
-use Rattle.std.proofs.Common.{◌≡◌, ◌⊎◌, inl, inr, ⊎_elim, ℕ, List, [], ◌∷◌, ◌++◌, Option, Some, None, Bool, true, false, ◌==◌, filter, map, refl, sym, ap, ap₂, ◌∙◌, subst, append_assoc}
+use Rattle.std.proofs.Common.{◌≡◌, inl, inr, ⊎_elim, ℕ, List, [], ◌∷◌, ◌++◌, Option, Some, None, Bool, true, false, ◌==◌, filter, map, refl, sym, ap, ◌∙◌, subst, append_assoc}
 use Rattle.std.proofs.lemmas.List.Elements.{filter-append}
 use Rattle.urb_names.specs.Beginnings.{Begins, OneBegins}
-use Rattle.urb_names.specs.Naming.{Content, Label, Limits}
+use Rattle.urb_names.specs.Naming.{Content, Label}
 use Rattle.urb_names.specs.Pairs.{message_of}
 use Rattle.urb_names.specs.Release.{part_of}
 use Rattle.urb_stable.specs.Entries.{Entry}
@@ -11,7 +11,6 @@ use Rattle.urb_stable.specs.Log.{entries, entries_of, log}
 use Rattle.urb_stable.specs.Records.{pend}
 use Rattle.urb_stable.specs.declared.fitting.Misfit.{Misfit}
 use Rattle.urb_stable.specs.declared.memory.Failure.TheVariants.{Old, New}
-use Rattle.urb_node.specs.Replies.{Reply}
 use Rattle.urb_group.proofs.Agree.{agree-now, both_begin, entries-all_grow}
 use Rattle.urb_group.proofs.Growth.{begins-trans, step-goes_on}
 use Rattle.urb_group.proofs.SafeWorlds.{safe}
@@ -22,7 +21,7 @@ use Rattle.urb_group.specs.Scripts.{Scene}
 use Rattle.urb_group.specs.Step.{Event, step}
 use Rattle.urb_group.specs.World.{World, stored}
 use Rattle.urb_script.specs.Commands.{Arrive, Command, Crash, Fail, Group, Held, Log, Raw, Reopen, Restart, Spells, Stored, Submit, Tick}
-use Rattle.urb_script.specs.LogLines.{AreShownAgreeing, IsShownSafe, LogsAgree, LogsAreSafe}
+use Rattle.urb_script.specs.LogLines.{LogsAgree, LogsAreSafe}
 use Rattle.urb_script.specs.Scripts.{Answers, StaysSafe}
 use Rattle.urb_script.specs.Steps.{Plays, Takes, answer, reopens, shown_log}
 use Rattle.urb_script.proofs.Outcomes.{spells_one}

@@ -1,7 +1,7 @@
 -- A cluster whose stores are in memory, opened again.
-use Rattle.std.proofs.Common.{◌≡◌, ◌⊎◌, inl, inr, ⊎_elim, ltb-true, nat_lt, ◌&&◌, ℕ, zero, suc, ◌-◌, ◌+◌, ◌<◌, ◌≤◌, Bool, true, false, List, [], ◌∷◌, ◌++◌, length, Option, Some, None, Result, Ok, Err, refl, sym, ap, ap₂, ◌∙◌, subst, arith}
+use Rattle.std.proofs.Common.{◌≡◌, ◌⊎◌, inl, inr, ⊎_elim, ltb-true, nat_lt, ◌&&◌, ℕ, zero, suc, ◌-◌, ◌<◌, ◌≤◌, Bool, true, false, List, [], ◌∷◌, ◌++◌, length, Option, Some, None, Ok, Err, refl, sym, ap, ◌∙◌, subst, arith}
 use Rattle.std.proofs.lemmas.Bool.{cases_lt, false≢true}
-use Rattle.std.specs.Prelude.{IfOk, OnOk, slice_get, slice_index_or}
+use Rattle.std.specs.Prelude.{slice_get, slice_index_or}
 use Rattle.urb_names.specs.Naming.{Limits}
 use Rattle.urb_names.specs.Nodes.{is_node}
 use Rattle.urb_names.specs.declared.refusal.Refusal.{Refusal}
@@ -11,7 +11,6 @@ use Rattle.urb_stable.specs.Fitting.{first_misfit, first_of_all, misfits}
 use Rattle.urb_stable.specs.declared.fitting.Misfit.{Misfit}
 use Rattle.urb_stable.specs.Memory.{Memory, with_doubt}
 use Rattle.urb_stable.specs.Storing.{refusal_of}
-use Rattle.urb_stable.specs.declared.stable.StoreFault.{StoreFault}
 use Rattle.urb_node.specs.Part.{opened_node}
 use Rattle.urb_group.specs.Asked.{Gives}
 use Rattle.urb_group.specs.Clustered.{Clustered}
@@ -20,7 +19,7 @@ use Rattle.urb_group.specs.InMemory.{in_memory}
 use Rattle.urb_group.specs.Reopening.{AllGive, OpensFrom, OpensGiven}
 use Rattle.urb_group.specs.Scripts.{Scene}
 use Rattle.urb_group.specs.Shown.{Shows}
-use Rattle.urb_group.specs.World.{World, image_of, opened}
+use Rattle.urb_group.specs.World.{image_of, opened}
 use Rattle.urb_script.specs.Commands.{Reopen, command}
 use Rattle.urb_script.specs.declared.commands.CommandLine.{CommandLine}
 use Rattle.urb_script.specs.declared.commands.CommandLine.TheVariants as line

@@ -1,6 +1,6 @@
 -- What every line keeps of a scene.
-use Rattle.std.proofs.Common.{◌≡◌, ◌⊎◌, inl, inr, ℕ, Bool, true, false, ◌&&◌, ◌==◌, List, [], ◌∷◌, ◌++◌, Option, Some, None, Result, Ok, Err, refl, sym, ap, ◌∙◌, subst, append-nil, eqb-true}
-use Rattle.std.proofs.lemmas.Bool.{cond_both, cond-false, false≢true}
+use Rattle.std.proofs.Common.{◌≡◌, inl, inr, ℕ, Bool, true, false, ◌&&◌, ◌==◌, List, [], ◌∷◌, ◌++◌, Option, Some, None, Result, Ok, Err, refl, sym, ap, ◌∙◌, subst, append-nil, eqb-true}
+use Rattle.std.proofs.lemmas.Bool.{cond_both, false≢true}
 use Rattle.urb_names.specs.Carried.{Carried}
 use Rattle.urb_names.specs.Naming.{Limits}
 use Rattle.urb_names.specs.Nodes.{is_node}
@@ -15,15 +15,15 @@ use Rattle.urb_stable.specs.declared.fitting.Misfit.{Misfit}
 use Rattle.urb_stable.specs.declared.memory.Failure.TheVariants.{Old, New}
 use Rattle.urb_node.specs.Part.{Down, Node, Ready, State, Storing}
 use Rattle.urb_node.specs.Replies.{Refused, Reply}
-use Rattle.urb_node.specs.Steps.{commits, doubt, fails, goes_down, is_down, keeps_record, next_position, restarts_with}
+use Rattle.urb_node.specs.Steps.{commits, doubt, fails, goes_down, is_down, keeps_record, restarts_with}
 use Rattle.urb_group.proofs.NodesSteps.{updated-at}
 use Rattle.urb_group.proofs.Runs.{new-kept, opened-keeps, run-kept}
 use Rattle.urb_group.proofs.ShortPayloads.{opened-short, short-append}
 use Rattle.urb_group.proofs.Stops.{left-kept}
 use Rattle.urb_group.specs.Invariant.{AreShort, DoubtShort, IsKept}
-use Rattle.urb_group.specs.Scripts.{Scene, held_by, keeping, receipt}
+use Rattle.urb_group.specs.Scripts.{Scene, held_by, receipt}
 use Rattle.urb_group.specs.Step.{Arrive, Commit, Crash, Event, Fail, Restart, Submit, Tick, at_node, bytes_arrive, is_for, packet_arrives, run, step, world_after}
-use Rattle.urb_group.specs.World.{World, started, stored, updated}
+use Rattle.urb_group.specs.World.{World, stored, updated}
 use Rattle.urb_script.specs.Commands as command
 use Rattle.urb_script.specs.Commands.{Command, Group}
 use Rattle.urb_script.specs.Scripts.{Answers}

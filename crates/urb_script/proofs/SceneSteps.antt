@@ -1,26 +1,23 @@
 -- What each event leaves of the stores' agreement with a scene.
-use Rattle.std.proofs.Common.{◌≡◌, ◌≢◌, ◌⊎◌, inl, inr, ℕ, suc, ◌+◌, Bool, true, false, not, cond, ◌&&◌, ◌==◌, ◌||◌, List, [], ◌∷◌, ◌++◌, length, Option, Some, None, Result, Ok, Err, refl, sym, ap, ◌∙◌, subst, arith, eqb-true, eq-eqb, length-append, find, is_none, nat_lt}
+use Rattle.std.proofs.Common.{◌≡◌, ◌⊎◌, inl, inr, ℕ, Bool, true, false, not, ◌&&◌, ◌==◌, ◌||◌, List, [], ◌∷◌, ◌++◌, length, Option, Some, None, Result, Ok, Err, refl, sym, ap, ◌∙◌, subst, arith, eqb-true, length-append, find, is_none, nat_lt}
 use Rattle.std.specs.Prelude.{bytes_eq}
-use Rattle.std.proofs.lemmas.Bool.{cond_both, cond-true, cond-false, false≢true}
+use Rattle.std.proofs.lemmas.Bool.{cond_both, false≢true}
 use Rattle.urb_names.specs.Acknowledged.{acked, with_ack}
 use Rattle.urb_names.specs.Carried.{Carried}
-use Rattle.urb_names.specs.Names.{has_name, name}
+use Rattle.urb_names.specs.Names.{has_name}
 use Rattle.urb_names.specs.Naming.{Content, Label, Limits}
 use Rattle.urb_names.specs.Nodes.{is_node, majority_passes}
 use Rattle.urb_names.specs.Pairs.{is_numbered, message_of, next_number}
 use Rattle.urb_names.specs.declared.refusal.PacketFault.{PacketFault}
-use Rattle.urb_names.specs.declared.refusal.Refusal.{Refusal}
 use Rattle.urb_names.specs.declared.refusal.Refusal.TheVariants as refusal
 use Rattle.urb_stable.specs.Entries.{Entry}
 use Rattle.urb_stable.specs.Memory.{Memory, with_doubt}
 use Rattle.urb_stable.specs.Records.{cert, pend}
 use Rattle.urb_stable.specs.Log.{log}
 use Rattle.urb_stable.specs.Storing.{IsContents}
-use Rattle.urb_stable.specs.declared.record.Record.TheVariants.{Cert, Pend, PendCert}
 use Rattle.urb_node.specs.Part.{Down, Node, Ready, State, Storing}
 use Rattle.urb_node.specs.Replies.{Refused, Reply}
-use Rattle.urb_node.specs.Steps.{arrives, broadcast_after, comes_up, commits, counts, crashes, done, doubt, drafts, fails, goes_down, is_down, is_storing, keeps_record, next_position, refuses, resends, restarts, restarts_with, same_list, same_names, same_pairs, same_record, says, submits, submits_again, submits_by_number, submits_new, takes, ticks}
-use Rattle.urb_node.proofs.Calls.{same_record-same}
+use Rattle.urb_node.specs.Steps.{arrives, broadcast_after, comes_up, counts, crashes, doubt, fails, is_down, is_storing, keeps_record, restarts_with, same_list, same_names, same_pairs, says, submits, submits_by_number, submits_new, takes, ticks}
 use Rattle.urb_group.specs.World.{World, truthful, updated}
 use Rattle.urb_group.specs.Step.{Arrive, Commit, Crash, Event, Fail, Restart, Submit, Tick, at_node, bytes_arrive, is_for, packet_arrives, step, world_after}
 use Rattle.urb_script.specs.Staged.{IsHeldBy}

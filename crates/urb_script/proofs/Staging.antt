@@ -1,5 +1,5 @@
 -- A cluster whose stores are in memory goes from scene to scene.
-use Rattle.std.proofs.Common.{◌≡◌, ◌≢◌, ◌⊎◌, inl, inr, ℕ, zero, suc, ◌+◌, ◌-◌, ◌<◌, Bool, true, false, cond, ◌&&◌, ◌==◌, List, [], ◌∷◌, ◌++◌, length, Option, Some, None, refl, sym, ap, ap₂, ◌∙◌, subst, arith, eqb-true, eq-eqb}
+use Rattle.std.proofs.Common.{◌≡◌, ◌≢◌, ℕ, zero, suc, ◌-◌, ◌<◌, Bool, true, false, cond, ◌&&◌, ◌==◌, List, [], ◌∷◌, ◌++◌, length, Option, Some, None, refl, sym, ap, ap₂, ◌∙◌, subst, arith, eqb-true, eq-eqb}
 use Rattle.std.specs.Prelude.{slice_get, slice_set}
 use Rattle.std.proofs.lemmas.Bool.{cond_both, cond-true, cond-false, false≢true}
 use Rattle.std.proofs.lemmas.List.{length-set}
@@ -15,11 +15,10 @@ use Rattle.urb_stable.specs.declared.memory.Failure.TheVariants.{Old, New}
 use Rattle.urb_node.specs.Moves.{IsRefusedAs}
 use Rattle.urb_node.specs.Part.{Down, Node, Ready, State, Storing}
 use Rattle.urb_node.specs.Replies.{Drafted, Refused, Reply, Same, Sent, Stored, Up, WentDown}
-use Rattle.urb_node.specs.Replies as reply
 use Rattle.urb_node.specs.Steps.{commits, done, doubt, fails, goes_down, is_down, keeps_record, next_position, restarts, restarts_with, same_record}
 use Rattle.urb_node.proofs.Calls.{same_record-same}
-use Rattle.urb_group.specs.Calls.{IsRefused, Steps}
-use Rattle.urb_group.specs.Scripts.{Scene, held_by, keeping, receipt}
+use Rattle.urb_group.specs.Calls.{Steps}
+use Rattle.urb_group.specs.Scripts.{Scene, held_by, receipt}
 use Rattle.urb_group.specs.Shown.{GroupView, Shows, view_of}
 use Rattle.urb_group.specs.Step.{Arrive, Commit, Crash, Event, Fail, Restart, Submit, Tick, at_node, bytes_arrive, is_for, packet_arrives, step, world_after}
 use Rattle.urb_group.specs.World.{World, updated}

@@ -1,12 +1,12 @@
 -- What is written of a node's log, and of the nodes that have a name.
-use Rattle.std.proofs.Common.{◌≡◌, ℕ, zero, suc, ◌+◌, ◌-◌, ◌<◌, ◌≤◌, Bool, true, false, cond, ◌&&◌, List, [], ◌∷◌, ◌++◌, Option, Some, None, Result, Ok, Err, map, refl, sym, ap, ◌∙◌, subst, arith, append_assoc, append-nil}
+use Rattle.std.proofs.Common.{◌≡◌, ℕ, suc, ◌+◌, ◌-◌, ◌≤◌, Bool, true, false, cond, ◌&&◌, List, [], ◌∷◌, ◌++◌, Some, None, Result, Ok, Err, map, refl, sym, ap, ◌∙◌, arith, append_assoc, append-nil}
 use Rattle.std.specs.Prelude.{OnOk, codes}
 use Rattle.std.specs.List.{filter, flat_map}
 use Rattle.std.specs.Option.{is_some}
 use Rattle.std.specs.Fmt.{decimal}
-use Rattle.std.proofs.lemmas.Bool.{cond-true, cond-false, cond_both, lt-ltb}
-use Rattle.urb_names.specs.Naming.{Limits, Label, Content}
-use Rattle.urb_names.specs.Nodes.{is_node, nodes, numbers_from}
+use Rattle.std.proofs.lemmas.Bool.{cond-true, cond-false, lt-ltb}
+use Rattle.urb_names.specs.Naming.{Label}
+use Rattle.urb_names.specs.Nodes.{is_node, numbers_from}
 use Rattle.urb_names.specs.Pairs.{message_of}
 use Rattle.urb_stable.specs.Log.{entries, log}
 use Rattle.urb_stable.specs.Records.{pend}
@@ -14,7 +14,7 @@ use Rattle.urb_group.specs.Calls.{Holds, TellsLog}
 use Rattle.urb_group.specs.Shown.{GroupView, Shows}
 use Rattle.urb_group.specs.World.{World, stored}
 use Rattle.urb_script.specs.Staged.{TellsAt, TellsOf}
-use Rattle.urb_script.specs.Steps.{bad_node, holders, shown_log}
+use Rattle.urb_script.specs.Steps.{bad_node, shown_log}
 use Rattle.urb_script.specs.Texts.{entry_text, log_text}
 
 -- ---- a log

@@ -1,5 +1,5 @@
 -- What the stores in memory of a cluster show of a scene.
-use Rattle.std.specs.Prelude.{[], length, ◌≡◌, ◌⊎◌, ◌++◌, ◌-◌, ℕ, false, true, List, None, Some, slice_get}
+use Rattle.std.specs.Prelude.{[], length, ◌≡◌, ◌++◌, ◌-◌, ℕ, false, true, List, None, Some, slice_get}
 use Rattle.urb_names.specs.Naming.{Limits}
 use Rattle.urb_names.specs.Nodes.{is_node}
 use Rattle.urb_stable.specs.Entries.{Entry}

@@ -1,5 +1,4 @@
-use Rattle.std.proofs.Common.{arith, sym, ◌∙◌}
-use Rattle.std.proofs.lemmas.Slice.{between_to_end}
+use Rattle.std.proofs.Common.{arith}
 use Rattle.urb_script.proofs.NameWords.{name_long, name_stop, name_front, name_tail}
 use Rattle.urb_script.proofs.commands.name_of.Goals as goal
 

@@ -1,4 +1,3 @@
-use Rattle.std.proofs.Common.{Ok, Err, Result, List, ℕ, ◌≡◌}
 use Rattle.urb_script.proofs.Applying.{bytes_spelled}
 use Rattle.urb_script.proofs.stage.packet_bytes.Goals as goal
 

@@ -1,4 +1,4 @@
-use Rattle.std.proofs.Common.{rules, arith}
+use Rattle.std.proofs.Common.{arith}
 use Rattle.urb_script.proofs.HexWords.{decode_more}
 use Rattle.urb_script.proofs.hex.HexBytes.decode.Goals as goal
 

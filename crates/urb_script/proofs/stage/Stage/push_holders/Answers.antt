@@ -1,4 +1,4 @@
-use Rattle.std.proofs.Common.{ap, arith, rules, sym, ◌∙◌}
+use Rattle.std.proofs.Common.{ap, arith, rules}
 use Rattle.urb_script.proofs.Telling.{holder_more, holder_end}
 use Rattle.urb_script.proofs.stage.Stage.push_holders.Goals as goal
 

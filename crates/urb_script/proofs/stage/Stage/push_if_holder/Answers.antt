@@ -1,4 +1,3 @@
-use Rattle.std.proofs.Common.{rules}
 use Rattle.urb_script.proofs.Telling.{tells_yes, tells_no}
 use Rattle.urb_script.proofs.stage.Stage.push_if_holder.Goals as goal
 
