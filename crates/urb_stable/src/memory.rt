@@ -87,7 +87,8 @@ impl<A: Allocator + Copy> MemStable<A> {
         }
     }
 
-    /// Has the next store fail that isn't answered `Place`; an arming that was not used is replaced.
+    /// Has the next store fail that isn't answered `Place`; an arming that was not used is replaced. After 2 ^ 64 - 1
+    /// failures no further one can be counted, and that store answers `NoMemory` and keeps nothing.
     pub fn arm(&mut self, failure: Failure)
         ensures { self.new ≡ armed_with failure self.old }
     {
