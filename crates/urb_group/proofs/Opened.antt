@@ -1,10 +1,9 @@
 -- What a group needs that opens from images: where they have no misfit they fit, each keeps the rules about itself, and a
--- group whose nodes show their images shows the opened world, so it is sound.
+-- group whose nodes show their images shows the opened world.
 use Rattle.std.proofs.Common.{List, None, Some, [], arith, length, refl, slice_index_or, subst, suc, sym, zero, ℕ, ⊎_elim, ◌<◌, ◌∷◌, ◌≡◌, ◌≤◌, ◌⊎◌}
 use Rattle.std.proofs.lemmas.Bool.{cases_lt}
 use Rattle.urb_group.proofs.Conditions.{fitting-own}
-use Rattle.urb_group.proofs.Shows.{sound-opened}
-use Rattle.urb_group.specs.Shown.{GroupView, IsSound, Shows, view_of}
+use Rattle.urb_group.specs.Shown.{GroupView, Shows, view_of}
 use Rattle.urb_group.specs.World.{AreImages, opened}
 use Rattle.urb_names.specs.Naming.{Limits}
 use Rattle.urb_node.proofs.Openings.{nothing-shows}
@@ -61,9 +60,3 @@ opened-shows group limits images size many each = record { size = size; nodes = 
     nodes : (p : ℕ) → ShowsNode limits p (view_of group p) (opened_node p (image_of images p))
     nodes zero = nothing-shows limits zero
     nodes (suc i) = at_place i (cases_lt i (length images))
-
--- and it is sound
-pub opened-sound : (group : GroupView) (limits : Limits) (images : List (List Entry)) → AreImages limits images → first_misfit limits (image_of images) ≡ None → group.size ≡ limits → length group.nodes ≡ length images
-    → ((i : ℕ) → i < length images → ShowsNode limits (suc i) (slice_index_or group.nodes i no_view) (opened_node (suc i) (slice_index_or images i [])))
-    → IsSound group
-opened-sound group limits images are none size many each = sound-opened group limits images are (no_misfit-fits limits (image_of images) none) (opened-shows group limits images size many each)

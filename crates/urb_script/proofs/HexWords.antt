@@ -1,5 +1,5 @@
 -- Words of hexadecimal digits and the bytes that they spell.
-use Rattle.std.proofs.Common.{◌≡◌, ◌≢◌, ◌⊎◌, ◌↔◌, inl, inr, Bool, true, false, ℕ, suc, ◌+◌, ◌-◌, ◌*◌, ◌/◌, ◌%◌, ◌<◌, ◌≤◌, List, [], ◌∷◌, ◌++◌, length, get_or, drop, refl, sym, ap, ap₂, ◌∙◌, subst, arith, append-nil, append_assoc, length-drop}
+use Rattle.std.proofs.Common.{◌≡◌, ◌≢◌, ◌⊎◌, ◌↔◌, inl, inr, Bool, true, false, ℕ, suc, ◌+◌, ◌-◌, ◌*◌, ◌/◌, ◌%◌, ◌<◌, ◌≤◌, List, [], ◌∷◌, ◌++◌, length, get_or, drop, refl, sym, ap, ap₂, ◌∙◌, subst, arith, append_assoc}
 use Rattle.std.specs.List.{AllByRecursion}
 use Rattle.std.specs.Prelude.{IsTrue}
 use Rattle.std.proofs.lemmas.Bool.Decides.{nat_tests}
@@ -162,16 +162,3 @@ decode_more done digits at byte within e so_far =
     ∙ ap (λ (b : ℕ). done ++ b ∷ bytes_of (drop (2 * (at + 1)) digits)) e
     ∙ ap (λ (bs : List ℕ). done ++ bs) (sym (two_more digits at within))
     ∙ so_far
-
-none_left : (digits : List ℕ) → length digits ≤ 1 → bytes_of digits ≡ []
-none_left [] small = refl
-none_left (digit ∷ []) small = refl
-none_left (h ∷ l ∷ digits) small = absurd (omega (arith, small))
-
-at_end : (digits : List ℕ) → bytes_of (drop (2 * (length digits / 2)) digits) ≡ []
-at_end digits = none_left (drop (2 * (length digits / 2)) digits) (omega (arith, length-drop (2 * (length digits / 2)) digits))
-
--- all are read
-pub decode_end : (done digits : List ℕ) (at : ℕ) → at ≡ length digits / 2 → done ++ bytes_of (drop (2 * at) digits) ≡ bytes_of digits → done ≡ bytes_of digits
-decode_end done digits at e so_far =
-    sym (append-nil done) ∙ sym (ap (λ (bs : List ℕ). done ++ bs) (ap (λ (n : ℕ). bytes_of (drop (2 * n) digits)) e ∙ at_end digits)) ∙ so_far
