@@ -42,9 +42,9 @@ module _ {S A : Type 0} (g : Ghosts S A) where
   AreRefused stores why asked = ((fault : StoreFault) × FirstFails stores fault asked × (why ≡ refusal_of fault)) ⊎ ((asked ≡ stores) × (why ≡ refusal.NoMemory))
 
   -- what asking all stores comes to
-  abbrev pub Retrieves : List S → Result (Vec (Vec Entry A) A) Refusal → List S → Type 0
-  Retrieves stores (Ok images) asked = AllGive stores (map (λ image. image.items) images.items) asked
-  Retrieves stores (Err why) asked = AreRefused stores why asked
+  abbrev pub RetrievesAll : List S → Result (Vec (Vec Entry A) A) Refusal → List S → Type 0
+  RetrievesAll stores (Ok images) asked = AllGive stores (map (λ image. image.items) images.items) asked
+  RetrievesAll stores (Err why) asked = AreRefused stores why asked
 
   -- all stores gave their lists, and these were opened as a group
   pub record OpensGiven (size : Limits) (stores asked : List S) (result : Result GroupView Refusal) : Type 0 where

@@ -2,7 +2,7 @@
 
 ghost use Rattle.std.specs.Prelude.{◌≡◌, IfOk, length};
 ghost use Rattle.urb_group.specs.Clustered.{Clustered};
-ghost use Rattle.urb_group.specs.Reopening.{Continues, HasStopped, OpensFrom, OpensStores, Retrieves};
+ghost use Rattle.urb_group.specs.Reopening.{Continues, HasStopped, OpensFrom, OpensStores, RetrievesAll};
 ghost use Rattle.urb_group.specs.Stocked.{IsStocked};
 
 use crate::drafts::no_drafts;
@@ -15,7 +15,7 @@ fn retrieved<S: Stable>(
     alloc: S::Alloc,
     stores: &mut [S],
 ) -> Result<Vec<Vec<Record<Message<S::Alloc>>, S::Alloc>, S::Alloc>, Refusal>
-    ensures { Retrieves S.Stable stores.old result stores.new }
+    ensures { RetrievesAll S.Stable stores.old result stores.new }
 {
     let mut images = Vec::with_capacity(alloc, stores.len())?;
     for store in stores.iter_mut() {
