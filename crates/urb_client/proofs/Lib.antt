@@ -7,3 +7,4 @@ pub mod Pieces
 pub mod Progress
 pub mod RequestLaws
 pub mod ResponseLaws
+mod Limits

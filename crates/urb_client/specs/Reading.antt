@@ -5,6 +5,8 @@ use Rattle.urb_names.specs.Naming.{Label, Content}
 use Rattle.urb_names.specs.Nodes.{is_node}
 use Rattle.urb_client.specs.declared.response.NodeState.{NodeState}
 use Rattle.urb_client.specs.declared.response.NodeState.TheVariants as state
+use Rattle.urb_client.specs.declared.format.TheConstants.{MOST_ENTRIES, SAY_ACCEPTED, SAY_ENTRIES, SAY_STATUS, SAY_DONE, SAY_REFUSED}
+use Rattle.urb_names.specs.declared.message.TheConstants.{MAX_PAYLOAD}
 use Rattle.urb_client.specs.Responses.{Said, Accepted, Listing, Status, Done, Refused}
 
 infixl 10 ◌>>=◌
@@ -35,7 +37,7 @@ message_at bytes = do
   client ← number_at 2 bytes
   number ← number_at 4 client.1
   size ← number_at 2 number.1
-  if (nat_lt 0 client.0 && nat_lt 0 number.0) && (nat_le size.0 1024 && nat_le size.0 (length size.1))
+  if (nat_lt 0 client.0 && nat_lt 0 number.0) && (nat_le size.0 MAX_PAYLOAD && nat_le size.0 (length size.1))
       then Some (record { client = client.0; number = number.0; payload = take size.0 size.1 }, drop size.0 size.1) else None
 
 -- a name and its message
@@ -75,7 +77,7 @@ accepted_of fields = do
 unfoldable pub entries_of : List ℕ → Option Said
 entries_of fields = do
   count ← byte_at fields
-  entries ← if nat_lt 8 count.0 then None else entries_at count.0 count.1
+  entries ← if nat_lt MOST_ENTRIES count.0 then None else entries_at count.0 count.1
   at_end (Listing entries.0) entries.1
 
 -- behind the opcode of a status: the state, and the two counts
@@ -98,9 +100,9 @@ refused_of fields = do
 abbrev pub said_of : List ℕ → Option Said
 said_of [] = None
 said_of (opcode ∷ fields) =
-    if opcode == 129 then accepted_of fields
-    else if opcode == 130 then entries_of fields
-    else if opcode == 131 then status_of fields
-    else if opcode == 132 then at_end Done fields
-    else if opcode == 238 then refused_of fields
+    if opcode == SAY_ACCEPTED then accepted_of fields
+    else if opcode == SAY_ENTRIES then entries_of fields
+    else if opcode == SAY_STATUS then status_of fields
+    else if opcode == SAY_DONE then at_end Done fields
+    else if opcode == SAY_REFUSED then refused_of fields
     else None

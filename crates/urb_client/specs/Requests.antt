@@ -5,6 +5,8 @@ use Rattle.urb_names.specs.declared.refusal.Refusal.{Refusal}
 use Rattle.urb_names.specs.declared.refusal.Refusal.TheVariants.{Frame, NoMemory}
 use Rattle.urb_client.specs.declared.request.Request.{Request}
 use Rattle.urb_client.specs.declared.request.Request.TheVariants as code
+use Rattle.urb_client.specs.declared.format.TheConstants.{ASK_SUBMIT, ASK_READ, ASK_STATUS, ASK_CRASH, ASK_RESTART, UNKNOWN_OPCODE, WRONG_LENGTH, BAD_VALUE, SUBMIT_HEAD, READ_FIELDS, MOST_ENTRIES}
+use Rattle.urb_names.specs.declared.message.TheConstants.{MAX_PAYLOAD}
 
 -- what a client asks, wherever it lies in memory: to broadcast a payload under its number, to read so many entries of the log from a place on, the state of the node, a crash, or a restart
 pub data Asked : Type 0 where
@@ -25,14 +27,14 @@ asked_by code.Restart = Restart
 -- a request's values: a client and a place from 1, and one to eight entries
 abbrev pub IsAsked : Asked → Type 0
 IsAsked (Submit client number payload) = (0 < client) × (client < 2 ^ 16) × (number < 2 ^ 32)
-IsAsked (Read place max) = (0 < place) × (place < 2 ^ 32) × (0 < max) × (max ≤ 8)
+IsAsked (Read place max) = (0 < place) × (place < 2 ^ 32) × (0 < max) × (max ≤ MOST_ENTRIES)
 IsAsked Status = Unit {0}
 IsAsked Crash = Unit {0}
 IsAsked Restart = Unit {0}
 
 -- its payload, if it has one, is within the limit of a message
 abbrev pub IsShort : Asked → Type 0
-IsShort (Submit client number payload) = length payload ≤ 1024
+IsShort (Submit client number payload) = length payload ≤ MAX_PAYLOAD
 IsShort (Read place max) = Unit {0}
 IsShort Status = Unit {0}
 IsShort Crash = Unit {0}
@@ -40,43 +42,43 @@ IsShort Restart = Unit {0}
 
 -- the one spelling of a request, after its length: the opcode, and the fields in order
 abbrev pub request_body : Asked → List ℕ
-request_body (Submit client number payload) = 1 ∷ (big_bytes 2 client ++ (big_bytes 4 number ++ payload))
-request_body (Read place max) = 2 ∷ (big_bytes 4 place ++ max ∷ [])
-request_body Status = 3 ∷ []
-request_body Crash = 4 ∷ []
-request_body Restart = 5 ∷ []
+request_body (Submit client number payload) = ASK_SUBMIT ∷ (big_bytes 2 client ++ (big_bytes 4 number ++ payload))
+request_body (Read place max) = ASK_READ ∷ (big_bytes 4 place ++ max ∷ [])
+request_body Status = ASK_STATUS ∷ []
+request_body Crash = ASK_CRASH ∷ []
+request_body Restart = ASK_RESTART ∷ []
 
 -- behind the opcode of a submit: a client, a number, and the payload is the rest
 abbrev pub submit_fields : List ℕ → Result Asked ℕ
 submit_fields fields =
-    if nat_lt (length fields) 6 then Err 3
-    else if big_number 2 fields == 0 then Err 4
-    else Ok (Submit (big_number 2 fields) (big_number 4 (drop 2 fields)) (drop 6 fields))
+    if nat_lt (length fields) SUBMIT_HEAD then Err WRONG_LENGTH
+    else if big_number 2 fields == 0 then Err BAD_VALUE
+    else Ok (Submit (big_number 2 fields) (big_number 4 (drop 2 fields)) (drop SUBMIT_HEAD fields))
 
 -- behind the opcode of a read: a place, and how many entries at most
 abbrev pub read_fields : List ℕ → Result Asked ℕ
 read_fields fields =
-    if length fields == 5 then
-    (if big_number 4 fields == 0 then Err 4
-    else if slice_index fields 4 == 0 then Err 4
-    else if nat_lt 8 (slice_index fields 4) then Err 4
+    if length fields == READ_FIELDS then
+    (if big_number 4 fields == 0 then Err BAD_VALUE
+    else if slice_index fields 4 == 0 then Err BAD_VALUE
+    else if nat_lt MOST_ENTRIES (slice_index fields 4) then Err BAD_VALUE
     else Ok (Read (big_number 4 fields) (slice_index fields 4)))
-    else Err 3
+    else Err WRONG_LENGTH
 
 -- behind an opcode that stands alone: nothing
 abbrev pub no_fields : Asked → List ℕ → Result Asked ℕ
-no_fields asked fields = if length fields == 0 then Ok asked else Err 3
+no_fields asked fields = if length fields == 0 then Ok asked else Err WRONG_LENGTH
 
--- the request that bytes are, or the code of their first fault: 2 an unknown opcode, 3 a length that the opcode doesn't have, 4 a value outside its range
+-- the request that bytes are, or the code of their first fault
 abbrev pub request_of : List ℕ → Result Asked ℕ
-request_of [] = Err 2
+request_of [] = Err UNKNOWN_OPCODE
 request_of (opcode ∷ fields) =
-    if opcode == 1 then submit_fields fields
-    else if opcode == 2 then read_fields fields
-    else if opcode == 3 then no_fields Status fields
-    else if opcode == 4 then no_fields Crash fields
-    else if opcode == 5 then no_fields Restart fields
-    else Err 2
+    if opcode == ASK_SUBMIT then submit_fields fields
+    else if opcode == ASK_READ then read_fields fields
+    else if opcode == ASK_STATUS then no_fields Status fields
+    else if opcode == ASK_CRASH then no_fields Crash fields
+    else if opcode == ASK_RESTART then no_fields Restart fields
+    else Err UNKNOWN_OPCODE
 
 -- the request is a submit: the only one that takes memory
 abbrev pub IsSubmit : Result Asked ℕ → Type 0

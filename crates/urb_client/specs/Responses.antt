@@ -7,6 +7,7 @@ use Rattle.urb_client.specs.declared.response.NodeState.{NodeState}
 use Rattle.urb_client.specs.declared.response.NodeState.TheVariants.{Down, Ready, Storing}
 use Rattle.urb_client.specs.declared.response.Response.{Response}
 use Rattle.urb_client.specs.declared.response.Response.TheVariants as code
+use Rattle.urb_client.specs.declared.format.TheConstants.{MOST_ENTRIES, SAY_ACCEPTED, SAY_ENTRIES, SAY_STATUS, SAY_DONE, SAY_REFUSED}
 
 -- what a client is answered, wherever it lies in memory: the number that its message got, entries of the log, the node's state with how many messages it has sent and logged, that it is done, or a refusal's number and detail
 pub data Said : Type 0 where
@@ -31,7 +32,7 @@ IsEntry entry = IsLabel entry.0 × IsContent entry.1
 -- a response's values: numbers that their fields hold, and at most eight entries
 abbrev pub IsSaid : Said → Type 0
 IsSaid (Accepted seq) = seq < 2 ^ 32
-IsSaid (Listing entries) = (length entries ≤ 8) × AllByRecursion IsEntry entries
+IsSaid (Listing entries) = (length entries ≤ MOST_ENTRIES) × AllByRecursion IsEntry entries
 IsSaid (Status state own logged) = (own < 2 ^ 32) × (logged < 2 ^ 32)
 IsSaid Done = Unit {0}
 IsSaid (Refused number detail) = (number < 2 ^ 8) × (detail < 2 ^ 32)
@@ -52,15 +53,15 @@ entry_bytes entry = entry_head entry.0 entry.1 ++ entry.1.payload
 
 -- the one spelling of a response, after its length: the opcode, and the fields in order
 abbrev pub response_body : Said → List ℕ
-response_body (Accepted seq) = 129 ∷ big_bytes 4 seq
-response_body (Listing entries) = 130 ∷ length entries ∷ flat_map entry_bytes entries
-response_body (Status state own logged) = 131 ∷ state_byte state ∷ (big_bytes 4 own ++ big_bytes 4 logged)
-response_body Done = 132 ∷ []
-response_body (Refused number detail) = 238 ∷ number ∷ big_bytes 4 detail
+response_body (Accepted seq) = SAY_ACCEPTED ∷ big_bytes 4 seq
+response_body (Listing entries) = SAY_ENTRIES ∷ length entries ∷ flat_map entry_bytes entries
+response_body (Status state own logged) = SAY_STATUS ∷ state_byte state ∷ (big_bytes 4 own ++ big_bytes 4 logged)
+response_body Done = SAY_DONE ∷ []
+response_body (Refused number detail) = SAY_REFUSED ∷ number ∷ big_bytes 4 detail
 
 -- the bytes begin with the opcode of entries
 abbrev pub IsListing : List ℕ → Type 0
-IsListing bytes = (rest : List ℕ) × (bytes ≡ 130 ∷ rest)
+IsListing bytes = (rest : List ℕ) × (bytes ≡ SAY_ENTRIES ∷ rest)
 
 -- a frame: a length, and that many bytes
 abbrev pub frame : List ℕ → List ℕ

@@ -8,6 +8,7 @@ use Rattle.urb_client.specs.declared.sessions.SessionFault.{SessionFault}
 use Rattle.urb_client.specs.declared.sessions.SessionFault.TheVariants as fault
 use Rattle.urb_client.specs.declared.sessions.Piece.{Piece}
 use Rattle.urb_client.specs.declared.sessions.Piece.TheVariants.{End, Broken, Whole}
+use Rattle.urb_client.specs.declared.format.TheConstants.{LONGEST_REQUEST, BAD_LENGTH, CUT}
 use Rattle.urb_client.specs.Requests.{Asked, request_of}
 use Rattle.urb_client.specs.Responses.{Said, Refused, encoding, frame}
 
@@ -21,22 +22,22 @@ abbrev pub Says : List ℕ → Event → Type 0
 Says body (Asks asked) = request_of body ≡ Ok asked
 Says body (Fault code) = request_of body ≡ Err code
 
--- the bytes begin with whole frames of 1 to 1,200 bytes that are these, and then comes the rest
+-- the bytes begin with whole frames, none empty or too long, that are these, and then comes the rest
 abbrev pub Begins : List ℕ → List Event → List ℕ → Type 0
 Begins bytes [] rest = bytes ≡ rest
-Begins bytes (event ∷ events) rest = (body : List ℕ) × (mid : List ℕ) × (0 < length body) × (length body ≤ 1200) × (bytes ≡ frame body ++ mid) × Says body event × Begins mid events rest
+Begins bytes (event ∷ events) rest = (body : List ℕ) × (mid : List ℕ) × (0 < length body) × (length body ≤ LONGEST_REQUEST) × (bytes ≡ frame body ++ mid) × Says body event × Begins mid events rest
 
--- the bytes begin with a length of 0 or over 1,200, and the rest comes behind it
+-- the bytes begin with a length of 0, or over that of the longest request, and the rest comes behind it
 abbrev pub HasBadLength : List ℕ → List ℕ → Type 0
-HasBadLength bytes rest = (n : ℕ) × (bytes ≡ big_bytes 2 n ++ rest) × (n < 2 ^ 16) × ((n ≡ 0) ⊎ (1200 < n))
+HasBadLength bytes rest = (n : ℕ) × (bytes ≡ big_bytes 2 n ++ rest) × (n < 2 ^ 16) × ((n ≡ 0) ⊎ (LONGEST_REQUEST < n))
 
 -- the bytes are a beginning of a frame, with at least one byte, and not all of it
 abbrev pub IsCut : List ℕ → Type 0
-IsCut bytes = (length bytes ≡ 1) ⊎ ((n : ℕ) × (more : List ℕ) × (bytes ≡ big_bytes 2 n ++ more) × (0 < n) × (n ≤ 1200) × (length more < n))
+IsCut bytes = (length bytes ≡ 1) ⊎ ((n : ℕ) × (more : List ℕ) × (bytes ≡ big_bytes 2 n ++ more) × (0 < n) × (n ≤ LONGEST_REQUEST) × (length more < n))
 
--- the bytes begin with no frame, by the code of the fault: 1 a bad length, with the rest behind it; 5 they are cut inside a frame, and nothing is left
+-- the bytes begin with no frame, by the code of the fault: a bad length, with the rest behind it, or they are cut inside a frame, and nothing is left
 abbrev pub IsBroken : List ℕ → ℕ → List ℕ → Type 0
-IsBroken bytes code rest = (HasBadLength bytes rest × (code ≡ 1)) ⊎ (IsCut bytes × (rest ≡ []) × (code ≡ 5))
+IsBroken bytes code rest = (HasBadLength bytes rest × (code ≡ BAD_LENGTH)) ⊎ (IsCut bytes × (rest ≡ []) × (code ≡ CUT))
 
 -- how bytes end a session, the faults in them, and what is left: nothing where it is closed, or a broken frame
 abbrev pub Ends : List ℕ → Ended → List Event → List ℕ → Type 0
@@ -101,7 +102,7 @@ BreaksOff {S} answers input fault.Write left old new before after = (rest : List
 abbrev pub ReadsPiece : Option (List ℕ) → Option (List ℕ) → List ℕ → Piece → Type 0
 ReadsPiece known left body End = Consumes known left [] × IsAtEnd left
 ReadsPiece known left body (Broken code) = IfSome known (λ bytes. IsSomeAnd left (IsBroken bytes code))
-ReadsPiece known left body (Whole n) = (0 < n) × (n ≤ 1200) × Consumes known left (frame (take n body))
+ReadsPiece known left body (Whole n) = (0 < n) × (n ≤ LONGEST_REQUEST) × Consumes known left (frame (take n body))
 
 -- fewer than n bytes are read
 abbrev pub ReadsUnder : ℕ → Option (List ℕ) → Option (List ℕ) → Type 0

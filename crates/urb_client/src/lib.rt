@@ -1,6 +1,7 @@
 //! What clients ask a node and are answered, as frames of bytes, and sessions over a reader and a writer.
 #![tactic(auto)]
 
+mod format;
 mod input;
 mod reading;
 mod request;

@@ -5,6 +5,7 @@ ghost use Rattle.std.specs.Option.{option_map};
 ghost use Rattle.urb_client.specs.Responses.{Said, IsSaid, IsListing, response_body, said_by};
 ghost use Rattle.urb_client.specs.Reading.{byte_at, number_at, name_at, message_at, entry_at, entries_at, state_of, accepted_of, entries_of, status_of, refused_of, said_of, at_end};
 
+use crate::format::{MOST_ENTRIES, SAY_ACCEPTED, SAY_DONE, SAY_ENTRIES, SAY_REFUSED, SAY_STATUS};
 use crate::{Entries, NodeState, Response};
 use byteorder::{BigEndian, ByteOrder};
 use std::alloc::Allocator;
@@ -68,7 +69,7 @@ fn message_of<A: Allocator>(alloc: A, bytes: &[u8]) -> Result<Option<(Message<A>
 #[tactic(auto, unfolding(crate::specs::Reading::message_at))]
 fn content_of(bytes: &[u8]) -> Option<(ClientId, u32, &[u8], &[u8])>
     ensures read { option_map (λ x. (record { client = x.0; number = x.1; payload = x.2.now }, x.3.now)) result ≡ message_at bytes.now }
-    ensures limits { IfSome result (λ x. (0 < x.1) × (length x.2.now ≤ 1024)) }
+    ensures limits { IfSome result (λ x. (0 < x.1) × (length x.2.now ≤ MAX_PAYLOAD)) }
 {
     let (client, rest) = u16_at(bytes)?;
     let (number, rest) = u32_at(rest)?;
@@ -125,7 +126,7 @@ fn page_of<A: Allocator + Copy>(alloc: A, fields: &[u8]) -> Result<Option<Respon
     let Some((count, rest)) = u8_at(fields) else {
         return Ok(None);
     };
-    if 8 < count {
+    if MOST_ENTRIES < count as usize {
         return Ok(None);
     }
     let Some((entries, rest)) = list_of(alloc, count, rest)? else {
@@ -190,11 +191,11 @@ fn response_of<A: Allocator + Copy>(alloc: A, bytes: &[u8]) -> Result<Option<Res
     ensures memory { OnErr result (IsListing bytes.now) }
 {
     match bytes {
-        [0x81, fields @ ..] => Ok(accepted_of(fields)),
-        [0x82, fields @ ..] => page_of(alloc, fields),
-        [0x83, fields @ ..] => Ok(status_of(fields)),
-        [0x84, fields @ ..] => Ok(at_end(Response::Done, fields)),
-        [0xee, fields @ ..] => Ok(refused_of(fields)),
+        [SAY_ACCEPTED, fields @ ..] => Ok(accepted_of(fields)),
+        [SAY_ENTRIES, fields @ ..] => page_of(alloc, fields),
+        [SAY_STATUS, fields @ ..] => Ok(status_of(fields)),
+        [SAY_DONE, fields @ ..] => Ok(at_end(Response::Done, fields)),
+        [SAY_REFUSED, fields @ ..] => Ok(refused_of(fields)),
         _ => Ok(None),
     }
 }

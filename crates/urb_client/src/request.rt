@@ -5,6 +5,10 @@ ghost use Rattle.urb_client.specs.Requests.{Asked, Gives, IsAsked, IsShort, requ
 ghost use Rattle.urb_client.specs.Responses.{frame};
 ghost use Rattle.urb_client.specs.Sessions.{Begins, Asks};
 
+use crate::format::{
+    ASK_CRASH, ASK_READ, ASK_RESTART, ASK_STATUS, ASK_SUBMIT, BAD_VALUE, MOST_ENTRIES, READ_FIELDS,
+    SUBMIT_HEAD, UNKNOWN_OPCODE, WRONG_LENGTH,
+};
 use byteorder::{BigEndian, ByteOrder};
 use std::alloc::{Allocator, Global};
 use urb_names::{ClientId, NoMemory, Refusal};
@@ -32,12 +36,6 @@ pub enum Request<A: Allocator = Global> {
     Restart,
 }
 
-const UNKNOWN_OPCODE: u8 = 2;
-
-const WRONG_LENGTH: u8 = 3;
-
-const BAD_VALUE: u8 = 4;
-
 /// The request that the bytes of a frame, after its length, spell. `Refusal::Frame` has the code of the first
 /// fault: 2 for an unknown opcode, also where there are no bytes at all, 3 for a length that the opcode doesn't
 /// have, 4 for a value outside its range. `Refusal::NoMemory` comes only where a submit's payload found no place.
@@ -57,11 +55,11 @@ fn parsed<A: Allocator>(alloc: A, bytes: &[u8]) -> Result<Request<A>, Refusal>
     ensures { Gives asked_by result (request_of bytes.now) }
 {
     match bytes {
-        [1, fields @ ..] => submit_of(alloc, fields),
-        [2, fields @ ..] => read_of(fields),
-        [3, fields @ ..] => alone(Request::Status, fields),
-        [4, fields @ ..] => alone(Request::Crash, fields),
-        [5, fields @ ..] => alone(Request::Restart, fields),
+        [ASK_SUBMIT, fields @ ..] => submit_of(alloc, fields),
+        [ASK_READ, fields @ ..] => read_of(fields),
+        [ASK_STATUS, fields @ ..] => alone(Request::Status, fields),
+        [ASK_CRASH, fields @ ..] => alone(Request::Crash, fields),
+        [ASK_RESTART, fields @ ..] => alone(Request::Restart, fields),
         _ => Err(Refusal::Frame(UNKNOWN_OPCODE)),
     }
 }
@@ -69,7 +67,7 @@ fn parsed<A: Allocator>(alloc: A, bytes: &[u8]) -> Result<Request<A>, Refusal>
 fn submit_of<A: Allocator>(alloc: A, fields: &[u8]) -> Result<Request<A>, Refusal>
     ensures { Gives asked_by result (submit_fields fields.now) }
 {
-    if fields.len() < 6 {
+    if fields.len() < SUBMIT_HEAD {
         return Err(Refusal::Frame(WRONG_LENGTH));
     }
     let Some(client) = ClientId::new(BigEndian::read_u16(fields)) else {
@@ -78,20 +76,17 @@ fn submit_of<A: Allocator>(alloc: A, fields: &[u8]) -> Result<Request<A>, Refusa
     let (_, rest) = fields.split_at(2);
     let number = BigEndian::read_u32(rest);
     let (_, payload) = rest.split_at(4);
-    match Vec::from_slice(alloc, payload) {
-        Ok(payload) => Ok(Request::Submit {
-            client,
-            number,
-            payload,
-        }),
-        Err(_) => Err(Refusal::NoMemory),
-    }
+    Ok(Request::Submit {
+        client,
+        number,
+        payload: Vec::from_slice(alloc, payload)?,
+    })
 }
 
 fn read_of<A: Allocator>(fields: &[u8]) -> Result<Request<A>, Refusal>
     ensures { Gives asked_by result (read_fields fields.now) }
 {
-    if fields.len() != 5 {
+    if fields.len() != READ_FIELDS {
         return Err(Refusal::Frame(WRONG_LENGTH));
     }
     let place = BigEndian::read_u32(fields);
@@ -99,7 +94,7 @@ fn read_of<A: Allocator>(fields: &[u8]) -> Result<Request<A>, Refusal>
         return Err(Refusal::Frame(BAD_VALUE));
     }
     let max = fields[4];
-    if max == 0 || 8 < max {
+    if max == 0 || MOST_ENTRIES < max as usize {
         return Err(Refusal::Frame(BAD_VALUE));
     }
     Ok(Request::Read { place, max })
@@ -138,21 +133,21 @@ fn encoded<A: Allocator>(alloc: A, request: &Request<A>) -> Result<Vec<u8, A>, N
             number,
             payload,
         } => {
-            let mut head = [0, 0, 1, 0, 0, 0, 0, 0, 0];
-            BigEndian::write_u16(&mut head, payload.len() as u16 + 7);
+            let mut head = [0, 0, ASK_SUBMIT, 0, 0, 0, 0, 0, 0];
+            BigEndian::write_u16(&mut head, (1 + SUBMIT_HEAD + payload.len()) as u16);
             BigEndian::write_u16(&mut head[3..], client.number());
             BigEndian::write_u32(&mut head[5..], *number);
             frame.extend_from_slice(&head)?;
             frame.extend_from_slice(payload.as_slice())?;
         }
         Request::Read { place, max } => {
-            let mut head = [0, 6, 2, 0, 0, 0, 0, *max];
+            let mut head = [0, 1 + READ_FIELDS as u8, ASK_READ, 0, 0, 0, 0, *max];
             BigEndian::write_u32(&mut head[3..], *place);
             frame.extend_from_slice(&head)?;
         }
-        Request::Status => frame.extend_from_slice(&[0, 1, 3])?,
-        Request::Crash => frame.extend_from_slice(&[0, 1, 4])?,
-        Request::Restart => frame.extend_from_slice(&[0, 1, 5])?,
+        Request::Status => frame.extend_from_slice(&[0, 1, ASK_STATUS])?,
+        Request::Crash => frame.extend_from_slice(&[0, 1, ASK_CRASH])?,
+        Request::Restart => frame.extend_from_slice(&[0, 1, ASK_RESTART])?,
     }
     Ok(frame)
 }

@@ -1,9 +1,13 @@
 //! Responses to clients, and their frames.
 
-ghost use Rattle.std.specs.Prelude.{◌≡◌, ℕ, ◌≤◌, ◌++◌, ◌+◌, ◌*◌, length, IfOk, OnOk};
-ghost use Rattle.std.specs.List.{flat_map};
-ghost use Rattle.urb_client.specs.Responses.{encoding, response_body, entry_bytes, entry_head, state_byte, said_by};
+ghost use Rattle.std.specs.Prelude.{◌≡◌, ◌≤◌, ◌++◌, length, IfOk, OnOk};
+ghost use Rattle.std.specs.List.{All, flat_map};
+ghost use Rattle.urb_client.specs.Responses.{IsEntry, IsSaid, Listing, encoding, response_body, entry_bytes, entry_head, state_byte, said_by};
 
+use crate::format::{
+    ENTRY_HEAD, LONGEST_FRAME, MOST_ENTRIES, SAY_ACCEPTED, SAY_DONE, SAY_ENTRIES, SAY_REFUSED,
+    SAY_STATUS,
+};
 use byteorder::{BigEndian, ByteOrder};
 use std::alloc::{Allocator, Global};
 use std::marker::Model;
@@ -19,21 +23,29 @@ pub struct Entries<A: Allocator = Global> {
 impl<A: Allocator> Model for Entries<A> {
     ghost use Rattle.std.specs.Prelude.{◌≤◌, List, vec_len};
     ghost use Rattle.urb_names.specs.Naming.{Label, Content};
+    ghost use Rattle.urb_client.specs.declared.format.TheConstants.{MOST_ENTRIES};
 
     ghost Value = { List (Label × Content) };
 
     ghost view = { λ a. a.entries.items };
 
-    ghost invariant = { λ a. vec_len a.entries ≤ 8 };
+    ghost invariant = { λ a. vec_len a.entries ≤ MOST_ENTRIES };
 }
 
 impl<A: Allocator> Entries<A> {
     /// The entries, in the order of the log.
     pub fn as_slice(&self) -> &[(Name, Message<A>)]
         ensures value { result.now ≡ self.now }
-        ensures limit { length self.now ≤ 8 }
+        ensures limit { length self.now ≤ MOST_ENTRIES }
     {
         self.entries.as_slice()
+    }
+
+    // That they are entries of a log, and fit in a frame: for proofs alone, since it does nothing.
+    fn limits(&self)
+        ensures { IsSaid (Listing self.now) }
+    {
+        limits_of(self.as_slice());
     }
 }
 
@@ -83,11 +95,11 @@ pub enum Response<A: Allocator = Global> {
 impl<A: Allocator> Response<A> {
     ghost use Rattle.std.specs.Prelude.{◌≡◌, ◌≤◌, vec_len, IsOkAnd};
     ghost use Rattle.urb_names.specs.Refusing.{number_of, detail_of};
-    ghost use Rattle.urb_client.specs.Responses.{said_by, Listing, Refused};
+    ghost use Rattle.urb_client.specs.Responses.{Refused};
 
     /// The response with these entries. It moves them and takes no memory.
     pub fn entries(entries: Vec<(Name, Message<A>), A>) -> Result<Response<A>, NoMemory>
-        requires { vec_len entries ≤ 8 }
+        requires { vec_len entries ≤ MOST_ENTRIES }
         ensures { IsOkAnd result (λ response. said_by response ≡ Listing entries.items) }
     {
         Ok(Response::Entries(Entries { entries }))
@@ -102,19 +114,36 @@ impl<A: Allocator> Response<A> {
             detail: refusal.detail(),
         }
     }
+
+    /// That every response is one that can be said, and fits in a frame: for proofs alone, since it does nothing.
+    pub fn limits(&self)
+        ensures said { IsSaid (said_by self.now) }
+        ensures short { length (response_body (said_by self.now)) ≤ LONGEST_FRAME }
+    {
+        self.values();
+    }
+
+    // That the values of a response are within their ranges: for proofs alone, since it does nothing.
+    fn values(&self)
+        ensures { IsSaid (said_by self.now) }
+    {
+        match self {
+            Response::Accepted(seq) => {
+                let _seq = *seq;
+            }
+            Response::Entries(entries) => entries.limits(),
+            Response::Status { own, logged, .. } => {
+                let _counts = (*own, *logged);
+            }
+            Response::Done => {}
+            Response::Refused { number, detail } => {
+                let _refusal = (*number, *detail);
+            }
+        }
+    }
 }
 
-const ACCEPTED: u8 = 0x81;
-
-const ENTRIES: u8 = 0x82;
-
-const STATUS: u8 = 0x83;
-
-const DONE: u8 = 0x84;
-
-const REFUSED: u8 = 0xee;
-
-/// The whole frame of a response. Each response has one: its types keep it within a frame's limits.
+/// The whole frame of a response. Each response has one, by its `limits`.
 pub fn encode_response<A: Allocator + Copy>(
     alloc: A,
     response: &Response<A>,
@@ -122,6 +151,7 @@ pub fn encode_response<A: Allocator + Copy>(
     ensures { IfOk result (λ v. v.items ≡ encoding (said_by response.now)) }
 {
     let body = body(alloc, response)?;
+    response.limits();
     let mut len = [0; 2];
     BigEndian::write_u16(&mut len, body.len() as u16);
     let mut frame = Vec::with_capacity(alloc, 2 + body.len())?;
@@ -131,30 +161,29 @@ pub fn encode_response<A: Allocator + Copy>(
 }
 
 fn body<A: Allocator>(alloc: A, response: &Response<A>) -> Result<Vec<u8, A>, NoMemory>
-    ensures bytes { IfOk result (λ v. v.items ≡ response_body (said_by response.now)) }
-    ensures short { IfOk result (λ v. length v.items ≤ 8300) }
+    ensures { IfOk result (λ v. v.items ≡ response_body (said_by response.now)) }
 {
     let mut body = Vec::new(alloc);
     match response {
         Response::Accepted(seq) => {
-            let mut head = [ACCEPTED, 0, 0, 0, 0];
+            let mut head = [SAY_ACCEPTED, 0, 0, 0, 0];
             BigEndian::write_u32(&mut head[1..], *seq);
             body.extend_from_slice(&head)?;
         }
         Response::Entries(entries) => {
             let entries = entries.as_slice();
-            body.extend_from_slice(&[ENTRIES, entries.len() as u8])?;
+            body.extend_from_slice(&[SAY_ENTRIES, entries.len() as u8])?;
             push_entries(&mut body, entries)?;
         }
         Response::Status { state, own, logged } => {
-            let mut head = [STATUS, state.byte(), 0, 0, 0, 0, 0, 0, 0, 0];
+            let mut head = [SAY_STATUS, state.byte(), 0, 0, 0, 0, 0, 0, 0, 0];
             BigEndian::write_u32(&mut head[2..], *own);
             BigEndian::write_u32(&mut head[6..], *logged);
             body.extend_from_slice(&head)?;
         }
-        Response::Done => body.push(DONE)?,
+        Response::Done => body.push(SAY_DONE)?,
         Response::Refused { number, detail } => {
-            let mut head = [REFUSED, *number, 0, 0, 0, 0];
+            let mut head = [SAY_REFUSED, *number, 0, 0, 0, 0];
             BigEndian::write_u32(&mut head[2..], *detail);
             body.extend_from_slice(&head)?;
         }
@@ -166,8 +195,7 @@ fn push_entries<A: Allocator, B: Allocator>(
     body: &mut Vec<u8, A>,
     entries: &[(Name, Message<B>)],
 ) -> Result<(), NoMemory>
-    ensures bytes { OnOk result (body.new.items ≡ body.old.items ++ flat_map entry_bytes entries.now) }
-    ensures short { OnOk result (length body.new.items ≤ length body.old.items + 1037 * length entries.now) }
+    ensures { OnOk result (body.new.items ≡ body.old.items ++ flat_map entry_bytes entries.now) }
 {
     for entry in entries {
         push_entry(body, entry)?;
@@ -179,8 +207,7 @@ fn push_entry<A: Allocator, B: Allocator>(
     body: &mut Vec<u8, A>,
     entry: &(Name, Message<B>),
 ) -> Result<(), NoMemory>
-    ensures bytes { OnOk result (body.new.items ≡ body.old.items ++ entry_bytes entry.now) }
-    ensures short { OnOk result (length body.new.items ≤ length body.old.items + 1037) }
+    ensures { OnOk result (body.new.items ≡ body.old.items ++ entry_bytes entry.now) }
 {
     let (name, message) = entry;
     body.extend_from_slice(&entry_head(*name, message))?;
@@ -188,8 +215,18 @@ fn push_entry<A: Allocator, B: Allocator>(
     Ok(())
 }
 
+// That each is an entry of a log: for proofs alone, since it does nothing.
+fn limits_of<A: Allocator>(entries: &[(Name, Message<A>)])
+    ensures { All IsEntry entries.now }
+{
+    for (name, message) in entries {
+        name.limits();
+        message.limits();
+    }
+}
+
 // What stands before the payload.
-fn entry_head<A: Allocator>(name: Name, message: &Message<A>) -> [u8; 13]
+fn entry_head<A: Allocator>(name: Name, message: &Message<A>) -> [u8; ENTRY_HEAD]
     ensures { result ≡ entry_head name message.now }
 {
     let mut head = [name.sender.number(), 0, 0, 0, 0, 0, 0, 0, 0, 0, 0, 0, 0];

@@ -7,6 +7,7 @@ ghost use Rattle.urb_client.specs.Requests.{Asked, IsAsked, asked_by, request_of
 ghost use Rattle.urb_client.specs.Responses.{Said, said_by, Refused, encoding};
 ghost use Rattle.urb_client.specs.Sessions.{ReadsPiece, PartRead, Answers, WholeSession, BreaksOff, IsReadOnce};
 
+use crate::format::{BAD_LENGTH, CUT, LONGEST_REQUEST};
 use crate::input::{ReadFailed, read_full};
 use crate::{Request, Response, encode_response, parse_request};
 use byteorder::{BigEndian, ByteOrder};
@@ -70,12 +71,6 @@ pub trait Desk {
         ensures { IfOk result (λ response. answers self.old (asked_by request.now) (said_by response) self.new) };
 }
 
-const LONGEST_FRAME: usize = 1200;
-
-const BAD_LENGTH: u8 = 1;
-
-const CUT: u8 = 5;
-
 // What stands at the front of the input.
 pub enum Piece {
     // Nothing.
@@ -96,7 +91,7 @@ fn length_of(bytes: &[u8]) -> u16
 
 // Reads one frame into `body`.
 fn read_frame<R: Read>(reader: &mut R, body: &mut [u8]) -> Result<Piece, ReadFailed>
-    requires { length body.old ≡ 1200 }
+    requires { length body.old ≡ LONGEST_REQUEST }
     ensures piece { IfOk result (λ piece. ReadsPiece (R.remaining reader.old) (R.remaining reader.new) body.new piece) }
     ensures err { OnErr result (PartRead (R.remaining reader.old) (R.remaining reader.new)) }
 {
@@ -112,7 +107,7 @@ fn read_frame<R: Read>(reader: &mut R, body: &mut [u8]) -> Result<Piece, ReadFai
     if len == 0 {
         return Ok(Piece::Broken(BAD_LENGTH));
     }
-    if LONGEST_FRAME < len {
+    if LONGEST_REQUEST < len {
         return Ok(Piece::Broken(BAD_LENGTH));
     }
     let got = read_full(reader, &mut body[..len])?;
@@ -127,13 +122,8 @@ fn write_frame<W: Write>(writer: &mut W, frame: &[u8]) -> Result<(), SessionFaul
     ensures ok { OnOk result (Appends (W.contents writer.old) (W.contents writer.new) frame.now) }
     ensures err { IfErr result (λ fault. fault ≡ SessionFault.Write) }
 {
-    if writer.write_all(frame).is_err() {
-        return Err(SessionFault::Write);
-    }
-    if writer.flush().is_err() {
-        return Err(SessionFault::Write);
-    }
-    Ok(())
+    writer.write_all(frame).map_err(|_| SessionFault::Write)?;
+    writer.flush().map_err(|_| SessionFault::Write)
 }
 
 // Writes the frame of a response.
@@ -180,7 +170,7 @@ pub fn session<R: Read, W: Write, D: Desk>(
     ensures broken_off { IfErr result (λ fault. IfSome (R.remaining reader.old) (λ input. IsSomeAnd (R.remaining reader.new) (λ left.
         BreaksOff D.answers input fault left desk.old desk.new (W.contents writer.old) (W.contents writer.new)))) }
 {
-    let mut body = [0u8; LONGEST_FRAME];
+    let mut body = [0u8; LONGEST_REQUEST];
     for _ in 0..u64::MAX {
         match read_frame(reader, &mut body)? {
             Piece::End => return Ok(Ended::Closed),

@@ -8,6 +8,7 @@ use Rattle.urb_fifo.specs.Delivery.{Delivery, IsDelivery}
 use Rattle.urb_fifo.specs.Releasing.{newly_released}
 use Rattle.urb_fifo.specs.declared.fifo.Fifo.TheInside.{Inside}
 
+-- what contracts see of the fields
 abbrev pub view_of : {A : Type 0} → Inside A → Delivery
 view_of a = record { limits = a.config; certified = a.certified.items; log = a.log.items; reserved = a.reserved }
 
@@ -16,6 +17,7 @@ pub record HasRoom {A : Type 0} (a : Inside A) (x : Label) : Type 0 where
   pub certified : has_name a.certified.items x ≡ false → vec_len a.certified < vec_capacity a.certified
   pub log : has_name a.certified.items x ≡ false → vec_len a.log + length (newly_released a.log.items a.certified.items x) ≤ vec_capacity a.log
 
+-- what the fields keep: their value, and the room that is promised
 pub record IsKept {A : Type 0} (a : Inside A) : Type 0 where
   pub delivery : IsDelivery (view_of a)
   pub room : ForSome a.reserved (HasRoom a)

@@ -2,6 +2,7 @@
 use Rattle.std.proofs.Common.{Bool, Err, List, None, Ok, Option, Result, Some, bytes_eq, cond, false, find, is_none, length, nat_lt, not, refl, subst, sym, true, ℕ, ◌&&◌, ◌++◌, ◌==◌, ◌||◌, ◌∷◌, ◌≡◌, ◌⊎◌, [], inl, inr}
 use Rattle.std.proofs.lemmas.Bool.{cond-false, cond_both}
 use Rattle.urb_group.proofs.NodesSteps.{updated-at}
+pub use Rattle.urb_group.specs.Delivering.{event_node}
 use Rattle.urb_group.specs.Step.{Arrive, Commit, Crash, Event, Fail, Restart, Submit, Tick, at_node, bytes_arrive, is_for, packet_arrives, step, world_after}
 use Rattle.urb_group.specs.World.{World, truthful}
 use Rattle.urb_names.specs.Acknowledged.{acked, with_ack}
@@ -18,16 +19,6 @@ use Rattle.urb_node.specs.Replies.{Drafted, Refused, Reply, Same, Sent, Stored, 
 use Rattle.urb_node.specs.Steps.{arrives, commits, crashes, fails, is_down, is_storing, next_position, restarts, same_record, says, submits, submits_by_number, ticks}
 use Rattle.urb_stable.specs.Entries.{Entry}
 use Rattle.urb_stable.specs.Records.{cert, pend}
-
--- the node at which an event happens
-abbrev pub event_node : Event → ℕ
-event_node (Submit p m) = p
-event_node (Arrive p bytes) = p
-event_node (Tick p) = p
-event_node (Commit p position entry) = p
-event_node (Fail p) = p
-event_node (Crash p) = p
-event_node (Restart p image) = p
 
 -- ---- the other nodes, and the limits
 

@@ -38,7 +38,11 @@ pub mod StockedNodes
 pub mod StockedClusters
 pub mod StockedPlays
 pub mod StockedFailures
+pub mod StoppedCalls
 pub mod BlankStores
 pub mod OpenedPlaces
 pub mod Reopened
 pub mod Asking
+pub mod StoredRecords
+pub mod Deliveries
+pub mod AgreeingDeliveries

@@ -15,7 +15,7 @@ use Rattle.urb_group.specs.Clustered.{Clustered, held_draft}
 use Rattle.urb_group.specs.Clusters.{Applies, Reacts, RestartsBy, Returns, StoresHeld, is_fallen, stored_as}
 use Rattle.urb_group.specs.Commands.{AreEvents, At_end, By_event, By_none, IsEventOf, IsUnread, is_no_memory, reply_of}
 use Rattle.urb_group.specs.Invariant.{IsKept}
-use Rattle.urb_group.specs.Plays.{Follows, IsPromised, Plays, Runs, Stops, told_in}
+use Rattle.urb_group.specs.Plays.{Follows, IsPromised, Plays, Runs, EndsEarly, told_in}
 use Rattle.urb_group.specs.Shown.{GroupView, IsSound, Shows}
 use Rattle.urb_group.specs.Step.{Commit, Event, Fail, Restart, Run, run, step}
 use Rattle.urb_group.specs.Truth.{AreTruthful, ToldTruth}
@@ -281,23 +281,23 @@ module _ {S A : Type 0} (g : Ghosts S A) where
       }
 
   -- the group that stands when memory was refused is that of the last command that was applied
-  stopped-group : (old new : Clustered S) (commands : List (Command A)) (replies : List (Reply A)) → (stops : Stops g old commands replies new) → IsSound stops.last.group → new.group ≡ stops.last.group
-  stopped-group old new commands replies stops sound =
-      ⊎_elim (λ e. ap (λ (c : Clustered S). c.group) e) (λ h. applied-refused stops.last new stops.command refusal.NoMemory h sound) stops.refused
+  last-group : (old new : Clustered S) (commands : List (Command A)) (replies : List (Reply A)) → (early : EndsEarly g old commands replies new) → IsSound early.last.group → new.group ≡ early.last.group
+  last-group old new commands replies early sound =
+      ⊎_elim (λ e. ap (λ (c : Clustered S). c.group) e) (λ h. applied-refused early.last new early.command refusal.NoMemory h sound) early.refused
 
   pub plays-runs : (old new : Clustered S) (commands : List (Command A)) (result : Result (Vec (Reply A) A) (Vec (Reply A) A × NoMemory)) → Plays g old commands result new → IsSound old.group
       → (w : World) → Shows old.group w → Runs w commands (told_in result) new.group
   plays-runs old new commands (Ok replies) h sound w s = runs-of old.group new.group commands replies.items w (sound-kept old.group w sound s) (follows-run old new commands replies.items h.0 sound w s)
   plays-runs old new commands (Err e) h sound w s =
       let is = follows-run old h.last commands e.0.items h.follows sound w s in
-      subst (λ (group : GroupView). Runs w commands (map reply_of e.0.items) group) (sym (stopped-group old new commands e.0.items h is.sound))
+      subst (λ (group : GroupView). Runs w commands (map reply_of e.0.items) group) (sym (last-group old new commands e.0.items h is.sound))
       (runs-of old.group h.last.group commands e.0.items w (sound-kept old.group w sound s) is)
 
   pub plays-sound : (old new : Clustered S) (commands : List (Command A)) (result : Result (Vec (Reply A) A) (Vec (Reply A) A × NoMemory)) → Plays g old commands result new → IsSound old.group → IsSound new.group
   plays-sound old new commands (Ok replies) h sound = (follows-run old new commands replies.items h.0 sound sound.world sound.shows).sound
   plays-sound old new commands (Err e) h sound =
       let is = follows-run old h.last commands e.0.items h.follows sound sound.world sound.shows in
-      subst IsSound (sym (stopped-group old new commands e.0.items h is.sound)) is.sound
+      subst IsSound (sym (last-group old new commands e.0.items h is.sound)) is.sound
 
   -- ---- the loop
 
@@ -323,12 +323,12 @@ module _ {S A : Type 0} (g : Ghosts S A) (old last new : Clustered S) (commands 
   behind-is = ap (λ (j : ℕ). slice_get commands j) count ∙ slice_get_read commands (length commands) i what refl within is
 
   -- the next command was not applied
-  pub stops-before : Stops g old commands replies last
-  stops-before = record { last = last; command = what; follows = follows-all; behind = behind-is; refused = inl refl }
+  pub ends-before : EndsEarly g old commands replies last
+  ends-before = record { last = last; command = what; follows = follows-all; behind = behind-is; refused = inl refl }
 
   -- it was, and was refused for memory
-  pub stops-short : (r : Reply A) → Applies g last what (reply_of r) new → is_no_memory r ≡ true → Stops g old commands replies new
-  stops-short r applies short =
+  pub ends-short : (r : Reply A) → Applies g last what (reply_of r) new → is_no_memory r ≡ true → EndsEarly g old commands replies new
+  ends-short r applies short =
       record {
         last = last;
         command = what;

@@ -17,14 +17,16 @@ use Rattle.urb_stable.specs.declared.stable.Stable.{Ghosts}
 use Rattle.urb_stable.specs.declared.stable.StoreFault.{StoreFault}
 use Rattle.urb_stable.specs.declared.stable.StoreFault.TheVariants as fault
 use Rattle.urb_group.proofs.Opened.{misfit-unfit}
-use Rattle.urb_group.proofs.StockedPlays.{stocked-fits}
+use Rattle.urb_group.proofs.StockedClusters.{asked-left, leaves-held, one-store}
+use Rattle.urb_group.proofs.StockedPlays.{held-fits}
 use Rattle.urb_group.specs.Asked.{Gives}
 use Rattle.urb_group.specs.Calls.{Opens}
 use Rattle.urb_group.specs.Clustered.{Clustered}
-use Rattle.urb_group.specs.Reopening.{AllGive, AreRefused, FirstFails, Continues, ContinuesFrom, HasStopped, OpensFrom, OpensGiven, OpensStores}
+use Rattle.urb_group.specs.Reopening.{AllGive, AreRefused, FirstFails, Continues, ContinuesFrom, HasStopped, OpensFrom, OpensGiven, OpensStores, stores_in}
 use Rattle.urb_group.specs.Shown.{GroupView, Shows}
-use Rattle.urb_group.specs.Stocked.{AreChosen, ContentsFit, IsStocked, IsStoreOf}
-use Rattle.urb_group.specs.World.{opened}
+use Rattle.urb_group.specs.Stocked.{AllHold, AreChosen, HoldsOf, IsStocked, IsStoreOf, LeavesOf, RestLeaves, StopLeaves}
+use Rattle.urb_group.specs.Stopping.{GoesOnIn}
+use Rattle.urb_group.specs.World.{World, opened}
 
 -- ---- stores that were asked one after the other
 
@@ -81,9 +83,13 @@ given-chosen g (s ∷ stores) (im ∷ images) (a ∷ asked) h honest (suc i) sto
 given-store : {S A : Type 0} (g : Ghosts S A) (p : ℕ) (image : List Entry) (before after : S) → Gives g before (Ok image) after → IsStoreOf g (opened_node p image) after
 given-store g p image before after gives =
     record {
-      contents = λ honest records c. subst (λ (o : Option Entry). IsContents (g.certain after) o records) gives.clear.1 c ∙ (gives.given honest).0;
+      contents = holds;
+      left = leaves-held g (opened_node p image) after holds gives.rest;
       up = λ honest e. ((gives.given honest).0, gives.clear.1);
     }
+  where
+    holds : HoldsOf g (opened_node p image) after
+    holds honest records c = subst (λ (o : Option Entry). IsContents (g.certain after) o records) gives.clear.1 c ∙ (gives.given honest).0
 
 pub opens-stocked : {S A : Type 0} (g : Ghosts S A) (size : Limits) (stores : List S) (result : Result (Clustered S) (Vec S A × Refusal)) → OpensStores g size stores result → IfOk result (λ cluster. IsStocked g cluster)
 opens-stocked g size stores (Ok cluster) h =
@@ -94,36 +100,32 @@ opens-stocked g size stores (Ok cluster) h =
     }
 opens-stocked g size stores (Err e) h = tt
 
--- ---- stores that were asked are still those of their nodes
+-- ---- stores that were asked still hold what a stop may leave of their nodes
 
--- whichever node the one store was of, the other is of it
-StaysOf : {S A : Type 0} → Ghosts S A → S → S → Type 0
-StaysOf g before after = (node : Node) → IsStoreOf g node before → IsStoreOf g node after
+-- Of whichever node the one store holds it, the other does; and a stop inside the call leaves of the other what it might have
+-- left of the one.
+record StaysOf {S A : Type 0} (g : Ghosts S A) (before after : S) : Type 0 where
+  pub holds : (node : Node) → HoldsOf g node before → HoldsOf g node after
+  pub leaves : (node : Node) → HoldsOf g node before → (g.is_honest before → LeavesOf g node before) → g.is_honest before → g.is_clean after → LeavesOf g node after
 
 -- it gave its list
 gave-stays : {S A : Type 0} (g : Ghosts S A) (before after : S) (image : List Entry) → Gives g before (Ok image) after → StaysOf g before after
-unfolding StaysOf
 gave-stays g before after image gives =
-    λ node store.
     record {
-      contents = λ honest records c.
+      holds = λ node holds honest records c.
           (let same : records ≡ image = subst (λ (o : Option Entry). IsContents (g.certain after) o records) gives.clear.1 c ∙ (gives.given honest).0 in
-          store.contents (gives.honest honest) records (subst (λ (rs : List Entry). IsContents (g.certain before) (g.doubt before) rs) (sym same) (gives.given honest).1));
-      up = λ honest e.
-          (let was = store.up (gives.honest honest) e in
-          ((gives.given honest).0 ∙ (subst (λ (o : Option Entry). IsContents (g.certain before) o image) was.1 (gives.given honest).1 ∙ was.0), gives.clear.1));
+          holds (gives.honest honest) records (subst (λ (rs : List Entry). IsContents (g.certain before) (g.doubt before) rs) (sym same) (gives.given honest).1));
+      leaves = λ node holds rest. asked-left g node before after gives.stop holds;
     }
 
 -- it answered a fault
 failed-stays : {S A : Type 0} (g : Ghosts S A) (before after : S) (fault : StoreFault) → Gives g before (Err fault) after → StaysOf g before after
-unfolding StaysOf
 failed-stays g before after fault gives =
-    λ node store.
     record {
-      contents = λ honest records c.
-          store.contents (gives.honest honest) records
+      holds = λ node holds honest records c.
+          holds (gives.honest honest) records
           (subst (λ (certain : List Entry). IsContents certain (g.doubt before) records) (gives.failed honest) (subst (λ (o : Option Entry). IsContents (g.certain after) o records) gives.kept.1 c));
-      up = λ honest e. (let was = store.up (gives.honest honest) e in (gives.failed honest ∙ was.0, gives.kept.1 ∙ was.1));
+      leaves = λ node holds rest. asked-left g node before after gives.stop holds;
     }
 
 -- each store stays so in its place
@@ -136,8 +138,8 @@ AllStay : {S A : Type 0} → Ghosts S A → List S → List S → Type 0
 AllStay g stores asked = (i : ℕ) (store : _) → slice_get asked i ≡ Some store → StayIn g stores asked i store
 
 same-stay : {S A : Type 0} (g : Ghosts S A) (stores : List S) → AllStay g stores stores
-unfolding AllStay StaysOf
-same-stay g stores = λ i store e. record { before = store; was = e; stays = λ node h. h }
+unfolding AllStay
+same-stay g stores = λ i store e. record { before = store; was = e; stays = record { holds = λ node h. h; leaves = λ node h rest honest clean. rest honest } }
 
 one-stays : {S A : Type 0} (g : Ghosts S A) (before after : S) (stores asked : List S) → StaysOf g before after → AllStay g stores asked → AllStay g (before ∷ stores) (after ∷ asked)
 unfolding AllStay
@@ -172,15 +174,28 @@ refused-stay {S} g stores asked why h = ⊎_elim first (λ short. subst (λ (xs 
         (subst (λ (xs : List S). AllStay g (f.1.earlier ++ f.1.before ∷ f.1.later) xs) (sym f.1.are)
         (given-stay g f.1.earlier f.1.images f.1.gave f.1.given (f.1.before ∷ f.1.later) (f.1.after ∷ f.1.later) (one-stays g f.1.before f.1.after f.1.later f.1.later (failed-stays g f.1.before f.1.after f.0 f.1.failed) (same-stay g f.1.later))))
 
--- so the cluster is stocked with them
-stays-stocked : {S A : Type 0} (g : Ghosts S A) (old : Clustered S) (asked : List S) → AllStay g old.stores asked → IsStocked g old → IsStocked g (record old { stores = asked })
-unfolding AllStay StaysOf
-stays-stocked g old asked all h =
-    record {
-      world = h.world;
-      shows = h.shows;
-      stores = λ i store got. (let one = all i store got in one.stays (h.world.node (suc i)) (h.stores i one.before one.was));
-    }
+-- so they all do
+stay-held : {S A : Type 0} (g : Ghosts S A) (w : World) (stores asked : List S) → AllStay g stores asked → AllHold g w stores → AllHold g w asked
+unfolding AllStay
+stay-held g w stores asked all hold = λ i store got. (let one = all i store got in one.stays.holds (w.node (suc i)) (hold i one.before one.was))
+
+-- and a stop inside the call leaves no more of them
+stay-left : {S A : Type 0} (g : Ghosts S A) (w : World) (stores asked : List S) → AllStay g stores asked → AllHold g w stores → RestLeaves g w stores → StopLeaves g w stores asked
+unfolding AllStay
+stay-left g w stores asked all hold rest =
+    λ i before after was is honest clean.
+    (let one = all i after is in
+    let same : before ≡ one.before = one-store stores i was one.was in
+    one.stays.leaves (w.node (suc i)) (hold i one.before one.was) (rest i one.before one.was) (subst g.is_honest same honest) clean)
+
+-- those of a cluster that was opened, or of one that was not
+open-stays : {S A : Type 0} (g : Ghosts S A) (size : Limits) (stores : List S) (result : Result (Clustered S) (Vec S A × Refusal)) → OpensStores g size stores result → AllStay g stores (stores_in result)
+open-stays g size stores (Ok cluster) h = all-given-stay g stores h.images cluster.stores h.given
+open-stays g size stores (Err e) h = ⊎_elim (λ k. refused-stay g stores e.0.items e.1 k) (λ k. all-given-stay g stores k.images e.0.items k.given) h
+
+pub opens-leaves : {S A : Type 0} (g : Ghosts S A) (size : Limits) (stores : List S) (result : Result (Clustered S) (Vec S A × Refusal)) → OpensStores g size stores result
+    → (w : World) → AllHold g w stores → RestLeaves g w stores → StopLeaves g w stores (stores_in result)
+opens-leaves g size stores result h w = stay-left g w stores (stores_in result) (open-stays g size stores result h)
 
 -- ---- it goes on
 
@@ -196,32 +211,28 @@ honest-behind : {S : Type 0} (P : S → Type 0) (earlier later : List S) (s : S)
 honest-behind P [] later s h = h.0
 honest-behind P (x ∷ earlier) later s h = honest-behind P earlier later s h.1
 
-module _ {S A : Type 0} (g : Ghosts S A) (old : Clustered S) (size : Limits) (stores : List S) (stopped : HasStopped g old size stores) where
-  places : length stores ≡ size.n → length old.stores ≡ length old.group.nodes
-  places count = ap length stopped.stores ∙ (count ∙ sym stopped.counted)
+module _ {S A : Type 0} (g : Ghosts S A) (old : GroupView) (w : World) (size : Limits) (stores : List S) (stopped : HasStopped g old w size stores) where
+  same-size : w.size ≡ size
+  same-size = sym stopped.shows.size ∙ stopped.size
 
-  fits : length stores ≡ size.n → ContentsFit g old
-  fits count = stocked-fits g old stopped.sound (places count) stopped.stocked
+  fits : length stores ≡ size.n → (images : List (List Entry)) → AreChosen g stores images → GoesOnIn w (image_of images)
+  fits count = held-fits g old w stores stopped.sound stopped.shows stopped.holds (count ∙ sym stopped.counted)
 
-  chosen : (images : List (List Entry)) (asked : List S) → AllGive g stores images asked → All g.is_honest asked → AreChosen g old.stores images
+  chosen : (images : List (List Entry)) (asked : List S) → AllGive g stores images asked → All g.is_honest asked → AreChosen g stores images
   chosen images asked given honest =
       record {
-        one_each = given-count g stores images asked given ∙ sym (ap length stopped.stores);
-        each = λ i store image e f. given-chosen g stores images asked given (recursion_from_All g.is_honest asked honest) i store image (subst (λ (xs : List S). slice_get xs i ≡ Some store) stopped.stores e) f;
+        one_each = given-count g stores images asked given;
+        each = λ i store image e f. given-chosen g stores images asked given (recursion_from_All g.is_honest asked honest) i store image e f;
       }
 
-  goes-on-from : length stores ≡ size.n → (new : Clustered S) → OpensGiven g size stores new.stores (Ok new.group) → All g.is_honest new.stores → ContinuesFrom g old new
+  goes-on-from : length stores ≡ size.n → (new : Clustered S) → OpensGiven g size stores new.stores (Ok new.group) → All g.is_honest new.stores → ContinuesFrom g w stores new.group
   goes-on-from count new h honest =
       let all = chosen h.images new.stores h.given honest in
-      let fit = fits count in
-      let same : fit.world.size ≡ size = sym fit.shows.size ∙ stopped.size in
       record {
-        world = fit.world;
-        shows = fit.shows;
         images = h.images;
         chosen = all;
-        goes_on = fit.fit h.images all;
-        opens = subst (λ (l : Limits). Shows new.group (opened l (image_of h.images))) (sym same) h.opens.1;
+        goes_on = fits count h.images all;
+        opens = subst (λ (l : Limits). Shows new.group (opened l (image_of h.images))) (sym same-size) h.opens.1;
         ready = λ p. (h.opens.1.nodes p).state;
       }
 
@@ -231,8 +242,7 @@ module _ {S A : Type 0} (g : Ghosts S A) (old : Clustered S) (size : Limits) (st
     where
       fit : Fits size (image_of h.images)
       fit =
-          let all = fits count in
-          subst (λ (l : Limits). Fits l (image_of h.images)) (sym all.shows.size ∙ stopped.size) (all.fit h.images (chosen h.images asked h.given honest)).fits
+          subst (λ (l : Limits). Fits l (image_of h.images)) same-size (fits count h.images (chosen h.images asked h.given honest)).fits
 
       at : (r : Refusal) → Opens size h.images (Err r) → (r ≡ refusal.NoMemory) ⊎ (r ≡ refusal.Device)
       at refusal.NoMemory opens = inl refl
@@ -248,10 +258,10 @@ module _ {S A : Type 0} (g : Ghosts S A) (old : Clustered S) (size : Limits) (st
           let told = honest-fault f.0 f.1.failed.faults.0 (f.1.failed.faults.1 (honest-behind g.is_honest f.1.gave f.1.later f.1.after was)) in
           subst (λ (r : Refusal). (r ≡ refusal.NoMemory) ⊎ (r ≡ refusal.Device)) (sym f.2) told
 
-  pub opens-goes_on : length stores ≡ size.n → (result : Result (Clustered S) (Vec S A × Refusal)) → OpensStores g size stores result → Continues g old result
+  pub opens-goes_on : length stores ≡ size.n → (result : Result (Clustered S) (Vec S A × Refusal)) → OpensStores g size stores result → Continues g old w size stores result
   opens-goes_on count (Ok new) h = goes-on-from count new h
   opens-goes_on count (Err e) h =
-      let stay = ⊎_elim (λ k. refused-stay g stores e.0.items e.1 k) (λ k. all-given-stay g stores k.images e.0.items k.given) h in (
-        stays-stocked g old e.0.items (subst (λ (xs : List S). AllStay g xs e.0.items) (sym stopped.stores) stay) stopped.stocked,
+      let stay = open-stays g size stores (Err e) h in (
+        record { sound = stopped.sound; counted = stopped.counted; size = stopped.size; shows = stopped.shows; holds = stay-held g w stores e.0.items stay stopped.holds },
         λ honest. ⊎_elim (λ k. refused-so e.0.items e.1 k honest) (λ k. not-inconsistent count e.0.items e.1 k honest) h,
       )

@@ -23,7 +23,7 @@ use Rattle.urb_group.specs.Clustered.{Clustered, held_draft}
 use Rattle.urb_group.specs.Clusters.{Alone, Applies, AsksStore, Reacts, RestartsBy, Returns, StoreMoves, StoresDraft, StoresHeld, is_fallen, stored_as}
 use Rattle.urb_group.specs.Shown.{GroupView, Shows, view_of}
 use Rattle.urb_group.specs.Step.{Commit, Crash, Event, Fail, Restart, Tick, step}
-use Rattle.urb_group.specs.Stocked.{AreStoresOf, IsStocked, IsStoreOf}
+use Rattle.urb_group.specs.Stocked.{AreStoresOf, HoldsOf, IsStocked, IsStoreOf, LeavesOf}
 use Rattle.urb_group.specs.Stopping.{MayLeave}
 use Rattle.urb_group.specs.World.{World}
 use Rattle.urb_group.specs.declared.command.Command.{Command}
@@ -63,8 +63,12 @@ quiet-stocked g old new event reply quiet alone h = ⊎_elim happened (λ same. 
 
 -- ---- one store was asked
 
+-- one place has one store
+pub one-store : {S : Type 0} {a b : S} (stores : List S) (i : ℕ) → slice_get stores i ≡ Some a → slice_get stores i ≡ Some b → a ≡ b
+one-store stores i e f = cc
+
 -- what stands at a place of a list in which one place was set
-set-cases : {X : Type 0} (xs : List X) (j : ℕ) (y : X) (i : ℕ) (x : X) → slice_get (slice_set xs j y) i ≡ Some x → ((i ≡ j) × (x ≡ y)) ⊎ ((i ≢ j) × (slice_get xs i ≡ Some x))
+pub set-cases : {X : Type 0} (xs : List X) (j : ℕ) (y : X) (i : ℕ) (x : X) → slice_get (slice_set xs j y) i ≡ Some x → ((i ≡ j) × (x ≡ y)) ⊎ ((i ≢ j) × (slice_get xs i ≡ Some x))
 set-cases [] j y i x e = cc
 set-cases (z ∷ xs) zero y zero x e = (let f : y ≡ x = cc in inl (refl, sym f))
 set-cases (z ∷ xs) zero y (suc i) x e = inr (λ f. absurd (omega (arith, f)), e)
@@ -113,25 +117,39 @@ store-before g old p before h positive was =
 
 -- ---- a draft was to be kept
 
+-- at rest a stop leaves what the store may turn out to hold
+pub leaves-held : {S A : Type 0} (g : Ghosts S A) (node : Node) (store : S) → HoldsOf g node store → (g.is_honest store → g.leaves_only store (IsContents (g.certain store) (g.doubt store))) → g.is_honest store → LeavesOf g node store
+leaves-held g node store holds rest honest = record { certain = g.certain store; doubtful = g.doubt store; only = rest honest; may = holds honest }
+
+-- inside a call that asks the store for its records, it leaves what the store might have turned out to hold before
+pub asked-left : {S A : Type 0} (g : Ghosts S A) (node : Node) (before after : S) → (g.is_honest before → g.is_clean after → g.leaves_only after (IsContents (g.certain before) (g.doubt before))) → HoldsOf g node before
+    → g.is_honest before → g.is_clean after → LeavesOf g node after
+asked-left g node before after stop holds honest clean = record { certain = g.certain before; doubtful = g.doubt before; only = stop honest clean; may = holds honest }
+
 -- the store took it
 took : {S A : Type 0} (g : Ghosts S A) (node new : Node) (before after : S) (draft : Placed) → Keeps g before draft (Ok tt) after → IsStoreOf g node before → is_down node.state ≡ false
     → new.records ≡ node.records ++ draft.entry ∷ [] → new.state ≡ Ready → IsStoreOf g new after
 took g node new before after draft keeps store up records ready =
     record {
-      contents = λ honest image c. subst (λ (s : State). IsContents new.records (doubt s) image) (sym ready) (subst (λ (o : Option Entry). IsContents (g.certain after) o image) keeps.clear.1 c ∙ certain honest);
+      contents = holds;
+      left = leaves-held g new after holds keeps.rest;
       up = λ honest e. (certain honest, keeps.clear.1);
     }
   where
     certain : g.is_honest after → g.certain after ≡ new.records
     certain honest = keeps.stored honest ∙ (ap (λ rs. rs ++ draft.entry ∷ []) (store.up (keeps.honest honest) up).0 ∙ sym records)
 
+    holds : HoldsOf g new after
+    holds honest image c = subst (λ (s : State). IsContents new.records (doubt s) image) (sym ready) (subst (λ (o : Option Entry). IsContents (g.certain after) o image) keeps.clear.1 c ∙ certain honest)
+
 -- Its node fell while it held this record: the store has the node's records for certain, and of the held one it knows nothing,
 -- or has it in doubt.
 pub fallen : {S A : Type 0} (g : Ghosts S A) (node new : Node) (after : S) (entry : Entry) → (g.is_honest after → g.certain after ≡ node.records) → (g.is_honest after → (g.doubt after ≡ None) ⊎ (g.doubt after ≡ Some entry))
-    → new.records ≡ node.records → new.state ≡ Down (Some entry) → IsStoreOf g new after
-fallen g node new after entry kept in_doubt records down =
+    → (g.is_honest after → g.leaves_only after (IsContents (g.certain after) (g.doubt after))) → new.records ≡ node.records → new.state ≡ Down (Some entry) → IsStoreOf g new after
+fallen g node new after entry kept in_doubt rest records down =
     record {
-      contents = λ honest image c. subst (λ (s : State). IsContents new.records (doubt s) image) (sym down) (held honest image (in_doubt honest) c);
+      contents = holds;
+      left = leaves-held g new after holds rest;
       up = λ honest e. absurd (false≢true (sym e ∙ ap is_down down));
     }
   where
@@ -142,11 +160,14 @@ fallen g node new after entry kept in_doubt records down =
     held honest image (inl e) c = inl (subst (λ (o : Option Entry). IsContents (g.certain after) o image) e c ∙ certain honest)
     held honest image (inr e) c = ⊎_elim (λ f. inl (f ∙ certain honest)) (λ f. inr (f ∙ ap (λ rs. rs ++ entry ∷ []) (certain honest))) (subst (λ (o : Option Entry). IsContents (g.certain after) o image) e c)
 
+    holds : HoldsOf g new after
+    holds honest image c = subst (λ (s : State). IsContents new.records (doubt s) image) (sym down) (held honest image (in_doubt honest) c)
+
 -- it failed
 lost : {S A : Type 0} (g : Ghosts S A) (node new : Node) (before after : S) (draft : Placed) (fault : StoreFault) → Keeps g before draft (Err fault) after → IsStoreOf g node before → is_down node.state ≡ false
     → new.records ≡ node.records → new.state ≡ Down (Some draft.entry) → IsStoreOf g new after
 lost g node new before after draft fault keeps store up records down =
-    fallen g node new after draft.entry (λ honest. keeps.failed honest ∙ (store.up (keeps.honest honest) up).0) (in_doubt (is_place fault) refl) records down
+    fallen g node new after draft.entry (λ honest. keeps.failed honest ∙ (store.up (keeps.honest honest) up).0) (in_doubt (is_place fault) refl) keeps.rest records down
   where
     answer : Result (Unit {0}) StoreFault
     answer = Err fault
@@ -161,14 +182,14 @@ lost g node new before after draft fault keeps store up records down =
         at false out = absurd (false≢true (sym (subst (λ (b : Bool). IsPlaced b (g.place before) answer) out keeps.placed).0 ∙ e))
 
 -- a node of this world holds the draft
-record HoldsIn (w : World) (draft : Placed) : Type 0 where
+pub record HoldsIn (w : World) (draft : Placed) : Type 0 where
   pub cause : Option ℕ
   pub positive : 0 < draft.node
   pub there : is_node w.size.n draft.node ≡ true
   pub storing : (w.node draft.node).state ≡ Storing draft.entry cause
   pub position : draft.pos ≡ suc (length (w.node draft.node).records)
 
-holds-in : (group : GroupView) (w : World) (p : ℕ) (draft : Placed) → Shows group w → held_draft group p ≡ Some draft → HoldsIn w draft
+pub holds-in : (group : GroupView) (w : World) (p : ℕ) (draft : Placed) → Shows group w → held_draft group p ≡ Some draft → HoldsIn w draft
 holds-in group w p draft shows there =
     record {
       cause = held.cause;
@@ -217,23 +238,32 @@ held-stocked g old new p reply (Some draft) e stores h = stored-stocked g old ne
 rose : {S A : Type 0} (g : Ghosts S A) (node new : Node) (before after : S) (image : List Entry) → Gives g before (Ok image) after → (MayLeave node image → Rises image new) → IsStoreOf g node before → IsStoreOf g new after
 rose g node new before after image gives rises store =
     record {
-      contents = λ honest records c.
-          let same : records ≡ image = subst (λ (o : Option Entry). IsContents (g.certain after) o records) gives.clear.1 c ∙ (gives.given honest).0 in
-          subst (λ (rs : List Entry). MayLeave new rs) (sym same) (rises (may honest)).may;
+      contents = holds;
+      left = leaves-held g new after holds gives.rest;
       up = λ honest e. ((gives.given honest).0 ∙ (rises (may honest)).up e, gives.clear.1);
     }
   where
     may : g.is_honest after → MayLeave node image
     may honest = store.contents (gives.honest honest) image (gives.given honest).1
 
+    holds : HoldsOf g new after
+    holds honest records c =
+        let same : records ≡ image = subst (λ (o : Option Entry). IsContents (g.certain after) o records) gives.clear.1 c ∙ (gives.given honest).0 in
+        subst (λ (rs : List Entry). MayLeave new rs) (sym same) (rises (may honest)).may
+
 -- a store that gave nothing
 unread : {S A : Type 0} (g : Ghosts S A) (node : Node) (before after : S) (fault : StoreFault) → Gives g before (Err fault) after → IsStoreOf g node before → IsStoreOf g node after
 unread g node before after fault gives store =
     record {
-      contents = λ honest records c. store.contents (gives.honest honest) records
-          (subst (λ (rs : List Entry). IsContents rs (g.doubt before) records) (gives.failed honest) (subst (λ (o : Option Entry). IsContents (g.certain after) o records) gives.kept.1 c));
+      contents = holds;
+      left = leaves-held g node after holds gives.rest;
       up = λ honest e. (let was = store.up (gives.honest honest) e in (gives.failed honest ∙ was.0, gives.kept.1 ∙ was.1));
     }
+  where
+    holds : HoldsOf g node after
+    holds honest records c =
+        store.contents (gives.honest honest) records
+        (subst (λ (rs : List Entry). IsContents rs (g.doubt before) records) (gives.failed honest) (subst (λ (o : Option Entry). IsContents (g.certain after) o records) gives.kept.1 c))
 
 down-in : (s : State) → is_down s ≡ true → (o : Option Entry) × (s ≡ Down o)
 down-in Ready e = absurd (false≢true e)

@@ -17,11 +17,11 @@ use Rattle.urb_stable.specs.declared.memory.Failure.{Failure}
 use Rattle.urb_stable.specs.declared.memory.Failure.TheVariants as failure
 
 -- what is certain stays, and of the record the store knows nothing, or has it in doubt
-record Leaves (before after : Memory) (entry : Entry) : Type 0 where
+pub record Leaves (before after : Memory) (entry : Entry) : Type 0 where
   pub certain : after.certain ≡ before.certain
   pub doubt : before.doubt ≡ None → (after.doubt ≡ None) ⊎ (after.doubt ≡ Some entry)
 
-breaks-leaves : (out : Bool) (failure : Failure) (m : Memory) (entry : Entry) (after : Memory) → Breaks out failure m entry after → Leaves m after entry
+pub breaks-leaves : (out : Bool) (failure : Failure) (m : Memory) (entry : Entry) (after : Memory) → Breaks out failure m entry after → Leaves m after entry
 breaks-leaves true failure m entry after h = record { certain = ap (λ (a : Memory). a.certain) h; doubt = λ none. inl (ap (λ (a : Memory). a.doubt) h ∙ none) }
 breaks-leaves false failure.Old m entry after h =
     ⊎_elim (λ e. record { certain = ap (λ (a : Memory). a.certain) e; doubt = λ none. inl (ap (λ (a : Memory). a.doubt) e) })
@@ -34,7 +34,7 @@ broke : {A : Type 0} (node new : Node) (before after : Memory) (draft : Placed) 
     → new.records ≡ node.records → new.state ≡ Down (Some draft.entry) → IsStoreOf (in_memory A) new after
 broke {A} node new before after draft failure breaks store up records down =
     let left : Leaves (armed_with failure before) after draft.entry = breaks-leaves (is_out_of_place before.doubtful (length before.certain + 1) draft.pos) failure (armed_with failure before) draft.entry after breaks in
-    fallen (in_memory A) node new after draft.entry (λ honest. left.certain ∙ (store.up tt up).0) (λ honest. left.doubt (store.up tt up).1) records down
+    fallen (in_memory A) node new after draft.entry (λ honest. left.certain ∙ (store.up tt up).0) (λ honest. left.doubt (store.up tt up).1) (λ honest records c. c) records down
 
 fails-draft : {A : Type 0} (old new : Clustered Memory) (p : ℕ) (draft : Placed) (failure : Failure) (reply : Reply) → held_draft old.group p ≡ Some draft → FailsDraft old draft failure reply new
     → IsStocked (in_memory A) old → IsStocked (in_memory A) new

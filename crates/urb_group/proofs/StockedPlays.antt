@@ -1,5 +1,5 @@
 -- The stores of a new cluster, after a failure that was asked for, and after commands that were played; and what they come to.
-use Rattle.std.proofs.Common.{Err, List, Ok, Option, Result, Some, [], ap, arith, length, refl, subst, suc, sym, zero, ℕ, ◌<◌, ◌∙◌, ◌∷◌, ◌≡◌, ◌≤◌, ⊎_elim, IfOk}
+use Rattle.std.proofs.Common.{Err, List, None, Ok, Option, Result, Some, [], ap, arith, length, refl, subst, suc, sym, zero, ℕ, ◌<◌, ◌∙◌, ◌∷◌, ◌≡◌, ◌≤◌, ⊎_elim, IfOk}
 use Rattle.std.specs.Prelude.{slice_get}
 use Rattle.std.specs.List.{All, AllByRecursion}
 use Rattle.std.specs.Prelude.{Vec}
@@ -25,8 +25,8 @@ use Rattle.urb_group.specs.Clusters.{Starts}
 use Rattle.urb_group.specs.Commands.{reply_of}
 use Rattle.urb_group.specs.Plays.{Follows, Plays}
 use Rattle.urb_group.specs.Shown.{GroupView, IsSound, Shows, view_of}
-use Rattle.urb_group.specs.Stocked.{AreChosen, ContentsFit, IsStocked, IsStoreOf}
-use Rattle.urb_group.specs.Stopping.{MayLeave}
+use Rattle.urb_group.specs.Stocked.{AllHold, AreChosen, ContentsFit, HoldsOf, IsStocked, IsStoreOf}
+use Rattle.urb_group.specs.Stopping.{GoesOnIn, MayLeave}
 use Rattle.urb_group.specs.World.{World, image_of, started}
 use Rattle.urb_group.specs.declared.command.Command.{Command}
 use Rattle.urb_group.specs.declared.reply.Reply.{Reply}
@@ -45,6 +45,7 @@ blank-store : {S A : Type 0} (g : Ghosts S A) (size : Limits) (p : ℕ) (store :
 blank-store g size p store blank =
     record {
       contents = λ honest records c. subst (λ (o : Option Entry). IsContents (g.certain store) o records) blank.doubt c ∙ blank.certain;
+      left = λ honest. record { certain = []; doubtful = None; only = blank.rest honest; may = λ records c. c };
       up = λ honest e. (blank.certain, blank.doubt);
     }
 
@@ -84,26 +85,31 @@ no-place group w p shows none = at ((w.node p).records) refl
     at (r ∷ records) e = (let count : 0 ≡ suc (length records) = ap (λ (v : NodeView). v.count) (sym none) ∙ ((shows.nodes p).count ∙ ap length e) in absurd (omega (arith, count)))
 
 -- a choice for each store is a choice for each node
-chosen-left : {S A : Type 0} (g : Ghosts S A) (cluster : Clustered S) (images : List (List Entry)) (h : IsStocked g cluster) → length cluster.stores ≡ length cluster.group.nodes → AreChosen g cluster.stores images → (p : ℕ) → MayLeave (h.world.node p) (image_of images p)
-chosen-left g cluster images h places chosen zero = no-place cluster.group h.world 0 h.shows refl
-chosen-left g cluster images h places chosen (suc i) = ⊎_elim within past (cases_lt i (length images))
+chosen-left : {S A : Type 0} (g : Ghosts S A) (group : GroupView) (w : World) (stores : List S) (images : List (List Entry)) → Shows group w → AllHold g w stores → length stores ≡ length group.nodes → AreChosen g stores images
+    → (p : ℕ) → MayLeave (w.node p) (image_of images p)
+chosen-left g group w stores images shows hold places chosen zero = no-place group w 0 shows refl
+chosen-left g group w stores images shows hold places chosen (suc i) = ⊎_elim within past (cases_lt i (length images))
   where
-    within : i < length images → MayLeave (h.world.node (suc i)) (image_of images (suc i))
+    within : i < length images → MayLeave (w.node (suc i)) (image_of images (suc i))
     within less =
         let image = get_some images i less in
-        let store = get_some cluster.stores i (let e = chosen.one_each in omega (arith, e, less)) in
+        let store = get_some stores i (let e = chosen.one_each in omega (arith, e, less)) in
         let one = chosen.each i store.0 image.0 store.1 image.1 in
-        subst (λ (records : List Entry). MayLeave (h.world.node (suc i)) records) (sym (get_or_from_slice_get images i image.0 [] image.1)) ((h.stores i store.0 store.1).contents one.0 image.0 one.1)
+        subst (λ (records : List Entry). MayLeave (w.node (suc i)) records) (sym (get_or_from_slice_get images i image.0 [] image.1)) (hold i store.0 store.1 one.0 image.0 one.1)
 
-    past : length images ≤ i → MayLeave (h.world.node (suc i)) (image_of images (suc i))
+    past : length images ≤ i → MayLeave (w.node (suc i)) (image_of images (suc i))
     past more =
-        let beyond : length cluster.group.nodes ≤ i = (let e = chosen.one_each in omega (arith, e, places, more)) in
-        subst (λ (records : List Entry). MayLeave (h.world.node (suc i)) records) (sym (get_or_past images i [] more)) (no-place cluster.group h.world (suc i) h.shows (get_or_past cluster.group.nodes i no_view beyond))
+        let beyond : length group.nodes ≤ i = (let e = chosen.one_each in omega (arith, e, places, more)) in
+        subst (λ (records : List Entry). MayLeave (w.node (suc i)) records) (sym (get_or_past images i [] more)) (no-place group w (suc i) shows (get_or_past group.nodes i no_view beyond))
+
+-- and it goes on
+pub held-fits : {S A : Type 0} (g : Ghosts S A) (group : GroupView) (w : World) (stores : List S) → IsSound group → Shows group w → AllHold g w stores → length stores ≡ length group.nodes → (images : List (List Entry)) → AreChosen g stores images → GoesOnIn w (image_of images)
+held-fits g group w stores sound shows hold places images chosen = survives w (sound-kept group w sound shows) (image_of images) (chosen-left g group w stores images shows hold places chosen)
 
 pub stocked-fits : {S A : Type 0} (g : Ghosts S A) (cluster : Clustered S) → IsSound cluster.group → length cluster.stores ≡ length cluster.group.nodes → IsStocked g cluster → ContentsFit g cluster
 stocked-fits g cluster sound places h =
     record {
       world = h.world;
       shows = h.shows;
-      fit = λ images chosen. survives h.world (sound-kept cluster.group h.world sound h.shows) (image_of images) (chosen-left g cluster images h places chosen);
+      fit = held-fits g cluster.group h.world cluster.stores sound h.shows (λ i store got. (h.stores i store got).contents) places;
     }

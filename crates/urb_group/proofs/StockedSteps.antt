@@ -2,7 +2,7 @@
 use Rattle.std.proofs.Common.{Bool, Err, List, None, Ok, Option, Result, Some, bytes_eq, cond, eqb-true, false, find, inl, inr, is_none, length, nat_lt, not, refl, subst, sym, true, ℕ, ◌==◌, ◌||◌, ◌∙◌, ◌≡◌, ◌⊎◌, ⊎_elim}
 use Rattle.std.proofs.lemmas.Bool.{cond_both, false≢true}
 use Rattle.urb_group.specs.Step.{Arrive, Commit, Crash, Event, Fail, Restart, Submit, Tick, at_node, bytes_arrive, is_for, packet_arrives, step, world_after}
-use Rattle.urb_group.specs.Stocked.{IsStoreOf}
+use Rattle.urb_group.specs.Stocked.{IsStoreOf, LeavesOf}
 use Rattle.urb_group.specs.Stopping.{MayLeave}
 use Rattle.urb_group.specs.World.{World, truthful}
 use Rattle.urb_names.specs.Acknowledged.{acked, with_ack}
@@ -136,5 +136,9 @@ pub store-stays : {S A : Type 0} (g : Ghosts S A) (old new : Node) (store : S) �
 store-stays g old new store s h =
     record {
       contents = λ honest records c. leaves-more old new s records (h.contents honest records c);
+      left = λ honest. leaves (h.left honest);
       up = λ honest e. (let was = h.up honest (s.up e) in (was.0 ∙ sym s.records, was.1));
     }
+  where
+    leaves : LeavesOf g old store → LeavesOf g new store
+    leaves l = record { certain = l.certain; doubtful = l.doubtful; only = l.only; may = λ records c. leaves-more old new s records (l.may records c) }

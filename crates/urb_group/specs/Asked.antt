@@ -8,11 +8,12 @@ use Rattle.urb_stable.specs.declared.stable.StoreFault.{StoreFault}
 use Rattle.urb_stable.specs.declared.stable.StoreFault.TheVariants as fault
 
 module _ {S A : Type 0} (g : Ghosts S A) where
-  -- the store has no record, and none is in doubt
+  -- the store has no record, and none is in doubt; nor does a stop leave one, where the store is honest
   pub record IsBlank (store : S) : Type 0 where
     pub certain : g.certain store ≡ []
     pub doubtful : g.is_doubtful store ≡ false
     pub doubt : g.doubt store ≡ None
+    pub rest : g.is_honest store → g.leaves_only store (IsContents [] None)
 
   -- The store was to keep the draft, and gave this answer: as a store promises of each record.
   pub record Keeps (before : S) (draft : Placed) (answer : Result (Unit {0}) StoreFault) (after : S) : Type 0 where

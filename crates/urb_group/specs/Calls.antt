@@ -84,12 +84,15 @@ Opens size images (Err r) = ⊥
 abbrev pub Answers : {T : Type 0} → (World → Option T) → GroupView → ℕ → Option T → Type 0
 Answers of group p result = (w : World) → Shows group w → result ≡ (if is_node w.size.n p then of w else None)
 
+-- the log of node p
 abbrev pub TellsLog : GroupView → ℕ → Option (List Label) → Type 0
 TellsLog group p result = Answers (λ w. Some (log (stored w p))) group p result
 
+-- the message that node p has stored under this name, where it has one
 abbrev pub FindsMessage : GroupView → ℕ → Label → Option Content → Type 0
 FindsMessage group p x result = Answers (λ w. message_of (pend (stored w p)) x) group p result
 
+-- how many messages node p has broadcast
 abbrev pub CountsOwn : GroupView → ℕ → Option ℕ → Type 0
 CountsOwn group p result = Answers (λ w. Some (length (w.node p).broadcast)) group p result
 

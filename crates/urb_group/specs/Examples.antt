@@ -1,16 +1,20 @@
 -- Words of the worked examples: records, images and packets.
-use Rattle.std.specs.Prelude.{List, Option, Some, replicate, ℕ, ◌∷◌, [], ◌≡◌, zero, suc, map}
-use Rattle.urb_group.specs.World.{image_of}
+use Rattle.std.specs.Prelude.{List, None, Option, Some, false, replicate, ℕ, ◌∷◌, [], ◌≡◌, zero, suc, map}
+use Rattle.urb_group.specs.InMemory.{in_memory}
+use Rattle.urb_group.specs.World.{World, image_of, started}
 use Rattle.urb_group.specs.Scripts.{Accepts, Drafts, Line, Told, message, store, submit, ◌⇒◌}
 use Rattle.urb_names.specs.Carried.{Carried}
 use Rattle.urb_names.specs.Names.{name}
 use Rattle.urb_names.specs.Naming.{Content, Label, Limits}
 use Rattle.urb_names.specs.Nodes.{numbers_from}
 use Rattle.urb_names.specs.declared.refusal.Rule.{Rule}
+use Rattle.urb_node.specs.Part.{Node, State}
 use Rattle.urb_stable.specs.Entries.{Entry}
 use Rattle.urb_stable.specs.Fitting.{first_misfit}
+use Rattle.urb_stable.specs.Memory.{Memory}
 use Rattle.urb_stable.specs.declared.fitting.Misfit.{Misfit}
 use Rattle.urb_stable.specs.declared.record.Record.TheVariants.{Pend, PendCert}
+use Rattle.urb_stable.specs.declared.stable.Stable.{Ghosts}
 
 -- a pair's record, its message the one of client 7 that has the name's number, with no payload
 abbrev pub pending : ℕ → ℕ → Entry
@@ -20,6 +24,7 @@ pending sender number = Pend (name sender number) (message 7 number "")
 abbrev pub certified : ℕ → ℕ → Entry
 certified sender number = PendCert (name sender number) (message 7 number "")
 
+-- a group of n nodes, each of which may broadcast as many messages as the cap
 abbrev pub limits : ℕ → ℕ → Limits
 limits n cap = record { n = n; cap = cap }
 
@@ -30,6 +35,18 @@ Judged n cap images answer = first_misfit (limits n cap) (image_of images) ≡ a
 -- the record of this node and name breaks the rule
 abbrev pub misfit : Rule → ℕ → ℕ → ℕ → Option Misfit
 misfit rule node sender number = Some (record { rule = rule; node = node; name = name sender number })
+
+-- a node in this state that has stored these records, and has counted and broadcast nothing
+abbrev pub node_in : State → List Entry → Node
+node_in state records = record { records = records; state = state; acks = []; cursor = None; broadcast = [] }
+
+-- a world all of whose nodes are this one
+abbrev pub world_of : Node → World
+world_of node = record (started (limits 1 10)) { node = λ p. node }
+
+-- what a store in memory would say of itself that a failure shuts
+abbrev pub shut_by_failures : Ghosts Memory (Unit {0})
+shut_by_failures = record (in_memory (Unit {0})) { is_honest = λ s. s.doubtful ≡ false }
 
 -- a message with a payload of this many letters x
 abbrev pub filled : ℕ → ℕ → ℕ → Content

@@ -1,7 +1,7 @@
 -- A store in memory, as one of all stores.
 use Rattle.std.specs.Prelude.{List, length, ◌+◌}
 use Rattle.urb_stable.specs.Entries.{Entry}
-use Rattle.urb_stable.specs.Memory.{Memory, Retrieves}
+use Rattle.urb_stable.specs.Memory.{Memory, Retrieves, Stores}
 use Rattle.urb_stable.specs.Storing.{IsContents}
 use Rattle.urb_stable.specs.declared.stable.Stable.{Ghosts}
 
@@ -16,5 +16,6 @@ in_memory A = record {
   is_clean = λ s. Unit {0};
   is_honest = λ s. Unit {0};
   leaves_only = λ s P. (records : List Entry) → IsContents s.certain s.doubt records → P records;
+  stores = λ s pos entry. Stores s pos;
   answers = Retrieves;
 }

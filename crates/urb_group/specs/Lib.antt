@@ -23,3 +23,4 @@ pub mod Scripts
 pub mod Stocked
 pub mod InMemory
 pub mod Reopening
+pub mod Delivering

@@ -27,7 +27,7 @@ module _ {S A : Type 0} (g : Ghosts S A) where
       (next : Clustered S) × Applies g old command (reply_of reply) next × (is_no_memory reply ≡ false) × Follows next commands replies new
 
   -- the first commands were applied; the one behind them was not, or it was refused for memory
-  pub record Stops (old : Clustered S) (commands : List (Command A)) (replies : List (Reply A)) (new : Clustered S) : Type 0 where
+  pub record EndsEarly (old : Clustered S) (commands : List (Command A)) (replies : List (Reply A)) (new : Clustered S) : Type 0 where
     pub last : Clustered S
     pub command : Command A
     pub follows : Follows old commands replies last
@@ -37,7 +37,7 @@ module _ {S A : Type 0} (g : Ghosts S A) where
   -- all commands were applied, or, where memory was refused, the first ones
   abbrev pub Plays : Clustered S → List (Command A) → Result (Vec (Reply A) A) (Vec (Reply A) A × NoMemory) → Clustered S → Type 0
   Plays old commands (Ok replies) new = Follows old commands replies.items new × (length replies.items ≡ length commands)
-  Plays old commands (Err e) new = Stops old commands e.0.items new
+  Plays old commands (Err e) new = EndsEarly old commands e.0.items new
 
 -- Of commands that were played with these replies: from this world their events are a run, with these replies, to a world
 -- that the group shows then, in which each packet of a reply is truthful; logs only grew, and agree at both ends.

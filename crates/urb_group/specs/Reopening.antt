@@ -13,9 +13,14 @@ use Rattle.urb_group.specs.Asked.{Gives}
 use Rattle.urb_group.specs.Calls.{Opens}
 use Rattle.urb_group.specs.Clustered.{Clustered}
 use Rattle.urb_group.specs.Shown.{GroupView, IsSound, Shows, view_of}
-use Rattle.urb_group.specs.Stocked.{AreChosen, IsStocked}
+use Rattle.urb_group.specs.Stocked.{AllHold, AreChosen}
 use Rattle.urb_group.specs.Stopping.{GoesOnIn}
 use Rattle.urb_group.specs.World.{World, image_of, opened}
+
+-- the stores of the cluster that was opened, or those that come back
+abbrev pub stores_in : {S A : Type 0} → Result (Clustered S) (Vec S A × Refusal) → List S
+stores_in (Ok cluster) = cluster.stores
+stores_in (Err e) = e.0.items
 
 module _ {S A : Type 0} (g : Ghosts S A) where
   -- each store was asked and gave its list, one after the other
@@ -62,27 +67,27 @@ module _ {S A : Type 0} (g : Ghosts S A) where
   OpensStores size stores (Ok cluster) = OpensFrom size stores (Ok cluster.group) cluster.stores
   OpensStores size stores (Err e) = OpensFrom size stores (Err e.1) e.0.items
 
-  -- this cluster, with these limits and over these stores, was stocked when its process stopped
-  pub record HasStopped (old : Clustered S) (limits : Limits) (passed : List S) : Type 0 where
-    pub sound : IsSound old.group
-    pub counted : length old.group.nodes ≡ limits.n
-    pub size : old.group.size ≡ limits
-    pub stores : old.stores ≡ passed
-    pub stocked : IsStocked g old
+  -- A process stopped whose group, with these limits, showed this world. The stores that are passed now are any that hold what
+  -- a stop may leave of its nodes: each one its node's records, or these with the held or the doubtful one.
+  pub record HasStopped (old : GroupView) (w : World) (limits : Limits) (passed : List S) : Type 0 where
+    pub sound : IsSound old
+    pub counted : length old.nodes ≡ limits.n
+    pub size : old.size ≡ limits
+    pub shows : Shows old w
+    pub holds : AllHold g w passed
 
-  -- The new cluster goes on from the old one: in a world that the old group showed, each of these lists is one that its store
-  -- may have held, and they go on; the new group shows what is opened from them, and all its nodes are ready.
-  pub record ContinuesFrom (old new : Clustered S) : Type 0 where
-    pub world : World
-    pub shows : Shows old.group world
+  -- The new cluster goes on from this world: each of these lists is one that its store may have held, and they go on; the new
+  -- group shows what is opened from them, and all its nodes are ready.
+  pub record ContinuesFrom (w : World) (passed : List S) (new : GroupView) : Type 0 where
     pub images : List (List Entry)
-    pub chosen : AreChosen g old.stores images
-    pub goes_on : GoesOnIn world (image_of images)
-    pub opens : Shows new.group (opened world.size (image_of images))
-    pub ready : (p : ℕ) → (view_of new.group p).state ≡ Ready
+    pub chosen : AreChosen g passed images
+    pub goes_on : GoesOnIn w (image_of images)
+    pub opens : Shows new (opened w.size (image_of images))
+    pub ready : (p : ℕ) → (view_of new p).state ≡ Ready
 
-  -- Over honest stores it goes on, unless memory is refused or a device fails. Refused, the stores still are those of the old
-  -- cluster, so that it may be asked for again.
-  abbrev pub Continues : Clustered S → Result (Clustered S) (Vec S A × Refusal) → Type 0
-  Continues old (Ok new) = All g.is_honest new.stores → ContinuesFrom old new
-  Continues old (Err e) = IsStocked g (record old { stores = e.0.items }) × (All g.is_honest e.0.items → (e.1 ≡ refusal.NoMemory) ⊎ (e.1 ≡ refusal.Device))
+  -- Over honest stores it goes on, unless memory is refused or a device fails. Refused, the stores still hold what the stop may
+  -- have left, so that it may be asked for again.
+  abbrev pub Continues : GroupView → World → Limits → List S → Result (Clustered S) (Vec S A × Refusal) → Type 0
+  Continues old w limits passed (Ok new) = All g.is_honest new.stores → ContinuesFrom w passed new.group
+  Continues old w limits passed (Err e) =
+      HasStopped old w limits e.0.items × (All g.is_honest e.0.items → (e.1 ≡ refusal.NoMemory) ⊎ (e.1 ≡ refusal.Device))

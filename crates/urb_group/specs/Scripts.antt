@@ -40,12 +40,15 @@ pub data Told : Type 0 where
   Holds : (nodes : List ℕ) → Told
   Is : (node : Node) → Told
 
+-- a submit is accepted under this name
 abbrev pub accepted : ℕ → ℕ → Told
 accepted sender number = Answers (Accepted (name sender number))
 
+-- an acknowledgement of this name is counted
 abbrev pub noted : ℕ → ℕ → Told
 noted sender number = Answers (Noted (name sender number))
 
+-- nothing new of this name
 abbrev pub again : ℕ → ℕ → Told
 again sender number = Answers (Again (name sender number))
 
@@ -57,6 +60,7 @@ down p = Goes_down p
 abbrev pub up : ℕ → Told
 up p = Comes_up p
 
+-- a stored record, in short: one of the node's own, or another
 abbrev pub told_stored : Bool → Label → ℕ → ℕ → Told
 told_stored true x sent released = Accepts x sent released
 told_stored false x sent released = Takes x sent released
@@ -91,6 +95,7 @@ abbrev pub happens_with : (ℕ → List Entry) → Event → Line
 happens_with storage event scene =
     let outcome = step scene.world event in (told outcome.0, record { world = outcome.1; storage = storage })
 
+-- an event, with storage as it was
 abbrev pub happens : Event → Line
 happens event scene = happens_with scene.storage event scene
 
@@ -98,6 +103,7 @@ happens event scene = happens_with scene.storage event scene
 abbrev pub message : ℕ → ℕ → String → Content
 message client number letters = record { client = client; number = number; payload = codes letters }
 
+-- a submit of this message at p
 abbrev pub submit : ℕ → Content → Line
 submit p m = happens (Submit p m)
 
@@ -129,6 +135,7 @@ fail_old p = happens (Fail p)
 abbrev pub fail_new : ℕ → Line
 fail_new p scene = happens_with (keeping p scene) (Fail p) scene
 
+-- a crash of p
 abbrev pub crash : ℕ → Line
 crash p = happens (Crash p)
 
@@ -136,9 +143,11 @@ crash p = happens (Crash p)
 abbrev pub restart : ℕ → Line
 restart p scene = happens (Restart p (scene.storage p)) scene
 
+-- a tick at p
 abbrev pub tick : ℕ → Line
 tick p = happens (Tick p)
 
+-- this message, or one that nobody sent
 abbrev pub or_nothing : Option Content → Content
 or_nothing None = record { client = 1; number = 1; payload = [] }
 or_nothing (Some m) = m
@@ -149,6 +158,7 @@ arrive q p sender number scene =
     let stored_by_q = message_of (pend (stored scene.world q)) (name sender number) in
     happens (Arrive p (Ok (record { source = q; target = p; name = name sender number; message = or_nothing stored_by_q }))) scene
 
+-- a group that is opened, or the first misfit
 abbrev pub told_open : Option Misfit → Scene → Told × Scene
 told_open None scene = (Opens, record scene { world = opened scene.world.size scene.storage })
 told_open (Some misfit) scene = (Refuses (refusal.Inconsistent misfit.rule misfit.node misfit.name), scene)
@@ -190,8 +200,8 @@ look_at p scene = (Is (scene.world.node p), scene)
 
 -- ---- whole scripts
 
--- a line and its answer
 infix 70 ◌⇒◌
+-- a line and its answer
 abbrev pub ◌⇒◌ : Line → Told → Line × Told
 line ⇒ answer = (line, answer)
 

@@ -1,5 +1,5 @@
 -- What the stores of a cluster may hold, beside a world that its group shows.
-use Rattle.std.specs.Prelude.{List, None, Some, false, length, slice_get, suc, ℕ, ◌≡◌}
+use Rattle.std.specs.Prelude.{List, None, Option, Some, false, length, slice_get, suc, ℕ, ◌≡◌}
 use Rattle.urb_stable.specs.Entries.{Entry}
 use Rattle.urb_stable.specs.Storing.{IsContents}
 use Rattle.urb_stable.specs.declared.stable.Stable.{Ghosts}
@@ -11,10 +11,36 @@ use Rattle.urb_group.specs.Stopping.{GoesOnIn, MayLeave}
 use Rattle.urb_group.specs.World.{World, image_of}
 
 module _ {S A : Type 0} (g : Ghosts S A) where
-  -- An honest store of this node: whatever it may turn out to hold, a stop may leave of the node; and while the node is up,
-  -- it holds the node's records for certain, and none is in doubt.
+  -- whatever this store may turn out to hold, where it is honest, a stop may leave of the node
+  abbrev pub HoldsOf : Node → S → Type 0
+  HoldsOf node store = g.is_honest store → (records : List Entry) → IsContents (g.certain store) (g.doubt store) records → MayLeave node records
+
+  -- the stores, one after the other, hold what a stop may leave of the world's nodes
+  abbrev pub AllHold : World → List S → Type 0
+  AllHold w stores = (i : ℕ) (store : S) → slice_get stores i ≡ Some store → HoldsOf (w.node (suc i)) store
+
+  -- A stop at this moment leaves of the store certain records, or these with a doubtful one behind them, and all of it a stop
+  -- may leave of the node.
+  pub record LeavesOf (node : Node) (store : S) : Type 0 where
+    pub certain : List Entry
+    pub doubtful : Option Entry
+    pub only : g.leaves_only store (IsContents certain doubtful)
+    pub may : (records : List Entry) → IsContents certain doubtful records → MayLeave node records
+
+  -- A stop inside the call that made the later stores of the earlier ones: of each store that was honest, and whose storage is
+  -- clean still, it leaves what a stop may leave of the world's node.
+  abbrev pub StopLeaves : World → List S → List S → Type 0
+  StopLeaves w earlier later = (i : ℕ) (before after : S) → slice_get earlier i ≡ Some before → slice_get later i ≡ Some after → g.is_honest before → g.is_clean after → LeavesOf (w.node (suc i)) after
+
+  -- a stop while no call is made leaves of each honest store what it may leave of the world's node
+  abbrev pub RestLeaves : World → List S → Type 0
+  RestLeaves w stores = (i : ℕ) (store : S) → slice_get stores i ≡ Some store → g.is_honest store → LeavesOf (w.node (suc i)) store
+
+  -- An honest store of this node: whatever it may turn out to hold, and whatever a stop at this moment leaves of it, a stop may
+  -- leave of the node; and while the node is up, it holds the node's records for certain, and none is in doubt.
   pub record IsStoreOf (node : Node) (store : S) : Type 0 where
-    pub contents : g.is_honest store → (records : List Entry) → IsContents (g.certain store) (g.doubt store) records → MayLeave node records
+    pub contents : HoldsOf node store
+    pub left : g.is_honest store → LeavesOf node store
     pub up : g.is_honest store → is_down node.state ≡ false → (g.certain store ≡ node.records) × (g.doubt store ≡ None)
 
   -- the stores, one after the other, are those of the world's nodes

@@ -9,7 +9,7 @@ ghost use Rattle.urb_group.specs.Clusters.{Alone, Applies, FailsHeld, RestartsBy
 ghost use Rattle.urb_group.specs.Commands.{reply_of};
 ghost use Rattle.urb_group.specs.InMemory.{in_memory};
 ghost use Rattle.urb_group.specs.Shown.{IsSound};
-ghost use Rattle.urb_group.specs.Stocked.{ContentsFit, IsStocked};
+ghost use Rattle.urb_group.specs.Stocked.{ContentsFit, IsStocked, StopLeaves};
 ghost use Rattle.urb_group.specs.Step.{Arrive, Crash, Submit, Tick};
 
 use crate::drafts::{dropped, no_drafts, noted, taken_out};
@@ -165,7 +165,10 @@ impl<S: Stable> Cluster<S> {
     /// Does what a command says.
     pub fn apply(&mut self, alloc: S::Alloc, command: &Command<S::Alloc>) -> Reply<S::Alloc>
         ensures applied { Applies S.Stable self.old command.now (reply_of result) self.new }
+        // A stop after the call leaves what the opening goes on from, and so does one inside it.
         ensures stocked { IsStocked S.Stable self.old → IsStocked S.Stable self.new }
+        ensures stop { (stocked : IsStocked S.Stable self.old)
+            → StopLeaves S.Stable stocked.world self.old.stores self.new.stores }
     {
         self.applied(alloc, command)
     }
@@ -195,7 +198,10 @@ impl<A: Allocator + Copy> Cluster<MemStable<A>> {
     /// failures.
     pub fn fail(&mut self, node: NodeId, failure: Failure) -> Reply<A>
         ensures failed { FailsHeld self.old node (held_draft self.old.group node) failure (reply_of result) self.new }
+        // A stop after the call leaves what the opening goes on from, and so does one inside it.
         ensures stocked { IsStocked (in_memory A) self.old → IsStocked (in_memory A) self.new }
+        ensures stop { (stocked : IsStocked (in_memory A) self.old)
+            → StopLeaves (in_memory A) stocked.world self.old.stores self.new.stores }
     {
         self.failed(node, failure)
     }

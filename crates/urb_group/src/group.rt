@@ -47,7 +47,8 @@ impl<A: Allocator + Copy> Group<A> {
         let mut nodes = Vec::with_capacity(alloc, usize::from(n))?;
         for at in 0..n {
             let node = NodeId::new(at + 1).unwrap();
-            nodes.push_reserved(Node::Ready(Ready::new(alloc, config, node)));
+            let ready = Ready::new(alloc, config, node)?;
+            nodes.push_reserved(Node::Ready(ready));
         }
         Ok(Group { config, nodes })
     }

@@ -4,6 +4,7 @@
 mod arriving;
 mod cluster;
 mod command;
+pub mod delivering;
 mod drafts;
 mod group;
 pub mod laws;
@@ -26,9 +27,11 @@ pub use playing::play;
 pub use reply::Reply;
 pub use state::State;
 pub use taken::Taken;
-pub use urb_names::{ClientId, Config, Message, Name, NoMemory, NodeId, PacketFault, Refusal};
+pub use urb_names::{
+    ClientId, Config, Message, Name, NoMemory, NodeId, PacketFault, Refusal, Rule,
+};
 pub use urb_node::{Answer, Done};
-pub use urb_stable::{Doubt, Draft, Failure, MemStable, Receipt, Record, Stable};
+pub use urb_stable::{Doubt, Draft, Failure, MemStable, Receipt, Record, Stable, StoreFault};
 pub use urb_stubborn::Outbox;
 
 #[cfg(test)]

@@ -1,9 +1,10 @@
 //! A cluster over stores that hold records: after a stop of the whole process.
 
 ghost use Rattle.std.specs.Prelude.{◌≡◌, IfOk, length};
-ghost use Rattle.urb_group.specs.Clustered.{Clustered};
-ghost use Rattle.urb_group.specs.Reopening.{Continues, HasStopped, OpensFrom, OpensStores, RetrievesAll};
-ghost use Rattle.urb_group.specs.Stocked.{IsStocked};
+ghost use Rattle.urb_group.specs.Reopening.{Continues, HasStopped, OpensFrom, OpensStores, RetrievesAll, stores_in};
+ghost use Rattle.urb_group.specs.Shown.{GroupView};
+ghost use Rattle.urb_group.specs.Stocked.{AllHold, IsStocked, RestLeaves, StopLeaves};
+ghost use Rattle.urb_group.specs.World.{World};
 
 use crate::drafts::no_drafts;
 use crate::{Cluster, Group};
@@ -41,9 +42,10 @@ fn group_of<S: Stable>(
 }
 
 impl<S: Stable> Cluster<S> {
-    /// A cluster over stores that hold what a cluster of these limits stored, as after a stop of the whole process: the
-    /// recovery of all processes (sections 2.2 and 3.7 of the book). Each store, that of node 1 first, is asked for its
-    /// records, which are certain from then on, and the nodes come up with them. Drafts that were held are lost.
+    /// A cluster over stores that hold what a cluster of these limits stored, as after a stop of the whole process at any
+    /// moment, also inside a store: the recovery of all processes (sections 2.2 and 3.7 of the book). Each store, that of
+    /// node 1 first, is asked for its records, which are certain from then on, and the nodes come up with them. Drafts that
+    /// were held are lost.
     ///
     /// Refused, all stores come back. `Device`, `BadRow`: a store failed, and those behind it were not asked.
     /// `Inconsistent`: the stores' records don't fit together, as of `Group::open`. `NoMemory`: ask again.
@@ -54,7 +56,11 @@ impl<S: Stable> Cluster<S> {
     ) -> Result<Cluster<S>, (Vec<S, S::Alloc>, Refusal)>
         requires counted { length stores.items ≡ config.n }
         ensures opened { OpensStores S.Stable config stores.items result }
-        ensures goes_on { (old : Clustered S) → HasStopped S.Stable old config stores.items → Continues S.Stable old result }
+        ensures goes_on { (old : GroupView) (w : World) → HasStopped S.Stable old w config stores.items
+            → Continues S.Stable old w config stores.items result }
+        // A stop inside the call leaves what one before it would have left.
+        ensures stop { (w : World) → AllHold S.Stable w stores.items → RestLeaves S.Stable w stores.items
+            → StopLeaves S.Stable w stores.items (stores_in result) }
         ensures stocked { IfOk result (λ cluster. IsStocked S.Stable cluster) }
     {
         Cluster::opened(alloc, config, stores)
@@ -90,7 +96,10 @@ impl<S: Stable> Cluster<S> {
     /// acknowledgements are lost. Refused, the stores come back alone, as of `Cluster::open`.
     pub fn reopen(self, alloc: S::Alloc) -> Result<Cluster<S>, (Vec<S, S::Alloc>, Refusal)>
         ensures opened { OpensStores S.Stable self.group.size self.stores result }
-        ensures goes_on { IsStocked S.Stable self → Continues S.Stable self result }
+        ensures goes_on { (stocked : IsStocked S.Stable self)
+            → Continues S.Stable self.group stocked.world self.group.size self.stores result }
+        ensures stop { (stocked : IsStocked S.Stable self)
+            → StopLeaves S.Stable stocked.world self.stores (stores_in result) }
         ensures stocked { IfOk result (λ cluster. IsStocked S.Stable cluster) }
     {
         let Cluster { group, stores, .. } = self;

@@ -10,4 +10,5 @@ pub mod logs;
 pub mod packets;
 pub mod refusals;
 pub mod restarts;
+pub mod stops;
 pub mod ticks;

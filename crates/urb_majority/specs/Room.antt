@@ -9,6 +9,7 @@ use Rattle.urb_names.specs.Acknowledged.{acked}
 use Rattle.urb_majority.specs.Acks.{AckSet, IsAckSet}
 use Rattle.urb_majority.specs.declared.acks.Acks.TheInside.{Inside}
 
+-- what contracts see of the fields
 abbrev pub view_of : {A : Type 0} → Inside A → AckSet
 view_of a = record { limits = a.config; counted = a.counted.items; certified = a.certified.items; reserved = a.reserved }
 
@@ -17,6 +18,7 @@ pub record HasRoom {A : Type 0} (a : Inside A) (x : Label) : Type 0 where
   pub counted : vec_len a.counted + 7 ≤ vec_capacity a.counted + count_by (acked a.counted.items x) (nodes 7)
   pub certified : has_name a.certified.items x ≡ false → vec_len a.certified < vec_capacity a.certified
 
+-- what the fields keep: their order, and the room that is promised
 pub record IsKept {A : Type 0} (a : Inside A) : Type 0 where
   pub order : IsAckSet (view_of a)
   pub room : ForSome a.reserved (HasRoom a)

@@ -29,7 +29,7 @@ pub record IsStrictOrder {X : Type 0} (before same : X → X → Bool) : Type 0 
   pub one_way : (x y : X) → same x y ≡ false → (before x y ≡ true) ⊎ (before y x ≡ true)
 
 -- an element goes behind the first one, where that comes before it
-placed_behind : {X : Type 0} (before : X → X → Bool) (x y : X) (xs : List X) → before y x ≡ true → placed before (y ∷ xs) x ≡ y ∷ placed before xs x
+pub placed_behind : {X : Type 0} (before : X → X → Bool) (x y : X) (xs : List X) → before y x ≡ true → placed before (y ∷ xs) x ≡ y ∷ placed before xs x
 placed_behind before x y xs e =
     let k = prefix_len (λ z. before z x) xs in
     ap (λ (b : Bool). insert (y ∷ xs) (cond b (1 + k) 0) x) e
@@ -39,10 +39,10 @@ placed_behind before x y xs e =
     one_more n = omega arith
 
 -- else it goes to the front
-placed_front : {X : Type 0} (before : X → X → Bool) (x y : X) (xs : List X) → before y x ≡ false → placed before (y ∷ xs) x ≡ x ∷ y ∷ xs
+pub placed_front : {X : Type 0} (before : X → X → Bool) (x y : X) (xs : List X) → before y x ≡ false → placed before (y ∷ xs) x ≡ x ∷ y ∷ xs
 placed_front before x y xs e = ap (λ (b : Bool). insert (y ∷ xs) (cond b (1 + prefix_len (λ z. before z x) xs) 0) x) e
 
-all_placed : {X : Type 0} (before : X → X → Bool) (test : X → Bool) (x : X) (xs : List X) → test x ≡ true → list_all test xs ≡ true → list_all test (placed before xs x) ≡ true
+pub all_placed : {X : Type 0} (before : X → X → Bool) (test : X → Bool) (x : X) (xs : List X) → test x ≡ true → list_all test xs ≡ true → list_all test (placed before xs x) ≡ true
 all_placed before test x [] e h = and_from (test x) true e refl
 all_placed before test x (y ∷ xs) e h = at (all_placed before test x xs e) (and_parts (test y) (list_all test xs) h) (before y x) refl
   where
@@ -50,7 +50,7 @@ all_placed before test x (y ∷ xs) e h = at (all_placed before test x xs e) (an
     at ih parts true f = ap (list_all test) (placed_behind before x y xs f) ∙ and_from (test y) (list_all test (placed before xs x)) parts.0 (ih parts.1)
     at ih parts false f = ap (list_all test) (placed_front before x y xs f) ∙ and_from (test x) (list_all test (y ∷ xs)) e (and_from (test y) (list_all test xs) parts.0 parts.1)
 
-all_grows : {X : Type 0} (f g : X → Bool) (xs : List X) → ((x : X) → f x ≡ true → g x ≡ true) → list_all f xs ≡ true → list_all g xs ≡ true
+pub all_grows : {X : Type 0} (f g : X → Bool) (xs : List X) → ((x : X) → f x ≡ true → g x ≡ true) → list_all f xs ≡ true → list_all g xs ≡ true
 all_grows f g [] h e = refl
 all_grows f g (x ∷ xs) h e =
     let parts = and_parts (f x) (list_all f xs) e in

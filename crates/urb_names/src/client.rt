@@ -1,4 +1,4 @@
-// The numbers of clients.
+//! The numbers of clients.
 ghost use Rattle.std.specs.Prelude.{◌≡◌, ◌<◌};
 ghost use Rattle.std.specs.Option.{SomeIff};
 

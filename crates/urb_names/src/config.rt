@@ -1,4 +1,4 @@
-// How many nodes a group has, and how many of them are a majority.
+//! How many nodes a group has, and how many of them are a majority.
 ghost use Rattle.std.specs.Prelude.{◌≡◌, ◌<◌, ◌≤◌};
 ghost use Rattle.std.specs.Option.{SomeIff};
 ghost use Rattle.urb_names.specs.Nodes.{is_majority};

@@ -1,4 +1,4 @@
-// Names of messages, and their order.
+//! Names of messages, and their order.
 ghost use Rattle.std.specs.Prelude.{◌≡◌};
 ghost use Rattle.urb_names.specs.Naming.{IsLabel};
 ghost use Rattle.urb_names.specs.Names.{name_lt};

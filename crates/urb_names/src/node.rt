@@ -1,4 +1,4 @@
-// The numbers of nodes.
+//! The numbers of nodes.
 ghost use Rattle.std.specs.Prelude.{◌≡◌, ◌<◌, ◌≤◌};
 ghost use Rattle.std.specs.Option.{SomeIff};
 

@@ -1,4 +1,4 @@
-// Packets: what one node sends to another.
+//! Packets: what one node sends to another.
 ghost use Rattle.std.specs.Prelude.{◌≡◌, ◌≢◌};
 ghost use Rattle.urb_names.specs.Packets.{IsPacket};
 

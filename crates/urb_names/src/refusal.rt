@@ -1,4 +1,4 @@
-// Why a call was refused.
+//! Why a call was refused.
 ghost use Rattle.std.specs.Prelude.{◌≡◌};
 ghost use Rattle.urb_names.specs.Refusing.{number_of, detail_of};
 

@@ -1,4 +1,4 @@
-// Packets as bytes: reading them, and writing them.
+//! Packets as bytes: reading them, and writing them.
 ghost use Rattle.std.specs.Prelude.{◌≡◌, ◌≤◌, ◌⊎◌, length, Ok, Err, Some, None, IfOk, IfErr, MatchResult, if◌then◌else◌};
 ghost use Rattle.urb_names.specs.Carried.{Carried};
 ghost use Rattle.urb_names.specs.Packets.{IsPacket, spelling, judged, is_in_range, carried_of, fields_at, packet_of, IsFirstFault};

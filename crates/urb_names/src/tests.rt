@@ -1,4 +1,4 @@
-// Outside vectors of the packet grammar, and memory that is refused.
+//! Outside vectors of the packet grammar, and memory that is refused.
 ghost use Rattle.std.specs.Prelude.{◌≡◌, ◌≢◌, ◌≤◌, length, IfOk};
 
 use super::*;

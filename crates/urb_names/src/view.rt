@@ -1,4 +1,4 @@
-// Packets whose payload is lent.
+//! Packets whose payload is lent.
 ghost use Rattle.std.specs.Prelude.{◌≡◌, ◌≢◌, ◌<◌, ◌≤◌, length, IfOk};
 ghost use Rattle.urb_names.specs.Packets.{IsPacket};
 

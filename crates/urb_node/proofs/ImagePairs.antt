@@ -19,16 +19,6 @@ use Rattle.urb_node.specs.Part.{self_acks}
 use Rattle.urb_node.proofs.ArriveOutcomes.{counted-with}
 use Rattle.urb_node.proofs.ShownNodes.{acked-with}
 
-or_nothing : (a b : Bool) → ((a || false) || b) ≡ (a || b)
-or_nothing true b = refl
-or_nothing false b = refl
-
--- whether an image has a pair: its first record, or the others
-pub record_has : (r : Entry) (image : List Entry) (x : Label) (m : Content) → has_pair (pend (r ∷ image)) x m ≡ (has_pair (pend (r ∷ [])) x m || has_pair (pend image) x m)
-record_has (Pend y o) image x m = sym (or_nothing (same_name y x && same_message o m) _)
-record_has (PendCert y o) image x m = sym (or_nothing (same_name y x && same_message o m) _)
-record_has (Cert y) image x m = refl
-
 -- of one that a memory has, or a doubtful record
 pub pair_with : (pairs : List (Label × Content)) (r : Entry) (x : Label) (m : Content) → has_pair (pairs ++ pend (r ∷ [])) x m ≡ (has_pair pairs x m || has_pair (pend (r ∷ [])) x m)
 pair_with pairs r x m = list_any-append (λ pair. same_name pair.0 x && same_message pair.1 m) pairs (pend (r ∷ []))

@@ -8,6 +8,7 @@ pub mod SubmitOutcomes
 pub mod ArriveOutcomes
 pub mod RecordOutcomes
 pub mod Leads
+pub mod SentPackets
 pub mod Wanted
 pub mod Calls
 pub mod JoinedLayers

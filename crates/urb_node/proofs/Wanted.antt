@@ -33,20 +33,16 @@ pending_entry is_certified x m = if is_certified then PendCert x m else Pend x m
 
 -- a draft of it can be held
 pub made : {A : Type 0} (old new : Held A) (x : Label) (m : Content) (b : Bool) (cause : Option ℕ) (packets : List Carried) → IsHeld new → ForSome cause (λ q. (1 ≤ q) × (q ≤ new.config.n)) → memory_of new ≡ memory_of old → IsNextHeld old (pending_entry b x m)
-    → (new.pending.reserved ≡ Some (x, m.client)) × (new.acks.reserved ≡ Some x) × (new.fifo.reserved ≡ Some x) → packets ≡ to_others new.config.n new.node (x, m) → IsDrafted new (pending_entry b x m) cause packets
+    → HasRoom new (pending_entry b x m) → packets ≡ to_others old.config.n old.node (x, m) → IsDrafted new (pending_entry b x m) cause packets
 made old new x m b cause packets kept caused same next room sends =
     record {
       held = kept;
       next = subst (λ (a : Memory). IsNextIn a (pending_entry b x m)) (sym same) next;
-      room = has_room b;
+      room = room;
       caused = caused;
-      sends = sends ∙ to_all b;
+      sends = sends ∙ (sym (ap (λ (a : Memory). to_others a.limits.n a.node (x, m)) same) ∙ to_all b);
     }
   where
-    has_room : (b : Bool) → HasRoom new (pending_entry b x m)
-    has_room true = room
-    has_room false = (room.0, room.1)
-
     to_all : (b : Bool) → to_others new.config.n new.node (x, m) ≡ packets_of new.config.n new.node (pending_entry b x m)
     to_all true = refl
     to_all false = refl

@@ -17,6 +17,7 @@ use Rattle.urb_node.specs.Values.{Memory}
 abbrev pub IsWanted : {A : Type 0} → Held A → Wanted A → Type 0
 IsWanted held w = IsDrafted held w.entry w.cause w.packets × (w.copy ≡ w.entry)
 
+-- what was found of a request: nothing that needs a store, or a record that can be held
 abbrev pub IsFoundIn : {A : Type 0} → Held A → Found A → Type 0
 IsFoundIn held (found.Known told) = Unit {0}
 IsFoundIn held (found.New w) = IsWanted held w

@@ -1,5 +1,6 @@
 -- What an image is judged by: the pairs and certificates of a memory, with or without those of a doubtful record.
 use Rattle.std.specs.Prelude.{◌≡◌, ℕ, List, [], ◌∷◌, ◌++◌, Option, None, Some, true, false}
+use Rattle.urb_fifo.specs.Delivery.{Delivery}
 use Rattle.urb_names.specs.Acknowledged.{acked}
 use Rattle.urb_names.specs.Naming.{Label, Content}
 use Rattle.urb_stable.specs.Entries.{Entry}
@@ -30,6 +31,14 @@ delivered_by log certified None = log
 delivered_by log certified (Some (Pend x m)) = log
 delivered_by log certified (Some (PendCert x m)) = delivered_with log certified x
 delivered_by log certified (Some (Cert x)) = delivered_with log certified x
+
+-- the certificates and the log with those of the doubtful record, where there is one
+abbrev pub IsJoined : Delivery → Option Entry → Option Delivery → Type 0
+IsJoined fifo None None = Unit {0}
+IsJoined fifo None (Some joined) = ⊥
+IsJoined fifo (Some r) None = ⊥
+IsJoined fifo (Some r) (Some joined) =
+    (joined.certified ≡ certified_by fifo.certified (Some r)) × (joined.log ≡ delivered_by fifo.log fifo.certified (Some r))
 
 -- the image says what the memory has
 abbrev pub Says : List Entry → Memory → Type 0

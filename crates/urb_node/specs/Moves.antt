@@ -2,7 +2,7 @@
 use Rattle.std.specs.Prelude.{◌≡◌, ◌≤◌, ℕ, Bool, List, length, Option, Result, Ok, Err}
 use Rattle.urb_names.specs.declared.refusal.NoMemory.{NoMemory}
 use Rattle.urb_names.specs.Naming.{Label, Content}
-use Rattle.urb_names.specs.Carried.{Carried}
+use Rattle.urb_names.specs.Carried.{AreFrom, Carried}
 use Rattle.urb_names.specs.Pairs.{has_pair, message_of}
 use Rattle.urb_names.specs.declared.refusal.Refusal.{Refusal}
 use Rattle.urb_names.specs.declared.refusal.Refusal.TheVariants as refusal
@@ -87,6 +87,10 @@ Ticks old (new, Ok packets) =
     IsSameNode old new × ((node : Node) → ShowsReady old node → ((ticks old.limits.n old.node node).0 ≡ Sent packets) × ShowsReady new (ticks old.limits.n old.node node).1)
 Ticks old (new, Err e) = new ≡ old
 
+-- each of these packets is of a pair in the stored records of every node that is shown so, with the node as its source
+abbrev pub AreOfStored : (Node → Type 0) → ℕ → List Carried → Type 0
+AreOfStored Shows p packets = (node : Node) → Shows node → AreFrom p (pend node.records) packets
+
 -- a restart with this image: as the definition says
 abbrev pub Restarts : Fallen → List Entry → Result Memory (Fallen × Refusal) → Type 0
 Restarts old image (Ok ready) =
@@ -99,11 +103,14 @@ Restarts old image (Err e) = ((node : Node) → ShowsDown old node → IsRefused
 abbrev pub Holds : (Node → Type 0) → Label → Content → Bool → Type 0
 Holds Shows x m result = (node : Node) → Shows node → result ≡ has_pair (pend node.records) x m
 
+-- the message that the node has stored under this name, where it has one
 abbrev pub FindsMessage : (Node → Type 0) → Label → Option Content → Type 0
 FindsMessage Shows x result = (node : Node) → Shows node → result ≡ message_of (pend node.records) x
 
+-- the node's log
 abbrev pub TellsLog : (Node → Type 0) → List Label → Type 0
 TellsLog Shows result = (node : Node) → Shows node → result ≡ log node.records
 
+-- how many messages the node has broadcast
 abbrev pub CountsOwn : (Node → Type 0) → ℕ → Type 0
 CountsOwn Shows result = (node : Node) → Shows node → result ≡ length node.broadcast

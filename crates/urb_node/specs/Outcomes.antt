@@ -45,10 +45,12 @@ abbrev pub repeat_outcome : Memory → Content → Label → Option Content → 
 repeat_outcome a m x None = Refuses refusal.Conflict
 repeat_outcome a m x (Some first) = if bytes_eq first.payload m.payload then Answers (answer.Accepted x) a else Refuses refusal.Conflict
 
+-- a submit, by the name that has its client number, where there is one
 abbrev pub numbered_outcome : Memory → Content → Option Label → Outcome
 numbered_outcome a m None = fresh_outcome a m
 numbered_outcome a m (Some x) = repeat_outcome a m x (message_of a.pairs x)
 
+-- a submit of this message
 abbrev pub submit_outcome : Memory → Content → Outcome
 submit_outcome a m =
     if nat_lt 1024 (length m.payload) then Refuses refusal.TooLong
@@ -67,6 +69,7 @@ counted_outcome a q x =
     else if acked a.acks x q then Answers (answer.Again x) a
     else Answers (answer.Noted x) (with_counted a x q)
 
+-- a packet from q, by the message that is pending under its name, where there is one
 abbrev pub pending_outcome : Memory → ℕ → Label → Content → Option Content → Outcome
 pending_outcome a q x m None = Wants (if is_majority 2 a.limits.n then PendCert x m else Pend x m) (Some q) a
 pending_outcome a q x m (Some first) = if has_name a.certified x then Answers (answer.Again x) a else counted_outcome a q x

@@ -40,7 +40,7 @@ pub(crate) enum Found<A: Allocator = Global> {
     New(Wanted<A>),
 }
 
-// Makes room for all that a pending record of this name will add.
+// Makes room for all that a pending record of this name will add that certifies nothing.
 fn make_room<A: Allocator + Copy>(
     held: &mut Held<A>,
     name: Name,
@@ -51,11 +51,10 @@ fn make_room<A: Allocator + Copy>(
     requires seq { name.seq ≤ held.old.config.cap }
     ensures kept { IsHeld held.new }
     ensures same { memory_of held.new ≡ memory_of held.old }
-    ensures room { OnOk result ((held.new.pending.reserved ≡ Some (name, client)) × (held.new.acks.reserved ≡ Some name) × (held.new.fifo.reserved ≡ Some name)) }
+    ensures room { OnOk result ((held.new.pending.reserved ≡ Some (name, client)) × (held.new.acks.reserved ≡ Some name)) }
 {
     held.pending.reserve(name, client)?;
     held.acks.reserve(name)?;
-    held.fifo.reserve(name)?;
     Ok(())
 }
 
@@ -71,8 +70,11 @@ pub(crate) fn make_room_for<A: Allocator + Copy>(
     ensures room { OnOk result (HasRoom held.new entry.now) }
 {
     match entry {
-        Record::Pend(name, message) | Record::PendCert(name, message) => {
-            make_room(held, *name, message.client())
+        Record::Pend(name, message) => make_room(held, *name, message.client()),
+        Record::PendCert(name, message) => {
+            make_room(held, *name, message.client())?;
+            held.fifo.reserve(*name)?;
+            Ok(())
         }
         Record::Cert(name) => {
             held.acks.reserve(*name)?;
@@ -97,7 +99,7 @@ fn pending_record<A: Allocator>(
     }
 }
 
-// Makes room for a pending message, and all its copies.
+// All copies of a pending message, and room for it.
 fn make_wanted<A: Allocator + Copy>(
     held: &mut Held<A>,
     alloc: A,
@@ -113,10 +115,10 @@ fn make_wanted<A: Allocator + Copy>(
     ensures same { memory_of held.new ≡ memory_of held.old }
     ensures wanted { IfOk result (λ w. IsWanted held.new w × (w.entry ≡ (if is_certified then PendCert name message else Pend name message)) × (w.cause ≡ cause)) }
 {
-    make_room(held, name, message.client())?;
     let packets = Outbox::of_pair(alloc, held.config, held.node, name, &message)?;
     let copy = pending_record(name, message.copy(alloc)?, is_certified);
     let entry = pending_record(name, message, is_certified);
+    make_room_for(held, &entry)?;
     Ok(Wanted {
         entry,
         copy,

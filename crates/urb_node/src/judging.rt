@@ -14,7 +14,7 @@ ghost use Rattle.urb_stable.specs.Entries.{name_of};
 ghost use Rattle.urb_stable.specs.Log.{log};
 ghost use Rattle.urb_stable.specs.Records.{cert, pend};
 ghost use Rattle.urb_node.specs.Held.{memory_of, HasRoom, IsFallen, IsHeld, IsNextHeld};
-ghost use Rattle.urb_node.specs.Judging.{certified_by, delivered_by, pairs_with, CountsItself, IsOther, IsOtherThan, IsVerdict, Says, SaysWith};
+ghost use Rattle.urb_node.specs.Judging.{certified_by, delivered_by, pairs_with, CountsItself, IsOther, IsOtherThan, IsJoined, IsVerdict, Says, SaysWith};
 ghost use Rattle.urb_node.specs.Part.{self_acks};
 ghost use Rattle.urb_node.specs.Steps.{same_list, same_names, same_pairs, tells};
 
@@ -25,7 +25,7 @@ use urb_fifo::Fifo;
 use urb_majority::Acks;
 use urb_names::{Config, Message, Name, NoMemory, NodeId};
 use urb_pending::Pending;
-use urb_stable::Record;
+use urb_stable::{Index, Record};
 
 /// What an image says.
 #[derive(Clone, Copy, Debug, PartialEq, Eq)]
@@ -50,19 +50,6 @@ fn is_of_pair<A: Allocator>(entry: &Record<Message<A>>, name: Name, message: &Me
         }
         Record::Cert(_) => false,
     }
-}
-
-// Whether an image has a record of this pair.
-#[tactic(auto, using(crate::proofs::ImagePairs::record_has))]
-fn has_record<A: Allocator>(image: &[Record<Message<A>>], name: Name, message: &Message<A>) -> bool
-    ensures { result ≡ has_pair (pend image.now) name message.now }
-{
-    for record in image {
-        if is_of_pair(record, name, message) {
-            return true;
-        }
-    }
-    false
 }
 
 // Whether the pair is pending, or is the doubtful record's.
@@ -115,24 +102,24 @@ fn are_known<A: Allocator + Copy>(
 }
 
 // Whether a record has no pair, or one that the image has.
-fn is_record_in<A: Allocator>(entry: &Record<Message<A>>, image: &[Record<Message<A>>]) -> bool
+fn is_record_in<A: Allocator + Copy>(entry: &Record<Message<A>>, image: &Index<'_, A>) -> bool
     ensures { result ≡ list_all (λ pair. has_pair (pend image.now) pair.0 pair.1) (pend (entry.now ∷ [])) }
 {
     match entry {
         Record::Pend(name, message) | Record::PendCert(name, message) => {
-            has_record(image, *name, message)
+            image.has(*name, message)
         }
         Record::Cert(_) => true,
     }
 }
 
 // Whether the image has every pending pair.
-fn has_pending<A: Allocator + Copy>(image: &[Record<Message<A>>], pending: &Pending<A>) -> bool
+fn has_pending<A: Allocator + Copy>(image: &Index<'_, A>, pending: &Pending<A>) -> bool
     ensures { result ≡ list_all (λ pair. has_pair (pend image.now) pair.0 pair.1) pending.now.pairs }
 {
     for index in 0..pending.count() as usize {
         if let Some((name, message)) = pending.get(index) {
-            if !has_record(image, name, message) {
+            if !image.has(name, message) {
                 return false;
             }
         }
@@ -143,7 +130,7 @@ fn has_pending<A: Allocator + Copy>(image: &[Record<Message<A>>], pending: &Pend
 // Whether the image has every known pair.
 #[tactic(auto, using(crate::proofs::ImagePairs::all_with))]
 fn has_known<A: Allocator + Copy>(
-    image: &[Record<Message<A>>],
+    image: &Index<'_, A>,
     pending: &Pending<A>,
     doubt: &Option<Record<Message<A>>>,
 ) -> bool
@@ -157,13 +144,13 @@ fn has_known<A: Allocator + Copy>(
 
 // Whether the image has the known pairs, and no others.
 fn has_same_pairs<A: Allocator + Copy>(
-    image: &[Record<Message<A>>],
+    image: &Index<'_, A>,
     pending: &Pending<A>,
     doubt: &Option<Record<Message<A>>>,
 ) -> bool
     ensures { result ≡ same_pairs (pend image.now) (pairs_with pending.now.pairs doubt.now) }
 {
-    are_known(image, pending, doubt) && has_known(image, pending, doubt)
+    are_known(image.records(), pending, doubt) && has_known(image, pending, doubt)
 }
 
 // ---- certificates
@@ -218,7 +205,7 @@ fn released_by<A: Allocator + Copy>(
 
 // Whether the image, by what its certificates release, has the same names certified and delivered.
 fn has_same_names<A: Allocator + Copy>(
-    image: &[Record<Message<A>>],
+    image: &Index<'_, A>,
     released: &Fifo<A>,
     fifo: &Fifo<A>,
 ) -> bool
@@ -234,7 +221,7 @@ fn has_same_names<A: Allocator + Copy>(
 // Whether the image says what is known, of so many records.
 #[tactic(auto, using(crate::proofs::ImageNames::parts_tell))]
 fn says<A: Allocator + Copy>(
-    image: &[Record<Message<A>>],
+    image: &Index<'_, A>,
     released: &Fifo<A>,
     pending: &Pending<A>,
     fifo: &Fifo<A>,
@@ -246,7 +233,7 @@ fn says<A: Allocator + Copy>(
 {
     let pairs = has_same_pairs(image, pending, doubt);
     let names = has_same_names(image, released, fifo);
-    pairs && names && image.len() == count as usize
+    pairs && names && image.records().len() == count as usize
 }
 
 // ---- with the doubtful record
@@ -269,20 +256,23 @@ fn certify_doubtful<A: Allocator + Copy>(
     }
 }
 
-// The certificates and the log of a node, with the doubtful record's.
+// The certificates and the log of a node with the doubtful record's, where a record is in doubt.
 fn joined_with<A: Allocator + Copy>(
     alloc: A,
     fifo: &Fifo<A>,
     doubt: &Option<Record<Message<A>>>,
-) -> Result<Fifo<A>, NoMemory>
+) -> Result<Option<Fifo<A>>, NoMemory>
     requires { ForSome doubt.now (λ r. ((name_of r).sender ≤ fifo.now.limits.n) × ((name_of r).seq ≤ fifo.now.limits.cap)) }
-    ensures { IfOk result (λ joined. (joined.certified ≡ certified_by fifo.now.certified doubt.now) × (joined.log ≡ delivered_by fifo.now.log fifo.now.certified doubt.now)) }
+    ensures { IfOk result (IsJoined fifo.now doubt.now) }
 {
-    let mut joined = fifo.copy(alloc)?;
-    if let Some(record) = doubt {
-        certify_doubtful(&mut joined, record)?;
+    match doubt {
+        Some(record) => {
+            let mut joined = fifo.copy(alloc)?;
+            certify_doubtful(&mut joined, record)?;
+            Ok(Some(joined))
+        }
+        None => Ok(None),
     }
-    Ok(joined)
 }
 
 // ---- acknowledgements
@@ -342,7 +332,7 @@ fn prepare<A: Allocator + Copy>(
 // Whether an image, whose certificates release this, says what is stored.
 fn says_stored<A: Allocator + Copy>(
     held: &Held<A>,
-    image: &[Record<Message<A>>],
+    image: &Index<'_, A>,
     released: &Fifo<A>,
 ) -> bool
     requires kept { IsHeld held.now }
@@ -363,20 +353,20 @@ fn says_stored<A: Allocator + Copy>(
 fn says_joined<A: Allocator + Copy>(
     held: &Held<A>,
     doubt: &Option<Record<Message<A>>>,
-    image: &[Record<Message<A>>],
+    image: &Index<'_, A>,
     released: &Fifo<A>,
-    joined: &Fifo<A>,
+    joined: &Option<Fifo<A>>,
 ) -> bool
     requires kept { IsHeld held.now }
     requires released { IsReleaseOf (reverse (cert image.now)) released.now }
-    requires joined { (joined.now.certified ≡ certified_by held.now.fifo.certified doubt.now) × (joined.now.log ≡ delivered_by held.now.fifo.log held.now.fifo.certified doubt.now) }
+    requires joined { IsJoined held.now.fifo doubt.now joined.now }
     ensures { MatchBool result (SaysWith image.now (memory_of held.now) doubt.now) (IsOtherThan image.now (memory_of held.now) doubt.now) }
 {
     // These do nothing: they give the proof what the layers always keep.
     held.pending.limits();
     held.fifo.limits();
-    match doubt {
-        Some(_) => says(
+    match (doubt, joined) {
+        (Some(_), Some(joined)) => says(
             image,
             released,
             &held.pending,
@@ -384,7 +374,7 @@ fn says_joined<A: Allocator + Copy>(
             doubt,
             held.stored + 1,
         ),
-        None => false,
+        _ => false,
     }
 }
 
@@ -392,13 +382,13 @@ fn says_joined<A: Allocator + Copy>(
 fn verdict_of<A: Allocator + Copy>(
     held: &Held<A>,
     doubt: &Option<Record<Message<A>>>,
-    image: &[Record<Message<A>>],
+    image: &Index<'_, A>,
     released: &Fifo<A>,
-    joined: &Fifo<A>,
+    joined: &Option<Fifo<A>>,
 ) -> Verdict
     requires kept { IsHeld held.now }
     requires released { IsReleaseOf (reverse (cert image.now)) released.now }
-    requires joined { (joined.now.certified ≡ certified_by held.now.fifo.certified doubt.now) × (joined.now.log ≡ delivered_by held.now.fifo.log held.now.fifo.certified doubt.now) }
+    requires joined { IsJoined held.now.fifo doubt.now joined.now }
     ensures { IsVerdict image.now (memory_of held.now) doubt.now result }
 {
     if says_stored(held, image, released) {
@@ -424,8 +414,9 @@ fn judged<A: Allocator + Copy>(
     // This does nothing: it gives the proof what the certificates and the log always keep.
     held.fifo.limits();
     let joined = joined_with(alloc, &held.fifo, doubt)?;
+    let index = Index::new(alloc, image)?;
     match released_by(alloc, held.config, image)? {
-        Some(released) => Ok(verdict_of(held, doubt, image, &released, &joined)),
+        Some(released) => Ok(verdict_of(held, doubt, &index, &released, &joined)),
         None => Ok(Verdict::Neither),
     }
 }

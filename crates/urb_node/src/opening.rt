@@ -47,7 +47,8 @@ impl<A: Allocator + Copy> Ready<A> {
         requires rules { KeepsOwn config node [] records.items }
         ensures { IfOk result (λ ready. (ready.limits ≡ config) × (ready.node ≡ node) × ShowsReady ready (opened_node node records.items)) }
     {
-        let Ready { mut held } = Ready::new(alloc, config, node);
+        let ready = Ready::new(alloc, config, node)?;
+        let Ready { mut held } = ready;
         for record in records {
             // These do nothing: they give the proof what the layers always keep.
             held.pending.limits();

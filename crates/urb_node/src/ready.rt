@@ -1,9 +1,11 @@
 //! A node that holds no draft.
 
-ghost use Rattle.std.specs.Prelude.{◌≡◌, ◌≤◌, IsOk, OnOk};
+ghost use Rattle.std.specs.Prelude.{◌≡◌, ◌≤◌, [], IfErr, IfOk};
+ghost use Rattle.urb_names.specs.Carried.{AreFrom};
 ghost use Rattle.urb_node.specs.Held.{memory_of, IsHeld};
 ghost use Rattle.urb_node.specs.Found.{IsFoundIn, step_from};
-ghost use Rattle.urb_node.specs.Moves.{Arrives, Crashes, IsForNode, Submits, Ticks};
+ghost use Rattle.urb_node.specs.Moves.{Arrives, AreOfStored, Crashes, IsForNode, Submits, Ticks};
+ghost use Rattle.urb_node.specs.Part.{opened_node};
 ghost use Rattle.urb_node.specs.Values.{ShowsReady, new_memory};
 
 use crate::down::fallen;
@@ -63,13 +65,16 @@ fn step_of<A: Allocator + Copy>(held: Held<A>, found: Found<A>) -> Step<A>
 
 impl<A: Allocator + Copy> Ready<A> {
     /// A node of a group that has stored nothing: a process of the book as it is initialized (section 3.9).
-    pub fn new(alloc: A, config: Config, node: NodeId) -> Ready<A>
+    pub fn new(alloc: A, config: Config, node: NodeId) -> Result<Ready<A>, NoMemory>
         requires { node ≤ config.n }
-        ensures { result ≡ new_memory config node }
+        ensures memory { IfOk result (λ ready. ready ≡ new_memory config node) }
+
+        // It shows a node that has stored nothing.
+        ensures shows { IfOk result (λ ready. ShowsReady ready (opened_node node [])) }
     {
         // This gives the proof the range of a node's number.
         let _range = node.number();
-        Ready {
+        Ok(Ready {
             held: Held {
                 config,
                 node,
@@ -79,7 +84,7 @@ impl<A: Allocator + Copy> Ready<A> {
                 fifo: Fifo::new(alloc, config),
                 resend: Resend::new(config, node),
             },
-        }
+        })
     }
 
     /// A client's message: the broadcast of the book's algorithm (section 3.9.6), as far as its store.
@@ -90,7 +95,10 @@ impl<A: Allocator + Copy> Ready<A> {
         number: u32,
         payload: &[u8],
     ) -> Result<Step<A>, (Ready<A>, Refusal)>
-        ensures { Submits self (record { client = client; number = number; payload = payload.now }) result }
+        ensures event { Submits self (record { client = client; number = number; payload = payload.now }) result }
+
+        // Refused, the node is as it was, whatever it shows.
+        ensures refused { IfErr result (λ e. e.0 ≡ self) }
     {
         let Ready { mut held } = self;
         // This does nothing: it gives the proof what the pending pairs always keep.
@@ -105,7 +113,10 @@ impl<A: Allocator + Copy> Ready<A> {
     /// in the book's algorithm (section 3.9.6), as far as its store.
     pub fn arrive(self, alloc: A, packet: PacketView<'_>) -> Result<Step<A>, (Ready<A>, Refusal)>
         requires { IsForNode self packet }
-        ensures { Arrives self packet.entry.source packet.entry.name packet.entry.message result }
+        ensures event { Arrives self packet.entry.source packet.entry.name packet.entry.message result }
+
+        // Refused, the node is as it was, whatever it shows.
+        ensures refused { IfErr result (λ e. e.0 ≡ self) }
     {
         let Ready { mut held } = self;
         // These give the proof that a packet's nodes differ, and the range of their numbers.
@@ -120,7 +131,11 @@ impl<A: Allocator + Copy> Ready<A> {
     /// A timeout: sends pending messages again (stubborn links, section 2.4 of the book). Refused for memory, the next
     /// tick sends what this one would have sent.
     pub fn tick(self, alloc: A) -> (Ready<A>, Result<Outbox<A>, NoMemory>)
-        ensures { Ticks self result }
+        ensures event { Ticks self result }
+
+        // What it sends is of the node's stored pairs, with the node as its source.
+        ensures memory { IfOk result.1 (AreFrom self.node self.pairs) }
+        ensures stored { IfOk result.1 (AreOfStored (ShowsReady self) self.node) }
     {
         let Ready { mut held } = self;
         // This does nothing: it gives the proof what the pending pairs always keep.

@@ -1,15 +1,16 @@
 //! A node that holds a draft.
 
-ghost use Rattle.std.specs.Prelude.{◌≡◌, ◌≤◌, ◌<◌, ◌+◌, ◌^◌, true, false, length, is_some, Some};
+ghost use Rattle.std.specs.Prelude.{◌≡◌, ◌≤◌, ◌<◌, ◌+◌, ◌^◌, true, false, length, is_some, IfOk, Some};
 ghost use Rattle.std.specs.Bool.{MatchBool};
+ghost use Rattle.urb_names.specs.Carried.{AreFrom};
 ghost use Rattle.urb_names.specs.Names.{has_name};
 ghost use Rattle.urb_names.specs.Pairs.{message_of};
 ghost use Rattle.urb_stable.specs.declared.record.Record.TheVariants.{Pend};
 ghost use Rattle.urb_node.specs.Held.{memory_of, HasRoom, IsHeld, IsNextHeld};
 ghost use Rattle.urb_node.specs.Layers.{counted_cause, counted_with, with_certificate, with_pair, with_record};
-ghost use Rattle.urb_node.specs.Moves.{Confirms, Crashes, Fails};
+ghost use Rattle.urb_node.specs.Moves.{AreOfStored, Confirms, Crashes, Fails};
 ghost use Rattle.urb_node.specs.Steps.{is_accepted};
-ghost use Rattle.urb_node.specs.Values.{ShowsStoring};
+ghost use Rattle.urb_node.specs.Values.{ShowsReady, ShowsStoring};
 
 use crate::down::fallen;
 use crate::found::note;
@@ -159,7 +160,11 @@ impl<A: Allocator + Copy> Storing<A> {
         self,
         receipt: Receipt<A>,
     ) -> Result<(Ready<A>, Done<A>), (Storing<A>, Receipt<A>)>
-        ensures { Confirms self receipt result }
+        ensures event { Confirms self receipt result }
+
+        // What it sends is of the node's stored pairs, with the node as its source.
+        ensures memory { IfOk result (λ r. AreFrom r.0.node r.0.pairs r.1.sent) }
+        ensures stored { IfOk result (λ r. AreOfStored (ShowsReady r.0) r.0.node r.1.sent) }
     {
         let Storing {
             held,

@@ -303,7 +303,7 @@ impl<A: Allocator + Copy> Tested<A> {
             return Err(Fail::from("the node is not of the group"));
         }
         Ok(Tested {
-            ready: Ready::new(heap, config, node),
+            ready: Ready::new(heap, config, node)?,
             store: MemStable::new(calm),
             heap,
             calm,

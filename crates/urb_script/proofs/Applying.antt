@@ -23,7 +23,7 @@ use Rattle.urb_group.specs.Clustered.{Clustered, held_draft}
 use Rattle.urb_group.specs.Clusters.{Alone, Applies, Breaks, FailsHeld, RestartsBy, Returns, StoreMoves, StoresHeld, is_fallen, stored_as}
 use Rattle.urb_group.specs.Calls.{Steps}
 use Rattle.urb_script.specs.Commands.{Command, Fail, Restart, Stored}
-use Rattle.urb_script.specs.Staged.{IsHeldBy, ShowsScene}
+use Rattle.urb_script.specs.Staged.{IsHeldBy, ShowsScene, StoresAsAsked}
 use Rattle.urb_script.specs.Steps.{Plays, Takes, answer, happens, new_scene}
 use Rattle.urb_script.specs.Texts.{reply_text, told_text}
 use Rattle.std.specs.Prelude.{IfOk, OnOk, nat_lt, slice_get, slice_index_or}
@@ -181,6 +181,15 @@ takes_reply {A = A} size old new scene (act.Store p) said s not r = takes_stored
 takes_reply {A = A} size old new scene (act.Crash p) said s not r = alone size old new scene (event.Crash p) (lines.Crash p) said tt s not r refl (λ text next is. is)
 takes_reply {A = A} size old new scene (act.Restart p) said s not r = takes_restart A size old new scene p said s not r
 
+-- what is asked of the stores
+pub stores_asked : {A : Type 0} (what : acts.Command A) (said : Reply) (old new : Clustered Memory) → Applies (in_memory A) old what said new → StoresAsAsked A (line_of what) old new
+stores_asked (act.Submit p client number payload) said old new r = tt
+stores_asked (act.Arrive p bytes) said old new r = tt
+stores_asked (act.Tick p) said old new r = tt
+stores_asked (act.Store p) said old new r = (said, r)
+stores_asked (act.Crash p) said old new r = tt
+stores_asked (act.Restart p) said old new r = tt
+
 -- what is written is the answer
 told_from : {E : Type 0} (size : Limits) (old new : Clustered Memory) (asked : Command) (result : Result (Unit {0}) E) (said : Reply) (before text : List ℕ) → before ≡ [] → OnOk result (IsToldAs said before text)
     → ((scene : Scene) → ShowsScene size old scene → said ≢ Refused refusal.NoMemory → TakesTo size new scene asked (reply_text said)) → OnOk result ((scene : Scene) → ShowsScene size old scene → TakesTo size new scene asked text)
@@ -253,3 +262,8 @@ opens limits cluster stores before text shows same blank count fresh written = (
   },
   inl (written ∙ ap (λ (b : List ℕ). b ++ told_text (told.Grouped limits)) fresh, refl),
 )
+
+-- nothing is asked of a result
+pub nothing_asked : {V E : Type 0} (result : Result V E) → IfOk result (λ new. Unit {0})
+nothing_asked (Ok new) = tt
+nothing_asked (Err fault) = tt

@@ -161,6 +161,6 @@ one_way old state final (line ∷ done) (first ∷ others) left rest said text l
     )
 
 pub one_outcome : HasOneOutcome
-one_outcome input ended other before after later w v =
+one_outcome input ended other unread left before after later w v =
     let one = one_way None w.state v.state w.done v.done w.left v.left w.said v.said w.last v.last 1 (length w.done + 1) (length v.done + 1) ended other (sym w.lines ∙ v.lines) w.answers v.answers refl refl w.ends v.ends in
     (one.0, w.written ∙ (ap (λ x. before ++ x) one.1 ∙ sym v.written))

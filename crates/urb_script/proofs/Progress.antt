@@ -1,6 +1,7 @@
 -- A script so far: what was read, answered and written.
 use Rattle.std.proofs.Common.{inl, inr, ◌⊎◌, ◌≡◌, ℕ, ◌+◌, List, [], ◌∷◌, ◌++◌, Option, Some, None, true, false, length, refl, sym, ap, ◌∙◌, subst, append_assoc, append-nil, length-append, arith}
 use Rattle.std.specs.Option.{IfSome, is_some}
+use Rattle.std.specs.Prelude.{IsSomeAnd}
 use Rattle.std.specs.Io.KnownBytes.{Appends}
 use Rattle.std.proofs.KnownBytes.{Appends-nil, Appends-trans}
 use Rattle.urb_script.specs.declared.input.LineRead.TheVariants as read
@@ -12,7 +13,7 @@ use Rattle.urb_names.specs.Naming.{Limits}
 use Rattle.urb_script.specs.Commands.{Command, Group, Spells}
 use Rattle.urb_group.specs.Scripts.{Scene}
 use Rattle.urb_script.specs.Steps.{Takes}
-use Rattle.urb_script.specs.Scripts.{Answers, Answered, AnsweredFrom, IsBad, OpensWith, ShowsSome, TakesFrom, bad_line, WholeScript, BrokenOff, BreaksOff}
+use Rattle.urb_script.specs.Scripts.{Answers, Answered, AnsweredFrom, IsBad, OpensWith, ShowsSome, TakesFrom, bad_line, WholeScript, StopsAfter, BrokenOff, BreaksOff}
 
 record Progress (input : List ℕ) (before after known : Option (List ℕ)) (count : ℕ) (state : Option Scene) : Type 0 where
   done : List (List ℕ)
@@ -63,12 +64,21 @@ one_here None before after later known left count state new line text p r a w = 
 one_here (Some input) before after later None left count state new line text p r a w = absurd (none_some p.at)
 one_here (Some input) before after later (Some bytes) left count state new line text p r a w = more input before after later left bytes count state new line text p r a w
 
+-- what the reader still has
+left_is : (P : List ℕ → Type 0) (left : Option (List ℕ)) (rest : List ℕ) → left ≡ Some rest → P rest → IsSomeAnd left P
+left_is P left rest e p = subst (λ (o : Option (List ℕ)). IsSomeAnd o P) (sym e) p
+
+tail_nil : (front back : List ℕ) → front ++ back ≡ [] → back ≡ []
+tail_nil [] back e = e
+tail_nil (byte ∷ bytes) back e = absurd (cc)
+
 -- the input ends after a line
 closes : (from before after known left : Option (List ℕ)) (count : ℕ) (scene : Scene) (line : List ℕ)
-    → IfSome from (λ input. Progress input before after known count (Some scene)) → ReadsLine known left line read.End → IfSome from (λ input. WholeScript Takes input Whole before after)
-closes None before after known left count scene line p r = tt
-closes (Some input) before after None left count scene line p r = absurd (none_some p.at)
-closes (Some input) before after (Some bytes) left count scene line p r = record {
+    → IfSome from (λ input. Progress input before after known count (Some scene)) → ReadsLine known left line read.End → TookPart IsOneLine known left
+    → IfSome from (λ input. IsSomeAnd left (λ unread. WholeScript Takes input Whole unread before after))
+closes None before after known left count scene line p r t = tt
+closes (Some input) before after None left count scene line p r t = absurd (none_some p.at)
+closes (Some input) before after (Some bytes) left count scene line p r t = left_is (λ unread. WholeScript Takes input Whole unread before after) left t.1 t.3 (record {
   done = p.done;
   left = [];
   said = p.said;
@@ -77,12 +87,14 @@ closes (Some input) before after (Some bytes) left count scene line p r = record
   lines = p.lines ∙ ap (λ rest. p.done ++ lines_of rest) (some_same p.at ∙ r);
   answers = p.answers;
   ends = (refl, refl, (scene, refl));
+  leaves = tail_nil t.0 t.1 (sym t.2 ∙ r);
   written = rw append-nil p.written;
-}
+})
 
-bad : (input : List ℕ) (before after later : Option (List ℕ)) (bytes : List ℕ) (count : ℕ) (state : Option Scene)
-    → Progress input before after (Some bytes) count state → IsBad state (lines_of bytes) → Appends after later (bad_line (count + 1)) → WholeScript Takes input (BadLine (count + 1)) before later
-bad input before after later bytes count state p b w = record {
+bad : (input : List ℕ) (before after later left : Option (List ℕ)) (bytes : List ℕ) (count : ℕ) (state : Option Scene)
+    → Progress input before after (Some bytes) count state → IsBad state (lines_of bytes) → TookPart IsOneLine (Some bytes) left → Appends after later (bad_line (count + 1))
+    → IsSomeAnd left (λ unread. WholeScript Takes input (BadLine (count + 1)) unread before later)
+bad input before after later left bytes count state p b t w = left_is (λ unread. WholeScript Takes input (BadLine (count + 1)) unread before later) left t.1 t.3 (record {
   done = p.done;
   left = lines_of bytes;
   said = p.said;
@@ -91,55 +103,67 @@ bad input before after later bytes count state p b w = record {
   lines = p.lines ∙ ap (λ rest. p.done ++ lines_of rest) (some_same p.at);
   answers = p.answers;
   ends = (b, ap (λ n. n + 1) (sym p.counted), refl);
+  leaves = (t.0, t.4, ap lines_of t.2);
   written = Appends-trans _ _ _ _ _ p.written w;
-}
+})
 
 -- nothing comes at all
 bad_end : (from before after later known left : Option (List ℕ)) (count : ℕ) (line : List ℕ)
-    → IfSome from (λ input. Progress input before after known count None) → ReadsLine known left line read.End → Appends after later (bad_line (count + 1)) → IfSome from (λ input. WholeScript Takes input (BadLine (count + 1)) before later)
-bad_end None before after later known left count line p r w = tt
-bad_end (Some input) before after later None left count line p r w = absurd (none_some p.at)
-bad_end (Some input) before after later (Some bytes) left count line p r w =
-    bad input before after later bytes count None p (subst (λ bytes. IsBad None (lines_of bytes)) (sym r) tt) w
+    → IfSome from (λ input. Progress input before after known count None) → ReadsLine known left line read.End → TookPart IsOneLine known left → Appends after later (bad_line (count + 1))
+    → IfSome from (λ input. IsSomeAnd left (λ unread. WholeScript Takes input (BadLine (count + 1)) unread before later))
+bad_end None before after later known left count line p r t w = tt
+bad_end (Some input) before after later None left count line p r t w = absurd (none_some p.at)
+bad_end (Some input) before after later (Some bytes) left count line p r t w =
+    bad input before after later left bytes count None p (subst (λ bytes. IsBad None (lines_of bytes)) (sym r) tt) t w
 
 -- a line is too long
 long_here : (from before after later known left : Option (List ℕ)) (count : ℕ) (state : Option Scene) (line : List ℕ)
-    → IfSome from (λ input. Progress input before after known count state) → ReadsLine known left line read.Long → Appends after later (bad_line (count + 1)) → IfSome from (λ input. WholeScript Takes input (BadLine (count + 1)) before later)
-long_here None before after later known left count state line p r w = tt
-long_here (Some input) before after later None left count state line p r w = absurd (none_some p.at)
-long_here (Some input) before after later (Some bytes) left count state line p r w =
-    bad input before after later bytes count state p (subst (IsBad state) (sym r.2) (λ asked may s. omega (arith, s.short, r.3))) w
+    → IfSome from (λ input. Progress input before after known count state) → ReadsLine known left line read.Long → TookPart IsOneLine known left → Appends after later (bad_line (count + 1))
+    → IfSome from (λ input. IsSomeAnd left (λ unread. WholeScript Takes input (BadLine (count + 1)) unread before later))
+long_here None before after later known left count state line p r t w = tt
+long_here (Some input) before after later None left count state line p r t w = absurd (none_some p.at)
+long_here (Some input) before after later (Some bytes) left count state line p r t w =
+    bad input before after later left bytes count state p (subst (IsBad state) (sym r.2) (λ asked may s. omega (arith, s.short, r.3))) t w
 
 -- a line is no command
 none_here : (from before after later known left : Option (List ℕ)) (count : ℕ) (state : Option Scene) (line text : List ℕ)
-    → IfSome from (λ input. Progress input before after known count state) → ReadsLine known left line read.Whole → Answered state line text None → Appends after later (bad_line (count + 1))
-    → IfSome from (λ input. WholeScript Takes input (BadLine (count + 1)) before later)
-none_here None before after later known left count state line text p r a w = tt
-none_here (Some input) before after later None left count state line text p r a w = absurd (none_some p.at)
-none_here (Some input) before after later (Some bytes) left count state line text p r a w =
-    bad input before after later bytes count state p (subst (IsBad state) (sym r.2) a) w
+    → IfSome from (λ input. Progress input before after known count state) → ReadsLine known left line read.Whole → TookPart IsOneLine known left → Answered state line text None → Appends after later (bad_line (count + 1))
+    → IfSome from (λ input. IsSomeAnd left (λ unread. WholeScript Takes input (BadLine (count + 1)) unread before later))
+none_here None before after later known left count state line text p r t a w = tt
+none_here (Some input) before after later None left count state line text p r t a w = absurd (none_some p.at)
+none_here (Some input) before after later (Some bytes) left count state line text p r t a w =
+    bad input before after later left bytes count state p (subst (IsBad state) (sym r.2) a) t w
+
+stops_here : (P : List ℕ → Type 0) (input : List ℕ) (before after : Option (List ℕ)) (bytes part rest : List ℕ) (count : ℕ) (state : Option Scene)
+    → (p : Progress input before after (Some bytes) count state) → bytes ≡ part ++ rest → P part → StopsAfter P input rest p.said
+stops_here P input before after bytes part rest count state p parts reads = record {
+  done = p.done;
+  part = part;
+  state = state;
+  lines = p.lines ∙ ap (λ rest. p.done ++ lines_of rest) (some_same p.at ∙ parts);
+  reads = reads;
+  answers = p.answers;
+}
 
 -- memory or the reader fails, after a part was read
 off_here : (P : List ℕ → Type 0) (from before after known left : Option (List ℕ)) (count : ℕ) (state : Option Scene)
-    → IfSome from (λ input. Progress input before after known count state) → TookPart P known left → IfSome from (λ input. BrokenOff P input left before after)
+    → IfSome from (λ input. Progress input before after known count state) → TookPart P known left → IfSome from (λ input. IsSomeAnd left (λ unread. BrokenOff P input unread before after))
 off_here P None before after known left count state p t = tt
 off_here P (Some input) before after None left count state p t = absurd (none_some p.at)
-off_here P (Some input) before after (Some bytes) left count state p t = record {
-  done = p.done;
-  part = t.0;
-  rest = t.1;
-  said = p.said;
-  state = state;
-  lines = p.lines ∙ ap (λ rest. p.done ++ lines_of rest) (some_same p.at ∙ t.2);
-  reads = t.4;
-  has = t.3;
-  answers = p.answers;
-  written = p.written;
-}
+off_here P (Some input) before after (Some bytes) left count state p t =
+    left_is (λ unread. BrokenOff P input unread before after) left t.1 t.3 (p.said, stops_here P input before after bytes t.0 t.1 count state p t.2 t.4, p.written)
+
+-- the writer fails, after a part was read
+cut_here : (from before after later known left : Option (List ℕ)) (count : ℕ) (state : Option Scene)
+    → IfSome from (λ input. Progress input before after known count state) → TookPart IsOneLine known left → IfSome from (λ input. IsSomeAnd left (λ unread. BreaksOff faults.Write input unread before later))
+cut_here None before after later known left count state p t = tt
+cut_here (Some input) before after later None left count state p t = absurd (none_some p.at)
+cut_here (Some input) before after later (Some bytes) left count state p t =
+    left_is (λ unread. BreaksOff faults.Write input unread before later) left t.1 t.3 (p.said, stops_here IsOneLine input before after bytes t.0 t.1 count state p t.2 t.4)
 
 -- nothing was read after the lines that are answered
 between_here : (P : List ℕ → Type 0) (from before after known : Option (List ℕ)) (count : ℕ) (state : Option Scene)
-    → IfSome from (λ input. Progress input before after known count state) → P [] → IfSome from (λ input. BrokenOff P input known before after)
+    → IfSome from (λ input. Progress input before after known count state) → P [] → IfSome from (λ input. IsSomeAnd known (λ unread. BrokenOff P input unread before after))
 between_here P None before after known count state p none = tt
 between_here P (Some input) before after None count state p none = absurd (none_some p.at)
 between_here P (Some input) before after (Some bytes) count state p none = off_here P (Some input) before after (Some bytes) (Some bytes) count state p ([], bytes, refl, refl, none)
@@ -185,54 +209,63 @@ one_more shows held state (Some input) before after later known left count line 
 
 -- the input ends after a line
 pub closes_at : {S : Type 0} (shows : S → Scene → Type 0) (held : Option S) (from before after known left : Option (List ℕ)) (count : ℕ) (line : List ℕ) → is_some held ≡ true
-    → IfSome from (λ input. Going shows input before after known count held) → ReadsLine known left line read.End → IfSome from (λ input. WholeScript Takes input Whole before after)
-closes_at shows held None before after known left count line s g r = tt
-closes_at shows None (Some input) before after known left count line s g r = absurd (cc)
-closes_at shows (Some state) (Some input) before after known left count line s g r =
+    → IfSome from (λ input. Going shows input before after known count held) → ReadsLine known left line read.End → TookPart IsOneLine known left
+    → IfSome from (λ input. IsSomeAnd left (λ unread. WholeScript Takes input Whole unread before after))
+closes_at shows held None before after known left count line s g r t = tt
+closes_at shows None (Some input) before after known left count line s g r t = absurd (cc)
+closes_at shows (Some state) (Some input) before after known left count line s g r t =
     let one = someone shows state g.scene g.shown in
-    closes (Some input) before after known left count one.0 line (subst (Progress input before after known count) one.1 g.progress) r
+    closes (Some input) before after known left count one.0 line (subst (Progress input before after known count) one.1 g.progress) r t
 
 -- nothing comes at all
 pub bad_end_at : {S : Type 0} (shows : S → Scene → Type 0) (held : Option S) (from before after later known left : Option (List ℕ)) (count : ℕ) (line : List ℕ) → is_some held ≡ false
-    → IfSome from (λ input. Going shows input before after known count held) → ReadsLine known left line read.End → Appends after later (bad_line (count + 1)) → IfSome from (λ input. WholeScript Takes input (BadLine (count + 1)) before later)
-bad_end_at shows held None before after later known left count line s g r w = tt
-bad_end_at shows None (Some input) before after later known left count line s g r w =
-    bad_end (Some input) before after later known left count line (subst (Progress input before after known count) (no_one shows g.scene g.shown) g.progress) r w
-bad_end_at shows (Some state) (Some input) before after later known left count line s g r w = absurd (cc)
+    → IfSome from (λ input. Going shows input before after known count held) → ReadsLine known left line read.End → TookPart IsOneLine known left → Appends after later (bad_line (count + 1))
+    → IfSome from (λ input. IsSomeAnd left (λ unread. WholeScript Takes input (BadLine (count + 1)) unread before later))
+bad_end_at shows held None before after later known left count line s g r t w = tt
+bad_end_at shows None (Some input) before after later known left count line s g r t w =
+    bad_end (Some input) before after later known left count line (subst (Progress input before after known count) (no_one shows g.scene g.shown) g.progress) r t w
+bad_end_at shows (Some state) (Some input) before after later known left count line s g r t w = absurd (cc)
 
 -- a line is too long
 pub bad_long : {S : Type 0} (shows : S → Scene → Type 0) (held : Option S) (from before after later known left : Option (List ℕ)) (count : ℕ) (line : List ℕ)
-    → IfSome from (λ input. Going shows input before after known count held) → ReadsLine known left line read.Long → Appends after later (bad_line (count + 1)) → IfSome from (λ input. WholeScript Takes input (BadLine (count + 1)) before later)
-bad_long shows held None before after later known left count line g r w = tt
-bad_long shows held (Some input) before after later known left count line g r w = long_here (Some input) before after later known left count g.scene line g.progress r w
+    → IfSome from (λ input. Going shows input before after known count held) → ReadsLine known left line read.Long → TookPart IsOneLine known left → Appends after later (bad_line (count + 1))
+    → IfSome from (λ input. IsSomeAnd left (λ unread. WholeScript Takes input (BadLine (count + 1)) unread before later))
+bad_long shows held None before after later known left count line g r t w = tt
+bad_long shows held (Some input) before after later known left count line g r t w = long_here (Some input) before after later known left count g.scene line g.progress r t w
 
 -- a line is no command
 pub bad_command : {S : Type 0} (shows : S → Scene → Type 0) (held : Option S) (from before after later known left : Option (List ℕ)) (count : ℕ) (line text : List ℕ)
-    → IfSome from (λ input. Going shows input before after known count held) → ReadsLine known left line read.Whole → AnsweredFrom shows held line text None → Appends after later (bad_line (count + 1))
-    → IfSome from (λ input. WholeScript Takes input (BadLine (count + 1)) before later)
-bad_command shows held None before after later known left count line text g r a w = tt
-bad_command shows held (Some input) before after later known left count line text g r a w =
+    → IfSome from (λ input. Going shows input before after known count held) → ReadsLine known left line read.Whole → TookPart IsOneLine known left → AnsweredFrom shows held line text None → Appends after later (bad_line (count + 1))
+    → IfSome from (λ input. IsSomeAnd left (λ unread. WholeScript Takes input (BadLine (count + 1)) unread before later))
+bad_command shows held None before after later known left count line text g r t a w = tt
+bad_command shows held (Some input) before after later known left count line text g r t a w =
     let next = a g.scene g.shown in
-    none_here (Some input) before after later known left count g.scene line text g.progress r (subst (Answered g.scene line text) (no_one shows next.0 next.1) next.2) w
+    none_here (Some input) before after later known left count g.scene line text g.progress r t (subst (Answered g.scene line text) (no_one shows next.0 next.1) next.2) w
 
 -- memory or the reader fails, after a part was read
 pub breaks_off : {S : Type 0} (shows : S → Scene → Type 0) (P : List ℕ → Type 0) (held : Option S) (from before after known left : Option (List ℕ)) (count : ℕ)
-    → IfSome from (λ input. Going shows input before after known count held) → TookPart P known left → IfSome from (λ input. BrokenOff P input left before after)
+    → IfSome from (λ input. Going shows input before after known count held) → TookPart P known left → IfSome from (λ input. IsSomeAnd left (λ unread. BrokenOff P input unread before after))
 breaks_off shows P held None before after known left count g t = tt
 breaks_off shows P held (Some input) before after known left count g t = off_here P (Some input) before after known left count g.scene g.progress t
 
+-- the writer fails, after a part was read
+pub cuts_off : {S : Type 0} (shows : S → Scene → Type 0) (held : Option S) (from before after later known left : Option (List ℕ)) (count : ℕ)
+    → IfSome from (λ input. Going shows input before after known count held) → TookPart IsOneLine known left → IfSome from (λ input. IsSomeAnd left (λ unread. BreaksOff faults.Write input unread before later))
+cuts_off shows held None before after later known left count g t = tt
+cuts_off shows held (Some input) before after later known left count g t = cut_here (Some input) before after later known left count g.scene g.progress t
+
 -- nothing was read after the lines that are answered
 pub breaks_between : {S : Type 0} (shows : S → Scene → Type 0) (P : List ℕ → Type 0) (held : Option S) (from before after known : Option (List ℕ)) (count : ℕ)
-    → IfSome from (λ input. Going shows input before after known count held) → P [] → IfSome from (λ input. BrokenOff P input known before after)
+    → IfSome from (λ input. Going shows input before after known count held) → P [] → IfSome from (λ input. IsSomeAnd known (λ unread. BrokenOff P input unread before after))
 breaks_between shows P held None before after known count g none = tt
 breaks_between shows P held (Some input) before after known count g none = between_here P (Some input) before after known count g.scene g.progress none
 
 -- that a line is no command can't be written
 pub bad_breaks : {S : Type 0} (shows : S → Scene → Type 0) (held : Option S) (fault : RunFault) (from before after later known left : Option (List ℕ)) (count : ℕ)
-    → IfSome from (λ input. Going shows input before after known count held) → TookPart IsOneLine known left → (fault ≡ faults.Write) ⊎ ((fault ≡ faults.NoMemory) × (later ≡ after)) → IfSome from (λ input. BreaksOff fault input left before later)
-bad_breaks shows held fault None before after later known left count g t e = tt
-bad_breaks shows held fault (Some input) before after later known left count g t (inl e) = rw e tt
-bad_breaks shows held fault (Some input) before after later known left count g t (inr e) = rw (e.0, e.1) (breaks_off shows IsOneLine held (Some input) before after known left count g t)
+    → IfSome from (λ input. Going shows input before after known count held) → TookPart IsOneLine known left → (fault ≡ faults.Write) ⊎ ((fault ≡ faults.NoMemory) × (later ≡ after))
+    → IfSome from (λ input. IsSomeAnd left (λ unread. BreaksOff fault input unread before later))
+bad_breaks shows held fault from before after later known left count g t (inl e) = rw e (cuts_off shows held from before after later known left count g t)
+bad_breaks shows held fault from before after later known left count g t (inr e) = rw (e.0, e.1) (breaks_off shows IsOneLine held from before after known left count g t)
 
 pub same_contents : {S : Type 0} (view : S → Option (List ℕ)) (fault : RunFault) (old new : S) → (fault ≡ faults.Write) ⊎ ((fault ≡ faults.NoMemory) × (new ≡ old)) → (fault ≡ faults.Write) ⊎ ((fault ≡ faults.NoMemory) × (view new ≡ view old))
 same_contents view fault old new (inl e) = inl e

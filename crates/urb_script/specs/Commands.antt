@@ -8,6 +8,7 @@ use Rattle.urb_script.specs.Lines.{words_of}
 use Rattle.urb_script.specs.Wording.{IsNodeNumber, HasWord, payload_word, failure_word, name_text}
 use Rattle.urb_group.specs.declared.command.Command as acts
 use Rattle.urb_group.specs.declared.command.Command.TheVariants as act
+use Rattle.urb_script.specs.declared.input.TheConstants.{LONGEST_LINE}
 use Rattle.urb_script.specs.declared.commands.CommandLine.{CommandLine}
 use Rattle.urb_script.specs.declared.commands.CommandLine.TheVariants as line
 
@@ -102,8 +103,8 @@ InRange (Tick node) = IsNodeNumber node
 InRange (Log node) = IsNodeNumber node
 InRange (Held name) = IsLabel name
 
--- the line is this command: at most 65,536 bytes, the command's words parted by one space each, each within its values
+-- the line is this command: at most so many bytes, the command's words parted by one space each, each within its values
 pub record Spells (line : List ℕ) (asked : Command) : Type 0 where
-  pub short : length line ≤ 65536
+  pub short : length line ≤ LONGEST_LINE
   pub words : IsSpelled (words_of line) asked
   pub range : InRange asked

@@ -2,6 +2,7 @@
 use Rattle.std.specs.Prelude.{◌≡◌, ◌<◌, ◌≤◌, ◌++◌, false, ℕ, IfSome, List, [], ◌∷◌, length, Option, Some, None, ◌==◌}
 use Rattle.std.specs.List.{slice_split, All}
 use Rattle.std.specs.Borrow.{Bor}
+use Rattle.urb_script.specs.declared.input.TheConstants.{LONGEST_LINE}
 use Rattle.urb_script.specs.declared.input.LineRead.{LineRead}
 use Rattle.urb_script.specs.declared.input.LineRead.TheVariants.{End, Whole, Long}
 
@@ -33,7 +34,7 @@ words_left (Some rest) = words_of rest.now
 abbrev pub ReadsLine : Option (List ℕ) → Option (List ℕ) → List ℕ → LineRead → Type 0
 ReadsLine known left line End = IfSome known (λ bytes. bytes ≡ [])
 ReadsLine known left line Whole = IfSome known (λ bytes. (rest : List ℕ) × (left ≡ Some rest) × (lines_of bytes ≡ line ∷ lines_of rest))
-ReadsLine known left line Long = IfSome known (λ bytes. (long : List ℕ) × (others : List (List ℕ)) × (lines_of bytes ≡ long ∷ others) × (65536 < length long))
+ReadsLine known left line Long = IfSome known (λ bytes. (long : List ℕ) × (others : List (List ℕ)) × (lines_of bytes ≡ long ∷ others) × (LONGEST_LINE < length long))
 
 -- no LF
 abbrev pub IsPlain : List ℕ → Type 0

@@ -39,9 +39,14 @@ abbrev pub Ends : Option Scene → List (List ℕ) → ℕ → Ended → List �
 Ends state left number Whole output = (left ≡ []) × (output ≡ []) × ((scene : Scene) × (state ≡ Some scene))
 Ends state left number (BadLine bad) output = IsBad state left × (bad ≡ number) × (output ≡ bad_line bad)
 
+-- what the reader still has, where these lines were not answered: nothing at the end; after a bad line, all but one line at most
+abbrev pub Leaves : List (List ℕ) → Ended → List ℕ → Type 0
+Leaves left Whole unread = unread ≡ []
+Leaves left (BadLine bad) unread = (part : List ℕ) × IsOneLine part × (left ≡ lines_of (part ++ unread))
+
 -- By a rule, a script from its first line to its end: the lines that are answered, the others, what was said of the first, and
--- what was said at the end.
-pub record WholeScript (By : Rule) (input : List ℕ) (ended : Ended) (before after : Option (List ℕ)) : Type 0 where
+-- what was said at the end; unread is what the reader still has.
+pub record WholeScript (By : Rule) (input : List ℕ) (ended : Ended) (unread : List ℕ) (before after : Option (List ℕ)) : Type 0 where
   pub done : List (List ℕ)
   pub left : List (List ℕ)
   pub said : List ℕ
@@ -50,26 +55,28 @@ pub record WholeScript (By : Rule) (input : List ℕ) (ended : Ended) (before af
   pub lines : lines_of input ≡ done ++ left
   pub answers : Answers By None done said state
   pub ends : Ends state left (length done + 1) ended last
+  pub leaves : Leaves left ended unread
   pub written : Appends before after (said ++ last)
 
--- a script that broke off: all lines but what was read last are answered, and the reader has the rest
-pub record BrokenOff (P : List ℕ → Type 0) (input : List ℕ) (left before after : Option (List ℕ)) : Type 0 where
+-- a script that stopped: these are the answers to all lines but what was read last, and the reader has the rest
+pub record StopsAfter (P : List ℕ → Type 0) (input unread said : List ℕ) : Type 0 where
   pub done : List (List ℕ)
   pub part : List ℕ
-  pub rest : List ℕ
-  pub said : List ℕ
   pub state : Option Scene
-  pub lines : lines_of input ≡ done ++ lines_of (part ++ rest)
+  pub lines : lines_of input ≡ done ++ lines_of (part ++ unread)
   pub reads : P part
-  pub has : left ≡ Some rest
   pub answers : Answers Takes None done said state
-  pub written : Appends before after said
 
--- what was read and isn't answered: one line at most where memory was refused, and no whole line where the reader failed
-abbrev pub BreaksOff : RunFault → List ℕ → Option (List ℕ) → Option (List ℕ) → Option (List ℕ) → Type 0
-BreaksOff Read input left before after = BrokenOff IsPlain input left before after
-BreaksOff Write input left before after = Unit {0}
-BreaksOff NoMemory input left before after = BrokenOff IsOneLine input left before after
+-- and they are written
+abbrev pub BrokenOff : (List ℕ → Type 0) → List ℕ → List ℕ → Option (List ℕ) → Option (List ℕ) → Type 0
+BrokenOff P input unread before after = (said : List ℕ) × StopsAfter P input unread said × Appends before after said
+
+-- A script that broke off, with what the reader still has. After a failed read no whole line was read that isn't answered;
+-- without memory, and after a failed write, one line at most. Of what a failed write has written nothing is said.
+abbrev pub BreaksOff : RunFault → List ℕ → List ℕ → Option (List ℕ) → Option (List ℕ) → Type 0
+BreaksOff Read input unread before after = BrokenOff IsPlain input unread before after
+BreaksOff Write input unread before after = (said : List ℕ) × StopsAfter IsOneLine input unread said
+BreaksOff NoMemory input unread before after = BrokenOff IsOneLine input unread before after
 
 -- what a line is answered, from the state so far; no state after it, where it is no command that may come now
 abbrev pub Answered : Option Scene → List ℕ → List ℕ → Option Scene → Type 0
@@ -103,5 +110,5 @@ StaysSafe = (lines : List (List ℕ)) (output : List ℕ) (scene : Scene) → An
 -- A script has one outcome where no store is refused memory: whatever end and output answer it, these are the only ones.
 abbrev pub HasOneOutcome : Type 0
 HasOneOutcome =
-    (input : List ℕ) (ended other : Ended) (before after later : List ℕ) → WholeScript Plays input ended (Some before) (Some after) → WholeScript Plays input other (Some before) (Some later)
+    (input : List ℕ) (ended other : Ended) (unread left before after later : List ℕ) → WholeScript Plays input ended unread (Some before) (Some after) → WholeScript Plays input other left (Some before) (Some later)
     → (ended ≡ other) × (after ≡ later)

@@ -10,7 +10,11 @@ use Rattle.urb_node.specs.Steps.{doubt, is_down}
 use Rattle.urb_group.specs.Scripts.{Scene}
 use Rattle.urb_group.specs.Shown.{GroupView, Shows}
 use Rattle.urb_group.specs.World.{World}
-use Rattle.urb_group.specs.Clustered.{Clustered}
+use Rattle.urb_group.specs.Clustered.{Clustered, held_draft}
+use Rattle.urb_group.specs.Clusters.{FailsHeld, StoresHeld}
+use Rattle.urb_group.specs.InMemory.{in_memory}
+use Rattle.urb_node.specs.Replies.{Reply}
+use Rattle.urb_script.specs.Commands.{Command, Fail, Stored}
 use Rattle.urb_script.specs.declared.stage.Stage.{Stage}
 
 -- The store has what the scene's storage holds: the node's records, or these with the doubtful one. While the node is up,
@@ -31,6 +35,13 @@ pub record ShowsScene (limits : Limits) (cluster : Clustered Memory) (scene : Sc
   pub stores : AreHeldBy limits.n scene.world.node scene.storage cluster.stores
   pub counted : length cluster.stores ≡ limits.n
   pub beyond : (p : ℕ) → is_node limits.n p ≡ false → scene.storage p ≡ []
+
+-- The stores do what the cluster has them do: one that is to fail does so as it is asked, and keeps nothing in place of a record
+-- only where memory was refused, as one that is to keep a record fails only there. Of other commands this says nothing.
+abbrev pub StoresAsAsked : Type 0 → Command → Clustered Memory → Clustered Memory → Type 0
+StoresAsAsked A (Stored p) old new = (said : Reply) × StoresHeld (in_memory A) old p (held_draft old.group p) said new
+StoresAsAsked A (Fail p failure) old new = (said : Reply) × FailsHeld old p (held_draft old.group p) failure said new
+StoresAsAsked A asked old new = Unit {0}
 
 -- what the stage shows
 abbrev pub Shown : {A : Type 0} → Stage A → Scene → Type 0

@@ -8,6 +8,7 @@ use std::alloc::Allocator;
 use std::io::{ErrorKind, Read};
 
 /// The reader failed.
+#[derive(Clone, Copy)]
 pub struct ReadFailed;
 
 /// The longest line, in bytes, without its LF.
@@ -52,7 +53,7 @@ pub fn read_line<R: Read, A: Allocator>(
     reader: &mut R,
     line: &mut Vec<u8, A>,
 ) -> Result<LineRead, ReadFailed>
-    requires { 65537 ≤ vec_capacity line.old }
+    requires { TOO_LONG ≤ vec_capacity line.old }
     ensures line { IfOk result (λ read. ReadsLine (R.remaining reader.old) (R.remaining reader.new) line.new.items read) }
     ensures took { OnOk result (TookPart IsOneLine (R.remaining reader.old) (R.remaining reader.new)) }
     ensures err { OnErr result (TookPart IsPlain (R.remaining reader.old) (R.remaining reader.new)) }

@@ -60,10 +60,7 @@ fn push_packet<A: Allocator>(text: &mut Vec<u8, A>, packet: &Packet<A>) -> Resul
 {
     let target = packet.target().number();
     let name = NameWord(packet.name());
-    match write!(text, " {target}:{name}") {
-        Ok(()) => Ok(()),
-        Err(_) => Err(NoMemory),
-    }
+    write!(text, " {target}:{name}").map_err(|_| NoMemory)
 }
 
 // Writes packets, one behind the other.
@@ -134,9 +131,7 @@ pub fn push_entry<A: Allocator>(
 {
     let Name { sender, seq } = name;
     let sender = sender.number();
-    if write!(text, " {sender}.{seq}=").is_err() {
-        return Err(NoMemory);
-    }
+    write!(text, " {sender}.{seq}=").map_err(|_| NoMemory)?;
     match message {
         Some(message) => push_payload(text, message),
         None => Ok(()),
@@ -153,10 +148,8 @@ fn push_payload<A: Allocator>(text: &mut Vec<u8, A>, message: &Message<A>) -> Re
     } else {
         payload
     };
-    match text.extend_from_slice(word) {
-        Ok(()) => Ok(()),
-        Err(_) => Err(NoMemory),
-    }
+    text.extend_from_slice(word)?;
+    Ok(())
 }
 
 /// Writes the head of a shown log at the end of a text.
@@ -164,10 +157,7 @@ pub fn push_log_head<A: Allocator>(text: &mut Vec<u8, A>, node: NodeId) -> Resul
     ensures { OnOk result (text.new.items ≡ text.old.items ++ (codes "log " ++ (decimal node ++ 58 ∷ []))) }
 {
     let node = node.number();
-    match write!(text, "log {node}:") {
-        Ok(()) => Ok(()),
-        Err(_) => Err(NoMemory),
-    }
+    write!(text, "log {node}:").map_err(|_| NoMemory)
 }
 
 /// Writes the head of the nodes that have a name stored at the end of a text.
@@ -175,10 +165,7 @@ pub fn push_held_head<A: Allocator>(text: &mut Vec<u8, A>, name: Name) -> Result
     ensures { OnOk result (text.new.items ≡ text.old.items ++ (codes "held " ++ (name_text name ++ 58 ∷ []))) }
 {
     let name = NameWord(name);
-    match write!(text, "held {name}:") {
-        Ok(()) => Ok(()),
-        Err(_) => Err(NoMemory),
-    }
+    write!(text, "held {name}:").map_err(|_| NoMemory)
 }
 
 /// Writes a node that has a name stored at the end of a text.
@@ -186,8 +173,5 @@ pub fn push_holder<A: Allocator>(text: &mut Vec<u8, A>, node: NodeId) -> Result<
     ensures { OnOk result (text.new.items ≡ text.old.items ++ 32 ∷ decimal node) }
 {
     let node = node.number();
-    match write!(text, " {node}") {
-        Ok(()) => Ok(()),
-        Err(_) => Err(NoMemory),
-    }
+    write!(text, " {node}").map_err(|_| NoMemory)
 }

@@ -200,8 +200,5 @@ impl fmt::Display for Told {
 pub fn push_told<A: Allocator>(text: &mut Vec<u8, A>, reply: Told) -> Result<(), NoMemory>
     ensures { OnOk result (text.new.items ≡ text.old.items ++ told_text reply) }
 {
-    match write!(text, "{reply}") {
-        Ok(()) => Ok(()),
-        Err(_) => Err(NoMemory),
-    }
+    write!(text, "{reply}").map_err(|_| NoMemory)
 }

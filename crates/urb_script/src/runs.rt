@@ -1,6 +1,6 @@
 //! Runs of scripts.
 
-ghost use Rattle.std.specs.Prelude.{◌≡◌, ℕ, ◌≤◌, [], Some, None, IfOk, IfErr, OnOk, IfSome, ◌⊎◌, vec_capacity};
+ghost use Rattle.std.specs.Prelude.{◌≡◌, ℕ, ◌≤◌, [], Some, None, IfOk, IfErr, OnOk, IfSome, IsSomeAnd, ◌⊎◌, vec_capacity};
 ghost use Rattle.std.specs.Io.KnownBytes.{Appends};
 ghost use Rattle.urb_script.specs.Commands.{Command, Group, command, InRange};
 ghost use Rattle.urb_group.specs.Scripts.{Scene};
@@ -11,7 +11,7 @@ ghost use Rattle.urb_script.specs.Scripts.{AnsweredFrom, OpensWith, TakesFrom, W
 use crate::commands::{CommandLine, parse_command};
 use crate::input::{LineRead, ReadFailed, TOO_LONG, read_line};
 use crate::stage::Stage;
-use std::alloc::Allocator;
+use std::alloc::{AllocError, Allocator};
 use std::io::{Read, Write};
 use thiserror::Error;
 use urb_names::{Config, NoMemory};
@@ -40,6 +40,39 @@ pub enum RunFault {
     /// A growth was refused. All lines before the one that needed it are answered.
     #[error("no memory")]
     NoMemory,
+}
+
+impl From<ReadFailed> for RunFault {
+    ghost use Rattle.std.specs.Prelude.{◌≡◌};
+    ghost use Rattle.urb_script.specs.declared.runs.RunFault.TheVariants.{Read as read};
+
+    ghost from_gives = { λ _ e. e ≡ read };
+
+    fn from(_: ReadFailed) -> RunFault {
+        RunFault::Read
+    }
+}
+
+impl From<NoMemory> for RunFault {
+    ghost use Rattle.std.specs.Prelude.{◌≡◌};
+    ghost use Rattle.urb_script.specs.declared.runs.RunFault.TheVariants.{NoMemory as no_memory};
+
+    ghost from_gives = { λ _ e. e ≡ no_memory };
+
+    fn from(_: NoMemory) -> RunFault {
+        RunFault::NoMemory
+    }
+}
+
+impl From<AllocError> for RunFault {
+    ghost use Rattle.std.specs.Prelude.{◌≡◌};
+    ghost use Rattle.urb_script.specs.declared.runs.RunFault.TheVariants.{NoMemory as no_memory};
+
+    ghost from_gives = { λ _ e. e ≡ no_memory };
+
+    fn from(_: AllocError) -> RunFault {
+        RunFault::NoMemory
+    }
 }
 
 /// What a script runs over.
@@ -102,13 +135,8 @@ fn write_now<W: Write>(writer: &mut W, bytes: &[u8]) -> Result<(), RunFault>
     ensures ok { OnOk result (Appends (W.contents writer.old) (W.contents writer.new) bytes.now) }
     ensures err { IfErr result (λ fault. fault ≡ RunFault.Write) }
 {
-    if writer.write_all(bytes).is_err() {
-        return Err(RunFault::Write);
-    }
-    if writer.flush().is_err() {
-        return Err(RunFault::Write);
-    }
-    Ok(())
+    writer.write_all(bytes).map_err(|_| RunFault::Write)?;
+    writer.flush().map_err(|_| RunFault::Write)
 }
 
 // Writes that a line is no command. Without memory nothing is written.
@@ -121,9 +149,7 @@ fn write_bad_line<A: Allocator, W: Write>(
     ensures err { IfErr result (λ fault. (fault ≡ RunFault.Write) ⊎ ((fault ≡ RunFault.NoMemory) × (writer.new ≡ writer.old))) }
 {
     text.clear();
-    if writeln!(text, "bad line {number}").is_err() {
-        return Err(RunFault::NoMemory);
-    }
+    writeln!(text, "bad line {number}").map_err(|_| RunFault::NoMemory)?;
     write_now(writer, text.as_slice())
 }
 
@@ -133,52 +159,35 @@ fn run_over<A: Allocator + Copy, P: Play<A>, R: Read, W: Write>(
     reader: &mut R,
     writer: &mut W,
 ) -> Result<Ended, RunFault>
-    ensures whole { IfOk result (λ ended. IfSome (R.remaining reader.old) (λ input. WholeScript Takes input ended (W.contents writer.old) (W.contents writer.new))) }
-    ensures broken_off { IfErr result (λ fault. IfSome (R.remaining reader.old) (λ input. BreaksOff fault input (R.remaining reader.new) (W.contents writer.old) (W.contents writer.new))) }
+    ensures whole { IfOk result (λ ended. IfSome (R.remaining reader.old) (λ input. IsSomeAnd (R.remaining reader.new) (λ unread.
+        WholeScript Takes input ended unread (W.contents writer.old) (W.contents writer.new)))) }
+    ensures broken_off { IfErr result (λ fault. IfSome (R.remaining reader.old) (λ input. IsSomeAnd (R.remaining reader.new) (λ unread.
+        BreaksOff fault input unread (W.contents writer.old) (W.contents writer.new)))) }
 {
-    let mut line = match Vec::with_capacity(alloc, TOO_LONG) {
-        Ok(line) => line,
-        Err(_) => return Err(RunFault::NoMemory),
-    };
-    let mut text = match Vec::with_capacity(alloc, ANSWER_ROOM) {
-        Ok(text) => text,
-        Err(_) => return Err(RunFault::NoMemory),
-    };
+    let mut line = Vec::with_capacity(alloc, TOO_LONG)?;
+    let mut text = Vec::with_capacity(alloc, ANSWER_ROOM)?;
     let mut state: Option<P> = None;
     for before in 0..u64::MAX {
         let number = before + 1;
-        match read_line(reader, &mut line) {
-            Err(ReadFailed) => return Err(RunFault::Read),
-            Ok(LineRead::Whole) => {}
-            Ok(LineRead::End) => {
+        match read_line(reader, &mut line)? {
+            LineRead::Whole => {}
+            LineRead::End => {
                 if state.is_some() {
                     return Ok(Ended::Whole);
                 }
-                match write_bad_line(writer, &mut text, number) {
-                    Ok(()) => return Ok(Ended::BadLine(number)),
-                    Err(fault) => return Err(fault),
-                }
+                write_bad_line(writer, &mut text, number)?;
+                return Ok(Ended::BadLine(number));
             }
-            Ok(LineRead::Long) => {
-                match write_bad_line(writer, &mut text, number) {
-                    Ok(()) => return Ok(Ended::BadLine(number)),
-                    Err(fault) => return Err(fault),
-                }
+            LineRead::Long => {
+                write_bad_line(writer, &mut text, number)?;
+                return Ok(Ended::BadLine(number));
             }
         }
-        let next = match answer_line(alloc, state, line.as_slice(), &mut text) {
-            Ok(next) => next,
-            Err(NoMemory) => return Err(RunFault::NoMemory),
+        let Some(next) = answer_line(alloc, state, line.as_slice(), &mut text)? else {
+            write_bad_line(writer, &mut text, number)?;
+            return Ok(Ended::BadLine(number));
         };
-        let Some(next) = next else {
-            match write_bad_line(writer, &mut text, number) {
-                Ok(()) => return Ok(Ended::BadLine(number)),
-                Err(fault) => return Err(fault),
-            }
-        };
-        if text.push(b'\n').is_err() {
-            return Err(RunFault::NoMemory);
-        }
+        text.extend_from_slice(b"\n")?;
         write_now(writer, text.as_slice())?;
         state = Some(next);
     }
@@ -194,10 +203,13 @@ pub fn run<A: Allocator + Copy, R: Read, W: Write>(
     writer: &mut W,
 ) -> Result<Ended, RunFault>
     // What was written is the answers to all lines that the reader held, or to those before the first bad line and its
-    // own answer.
-    ensures whole { IfOk result (λ ended. IfSome (R.remaining reader.old) (λ input. WholeScript Takes input ended (W.contents writer.old) (W.contents writer.new))) }
-    // After want of memory, or a failed read, the lines before are answered, and nothing else is written.
-    ensures broken_off { IfErr result (λ fault. IfSome (R.remaining reader.old) (λ input. BreaksOff fault input (R.remaining reader.new) (W.contents writer.old) (W.contents writer.new))) }
+    // own answer; of the lines after that one nothing was read.
+    ensures whole { IfOk result (λ ended. IfSome (R.remaining reader.old) (λ input. IsSomeAnd (R.remaining reader.new) (λ unread.
+        WholeScript Takes input ended unread (W.contents writer.old) (W.contents writer.new)))) }
+    // After want of memory, or a failed read, the lines before are answered, and nothing else is written; after a failed
+    // write they are answered too, and of what went out nothing is said. One line at most was read after them.
+    ensures broken_off { IfErr result (λ fault. IfSome (R.remaining reader.old) (λ input. IsSomeAnd (R.remaining reader.new) (λ unread.
+        BreaksOff fault input unread (W.contents writer.old) (W.contents writer.new)))) }
     // In whatever world answered lines lead to, each log has of each sender the first messages that its storage took, in
     // order and once, and a majority's storages hold each of them.
     ensures safe { StaysSafe }

@@ -13,7 +13,7 @@ ghost use Rattle.urb_group.specs.Shown.{Shows};
 ghost use Rattle.std.specs.Fmt.{decimal};
 ghost use Rattle.urb_script.specs.Commands.{Arrive, Fail, InRange, Raw, Reopen, Submit, command, line_of};
 ghost use Rattle.urb_script.specs.Scripts.{TakesFrom};
-ghost use Rattle.urb_script.specs.Staged.{Shown, ShowsScene, TellsAt, TellsOf};
+ghost use Rattle.urb_script.specs.Staged.{Shown, ShowsScene, StoresAsAsked, TellsAt, TellsOf};
 ghost use Rattle.urb_script.specs.Steps.{IsLater, holders, shown_holders, shown_log};
 ghost use Rattle.urb_script.specs.Texts.{entry_text};
 
@@ -90,6 +90,7 @@ impl<A: Allocator + Copy> Stage<A> {
     fn apply(&mut self, command: &Command<A>, text: &mut Vec<u8, A>) -> Result<(), NoMemory>
         requires { text.old.items ≡ [] }
         ensures shown { OnOk result (TakesFrom Shown self.old (line_of command.now) text.new.items self.new) }
+        ensures stores { StoresAsAsked A (line_of command.now) self.old.cluster self.new.cluster }
         ensures kept { IsStocked (in_memory A) self.old.cluster → IsStocked (in_memory A) self.new.cluster }
     {
         let reply = self.cluster.apply(self.alloc, command);
@@ -128,6 +129,7 @@ impl<A: Allocator + Copy> Stage<A> {
     ) -> Result<(), NoMemory>
         requires { text.old.items ≡ [] }
         ensures shown { OnOk result (TakesFrom Shown self.old (Fail node failure) text.new.items self.new) }
+        ensures stores { StoresAsAsked A (Fail node failure) self.old.cluster self.new.cluster }
         ensures kept { IsStocked (in_memory A) self.old.cluster → IsStocked (in_memory A) self.new.cluster }
     {
         let reply = self.cluster.fail(node, failure);
@@ -264,6 +266,7 @@ impl<A: Allocator + Copy> Stage<A> {
         requires range { InRange (command found) }
         requires goes_on { command found ≢ Reopen }
         ensures shown { OnOk result (TakesFrom Shown self.old (command found.entry) text.new.items self.new) }
+        ensures stores { StoresAsAsked A (command found.entry) self.old.cluster self.new.cluster }
         ensures kept { IsStocked (in_memory A) self.old.cluster → IsStocked (in_memory A) self.new.cluster }
     {
         match found {
@@ -294,9 +297,8 @@ impl<A: Allocator + Copy> Play<A> for Stage<A> {
 
     fn open(alloc: A, config: Config, text: &mut Vec<u8, A>) -> Result<Stage<A>, NoMemory> {
         let stores = new_stores(alloc, config.n())?;
-        let cluster = match Cluster::new(alloc, config, stores) {
-            Ok(cluster) => cluster,
-            Err(_) => return Err(NoMemory),
+        let Ok(cluster) = Cluster::new(alloc, config, stores) else {
+            return Err(NoMemory);
         };
         push_told(text, Told::Grouped(config))?;
         Ok(Stage {
@@ -306,7 +308,15 @@ impl<A: Allocator + Copy> Play<A> for Stage<A> {
         })
     }
 
-    fn play(self, found: CommandLine<'_>, text: &mut Vec<u8, A>) -> Result<Stage<A>, NoMemory> {
+    fn play(self, found: CommandLine<'_>, text: &mut Vec<u8, A>) -> Result<Stage<A>, NoMemory>
+        requires fresh { text.old.items ≡ [] }
+        requires later { IsLater (command found) }
+        requires range { InRange (command found) }
+        requires kept { IsStocked (in_memory A) self.cluster }
+        ensures shown { IfOk result (λ new. TakesFrom Shown self (command found.entry) text.new.items new) }
+        ensures kept { IfOk result (λ new. IsStocked (in_memory A) new.cluster) }
+        ensures stores { IfOk result (λ new. StoresAsAsked A (command found.entry) self.cluster new.cluster) }
+    {
         match found {
             CommandLine::Reopen => self.reopen(text),
             found => {

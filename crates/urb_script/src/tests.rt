@@ -1,4 +1,6 @@
-//! Whole scripts, bad lines, and scripts in which memory, the reader or the writer fails.
+//! Whole scripts, bad lines, and the words of refusals.
+
+mod failing;
 
 use super::*;
 use crate::replies::{Told, push_told};
@@ -6,7 +8,6 @@ use std::alloc::Global;
 use std::process::Abort;
 use std::test::Fail;
 use urb_names::{Config, Name, NodeId, PacketFault, Refusal, Rule};
-use urb_refusing::{FailingReader, FailingWriter, Refusing};
 
 const ONE_NODE: &[u8] = b"group 1 10\nsubmit 1 7 1 hi\nstored 1\nlog 1\n";
 
@@ -196,6 +197,26 @@ fn a_line_has_at_most_its_greatest_length(rt: HostRuntime) -> Result<(), Fail> {
 }
 
 #[test]
+fn a_script_cut_within_its_last_line_has_a_shorter_line(rt: HostRuntime) -> Result<(), Fail> {
+    let script = b"group 1 10\nsubmit 1 7 1 hi".as_slice();
+    for (cut, byte) in script.iter().enumerate() {
+        // What stands before the cut of the last line.
+        let (answers, ended) = match cut {
+            0..=10 => continue,
+            11 => (b"group 1 10\n".as_slice(), Ended::Whole),
+            25 => (b"group 1 10\ndraft 1.1 at 1\n".as_slice(), Ended::Whole),
+            _ => (b"group 1 10\nbad line 2\n".as_slice(), Ended::BadLine(2)),
+        };
+        let Some(front) = script.get(..cut) else {
+            return Err("a cut behind the end".into());
+        };
+        gives(&rt, front, answers, ended)?;
+        assert!(rt; *byte != b'\n');
+    }
+    Ok(())
+}
+
+#[test]
 fn a_last_line_may_lack_its_end(rt: HostRuntime) -> Result<(), Fail> {
     gives(&rt, b"group 1 10", b"group 1 10\n", Ended::Whole)?;
     gives(
@@ -257,125 +278,5 @@ fn refusals_have_their_words(rt: HostRuntime) -> Result<(), Fail> {
         wanted.extend_from_slice(words)?;
         assert_eq!(rt; text.as_slice(), wanted.as_slice());
     }
-    Ok(())
-}
-
-/// Whether a text is whole lines that begin the other.
-fn begins_lines(text: &[u8], whole: &[u8]) -> bool {
-    whole.starts_with(text) && (text.is_empty() || text.ends_with(b"\n"))
-}
-
-const THREE_NODES: &[u8] =
-    b"group 3 10\nsubmit 1 7 1 a\nstored 1\narrive 1 2 1 1\nstored 2\ntick 2\nheld 1.1\nlog 2\ncrash 2\nrestart 2\nreopen\nlog 2\n";
-
-const THREE_NODES_ANSWERS: &[u8] =
-    b"group 3 10\ndraft 1.1 at 1\naccepted 1.1 sent 2 released 0\ndraft 1.1 at 1\ntaken 1.1 sent 2 released 1\nsent 1:1.1 3:1.1\nheld 1.1: 1 2\nlog 2: 1.1=a\ndown 2\nup 2\nopen\nlog 2: 1.1=a\n";
-
-/// Where the first line is that is not the same.
-fn parts_at(text: &[u8], whole: &[u8]) -> usize {
-    let mut line = 0;
-    for (at, (byte, other)) in text.iter().zip(whole).enumerate() {
-        if *byte != *other {
-            return line;
-        }
-        if *byte == b'\n' {
-            line = at + 1;
-        }
-    }
-    line
-}
-
-#[test]
-fn each_refused_growth_ends_the_run_or_fails_a_store(rt: HostRuntime) -> Result<(), Fail> {
-    for (script, answers) in [
-        (ONE_NODE, ONE_NODE_ANSWERS),
-        (LONG_PAYLOADS, LONG_PAYLOADS_ANSWERS),
-        (THREE_NODES, THREE_NODES_ANSWERS),
-    ] {
-        let script = spelled(rt.alloc(), script)?;
-        let answers = spelled(rt.alloc(), answers)?;
-        let mut ran = false;
-        let mut failed = false;
-        for refused in 1..500u64 {
-            let heap = Refusing::new(rt.alloc(), refused);
-            let mut room = [0u8; 1500];
-            let mut writer = FailingWriter::new(&mut room, 700, 0);
-            let mut input = script.as_slice();
-            let ended = run(&heap, &mut input, &mut writer);
-            let written = writer.written();
-            if !heap.met() {
-                assert!(rt; matches!(ended, Ok(Ended::Whole)));
-                assert_eq!(rt; written, answers.as_slice());
-                ran = true;
-                break;
-            }
-            if matches!(ended, Err(RunFault::NoMemory)) {
-                assert!(rt;
-                    begins_lines(written, answers.as_slice()),
-                    "growth {refused}"
-                );
-            } else {
-                assert!(rt; matches!(ended, Ok(Ended::Whole)), "growth {refused}");
-                let at = parts_at(written, answers.as_slice());
-                let Some(rest) = written.get(at..) else {
-                    return Err("no line parts".into());
-                };
-                assert!(rt; rest.starts_with(b"down "), "growth {refused}");
-                failed = true;
-            }
-        }
-        assert!(rt; ran);
-        assert!(rt; failed);
-    }
-    Ok(())
-}
-
-#[test]
-fn each_failing_read_ends_the_run(rt: HostRuntime) -> Result<(), Fail> {
-    let mut ran = false;
-    for failing in 1..500u64 {
-        let mut reader = FailingReader::new(ONE_NODE, 5, failing);
-        let mut output = Vec::new(rt.alloc());
-        let ended = run(rt.alloc(), &mut reader, &mut output);
-        if matches!(ended, Ok(Ended::Whole)) {
-            assert!(rt; reader.reads() < failing);
-            assert_eq!(rt; output.as_slice(), ONE_NODE_ANSWERS);
-            ran = true;
-            break;
-        }
-        assert!(rt; matches!(ended, Err(RunFault::Read)), "read {failing}");
-        assert!(rt; reader.failed_last(), "read {failing}");
-        assert!(rt;
-            begins_lines(output.as_slice(), ONE_NODE_ANSWERS),
-            "read {failing}"
-        );
-    }
-    assert!(rt; ran);
-    Ok(())
-}
-
-#[test]
-fn each_failing_write_ends_the_run(rt: HostRuntime) -> Result<(), Fail> {
-    let mut ran = false;
-    for failing in 1..500u64 {
-        // A byte a read, so that the reads count the bytes.
-        let mut reader = FailingReader::new(ONE_NODE, 1, 0);
-        let mut room = [0u8; 300];
-        let mut writer = FailingWriter::new(&mut room, 5, failing);
-        let ended = run(rt.alloc(), &mut reader, &mut writer);
-        if matches!(ended, Ok(Ended::Whole)) {
-            assert_eq!(rt; writer.written(), ONE_NODE_ANSWERS);
-            ran = true;
-            break;
-        }
-        assert!(rt; matches!(ended, Err(RunFault::Write)), "write {failing}");
-        assert!(rt; writer.failed_last(), "write {failing}");
-        // Nothing of the line after the last one was read.
-        let Some(read) = ONE_NODE.get(..reader.reads() as usize) else {
-            return Err("more bytes than there are".into());
-        };
-        assert!(rt; read.ends_with(b"\n"), "write {failing}");
-    }
-    assert!(rt; ran);
     Ok(())
 }

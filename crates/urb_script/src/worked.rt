@@ -1,9 +1,39 @@
-//! Worked scripts and their answers, byte for byte.
+//! Worked scripts and their answers, byte for byte; those with a name are also run with refused growths.
 
 use super::*;
 use crate::tests::gives;
 use std::process::Abort;
 use std::test::Fail;
+
+/// A message that two of three nodes have stored is delivered by both.
+pub const MAJORITY: (&[u8], &[u8]) = (
+    b"group 3 10\nsubmit 1 7 1 a\nstored 1\narrive 1 2 1 1\nstored 2\nlog 1\narrive 2 1 1 1\nstored 1\n",
+    b"group 3 10\ndraft 1.1 at 1\naccepted 1.1 sent 2 released 0\ndraft 1.1 at 1\ntaken 1.1 sent 2 released 1\nlog 1:\ndraft 1.1 at 2\ntaken 1.1 sent 0 released 1\n",
+);
+
+/// Half of four nodes are no majority.
+pub const HALF: (&[u8], &[u8]) = (
+    b"group 4 10\nsubmit 1 7 1 a\nstored 1\narrive 1 2 1 1\nstored 2\narrive 1 3 1 1\nstored 3\narrive 2 1 1 1\narrive 3 1 1 1\nstored 1\n",
+    b"group 4 10\ndraft 1.1 at 1\naccepted 1.1 sent 3 released 0\ndraft 1.1 at 1\ntaken 1.1 sent 3 released 0\ndraft 1.1 at 1\ntaken 1.1 sent 3 released 0\nnoted 1.1\ndraft 1.1 at 2\ntaken 1.1 sent 0 released 1\n",
+);
+
+/// A crash loses the acknowledgements.
+pub const FORGOTTEN: (&[u8], &[u8]) = (
+    b"group 5 10\nsubmit 1 7 1 a\nstored 1\narrive 1 2 1 1\nstored 2\narrive 1 3 1 1\nstored 3\narrive 2 1 1 1\ncrash 1\nrestart 1\narrive 3 1 1 1\narrive 2 1 1 1\n",
+    b"group 5 10\ndraft 1.1 at 1\naccepted 1.1 sent 4 released 0\ndraft 1.1 at 1\ntaken 1.1 sent 4 released 0\ndraft 1.1 at 1\ntaken 1.1 sent 4 released 0\nnoted 1.1\ndown 1\nup 1\nnoted 1.1\ndraft 1.1 at 2\n",
+);
+
+/// Each tick resends the next sixteen names.
+pub const RESENT: (&[u8], &[u8]) = (
+    b"group 2 20\nsubmit 1 7 1 a\nstored 1\nsubmit 1 7 2 a\nstored 1\nsubmit 1 7 3 a\nstored 1\nsubmit 1 7 4 a\nstored 1\nsubmit 1 7 5 a\nstored 1\nsubmit 1 7 6 a\nstored 1\nsubmit 1 7 7 a\nstored 1\nsubmit 1 7 8 a\nstored 1\nsubmit 1 7 9 a\nstored 1\nsubmit 1 7 10 a\nstored 1\nsubmit 1 7 11 a\nstored 1\nsubmit 1 7 12 a\nstored 1\nsubmit 1 7 13 a\nstored 1\nsubmit 1 7 14 a\nstored 1\nsubmit 1 7 15 a\nstored 1\nsubmit 1 7 16 a\nstored 1\nsubmit 1 7 17 a\nstored 1\ntick 1\ntick 1\ntick 2\n",
+    b"group 2 20\ndraft 1.1 at 1\naccepted 1.1 sent 1 released 0\ndraft 1.2 at 2\naccepted 1.2 sent 1 released 0\ndraft 1.3 at 3\naccepted 1.3 sent 1 released 0\ndraft 1.4 at 4\naccepted 1.4 sent 1 released 0\ndraft 1.5 at 5\naccepted 1.5 sent 1 released 0\ndraft 1.6 at 6\naccepted 1.6 sent 1 released 0\ndraft 1.7 at 7\naccepted 1.7 sent 1 released 0\ndraft 1.8 at 8\naccepted 1.8 sent 1 released 0\ndraft 1.9 at 9\naccepted 1.9 sent 1 released 0\ndraft 1.10 at 10\naccepted 1.10 sent 1 released 0\ndraft 1.11 at 11\naccepted 1.11 sent 1 released 0\ndraft 1.12 at 12\naccepted 1.12 sent 1 released 0\ndraft 1.13 at 13\naccepted 1.13 sent 1 released 0\ndraft 1.14 at 14\naccepted 1.14 sent 1 released 0\ndraft 1.15 at 15\naccepted 1.15 sent 1 released 0\ndraft 1.16 at 16\naccepted 1.16 sent 1 released 0\ndraft 1.17 at 17\naccepted 1.17 sent 1 released 0\nsent 2:1.1 2:1.2 2:1.3 2:1.4 2:1.5 2:1.6 2:1.7 2:1.8 2:1.9 2:1.10 2:1.11 2:1.12 2:1.13 2:1.14 2:1.15 2:1.16\nsent 2:1.17 2:1.1 2:1.2 2:1.3 2:1.4 2:1.5 2:1.6 2:1.7 2:1.8 2:1.9 2:1.10 2:1.11 2:1.12 2:1.13 2:1.14 2:1.15\nsent\n",
+);
+
+/// Logs outlive a stop of the whole process, and a repeat is accepted.
+pub const REOPENED: (&[u8], &[u8]) = (
+    b"group 3 10\nsubmit 1 7 1 a\nstored 1\narrive 1 2 1 1\nstored 2\nlog 1\narrive 2 1 1 1\nstored 1\nreopen\nlog 1\nlog 2\nsubmit 1 7 1 a\n",
+    b"group 3 10\ndraft 1.1 at 1\naccepted 1.1 sent 2 released 0\ndraft 1.1 at 1\ntaken 1.1 sent 2 released 1\nlog 1:\ndraft 1.1 at 2\ntaken 1.1 sent 0 released 1\nopen\nlog 1: 1.1=a\nlog 2: 1.1=a\naccepted 1.1\n",
+);
 
 #[test]
 fn worked_scripts_are_answered(rt: HostRuntime) -> Result<(), Fail> {
@@ -14,12 +44,7 @@ fn worked_scripts_are_answered(rt: HostRuntime) -> Result<(), Fail> {
             b"group 1 10\ndraft 1.1 at 1\naccepted 1.1 sent 0 released 1\nlog 1: 1.1=hi\n".as_slice(),
             Ended::Whole,
         ),
-        // A majority delivers, one after the other.
-        (
-            b"group 3 10\nsubmit 1 7 1 a\nstored 1\narrive 1 2 1 1\nstored 2\nlog 1\narrive 2 1 1 1\nstored 1\n",
-            b"group 3 10\ndraft 1.1 at 1\naccepted 1.1 sent 2 released 0\ndraft 1.1 at 1\ntaken 1.1 sent 2 released 1\nlog 1:\ndraft 1.1 at 2\ntaken 1.1 sent 0 released 1\n",
-            Ended::Whole,
-        ),
+        (MAJORITY.0, MAJORITY.1, Ended::Whole),
         // Names are released in order of number.
         (
             b"group 3 10\nsubmit 1 7 1 a\nstored 1\nsubmit 1 7 2 b\nstored 1\narrive 1 2 1 2\nstored 2\narrive 1 2 1 1\nstored 2\nlog 2\n",
@@ -50,18 +75,8 @@ fn worked_scripts_are_answered(rt: HostRuntime) -> Result<(), Fail> {
             b"group 5 10\ndraft 1.1 at 1\naccepted 1.1 sent 4 released 0\ndraft 1.1 at 1\ntaken 1.1 sent 4 released 0\nagain 1.1\nagain 1.1\n",
             Ended::Whole,
         ),
-        // Half of the nodes are no majority.
-        (
-            b"group 4 10\nsubmit 1 7 1 a\nstored 1\narrive 1 2 1 1\nstored 2\narrive 1 3 1 1\nstored 3\narrive 2 1 1 1\narrive 3 1 1 1\nstored 1\n",
-            b"group 4 10\ndraft 1.1 at 1\naccepted 1.1 sent 3 released 0\ndraft 1.1 at 1\ntaken 1.1 sent 3 released 0\ndraft 1.1 at 1\ntaken 1.1 sent 3 released 0\nnoted 1.1\ndraft 1.1 at 2\ntaken 1.1 sent 0 released 1\n",
-            Ended::Whole,
-        ),
-        // A crash loses the acknowledgements.
-        (
-            b"group 5 10\nsubmit 1 7 1 a\nstored 1\narrive 1 2 1 1\nstored 2\narrive 1 3 1 1\nstored 3\narrive 2 1 1 1\ncrash 1\nrestart 1\narrive 3 1 1 1\narrive 2 1 1 1\n",
-            b"group 5 10\ndraft 1.1 at 1\naccepted 1.1 sent 4 released 0\ndraft 1.1 at 1\ntaken 1.1 sent 4 released 0\ndraft 1.1 at 1\ntaken 1.1 sent 4 released 0\nnoted 1.1\ndown 1\nup 1\nnoted 1.1\ndraft 1.1 at 2\n",
-            Ended::Whole,
-        ),
+        (HALF.0, HALF.1, Ended::Whole),
+        (FORGOTTEN.0, FORGOTTEN.1, Ended::Whole),
         // A client's numbers begin at one.
         (
             b"group 3 10\nsubmit 1 7 2 a\nsubmit 1 7 0 a\n",
@@ -92,18 +107,8 @@ fn worked_scripts_are_answered(rt: HostRuntime) -> Result<(), Fail> {
             b"group 1 3\ndraft 1.1 at 1\naccepted 1.1 sent 0 released 1\ndraft 1.2 at 2\naccepted 1.2 sent 0 released 1\nrefused toolong\nlog 1: 1.1=- 1.2=@\n",
             Ended::Whole,
         ),
-        // Each tick resends the next sixteen names.
-        (
-            b"group 2 20\nsubmit 1 7 1 a\nstored 1\nsubmit 1 7 2 a\nstored 1\nsubmit 1 7 3 a\nstored 1\nsubmit 1 7 4 a\nstored 1\nsubmit 1 7 5 a\nstored 1\nsubmit 1 7 6 a\nstored 1\nsubmit 1 7 7 a\nstored 1\nsubmit 1 7 8 a\nstored 1\nsubmit 1 7 9 a\nstored 1\nsubmit 1 7 10 a\nstored 1\nsubmit 1 7 11 a\nstored 1\nsubmit 1 7 12 a\nstored 1\nsubmit 1 7 13 a\nstored 1\nsubmit 1 7 14 a\nstored 1\nsubmit 1 7 15 a\nstored 1\nsubmit 1 7 16 a\nstored 1\nsubmit 1 7 17 a\nstored 1\ntick 1\ntick 1\ntick 2\n",
-            b"group 2 20\ndraft 1.1 at 1\naccepted 1.1 sent 1 released 0\ndraft 1.2 at 2\naccepted 1.2 sent 1 released 0\ndraft 1.3 at 3\naccepted 1.3 sent 1 released 0\ndraft 1.4 at 4\naccepted 1.4 sent 1 released 0\ndraft 1.5 at 5\naccepted 1.5 sent 1 released 0\ndraft 1.6 at 6\naccepted 1.6 sent 1 released 0\ndraft 1.7 at 7\naccepted 1.7 sent 1 released 0\ndraft 1.8 at 8\naccepted 1.8 sent 1 released 0\ndraft 1.9 at 9\naccepted 1.9 sent 1 released 0\ndraft 1.10 at 10\naccepted 1.10 sent 1 released 0\ndraft 1.11 at 11\naccepted 1.11 sent 1 released 0\ndraft 1.12 at 12\naccepted 1.12 sent 1 released 0\ndraft 1.13 at 13\naccepted 1.13 sent 1 released 0\ndraft 1.14 at 14\naccepted 1.14 sent 1 released 0\ndraft 1.15 at 15\naccepted 1.15 sent 1 released 0\ndraft 1.16 at 16\naccepted 1.16 sent 1 released 0\ndraft 1.17 at 17\naccepted 1.17 sent 1 released 0\nsent 2:1.1 2:1.2 2:1.3 2:1.4 2:1.5 2:1.6 2:1.7 2:1.8 2:1.9 2:1.10 2:1.11 2:1.12 2:1.13 2:1.14 2:1.15 2:1.16\nsent 2:1.17 2:1.1 2:1.2 2:1.3 2:1.4 2:1.5 2:1.6 2:1.7 2:1.8 2:1.9 2:1.10 2:1.11 2:1.12 2:1.13 2:1.14 2:1.15\nsent\n",
-            Ended::Whole,
-        ),
-        // Logs outlive a stop of the whole process, and a repeat is accepted.
-        (
-            b"group 3 10\nsubmit 1 7 1 a\nstored 1\narrive 1 2 1 1\nstored 2\nlog 1\narrive 2 1 1 1\nstored 1\nreopen\nlog 1\nlog 2\nsubmit 1 7 1 a\n",
-            b"group 3 10\ndraft 1.1 at 1\naccepted 1.1 sent 2 released 0\ndraft 1.1 at 1\ntaken 1.1 sent 2 released 1\nlog 1:\ndraft 1.1 at 2\ntaken 1.1 sent 0 released 1\nopen\nlog 1: 1.1=a\nlog 2: 1.1=a\naccepted 1.1\n",
-            Ended::Whole,
-        ),
+        (RESENT.0, RESENT.1, Ended::Whole),
+        (REOPENED.0, REOPENED.1, Ended::Whole),
         // It loses a draft, whose name is given anew, and keeps what a failed store has kept.
         (
             b"group 3 10\nsubmit 1 7 1 a\nreopen\nheld 1.1\nsubmit 1 7 1 b\nfail 1 new\nreopen\nheld 1.1\nsubmit 1 7 1 b\n",

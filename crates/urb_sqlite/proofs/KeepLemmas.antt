@@ -1,5 +1,5 @@
 -- What each statement of a journal does to the records that it stands for.
-use Rattle.std.proofs.Common.{◌≡◌, ◌⊎◌, inl, inr, ℕ, ◌+◌, ◌<◌, ◌≤◌, false, List, [], ◌∷◌, ◌++◌, map, length-append, slice_get, Option, Some, None, Ok, Err, IsTrue, refl, sym, ap, subst, ◌∙◌, arith}
+use Rattle.std.proofs.Common.{◌≡◌, ◌⊎◌, inl, inr, ℕ, ◌+◌, ◌<◌, ◌≤◌, false, List, [], ◌∷◌, ◌++◌, map, length-append, slice_get, take, Option, Some, None, Ok, Err, IsTrue, refl, sym, ap, subst, ◌∙◌, arith}
 use Rattle.std.proofs.lemmas.Bool.{cases_Bool}
 use Rattle.sqlite.specs.Order.{Row}
 use Rattle.sqlite.specs.Tree.{Trees, put_row}
@@ -7,7 +7,7 @@ use Rattle.sqlite.specs.View.{doubt}
 use Rattle.std.proofs.lemmas.List.Sorted.{IsPermutation-sym, IsPermutation-trans}
 use Rattle.sqlite_keyed.proofs.SortLemmas.{sorted_unique, IsPermutation-sort_by}
 use Rattle.sqlite.specs.Effect.{Database}
-use Rattle.sqlite_catalog.specs.Listing.{IsSound}
+use Rattle.sqlite_schema.specs.declared.schema.Schema.{Schema}
 use Rattle.sqlite.specs.declared.error.Error.{Error}
 use Rattle.sqlite.specs.Clock.{timed}
 use Rattle.sqlite.specs.Does.{Tally, AtPlace, OnRows}
@@ -18,7 +18,8 @@ use Rattle.sqlite.specs.Command.TheVariants.{Insert}
 use Rattle.sqlite.specs.State.{State, IsLive, mode_of, text_of, Runs, Writes, HasCleanDisk, Executes, ExecutesIn, IsNotRun, IsUnchanged, IsRolledBack, KeepsCommit, shows_rows, Shown, Survives, CommitsBy, CommitsShowing, FailsToQuery}
 use Rattle.urb_stable.specs.Entries.{Entry, IsEntry}
 use Rattle.urb_stable.specs.declared.record.Record.TheVariants.{Pend, PendCert, Cert}
-use Rattle.urb_sqlite.specs.Journal.{insert_text, select_text, journal_schema, journal_tree, journal_limit}
+use Rattle.urb_sqlite.specs.Journal.{insert_text, select_text, HasJournal, journal_tree, journal_limit}
+use Rattle.urb_sqlite.specs.OpenJournal.{IsJournal}
 use Rattle.urb_sqlite.specs.Rows.{row_of, kept_of, rows_in, by_pos, shown, IsWithin, IsInOrder, StandsFor}
 use Rattle.urb_sqlite.specs.Reading.{read_from, records_of}
 use Rattle.urb_sqlite.specs.OpenJournal.{IsCounted, IsKept, IsInStep, IsHonestJournal, IsAppended, IsLeft, IsSafeAtRest, LeavesOnly}
@@ -27,6 +28,13 @@ use Rattle.urb_sqlite.proofs.AnyLemmas.{inserts_in_any, reads_in_any}
 use Rattle.urb_sqlite.proofs.OrderLemmas.{sort_is}
 use Rattle.urb_sqlite.proofs.SelectLemmas.{selects}
 use Rattle.urb_sqlite.proofs.StandLemmas.{stands_more, stands_if_read, reads_if_stands, records_are, placed, by_pos_total}
+
+-- the same schema, or the same database, has the same first table
+pub same_first : {new old : Schema} → new ≡ old → HasJournal old → HasJournal new
+same_first same has = ap (λ (s : Schema). take 1 s.tables) same ∙ has
+
+pub same_journal : {new old : Database} → new ≡ old → HasJournal old.schema → HasJournal new.schema
+same_journal same has = ap (λ (d : Database). take 1 d.schema.tables) same ∙ has
 
 -- A statement that is refused changed nothing, or went back to the last commit.
 pub left_by_err : (sql : List ℕ) (params : Row) (old new : State) (e : Error) → Executes sql params old new (Err e) → IsUnchanged old new ⊎ IsRolledBack old new
@@ -73,10 +81,10 @@ kept_same old new next is_open same h =
     record {
       autocommit = same.autocommit h.autocommit;
       settled = now ∙ h.settled ∙ sym (same.committed_is is_open);
-      counted = λ has. subst (λ (d : Database). IsCounted d.trees next) (sym now) (h.counted (ap (λ (d : Database). d.schema) (sym now) ∙ has));
+      counted = λ has. subst (λ (d : Database). IsCounted d.trees next) (sym now) (h.counted (same_journal (sym now) has));
     }
 
-pub puts_record : (old new : State) (place : ℕ) (r : Entry) (count : ℕ) → old.now.schema ≡ journal_schema → Executes insert_text (row_of place r) old new (Ok count) → IsPut old new (kept_of place r)
+pub puts_record : (old new : State) (place : ℕ) (r : Entry) (count : ℕ) → HasJournal old.now.schema → Executes insert_text (row_of place r) old new (Ok count) → IsPut old new (kept_of place r)
 puts_record old new place (Pend name m) count has h = inserts old new place 1 name.sender name.seq m.client m.number m.payload count has h
 puts_record old new place (PendCert name m) count has h = inserts old new place 2 name.sender name.seq m.client m.number m.payload count has h
 puts_record old new place (Cert name) count has h = inserts old new place 3 name.sender name.seq 0 0 [] count has h
@@ -125,7 +133,7 @@ pub record IsAdded (old new : State) (place : ℕ) (r : Entry) : Type 0 where
   pub records : records_of new.now.trees ≡ records_of old.now.trees ++ r ∷ []
   pub counted : IsCounted new.now.trees (place + 1)
 
-pub adds_record : (old new : State) (place : ℕ) (r : Entry) (count : ℕ) → old.now.schema ≡ journal_schema → IsCounted old.now.trees place → place < 4294967295 → IsEntry r
+pub adds_record : (old new : State) (place : ℕ) (r : Entry) (count : ℕ) → HasJournal old.now.schema → IsCounted old.now.trees place → place < 4294967295 → IsEntry r
     → Executes insert_text (row_of place r) old new (Ok count) → IsAdded old new place r
 adds_record old new place r count has h low valid ran =
     let put = puts_record old new place r count has ran in
@@ -145,21 +153,21 @@ kept_more old new place r count h low valid ran =
     record {
       autocommit = own.mode ∙ h.autocommit;
       settled = own.committed h.autocommit;
-      counted = λ has. let was = sym own.schema ∙ has in (adds_record old new place r count was (h.counted was) low valid ran).counted;
+      counted = λ has. let was = same_first (sym own.schema) has in (adds_record old new place r count was (h.counted was) low valid ran).counted;
     }
 
 -- ---- a stop
 
 -- a journal that stands for these records
 abbrev IsJournalOf : Trees → List Entry → Type 0
-IsJournalOf db records = IsSound journal_schema db × StandsFor db records
+IsJournalOf db records = IsJournal db × StandsFor db records
 
-pub commits_record : (old : State) (place : ℕ) (r : Entry) (db : Trees) → old.now.schema ≡ journal_schema → IsCounted old.now.trees place → place < 4294967295 → IsEntry r
+pub commits_record : (old : State) (place : ℕ) (r : Entry) (db : Trees) → HasJournal old.now.schema → IsCounted old.now.trees place → place < 4294967295 → IsEntry r
     → CommitsBy insert_text (row_of place r) old db → IsJournalOf db (records_of old.now.trees ++ r ∷ [])
 commits_record old place r db has h low valid commits =
     let it = put r commits in (it.0, stands_more old.now.trees db (records_of old.now.trees) place r h.stands h.place low (within r valid) it.1)
   where
-    put : (r : Entry) → CommitsBy insert_text (row_of place r) old db → IsSound journal_schema db × (db 0 ≡ put_row (kept_of place r) (old.now.trees 0))
+    put : (r : Entry) → CommitsBy insert_text (row_of place r) old db → IsJournal db × (db 0 ≡ put_row (kept_of place r) (old.now.trees 0))
     put (Pend name m) c = commits_put old place 1 name.sender name.seq m.client m.number m.payload db has c
     put (PendCert name m) c = commits_put old place 2 name.sender name.seq m.client m.number m.payload db has c
     put (Cert name) c = commits_put old place 3 name.sender name.seq 0 0 [] db has c
@@ -171,7 +179,7 @@ IsSettled s = (db : Trees) → s.may_leave db → db ≡ s.committed.trees
 last_commit : (s : State) (next : ℕ) (db : Trees) → IsSettled s → IsLive s → IsHonestJournal s → IsKept s next → s.may_leave db → IsJournalOf db (records_of s.now.trees)
 last_commit s next db settled live honest kept left =
     let is : db ≡ s.now.trees = settled db left ∙ ap (λ (d : Database). d.trees) (sym kept.settled) in
-    let sound : IsSound journal_schema s.now.trees = subst (λ m. IsSound m s.now.trees) honest.schema (live honest.is_open).0 in
+    let sound : IsJournal s.now.trees = record { schema = s.now.schema; has = honest.schema; sound = (live honest.is_open).0 } in
     subst (λ d. IsJournalOf d (records_of s.now.trees)) (sym is) (sound, (kept.counted honest.schema).stands)
 
 pub stops_at_insert : (old new : State) (place : ℕ) (r : Entry) → IsInStep old place → place < 4294967295 → IsEntry r → IsSettled old → IsLive old
@@ -209,14 +217,14 @@ unfolding CommitsShowing
 select_commits_nothing s db h = absurd (let e = rw (reads_in_any s.now.schema h.0 h.1.is) at h.2 in cc)
 
 -- What the SELECT shows is the journal, once each row is a record.
-pub stands_if_shown : (old new : State) (rows : List Row) (rs : List Entry) → old.now.schema ≡ journal_schema → Shown select_text [] old new rows → read_from journal_limit 1 rows ≡ Ok rs → StandsFor old.now.trees rs
+pub stands_if_shown : (old new : State) (rows : List Row) (rs : List Entry) → HasJournal old.now.schema → Shown select_text [] old new rows → read_from journal_limit 1 rows ≡ Ok rs → StandsFor old.now.trees rs
 stands_if_shown old new rows rs has h read =
     let same = (selects old new rows has h).0 in
     let rising = (placed journal_limit 1 rows rs read).rising in
     stands_if_read old.now.trees rs (ap (read_from journal_limit 1) (sort_is by_pos by_pos_total _ rows rising (IsPermutation-sym _ _ same)) ∙ read)
 
 -- Of a journal that stands for records, the SELECT shows these rows.
-pub reads_records : (old new : State) (rows : List Row) (next : ℕ) → old.now.schema ≡ journal_schema → IsCounted old.now.trees next → Shown select_text [] old new rows → read_from journal_limit 1 rows ≡ Ok (records_of old.now.trees)
+pub reads_records : (old new : State) (rows : List Row) (next : ℕ) → HasJournal old.now.schema → IsCounted old.now.trees next → Shown select_text [] old new rows → read_from journal_limit 1 rows ≡ Ok (records_of old.now.trees)
 reads_records old new rows next has h shows =
     let got = selects old new rows has shows in
     let read = reads_if_stands old.now.trees _ h.stands in
@@ -236,9 +244,9 @@ appended old new place r count step low valid below ran =
     let was = λ (clean : HasCleanDisk new). step (earlier_clean old new below clean) (own clean).was_open in
     record {
       kept = λ clean is_open. kept_more old new place r count (was clean) low valid (ran clean);
-      honest = λ h. record { clean = earlier_clean old new below h.clean; is_open = (own h.clean).was_open; schema = sym (own h.clean).schema ∙ h.schema };
-      alive = λ was clean. record { clean = clean; is_open = (own clean).is_open; schema = (own clean).schema ∙ was.schema };
-      records = λ h. let has = sym (own h.clean).schema ∙ h.schema in (adds_record old new place r count has ((was h.clean).counted has) low valid (ran h.clean)).records;
+      honest = λ h. record { clean = earlier_clean old new below h.clean; is_open = (own h.clean).was_open; schema = same_first (sym (own h.clean).schema) h.schema };
+      alive = λ was clean. record { clean = clean; is_open = (own clean).is_open; schema = same_first (own clean).schema was.schema };
+      records = λ h. let has = same_first (sym (own h.clean).schema) h.schema in (adds_record old new place r count has ((was h.clean).counted has) low valid (ran h.clean)).records;
     }
 
 was_open : (old new : State) → IsUnchanged old new ⊎ IsRolledBack old new → IsTrue new.is_open → IsTrue old.is_open
@@ -258,12 +266,12 @@ left old new place step below how =
       honest = λ h. record {
         clean = earlier_clean old new below h.clean;
         is_open = was_open old new (how h.clean) h.is_open;
-        schema = ap (λ (d : Database). d.schema) (sym ((same h.clean h.is_open).now_is h.is_open)) ∙ h.schema;
+        schema = same_journal (sym ((same h.clean h.is_open).now_is h.is_open)) h.schema;
       };
       records = λ h. ap (λ (d : Database). records_of d.trees) ((same h.clean h.is_open).now_is h.is_open);
     }
 
-pub in_order : (old new : State) (rows : List Row) → old.now.schema ≡ journal_schema → Shown select_text [] old new rows → IsInOrder journal_tree old.now.trees rows
+pub in_order : (old new : State) (rows : List Row) → HasJournal old.now.schema → Shown select_text [] old new rows → IsInOrder journal_tree old.now.trees rows
 in_order old new rows has h = let got = selects old new rows has h in record { same = got.0; sorted = got.1 }
 
 -- While nothing was called, a stop leaves the records.

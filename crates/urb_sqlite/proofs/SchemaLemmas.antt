@@ -1,5 +1,5 @@
 -- A file whose tables are those of a journal opens with the journal's schema.
-use Rattle.std.proofs.Common.{◌≡◌, ℕ, ◌+◌, pos, List, [], ◌∷◌, filter, Ok, refl, sym, ap, ap₂, subst, ◌∙◌, arith}
+use Rattle.std.proofs.Common.{◌≡◌, ℕ, ◌+◌, pos, List, [], ◌∷◌, filter, take, Ok, refl, sym, ap, ap₂, subst, ◌∙◌, arith}
 use Rattle.std.specs.List.{AllZip}
 use Rattle.sqlite.specs.declared.types.Value.TheVariants.{Int, Text}
 use Rattle.sqlite.specs.Order.{Row, column}
@@ -10,10 +10,13 @@ use Rattle.sqlite_trees.specs.Objects.{catalog_tree}
 use Rattle.sqlite_catalog.specs.Listing.{IsSound, IsTableRow, IsIndexRow, IsViewRow, is_table_row, is_index_row, is_view_row}
 use Rattle.sqlite.specs.Effect.{Database}
 use Rattle.sqlite.specs.State.{State, IsLive, Opens}
-use Rattle.urb_sqlite.specs.Journal.{journal_schema}
+use Rattle.urb_sqlite.specs.Journal.{HasJournal, no_schema}
+use Rattle.std.proofs.Common.{◌<◌, length, inl, inr}
+use Rattle.sqlite.specs.Files.{AreFoundIn}
+use Rattle.sqlite_wal.specs.Recovery.{Image}
 use Rattle.urb_sqlite.specs.Rows.{StandsFor}
 use Rattle.urb_sqlite.specs.Reading.{records_of}
-use Rattle.urb_sqlite.specs.OpenJournal.{IsHonestJournal}
+use Rattle.urb_sqlite.specs.OpenJournal.{IsHonestJournal, IsJournal}
 
 same_text : (row : Row) (a b : List ℕ) → column row 4 ≡ Text a → column row 4 ≡ Text b → a ≡ b
 same_text row a b p q = let e : Text a ≡ Text b = sym p ∙ q in cc
@@ -38,26 +41,36 @@ same_tables (r ∷ rows) [] ts h k = absurd h
 same_tables (r ∷ rows) (s ∷ ss) [] h k = absurd k
 same_tables (r ∷ rows) (s ∷ ss) (t ∷ ts) h k = ap₂ ◌∷◌ (one_table r s t h.0 k.0) (same_tables rows ss ts h.1 k.1)
 
-none_zipped : {A B C : Type 0} (R : A → B → Type 0) (S : A → C → Type 0) (rows : List A) (xs : List B) → AllZip S rows [] → AllZip R rows xs → xs ≡ []
-none_zipped R S [] [] h k = refl
-none_zipped R S [] (x ∷ xs) h k = absurd k
-none_zipped R S (r ∷ rows) xs h k = absurd h
-
-pub same_schema : (schema : Schema) (db : Trees) → IsSound journal_schema db → IsSound schema db → schema ≡ journal_schema
-same_schema schema db h k =
-    let mine = h.lists.listed in
-    let found = k.lists.listed in
-    let tables = same_tables (filter is_table_row (db catalog_tree)) schema.tables journal_schema.tables found.tables mine.tables in
-    let indexes = none_zipped (IsIndexRow schema.tables) (IsIndexRow journal_schema.tables) (filter is_index_row (db catalog_tree)) schema.indexes mine.indexes found.indexes in
-    let views = none_zipped IsViewRow IsViewRow (filter is_view_row (db catalog_tree)) schema.views mine.views found.views in
-    let made : record { tables = schema.tables; indexes = schema.indexes; views = schema.views } ≡ journal_schema = rw (tables, indexes, views) refl in
-    made
+-- a database lists its tables in one way
+pub one_list : (schema other : Schema) (db : Trees) → IsSound schema db → IsSound other db → schema.tables ≡ other.tables
+one_list schema other db h k = same_tables (filter is_table_row (db catalog_tree)) schema.tables other.tables h.lists.listed.tables k.lists.listed.tables
 
 -- A connection that found a journal is adopted with the records for which it stands.
-pub finds_journal : (conn now : State) (db : Trees) → IsLive conn → Opens conn → conn.committed.trees ≡ db → IsSound journal_schema db
-    → (conn.now.schema ≡ journal_schema → IsHonestJournal now × StandsFor conn.now.trees (records_of now.now.trees)) → IsHonestJournal now × StandsFor db (records_of now.now.trees)
-finds_journal conn now db live opens is sound adopted =
+pub finds_journal : (conn now : State) (db : Trees) → IsLive conn → Opens conn → conn.committed.trees ≡ db → IsJournal db
+    → (HasJournal conn.now.schema → IsHonestJournal now × StandsFor conn.now.trees (records_of now.now.trees)) → IsHonestJournal now × StandsFor db (records_of now.now.trees)
+finds_journal conn now db live opens is journal adopted =
     let trees : conn.now.trees ≡ db = ap (λ (d : Database). d.trees) opens.clean ∙ is in
-    let has = same_schema conn.now.schema db sound (subst (IsSound conn.now.schema) trees (live opens.is_open).0) in
+    let tables = one_list conn.now.schema journal.schema db (subst (IsSound conn.now.schema) trees (live opens.is_open).0) journal.sound in
+    let has : HasJournal conn.now.schema = ap (take 1) tables ∙ journal.has in
     let got = adopted has in
     (got.0, subst (λ t. StandsFor t (records_of now.now.trees)) trees got.1)
+
+empty_zip : {A B : Type 0} (R : A → B → Type 0) (xs : List B) → AllZip R [] xs → xs ≡ []
+empty_zip R [] h = refl
+empty_zip R (x ∷ xs) h = absurd h
+
+-- a database that lists nothing has no table
+pub bare_schema : (schema : Schema) (db : Trees) → db catalog_tree ≡ [] → IsSound schema db → schema ≡ no_schema
+bare_schema schema db none sound =
+    let found = sound.lists.listed in
+    let tables = empty_zip IsTableRow schema.tables (subst (λ rows. AllZip IsTableRow (filter is_table_row rows) schema.tables) none found.tables) in
+    let indexes = empty_zip (IsIndexRow schema.tables) schema.indexes (subst (λ rows. AllZip (IsIndexRow schema.tables) (filter is_index_row rows) schema.indexes) none found.indexes) in
+    let views = empty_zip IsViewRow schema.views (subst (λ rows. AllZip IsViewRow (filter is_view_row rows) schema.views) none found.views) in
+    let made : record { tables = schema.tables; indexes = schema.indexes; views = schema.views } ≡ no_schema = rw (tables, indexes, views) refl in
+    made
+
+-- A connection over an empty file finds no table.
+pub finds_nothing : (conn : State) (image : Image) → IsLive conn → Opens conn → image.db ≡ [] → AreFoundIn image conn.committed.trees → conn.now.schema ≡ no_schema
+finds_nothing conn image live opens none (inl it) = absurd (let present : 0 < length image.db = it.3.found.present in let no : 0 < 0 = subst (λ (bytes : List ℕ). 0 < length bytes) none present in omega arith)
+finds_nothing conn image live opens none (inr it) =
+    bare_schema conn.now.schema conn.now.trees (ap (λ (d : Database). d.trees catalog_tree) opens.clean ∙ it.1.1) (live opens.is_open).0

@@ -12,9 +12,9 @@ use Rattle.sqlite.specs.Query.{IsAnswer, Output, output, output_cmp}
 use Rattle.sqlite.specs.Program.{overlay}
 use Rattle.sqlite.specs.State.{State, Shown}
 use Rattle.sqlite.proofs.Callers.{reads_as}
-use Rattle.urb_sqlite.specs.Journal.{select_text, journal_schema}
+use Rattle.urb_sqlite.specs.Journal.{select_text, HasJournal}
 use Rattle.urb_sqlite.specs.Rows.{shown, by_pos}
-use Rattle.urb_sqlite.proofs.TextLemmas.{query, select_is, select_plain}
+use Rattle.urb_sqlite.proofs.TextLemmas.{with_journal, others_of, query, select_is, select_plain}
 
 -- what a row is sorted by, and what it shows
 abbrev out : Row → Output
@@ -45,10 +45,11 @@ sorted_rows os keyed sorted k d low high =
     rw (now, next, ← here, ← there) (ap is_lt (sym (then-Equal _)) ∙ sorted k e low inside)
 
 -- The SELECT shows the journal's rows, in order of pos.
-pub selects : (old new : State) (rows : List Row) → old.now.schema ≡ journal_schema → Shown select_text [] old new rows
+pub selects : (old new : State) (rows : List Row) → HasJournal old.now.schema → Shown select_text [] old new rows
     → IsPermutation (map shown (old.now.trees 0)) rows × IsSorted by_pos rows
 selects old new rows has h =
-    let got = reads_as select_text [] old new journal_schema has _ select_is.0 select_plain select_is.1 rows h in
+    let o = others_of old.now.schema has in
+    let got = reads_as select_text [] old new (with_journal o.0) o.1 _ (select_is o.0).0 (select_plain o.0) (select_is o.0).1 rows h in
     let a : IsAnswer query (overlay old.now.trees []) [] rows = got.answer Null in
     let table = old.now.trees 0 in
     let staged : a.staged ≡ map (λ r. [] ∷ r ∷ []) table = a.grouped ∙ flat_map_single (λ r. [] ∷ r ∷ []) table in

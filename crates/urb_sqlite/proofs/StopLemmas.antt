@@ -1,5 +1,5 @@
 -- What the next opening finds, by what a stop leaves.
-use Rattle.std.proofs.Common.{◌≡◌, ◌⊎◌, inl, inr, ℕ, zero, suc, ◌+◌, ◌≤◌, Bool, true, false, ◌==◌, List, [], ◌∷◌, ◌++◌, length, length-append, Result, Ok, Err, IfOk, OnOk, IsTrue, refl, sym, ap, subst, ◌∙◌, arith}
+use Rattle.std.proofs.Common.{◌≡◌, ◌⊎◌, inl, inr, ℕ, zero, suc, ◌+◌, ◌≤◌, Bool, true, false, ◌==◌, List, [], ◌∷◌, ◌++◌, length, length-append, Option, None, Some, Result, Ok, Err, IfOk, OnOk, IsTrue, refl, sym, ap, subst, ◌∙◌, arith}
 use Rattle.std.proofs.Math.Logic.{∥∥₁_elim, ∥∥₁_map}
 use Rattle.std.specs.Coded.{Coded, Coded-set, code_by, coded×, coded_ℕ, coded_list, coded_bool}
 use Rattle.std.proofs.lemmas.Bool.{eqb-true, eq-eqb, true≢false, and_parts, and_from}
@@ -15,19 +15,18 @@ use Rattle.sqlite_store.specs.FileStore.{view, files, recovers}
 use Rattle.sqlite_trees.specs.View.{IsClean, doubt}
 use Rattle.sqlite_trees.proofs.Doubt.{no_doubt}
 use Rattle.sqlite_trees.specs.Tree.{Trees}
-use Rattle.sqlite_schema.specs.contracts.schema.Schema.{the_row}
-use Rattle.sqlite_catalog.specs.Listing.{IsSound}
 use Rattle.sqlite.specs.State.{State, HasCleanDisk}
 use Rattle.sqlite.specs.Held.{Held, AreDatabases}
 use Rattle.sqlite.specs.Files.{HoldsDatabase, file_state}
 use Rattle.sqlite.proofs.Theorems.{opens_again}
 use Rattle.urb_names.specs.Naming.{Label, Content}
 use Rattle.urb_stable.specs.Entries.{Entry}
+use Rattle.urb_stable.specs.Storing.{IsContents}
 use Rattle.urb_stable.specs.declared.record.Record.TheVariants.{Pend, PendCert, Cert}
-use Rattle.urb_sqlite.specs.Journal.{journal_schema}
+use Rattle.sqlite_schema.specs.contracts.schema.Table as table
 use Rattle.urb_sqlite.specs.Rows.{StandsFor}
 use Rattle.urb_sqlite.specs.Reading.{records_of}
-use Rattle.urb_sqlite.specs.OpenJournal.{IsHonestJournal, IsSafeAtRest, LeavesOnly}
+use Rattle.urb_sqlite.specs.OpenJournal.{IsHonestJournal, IsJournal, IsSafeAtRest, LeavesOnly}
 use Rattle.urb_sqlite.specs.Stops.{IsFoundAfter}
 use Rattle.urb_sqlite.proofs.StandLemmas.{records_are}
 
@@ -83,7 +82,7 @@ pub found_again : {D : Type 0} {g : Ghosts D} (conn : Held (FileStore D g)) (sto
     → AreClean g (files store).0 (files store).1 → outcomes g (files store).0 (files store).1 left
     → (IsClean (view store) → IsTrue (view store).is_numbered) → (IsClean (view store) → AreDatabases (recovers store))
     → ((db : Trees) → recovers store db → recovers conn.store db)
-    → ((db : Trees) → HoldsDatabase left db → IsSound journal_schema db → IsHonestJournal again × StandsFor db (records_of again.now.trees))
+    → ((db : Trees) → HoldsDatabase left db → IsJournal db → IsHonestJournal again × StandsFor db (records_of again.now.trees))
     → (P : List Entry → Type 0) → LeavesOnly (file_state conn) P → ∥ IsHonestJournal again × P (records_of again.now.trees) ∥₁
 found_again conn store left again clean may numbered sound fewer opened P leaves =
     let is_clean : IsClean (view store) = no_doubt _ (store_clean store.pool clean) in
@@ -97,7 +96,7 @@ pub honest_again : (s : State) → HasCleanDisk s → ∥ IsHonestJournal s ∥�
 honest_again s clean h = record {
   clean = clean;
   is_open = ∥∥₁_elim h (Coded-set coded_bool _ _) (λ x. x.is_open);
-  schema = ∥∥₁_elim h (Coded-set the_row.coded _ _) (λ x. x.schema);
+  schema = ∥∥₁_elim h (Coded-set (coded_list table.the_row.coded) _ _) (λ x. x.schema);
 }
 
 pub same_again : (found before : List Entry) → ∥ found ≡ before ∥₁ → found ≡ before
@@ -144,3 +143,11 @@ found_after (Ok x) old new again entry alive stored rest stop kept found clean h
     let got = kept (records_of new.now.trees) (rest still) in
     (got.0, got.1 ∙ stored still)
 found_after (Err e) old new again entry alive stored rest stop kept found clean honest = found (records_of old.now.trees) entry (stop honest clean)
+
+-- What storage may turn out to hold is found again, with a doubtful record or with none.
+pub contents_again : (self again : State) (certain : List Entry) (doubtful : Option Entry)
+    → ((records : List Entry) → LeavesOnly self (λ left. left ≡ records) → IsHonestJournal again × (records_of again.now.trees ≡ records))
+    → ((records : List Entry) (r : Entry) → LeavesOnly self (λ left. (left ≡ records) ⊎ (left ≡ records ++ r ∷ [])) → IsHonestJournal again × ((records_of again.now.trees ≡ records) ⊎ (records_of again.now.trees ≡ records ++ r ∷ [])))
+    → LeavesOnly self (IsContents certain doubtful) → IsHonestJournal again × IsContents certain doubtful (records_of again.now.trees)
+contents_again self again certain None kept found leaves = kept certain leaves
+contents_again self again certain (Some r) kept found leaves = found certain r leaves

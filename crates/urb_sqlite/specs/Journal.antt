@@ -1,5 +1,5 @@
 -- The table of a journal: its texts, its tree, its limit and its schema.
-use Rattle.std.specs.Prelude.{ℕ, true, false, List, [], ◌∷◌, codes, Some}
+use Rattle.std.specs.Prelude.{◌≡◌, ℕ, true, false, List, [], ◌∷◌, take, codes, Some}
 use Rattle.sqlite.specs.Collation.TheVariants.{Binary}
 use Rattle.sqlite.specs.declared.types.Value.TheVariants.{Null}
 use Rattle.sqlite.specs.Table.{Table}
@@ -55,9 +55,9 @@ journal_limit = 1024
 abbrev pub journal : Table
 journal = record_table (codes "journal") journal_tree
 
--- a database whose one table is the journal
-abbrev pub journal_schema : Schema
-journal_schema = record { tables = journal ∷ []; indexes = []; views = [] }
+-- The table journal is the first of the schema. Further tables, indexes and views take nothing from it.
+abbrev pub HasJournal : Schema → Type 0
+HasJournal schema = take 1 schema.tables ≡ journal ∷ []
 
 -- a database with no table
 abbrev pub no_schema : Schema

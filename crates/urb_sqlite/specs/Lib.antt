@@ -4,3 +4,5 @@ pub mod Reading
 pub mod OpenJournal
 pub mod Blame
 pub mod Stops
+pub mod Shape
+pub mod Nodes

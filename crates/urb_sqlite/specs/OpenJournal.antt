@@ -6,7 +6,8 @@ use Rattle.sqlite.specs.State.{State, HasCleanDisk}
 use Rattle.sqlite.specs.Tree.{Trees}
 use Rattle.sqlite_catalog.specs.Listing.{IsSound}
 use Rattle.urb_stable.specs.Entries.{Entry}
-use Rattle.urb_sqlite.specs.Journal.{journal_schema}
+use Rattle.sqlite.specs.Schema.{Schema}
+use Rattle.urb_sqlite.specs.Journal.{HasJournal}
 use Rattle.urb_sqlite.specs.Rows.{StandsFor}
 use Rattle.urb_sqlite.specs.Reading.{records_of}
 
@@ -17,6 +18,7 @@ pub record OpenJournal (S : Type 0) : Type 0 where
   pub doubtful : Bool
   pub failures : ℕ
 
+-- an open journal can be told apart by its parts
 abbrev pub open_code : {S : Type 0} → Coded S → Coded (OpenJournal S)
 open_code {S} store =
     code_by (Held S × (ℕ × (Bool × ℕ))) (coded× (held_code store) (coded× coded_ℕ (coded× coded_bool coded_ℕ)))
@@ -29,25 +31,31 @@ pub record IsCounted (db : Trees) (next : ℕ) : Type 0 where
   pub stands : StandsFor db (records_of db)
   pub place : next ≡ length (records_of db) + 1
 
--- No transaction is open, all rows are committed, and where the one table is the journal they are counted.
+-- No transaction is open, all rows are committed, and where the journal is the first table they are counted.
 pub record IsKept (s : State) (next : ℕ) : Type 0 where
   pub autocommit : s.in_transaction ≡ false
   pub settled : s.now ≡ s.committed
-  pub counted : s.now.schema ≡ journal_schema → IsCounted s.now.trees next
+  pub counted : HasJournal s.now.schema → IsCounted s.now.trees next
 
 -- While the disk is clean and the connection open, the next position is in step with the rows.
 abbrev pub IsInStep : State → ℕ → Type 0
 IsInStep s next = HasCleanDisk s → IsTrue s.is_open → IsKept s next
 
--- So far the disk has given back what was written, no fault has shut the database, and its one table is the journal.
+-- So far the disk has given back what was written, no fault has shut the database, and the journal is its first table.
 pub record IsHonestJournal (s : State) : Type 0 where
   pub clean : HasCleanDisk s
   pub is_open : IsTrue s.is_open
-  pub schema : s.now.schema ≡ journal_schema
+  pub schema : HasJournal s.now.schema
+
+-- These trees are a database whose first table is the journal.
+pub record IsJournal (db : Trees) : Type 0 where
+  pub schema : Schema
+  pub has : HasJournal schema
+  pub sound : IsSound schema db
 
 -- Whatever a stop leaves is a journal of records of which P holds.
 abbrev pub LeavesOnly : State → (List Entry → Type 0) → Type 0
-LeavesOnly s P = (db : Trees) → s.may_leave db → IsSound journal_schema db × (records : List Entry) × StandsFor db records × P records
+LeavesOnly s P = (db : Trees) → s.may_leave db → IsJournal db × (records : List Entry) × StandsFor db records × P records
 
 -- ---- what a call does to a journal
 

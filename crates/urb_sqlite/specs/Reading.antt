@@ -52,9 +52,11 @@ is_message limit client number payload = nat_lt 0 client && nat_lt client 65536 
 abbrev pub is_bare : Columns → List ℕ → Bool
 is_bare c payload = c.client == 0 && c.number == 0 && length payload == 0
 
+-- the name in these columns
 abbrev pub name_in : Columns → Label
 name_in c = record { sender = c.sender; seq = c.seq }
 
+-- the message in these columns, with this payload
 abbrev pub message_in : Columns → List ℕ → Content
 message_in c payload = record { client = c.client; number = c.number; payload = payload }
 
@@ -89,6 +91,7 @@ abbrev pub extended : List Entry → Result (List Entry) ℕ → Result (List En
 extended done (Ok rs) = Ok (done ++ rs)
 extended done (Err bad) = Err bad
 
+-- the records that were read, or none
 abbrev pub ok_or_none : Result (List Entry) ℕ → List Entry
 ok_or_none (Ok rs) = rs
 ok_or_none (Err bad) = []

@@ -1,16 +1,17 @@
 //! What each statement does to the records of a journal.
 
-ghost use Rattle.std.specs.Prelude.{ℕ, ◌≡◌, ◌⊎◌, ◌<◌, ◌≤◌, ◌∷◌, ◌++◌, [], length, false, IfOk, IfErr, OnOk, OnErr, IsTrue, Err};
+ghost use Rattle.std.specs.Prelude.{ℕ, ◌≡◌, ◌⊎◌, ◌<◌, ◌≤◌, ◌∷◌, ◌++◌, [], length, true, false, IfOk, IfErr, OnOk, OnErr, IsTrue, Err};
 ghost use Rattle.sqlite.specs.State.{HasCleanDisk, IsLive, IsUnchanged, IsRolledBack, KeepsCommit, Survives, CommitsBy};
 ghost use Rattle.sqlite.specs.Held.{state};
 ghost use Rattle.urb_stable.specs.Storing.{is_place, is_bad_row};
 ghost use Rattle.urb_sqlite.specs.Blame.{is_memory, blamed};
-ghost use Rattle.urb_sqlite.specs.Journal.{create_text, no_schema, journal_schema, journal_tree, journal_limit};
+ghost use Rattle.urb_sqlite.specs.Journal.{create_text, no_schema, HasJournal, journal_tree, journal_limit};
 ghost use Rattle.urb_sqlite.specs.Rows.{IsInOrder, IsFirstBad, StandsFor};
 ghost use Rattle.urb_sqlite.specs.Reading.{records_of};
+ghost use Rattle.urb_sqlite.specs.Shape.{has_table};
 ghost use Rattle.urb_sqlite.specs.OpenJournal.{IsCounted, IsInStep, IsHonestJournal, IsAppended, IsLeft, IsSafeAtRest, LeavesOnly};
 
-use crate::{rows, statements};
+use crate::{rows, shape, statements};
 use sqlite::{Alter, Connection, Error, ErrorCode};
 use std::alloc::Global;
 use urb_names::MAX_PAYLOAD;
@@ -77,9 +78,9 @@ pub fn read<S: Alter>(
     ensures short { IfOk result (λ records. length records.items < 4294967295) }
     ensures same { HasCleanDisk (state S.Store conn.new) → OnOk result (IsUnchanged (state S.Store conn.old) (state S.Store conn.new)) }
     ensures left { HasCleanDisk (state S.Store conn.new) → IsUnchanged (state S.Store conn.old) (state S.Store conn.new) ⊎ IsRolledBack (state S.Store conn.old) (state S.Store conn.new) }
-    ensures found { HasCleanDisk (state S.Store conn.new) → (state S.Store conn.old).now.schema ≡ journal_schema → IfOk result (λ records. StandsFor (state S.Store conn.old).now.trees records.items) }
-    ensures sound { HasCleanDisk (state S.Store conn.new) → (state S.Store conn.old).now.schema ≡ journal_schema → (next : ℕ) → IsCounted (state S.Store conn.old).now.trees next → IfErr result (λ e. is_bad_row e ≡ false) }
-    ensures bad { HasCleanDisk (state S.Store conn.new) → (state S.Store conn.old).now.schema ≡ journal_schema
+    ensures found { HasCleanDisk (state S.Store conn.new) → HasJournal (state S.Store conn.old).now.schema → IfOk result (λ records. StandsFor (state S.Store conn.old).now.trees records.items) }
+    ensures sound { HasCleanDisk (state S.Store conn.new) → HasJournal (state S.Store conn.old).now.schema → (next : ℕ) → IsCounted (state S.Store conn.old).now.trees next → IfErr result (λ e. is_bad_row e ≡ false) }
+    ensures bad { HasCleanDisk (state S.Store conn.new) → HasJournal (state S.Store conn.old).now.schema
         → IfErr result (λ e. (place : ℕ) → e ≡ StoreFault.BadRow place → (rows : _) × IsInOrder journal_tree (state S.Store conn.old).now.trees rows × IsFirstBad journal_limit 1 rows place) }
     ensures stop { Survives (state S.Store conn.old) (state S.Store conn.new) (λ _. ⊥) }
     ensures rest { (next : ℕ) → IsInStep (state S.Store conn.old) next → IsSafeAtRest (state S.Store conn.new) }
@@ -99,20 +100,35 @@ pub fn read<S: Alter>(
     }
 }
 
-/// Makes the table where it is absent. It refuses a connection with an open transaction.
+/// Whether no transaction is open and the table journal is there.
+fn is_ready<S: Alter>(conn: &Connection<S>) -> bool
+    ensures auto { IsTrue result → (state S.Store conn.now).in_transaction ≡ false }
+    ensures settled { IsTrue result → IsTrue (state S.Store conn.now).is_open → (state S.Store conn.now).now ≡ (state S.Store conn.now).committed }
+    ensures table { IsTrue result → has_table (state S.Store conn.now).now.schema ≡ true }
+{
+    conn.is_autocommit() && shape::has_table(conn.schema())
+}
+
+/// Makes the table where it is absent. It refuses a connection with an open transaction, and then changes nothing; and one
+/// where another table, or a view, has the table's name.
 pub fn prepare<S: Alter>(conn: &mut Connection<S>, failures: &mut u64) -> Result<(), StoreFault>
+    ensures busy { IsTrue (state S.Store conn.old).in_transaction → (conn.new ≡ conn.old) × (result ≡ Err StoreFault.Device) }
     ensures auto { OnOk result ((state S.Store conn.new).in_transaction ≡ false) }
+    ensures table { OnOk result (has_table (state S.Store conn.new).now.schema ≡ true) }
     ensures settled { OnOk result (IsTrue (state S.Store conn.new).is_open → (state S.Store conn.new).now ≡ (state S.Store conn.new).committed) }
     ensures fresh { HasCleanDisk (state S.Store conn.new) → (state S.Store conn.old).now.schema ≡ no_schema
-        → OnOk result (((state S.Store conn.new).now.schema ≡ journal_schema) × ((state S.Store conn.new).now.trees journal_tree ≡ [])) }
-    ensures found { HasCleanDisk (state S.Store conn.new) → (state S.Store conn.old).now.schema ≡ journal_schema → OnOk result (IsUnchanged (state S.Store conn.old) (state S.Store conn.new)) }
-    ensures kept { HasCleanDisk (state S.Store conn.new) → (state S.Store conn.old).now.schema ≡ journal_schema → KeepsCommit (state S.Store conn.old) (state S.Store conn.new) }
+        → OnOk result (HasJournal (state S.Store conn.new).now.schema × ((state S.Store conn.new).now.trees journal_tree ≡ [])) }
+    ensures found { HasCleanDisk (state S.Store conn.new) → HasJournal (state S.Store conn.old).now.schema → OnOk result (IsUnchanged (state S.Store conn.old) (state S.Store conn.new)) }
+    ensures kept { HasCleanDisk (state S.Store conn.new) → HasJournal (state S.Store conn.old).now.schema → KeepsCommit (state S.Store conn.old) (state S.Store conn.new) }
     ensures stop { Survives (state S.Store conn.old) (state S.Store conn.new) (CommitsBy create_text [] (state S.Store conn.old)) }
     ensures known { IfErr result (λ e. (e ≡ StoreFault.NoMemory) ⊎ (e ≡ StoreFault.Device)) }
     ensures calm { OnOk result (failures.new ≡ failures.old) }
 {
+    if !conn.is_autocommit() {
+        return Err(StoreFault::Device);
+    }
     match statements::create(conn) {
-        Ok(_) if conn.is_autocommit() => Ok(()),
+        Ok(_) if is_ready(conn) => Ok(()),
         Ok(_) => Err(StoreFault::Device),
         Err(error) => Err(blame(failures, error)),
     }

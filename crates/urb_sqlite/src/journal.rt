@@ -1,12 +1,13 @@
 //! A journal as stable storage.
 
-ghost use Rattle.std.specs.Prelude.{ℕ, ◌≡◌, ◌⊎◌, ◌<◌, ◌≤◌, ◌+◌, ◌∷◌, ◌++◌, [], length, None, Some, true, false, IfOk, IfErr, OnOk, OnErr, IsTrue, Ok, Err};
+ghost use Rattle.std.specs.Prelude.{ℕ, ◌≡◌, ◌⊎◌, ◌<◌, ◌≤◌, ◌+◌, ◌∷◌, ◌++◌, [], length, None, Some, true, false, IfOk, IfErr, IsErrAnd, OnOk, OnErr, IsTrue, Ok, Err};
 ghost use Rattle.sqlite.specs.State.{HasCleanDisk, KeepsCommit, Survives, CommitsBy};
 ghost use Rattle.sqlite.specs.Held.{state};
 ghost use Rattle.urb_stable.specs.Storing.{is_place, is_bad_row, is_out_of_place, IsPlaced, IsContents};
-ghost use Rattle.urb_sqlite.specs.Journal.{create_text, no_schema, journal_schema, journal_tree, journal_limit};
+ghost use Rattle.urb_sqlite.specs.Journal.{create_text, no_schema, HasJournal, journal_tree, journal_limit};
 ghost use Rattle.urb_sqlite.specs.Rows.{IsInOrder, IsFirstBad, StandsFor};
 ghost use Rattle.urb_sqlite.specs.Reading.{records_of};
+ghost use Rattle.urb_sqlite.specs.Shape.{has_table};
 ghost use Rattle.urb_sqlite.specs.OpenJournal.{OpenJournal, IsInStep, IsHonestJournal, IsSafeAtRest, LeavesOnly};
 
 use crate::calls;
@@ -56,26 +57,30 @@ impl<S: Alter> SqlStable<S> {
     /// Takes over an open connection: makes the table where it is absent, and reads the rows once, so that the next position
     /// is known. A refusal hands the connection back with the fault:
     /// - `NoMemory`: a growth was refused.
-    /// - `Device`: the database refused, also where the table `journal` is another one, or where a transaction is open.
+    /// - `Device`: the database refused, or something else has the name `journal`, or a transaction is open, which stays as it is.
     /// - `BadRow(place)`: the row at this place, from 1 in order of `pos`, is no record.
     pub fn adopt(
         alloc: Global,
         mut conn: Connection<S>,
     ) -> Result<SqlStable<S>, (Connection<S>, StoreFault)>
+        // In a transaction nothing is done.
+        ensures busy { IsTrue (state S.Store conn).in_transaction → IsErrAnd result (λ e. (e.0 ≡ conn) × (e.1 ≡ StoreFault.Device)) }
+        // What is taken over has the table of a journal under that name: neither another table nor a view.
+        ensures table { IfOk result (λ s. HasCleanDisk (state S.Store s.conn) → has_table (state S.Store s.conn).now.schema ≡ true) }
         // No record is doubtful, and no failure is counted.
         ensures new { IfOk result (λ s. (s.doubtful ≡ false) × (s.failures ≡ 0)) }
         // A database with no table becomes a journal with no record.
         ensures fresh { IfOk result (λ s. HasCleanDisk (state S.Store s.conn) → (state S.Store conn).now.schema ≡ no_schema → IsHonestJournal (state S.Store s.conn) × (records_of (state S.Store s.conn).now.trees ≡ [])) }
         // A journal that is there has its records.
-        ensures found { IfOk result (λ s. HasCleanDisk (state S.Store s.conn) → (state S.Store conn).now.schema ≡ journal_schema
+        ensures found { IfOk result (λ s. HasCleanDisk (state S.Store s.conn) → HasJournal (state S.Store conn).now.schema
             → IsHonestJournal (state S.Store s.conn) × StandsFor (state S.Store conn).now.trees (records_of (state S.Store s.conn).now.trees)) }
         // BadRow names the first row that is no record, and no refusal is Place.
-        ensures bad { IfErr result (λ e. HasCleanDisk (state S.Store e.0) → (state S.Store conn).now.schema ≡ journal_schema
+        ensures bad { IfErr result (λ e. HasCleanDisk (state S.Store e.0) → HasJournal (state S.Store conn).now.schema
             → (place : ℕ) → e.1 ≡ StoreFault.BadRow place → (rows : _) × IsInOrder journal_tree (state S.Store conn).now.trees rows × IsFirstBad journal_limit 1 rows place) }
         ensures rowless { IfErr result (λ e. HasCleanDisk (state S.Store e.0) → (state S.Store conn).now.schema ≡ no_schema → is_bad_row e.1 ≡ false) }
         ensures placed { IfErr result (λ e. is_place e.1 ≡ false) }
         // A journal that is refused keeps its rows.
-        ensures kept { IfErr result (λ e. HasCleanDisk (state S.Store e.0) → (state S.Store conn).now.schema ≡ journal_schema → KeepsCommit (state S.Store conn) (state S.Store e.0)) }
+        ensures kept { IfErr result (λ e. HasCleanDisk (state S.Store e.0) → HasJournal (state S.Store conn).now.schema → KeepsCommit (state S.Store conn) (state S.Store e.0)) }
         // A stop inside this call leaves what was there before, or what the CREATE commits; one after it, the records.
         ensures stop { IfOk result (λ s. Survives (state S.Store conn) (state S.Store s.conn) (CommitsBy create_text [] (state S.Store conn))) }
         ensures stop_refused { IfErr result (λ e. Survives (state S.Store conn) (state S.Store e.0) (CommitsBy create_text [] (state S.Store conn))) }
@@ -137,6 +142,8 @@ impl<S: Alter> Stable for SqlStable<S> {
     ghost is_honest = { λ s. IsHonestJournal (state S.Store s.conn) };
 
     ghost leaves_only = { λ s P. LeavesOnly (state S.Store s.conn) P };
+
+    ghost stores = { λ s pos entry answer. Unit {0} };
 
     ghost answers = { λ s answer. Unit {0} };
 

@@ -1,17 +1,15 @@
 //! Opening a journal: at a path, and over a pair of files.
 
-ghost use Rattle.std.specs.Prelude.{◌≡◌, false, IfOk, IfErr, IsTrue};
+ghost use Rattle.std.specs.Prelude.{◌≡◌, ◌⊎◌, [], false, IfOk, IfErr, IsTrue};
 ghost use Rattle.sqlite.specs.State.{HasCleanDisk};
 ghost use Rattle.sqlite.specs.Files.{file_state, image_of, HoldsDatabase};
 ghost use Rattle.sqlite.specs.WalFiles.{image_at};
 ghost use Rattle.sqlite_wal.specs.Reads.{AreClean};
-ghost use Rattle.sqlite_catalog.specs.Listing.{IsSound};
 ghost use Rattle.urb_stable.specs.Storing.{is_place};
 ghost use Rattle.urb_sqlite.specs.Blame.{blamed};
-ghost use Rattle.urb_sqlite.specs.Journal.{journal_schema};
 ghost use Rattle.urb_sqlite.specs.Rows.{StandsFor};
 ghost use Rattle.urb_sqlite.specs.Reading.{records_of};
-ghost use Rattle.urb_sqlite.specs.OpenJournal.{IsHonestJournal, IsSafeAtRest};
+ghost use Rattle.urb_sqlite.specs.OpenJournal.{IsHonestJournal, IsJournal, IsSafeAtRest};
 
 use crate::{SqlStable, calls};
 use sqlite::{Connection, Error, File, FileFrom, FileStore, Files, Options, Start, Unknown};
@@ -20,9 +18,10 @@ use std::alloc::Global;
 use std::rt::HostRuntime;
 use urb_stable::StoreFault;
 
-/// Why the database could not be opened: NoMemory for want of memory, else Device.
-fn open_fault(error: Error) -> StoreFault
-    ensures { result ≡ (blamed error 0).0 }
+/// Why the database could not be opened or closed: NoMemory for want of memory, else Device.
+pub fn fault_of(error: Error) -> StoreFault
+    ensures value { result ≡ (blamed error 0).0 }
+    ensures known { (result ≡ StoreFault.NoMemory) ⊎ (result ≡ StoreFault.Device) }
 {
     let mut failures = 0;
     calls::blame(&mut failures, error)
@@ -36,6 +35,8 @@ impl SqlStable<FileStore<File>> {
         ensures fault { IfErr result (λ e. is_place e ≡ false) }
         ensures new { IfOk result (λ s. (s.doubtful ≡ false) × (s.failures ≡ 0)) }
         ensures rest { IfOk result (λ s. IsSafeAtRest (file_state s.conn)) }
+        // Where there was no file, or an empty one, the journal has no record.
+        ensures fresh { IfOk result (λ s. HasCleanDisk (file_state s.conn) → IsHonestJournal (file_state s.conn) × (records_of (file_state s.conn).now.trees ≡ [])) }
     {
         SqlStable::open_from(rt, path, Unknown)
     }
@@ -51,8 +52,10 @@ impl<S: Start> SqlStable<FileStore<FileFrom<S>>> {
         ensures fault { IfErr result (λ e. is_place e ≡ false) }
         ensures new { IfOk result (λ s. (s.doubtful ≡ false) × (s.failures ≡ 0)) }
         ensures rest { IfOk result (λ s. IsSafeAtRest (file_state s.conn)) }
-        // Where the files hold a database whose one table is the journal, its rows are records, and these are found.
-        ensures found { IfOk result (λ s. HasCleanDisk (file_state s.conn) → (db : _) → HoldsDatabase (image_at S.Start) db → IsSound journal_schema db
+        // Where there was no file, or an empty one, the journal has no record.
+        ensures fresh { IfOk result (λ s. HasCleanDisk (file_state s.conn) → S.Start.db ≡ [] → IsHonestJournal (file_state s.conn) × (records_of (file_state s.conn).now.trees ≡ [])) }
+        // Where the files hold a database whose first table is the journal, its rows are records, and these are found.
+        ensures found { IfOk result (λ s. HasCleanDisk (file_state s.conn) → (db : _) → HoldsDatabase (image_at S.Start) db → IsJournal db
             → IsHonestJournal (file_state s.conn) × StandsFor db (records_of (file_state s.conn).now.trees)) }
     {
         match Connection::open_from(rt, path, false, start) {
@@ -60,7 +63,7 @@ impl<S: Start> SqlStable<FileStore<FileFrom<S>>> {
                 Ok(journal) => Ok(journal),
                 Err((_, fault)) => Err(fault),
             },
-            Err((error, _)) => Err(open_fault(error)),
+            Err((error, _)) => Err(fault_of(error)),
         }
     }
 }
@@ -79,8 +82,10 @@ impl<D: Disk + Drop> SqlStable<FileStore<D>> {
         ensures rest { IfOk result (λ s. IsSafeAtRest (file_state s.conn)) }
         // A journal over a clean disk was opened over clean files.
         ensures clean { IfOk result (λ s. HasCleanDisk (file_state s.conn) → AreClean D.Disk files.log files.db) }
-        // Where the files hold a database whose one table is the journal, its rows are records, and these are found.
-        ensures found { IfOk result (λ s. HasCleanDisk (file_state s.conn) → (db : _) → HoldsDatabase (image_of D.Disk files) db → IsSound journal_schema db
+        // Where the database file is empty, the journal has no record.
+        ensures fresh { IfOk result (λ s. HasCleanDisk (file_state s.conn) → (image_of D.Disk files).db ≡ [] → IsHonestJournal (file_state s.conn) × (records_of (file_state s.conn).now.trees ≡ [])) }
+        // Where the files hold a database whose first table is the journal, its rows are records, and these are found.
+        ensures found { IfOk result (λ s. HasCleanDisk (file_state s.conn) → (db : _) → HoldsDatabase (image_of D.Disk files) db → IsJournal db
             → IsHonestJournal (file_state s.conn) × StandsFor db (records_of (file_state s.conn).now.trees)) }
     {
         match Connection::open_files(alloc, files, options) {
@@ -88,7 +93,7 @@ impl<D: Disk + Drop> SqlStable<FileStore<D>> {
                 Ok(journal) => Ok(journal),
                 Err((_, fault)) => Err(fault),
             },
-            Err((error, _)) => Err(open_fault(error)),
+            Err((error, _)) => Err(fault_of(error)),
         }
     }
 }

@@ -1,9 +1,10 @@
 //! What the next opening finds after the machine stopped, over disks that can be made to crash.
 
-ghost use Rattle.std.specs.Prelude.{◌≡◌, ◌⊎◌, List, [], ◌∷◌, ◌++◌, IfOk};
+ghost use Rattle.std.specs.Prelude.{◌≡◌, ◌⊎◌, List, [], ◌∷◌, ◌++◌, Option, IfOk};
 ghost use Rattle.sqlite.specs.State.{HasCleanDisk};
 ghost use Rattle.sqlite.specs.Files.{file_state};
 ghost use Rattle.urb_stable.specs.Entries.{Entry};
+ghost use Rattle.urb_stable.specs.Storing.{IsContents};
 ghost use Rattle.urb_sqlite.specs.Reading.{records_of};
 ghost use Rattle.urb_sqlite.specs.OpenJournal.{IsHonestJournal, LeavesOnly};
 ghost use Rattle.urb_sqlite.specs.Stops.{IsFoundAfter};
@@ -30,6 +31,9 @@ impl<D: Crash + Drop> SqlStable<FileStore<D>> {
         // Where it leaves these, or these with one more, one of the two is found.
         ensures found { IfOk result (λ again. HasCleanDisk (file_state again.conn) → (records : List Entry) (r : Entry) → LeavesOnly (file_state self.conn) (λ left. (left ≡ records) ⊎ (left ≡ records ++ r ∷ []))
             → IsHonestJournal (file_state again.conn) × ((records_of (file_state again.conn).now.trees ≡ records) ⊎ (records_of (file_state again.conn).now.trees ≡ records ++ r ∷ []))) }
+        // Whatever storage a stop leaves, certain records or these with a doubtful one, is what is found.
+        ensures left { IfOk result (λ again. HasCleanDisk (file_state again.conn) → (certain : List Entry) (doubtful : Option Entry) → LeavesOnly (file_state self.conn) (IsContents certain doubtful)
+            → IsHonestJournal (file_state again.conn) × IsContents certain doubtful (records_of (file_state again.conn).now.trees)) }
     {
         let Files { mut log, mut db } = self.into_connection().into_store().close();
         log.crash();

@@ -1,5 +1,6 @@
-// Journals over memory, in a file, with changed rows, and stopped at each call of their disks.
+//! Journals over memory, in a file, with changed rows, and stopped at each call of their disks.
 mod clusters;
+mod files;
 
 use super::*;
 use sqlite::{Alter, Connection, Error, FileStore, Files, MemStore, Options, params};

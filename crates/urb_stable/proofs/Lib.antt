@@ -7,3 +7,5 @@ pub mod OwnRules
 pub mod RisingRecords
 pub mod FoundRecords
 pub mod FirstMisfits
+pub mod Indexed
+mod Walks

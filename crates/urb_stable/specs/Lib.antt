@@ -9,3 +9,4 @@ pub mod Memory
 pub mod IsMemory
 pub mod Images
 pub mod Fitting
+pub mod Indexes

@@ -1,7 +1,9 @@
 -- A store in memory, as contracts see it, and what each of its calls leaves.
-use Rattle.std.specs.Prelude.{◌≡◌, ◌+◌, ℕ, Bool, true, false, List, [], ◌∷◌, ◌++◌, Option, None, Some, Result, Ok, Err}
+use Rattle.std.specs.Prelude.{◌⊎◌, ◌-◌, ◌^◌, length, nat_lt, ◌≡◌, ◌+◌, ℕ, Bool, true, false, List, [], ◌∷◌, ◌++◌, Option, None, Some, Result, Ok, Err}
 use Rattle.urb_stable.specs.Entries.{Entry}
+use Rattle.urb_stable.specs.Storing.{is_out_of_place}
 use Rattle.urb_stable.specs.declared.memory.Failure.{Failure}
+use Rattle.urb_stable.specs.declared.memory.Failure.TheVariants.{New, Old}
 use Rattle.urb_stable.specs.declared.stable.StoreFault.{StoreFault}
 use Rattle.urb_stable.specs.declared.stable.StoreFault.TheVariants as fault
 
@@ -42,6 +44,21 @@ with_doubt certain (Some entry) = certain ++ entry ∷ []
 -- the store after a retrieve
 abbrev pub retrieved : Memory → Memory
 retrieved m = record m { certain = with_doubt m.certain m.doubt; doubt = None; doubtful = false }
+
+-- what a store may answer whose next position is this one, where it is out of place or not, by how it is armed and whether
+-- one more failure can be counted
+abbrev pub StoresAt : ℕ → Bool → Option Failure → Bool → Result (Unit {0}) StoreFault → Type 0
+StoresAt next true armed counted answer = answer ≡ Err (fault.Place next)
+StoresAt next false None counted answer = (answer ≡ Ok tt) ⊎ (answer ≡ Err fault.NoMemory)
+StoresAt next false (Some failure) false answer = answer ≡ Err fault.NoMemory
+StoresAt next false (Some Old) true answer = answer ≡ Err fault.Device
+StoresAt next false (Some New) true answer = (answer ≡ Err fault.Device) ⊎ (answer ≡ Err fault.NoMemory)
+
+-- what a store at this position may answer
+abbrev pub Stores : Memory → ℕ → Result (Unit {0}) StoreFault → Type 0
+Stores m pos answer =
+    let next = length m.certain + 1 in
+    StoresAt next (is_out_of_place m.doubtful next pos) m.armed (nat_lt m.failures (2 ^ 64 - 1)) answer
 
 -- what a retrieve may answer: all records, or that no memory is left for them
 abbrev pub Retrieves : Memory → Result (List Entry) StoreFault → Type 0

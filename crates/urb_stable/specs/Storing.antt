@@ -23,10 +23,12 @@ IsContents certain (Some entry) records = (records ≡ certain) ⊎ (records ≡
 abbrev pub is_out_of_place : Bool → ℕ → ℕ → Bool
 is_out_of_place doubtful next pos = doubtful || (not (pos == next) || (next == 4294967295))
 
+-- whether the fault is Place
 abbrev pub is_place : StoreFault → Bool
 is_place (fault.Place next) = true
 is_place _ = false
 
+-- whether the fault is BadRow
 abbrev pub is_bad_row : StoreFault → Bool
 is_bad_row (fault.BadRow place) = true
 is_bad_row _ = false

@@ -1,4 +1,4 @@
-// Doubts: that a store failed.
+//! Doubts: that a store failed.
 ghost use Rattle.std.specs.Prelude.{◌≡◌};
 
 use crate::StoreFault;

@@ -1,4 +1,4 @@
-// Drafts: what a node wants stored.
+//! Drafts: what a node wants stored.
 ghost use Rattle.std.specs.Prelude.{◌≡◌, ◌⊎◌, ◌<◌, ◌≤◌, ◌++◌, [], ◌∷◌, true, false, None, Some, Err, IsTrue, IfErr, OnOk, OnErr, MatchResult};
 ghost use Rattle.urb_stable.specs.Storing.{IsContents, is_out_of_place, is_place, IsPlaced};
 ghost use Rattle.urb_stable.specs.Answering.{answer_of};
@@ -66,6 +66,9 @@ impl<A: Allocator> Draft<A> {
     pub fn keep<S: Stable<Alloc = A>>(self, store: &mut S) -> Result<Receipt<A>, Doubt>
         // A receipt is of this draft, and a doubt of its node.
         ensures receipt { MatchResult result (λ receipt. receipt ≡ self) (λ doubt. doubt.node ≡ self.node) }
+
+        // A doubt tells the very fault that the store answered.
+        ensures answers { S.stores store.old self.pos self.entry (answer_of result) }
 
         // Place comes exactly where the store is out of place, and then nothing changes.
         ensures placed { IsPlaced (is_out_of_place (S.is_doubtful store.old) (S.place store.old) self.pos) (S.place store.old) (answer_of result) }

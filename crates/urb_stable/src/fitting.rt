@@ -294,7 +294,11 @@ fn message_at<A: Allocator>(entry: &Record<Message<A>>, name: Name) -> Option<&M
 }
 
 // Whether a record is of this pair.
-fn is_of_pair<A: Allocator>(entry: &Record<Message<A>>, name: Name, message: &Message<A>) -> bool
+pub(crate) fn is_of_pair<A: Allocator>(
+    entry: &Record<Message<A>>,
+    name: Name,
+    message: &Message<A>,
+) -> bool
     ensures { result ≡ has_pair (pend (entry.now ∷ [])) name message.now }
 {
     match entry {

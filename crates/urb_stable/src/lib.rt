@@ -4,6 +4,7 @@
 mod doubt;
 mod draft;
 mod fitting;
+mod index;
 mod memory;
 mod receipt;
 mod record;
@@ -12,6 +13,7 @@ mod stable;
 pub use doubt::Doubt;
 pub use draft::Draft;
 pub use fitting::{Misfit, first_misfit};
+pub use index::Index;
 pub use memory::{Failure, MemStable};
 pub use receipt::Receipt;
 pub use record::{Record, limits_of};

@@ -1,7 +1,7 @@
-// A store in memory.
+//! A store in memory.
 ghost use Rattle.std.specs.Prelude.{◌≡◌, ◌⊎◌, ◌<◌, ◌≤◌, ◌+◌, ◌-◌, ◌^◌, List, [], ◌∷◌, ◌++◌, None, Some, Ok, Err, false, true, length, IsTrue, OnOk, OnErr, IfOk, IfErr, MatchResult};
 ghost use Rattle.std.specs.Option.{OnSome};
-ghost use Rattle.urb_stable.specs.Memory.{empty_memory, armed_with, with_record, without_memory, after_failure, retrieved, Retrieves};
+ghost use Rattle.urb_stable.specs.Memory.{empty_memory, armed_with, with_record, without_memory, after_failure, retrieved, Retrieves, Stores};
 ghost use Rattle.urb_stable.specs.Entries.{Entry};
 ghost use Rattle.urb_stable.specs.Storing.{IsContents, is_out_of_place, is_place, is_bad_row, IsPlaced};
 
@@ -115,6 +115,8 @@ impl<A: Allocator + Copy> Stable for MemStable<A> {
 
     ghost leaves_only = { λ s P. (records : List Entry) → IsContents s.certain s.doubt records → P records };
 
+    ghost stores = { λ s pos _. Stores s pos };
+
     ghost answers = { Retrieves };
 
     fn next(&self) -> u32 {
@@ -127,6 +129,7 @@ impl<A: Allocator + Copy> Stable for MemStable<A> {
 
     fn store(&mut self, pos: u32, entry: &Record<Message<A>>) -> Result<(), StoreFault>
         // As every store does.
+        ensures answers { Stores self.old pos result }
         ensures placed { IsPlaced (is_out_of_place self.old.doubtful (length self.old.certain + 1) pos) (length self.old.certain + 1) result }
         ensures same { IsTrue (is_out_of_place self.old.doubtful (length self.old.certain + 1) pos) → self.new ≡ self.old }
         ensures stored { OnOk result (self.new.certain ≡ self.old.certain ++ entry.now ∷ []) }

@@ -1,4 +1,4 @@
-// Receipts: that a record is stored.
+//! Receipts: that a record is stored.
 ghost use Rattle.std.specs.Prelude.{◌≡◌};
 
 use crate::Record;

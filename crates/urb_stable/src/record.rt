@@ -1,4 +1,4 @@
-// What a node keeps in its storage.
+//! What a node keeps in its storage.
 ghost use Rattle.std.specs.Prelude.{◌≡◌, IfOk};
 ghost use Rattle.std.specs.Bool.{MatchBool};
 ghost use Rattle.std.specs.List.{All};

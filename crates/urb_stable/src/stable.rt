@@ -1,4 +1,4 @@
-// Stable storage: what each store promises.
+//! Stable storage: what each store promises.
 ghost use Rattle.std.specs.Prelude.{◌≡◌, ◌⊎◌, ◌+◌, ◌<◌, ◌≤◌, List, [], ◌∷◌, ◌++◌, ℕ, Bool, true, false, Option, Some, None, Result, Ok, Err, length, IsTrue, IfOk, IfErr, MatchResult, OnOk, OnErr};
 ghost use Rattle.urb_stable.specs.Entries.{Entry};
 ghost use Rattle.urb_stable.specs.declared.stable.StoreFault.{StoreFault as Fault};
@@ -104,6 +104,9 @@ pub trait Stable {
     /// Whatever a stop at this moment leaves is records of which this holds.
     ghost leaves_only: { Self → (List Entry → Type 0) → Type 0 };
 
+    /// What a store of this record at this position may answer.
+    ghost stores: { Self → ℕ → Entry → Result (Unit {0}) Fault → Type 0 };
+
     /// What a retrieve may answer.
     ghost answers: { Self → Result (List Entry) Fault → Type 0 };
 
@@ -119,6 +122,9 @@ pub trait Stable {
     /// Keeps a record behind the others. After `Place` nothing has changed. After any other fault the record may be kept
     /// or not, and only a `retrieve` can tell.
     fn store(&mut self, pos: u32, entry: &Record<Message<Self::Alloc>>) -> Result<(), StoreFault>
+        // It answers as this storage does.
+        ensures answers { stores self.old pos entry.now result }
+
         // Place comes exactly where the store is out of place, and then nothing changes.
         ensures placed { IsPlaced (is_out_of_place (is_doubtful self.old) (place self.old) pos) (place self.old) result }
         ensures same { IsTrue (is_out_of_place (is_doubtful self.old) (place self.old) pos) → self.new ≡ self.old }

@@ -1,4 +1,4 @@
-// Calls on a store in memory, with and without failures, and memory that is refused.
+//! Calls on a store in memory, with and without failures, and memory that is refused.
 use super::*;
 use std::alloc::{Allocator, Global};
 use std::test::Fail;

@@ -1,19 +1,20 @@
--- The statuses that the program ends with.
+-- How a run of a script ends the program.
 use Rattle.std.specs.Prelude.{ℕ, Result, Ok, Err}
-use Rattle.clap.specs.declared.error.kind.ErrorKind.{ErrorKind}
-use Rattle.clap.specs.declared.error.kind.ErrorKind.TheVariants.{OutOfMemory, DisplayHelp}
+use Rattle.urbd.specs.declared.faults.Fault.{Fault}
+use Rattle.urbd.specs.declared.faults.Fault.TheVariants as fault
 use Rattle.urb_script.specs.declared.runs.Ended.{Ended}
 use Rattle.urb_script.specs.declared.runs.Ended.TheVariants.{Whole, BadLine}
 use Rattle.urb_script.specs.declared.runs.RunFault.{RunFault}
+use Rattle.urb_script.specs.declared.runs.RunFault.TheVariants.{Read, Write, NoMemory}
 
 -- 0 for a script that is whole, 2 for one with a bad line, 1 for a fault
 abbrev pub status_of : Result Ended RunFault → ℕ
 status_of (Ok Whole) = 0
 status_of (Ok (BadLine line)) = 2
-status_of (Err fault) = 1
+status_of (Err broken) = 1
 
--- 0 for help that was asked for, 1 for want of memory, 3 for every other command line that the parser refuses
-abbrev pub parser_status : ErrorKind → ℕ
-parser_status OutOfMemory = 1
-parser_status DisplayHelp = 0
-parser_status _ = 3
+-- the fault of the program that a run's fault is
+abbrev pub fault_of_run : RunFault → Fault
+fault_of_run Read = fault.Read
+fault_of_run Write = fault.Write
+fault_of_run NoMemory = fault.NoMemory

@@ -1,28 +1,25 @@
-//! The command line.
+//! The command line: its words, and what they ask for.
 
-ghost use Rattle.std.specs.Prelude.{◌≡◌, ◌⊎◌, IfErr};
-ghost use Rattle.clap.specs.Values.{kind_of};
-ghost use Rattle.urbd.specs.Statuses.{parser_status};
+ghost use Rattle.std.specs.Prelude.{◌≡◌, ◌⊎◌, [], map, IfOk, IfErr, OnOk};
+ghost use Rattle.clap.specs.Words.{kind_of, app_of};
+ghost use Rattle.urbd.specs.CommandLine.{urbd_app, faults_of, IsToldBy, HasStatus};
 
+use crate::faults::{Fault, tell};
+use crate::lines::Line;
 use clap::error::ErrorKind;
 use clap::{Command, Error};
 use std::alloc::{AllocError, Global};
 use std::convert::AsStr;
-
-/// What the program is asked to do.
-pub enum Subcommand {
-    /// Run a script from standard input to standard output.
-    Replay,
-}
-
-/// The status where memory is refused.
-const NO_MEMORY: u8 = 1;
+use std::rt::Env;
+use std::{env, io};
 
 /// The status of a command line that isn't the program's.
 const BAD_COMMAND_LINE: u8 = 3;
 
 // The command line that the program takes.
-fn command<'a>(alloc: Global) -> Result<Command<'a>, AllocError> {
+fn command<'a>(alloc: Global) -> Result<Command<'a>, AllocError>
+    ensures { IfOk result (λ made. app_of made ≡ urbd_app) }
+{
     let replay = Command::new(alloc, "replay").about("Runs a script from standard input");
     Command::new(alloc, "urbd")
         .about("Logged uniform FIFO broadcast")
@@ -30,24 +27,16 @@ fn command<'a>(alloc: Global) -> Result<Command<'a>, AllocError> {
         .subcommand(replay)
 }
 
-// Prints that memory was refused, and gives the status.
-fn no_memory<R: Eprint>(rt: &R) -> u8
-    ensures { result ≡ 1 }
-{
-    let _ = eprintln!(rt; "urbd: no memory");
-    NO_MEMORY
-}
-
 // Prints the parser's text, and gives the status.
 fn refused<R: Print + Eprint>(rt: &R, error: &Error) -> u8
-    ensures { result ≡ parser_status (kind_of error.now) }
+    ensures { IsToldBy (kind_of error.now) result }
 {
     match error.kind() {
-        ErrorKind::OutOfMemory => no_memory(rt),
-        ErrorKind::DisplayHelp => {
-            let _ = error.print(rt);
-            0
-        }
+        ErrorKind::OutOfMemory => tell(rt, Fault::NoMemory),
+        ErrorKind::DisplayHelp => match error.print(rt) {
+            Ok(()) => 0,
+            Err(_) => tell(rt, Fault::Write),
+        },
         _ => {
             let _ = error.print(rt);
             BAD_COMMAND_LINE
@@ -55,20 +44,60 @@ fn refused<R: Print + Eprint>(rt: &R, error: &Error) -> u8
     }
 }
 
-/// Reads a command line. Of one that isn't the program's it prints the parser's text, to standard output for help that
-/// was asked for and else to standard error, and gives the status: 0 for that help, 1 where memory is refused, else 3.
-pub fn parse_arguments<'a, S: AsStr, R: Print + Eprint>(
+/// Reads a command line, of which the first word is the program's name. Of one that isn't the program's it prints the
+/// parser's text, to standard output for help that was asked for and else to standard error, and gives the status: 0 for
+/// that help, 3 for a mistake. Where memory is refused, or that help can't be written, it tells this fault, and the
+/// status is 1.
+pub fn line<'a, S: AsStr, R: Print + Eprint>(
     rt: &R,
     alloc: Global,
     words: &'a [S],
-) -> Result<Subcommand, u8>
-    ensures { IfErr result (λ status. (status ≡ 0) ⊎ (status ≡ 1) ⊎ (status ≡ 3)) }
+) -> Result<Line, u8>
+    // A line is taken only where the parser finds no fault in it.
+    ensures taken { OnOk result (faults_of (map S.text words.entry.now) ≡ []) }
+    // The status of one that isn't is that of the first fault, or of memory that was refused.
+    ensures refused { IfErr result (HasStatus (faults_of (map S.text words.entry.now))) }
 {
     let Ok(command) = command(alloc) else {
-        return Err(no_memory(rt));
+        return Err(tell(rt, Fault::NoMemory));
     };
     match command.try_get_matches_from(words) {
-        Ok(_) => Ok(Subcommand::Replay),
+        Ok(_) => Ok(Line::Replay),
         Err(error) => Err(refused(rt, &error)),
+    }
+}
+
+// Prints, in the parser's form, that a word of the command line is no text, and gives the status.
+fn not_text<R: Print + Eprint>(rt: &R, alloc: Global) -> u8
+    ensures { (result ≡ 1) ⊎ (result ≡ 3) }
+{
+    let Ok(mut command) = command(alloc) else {
+        return tell(rt, Fault::NoMemory);
+    };
+    let message = "invalid UTF-8 was detected in one or more arguments";
+    match command.error(ErrorKind::ValueValidation, message) {
+        Ok(error) => refused(rt, &error),
+        Err(_) => tell(rt, Fault::NoMemory),
+    }
+}
+
+/// The words of the command line. Where they can't be had it says so on standard error, and gives the status: 3 where one
+/// of them is not UTF-8, else 1.
+pub fn words<R: Env + AllocGlobal + Print + Eprint>(rt: &R) -> Result<Vec<String>, u8>
+    ensures { IfErr result (λ status. (status ≡ 1) ⊎ (status ≡ 3)) }
+{
+    let args = match env::args(rt) {
+        Ok(args) => args,
+        Err(error) => {
+            return Err(match error.kind() {
+                io::ErrorKind::OutOfMemory => tell(rt, Fault::NoMemory),
+                io::ErrorKind::InvalidData => not_text(rt, rt.alloc()),
+                _ => tell(rt, Fault::Read),
+            });
+        }
+    };
+    match args.collect::<Vec<String>>(rt.alloc()) {
+        Ok(words) => Ok(words),
+        Err(_) => Err(tell(rt, Fault::NoMemory)),
     }
 }

@@ -2,8 +2,6 @@
 
 use super::{OneNode, WORKED, answered, sent};
 use crate::*;
-use std::io;
-use std::io::Write;
 use std::test::Fail;
 use urb_refusing::{FailingReader, FailingWriter, Refusing};
 
@@ -34,6 +32,7 @@ fn each_growth_may_be_refused(rt: HostRuntime) -> Result<(), Fail> {
         if !heap.met() {
             assert!(rt; matches!(ended, Ok(Ended::BadFrame)));
             assert_eq!(rt; writer.written(), answered.as_slice());
+            assert!(rt; 1 < refused);
             ran = true;
             break;
         }
@@ -59,21 +58,34 @@ fn the_reader_may_fail_at_each_call(rt: HostRuntime) -> Result<(), Fail> {
         let mut writer = FailingWriter::new(&mut room, 100, 0);
         let mut desk = OneNode::new(rt.alloc()).ok_or("node 1")?;
         let ended = session(rt.alloc(), &mut reader, &mut writer, &mut desk);
-        if matches!(ended, Ok(Ended::BadFrame)) {
+        if !reader.met() {
+            assert!(rt; matches!(ended, Ok(Ended::BadFrame)));
             assert_eq!(rt; writer.written(), answered.as_slice());
+            // A length takes one read, and each three bytes after it take one more.
+            assert_eq!(rt; reader.reads(), 22);
             ran = true;
             break;
         }
         assert!(rt; matches!(ended, Err(SessionFault::Read)), "read {failing}");
         assert!(rt; reader.failed_last(), "read {failing}");
         assert!(rt; is_whole_answers(writer.written()), "read {failing}");
+        assert!(rt; writer.is_flushed(), "read {failing}");
     }
     assert!(rt; ran);
     Ok(())
 }
 
+/// How many reads the first answers take: two a frame, but the last one has no bytes after its length.
+fn reads_for(answers: u64) -> u64 {
+    if answers == 8 {
+        15
+    } else {
+        answers.saturating_mul(2)
+    }
+}
+
 #[test]
-fn the_writer_may_fail_at_each_call(rt: HostRuntime) -> Result<(), Fail> {
+fn each_write_and_each_flush_may_fail(rt: HostRuntime) -> Result<(), Fail> {
     let sent = sent(rt.alloc())?;
     let mut ran = false;
     for failing in 1..200u64 {
@@ -82,59 +94,32 @@ fn the_writer_may_fail_at_each_call(rt: HostRuntime) -> Result<(), Fail> {
         let mut writer = FailingWriter::new(&mut room, 100, failing);
         let mut desk = OneNode::new(rt.alloc()).ok_or("node 1")?;
         let ended = session(rt.alloc(), &mut reader, &mut writer, &mut desk);
-        if matches!(ended, Ok(Ended::BadFrame)) {
+        if !writer.met() {
+            assert!(rt; matches!(ended, Ok(Ended::BadFrame)));
+            // Each answer takes a write, and a flush behind it.
+            assert_eq!(rt; (writer.calls(), writer.flushes()), (16, 8));
+            assert!(rt; writer.is_flushed());
             ran = true;
             break;
         }
-        assert!(rt;
-            matches!(ended, Err(SessionFault::Write)),
-            "write {failing}"
-        );
-        assert!(rt; writer.failed_last(), "write {failing}");
-        // A frame takes two reads, but the last one, which has no bytes after its length.
-        let reads = if failing == 8 {
-            15
-        } else {
-            failing.saturating_mul(2)
-        };
-        assert_eq!(rt; reader.reads(), reads, "write {failing}");
+        assert!(rt; matches!(ended, Err(SessionFault::Write)), "call {failing}");
+        assert!(rt; writer.failed_last(), "call {failing}");
+        // The frame after the answer isn't read before it is flushed, nor after the fault.
+        let answers = failing.saturating_add(1) / 2;
+        assert_eq!(rt; reader.reads(), reads_for(answers), "call {failing}");
     }
     assert!(rt; ran);
     Ok(())
 }
 
-/// Counts how often it was flushed, and the bytes written since then.
-#[derive(Drop)]
-struct Flushed {
-    flushes: u64,
-    waiting: usize,
-}
-
-impl Write for Flushed {
-    fn write(&mut self, bytes: &[u8]) -> io::Result<usize> {
-        self.waiting = self.waiting.saturating_add(bytes.len());
-        Ok(bytes.len())
-    }
-
-    fn flush(&mut self) -> io::Result<()> {
-        self.flushes = self.flushes.saturating_add(1);
-        self.waiting = 0;
-        Ok(())
-    }
-}
-
 #[test]
-fn each_answer_is_flushed(rt: HostRuntime) -> Result<(), Fail> {
-    let sent = sent(rt.alloc())?;
-    let mut input = sent.as_slice();
-    let mut writer = Flushed {
-        flushes: 0,
-        waiting: 0,
-    };
-    let mut desk = OneNode::new(rt.alloc()).ok_or("node 1")?;
-    let ended = session(rt.alloc(), &mut input, &mut writer, &mut desk)?;
-    assert_eq!(rt; ended, Ended::BadFrame);
-    assert_eq!(rt; writer.flushes, 8);
-    assert_eq!(rt; writer.waiting, 0);
+fn faults_have_their_texts(rt: HostRuntime) -> Result<(), Fail> {
+    for (fault, text) in [
+        (SessionFault::Read, "read failed"),
+        (SessionFault::Write, "write failed"),
+        (SessionFault::NoMemory, "no memory"),
+    ] {
+        assert_eq!(rt; format!(in rt.alloc(); "{fault}")?.as_str(), text);
+    }
     Ok(())
 }

@@ -82,6 +82,29 @@ fn a_stop_loses_a_draft_and_keeps_a_record(rt: HostRuntime) -> Result<(), Fail> 
     Ok(())
 }
 
+// Whether node 1 has its message stored after a stop that came when its store had taken the record, and before that was
+// told to the group.
+fn holds_untold(alloc: Global) -> Option<bool> {
+    let one = node(1)?;
+    let mut cluster = cluster(alloc)?;
+    cluster.apply(alloc, &submit(alloc)?);
+    let mut stores = cluster.into_stores();
+    if stores.len() != 3 {
+        return None;
+    }
+    let message = Message::copied(alloc, ClientId::new(7)?, 1, b"a").ok()?;
+    stores[0].store(1, &Record::Pend(first()?, message)).ok()?;
+    let mut cluster = Cluster::open(alloc, Config::new(3, 10)?, stores).ok()?;
+    let again = cluster.apply(alloc, &submit(alloc)?);
+    Some(cluster.group().holds(one, first()?) && is_accepted(&again))
+}
+
+#[test]
+fn a_record_that_was_stored_and_not_told_comes_back(rt: HostRuntime) -> Result<(), Fail> {
+    assert_eq!(rt; holds_untold(rt.alloc()), Some(true));
+    Ok(())
+}
+
 /// Refuses one growth.
 type Heap<'h> = &'h Refusing<Global>;
 

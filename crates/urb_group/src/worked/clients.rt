@@ -2,7 +2,7 @@
 ghost use Rattle.std.specs.Prelude.{[], ◌∷◌, None, Some, replicate};
 ghost use Rattle.urb_names.specs.declared.refusal.Refusal.TheVariants as refusal;
 ghost use Rattle.urb_names.specs.Names.{name};
-ghost use Rattle.urb_group.specs.Scripts.{◌⇒◌, Plays, Drafts, Accepts, Logs, Refuses, accepted, message, submit, store, log_of};
+ghost use Rattle.urb_group.specs.Scripts.{◌⇒◌, Plays, Drafts, Accepts, Logs, Refuses, accepted, down, message, submit, store, crash, log_of};
 ghost use Rattle.urb_group.specs.Examples.{filled};
 
 /// The numbers of each client run 1, 2, 3, .. at each node; a repeat gets the name that the first one got.
@@ -71,5 +71,11 @@ pub fn payloads()
         ∷ submit 1 (filled 7 1 1025) ⇒ Refuses refusal.TooLong
         ∷ submit 1 (filled 7 9 1025) ⇒ Refuses refusal.TooLong
         ∷ submit 2 (filled 7 2 1025) ⇒ Refuses refusal.BadNode
+        ∷ []) }
+    ensures asked_after_the_state { Plays 1 3 (
+        submit 1 (message 7 1 "a") ⇒ Drafts (name 1 1) 1
+        ∷ submit 1 (filled 8 1 1025) ⇒ Refuses refusal.Busy
+        ∷ crash 1 ⇒ down 1
+        ∷ submit 1 (filled 8 1 1025) ⇒ Refuses refusal.Down
         ∷ []) }
 {}

@@ -3,7 +3,9 @@ ghost use Rattle.std.specs.Prelude.{[], ◌∷◌, None, Some};
 ghost use Rattle.urb_names.specs.Names.{name};
 ghost use Rattle.urb_stable.specs.declared.record.Record.TheVariants.{Pend, PendCert, Cert};
 ghost use Rattle.urb_node.specs.Part.{Ready, Storing};
-ghost use Rattle.urb_group.specs.Scripts.{◌⇒◌, Plays, Drafts, Accepts, Takes, Logs, Holds, Is, noted, again, message, submit, store, arrive, log_of, held, look_at};
+ghost use Rattle.urb_group.specs.World.{image_of};
+ghost use Rattle.urb_group.specs.Scripts.{◌⇒◌, Plays, PlaysOpened, Drafts, Accepts, Takes, Logs, Holds, Is, noted, again, message, submit, store, arrive, log_of, held, look_at};
+ghost use Rattle.urb_group.specs.Examples.{pending, limits};
 
 /// Groups of one and of three nodes.
 pub fn small_groups()
@@ -36,6 +38,13 @@ pub fn small_groups()
         ∷ arrive 1 2 1 1 ⇒ Drafts (name 1 1) 2
         ∷ store 2 ⇒ Takes (name 1 1) 2 2
         ∷ log_of 2 ⇒ Logs ((name 1 1, Some (message 7 1 "a")) ∷ (name 1 2, Some (message 7 2 "b")) ∷ [])
+        ∷ []) }
+    ensures a_relayed_certificate_is_no_broadcast { Plays 3 10 (
+        submit 1 (message 7 1 "a") ⇒ Drafts (name 1 1) 1
+        ∷ store 1 ⇒ Accepts (name 1 1) 2 0
+        ∷ arrive 1 2 1 1 ⇒ Drafts (name 1 1) 1
+        ∷ store 2 ⇒ Takes (name 1 1) 2 1
+        ∷ submit 2 (message 7 1 "b") ⇒ Drafts (name 2 1) 2
         ∷ []) }
     ensures logs_differ_between_senders { Plays 3 10 (
         submit 1 (message 7 1 "a") ⇒ Drafts (name 1 1) 1
@@ -85,6 +94,7 @@ pub fn larger_groups()
         ∷ store 2 ⇒ Takes (name 1 1) 4 0
         ∷ arrive 2 3 1 1 ⇒ Drafts (name 1 1) 1
         ∷ store 3 ⇒ Takes (name 1 1) 4 0
+        ∷ arrive 2 3 1 1 ⇒ again 1 1
         ∷ arrive 1 3 1 1 ⇒ Drafts (name 1 1) 2
         ∷ store 3 ⇒ Takes (name 1 1) 0 1
         ∷ []) }
@@ -99,6 +109,13 @@ pub fn larger_groups()
         ∷ store 3 ⇒ Takes (name 1 2) 4 0
         ∷ arrive 2 1 1 1 ⇒ noted 1 1
         ∷ arrive 3 1 1 2 ⇒ noted 1 2
+        ∷ []) }
+    ensures a_certificate_leaves_the_other_counts { PlaysOpened (limits 4 10) (image_of ((pending 1 1 ∷ pending 1 2 ∷ []) ∷ (pending 1 1 ∷ pending 1 2 ∷ []) ∷ (pending 1 1 ∷ []) ∷ [] ∷ [])) (
+        arrive 2 1 1 2 ⇒ noted 1 2
+        ∷ arrive 2 1 1 1 ⇒ noted 1 1
+        ∷ arrive 3 1 1 1 ⇒ Drafts (name 1 1) 3
+        ∷ store 1 ⇒ Takes (name 1 1) 0 1
+        ∷ arrive 2 1 1 2 ⇒ again 1 2
         ∷ []) }
     ensures a_node_counts_itself_only_once_stored { Plays 5 10 (
         submit 1 (message 7 1 "a") ⇒ Drafts (name 1 1) 1

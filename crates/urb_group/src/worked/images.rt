@@ -20,6 +20,7 @@ pub fn fitting()
     ensures later_number_first_at_a_relay { Judged 3 10 ((pending 1 1 ∷ pending 1 2 ∷ []) ∷ (certified 1 2 ∷ []) ∷ [] ∷ []) None }
     ensures own_behind_a_relay { Judged 2 10 ((pending 1 1 ∷ []) ∷ (pending 1 1 ∷ pending 2 1 ∷ []) ∷ []) None }
     ensures own_certified_behind_a_relay { Judged 3 10 ((pending 1 1 ∷ pending 2 1 ∷ []) ∷ (pending 1 1 ∷ certified 2 1 ∷ []) ∷ [] ∷ []) None }
+    ensures certified_before_another_node_held_it { Judged 3 10 ((pending 1 1 ∷ Cert (name 1 1) ∷ []) ∷ (pending 2 1 ∷ pending 2 2 ∷ pending 1 1 ∷ []) ∷ [] ∷ []) None }
     ensures as_many_as_the_cap { Judged 1 2 ((certified 1 1 ∷ certified 1 2 ∷ []) ∷ []) None }
     ensures each_client_counts_for_itself { Judged 1 10 ((PendCert (name 1 1) (message 7 1 "a") ∷ PendCert (name 1 2) (message 8 1 "b") ∷ PendCert (name 1 3) (message 7 2 "c") ∷ []) ∷ []) None }
 {}
@@ -34,6 +35,9 @@ pub fn misfits_of_a_name()
     ensures second_pair_certified { Judged 2 10 ((pending 1 1 ∷ []) ∷ (pending 1 1 ∷ certified 1 1 ∷ []) ∷ []) (misfit A 2 1 1) }
     ensures sender_is_no_node { Judged 2 10 ((pending 1 1 ∷ pending 3 1 ∷ []) ∷ [] ∷ []) (misfit A 1 3 1) }
     ensures number_over_the_cap { Judged 1 1 ((certified 1 1 ∷ certified 1 2 ∷ []) ∷ []) (misfit A 1 1 2) }
+    ensures over_the_cap_before_its_turn { Judged 1 3 ((pending 1 4 ∷ []) ∷ []) (misfit A 1 1 4) }
+    ensures second_own_pair_before_its_turn { Judged 2 10 ((pending 1 1 ∷ pending 1 1 ∷ []) ∷ [] ∷ []) (misfit A 1 1 1) }
+    ensures over_the_cap_before_its_holders { Judged 3 1 ((pending 1 1 ∷ certified 1 2 ∷ []) ∷ [] ∷ [] ∷ []) (misfit A 1 1 2) }
     ensures pending_over_the_cap { Judged 2 1 ((pending 1 1 ∷ pending 1 2 ∷ []) ∷ [] ∷ []) (misfit A 1 1 2) }
 {}
 
@@ -51,6 +55,7 @@ pub fn misfits_of_an_own_pair()
 pub fn misfits_between_nodes()
     ensures sender_holds_none { Judged 3 10 ([] ∷ (certified 1 1 ∷ []) ∷ [] ∷ []) (misfit C 2 1 1) }
     ensures sender_holds_another_payload { Judged 2 10 ((pending 1 1 ∷ []) ∷ (Pend (name 1 1) (message 7 1 "a") ∷ []) ∷ []) (misfit C 2 1 1) }
+    ensures sender_holds_another_payload_than_is_certified { Judged 2 10 ((pending 1 1 ∷ []) ∷ (PendCert (name 1 1) (message 7 1 "a") ∷ []) ∷ []) (misfit C 2 1 1) }
     ensures sender_lacks_the_later_one { Judged 3 10 ((pending 1 1 ∷ []) ∷ (certified 1 1 ∷ pending 1 2 ∷ []) ∷ [] ∷ []) (misfit C 2 1 2) }
     ensures one_of_three_holds_it { Judged 3 10 ((certified 1 1 ∷ []) ∷ [] ∷ [] ∷ []) (misfit D 1 1 1) }
     ensures one_of_three_and_a_certificate { Judged 3 10 ((pending 1 1 ∷ Cert (name 1 1) ∷ []) ∷ [] ∷ [] ∷ []) (misfit D 1 1 1) }
@@ -64,6 +69,14 @@ pub fn misfits_between_nodes()
 
 /// The group that images open.
 pub fn opening()
+    ensures own_messages_in_order { (opened (limits 1 10) (image_of ((certified 1 1 ∷ certified 1 2 ∷ []) ∷ []))).node 1
+        ≡ record {
+          records = certified 1 1 ∷ certified 1 2 ∷ [];
+          state = Ready;
+          acks = (name 1 1, 1) ∷ (name 1 2, 1) ∷ [];
+          cursor = None;
+          broadcast = message 7 1 "" ∷ message 7 2 "" ∷ [];
+        } }
     ensures nothing_was_sent { (opened (limits 2 10) (image_of ((pending 1 1 ∷ []) ∷ (certified 1 1 ∷ []) ∷ []))).sent ≡ [] }
     ensures a_node_of_it { (opened (limits 2 10) (image_of ((pending 1 1 ∷ pending 1 2 ∷ []) ∷ (certified 1 2 ∷ pending 2 1 ∷ []) ∷ []))).node 2
         ≡ record {

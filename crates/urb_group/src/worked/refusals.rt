@@ -52,6 +52,10 @@ pub fn packets()
         ∷ store 2 ⇒ Takes (name 1 1) 2 1
         ∷ arrive 1 2 1 1 ⇒ again 1 1
         ∷ []) }
+    ensures a_certified_name_that_waits_comes_again { PlaysOpened (limits 3 10) (image_of ((pending 1 1 ∷ pending 1 2 ∷ []) ∷ (certified 1 2 ∷ []) ∷ [] ∷ [])) (
+        log_of 2 ⇒ Logs []
+        ∷ arrive 1 2 1 2 ⇒ again 1 2
+        ∷ []) }
     ensures a_pending_name_of_a_lone_node_is_certified { PlaysOpened (limits 1 10) (image_of ((pending 1 1 ∷ []) ∷ [])) (
         bring 1 (carried 1 1 1 1 (message 7 1 "")) ⇒ Drafts (name 1 1) 2
         ∷ store 1 ⇒ Takes (name 1 1) 0 1
@@ -68,7 +72,11 @@ pub fn receipts()
         ∷ commit 1 1 (certified 1 1) ⇒ Refuses refusal.Stale
         ∷ commit 1 1 (Cert (name 1 1)) ⇒ Refuses refusal.Stale
         ∷ commit 1 1 (pending 1 2) ⇒ Refuses refusal.Stale
+        ∷ commit 1 1 (Pend (name 1 2) (message 7 1 "")) ⇒ Refuses refusal.Stale
+        ∷ commit 1 1 (Pend (name 2 1) (message 7 1 "")) ⇒ Refuses refusal.Stale
         ∷ commit 1 1 (Pend (name 1 1) (message 7 1 "a")) ⇒ Refuses refusal.Stale
+        ∷ commit 1 1 (Pend (name 1 1) (message 7 2 "")) ⇒ Refuses refusal.Stale
+        ∷ commit 1 1 (Pend (name 1 1) (message 8 1 "")) ⇒ Refuses refusal.Stale
         ∷ commit 1 1 (pending 1 1) ⇒ Accepts (name 1 1) 2 0
         ∷ commit 1 1 (pending 1 1) ⇒ Refuses refusal.Stale
         ∷ []) }
@@ -83,6 +91,7 @@ pub fn receipts()
     ensures of_another_certificate { PlaysOpened (limits 2 10) (image_of ((pending 1 1 ∷ []) ∷ (pending 1 1 ∷ []) ∷ [])) (
         arrive 2 1 1 1 ⇒ Drafts (name 1 1) 2
         ∷ commit 1 2 (Cert (name 1 2)) ⇒ Refuses refusal.Stale
+        ∷ commit 1 2 (Cert (name 2 1)) ⇒ Refuses refusal.Stale
         ∷ commit 1 2 (pending 1 1) ⇒ Refuses refusal.Stale
         ∷ commit 1 2 (certified 1 1) ⇒ Refuses refusal.Stale
         ∷ commit 1 2 (Cert (name 1 1)) ⇒ Takes (name 1 1) 0 1
@@ -92,7 +101,11 @@ pub fn receipts()
         ∷ commit 1 1 (pending 1 1) ⇒ Refuses refusal.Stale
         ∷ commit 1 1 (Cert (name 1 1)) ⇒ Refuses refusal.Stale
         ∷ commit 1 1 (certified 1 2) ⇒ Refuses refusal.Stale
+        ∷ commit 1 1 (PendCert (name 1 2) (message 7 1 "")) ⇒ Refuses refusal.Stale
+        ∷ commit 1 1 (PendCert (name 2 1) (message 7 1 "")) ⇒ Refuses refusal.Stale
         ∷ commit 1 1 (PendCert (name 1 1) (message 7 1 "a")) ⇒ Refuses refusal.Stale
+        ∷ commit 1 1 (PendCert (name 1 1) (message 7 2 "")) ⇒ Refuses refusal.Stale
+        ∷ commit 1 1 (PendCert (name 1 1) (message 8 1 "")) ⇒ Refuses refusal.Stale
         ∷ commit 1 1 (certified 1 1) ⇒ Accepts (name 1 1) 0 1
         ∷ []) }
 {}

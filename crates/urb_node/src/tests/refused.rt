@@ -129,6 +129,62 @@ fn a_repeat_takes_no_memory(rt: HostRuntime) -> Result<(), Fail> {
     Ok(())
 }
 
+// The node goes on with the receipt of its draft, and asks for no memory.
+fn confirmed_without_memory<'h>(
+    heap: &'h Refusing<Global>,
+    store: &mut MemStable<&'h Refusing<Global>>,
+    storing: Storing<&'h Refusing<Global>>,
+    draft: Draft<&'h Refusing<Global>>,
+) -> Result<Ready<&'h Refusing<Global>>, Fail> {
+    let receipt = draft.keep(store)?;
+    let before = heap.asked();
+    let (ready, _done) = confirmed(storing, receipt)?;
+    if heap.asked() != before {
+        return Err(Fail::from("a receipt asks for memory"));
+    }
+    Ok(ready)
+}
+
+// A draft that a packet leads to at a node which has this heap.
+fn drafted<A: Allocator + Copy>(
+    ready: Ready<A>,
+    heap: A,
+    calm: A,
+    source: u8,
+    named: Name,
+) -> Result<(Storing<A>, Draft<A>), Fail> {
+    match arrive(ready, heap, calm, source, named, b"m")? {
+        Ok(step) => draft_of(step),
+        Err((_ready, _refusal)) => Err(Fail::from("the packet is refused")),
+    }
+}
+
+// How many names node 1 of three has delivered, which has confirmed a message of its own, its certificate, and a message
+// of node 2 that is certified at once.
+fn delivered_without_memory<'h>(
+    heap: &'h Refusing<Global>,
+    calm: &'h Refusing<Global>,
+) -> Result<usize, Fail> {
+    let mut store = MemStable::new(calm);
+    let ready = Tested::new(3, 1, heap, calm)?.ready;
+    let (storing, draft) = submitted(ready, heap, 1, b"m")?;
+    let ready = confirmed_without_memory(heap, &mut store, storing, draft)?;
+    let (storing, draft) = drafted(ready, heap, calm, 2, name(1, 1)?)?;
+    let ready = confirmed_without_memory(heap, &mut store, storing, draft)?;
+    let (storing, draft) = drafted(ready, heap, calm, 2, name(2, 1)?)?;
+    let ready = confirmed_without_memory(heap, &mut store, storing, draft)?;
+    Ok(ready.log().len())
+}
+
+#[test]
+fn a_receipt_takes_no_memory(rt: HostRuntime) -> Result<(), Fail> {
+    let calm = Refusing::new(rt.alloc(), 0);
+    let heap = Refusing::new(rt.alloc(), 0);
+    assert_eq!(rt; delivered_without_memory(&heap, &calm)?, 2);
+    assert!(rt; 0 < heap.asked());
+    Ok(())
+}
+
 // Whether a node that holds a draft takes no memory when it falls.
 fn falls_without_memory(
     heap: &Refusing<Global>,

@@ -71,8 +71,9 @@ fn the_image_of_what_was_stored_is_taken_and_acknowledgements_are_lost(
 }
 
 /// Images that are not what node 1 of five has stored: that lack a record, have another one twice in its place, have one
-/// more, another payload, another order of the certificates, and another form of a record.
-static OTHERS: [&[Kept]; 6] = [
+/// more, another payload, another order of the certificates, another form of a record, and a certificate of a message that
+/// no node of the group can have sent.
+static OTHERS: [&[Kept]; 7] = [
     &[
         (Form::Pending, 1, b"m"),
         (Form::Pending, 2, b"m"),
@@ -112,6 +113,13 @@ static OTHERS: [&[Kept]; 6] = [
         (Form::Pending, 1, b"m"),
         (Form::Certified, 2, b"m"),
         (Form::Certificate, 1, b""),
+        (Form::Pending, 3, b"m"),
+    ],
+    &[
+        (Form::Pending, 1, b"m"),
+        (Form::Pending, 2, b"m"),
+        (Form::Certificate, 2, b""),
+        (Form::Certificate, 7, b""),
         (Form::Pending, 3, b"m"),
     ],
 ];

@@ -7,6 +7,7 @@ use std::alloc::Global;
 use std::test::Fail;
 use urb_group::{Answer, Cluster, Command, Reply, play};
 use urb_names::{ClientId, Config, Message, Name, NodeId, Packet, encode};
+use urb_stable::Stable;
 
 type Journal = SqlStable<FileStore<Memory>>;
 
@@ -77,7 +78,7 @@ fn delivery(alloc: Global) -> Option<Vec<Command>> {
 }
 
 // Whether the node has delivered the message and no other.
-fn delivers(cluster: &Cluster<Journal>, number: u8) -> Option<bool> {
+fn delivers<S: Stable<Alloc = Global>>(cluster: &Cluster<S>, number: u8) -> Option<bool> {
     Some(cluster.group().log(NodeId::new(number)?)? == &[first()?][..])
 }
 

@@ -1,6 +1,9 @@
 use Rattle.std.proofs.Common.{rules, refl, inr}
+use Rattle.std.proofs.lemmas.Result.{err_from_is_err_and}
 use Rattle.urb_client.proofs.RequestLaws.{is_submit}
 use Rattle.urb_client.proofs.request.submit_of.Goals as goal
 
-pub returns-in-Err : goal.returns-in-Err
-returns-in-Err g c = inr (refl, is_submit _ c.if-fields-lt6.false (rw (← c.read_u16.ensures) (search rules)))
+pub returns-in_err-from_slice : goal.returns-in_err-from_slice
+returns-in_err-from_slice g c =
+    let p = err_from_is_err_and c.from_residual.result c.from_residual.ensures.1 in
+    rw (p.1, p.2) (inr (refl, is_submit _ c.if-fields-lt-SUBMIT_HEAD.false (rw (← c.read_u16.ensures) (search rules))))

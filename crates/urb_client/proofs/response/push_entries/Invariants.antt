@@ -1,11 +1,9 @@
-use Rattle.std.proofs.Common.{◌≡◌, ◌≤◌, ◌++◌, length, drop, ◌+◌, ◌*◌}
+use Rattle.std.proofs.Common.{◌≡◌, ◌++◌, drop}
 use Rattle.std.specs.List.{flat_map}
 use Rattle.urb_client.specs.Responses.{entry_bytes}
 use Rattle.urb_client.proofs.response.push_entries.Given as goal
 
 -- what is pushed so far, and what is left
 abbrev pub invariant-loop-entry : goal.invariant-loop-entry
-invariant-loop-entry g l = record {
-  bytes : l.body.items ++ flat_map entry_bytes (drop l.entry-index l.entries) ≡ l.fn.body.items ++ flat_map entry_bytes l.entries;
-  short : length l.body.items ≤ length l.fn.body.items + 1037 * l.entry-index;
-}
+invariant-loop-entry g l =
+    l.body.items ++ flat_map entry_bytes (drop l.entry-index l.entries) ≡ l.fn.body.items ++ flat_map entry_bytes l.entries

@@ -1,19 +1,19 @@
 use Rattle.std.proofs.Common.{rules, sym, ◌++◌, ◌∙◌, ◌∷◌, ◌≡◌, [], true, false}
-use Rattle.urb_group.proofs.PlayedRuns.{follows-next, stops-before, stops-short}
+use Rattle.urb_group.proofs.PlayedRuns.{follows-next, ends-before, ends-short}
 use Rattle.urb_group.specs.Commands.{is_no_memory}
 use Rattle.urb_group.proofs.playing.played.Goals as goal
 
 pub returns-in_default : goal.returns-in_default
 returns-in_default g c =
     rw c.reserve.ensures.items
-    (stops-before g.S.Stable c.args.cluster.now c.loop-command.cluster c.loop-command.cluster c.args.commands.now c.loop-command.replies.items c.loop-command.command-index c.command-item.result
+    (ends-before g.S.Stable c.args.cluster.now c.loop-command.cluster c.loop-command.cluster c.args.commands.now c.loop-command.replies.items c.loop-command.command-index c.command-item.result
     c.loop-command-test.true c.command-item.is c.loop-command.invariant.follows c.loop-command.invariant.count)
 
 pub returns-then-is_short : goal.returns-then-is_short
 returns-then-is_short g c =
     let short : is_no_memory c.apply-reply.result ≡ true = sym c.is_short.ensures ∙ c.if-is_short.true in
     rw c.reserve.ensures.items
-    (stops-short g.S.Stable c.args.cluster.now c.loop-command.cluster c.apply-reply.new.self c.args.commands.now c.loop-command.replies.items c.loop-command.command-index c.command-item.result
+    (ends-short g.S.Stable c.args.cluster.now c.loop-command.cluster c.apply-reply.new.self c.args.commands.now c.loop-command.replies.items c.loop-command.command-index c.command-item.result
     c.loop-command-test.true c.command-item.is c.loop-command.invariant.follows c.loop-command.invariant.count c.apply-reply.result c.apply-reply.ensures.applied short)
 
 pub loop-command-preserved : goal.loop-command-preserved

@@ -1,3 +1,7 @@
+use Rattle.std.proofs.Common.{Option, Some, ap, subst, sym, ◌∙◌}
+use Rattle.urb_fifo.specs.Delivery.{Delivery}
+use Rattle.urb_stable.specs.Entries.{Entry}
+use Rattle.urb_node.specs.Judging.{IsJoined, certified_by, delivered_by}
 use Rattle.urb_node.proofs.Verdicts.{joined_decides}
 use Rattle.urb_node.proofs.Wanted.{one_more_fits}
 use Rattle.urb_node.proofs.judging.says_joined.Goals as goal
@@ -5,7 +9,11 @@ use Rattle.urb_node.proofs.judging.says_joined.Goals as goal
 pub overflow_add-held : goal.overflow_add-held
 overflow_add-held g c = one_more_fits c.args.held.now c.requires.kept c.limits.ensures c.limits-2.ensures
 
-pub returns-in-Some : goal.returns-in-Some
-returns-in-Some g c =
-    joined_decides c.args.held.now c.args.doubt.now c.in-Some.field-0 c.args.image.now c.args.joined.now.certified c.args.joined.now.log c.says.result c.requires.kept c.in-Some.is
-    c.requires.joined.0 c.requires.joined.1 c.says.ensures
+pub returns-in-Some-Some : goal.returns-in-Some-Some
+returns-in-Some-Some g c =
+    let fifo = c.args.held.now.fifo in
+    let r = c.in-Some-Some.field-0-0 in
+    let joined : IsJoined fifo (Some r) (Some c.in-Some-Some.joined) =
+    subst (λ (o : Option Delivery). IsJoined fifo (Some r) o) c.in-Some-Some.is-1 (subst (λ (o : Option Entry). IsJoined fifo o c.args.joined.now) c.in-Some-Some.is-0 c.requires.joined) in
+    joined_decides c.args.held.now c.args.doubt.now r c.args.image.now c.in-Some-Some.joined.certified c.in-Some-Some.joined.log c.says.result c.requires.kept c.in-Some-Some.is-0
+    (joined.0 ∙ ap (certified_by fifo.certified) (sym c.in-Some-Some.is-0)) (joined.1 ∙ ap (delivered_by fifo.log fifo.certified) (sym c.in-Some-Some.is-0)) c.says.ensures

@@ -1,6 +1,7 @@
 use Rattle.std.proofs.Common.{ap, length, rules, subst, sym, ◌∙◌, ◌≡◌}
-use Rattle.urb_group.specs.Reopening.{OpensStores}
-use Rattle.urb_group.specs.Shown.{IsSound}
+use Rattle.urb_group.specs.Reopening.{Continues, OpensStores, stores_in}
+use Rattle.urb_group.specs.Shown.{GroupView, IsSound}
+use Rattle.urb_group.specs.Stocked.{AllHold, RestLeaves, StopLeaves}
 use Rattle.urb_group.proofs.cluster.Cluster.reopen.Goals as goal
 
 pub returns-clause-opened : goal.returns-clause-opened
@@ -16,12 +17,24 @@ returns-clause-goes_on g c =
     let group : c.args.self.group ≡ c.self.inside.group = search rules in
     let stores : c.args.self.stores ≡ c.self.inside.stores.items = search rules in
     let same : c.self.inside.group.size ≡ c.group.inside.config = search rules in
+    let size : c.args.self.group.size ≡ c.group.inside.config = ap (λ (group : GroupView). group.size) group ∙ same in
     λ stocked.
-    c.open.ensures.goes_on c.args.self
+    subst (λ limits. Continues g.S.Stable c.args.self.group stocked.world limits c.args.self.stores c.open.result) (sym size)
+    (subst (λ passed. Continues g.S.Stable c.args.self.group stocked.world c.group.inside.config passed c.open.result) (sym stores)
+    (c.open.ensures.goes_on c.args.self.group stocked.world
     (record {
       sound = subst (λ group. IsSound group) (sym group) c.promise.ensures.sound;
-      counted = ap (λ group. length group.nodes) group ∙ (c.promise.ensures.counted ∙ ap (λ limits. limits.n) same);
-      size = ap (λ group. group.size) group ∙ same;
-      stores = stores;
-      stocked = stocked;
-    })
+      counted = ap (λ (group : GroupView). length group.nodes) group ∙ (c.promise.ensures.counted ∙ ap (λ limits. limits.n) same);
+      size = size;
+      shows = stocked.shows;
+      holds = subst (λ passed. AllHold g.S.Stable stocked.world passed) stores (λ i store got. (stocked.stores i store got).contents);
+    })))
+
+pub returns-clause-stop : goal.returns-clause-stop
+returns-clause-stop g c =
+    let stores : c.args.self.stores ≡ c.self.inside.stores.items = search rules in
+    λ stocked.
+    subst (λ passed. StopLeaves g.S.Stable stocked.world passed (stores_in c.open.result)) (sym stores)
+    (c.open.ensures.stop stocked.world
+    (subst (λ passed. AllHold g.S.Stable stocked.world passed) stores (λ i store got. (stocked.stores i store got).contents))
+    (subst (λ passed. RestLeaves g.S.Stable stocked.world passed) stores (λ i store got. (stocked.stores i store got).left)))

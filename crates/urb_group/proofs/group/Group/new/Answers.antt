@@ -12,7 +12,7 @@ unwrap-node-requires g c =
 pub loop-at-preserved : goal.loop-at-preserved
 loop-at-preserved g c =
     let now = c.push_reserved.ensures in
-    let made : c.new-in-loop-at.result ≡ new_memory c.args.config (c.loop-at.at + 1) = search rules in
+    let made : c.in_ok-ready.ready ≡ new_memory c.args.config (c.loop-at.at + 1) = search rules in
     record {
       nodes = rw add-one (next-places _ c.args.config c.loop-at.at _ _ _ c.loop-at.invariant.nodes (rw add-one at made) now.items);
       count = omega (arith, now.len, c.loop-at.invariant.count);

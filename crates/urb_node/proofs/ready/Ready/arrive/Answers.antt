@@ -9,8 +9,8 @@ use Rattle.urb_node.proofs.Leads.{found-leads, refusal-leads}
 use Rattle.urb_node.proofs.ArriveOutcomes.{arrive-says}
 use Rattle.urb_node.proofs.ready.Ready.arrive.Goals as goal
 
-pub returns-in-Ok : goal.returns-in-Ok
-returns-in-Ok g c =
+pub returns-in-Ok-clause-event : goal.returns-in-Ok-clause-event
+returns-in-Ok-clause-event g c =
     let p = c.args.packet in
     let old : Memory = memory_of c.self.inside.held in
     subst (λ (a : Memory). p.target ≡ a.node → p.source ≤ a.limits.n → (node : Node) → ShowsReady a node → LeadsTo (arrives a.limits a.node p.source p.name p.message node) a (Ok c.step_of.result)) c.self.view_is
@@ -20,8 +20,8 @@ returns-in-Ok g c =
     (arrive-says old p.source p.name p.message node s (λ e. c.target-apart.ensures.apart (sym (target ∙ e))) c.self.invariant.node.0 c.self.invariant.node.1 (subst (λ (q : ℕ). 1 ≤ q) c.source.ensures c.number-range.ensures.range.0) source)
     c.in-Ok.ensures.outcome c.in-Ok.ensures.same c.in-Ok.ensures.wanted)) c.requires.target c.requires.source
 
-pub returns-in-Err : goal.returns-in-Err
-returns-in-Err g c =
+pub returns-in-Err-clause-event : goal.returns-in-Err-clause-event
+returns-in-Err-clause-event g c =
     let p = c.args.packet in
     let old : Memory = memory_of c.self.inside.held in
     subst (λ (a : Memory). p.target ≡ a.node → p.source ≤ a.limits.n → (node : Node) → ShowsReady a node → LeadsTo {A = g.row.A.Denot} (arrives a.limits a.node p.source p.name p.message node) a (Err (memory_of c.arrived.new.held, c.in-Err.refusal))) c.self.view_is

@@ -9,8 +9,8 @@ none_left (r ∷ records) n e z = absurd (omega arith)
 
 pub loop-record-init : goal.loop-record-init
 loop-record-init g c =
-    subst (λ (left : List Entry). HasRead c.args.config c.args.node c.args.records.items [] left c.held.inside.held) (sym c.into_iter-record-iterator.ensures.into_iter_gives.0)
-    (nothing-read c.args.config c.args.node c.args.records.items c.held.inside.held c.held.invariant (c.held.view_is ∙ c.new.ensures))
+    subst (λ (left : List Entry). HasRead c.args.config c.args.node c.args.records.items [] left c.ready.inside.held) (sym c.into_iter-record-iterator.ensures.into_iter_gives.0)
+    (nothing-read c.args.config c.args.node c.args.records.items c.ready.inside.held c.ready.invariant (c.ready.view_is ∙ c.in_ok-ready.ensures.memory))
 
 pub joined-requires-clause-kept : goal.joined-requires-clause-kept
 joined-requires-clause-kept g c = c.loop-record.invariant.held

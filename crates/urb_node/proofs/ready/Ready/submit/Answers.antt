@@ -10,8 +10,8 @@ use Rattle.urb_node.proofs.Leads.{found-leads, refusal-leads}
 use Rattle.urb_node.proofs.SubmitOutcomes.{submit-says}
 use Rattle.urb_node.proofs.ready.Ready.submit.Goals as goal
 
-pub returns-in-Ok : goal.returns-in-Ok
-returns-in-Ok g c =
+pub returns-in-Ok-clause-event : goal.returns-in-Ok-clause-event
+returns-in-Ok-clause-event g c =
     let m : Content = record { client = c.args.client; number = c.args.number; payload = c.args.payload.now } in
     let old : Memory = memory_of c.self.inside.held in
     let some : 1 ≤ old.limits.n = (let low = c.self.invariant.node.0 in let high = c.self.invariant.node.1 in omega arith) in
@@ -21,8 +21,8 @@ returns-in-Ok g c =
     found-leads c.submitted.new.held (submits old.limits old.node m node) (submit_outcome old m) old (memory_of c.submitted.new.held) c.in-Ok.found (submit-says old m node s c.limits.ensures.rising some)
     c.in-Ok.ensures.outcome c.in-Ok.ensures.same c.in-Ok.ensures.wanted))
 
-pub returns-in-Err : goal.returns-in-Err
-returns-in-Err g c =
+pub returns-in-Err-clause-event : goal.returns-in-Err-clause-event
+returns-in-Err-clause-event g c =
     let m : Content = record { client = c.args.client; number = c.args.number; payload = c.args.payload.now } in
     let old : Memory = memory_of c.self.inside.held in
     let some : 1 ≤ old.limits.n = (let low = c.self.invariant.node.0 in let high = c.self.invariant.node.1 in omega arith) in

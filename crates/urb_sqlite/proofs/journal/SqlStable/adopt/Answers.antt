@@ -1,8 +1,10 @@
-use Rattle.std.proofs.Common.{◌≡◌, ◌+◌, length, subst, rules}
+use Rattle.std.proofs.Common.{◌≡◌, ◌+◌, length, ap, ◌∙◌, subst, rules}
 use Rattle.sqlite.specs.Held.{state}
 use Rattle.urb_sqlite.specs.OpenJournal.{IsKept}
 use Rattle.urb_sqlite.proofs.KeepLemmas.{earlier_clean, stops_now}
 use Rattle.urb_sqlite.proofs.CreateLemmas.{honest_and_empty, honest_and_read, kept_after_read, counted_empty}
+use Rattle.sqlite.specs.Effect.{Database}
+use Rattle.urb_sqlite.specs.Shape.{has_table}
 use Rattle.urb_sqlite.proofs.journal.SqlStable.adopt.Goals as goal
 
 pub invariant_of-result : goal.invariant_of-result
@@ -39,3 +41,6 @@ returns-in-Err-read-clause-rowless g c clean has =
     let new = state g.S.Store c.read.new.conn in
     let made = c.in_default.ensures.fresh (earlier_clean mid new c.read.ensures.stop.clean clean) has in
     c.in-Err-read.ensures.sound clean made.0 1 (counted_empty mid.now.trees made.1)
+
+pub returns-in-Ok-clause-table : goal.returns-in-Ok-clause-table
+returns-in-Ok-clause-table g c clean = ap (λ (d : Database). has_table d.schema) (c.in-Ok.ensures.same clean).0.now_is ∙ c.in_default.ensures.table

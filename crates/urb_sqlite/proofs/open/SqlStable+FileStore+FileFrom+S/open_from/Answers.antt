@@ -1,7 +1,8 @@
 use Rattle.sqlite.specs.State.{HasCleanDisk}
 use Rattle.sqlite.specs.Files.{file_state}
+use Rattle.sqlite_wal.specs.Files.{image_at}
 use Rattle.urb_sqlite.proofs.KeepLemmas.{earlier_clean}
-use Rattle.urb_sqlite.proofs.SchemaLemmas.{finds_journal}
+use Rattle.urb_sqlite.proofs.SchemaLemmas.{finds_journal, finds_nothing}
 use Rattle.urb_sqlite.proofs.open.SqlStable+FileStore+FileFrom+S.open_from.Goals as goal
 
 pub returns-in-Ok-adopt-clause-found : goal.returns-in-Ok-adopt-clause-found
@@ -12,3 +13,12 @@ returns-in-Ok-adopt-clause-found g c clean db holds sound =
     let opened = c.in-Ok.ensures.opened early in
     let found = c.in-Ok.ensures.found early in
     finds_journal conn now db opened.1 opened.0 (found.holds db holds) sound (c.in-Ok-adopt.ensures.found clean)
+
+pub returns-in-Ok-adopt-clause-fresh : goal.returns-in-Ok-adopt-clause-fresh
+returns-in-Ok-adopt-clause-fresh g c clean none =
+    let conn = file_state c.in-Ok.conn in
+    let now = file_state c.in-Ok-adopt.journal.conn in
+    let early : HasCleanDisk conn = earlier_clean conn now c.in-Ok-adopt.ensures.stop.clean clean in
+    let opened = c.in-Ok.ensures.opened early in
+    let found = c.in-Ok.ensures.found early in
+    c.in-Ok-adopt.ensures.fresh clean (finds_nothing conn (image_at g.S.Start) opened.1 opened.0 none found.reads)

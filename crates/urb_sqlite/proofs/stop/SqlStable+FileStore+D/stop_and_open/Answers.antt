@@ -5,7 +5,7 @@ use Rattle.sqlite.specs.State.{HasCleanDisk}
 use Rattle.sqlite.specs.Held.{Held}
 use Rattle.sqlite.specs.Files.{file_state}
 use Rattle.urb_sqlite.specs.OpenJournal.{LeavesOnly}
-use Rattle.urb_sqlite.proofs.StopLemmas.{found_again, honest_again, same_again, one_again, both_ok, crashed, store_was_clean}
+use Rattle.urb_sqlite.proofs.StopLemmas.{found_again, honest_again, same_again, one_again, both_ok, contents_again, crashed, store_was_clean}
 use Rattle.urb_sqlite.proofs.stop.SqlStable+FileStore+D.stop_and_open.Goals as goal
 
 pub returns-clause-clean : goal.returns-clause-clean
@@ -38,3 +38,8 @@ returns-clause-found g c =
     (subst (λ (conn : Held _). LeavesOnly (file_state conn) (λ left. (left ≡ records) ⊎ (left ≡ records ++ r ∷ []))) (sym c.into_connection.ensures) leaves) in
     (honest_again (file_state again.conn) clean (∥∥₁_map got (λ x. x.0)), one_again _ records r (∥∥₁_map got (λ x. x.1))))
     (both_ok c.open_files.result _ _ c.open_files.ensures.clean c.open_files.ensures.found)
+
+pub returns-clause-left : goal.returns-clause-left
+returns-clause-left g c =
+    IfOk-weaker c.open_files.result _ _ (λ again both clean certain doubtful. contents_again (file_state c.args.self.conn) (file_state again.conn) certain doubtful (both.0 clean) (both.1 clean))
+    (both_ok c.open_files.result _ _ (returns-clause-kept g c) (returns-clause-found g c))

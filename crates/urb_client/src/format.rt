@@ -1,0 +1,64 @@
+//! The numbers of the format: lengths, opcodes, and the codes of faults.
+
+/// The greatest length that a request's frame may have.
+pub const LONGEST_REQUEST: usize = 1200;
+
+/// The greatest length that a frame can have: its two bytes say no more.
+pub const LONGEST_FRAME: usize = 65_535;
+
+/// The greatest number of entries that are asked for and answered at once.
+pub const MOST_ENTRIES: usize = 8;
+
+/// The bytes of a submit between its opcode and its payload: a client and a number.
+pub const SUBMIT_HEAD: usize = 6;
+
+/// The bytes of a read after its opcode: a place, and how many entries at most.
+pub const READ_FIELDS: usize = 5;
+
+/// The bytes of an entry before its payload.
+pub const ENTRY_HEAD: usize = 13;
+
+/// The opcode of a submit.
+pub const ASK_SUBMIT: u8 = 1;
+
+/// The opcode of a read.
+pub const ASK_READ: u8 = 2;
+
+/// The opcode of a question for the node's state.
+pub const ASK_STATUS: u8 = 3;
+
+/// The opcode of a crash.
+pub const ASK_CRASH: u8 = 4;
+
+/// The opcode of a restart.
+pub const ASK_RESTART: u8 = 5;
+
+/// The opcode of an acceptance.
+pub const SAY_ACCEPTED: u8 = 0x81;
+
+/// The opcode of entries.
+pub const SAY_ENTRIES: u8 = 0x82;
+
+/// The opcode of a node's state.
+pub const SAY_STATUS: u8 = 0x83;
+
+/// The opcode of an answer that says only that it is done.
+pub const SAY_DONE: u8 = 0x84;
+
+/// The opcode of a refusal.
+pub const SAY_REFUSED: u8 = 0xee;
+
+/// The code of a length of 0, or over that of the longest request.
+pub const BAD_LENGTH: u8 = 1;
+
+/// The code of an opcode that no request has.
+pub const UNKNOWN_OPCODE: u8 = 2;
+
+/// The code of a length that the opcode doesn't have.
+pub const WRONG_LENGTH: u8 = 3;
+
+/// The code of a value outside its range.
+pub const BAD_VALUE: u8 = 4;
+
+/// The code of an input that ends inside a frame.
+pub const CUT: u8 = 5;

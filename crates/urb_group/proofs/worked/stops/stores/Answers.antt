@@ -1,0 +1,20 @@
+use Rattle.std.proofs.Common.{List, Some, [], ◌∷◌, ◌≡◌, refl}
+use Rattle.urb_stable.specs.Entries.{Entry}
+use Rattle.urb_stable.specs.Memory.{after_failure, empty_memory}
+use Rattle.urb_group.specs.Examples.{pending}
+use Rattle.urb_group.proofs.worked.stops.stores.Goals as goal
+
+-- the one record, and none
+one : List Entry
+one = pending 1 1 ∷ []
+
+pub returns-clause-shut_inside_a_call : goal.returns-clause-shut_inside_a_call
+returns-clause-shut_inside_a_call c leaves = leaves 0 empty_memory (after_failure (Some (pending 1 1)) empty_memory) refl refl refl tt
+
+pub returns-clause-a_record_that_the_node_lacks : goal.returns-clause-a_record_that_the_node_lacks
+unfolding one
+returns-clause-a_record_that_the_node_lacks c left = let lost : one ≡ [] = left.may one (left.only one refl) in cc
+
+pub returns-clause-no_record_where_the_node_has_one : goal.returns-clause-no_record_where_the_node_has_one
+unfolding one
+returns-clause-no_record_where_the_node_has_one c left = let lost : [] ≡ one = left.may [] (left.only [] refl) in cc

@@ -1,0 +1,85 @@
+//! What the nodes of a group have delivered, for readers of their logs: laws, each as the contract of a function that
+//! does nothing, and what every group promises.
+
+ghost use Rattle.std.specs.Prelude.{◌≡◌, ◌≢◌, ◌+◌, ℕ, length, map};
+ghost use Rattle.urb_names.specs.Beginnings.{Begins};
+ghost use Rattle.urb_names.specs.Naming.{IsLimits};
+ghost use Rattle.urb_node.specs.Replies.{Done, Stored};
+ghost use Rattle.urb_stable.specs.Entries.{Entry};
+ghost use Rattle.urb_stable.specs.Log.{entries, log};
+ghost use Rattle.urb_group.specs.Calls.{Steps};
+ghost use Rattle.urb_group.specs.Delivering.{Agree, Follows, StoresNothing, delivered_at, event_node, known};
+ghost use Rattle.urb_group.specs.Shown.{GroupView, IsSound, Shows};
+ghost use Rattle.urb_group.specs.Step.{Commit, Event, step};
+ghost use Rattle.urb_group.specs.World.{World, stored};
+
+use crate::{Config, Group};
+use std::alloc::Allocator;
+
+/// What a sound group holds of a node's deliveries is what every world that it shows has of them: the names of the node's
+/// log, each with its message. So two worlds that one group shows have the same.
+pub fn a_group_holds_what_its_worlds_deliver()
+    ensures held { (group : GroupView) (w : World) (p : ℕ) →
+        IsSound group → Shows group w → map known (delivered_at group p) ≡ entries (stored w p) }
+    ensures alike { (group : GroupView) (v w : World) (p : ℕ) →
+        IsSound group → Shows group v → Shows group w → entries (stored v p) ≡ entries (stored w p) }
+{}
+
+/// An event leaves the other nodes as they are; and only a receipt and a restart store a record, so that a submit, an
+/// arrival, a tick, a failed store and a crash leave every node's records, and with them its log.
+pub fn an_event_changes_one_node()
+    ensures others { (w : World) (event : Event) (q : ℕ) →
+        event_node event ≢ q → (step w event).1.node q ≡ w.node q }
+    ensures nothing { (w : World) (event : Event) (q : ℕ) →
+        StoresNothing event → stored (step w event).1 q ≡ stored w q }
+{}
+
+/// With a stored record the node's log grows by as many names as are told to be released.
+pub fn a_log_grows_by_what_is_released()
+    ensures { (w : World) (p position : ℕ) (entry : Entry) (done : Done) →
+        (step w (Commit p position entry)).0 ≡ Stored done →
+        length (log (stored (step w (Commit p position entry)).1 p)) ≡ length (log (stored w p)) + done.released }
+{}
+
+/// What a sound group's nodes have delivered only grows at its end: with an event that of its node alone, with one that
+/// stores nothing that of none, and with a stored record by as many as are told to be released.
+pub fn deliveries_only_grow()
+    ensures grow { (old new : GroupView) (event : Event) (p : ℕ) →
+        IsSound old → Follows old event new → Begins (delivered_at old p) (delivered_at new p) }
+    ensures others { (old new : GroupView) (event : Event) (p : ℕ) →
+        IsSound old → Follows old event new → event_node event ≢ p →
+        delivered_at new p ≡ delivered_at old p }
+    ensures nothing { (old new : GroupView) (event : Event) (p : ℕ) →
+        IsSound old → Follows old event new → StoresNothing event →
+        delivered_at new p ≡ delivered_at old p }
+    ensures released { (old new : GroupView) (p position : ℕ) (entry : Entry) (done : Done) →
+        IsSound old → Steps old (Commit p position entry) (λ reply. reply ≡ Stored done) new →
+        length (delivered_at new p) ≡ length (delivered_at old p) + done.released }
+{}
+
+/// What the nodes of a sound group have delivered agrees (uniform agreement and FIFO order of the logs, sections 3.7 and
+/// 3.9 of the book), and is short, since each of seven senders has at most a million names.
+pub fn deliveries_agree()
+    ensures { (group : GroupView) → IsSound group → IsLimits group.size → Agree (delivered_at group) }
+{}
+
+impl<A: Allocator + Copy> Group<A> {
+    /// How many nodes the group has, and how many messages each may broadcast.
+    pub fn config(&self) -> Config
+        ensures { result ≡ self.now.size }
+    {
+        self.config
+    }
+
+    /// That every group's size is within its limits, and that what its nodes have delivered agrees: for proofs alone,
+    /// since it does nothing.
+    pub fn deliveries(&self)
+        ensures limits { IsLimits self.now.size }
+        ensures counted { length self.now.nodes ≡ self.now.size.n }
+        ensures sound { IsSound self.now }
+        ensures agree { Agree (delivered_at self.now) }
+    {
+        let _n = self.config.n();
+        let _cap = self.config.cap();
+    }
+}

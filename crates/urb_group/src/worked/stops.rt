@@ -1,0 +1,42 @@
+//! What a stop of the process may leave of a node's storage.
+ghost use Rattle.std.specs.Prelude.{[], ◌∷◌, None, Some};
+ghost use Rattle.urb_stable.specs.Memory.{after_failure, empty_memory, with_record};
+ghost use Rattle.urb_stable.specs.declared.record.Record.TheVariants.{Pend, PendCert};
+ghost use Rattle.urb_node.specs.Part.{Ready, Storing, Down};
+ghost use Rattle.urb_group.specs.InMemory.{in_memory};
+ghost use Rattle.urb_group.specs.Stocked.{HoldsOf, IsStoreOf, LeavesOf, StopLeaves};
+ghost use Rattle.urb_group.specs.Stopping.{MayLeave};
+ghost use Rattle.urb_group.specs.Examples.{pending, certified, node_in, shut_by_failures, world_of};
+
+/// The stored records, with or without the one that is held or in doubt.
+pub fn left()
+    ensures stored_by_a_ready_node { MayLeave (node_in Ready (pending 1 1 ∷ [])) (pending 1 1 ∷ []) }
+    ensures without_the_held_one { MayLeave (node_in (Storing (pending 1 2) None) (pending 1 1 ∷ [])) (pending 1 1 ∷ []) }
+    ensures with_the_held_one { MayLeave (node_in (Storing (pending 1 2) None) (pending 1 1 ∷ [])) (pending 1 1 ∷ pending 1 2 ∷ []) }
+    ensures without_the_doubtful_one { MayLeave (node_in (Down (Some (pending 1 2))) (pending 1 1 ∷ [])) (pending 1 1 ∷ []) }
+    ensures with_the_doubtful_one { MayLeave (node_in (Down (Some (pending 1 2))) (pending 1 1 ∷ [])) (pending 1 1 ∷ pending 1 2 ∷ []) }
+    ensures stored_by_a_node_that_is_down { MayLeave (node_in (Down None) (pending 1 1 ∷ [])) (pending 1 1 ∷ []) }
+    ensures taken_before_its_commit { HoldsOf (in_memory (Unit {0})) (node_in (Storing (pending 1 1) (Some 2)) []) (with_record (pending 1 1) empty_memory) }
+{}
+
+/// Nothing else: no record is lost, none is made up, and none comes before another.
+pub fn never_left()
+    ensures less_of_a_ready_node { MayLeave (node_in Ready (pending 1 1 ∷ [])) [] → ⊥ }
+    ensures more_of_a_ready_node { MayLeave (node_in Ready []) (pending 1 1 ∷ []) → ⊥ }
+    ensures the_held_one_alone { MayLeave (node_in (Storing (pending 1 2) None) (pending 1 1 ∷ [])) (pending 1 2 ∷ []) → ⊥ }
+    ensures the_held_one_before { MayLeave (node_in (Storing (pending 1 2) None) (pending 1 1 ∷ [])) (pending 1 2 ∷ pending 1 1 ∷ []) → ⊥ }
+    ensures another_than_the_held_one { MayLeave (node_in (Storing (pending 1 2) None) (pending 1 1 ∷ [])) (pending 1 1 ∷ certified 1 2 ∷ []) → ⊥ }
+    ensures the_held_one_twice { MayLeave (node_in (Storing (pending 1 2) None) (pending 1 1 ∷ [])) (pending 1 1 ∷ pending 1 2 ∷ pending 1 2 ∷ []) → ⊥ }
+    ensures more_where_none_is_in_doubt { MayLeave (node_in (Down None) (pending 1 1 ∷ [])) (pending 1 1 ∷ pending 1 2 ∷ []) → ⊥ }
+{}
+
+/// What stores leave: of one that a failure shut in a call, and of one at rest, what its node may leave; and no store leaves
+/// what is none of its node's.
+pub fn stores()
+    ensures shut_inside_a_call { StopLeaves shut_by_failures (world_of (node_in (Storing (pending 1 1) None) [])) (empty_memory ∷ []) (after_failure (Some (pending 1 1)) empty_memory ∷ [])
+        → LeavesOf shut_by_failures (node_in (Storing (pending 1 1) None) []) (after_failure (Some (pending 1 1)) empty_memory) }
+    ensures at_rest { IsStoreOf shut_by_failures (node_in Ready (pending 1 1 ∷ [])) (with_record (pending 1 1) empty_memory)
+        → LeavesOf shut_by_failures (node_in Ready (pending 1 1 ∷ [])) (with_record (pending 1 1) empty_memory) }
+    ensures a_record_that_the_node_lacks { LeavesOf shut_by_failures (node_in Ready []) (with_record (pending 1 1) empty_memory) → ⊥ }
+    ensures no_record_where_the_node_has_one { LeavesOf shut_by_failures (node_in Ready (pending 1 1 ∷ [])) empty_memory → ⊥ }
+{}

@@ -1,0 +1,10 @@
+pub mod Prefixes
+pub mod Adding
+pub mod Places
+pub mod Rising
+pub mod Beginnings
+pub mod Agreement
+pub mod GroupLists
+pub mod Telling
+pub mod Preparing
+pub mod Settling

@@ -1,0 +1,11 @@
+pub mod Lists
+pub mod Housed
+pub mod Prepared
+pub mod Known
+pub mod Pages
+pub mod Faults
+pub mod Statuses
+pub mod History
+pub mod Applied
+pub mod Rising
+pub mod Examples

@@ -1,0 +1,43 @@
+-- Lists of entries, one for each node: when they begin others, when they agree, and those of a group.
+use Rattle.std.specs.Prelude.{List, [], map, slice_index_or, suc, zero, ℕ, ◌++◌, ◌∷◌}
+use Rattle.urb_names.specs.Beginnings.{Begins as IsBeginning}
+use Rattle.urb_group.specs.Delivering.{Agree as AgreeAll, Delivery, deliveries}
+use Rattle.urb_group.specs.Shown.{GroupView}
+use Rattle.urb_show.specs.declared.entry.Entry.{Entry}
+
+-- a list of entries for each of the nodes 1, 2, ..
+abbrev pub Lists : Type 0
+Lists = List (List Entry)
+
+-- the list at a place, which is a node's number less one
+abbrev pub list_at : Lists → ℕ → List Entry
+list_at lists place = slice_index_or lists place []
+
+-- node by node, the first list is a beginning of the second; no lists begin all
+abbrev pub Begins : Lists → Lists → Type 0
+Begins [] ys = Unit {0}
+Begins (x ∷ xs) [] = ⊥
+Begins (x ∷ xs) (y ∷ ys) = IsBeginning x y × Begins xs ys
+
+-- an entry, as what a group has delivered
+abbrev pub delivery_of : Entry → Delivery
+delivery_of e = (e.name, e.message)
+
+-- In each list the numbers of each sender are 1, 2, 3, .. in order; of two lists' parts of one sender one begins the other;
+-- and each list has fewer than 2^32 entries.
+abbrev pub Agree : Lists → Type 0
+Agree lists = AgreeAll (λ place. map delivery_of (list_at lists place))
+
+-- what a group has delivered, as an entry
+abbrev pub entry_of : Delivery → Entry
+entry_of delivery = record { name = delivery.0; message = delivery.1 }
+
+-- what each node of a group has delivered, by what it holds in memory: the names of its log, each with its message
+abbrev pub lists_in : GroupView → Lists
+lists_in group = map (λ view. map entry_of (deliveries view)) group.nodes
+
+-- with one more entry behind the list at that place
+abbrev pub add_at : Lists → ℕ → Entry → Lists
+add_at [] place e = []
+add_at (x ∷ xs) zero e = (x ++ e ∷ []) ∷ xs
+add_at (x ∷ xs) (suc place) e = x ∷ add_at xs place e

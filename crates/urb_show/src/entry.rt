@@ -1,0 +1,43 @@
+//! Entries of a node's log, and pages of them.
+ghost use Rattle.std.specs.Prelude.{◌≡◌, IfOk};
+
+use std::alloc::Global;
+use urb_group::{Message, Name, NoMemory};
+
+/// A name that a node has delivered, and its message.
+#[derive(Debug, Drop)]
+pub struct Entry {
+    /// Which message it is: its sender, and its number among the sender's.
+    pub name: Name,
+    /// What the sender broadcast under this name.
+    pub message: Message,
+}
+
+impl Entry {
+    /// Another entry with the same content. Its memory comes from `alloc`.
+    pub(crate) fn copy(&self, alloc: Global) -> Result<Entry, NoMemory>
+        ensures { IfOk result (λ e. e ≡ self.now) }
+    {
+        let message = self.message.copy(alloc)?;
+        Ok(Entry {
+            name: self.name,
+            message,
+        })
+    }
+}
+
+/// Some entries of a node's published list.
+#[derive(Debug, Drop)]
+pub struct Page {
+    /// The entries, in the order of their delivery.
+    pub entries: Vec<Entry>,
+    /// How many entries the whole list had when it was read.
+    pub total: u32,
+}
+
+/// One more entry of a node, by the node's place.
+#[derive(Drop)]
+pub(crate) struct Addition {
+    pub(crate) place: usize,
+    pub(crate) entry: Entry,
+}

@@ -1,0 +1,164 @@
+//! A group that is opened for readers, before its house has a name.
+ghost use Rattle.std.specs.Prelude.{◌≡◌, ◌<◌, ◌≤◌, ◌*◌, ◌^◌, [], length, drop, map, All, MatchResult, IfOk};
+ghost use Rattle.urb_names.specs.Naming.{IsLimits};
+ghost use Rattle.urb_show.specs.Lists.{Agree, lists_in};
+ghost use Rattle.urb_show.specs.History.{issue_of};
+ghost use Rattle.urb_show.specs.Housed.{opened_house};
+
+use crate::book::{HouseName, Unnamed};
+use crate::delivered::entries_of;
+use crate::entry::Entry;
+use crate::house::House;
+use crate::press::{LogWriter, Press};
+use crate::published::Published;
+use crate::reader::LogReader;
+use crate::rule::Grows;
+use left_right::reader::Factory;
+use left_right::writer::Writer;
+use std::alloc::Global;
+use std::marker::{Brand, Model};
+use std::sync::Wait;
+use urb_group::{Group, NoMemory, NodeId, Refusal};
+
+// How many readers there are for each node.
+const READERS: usize = 4;
+
+/// A group with an open book, which is not published yet. `parts` gives it a name, and makes a house of it; it can't be
+/// dropped before: end it by `close`.
+pub struct Opened {
+    group: Group,
+    unnamed: Unnamed,
+}
+
+impl Model for Opened {
+    ghost use Rattle.urb_show.specs.Housed.{Named};
+
+    ghost Value = { Named };
+
+    ghost view = { λ o. record { group = o.group; book = o.unnamed.seen.book } };
+}
+
+impl House<Brand> {
+    /// Opens a group for readers. It takes no memory and is never refused: `Opened::parts` copies what is published.
+    pub fn open(group: Group) -> Result<Opened, (Group, Refusal)>
+        ensures { MatchResult result (λ opened. opened.group ≡ group) (λ _. ⊥) }
+    {
+        Ok(Opened {
+            group,
+            unnamed: Unnamed::new(),
+        })
+    }
+}
+
+impl Opened {
+    /// Ends it, and gives the group back. It takes no memory.
+    pub fn close(self) -> Group
+        ensures { result ≡ self.group }
+    {
+        let Opened { group, unnamed: _ } = self;
+        group
+    }
+
+    /// The house under its name, with all that its nodes have delivered published, and four readers for each node, those of
+    /// node 1 first. Each reader reads the lists of all nodes.
+    ///
+    /// `NoMemory`: what was opened comes back as it was.
+    pub fn parts<K: HouseName, R: Wait>(
+        self,
+        rt: &R,
+        alloc: Global,
+    ) -> Result<(House<K>, Vec<LogReader<K>>), (Opened, NoMemory)>
+        requires names { (self.book ≡ K.book) × (lists_in self.group ≡ K.base) }
+        ensures house { MatchResult result
+            (λ t. t.0 ≡ opened_house self.group K.base) (λ e. e.0 ≡ self) }
+        ensures readers { IfOk result (λ t. length t.1.items ≡ 4 * self.group.size.n) }
+        ensures known { IfOk result (λ t.
+            All (λ r. r ≡ record { seen = K.base; told = K.base }) t.1.items) }
+    {
+        let Opened { group, unnamed } = self;
+        group.deliveries();
+        let count = READERS * usize::from(group.config().n());
+        let Ok((writer, prepared)) = writer_of::<K>(alloc, &group, &unnamed, count) else {
+            return Err((Opened { group, unnamed }, NoMemory));
+        };
+        let factory = writer.factory();
+        let Ok(readers) = readers_of::<K>(alloc, &factory, &unnamed, count) else {
+            drop(writer.take(rt));
+            return Err((Opened { group, unnamed }, NoMemory));
+        };
+        let (book, front) = unnamed.parts::<K>();
+        let house = House {
+            group,
+            press: Press::new(book, front, writer),
+            prepared,
+            events: 0,
+        };
+        Ok((house, readers))
+    }
+}
+
+// The writer with two copies of the nodes' entries, and how long each list is.
+fn writer_of<K: HouseName>(
+    alloc: Global,
+    group: &Group,
+    unnamed: &Unnamed,
+    count: usize,
+) -> Result<(LogWriter<K>, Vec<usize>), NoMemory>
+    requires names { (unnamed.now.seen.book ≡ K.book) × (lists_in group.now ≡ K.base) }
+    requires count { (0 < count) × (count < 2 ^ 32) }
+    ensures { IfOk result (λ t.
+        (t.0.desk.shown.value ≡ issue_of K.book K.base [])
+        × (drop t.0.behind t.0.log.items ≡ [])
+        × (t.1.items ≡ map length K.base)) }
+{
+    group.deliveries();
+    let (first, prepared) = copy_lists(alloc, group)?;
+    let (second, _) = copy_lists(alloc, group)?;
+    let first = Published::new(first, unnamed.mark());
+    let second = Published::new(second, unnamed.mark());
+    let writer = Writer::new(alloc, first, second, count)?;
+    Ok((writer, prepared))
+}
+
+// Copies of all nodes' entries, and how many each node has.
+fn copy_lists(alloc: Global, group: &Group) -> Result<(Vec<Vec<Entry>>, Vec<usize>), NoMemory>
+    ensures { IfOk result (λ t.
+        (map (λ l. l.items) t.0.items ≡ lists_in group.now)
+        × (t.1.items ≡ map length (lists_in group.now))) }
+{
+    let mut lists = Vec::new(alloc);
+    let mut counts = Vec::new(alloc);
+    group.deliveries();
+    for place in 0..group.config().n() {
+        let node = NodeId::new(place + 1).unwrap();
+        let list = entries_of(alloc, group, node)?;
+        counts.reserve(1)?;
+        counts.push_reserved(list.len());
+        lists.reserve(1)?;
+        lists.push_reserved(list);
+    }
+    Ok((lists, counts))
+}
+
+// So many readers, which have seen the empty history.
+fn readers_of<K: HouseName>(
+    alloc: Global,
+    factory: &Factory<Published, u64, Grows<K>>,
+    unnamed: &Unnamed,
+    count: usize,
+) -> Result<Vec<LogReader<K>>, NoMemory>
+    requires { unnamed.now.seen.book ≡ K.book }
+    ensures count { IfOk result (λ v. length v.items ≡ count) }
+    ensures known { IfOk result (λ v.
+        All (λ r. r ≡ record { seen = K.base; told = K.base }) v.items) }
+{
+    let mut readers = Vec::new(alloc);
+    readers.reserve(count)?;
+    for i in 0..count {
+        let _ = i;
+        let reader = factory.reader()?;
+        readers.reserve(1)?;
+        readers.push_reserved(LogReader::new(reader, unnamed.mark().front::<K>()));
+    }
+    Ok(readers)
+}

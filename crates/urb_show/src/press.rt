@@ -1,0 +1,164 @@
+//! The writer's end: what was added to the history, how much of it the writer has, and how much is published.
+ghost use Rattle.std.specs.Prelude.{◌≡◌, [], ◌∷◌, ◌++◌, length, drop, MatchResult};
+ghost use mathlib.Core.List.{IsPrefix};
+ghost use Rattle.urb_show.specs.Lists.{Agree};
+ghost use Rattle.urb_show.specs.History.{lists_of, issue_of};
+
+use crate::book::{Book, Front, HouseName};
+use crate::entry::Addition;
+use crate::published::{Operation, Published};
+use crate::reader::Told;
+use crate::rule::{Grows, Sees};
+use left_right::writer::Writer;
+use std::marker::Model;
+use std::mem::replace;
+use std::sync::Wait;
+use urb_group::NoMemory;
+
+pub(crate) type LogWriter<K> = Writer<Published, Operation, u64, Grows<K>>;
+
+/// Contracts see three histories, each a beginning of the one before: all additions, those that the writer has, and those that are published.
+pub(crate) struct Press<K: HouseName> {
+    book: Book<K>,
+    all: Front<K>,
+    queued: Front<K>,
+    shown: Front<K>,
+    // The last addition, where the writer had no room for it.
+    kept: Option<Operation>,
+    writer: Option<LogWriter<K>>,
+}
+
+impl<K: HouseName> Model for Press<K> {
+    ghost use Rattle.std.specs.Prelude.{◌≡◌, [], ◌∷◌, ◌++◌, drop, fold};
+    ghost use Rattle.std.specs.Option.{IsSomeAnd, MatchOption};
+    ghost use mathlib.Core.List.{IsPrefix};
+    ghost use Rattle.urb_show.specs.History.{Pressed, issue_of, lists_of};
+    ghost use Rattle.urb_show.specs.Applied.{state_of, applied_to};
+    ghost use Rattle.urb_show.specs.Lists.{Agree};
+
+    ghost Value = { Pressed };
+
+    ghost view = { λ p. record { all = p.all; queued = p.queued; shown = p.shown } };
+
+    ghost invariant = { λ p.
+        IsPrefix p.shown p.queued
+        × Agree (lists_of K.base p.all)
+        × MatchOption p.kept (p.all ≡ p.queued) (λ op.
+        (p.all ≡ p.queued ++ op.addition ∷ []) × (op.mark ≡ record { book = K.book; log = p.all }))
+        × IsSomeAnd p.writer (λ w.
+        (w.desk.shown.value ≡ issue_of K.book K.base p.shown)
+        × (fold applied_to (state_of (issue_of K.book K.base p.shown)) (drop w.behind w.log.items)
+        ≡ state_of (issue_of K.book K.base p.queued))) };
+}
+
+impl<K: HouseName> Press<K> {
+    pub(crate) fn new(book: Book<K>, front: Front<K>, writer: LogWriter<K>) -> Press<K>
+        requires empty { front ≡ [] }
+        requires agree { Agree K.base }
+        requires writer { (writer.desk.shown.value ≡ issue_of K.book K.base [])
+            × (drop writer.behind writer.log.items ≡ []) }
+        ensures { result ≡ record { all = []; queued = []; shown = [] } }
+    {
+        let queued = front.again();
+        let shown = front.again();
+        Press {
+            book,
+            all: front,
+            queued,
+            shown,
+            kept: None,
+            writer: Some(writer),
+        }
+    }
+
+    /// Adds to the history. The writer gets it by `flush`.
+    pub(crate) fn add(&mut self, addition: Addition) -> Result<(), NoMemory>
+        requires flushed { self.old.queued ≡ self.old.all }
+        requires agree { Agree (lists_of K.base (self.old.all ++ addition ∷ [])) }
+        ensures { MatchResult result
+            (λ _. self.new ≡ record self.old { all = self.old.all ++ addition ∷ [] })
+            (λ _. self.new ≡ self.old) }
+    {
+        let mut all = self.all.again();
+        if !all.add(&self.book, &addition) {
+            return Err(NoMemory);
+        }
+        self.kept = Some(Operation {
+            addition,
+            mark: all.mark(),
+        });
+        self.all = all;
+        Ok(())
+    }
+
+    /// How many additions are published.
+    pub(crate) fn len(&self) -> u64
+        ensures length { result ≡ length self.now.shown }
+        ensures begins { IsPrefix self.now.shown self.now.all }
+    {
+        let _ = &self.kept;
+        self.shown.len()
+    }
+
+    /// Gives the writer what it lacks.
+    pub(crate) fn flush(&mut self) -> Result<(), NoMemory>
+        ensures { MatchResult result
+            (λ _. self.new ≡ record self.old { queued = self.old.all }) (λ _. self.new ≡ self.old) }
+    {
+        let Some(operation) = self.kept.take() else {
+            return Ok(());
+        };
+        let Some(writer) = &mut self.writer else {
+            unreachable!()
+        };
+        match writer.append(operation) {
+            Ok(()) => {
+                self.queued = self.all.again();
+                Ok(())
+            }
+            Err(operation) => {
+                self.kept = Some(operation);
+                Err(NoMemory)
+            }
+        }
+    }
+
+    /// Publishes all that was added. It waits for readers that still have the older copy.
+    pub(crate) fn publish<R: Wait>(&mut self, rt: &R) -> Result<Told<K>, NoMemory>
+        requires flushed { self.old.queued ≡ self.old.all }
+        ensures { MatchResult result
+            (λ told. (self.new ≡ record self.old { shown = self.old.all })
+            × (told ≡ lists_of K.base self.old.all))
+            (λ _. self.new ≡ self.old) }
+    {
+        let Some(writer) = self.writer.take() else {
+            unreachable!()
+        };
+        let (writer, done) = writer.publish_as::<Sees<K>, R>(rt);
+        match replace(&mut self.writer, Some(writer)) {
+            None => {}
+            Some(_other) => unreachable!(),
+        }
+        match done {
+            Ok(()) => {
+                self.shown = self.all.again();
+                Ok(Told::new(self.all.again()))
+            }
+            Err(_) => Err(NoMemory),
+        }
+    }
+
+    /// Ends it. It waits for the readers.
+    pub(crate) fn close<R: Wait>(self, rt: &R) {
+        let Press {
+            book: _,
+            all: _,
+            queued: _,
+            shown: _,
+            kept: _,
+            writer,
+        } = self;
+        let Some(writer) = writer else { unreachable!() };
+        drop(writer.take(rt));
+    }
+}

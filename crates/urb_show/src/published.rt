@@ -1,0 +1,166 @@
+//! The value that readers take: a list of entries for each node, and the history that they stand for.
+ghost use Rattle.std.specs.Prelude.{◌≡◌, ◌≤◌, ◌<◌, ◌^◌, length, [], ◌∷◌, ◌++◌, map, MatchResult, IfOk};
+ghost use Rattle.urb_show.specs.Lists.{Lists, Agree, add_at, list_at};
+ghost use Rattle.urb_show.specs.History.{Issue, issue_of};
+ghost use Rattle.urb_show.specs.Pages.{IsPageOf};
+
+use crate::book::Mark;
+use crate::entry::{Addition, Entry, Page};
+use left_right::Absorb;
+use std::alloc::{AllocError, Global};
+use std::marker::Model;
+use urb_group::NoMemory;
+
+/// A list of entries for each node, and the history that they stand for.
+#[derive(Drop)]
+pub(crate) struct Published {
+    lists: Vec<Vec<Entry>>,
+    mark: Mark,
+}
+
+impl Model for Published {
+    ghost use Rattle.std.specs.Prelude.{map};
+    ghost use Rattle.urb_show.specs.History.{Issue};
+
+    ghost Value = { Issue };
+
+    ghost view = { λ p. record { lists = map (λ l. l.items) p.lists.items; mark = p.mark } };
+}
+
+/// One more entry of a node, and the history with it.
+#[derive(Drop)]
+pub(crate) struct Operation {
+    pub(crate) addition: Addition,
+    pub(crate) mark: Mark,
+}
+
+/// What the two published copies have in common. No value of it is made.
+pub(crate) struct State {
+    pub(crate) lists: [[Entry; 0]; 0],
+    pub(crate) mark: Mark,
+}
+
+impl Absorb<Operation> for Published {
+    ghost use Rattle.urb_show.specs.Applied.{state_of, applied_to};
+
+    type State = State;
+
+    ghost state = { state_of };
+
+    ghost applied = { applied_to };
+
+    fn absorb_first(
+        &mut self,
+        operation: &Operation,
+        _other: &Published,
+    ) -> Result<(), AllocError> {
+        let Ok(copy) = operation.addition.entry.copy(*self.lists.allocator()) else {
+            return Err(AllocError);
+        };
+        if push_at(&mut self.lists, operation.addition.place, copy).is_err() {
+            return Err(AllocError);
+        }
+        self.mark = operation.mark.again();
+        Ok(())
+    }
+
+    fn absorb_second(&mut self, operation: Operation, _other: &Published) -> Result<(), Operation> {
+        let Operation { addition, mark } = operation;
+        let Addition { place, entry } = addition;
+        match push_at(&mut self.lists, place, entry) {
+            Ok(()) => {
+                self.mark = mark;
+                Ok(())
+            }
+            Err(entry) => Err(Operation {
+                addition: Addition { place, entry },
+                mark,
+            }),
+        }
+    }
+}
+
+// Puts an entry behind the list at that place, where there is one.
+fn push_at(lists: &mut Vec<Vec<Entry>>, place: usize, entry: Entry) -> Result<(), Entry>
+    ensures { MatchResult result
+        (λ _. map (λ l. l.items) lists.new.items ≡ add_at (map (λ l. l.items) lists.old.items) place entry)
+        (λ e. (e ≡ entry)
+        × (map (λ l. l.items) lists.new.items ≡ map (λ l. l.items) lists.old.items)) }
+{
+    if place >= lists.len() {
+        return Ok(());
+    }
+    push_entry(&mut lists[place], entry)
+}
+
+fn push_entry(list: &mut Vec<Entry>, entry: Entry) -> Result<(), Entry>
+    ensures { MatchResult result
+        (λ _. list.new.items ≡ list.old.items ++ entry ∷ [])
+        (λ e. (e ≡ entry) × (list.new.items ≡ list.old.items)) }
+{
+    match list.push(entry) {
+        Ok(()) => Ok(()),
+        Err(failed) => Err(failed.value),
+    }
+}
+
+impl Published {
+    pub(crate) fn new(lists: Vec<Vec<Entry>>, mark: Mark) -> Published
+        ensures { result ≡ record { lists = map (λ l. l.items) lists.items; mark = mark } }
+    {
+        Published { lists, mark }
+    }
+
+    /// The history that the lists stand for.
+    pub(crate) fn mark(&self) -> &Mark
+        ensures { result.now ≡ self.now.mark }
+    {
+        &self.mark
+    }
+
+    // A node's list.
+    fn list(&self, place: usize) -> &[Entry]
+        ensures { result.now ≡ list_at self.now.lists place }
+    {
+        match self.lists.get(place) {
+            Some(list) => list.as_slice(),
+            None => &[],
+        }
+    }
+
+    /// The entries of a node from the place `first`, which counts from 1, at most `max`.
+    pub(crate) fn page(
+        &self,
+        alloc: Global,
+        place: usize,
+        first: u32,
+        max: u8,
+    ) -> Result<Page, NoMemory>
+        requires first { 1 ≤ first }
+        requires agree { Agree self.now.lists }
+        ensures { IfOk result (λ p. IsPageOf (list_at self.now.lists place) first max p) }
+    {
+        let list = self.list(place);
+        let from = list.len().min(first as usize - 1);
+        let to = list.len().min(from + max as usize);
+        let entries = copy_all(alloc, &list[from..to])?;
+        Ok(Page {
+            entries,
+            total: list.len() as u32,
+        })
+    }
+}
+
+fn copy_all(alloc: Global, entries: &[Entry]) -> Result<Vec<Entry>, NoMemory>
+    ensures { IfOk result (λ v. v.items ≡ entries.now) }
+{
+    let mut copies = Vec::new(alloc);
+    copies.reserve(entries.len())?;
+    for entry in entries {
+        let copy = entry.copy(alloc)?;
+        if copies.push(copy).is_err() {
+            return Err(NoMemory);
+        }
+    }
+    Ok(copies)
+}

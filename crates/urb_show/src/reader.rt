@@ -1,0 +1,138 @@
+//! Readers of the published logs. They wait for nobody.
+ghost use Rattle.std.specs.Prelude.{◌≡◌, ◌⊎◌, ◌≤◌, ◌-◌, [], IfOk, IfErr, MatchResult, length};
+ghost use Rattle.urb_show.specs.Known.{Learns, Takes};
+ghost use Rattle.urb_show.specs.Lists.{Begins, list_at};
+ghost use Rattle.urb_show.specs.Pages.{IsPageOf};
+ghost use Rattle.urb_show.specs.Faults.{Leaves};
+ghost use Rattle.urb_show.specs.History.{lists_of};
+
+use crate::book::{Front, HouseName};
+use crate::entry::Page;
+use crate::published::Published;
+use crate::rule::{Grows, Sees};
+use left_right::reader::Reader;
+use std::alloc::Global;
+use std::marker::Model;
+use urb_group::NodeId;
+
+/// Why a read gave no page.
+#[derive(Clone, Copy, Debug, PartialEq, Eq)]
+pub enum ReadFault {
+    /// There was no memory for the page. Ask again.
+    NoMemory,
+    /// The house was closed: no later read gives a page.
+    Gone,
+}
+
+/// Reads the published lists of all nodes, on any thread, and waits for nobody. It holds none of them between two reads.
+///
+/// Contracts see the lists that it took last, and the longest that it learnt. So any two pages of one reader, of whatever
+/// nodes and moments, agree for each sender.
+#[derive(Drop)]
+pub struct LogReader<K: HouseName> {
+    reader: Option<Reader<Published, u64, Grows<K>>>,
+    seen: Front<K>,
+    told: Front<K>,
+}
+
+impl<K: HouseName> Model for LogReader<K> {
+    ghost use Rattle.std.specs.Prelude.{◌≤◌, length};
+    ghost use Rattle.std.specs.Option.{IsSomeAnd};
+    ghost use Rattle.urb_show.specs.History.{lists_of};
+    ghost use Rattle.urb_show.specs.Known.{Known};
+
+    ghost Value = { Known };
+
+    ghost view = { λ r. record { seen = lists_of K.base r.seen; told = lists_of K.base r.told } };
+
+    ghost invariant = { λ r. IsSomeAnd r.reader (λ it. length r.seen ≤ it.place.me.0.client) };
+}
+
+/// That lists were published, all those of one moment: who learns it reads no less from then on. It holds no list, so it is
+/// small, and goes through a channel; contracts see the lists.
+#[derive(Drop)]
+pub struct Told<K: HouseName> {
+    front: Front<K>,
+}
+
+impl<K: HouseName> Model for Told<K> {
+    ghost use Rattle.urb_show.specs.History.{lists_of};
+    ghost use Rattle.urb_show.specs.Lists.{Lists};
+
+    ghost Value = { Lists };
+
+    ghost view = { λ t. lists_of K.base t.front };
+}
+
+impl<K: HouseName> Told<K> {
+    pub(crate) fn new(front: Front<K>) -> Told<K>
+        ensures { result ≡ lists_of K.base front }
+    {
+        Told { front }
+    }
+}
+
+impl<K: HouseName> LogReader<K> {
+    pub(crate) fn new(reader: Reader<Published, u64, Grows<K>>, front: Front<K>) -> LogReader<K>
+        requires { front ≡ [] }
+        ensures { result ≡ record { seen = K.base; told = K.base } }
+    {
+        let told = front.again();
+        LogReader {
+            reader: Some(reader),
+            seen: front,
+            told,
+        }
+    }
+
+    /// Takes the published lists of one moment, and gives the entries of a node from the place `first`, which counts from 1,
+    /// at most `max` of them; none where the list is shorter.
+    ///
+    /// `NoMemory`: there was none for the page; ask again. `Gone`: the house was closed.
+    pub fn read(
+        &mut self,
+        alloc: Global,
+        node: NodeId,
+        first: u32,
+        max: u8,
+    ) -> Result<Page, ReadFault>
+        requires { (node ≤ length K.base) × (1 ≤ first) }
+        // the page is of lists that agree, and that begin with all that was seen and learnt
+        ensures page { IfOk result (λ p.
+            Takes self.old self.new × IsPageOf (list_at self.new.seen (node - 1)) first max p) }
+        // what a fault leaves
+        ensures refused { IfErr result (λ fault. Leaves fault self.old self.new) }
+    {
+        let Some(reader) = self.reader.take() else {
+            unreachable!()
+        };
+        let reading = match reader.enter_as::<Sees<K>>() {
+            Ok(reading) => reading,
+            Err(reader) => {
+                self.reader = Some(reader);
+                return Err(ReadFault::Gone);
+            }
+        };
+        let published = reading.get();
+        let front = published.mark().front::<K>().again_after(&self.seen);
+        if front.len() < self.told.len() {
+            self.reader = Some(reading.leave());
+            return Err(ReadFault::Gone);
+        }
+        let front = front.again_after(&self.told);
+        let page = published.page(alloc, usize::from(node.number() - 1), first, max);
+        self.reader = Some(reading.leave());
+        self.seen = front;
+        match page {
+            Ok(page) => Ok(page),
+            Err(_) => Err(ReadFault::NoMemory),
+        }
+    }
+
+    /// From now on it reads no less than this.
+    pub fn learn(&mut self, told: Told<K>)
+        ensures { Learns told self.old self.new }
+    {
+        self.told = self.told.longer(&told.front);
+    }
+}

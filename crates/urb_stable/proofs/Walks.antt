@@ -1,0 +1,81 @@
+-- Going through the records of one name, from the last one to the first.
+use Rattle.std.proofs.Common.{Bool, List, None, Option, Some, [], ap, arith, false, length, slice_get, subst, suc, sym, take, true, ℕ, ◌<◌, ◌||◌, ◌∙◌, ◌∷◌, ◌≡◌, ◌≤◌}
+use Rattle.std.proofs.lemmas.List.{take_all}
+use Rattle.std.specs.BTreeMap as tree
+use Rattle.urb_names.specs.Naming.{Content, Label}
+use Rattle.urb_names.specs.Pairs.{has_pair}
+use Rattle.urb_stable.proofs.Indexed.{none-has}
+use Rattle.urb_stable.specs.Entries.{Entry, name_of}
+use Rattle.urb_stable.specs.Indexes.{IsIndexOf, IsLast, by_name}
+use Rattle.urb_stable.specs.Records.{pend}
+use Rattle.urb_stable.specs.declared.index.Places.{Places}
+
+-- how many records are still to come at most
+abbrev pub left : Option ℕ → ℕ
+left None = 0
+left (Some k) = suc k
+
+-- the walk stands at the last pair of the name among the first n records
+pub record Stands (image : List Entry) (x : Label) (n : ℕ) (place : Option ℕ) : Type 0 where
+  pub within : n ≤ length image
+  pub last : IsLast image n x place
+
+pub stands-within : (image : List Entry) (x : Label) (n k : ℕ) → Stands image x n (Some k) → k < length image
+stands-within image x n k s = let below = s.last.below in let high = s.within in omega (arith, below, high)
+
+-- it begins at what the index has of the name
+pub stands-first : {A : Type 0} (image : List Entry) (x : Label) (index : Places A) (o : Option ℕ) → IsIndexOf image (length image) index → o ≡ tree.get by_name index.last x → Stands image x (length image) o
+stands-first image x index o h e = record { within = omega arith; last = subst (λ (p : Option ℕ). IsLast image (length image) x p) (sym e) (h.last x) }
+
+-- at a record of the name it begins before this one
+pub stands-before : {A : Type 0} (image : List Entry) (x : Label) (index : Places A) (k : ℕ) (r : Entry) (o : Option ℕ) → IsIndexOf image (length image) index → k < length image → slice_get image k ≡ Some r → name_of r ≡ x → slice_get index.before.items k ≡ Some o
+    → Stands image x k o
+stands-before image x index k r o h within here named found = record { within = omega (arith, within); last = subst (λ (y : Label). IsLast image k y o) named (h.before k r o here found) }
+
+-- a place of the walk has a record of the name
+same_some : {X : Type 0} (a b : X) (o : Option X) → o ≡ Some a → o ≡ Some b → a ≡ b
+same_some a b o e f = cc
+
+-- and goes on before each of them
+pub stands-next : {A : Type 0} (image : List Entry) (x : Label) (index : Places A) (n k : ℕ) (r : Entry) (o : Option ℕ) → IsIndexOf image (length image) index → Stands image x n (Some k) → slice_get image k ≡ Some r → slice_get index.before.items k ≡ Some o
+    → Stands image x k o
+stands-next image x index n k r o h s here found =
+    stands-before image x index k r o h (stands-within image x n k s) here (ap name_of (same_some r s.last.entry (slice_get image k) here s.last.here) ∙ s.last.named) found
+
+pub left-less : (image : List Entry) (x : Label) (k : ℕ) (o : Option ℕ) → Stands image x k o → left o < suc k
+left-less image x k None s = omega arith
+left-less image x k (Some j) s = let below = s.last.below in omega (arith, below)
+
+-- ---- a walk that looks for a pair
+
+-- the pair stands in the image exactly where it stands in what is to come
+abbrev pub Seeks : List Entry → Label → Content → Option ℕ → Type 0
+Seeks image x m place = (n : ℕ) × Stands image x n place × (has_pair (pend image) x m ≡ has_pair (pend (take n image)) x m)
+
+pub seeks-first : {A : Type 0} (image : List Entry) (x : Label) (m : Content) (index : Places A) (o : Option ℕ) → IsIndexOf image (length image) index → o ≡ tree.get by_name index.last x → Seeks image x m o
+seeks-first image x m index o h e = (length image, stands-first image x index o h e, ap (λ rs. has_pair (pend rs) x m) (sym (take_all (length image) image (omega arith))))
+
+seen : (image : List Entry) (x : Label) (m : Content) (n k : ℕ) (r : Entry) → Stands image x n (Some k) → slice_get image k ≡ Some r → has_pair (pend (take n image)) x m ≡ (has_pair (pend (take k image)) x m || has_pair (pend (r ∷ [])) x m)
+seen image x m n k r s here = s.last.pairs m ∙ ap (λ e. has_pair (pend (take k image)) x m || has_pair (pend (e ∷ [])) x m) (same_some s.last.entry r (slice_get image k) s.last.here here)
+
+pub seeks-found : (image : List Entry) (x : Label) (m : Content) (k : ℕ) (r : Entry) → Seeks image x m (Some k) → slice_get image k ≡ Some r → true ≡ has_pair (pend (r ∷ [])) x m → true ≡ has_pair (pend image) x m
+seeks-found image x m k r s here e = sym (s.2 ∙ (seen image x m s.0 k r s.1 here ∙ (ap (λ b. has_pair (pend (take k image)) x m || b) (sym e) ∙ at (has_pair (pend (take k image)) x m))))
+  where
+    at : (b : Bool) → (b || true) ≡ true
+    at true = cc
+    at false = cc
+
+pub seeks-next : {A : Type 0} (image : List Entry) (x : Label) (m : Content) (index : Places A) (k : ℕ) (r : Entry) (o : Option ℕ) → IsIndexOf image (length image) index → Seeks image x m (Some k) → slice_get image k ≡ Some r → false ≡ has_pair (pend (r ∷ [])) x m
+    → slice_get index.before.items k ≡ Some o → Seeks image x m o
+seeks-next image x m index k r o h s here e found = (
+  k,
+  stands-next image x index s.0 k r o h s.1 here found,
+  s.2 ∙ (seen image x m s.0 k r s.1 here ∙ (ap (λ b. has_pair (pend (take k image)) x m || b) (sym e) ∙ at (has_pair (pend (take k image)) x m))),
+)
+  where
+    at : (b : Bool) → (b || false) ≡ b
+    at true = cc
+    at false = cc
+
+pub seeks-end : (image : List Entry) (x : Label) (m : Content) → Seeks image x m None → false ≡ has_pair (pend image) x m
+seeks-end image x m s = sym (s.2 ∙ none-has (pend (take s.0 image)) x m s.1.last)

@@ -1,0 +1,115 @@
+//! An index of an image, by which each pair of it is found without going through the image.
+
+ghost use Rattle.std.specs.Prelude.{◌≡◌, ◌<◌, ◌+◌, length, IfOk};
+ghost use Rattle.urb_names.specs.Pairs.{has_pair};
+ghost use Rattle.urb_stable.specs.Indexes.{IsIndexOf};
+ghost use Rattle.urb_stable.specs.Records.{pend};
+
+use crate::Record;
+use crate::fitting::is_of_pair;
+use std::alloc::Allocator;
+use std::collections::BTreeMap;
+use std::marker::Model;
+use urb_names::{Message, Name, NoMemory};
+
+#[cfg(test)]
+mod tests;
+
+// Where the pairs of the first records of an image stand: the place of the last record of each name that has a message, and
+// for each record the place of the last one of its name before it. A name may stand twice in an image that doesn't fit.
+#[derive(Drop)]
+pub(crate) struct Places<A: Allocator> {
+    last: BTreeMap<Name, usize, A>,
+    before: Vec<Option<usize>, A>,
+}
+
+/// An index of an image: it finds a pair without going through all records.
+#[derive(Drop)]
+pub struct Index<'r, A: Allocator> {
+    image: &'r [Record<Message<A>>],
+    places: Places<A>,
+}
+
+impl<'r, A: Allocator> Model for Index<'r, A> {
+    ghost use Rattle.std.specs.Prelude.{List, length};
+    ghost use Rattle.urb_stable.specs.Entries.{Entry};
+    ghost use Rattle.urb_stable.specs.Indexes.{IsIndexOf};
+
+    ghost Value = { List Entry };
+
+    ghost view = { λ a. a.image.now };
+
+    ghost invariant = { λ a. IsIndexOf a.image.now (length a.image.now) a.places };
+}
+
+// One more record, at its place in the image.
+fn index_next<A: Allocator + Copy>(
+    index: &mut Places<A>,
+    image: &[Record<Message<A>>],
+    place: usize,
+) -> Result<(), NoMemory>
+    requires within { place < length image.now }
+    requires indexed { IsIndexOf image.now place index.old }
+    ensures { IfOk result (λ _. IsIndexOf image.now (place + 1) index.new) }
+{
+    let record = &image[place];
+    let name = record.name();
+    index.before.push(index.last.get(&name).copied())?;
+    match record {
+        Record::Pend(_, _) | Record::PendCert(_, _) => {
+            index.last.insert(name, place)?;
+        }
+        Record::Cert(_) => {}
+    }
+    Ok(())
+}
+
+// Whether a record of the image is of this pair: goes through the records of its name, from the last one on.
+fn finds<A: Allocator + Copy>(
+    places: &Places<A>,
+    image: &[Record<Message<A>>],
+    name: Name,
+    message: &Message<A>,
+) -> bool
+    requires { IsIndexOf image.now (length image.now) places.now }
+    ensures { result ≡ has_pair (pend image.now) name message.now }
+{
+    let mut place = places.last.get(&name).copied();
+    while let Some(at) = place {
+        if is_of_pair(&image[at], name, message) {
+            return true;
+        }
+        place = places.before[at];
+    }
+    false
+}
+
+impl<'r, A: Allocator + Copy> Index<'r, A> {
+    /// The index of an image. Its memory comes from `alloc`.
+    pub fn new(alloc: A, image: &'r [Record<Message<A>>]) -> Result<Index<'r, A>, NoMemory>
+        ensures { IfOk result (λ index. index ≡ image.now) }
+    {
+        let mut places = Places {
+            last: BTreeMap::new(alloc),
+            before: Vec::new(alloc),
+        };
+        for place in 0..image.len() {
+            index_next(&mut places, image, place)?;
+        }
+        Ok(Index { image, places })
+    }
+
+    /// The records of the image. Takes no memory.
+    pub fn records(&self) -> &[Record<Message<A>>]
+        ensures { result.now ≡ self.now }
+    {
+        self.image
+    }
+
+    /// Whether the image has a record of this pair. Takes no memory.
+    pub fn has(&self, name: Name, message: &Message<A>) -> bool
+        ensures { result ≡ has_pair (pend self.now) name message.now }
+    {
+        finds(&self.places, self.image, name, message)
+    }
+}

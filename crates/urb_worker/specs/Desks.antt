@@ -1,0 +1,83 @@
+-- What the desk of a running node answers.
+use Rattle.std.specs.Prelude.{List, if◌then◌else◌, None, Option, Some, drop, map, take, ℕ, ◌-◌, ◌≡◌, ◌⊎◌}
+use Rattle.std.specs.declared.alloc.Global.{Global}
+use Rattle.urb_names.specs.Naming.{Content, Label}
+use Rattle.urb_names.specs.Refusing.{detail_of, number_of}
+use Rattle.urb_client.specs.Requests.{Asked, Read}
+use Rattle.urb_client.specs.Responses.{Accepted, Done as IsDone, Listing, Refused, Said, Status as HasStatus}
+use Rattle.urb_client.specs.declared.response.NodeState.{NodeState}
+use Rattle.urb_client.specs.declared.response.NodeState.TheVariants as told
+use Rattle.urb_node.specs.declared.answer.Answer.TheVariants as answer
+use Rattle.urb_group.specs.declared.reply.Reply.{Reply}
+use Rattle.urb_group.specs.declared.reply.Reply.TheVariants as reply
+use Rattle.urb_group.specs.declared.state.State.{State}
+use Rattle.urb_group.specs.declared.state.State.TheVariants as state
+use Rattle.urb_show.specs.Known.{Known, Learns, Takes}
+use Rattle.urb_show.specs.Lists.{Lists, list_at}
+use Rattle.urb_show.specs.declared.entry.Entry.{Entry}
+use Rattle.urb_show.specs.declared.status.Status.{Status}
+
+-- a desk: its node, and what its reader knows
+pub record DeskView : Type 0 where
+  pub node : ℕ
+  pub known : Known
+
+-- a refusal of which nothing more is known, as where the worker or the House is gone: the node is down
+abbrev pub gone : Said
+gone = Refused 3 0
+
+-- a node's state, as clients are told it
+abbrev pub told_state : State → NodeState
+told_state state.Down = told.Down
+told_state state.Ready = told.Ready
+told_state state.Storing = told.Storing
+
+-- what a client is told of a reply: the number of its message, that it is done, or a refusal. The other replies come of no
+-- request.
+abbrev pub said_of : Reply Global → Said
+said_of (reply.Same (answer.Accepted x)) = Accepted x.seq
+said_of (reply.Same (answer.Noted x)) = gone
+said_of (reply.Same (answer.Again x)) = gone
+said_of (reply.Stored done) = if done.accepted then Accepted done.name.seq else gone
+said_of (reply.Refused r) = Refused (number_of r) (detail_of r)
+said_of (reply.WentDown p) = IsDone
+said_of (reply.Up p) = IsDone
+said_of (reply.Drafted x position) = gone
+said_of (reply.Sent packets) = gone
+
+-- what a client is told of a turn: how the node is, where that was asked, and else of its reply
+abbrev pub told_of : Reply Global → Option Status → Said
+told_of said (Some status) = HasStatus (told_state status.state) status.own status.logged
+told_of said None = said_of said
+
+-- an entry of a page, as clients are told it
+abbrev pub pair_of : Entry → Label × Content
+pair_of entry = (entry.name, entry.message)
+
+-- of a list the entries from this place on, at most so many
+abbrev pub part_of : List Entry → ℕ → ℕ → List (Label × Content)
+part_of list place max = map pair_of (take max (drop (place - 1) list))
+
+-- A read was answered: the lists of one moment were taken, and the desk's node's entries in them are told; or the House is gone.
+abbrev pub Reads : DeskView → ℕ → ℕ → Said → DeskView → Type 0
+Reads before place max said after =
+    (Takes before.known after.known × (said ≡ Listing (part_of (list_at after.known.seen (before.node - 1)) place max)))
+    ⊎ ((after.known ≡ before.known) × (said ≡ gone))
+
+-- what a turn told, if anything, was learnt
+abbrev pub LearnsTold : Option Lists → Known → Known → Type 0
+LearnsTold None before after = after ≡ before
+LearnsTold (Some lists) before after = Learns lists before after
+
+-- A turn of the worker came back with this reply, status and told lists, which were learnt before its reply was told; or none
+-- came back.
+abbrev pub Works : DeskView → Said → DeskView → Type 0
+Works before said after =
+    ((answered : Reply Global) × (status : Option Status) × (lists : Option Lists)
+    × LearnsTold lists before.known after.known × (said ≡ told_of answered status))
+    ⊎ ((after.known ≡ before.known) × (said ≡ gone))
+
+-- a desk answers a read by its reader alone, and all else by its node's worker
+abbrev pub AnswersAt : DeskView → Asked → Said → DeskView → Type 0
+AnswersAt before (Read place max) said after = (after.node ≡ before.node) × Reads before place max said after
+AnswersAt before asked said after = (after.node ≡ before.node) × Works before said after

@@ -1,0 +1,6 @@
+pub mod Jobs
+pub mod Counting
+pub mod Views
+pub mod Stages
+pub mod Turns
+pub mod Desks

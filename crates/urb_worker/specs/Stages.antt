@@ -1,0 +1,90 @@
+-- How far a turn is.
+use Rattle.std.specs.Prelude.{Bool, List, Result, Ok, Err, Option, Some, None, Vec, true, false, ℕ}
+use Rattle.std.specs.declared.alloc.Global.{Global}
+use Rattle.urb_names.specs.Carried.{Carried}
+use Rattle.urb_names.specs.declared.refusal.Refusal.{Refusal}
+use Rattle.urb_names.specs.declared.refusal.Refusal.TheVariants as refusal
+use Rattle.urb_stable.specs.Doubted.{Doubted}
+use Rattle.urb_stable.specs.Entries.{Entry}
+use Rattle.urb_stable.specs.Placed.{Placed}
+use Rattle.urb_stable.specs.Storing.{refusal_of}
+use Rattle.urb_stable.specs.declared.stable.StoreFault.{StoreFault}
+use Rattle.urb_node.specs.Replies.{Done}
+use Rattle.urb_group.specs.declared.reply.Reply.{Reply}
+use Rattle.urb_group.specs.declared.reply.Reply.TheVariants as reply
+use Rattle.urb_group.specs.declared.state.State.{State}
+use Rattle.urb_group.specs.declared.state.State.TheVariants as state
+use Rattle.urb_group.specs.declared.taken.Taken.{Taken}
+use Rattle.urb_group.specs.declared.taken.Taken.TheVariants as taken
+use Rattle.urb_show.specs.declared.status.Status.{Status}
+use Rattle.urb_worker.specs.declared.stages.Stage.{Stage}
+use Rattle.urb_worker.specs.declared.stages.Stage.TheVariants as stage
+
+-- whether a draft is to be kept
+abbrev pub is_drafted : Stage → Bool
+is_drafted (stage.Drafted draft) = true
+is_drafted _ = false
+
+-- whether the store has done its part: no draft is to be kept, and no image to be retrieved
+abbrev pub is_stored : Stage → Bool
+is_stored (stage.Drafted draft) = false
+is_stored stage.Retrieving = false
+is_stored _ = true
+
+-- ---- where a turn stands by what its first call answered
+
+-- a submit or an arrival: a draft is to be kept, or it is answered
+abbrev pub taken_stage : Result (Taken Global) Refusal → Stage
+taken_stage (Ok (taken.Same answer)) = stage.Answered (reply.Same answer)
+taken_stage (Ok (taken.Store draft)) = stage.Drafted draft
+taken_stage (Err r) = stage.Answered (reply.Refused r)
+
+-- a tick: its packets are the reply, or it is refused
+abbrev pub tick_stage : Result (List Carried) Refusal → Stage
+tick_stage (Ok packets) = stage.Answered (reply.Sent packets)
+tick_stage (Err r) = stage.Answered (reply.Refused r)
+
+-- a crash of p
+abbrev pub crash_stage : ℕ → Result (Unit {0}) Refusal → Stage
+crash_stage p (Ok done) = stage.Answered (reply.WentDown p)
+crash_stage p (Err r) = stage.Answered (reply.Refused r)
+
+-- ---- where it stands by what the store gave
+
+-- a draft was given to the store: it was taken, or the store answered a fault
+abbrev pub kept_stage : Result Placed Doubted → Stage
+kept_stage (Ok receipt) = stage.Kept receipt
+kept_stage (Err doubt) = stage.Doubtful doubt
+
+-- the store was asked for its records: it gave them, or answered a fault
+abbrev pub image_stage : Result (Vec Entry Global) StoreFault → Stage
+image_stage (Ok image) = stage.Retrieved image
+image_stage (Err fault) = stage.Unread fault
+
+-- ---- the reply of a turn by what its last call answered
+
+-- the record of the draft was stored; or the draft is no longer held
+abbrev pub commit_reply : Result Done (Placed × Refusal) → Reply Global
+commit_reply (Ok done) = reply.Stored done
+commit_reply (Err refused) = reply.Refused refusal.Stale
+
+-- the store answered this fault; or the draft is no longer held
+abbrev pub fail_reply : StoreFault → Result (Unit {0}) Refusal → Reply Global
+fail_reply fault (Ok done) = reply.Refused (refusal_of fault)
+fail_reply fault (Err r) = reply.Refused refusal.Stale
+
+-- a restart of p
+abbrev pub restart_reply : ℕ → Result (Unit {0}) Refusal → Reply Global
+restart_reply p (Ok done) = reply.Up p
+restart_reply p (Err r) = reply.Refused r
+
+-- p is down, or up
+abbrev pub state_reply : ℕ → State → Reply Global
+state_reply p state.Down = reply.WentDown p
+state_reply p state.Ready = reply.Up p
+state_reply p state.Storing = reply.Up p
+
+-- how p is; there is no such node
+abbrev pub status_reply : ℕ → Option Status → Reply Global
+status_reply p (Some status) = state_reply p status.state
+status_reply p None = reply.Refused refusal.BadNode

@@ -1,0 +1,135 @@
+-- What a turn does with the House and with its node's store.
+use Rattle.std.specs.Prelude.{Bool, Err, List, MatchOption, MatchResult, None, Ok, Option, Result, Vec, false, length, true, ℕ, ◌-◌, ◌≡◌, ltb}
+use Rattle.std.specs.declared.alloc.Global.{Global}
+use Rattle.urb_names.specs.Carried.{Carried}
+use Rattle.urb_names.specs.Packets.{packet_of}
+use Rattle.urb_names.specs.declared.refusal.Refusal.{Refusal}
+use Rattle.urb_stable.specs.Answering.{answer_of}
+use Rattle.urb_stable.specs.Doubted.{Doubted}
+use Rattle.urb_stable.specs.Entries.{Entry}
+use Rattle.urb_stable.specs.Placed.{Placed}
+use Rattle.urb_stable.specs.Storing.{refusal_of}
+use Rattle.urb_stable.specs.declared.stable.Stable.{Ghosts}
+use Rattle.urb_stable.specs.declared.stable.StoreFault.{StoreFault}
+use Rattle.urb_node.specs.Replies.{Done}
+use Rattle.urb_group.specs.Asked.{Gives, Keeps}
+use Rattle.urb_group.specs.Calls.{ComesUp, Commits, GoesDown, Takes, Ticks}
+use Rattle.urb_group.specs.Shown.{GroupView, view_of}
+use Rattle.urb_group.specs.Step.{Arrive, Crash, Fail, Restart, Submit, Tick}
+use Rattle.urb_group.specs.declared.reply.Reply.{Reply}
+use Rattle.urb_group.specs.declared.reply.Reply.TheVariants as reply
+use Rattle.urb_group.specs.declared.taken.Taken.{Taken}
+use Rattle.urb_show.specs.Housed.{Grew, Housed, IsEvent, Settled}
+use Rattle.urb_show.specs.Lists.{Lists}
+use Rattle.urb_show.specs.Statuses.{TellsStatus}
+use Rattle.urb_show.specs.declared.status.Status.{Status}
+use Rattle.urb_worker.specs.Counting.{count_of}
+use Rattle.urb_worker.specs.Jobs.{node_of}
+use Rattle.urb_worker.specs.Stages.{commit_reply, crash_stage, fail_reply, image_stage, kept_stage, restart_reply, status_reply, taken_stage, tick_stage}
+use Rattle.urb_worker.specs.Views.{FinishedView, TurnView}
+use Rattle.urb_worker.specs.declared.job.Job.{Job}
+use Rattle.urb_worker.specs.declared.job.Job.TheVariants as job
+use Rattle.urb_worker.specs.declared.stages.Stage.{Stage}
+use Rattle.urb_worker.specs.declared.stages.Stage.TheVariants as stage
+
+-- a call of the House: it counts as one event and publishes nothing; or it was refused, and nothing changed
+abbrev pub Counts : {T E : Type 0} → Result T E → Housed → Housed → Type 0
+Counts result old new = MatchResult result (λ done. IsEvent old new) (λ refused. new ≡ old)
+
+-- ---- before the store
+
+-- the job's event in the House, and where the turn stands after it and how many events it was; none for a restart, which has
+-- to ask the store first, and for a status
+abbrev pub Begins : Housed → Job → Housed → Stage → ℕ → Type 0
+Begins old (job.Submit p client number payload) new at events =
+    (r : Result (Taken Global) Refusal)
+    × Takes old.group p (Submit p (record { client = client; number = number; payload = payload.items })) r new.group
+    × Counts r old new × (at ≡ taken_stage r) × (events ≡ count_of r)
+Begins old (job.Arrive p bytes) new at events =
+    (r : Result (Taken Global) Refusal)
+    × Takes old.group p (Arrive p (packet_of bytes.items)) r new.group
+    × Counts r old new × (at ≡ taken_stage r) × (events ≡ count_of r)
+Begins old (job.Tick p) new at events =
+    (r : Result (List Carried) Refusal)
+    × Ticks old.group (Tick p) r new.group
+    × Counts r old new × (at ≡ tick_stage r) × (events ≡ count_of r)
+Begins old (job.Crash p) new at events =
+    (r : Result (Unit {0}) Refusal)
+    × GoesDown old.group p (Crash p) r new.group
+    × Counts r old new × (at ≡ crash_stage p r) × (events ≡ count_of r)
+Begins old (job.Restart p) new at events = (new ≡ old) × (at ≡ stage.Retrieving) × (events ≡ 0)
+Begins old (job.Status p) new at events = (new ≡ old) × (at ≡ stage.Asking) × (events ≡ 0)
+
+-- ---- the store's part
+
+-- what keeping a draft gave is of this draft
+abbrev pub IsKeptOf : Placed → Result Placed Doubted → Type 0
+IsKeptOf draft result = MatchResult result (λ receipt. receipt ≡ draft) (λ doubt. doubt.node ≡ draft.node)
+
+-- what retrieving gave, as its records
+abbrev pub records_of : Result (Vec Entry Global) StoreFault → Result (List Entry) StoreFault
+records_of (Ok image) = Ok image.items
+records_of (Err fault) = Err fault
+
+module _ {S A : Type 0} (g : Ghosts S A) where
+  -- a draft is kept, an image is retrieved, and in all other stages the store is not asked
+  abbrev pub Stores : S → Stage → S → Stage → Type 0
+  Stores before (stage.Drafted draft) after new =
+      (r : Result Placed Doubted) × IsKeptOf draft r × Keeps g before draft (answer_of r) after × (new ≡ kept_stage r)
+  Stores before stage.Retrieving after new =
+      (r : Result (Vec Entry Global) StoreFault) × Gives g before (records_of r) after × (new ≡ image_stage r)
+  Stores before (stage.Kept receipt) after new = (after ≡ before) × (new ≡ stage.Kept receipt)
+  Stores before (stage.Doubtful doubt) after new = (after ≡ before) × (new ≡ stage.Doubtful doubt)
+  Stores before (stage.Retrieved image) after new = (after ≡ before) × (new ≡ stage.Retrieved image)
+  Stores before (stage.Unread fault) after new = (after ≡ before) × (new ≡ stage.Unread fault)
+  Stores before stage.Asking after new = (after ≡ before) × (new ≡ stage.Asking)
+  Stores before (stage.Answered reply) after new = (after ≡ before) × (new ≡ stage.Answered reply)
+
+-- ---- after the store
+
+-- how many names node p has delivered
+abbrev pub logged : GroupView → ℕ → ℕ
+logged group p = length (view_of group p).log
+
+-- whether a receipt released names
+abbrev pub has_released : Result Done (Placed × Refusal) → Bool
+has_released (Ok done) = ltb 0 done.released
+has_released (Err refused) = false
+
+-- Where names of p were released, the House settled p, and this was told of it, or memory was refused to that. Else it
+-- stays, and nothing is told.
+abbrev pub Settles : Bool → ℕ → Housed → Housed → Option Lists → Type 0
+Settles true p before after told = MatchOption told (Grew (p - 1) before after) (λ lists. Settled (p - 1) before after lists)
+Settles false p before after told = (after ≡ before) × (told ≡ None)
+
+-- the last event in the House of a turn that stands so, and what comes of it: its reply, how the node is where that was
+-- asked, what was told of a settling, and how many events it was
+abbrev pub Ends : Housed → Job → Stage → Housed → Reply Global → Option Status → Option Lists → ℕ → Type 0
+Ends old job (stage.Kept receipt) new said status told events =
+    (r : Result Done (Placed × Refusal)) × (between : Housed)
+    × Commits old.group receipt r between.group × Counts r old between
+    × Settles (has_released r) receipt.node between new told
+    × (said ≡ commit_reply r) × (status ≡ None) × (events ≡ count_of r)
+Ends old job (stage.Doubtful doubt) new said status told events =
+    (r : Result (Unit {0}) Refusal)
+    × GoesDown old.group doubt.node (Fail doubt.node) r new.group × Counts r old new
+    × (said ≡ fail_reply doubt.fault r) × (status ≡ None) × (told ≡ None) × (events ≡ count_of r)
+Ends old job (stage.Retrieved image) new said status told events =
+    (r : Result (Unit {0}) Refusal) × (between : Housed)
+    × ComesUp old.group (node_of job) (Restart (node_of job) image.items) r between.group × Counts r old between
+    × Settles (ltb (logged old.group (node_of job)) (logged between.group (node_of job))) (node_of job) between new told
+    × (said ≡ restart_reply (node_of job) r) × (status ≡ None) × (events ≡ count_of r)
+Ends old job (stage.Unread fault) new said status told events =
+    (new ≡ old) × (said ≡ reply.Refused (refusal_of fault)) × (status ≡ None) × (told ≡ None) × (events ≡ 0)
+Ends old job stage.Asking new said status told events =
+    (new ≡ old) × TellsStatus old.group (node_of job) status
+    × (said ≡ status_reply (node_of job) status) × (told ≡ None) × (events ≡ 0)
+Ends old job (stage.Answered answer) new said status told events =
+    (new ≡ old) × (said ≡ answer) × (status ≡ None) × (told ≡ None) × (events ≡ 0)
+Ends old job (stage.Drafted draft) new said status told events = ⊥
+Ends old job stage.Retrieving new said status told events = ⊥
+
+-- the turn ends so, after the events that it was before
+abbrev pub Finishes : Housed → TurnView → Housed → FinishedView → Type 0
+Finishes old turn new finished =
+    Ends old turn.job turn.stage new finished.reply finished.status finished.told (finished.events - turn.events)

@@ -1,0 +1,148 @@
+//! The desk of a running node: it passes requests on to the node's worker, and reads by itself.
+
+ghost use Rattle.std.specs.Prelude.{◌≡◌, ◌≤◌, IfOk, length};
+ghost use Rattle.urb_client.specs.Responses.{said_by};
+ghost use Rattle.urb_worker.specs.Desks.{LearnsTold, Reads, Works, told_of};
+
+use crate::responses::{nobody, page_told, told};
+use crate::{Finished, Job, Ticket};
+use crossbeam_channel::{SendError, Sender};
+use std::alloc::Global;
+use std::marker::Model;
+use std::sync::Wait;
+use urb_client::{Desk, Request, Response};
+use urb_names::{NoMemory, NodeId};
+use urb_show::{HouseName, LogReader, ReadFault, Told};
+
+/// Answers the requests of clients at one node. It has a reader of its own, which learns what the worker tells: so a client
+/// that was told of a message reads it. One desk serves one session after another.
+#[derive(Drop)]
+pub struct NodeDesk<'a, K: HouseName, R: Wait> {
+    rt: &'a R,
+    alloc: Global,
+    node: NodeId,
+    line: &'a Sender<Ticket<K>>,
+    reader: LogReader<K>,
+}
+
+impl<'a, K: HouseName, R: Wait> Model for NodeDesk<'a, K, R> {
+    ghost use Rattle.std.specs.Prelude.{◌≤◌, length};
+    ghost use Rattle.urb_worker.specs.Desks.{DeskView};
+
+    ghost Value = { DeskView };
+
+    ghost view = { λ d. record { node = d.node; known = d.reader } };
+
+    ghost invariant = { λ d. d.node ≤ length K.base };
+}
+
+impl<'a, K: HouseName, R: Wait> NodeDesk<'a, K, R> {
+    /// The desk of a node, whose worker is at the other end of the line.
+    pub fn new(
+        rt: &'a R,
+        alloc: Global,
+        node: NodeId,
+        line: &'a Sender<Ticket<K>>,
+        reader: LogReader<K>,
+    ) -> NodeDesk<'a, K, R>
+        requires { node ≤ length K.base }
+        ensures { result ≡ record { node = node; known = reader } }
+    {
+        NodeDesk {
+            rt,
+            alloc,
+            node,
+            line,
+            reader,
+        }
+    }
+
+    // What comes of a job, from the worker; none where it is gone.
+    fn finished(&self, job: Job) -> Result<Option<Finished<K>>, NoMemory> {
+        let (to, from) = crossbeam_channel::bounded(self.alloc, 1)?;
+        let ticket = Ticket {
+            job,
+            answer: Some(to),
+        };
+        match self.line.send(self.rt, ticket) {
+            Ok(()) => Ok(from.recv(self.rt).ok()),
+            Err(SendError::Disconnected(_)) => Ok(None),
+            Err(SendError::OutOfMemory(_)) => Err(NoMemory),
+        }
+    }
+
+    // Learns what a turn told, if anything.
+    fn learn(&mut self, lists: Option<Told<K>>)
+        ensures node { self.new.node ≡ self.old.node }
+        ensures learnt { LearnsTold lists self.old.known self.new.known }
+    {
+        match lists {
+            Some(lists) => self.reader.learn(lists),
+            None => {}
+        }
+    }
+
+    // What is told of a turn, once what it told was learnt.
+    fn answered(&mut self, finished: Finished<K>) -> Response
+        ensures node { self.new.node ≡ self.old.node }
+        ensures learnt { LearnsTold finished.told self.old.known self.new.known }
+        ensures said { said_by result ≡ told_of finished.reply finished.status }
+    {
+        let (reply, status, lists) = finished.into_parts();
+        self.learn(lists);
+        told(&reply, status)
+    }
+
+    // Has the worker do a job, and learns what it tells.
+    fn work(&mut self, job: Job) -> Result<Response, NoMemory>
+        ensures { IfOk result (λ response. (self.new.node ≡ self.old.node) × Works self.old (said_by response) self.new) }
+    {
+        match self.finished(job)? {
+            Some(finished) => Ok(self.answered(finished)),
+            None => Ok(nobody()),
+        }
+    }
+
+    // Reads the node's published list.
+    fn read(&mut self, place: u32, max: u8) -> Result<Response, NoMemory>
+        requires { (1 ≤ place) × (max ≤ 8) }
+        ensures { IfOk result (λ response. (self.new.node ≡ self.old.node) × Reads self.old place max (said_by response) self.new) }
+    {
+        match self.reader.read(self.alloc, self.node, place, max) {
+            Ok(page) => page_told(self.alloc, page.entries),
+            Err(ReadFault::NoMemory) => Err(NoMemory),
+            Err(ReadFault::Gone) => Ok(nobody()),
+        }
+    }
+}
+
+impl<'a, K: HouseName, R: Wait> Desk for NodeDesk<'a, K, R> {
+    type Alloc = Global;
+
+    ghost use Rattle.urb_worker.specs.Desks.{AnswersAt};
+
+    ghost answers = { AnswersAt };
+
+    fn answer(&mut self, request: &Request) -> Result<Response, NoMemory> {
+        let node = self.node;
+        match request {
+            Request::Read { place, max } => self.read(*place, *max),
+            Request::Submit {
+                client,
+                number,
+                payload,
+            } => {
+                let payload = Vec::from_slice(self.alloc, payload.as_slice())?;
+                self.work(Job::Submit {
+                    node,
+                    client: *client,
+                    number: *number,
+                    payload,
+                })
+            }
+            Request::Status => self.work(Job::Status(node)),
+            Request::Crash => self.work(Job::Crash(node)),
+            Request::Restart => self.work(Job::Restart(node)),
+        }
+    }
+}

@@ -1,0 +1,103 @@
+//! The Hub: the lock round the House, and one job done under it.
+
+ghost use Rattle.std.specs.Prelude.{◌≡◌, ◌+◌, ◌<◌, ◌≤◌, ◌^◌, IfOk, IfErr, sum, vec_len};
+ghost use Rattle.urb_worker.specs.Counting.{count_after};
+ghost use Rattle.urb_worker.specs.Jobs.{runs_at};
+
+use crate::tallied::TalliedHouse;
+use crate::tally::{HubName, Tally};
+use crate::{Finished, Job};
+use std::alloc::Global;
+use std::sync::ledger::Blank;
+use std::sync::{Mutex, MutexGuard, Wait};
+use urb_names::{NoMemory, NodeId};
+use urb_show::{House, HouseName};
+use urb_stable::Stable;
+
+/// Is asked before a store is to keep a draft, while nobody is kept from the House: for tests that hold a store.
+pub trait Gate {
+    fn before_store(&self, node: NodeId);
+}
+
+/// A gate that is always open.
+#[derive(Clone, Copy, Debug, Drop)]
+pub struct OpenGate;
+
+impl Gate for OpenGate {
+    fn before_store(&self, _node: NodeId) {}
+}
+
+/// The House, lent to one worker at a time. It isn't `Drop`, as the House isn't: `close` ends it.
+pub struct Hub<K: HouseName, L: HubName> {
+    tallied: Mutex<TalliedHouse<K, L>>,
+}
+
+impl<K: HouseName, L: HubName> Hub<K, L> {
+    /// A Hub of the House, and a tally for each node's worker. Refused, the House comes back.
+    pub fn new(
+        alloc: Global,
+        house: House<K>,
+        blank: Blank,
+    ) -> Result<(Hub<K, L>, Vec<Tally<L>>), (House<K>, NoMemory)>
+        requires name { blank.name ≡ L.name }
+        requires parts { (blank.parts ≡ L.parts) × (L.parts ≡ house.group.size.n) }
+        requires start { house.events ≡ L.start }
+        ensures one_each { IfOk result (λ opened. vec_len opened.1 ≡ L.parts) }
+        ensures zero { IfOk result (λ opened. sum opened.1.items ≡ 0) }
+        ensures back { IfErr result (λ refused. refused.0 ≡ house) }
+    {
+        let nodes = house.config().n();
+        let Ok(mut tallies) = Vec::with_capacity(alloc, usize::from(nodes)) else {
+            return Err((house, NoMemory));
+        };
+        let (book, mut rest) = blank.open::<L>();
+        for _i in 0..nodes {
+            tallies.push_reserved(Tally::one(&mut rest));
+        }
+        let tallied = Mutex::new(TalliedHouse::new(house, book, rest));
+        Ok((Hub { tallied }, tallies))
+    }
+
+    /// Does one job at a node's worker, with the node's store. The House is lent for its two events alone: nobody is kept
+    /// from it while the store works.
+    pub fn work<S: Stable<Alloc = Global>, G: Gate, R: Wait>(
+        &self,
+        rt: &R,
+        alloc: Global,
+        node: NodeId,
+        job: Job,
+        store: &mut S,
+        gate: &G,
+        tally: Tally<L>,
+    ) -> (Finished<K>, Tally<L>)
+        ensures job { result.0.job ≡ job }
+        ensures ran { result.0.ran ≡ runs_at node job }
+        ensures tally { result.1 ≡ tally + result.0.events }
+    {
+        if !job.runs_at(node) {
+            return (Finished::misrouted(job), tally);
+        }
+        let mut tally = tally;
+        let mut tallied = self.tallied.lock(rt);
+        let turn = tallied.begin(alloc, job, &mut tally);
+        MutexGuard::unlock(tallied);
+        if turn.is_drafted() {
+            gate.before_store(node);
+        }
+        let turn = turn.store(alloc, store);
+        let mut tallied = self.tallied.lock(rt);
+        let finished = tallied.finish(rt, alloc, turn, &mut tally);
+        MutexGuard::unlock(tallied);
+        (finished, tally)
+    }
+
+    /// The House, once all workers have ended. It has counted the events that the tallies tell, up to its greatest count.
+    pub fn close(self, tallies: Vec<Tally<L>>) -> House<K>
+        requires { vec_len tallies ≡ L.parts }
+        ensures counted { result.events ≡ count_after (sum tallies.items) L.start }
+        ensures sum { L.start + sum tallies.items < 2 ^ 64 → result.events ≡ L.start + sum tallies.items }
+    {
+        let Hub { tallied } = self;
+        tallied.into_inner().close(tallies)
+    }
+}

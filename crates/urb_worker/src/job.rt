@@ -1,0 +1,57 @@
+//! What a worker is asked to do.
+
+ghost use Rattle.std.specs.Prelude.{◌≡◌};
+ghost use Rattle.urb_worker.specs.Jobs.{node_of, runs_at};
+
+use urb_names::{ClientId, NodeId};
+
+/// One thing that is to happen at a node, as a client, a link, a timer or an operator asks for it.
+#[derive(Debug, Drop)]
+pub enum Job {
+    /// A client sends a message to the node.
+    Submit {
+        node: NodeId,
+        client: ClientId,
+        number: u32,
+        payload: Vec<u8>,
+    },
+    /// Bytes come to the node, whatever they are.
+    Arrive {
+        node: NodeId,
+        bytes: Vec<u8>,
+    },
+    /// A timeout at the node.
+    Tick(NodeId),
+    /// The node stops, and loses what it has not stored. Any worker may do it.
+    Crash(NodeId),
+    /// The node, which is down, comes back with what its store gives.
+    Restart(NodeId),
+    /// How the node is. It is no event.
+    Status(NodeId),
+}
+
+impl Job {
+    /// The node at which it is to happen.
+    pub fn node(&self) -> NodeId
+        ensures { result ≡ node_of self.now }
+    {
+        match self {
+            Job::Submit { node, .. } => *node,
+            Job::Arrive { node, .. } => *node,
+            Job::Tick(node) => *node,
+            Job::Crash(node) => *node,
+            Job::Restart(node) => *node,
+            Job::Status(node) => *node,
+        }
+    }
+
+    /// Whether the worker of a node does the job: it is of this node, or a crash.
+    pub fn runs_at(&self, node: NodeId) -> bool
+        ensures { result ≡ runs_at node self.now }
+    {
+        match self {
+            Job::Crash(_) => true,
+            _ => self.node() == node,
+        }
+    }
+}

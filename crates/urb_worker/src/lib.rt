@@ -1,0 +1,53 @@
+//! Workers: a node's jobs, done on a House that threads share.
+//!
+//! A node has one worker, which has the node's store. It does its jobs in turns: an event of the House, then the store's part,
+//! then an event of the House with what came of the store. The House stands under the lock of a `Hub`, which is held for the
+//! two events and never while a store works, a packet is sent or an answer is given. So the stores of several nodes work at
+//! the same time. Each worker has a `Tally` of its events; with all tallies back, the Hub gives back a House that has counted
+//! just these events.
+//!
+//! How the calls go together, in a function that is generic over the names of the House and of the Hub, `K` and `L`:
+//!
+//! ```text
+//! let (hub, tallies) = Hub::<K, L>::new(alloc, house, blank)?;   // a tally for each node
+//! let (line, jobs) = crossbeam_channel::bounded(alloc, 64)?;     // for each node
+//! // on threads of their own:
+//! let tally = serve(rt, alloc, &hub, node, store, jobs, &link, &OpenGate, tally);   // until all lines are gone
+//! receive(rt, alloc, &stop, node, &socket, &line);               // a node's datagrams, until the stop is set
+//! timer(rt, &stop, 100, &lines);                                 // a tick at each node every 100 milliseconds
+//! let mut desk = NodeDesk::new(rt, alloc, node, &line, reader);  // for sessions of clients
+//! // at the end: set the stop, wake the receivers, let the lines go, join all
+//! let house = hub.close(tallies);
+//! ```
+//!
+//! No proof says that a thread runs, that a message comes or that a wait ends: tests show it. A worker waits for tickets and
+//! for the lock, the holder of the lock for readers that are in the midst of a read, and these for nobody.
+#![tactic(auto)]
+
+mod desk;
+mod hub;
+mod job;
+mod links;
+mod receiving;
+mod responses;
+mod serving;
+mod stages;
+mod stop;
+mod tallied;
+mod tally;
+mod ticking;
+mod turn;
+
+pub use desk::NodeDesk;
+pub use hub::{Gate, Hub, OpenGate};
+pub use job::Job;
+pub use links::{Link, MemoryLink, UdpLink};
+pub use receiving::receive;
+pub use serving::{Ticket, serve};
+pub use stop::Stop;
+pub use tally::{HubName, Tally};
+pub use ticking::timer;
+pub use turn::{Finished, Turn};
+
+#[cfg(test)]
+mod tests;

@@ -1,0 +1,77 @@
+//! Links: what carries packets to nodes.
+
+use std::alloc::Global;
+use std::net::{Ipv4Addr, UdpSocket};
+use std::sync::{Mutex, Wait};
+use urb_names::NodeId;
+
+/// Carries packets to nodes, as the book's fair-loss links do (section 2.4 of the book). It answers nothing: a packet that
+/// can't be sent is lost, for want of memory too, and a later tick sends it again.
+pub trait Link {
+    fn send(&self, target: NodeId, bytes: &[u8]);
+}
+
+/// Sends packets over UDP on this machine's loopback, each as one datagram.
+#[derive(Drop)]
+pub struct UdpLink {
+    socket: UdpSocket,
+    ports: Vec<u16>,
+}
+
+impl UdpLink {
+    /// A link from this socket. The ports are those at which the nodes 1, 2, .. receive.
+    pub fn new(socket: UdpSocket, ports: Vec<u16>) -> UdpLink {
+        UdpLink { socket, ports }
+    }
+}
+
+impl Link for UdpLink {
+    fn send(&self, target: NodeId, bytes: &[u8]) {
+        if let Some(port) = self.ports.get(usize::from(target.number()) - 1) {
+            let _ = self.socket.send_to(bytes, (Ipv4Addr::LOCALHOST, *port));
+        }
+    }
+}
+
+/// Puts packets into a mailbox in memory for each node: for tests, which empty them.
+#[derive(Drop)]
+pub struct MemoryLink<'a, R: Wait> {
+    rt: &'a R,
+    alloc: Global,
+    mailboxes: Vec<Mutex<Vec<Vec<u8>>>>,
+}
+
+impl<'a, R: Wait> MemoryLink<'a, R> {
+    /// A link to the nodes 1 to 7, whose mailboxes are empty. None where memory was refused.
+    pub fn new(rt: &'a R, alloc: Global) -> Option<MemoryLink<'a, R>> {
+        let mut mailboxes = Vec::with_capacity(alloc, 7).ok()?;
+        for _ in 0..7u8 {
+            mailboxes.push(Mutex::new(Vec::new(alloc))).ok()?;
+        }
+        Some(MemoryLink {
+            rt,
+            alloc,
+            mailboxes,
+        })
+    }
+
+    /// What was sent to a node since it was last asked, in the order of the sends.
+    pub fn empty(&self, node: NodeId) -> Vec<Vec<u8>> {
+        let mut sent = Vec::new(self.alloc);
+        if let Some(mailbox) = self.mailboxes.get(usize::from(node.number()) - 1) {
+            std::mem::swap(&mut *mailbox.lock(self.rt), &mut sent);
+        }
+        sent
+    }
+}
+
+impl<'a, R: Wait> Link for MemoryLink<'a, R> {
+    fn send(&self, target: NodeId, bytes: &[u8]) {
+        let Some(mailbox) = self.mailboxes.get(usize::from(target.number()) - 1) else {
+            return;
+        };
+        if let Ok(copy) = Vec::from_slice(self.alloc, bytes) {
+            let _ = mailbox.lock(self.rt).push(copy);
+        }
+    }
+}

@@ -1,0 +1,45 @@
+//! The receiver: a node's datagrams, handed to its worker.
+
+use crate::{Job, Stop, Ticket};
+use crossbeam_channel::Sender;
+use std::alloc::Global;
+use std::net::UdpSocket;
+use std::sync::Wait;
+use urb_names::NodeId;
+use urb_show::HouseName;
+
+// The room for a datagram: more than the longest packet, so that what is cut off was no packet.
+const ROOM: usize = 2048;
+
+// The arrival of these bytes at a node; none where memory was refused.
+fn arrival<K: HouseName>(alloc: Global, node: NodeId, bytes: &[u8]) -> Option<Ticket<K>> {
+    let bytes = Vec::from_slice(alloc, bytes).ok()?;
+    Some(Ticket {
+        job: Job::Arrive { node, bytes },
+        answer: None,
+    })
+}
+
+/// Hands the datagrams of a socket to a node's worker, until the stop is set. It looks at the stop after each datagram, so an
+/// empty one wakes it. It waits while the line has no room; a datagram for which memory is refused is lost.
+pub fn receive<K: HouseName, R: Wait>(
+    rt: &R,
+    alloc: Global,
+    stop: &Stop,
+    node: NodeId,
+    socket: &UdpSocket,
+    line: &Sender<Ticket<K>>,
+) {
+    let mut room = [0u8; ROOM];
+    for _ in rt.forever() {
+        let received = socket.recv_from(&mut room);
+        if stop.is_set() {
+            break;
+        }
+        if let Ok((count, _)) = received
+            && let Some(ticket) = arrival(alloc, node, &room[..count])
+        {
+            let _ = line.send(rt, ticket);
+        }
+    }
+}

@@ -1,0 +1,68 @@
+//! What clients are told of what came of their requests.
+
+ghost use Rattle.std.specs.Prelude.{◌≡◌, ◌≤◌, ◌++◌, IfOk, length, map};
+ghost use Rattle.urb_client.specs.Responses.{Listing, said_by};
+ghost use Rattle.urb_worker.specs.Desks.{gone, pair_of, said_of, told_of, told_state};
+
+use std::alloc::Global;
+use urb_client::{NodeState, Response};
+use urb_group::{Answer, Reply, State};
+use urb_names::{NoMemory, Refusal};
+use urb_show::{Entry, Status};
+
+// A node's state.
+fn state_told(state: State) -> NodeState
+    ensures { result ≡ told_state state }
+{
+    match state {
+        State::Down => NodeState::Down,
+        State::Ready => NodeState::Ready,
+        State::Storing => NodeState::Storing,
+    }
+}
+
+// That the worker or the House is gone.
+pub(crate) fn nobody() -> Response
+    ensures { said_by result ≡ gone }
+{
+    Response::refused(&Refusal::Down)
+}
+
+// What is told of a reply.
+fn reply_told(reply: &Reply) -> Response
+    ensures { said_by result ≡ said_of reply.now }
+{
+    match reply {
+        Reply::Same(Answer::Accepted(name)) => Response::Accepted(name.seq),
+        Reply::Stored(done) if done.accepted => Response::Accepted(done.name.seq),
+        Reply::Refused(refusal) => Response::refused(refusal),
+        Reply::WentDown(_) | Reply::Up(_) => Response::Done,
+        Reply::Same(_) | Reply::Stored(_) | Reply::Drafted { .. } | Reply::Sent(_) => nobody(),
+    }
+}
+
+// What is told of a turn.
+pub(crate) fn told(reply: &Reply, status: Option<Status>) -> Response
+    ensures { said_by result ≡ told_of reply.now status }
+{
+    match status {
+        Some(status) => Response::Status {
+            state: state_told(status.state),
+            own: status.own,
+            logged: status.logged,
+        },
+        None => reply_told(reply),
+    }
+}
+
+// What is told of a page.
+pub(crate) fn page_told(alloc: Global, entries: Vec<Entry>) -> Result<Response, NoMemory>
+    requires { length entries.items ≤ 8 }
+    ensures { IfOk result (λ response. said_by response ≡ Listing (map pair_of entries.items)) }
+{
+    let mut pairs = Vec::with_capacity(alloc, entries.len())?;
+    for entry in entries {
+        pairs.push((entry.name, entry.message))?;
+    }
+    Response::entries(pairs)
+}

@@ -1,0 +1,277 @@
+//! How far a turn is, and the step from one stage to the next: the event before the store, the store's part, and the event
+//! after it.
+
+ghost use Rattle.std.specs.Prelude.{◌≡◌, ◌≤◌, true, None, length};
+ghost use Rattle.urb_worker.specs.Counting.{count_of};
+ghost use Rattle.urb_worker.specs.Stages.{crash_stage, is_stored, state_reply, taken_stage, tick_stage};
+ghost use Rattle.urb_worker.specs.Turns.{Begins, Ends, Settles, Stores, logged};
+
+use crate::Job;
+use std::alloc::Global;
+use std::sync::Wait;
+use urb_group::{Doubt, Draft, Outbox, Receipt, Record, Reply, Stable, State, Taken};
+use urb_names::{NodeId, Refusal};
+use urb_show::{House, HouseName, Status, Told};
+use urb_stable::StoreFault;
+
+// How far a turn is.
+#[derive(Drop)]
+pub(crate) enum Stage {
+    // The store is to keep this.
+    Drafted(Draft),
+    // The store took the draft.
+    Kept(Receipt),
+    // The store answered a fault.
+    Doubtful(Doubt),
+    // The store is to give its records.
+    Retrieving,
+    // The store gave these.
+    Retrieved(Vec<Record>),
+    // The store gave none.
+    Unread(StoreFault),
+    // The House is to say how the node is.
+    Asking,
+    // All is done.
+    Answered(Reply),
+}
+
+// Where a submit or an arrival leads.
+fn taken(answer: Result<Taken, Refusal>) -> (Stage, u8)
+    ensures { result ≡ (taken_stage answer, count_of answer) }
+{
+    match answer {
+        Ok(Taken::Store(draft)) => (Stage::Drafted(draft), 1),
+        Ok(Taken::Same(answer)) => (Stage::Answered(Reply::Same(answer)), 1),
+        Err(refusal) => (Stage::Answered(Reply::Refused(refusal)), 0),
+    }
+}
+
+// Where a tick leads.
+fn ticked(sent: Result<Outbox, Refusal>) -> (Stage, u8)
+    ensures { result ≡ (tick_stage sent, count_of sent) }
+{
+    match sent {
+        Ok(packets) => (Stage::Answered(Reply::Sent(packets)), 1),
+        Err(refusal) => (Stage::Answered(Reply::Refused(refusal)), 0),
+    }
+}
+
+// Where a crash leads.
+fn crashed(node: NodeId, done: Result<(), Refusal>) -> (Stage, u8)
+    ensures { result ≡ (crash_stage node done, count_of done) }
+{
+    match done {
+        Ok(()) => (Stage::Answered(Reply::WentDown(node)), 1),
+        Err(refusal) => (Stage::Answered(Reply::Refused(refusal)), 0),
+    }
+}
+
+// The job's event before its store.
+pub(crate) fn begun<K: HouseName>(alloc: Global, house: &mut House<K>, job: &Job) -> (Stage, u8)
+    ensures step { Begins house.old job.now house.new result.0 result.1 }
+    ensures one { result.1 ≤ 1 }
+{
+    match job {
+        Job::Submit {
+            node,
+            client,
+            number,
+            payload,
+        } => taken(house.submit(alloc, *node, *client, *number, payload.as_slice())),
+        Job::Arrive { node, bytes } => taken(house.arrive(alloc, *node, bytes.as_slice())),
+        Job::Tick(node) => ticked(house.tick(alloc, *node)),
+        Job::Crash(node) => crashed(*node, house.crash(*node)),
+        Job::Restart(_) => (Stage::Retrieving, 0),
+        Job::Status(_) => (Stage::Asking, 0),
+    }
+}
+
+// The store's part of a turn.
+pub(crate) fn stored<S: Stable<Alloc = Global>>(alloc: Global, stage: Stage, store: &mut S) -> Stage
+    ensures step { Stores S.Stable store.old stage store.new result }
+    ensures stored { is_stored result ≡ true }
+{
+    match stage {
+        Stage::Drafted(draft) => match draft.keep(store) {
+            Ok(receipt) => Stage::Kept(receipt),
+            Err(doubt) => Stage::Doubtful(doubt),
+        },
+        Stage::Retrieving => match store.retrieve(alloc) {
+            Ok(image) => Stage::Retrieved(image),
+            Err(fault) => Stage::Unread(fault),
+        },
+        Stage::Kept(receipt) => Stage::Kept(receipt),
+        Stage::Doubtful(doubt) => Stage::Doubtful(doubt),
+        Stage::Retrieved(image) => Stage::Retrieved(image),
+        Stage::Unread(fault) => Stage::Unread(fault),
+        Stage::Asking => Stage::Asking,
+        Stage::Answered(reply) => Stage::Answered(reply),
+    }
+}
+
+// What a turn's last event came to.
+#[derive(Drop)]
+pub(crate) struct Ending<K: HouseName> {
+    pub(crate) reply: Reply,
+    pub(crate) status: Option<Status>,
+    pub(crate) told: Option<Told<K>>,
+    pub(crate) events: u8,
+}
+
+// An ending in which nothing was settled, and no status asked for.
+fn unsettled<K: HouseName>(reply: Reply, events: u8) -> Ending<K>
+    ensures { (result.reply ≡ reply) × (result.status ≡ None) × (result.told ≡ None) × (result.events ≡ events) }
+{
+    Ending {
+        reply,
+        status: None,
+        told: None,
+        events,
+    }
+}
+
+// How many names a node has delivered.
+fn logged<K: HouseName>(house: &House<K>, node: NodeId) -> usize
+    ensures { result ≡ logged house.now.group node }
+{
+    house.promise();
+    match house.log(node) {
+        Some(names) => names.len(),
+        None => 0,
+    }
+}
+
+// The House settled a node where names of it were released.
+fn settled<K: HouseName, R: Wait>(
+    rt: &R,
+    house: &mut House<K>,
+    node: NodeId,
+    has_released: bool,
+) -> Option<Told<K>>
+    requires { has_released ≡ true → node ≤ length K.base }
+    ensures { Settles has_released node house.old house.new result }
+{
+    if !has_released {
+        return None;
+    }
+    match house.settle(rt, node) {
+        Ok(told) => Some(told),
+        Err(_) => None,
+    }
+}
+
+// The store took the draft.
+fn committed<K: HouseName, R: Wait>(
+    rt: &R,
+    house: &mut House<K>,
+    job: &Job,
+    receipt: Receipt,
+) -> Ending<K>
+    ensures step { Ends house.old job.now (Stage.Kept receipt) house.new
+        result.reply result.status result.told result.events }
+    ensures one { result.events ≤ 1 }
+{
+    house.promise();
+    let node = receipt.node();
+    match house.commit(receipt) {
+        Ok(done) => {
+            let told = settled(rt, house, node, 0 < done.released);
+            Ending {
+                told,
+                ..unsettled(Reply::Stored(done), 1)
+            }
+        }
+        Err(_) => unsettled(Reply::Refused(Refusal::Stale), 0),
+    }
+}
+
+// The store answered a fault.
+fn failed<K: HouseName>(house: &mut House<K>, job: &Job, doubt: Doubt) -> Ending<K>
+    ensures step { Ends house.old job.now (Stage.Doubtful doubt) house.new
+        result.reply result.status result.told result.events }
+    ensures one { result.events ≤ 1 }
+{
+    let fault = doubt.fault();
+    match house.fail(doubt) {
+        Ok(()) => unsettled(Reply::Refused(fault.refusal()), 1),
+        Err(_) => unsettled(Reply::Refused(Refusal::Stale), 0),
+    }
+}
+
+// The store gave these records.
+fn restarted<K: HouseName, R: Wait>(
+    rt: &R,
+    alloc: Global,
+    house: &mut House<K>,
+    job: &Job,
+    image: Vec<Record>,
+) -> Ending<K>
+    ensures step { Ends house.old job.now (Stage.Retrieved image) house.new
+        result.reply result.status result.told result.events }
+    ensures one { result.events ≤ 1 }
+{
+    house.promise();
+    let node = job.node();
+    let before = logged(house, node);
+    match house.restart(alloc, node, image) {
+        Ok(()) => {
+            let after = logged(house, node);
+            let told = settled(rt, house, node, before < after);
+            Ending {
+                told,
+                ..unsettled(Reply::Up(node), 1)
+            }
+        }
+        Err(refusal) => unsettled(Reply::Refused(refusal), 0),
+    }
+}
+
+// How a node is in this state.
+fn state_reply(node: NodeId, state: State) -> Reply
+    ensures { result ≡ state_reply node state }
+{
+    match state {
+        State::Down => Reply::WentDown(node),
+        State::Ready | State::Storing => Reply::Up(node),
+    }
+}
+
+// The House is to say how the node is.
+fn asked<K: HouseName>(house: &House<K>, job: &Job) -> Ending<K>
+    ensures step { Ends house.now job.now Stage.Asking house.now
+        result.reply result.status result.told result.events }
+    ensures none { result.events ≡ 0 }
+{
+    let node = job.node();
+    match house.status(node) {
+        Some(status) => Ending {
+            status: Some(status),
+            ..unsettled(state_reply(node, status.state), 0)
+        },
+        None => unsettled(Reply::Refused(Refusal::BadNode), 0),
+    }
+}
+
+// A turn's last event.
+pub(crate) fn ended<K: HouseName, R: Wait>(
+    rt: &R,
+    alloc: Global,
+    house: &mut House<K>,
+    job: &Job,
+    stage: Stage,
+) -> Ending<K>
+    requires { is_stored stage ≡ true }
+    ensures step { Ends house.old job.now stage house.new
+        result.reply result.status result.told result.events }
+    ensures one { result.events ≤ 1 }
+{
+    match stage {
+        Stage::Drafted(_) | Stage::Retrieving => unreachable!(),
+        Stage::Kept(receipt) => committed(rt, house, job, receipt),
+        Stage::Doubtful(doubt) => failed(house, job, doubt),
+        Stage::Retrieved(image) => restarted(rt, alloc, house, job, image),
+        Stage::Unread(fault) => unsettled(Reply::Refused(fault.refusal()), 0),
+        Stage::Asking => asked(house, job),
+        Stage::Answered(reply) => unsettled(reply, 0),
+    }
+}

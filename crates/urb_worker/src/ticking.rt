@@ -1,0 +1,51 @@
+//! The timer: a tick at each node, again and again.
+
+use crate::{Job, Stop, Ticket};
+use crossbeam_channel::Sender;
+use std::sync::Wait;
+use std::thread;
+use std::time::{Clock, Duration};
+use urb_names::NodeId;
+use urb_show::HouseName;
+
+// The longest sleep, in milliseconds, after which it looks at the stop.
+const STEP: u32 = 50;
+
+// Sleeps this many milliseconds in short steps, and says whether the stop is still not set.
+fn pause<R: Clock>(rt: &R, stop: &Stop, millis: u32) -> bool {
+    let mut left = millis;
+    while left > 0 && !stop.is_set() {
+        let step = left.min(STEP);
+        thread::sleep(rt, Duration::from_millis(u64::from(step)));
+        left -= step;
+    }
+    !stop.is_set()
+}
+
+// A timeout at a node.
+fn tick<K: HouseName>(node: NodeId) -> Ticket<K> {
+    Ticket {
+        job: Job::Tick(node),
+        answer: None,
+    }
+}
+
+/// Sends each node's worker a tick every so many milliseconds, until the stop is set. The lines are those of the nodes 1, 2,
+/// ... A tick for which a line has no room is lost. It looks at the stop every 50 milliseconds.
+pub fn timer<K: HouseName, R: Wait + Clock>(
+    rt: &R,
+    stop: &Stop,
+    millis: u32,
+    lines: &[Sender<Ticket<K>>],
+) {
+    for _ in rt.forever() {
+        if !pause(rt, stop, millis) {
+            break;
+        }
+        for (number, line) in (1u8..8).zip(lines) {
+            if let Some(node) = NodeId::new(number) {
+                let _ = line.try_send(rt, tick(node));
+            }
+        }
+    }
+}

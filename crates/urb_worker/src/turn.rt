@@ -1,0 +1,209 @@
+//! One job's turn on the House, and what comes of it.
+
+ghost use Rattle.std.specs.Prelude.{◌≡◌, ◌-◌, ◌≤◌, false, true, None};
+ghost use Rattle.urb_worker.specs.Counting.{count_after};
+ghost use Rattle.urb_worker.specs.Stages.{is_drafted, is_stored};
+ghost use Rattle.urb_worker.specs.Turns.{Begins, Finishes, Stores};
+
+use crate::Job;
+use crate::stages::{Ending, Stage, begun, ended, stored};
+use std::alloc::Global;
+use std::marker::{Model, PhantomData};
+use std::sync::Wait;
+use urb_group::{Reply, Stable};
+use urb_names::Refusal;
+use urb_show::{House, HouseName, Status, Told};
+
+/// A job that has begun, on the House that K names. It goes on by `store`, which isn't lent the House, and ends by `finish`.
+#[derive(Drop)]
+pub struct Turn<K: HouseName> {
+    job: Job,
+    stage: Stage,
+    // How many events it was so far.
+    count: u8,
+    name: PhantomData<K>,
+}
+
+impl<K: HouseName> Model for Turn<K> {
+    ghost use Rattle.std.specs.Prelude.{◌≤◌};
+    ghost use Rattle.urb_worker.specs.Views.{TurnView};
+
+    ghost Value = { TurnView };
+
+    ghost view = { λ t. record { job = t.job; stage = t.stage; events = t.count } };
+
+    ghost invariant = { λ t. t.count ≤ 1 };
+}
+
+/// What came of a job. One that ran comes of a turn on the House that K names.
+#[derive(Drop)]
+pub struct Finished<K: HouseName> {
+    job: Job,
+    reply: Reply,
+    status: Option<Status>,
+    told: Option<Told<K>>,
+    ran: bool,
+    events: u8,
+}
+
+impl<K: HouseName> Model for Finished<K> {
+    ghost use Rattle.urb_worker.specs.Views.{FinishedView};
+
+    ghost Value = { FinishedView };
+
+    ghost view = { λ f. record { job = f.job; reply = f.reply; status = f.status; told = f.told; ran = f.ran; events = f.events } };
+}
+
+impl<K: HouseName> Turn<K> {
+    /// The job's event before its store. A restart asks its store first, and a status is no event: they change nothing here.
+    pub fn begin(alloc: Global, house: &mut House<K>, job: Job) -> Turn<K>
+        ensures job { result.job ≡ job }
+        // What it did to the House, in full.
+        ensures step { Begins house.old job house.new result.stage result.events }
+        ensures counted { house.new.events ≡ count_after result.events house.old.events }
+    {
+        let (stage, count) = begun(alloc, house, &job);
+        Turn {
+            job,
+            stage,
+            count,
+            name: PhantomData,
+        }
+    }
+
+    /// Has the store keep the draft, or give the image of a restart; else nothing. The House goes on meanwhile: the node
+    /// may be crashed, and other nodes may act.
+    pub fn store<S: Stable<Alloc = Global>>(self, alloc: Global, store: &mut S) -> Turn<K>
+        ensures job { result.job ≡ self.job }
+        ensures events { result.events ≡ self.events }
+        ensures step { Stores S.Stable store.old self.stage store.new result.stage }
+        ensures stored { is_stored result.stage ≡ true }
+    {
+        let Turn {
+            job,
+            stage,
+            count,
+            name,
+        } = self;
+        Turn {
+            job,
+            stage: stored(alloc, stage, store),
+            count,
+            name,
+        }
+    }
+
+    /// The job's event after its store. Where names of the node were released, the node is settled. Where the draft is no
+    /// longer held, its receipt is dropped and the reply is `Refused(Stale)`. May wait for a reader.
+    #[tactic(auto, using(crate::proofs::Counts::ends_count))]
+    pub fn finish<R: Wait>(self, rt: &R, alloc: Global, house: &mut House<K>) -> Finished<K>
+        requires { is_stored self.stage ≡ true }
+        ensures job { result.job ≡ self.job }
+        ensures ran { result.ran ≡ true }
+        // What it did to the House, in full.
+        ensures step { Finishes house.old self house.new result }
+        ensures events { self.events ≤ result.events }
+        ensures counted { house.new.events ≡ count_after (result.events - self.events) house.old.events }
+    {
+        let Turn {
+            job,
+            stage,
+            count,
+            name: _,
+        } = self;
+        let Ending {
+            reply,
+            status,
+            told,
+            events: more,
+        } = ended(rt, alloc, house, &job, stage);
+        Finished {
+            job,
+            reply,
+            status,
+            told,
+            ran: true,
+            events: count + more,
+        }
+    }
+
+    // Whether the store is to keep a draft.
+    pub(crate) fn is_drafted(&self) -> bool
+        ensures { result ≡ is_drafted self.now.stage }
+    {
+        matches!(self.stage, Stage::Drafted(_))
+    }
+
+    // How many events it was so far.
+    pub(crate) fn events(&self) -> u8
+        ensures value { result ≡ self.now.events }
+        ensures range { result ≤ 1 }
+    {
+        self.count
+    }
+}
+
+impl<K: HouseName> Finished<K> {
+    /// What comes of a job that is of another node than its worker's: it did not run.
+    pub fn misrouted(job: Job) -> Finished<K>
+        ensures { result ≡ record {
+          job = job;
+          reply = Reply.Refused Refusal.BadNode;
+          status = None;
+          told = None;
+          ran = false;
+          events = 0;
+        } }
+    {
+        Finished {
+            job,
+            reply: Reply::Refused(Refusal::BadNode),
+            status: None,
+            told: None,
+            ran: false,
+            events: 0,
+        }
+    }
+
+    /// The job.
+    pub fn job(&self) -> &Job
+        ensures { result.now ≡ self.now.job }
+    {
+        &self.job
+    }
+
+    /// What it led to: the reply of the last event, or a refusal. Of a status `WentDown` where the node is down, else `Up`.
+    pub fn reply(&self) -> &Reply
+        ensures { result.now ≡ self.now.reply }
+    {
+        &self.reply
+    }
+
+    /// Whether it ran. Only `Turn::finish` makes one that did.
+    pub fn ran(&self) -> bool
+        ensures { result ≡ self.now.ran }
+    {
+        self.ran
+    }
+
+    /// How many events of the House it was: its calls there that were not refused.
+    pub fn events(&self) -> u8
+        ensures { result ≡ self.now.events }
+    {
+        self.events
+    }
+
+    /// Its reply; how the node is, where that was asked; and what was told, where the node was settled. A reader that learns
+    /// that sees the names that were released.
+    pub fn into_parts(self) -> (Reply, Option<Status>, Option<Told<K>>)
+        ensures { result ≡ (self.reply, self.status, self.told) }
+    {
+        let Finished {
+            reply,
+            status,
+            told,
+            ..
+        } = self;
+        (reply, status, told)
+    }
+}
