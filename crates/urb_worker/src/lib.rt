@@ -20,6 +20,8 @@
 //! let house = hub.close(tallies);
 //! ```
 //!
+//! `Outgoing` is for whoever answers lines or frames: the answers go out together, and before a read that may wait.
+//!
 //! No proof says that a thread runs, that a message comes or that a wait ends: tests show it. A worker waits for tickets and
 //! for the lock, the holder of the lock for readers that are in the midst of a read, and these for nobody.
 #![tactic(auto)]
@@ -28,6 +30,7 @@ mod desk;
 mod hub;
 mod job;
 mod links;
+mod pacing;
 mod receiving;
 mod responses;
 mod serving;
@@ -42,6 +45,7 @@ pub use desk::NodeDesk;
 pub use hub::{Gate, Hub, OpenGate};
 pub use job::Job;
 pub use links::{Link, MemoryLink, UdpLink};
+pub use pacing::{Outgoing, PacedInput, PacedWriter};
 pub use receiving::receive;
 pub use serving::{Ticket, serve};
 pub use stop::Stop;

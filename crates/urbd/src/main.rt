@@ -7,27 +7,18 @@ ghost use Rattle.urbd.specs.Statuses.{status_of};
 mod arguments;
 mod faults;
 mod lines;
+mod replaying;
 
 use crate::arguments::{line, words};
 use crate::faults::{Fault, tell};
 use crate::lines::Line;
-use std::io;
-use std::io::BufReader;
+use crate::replaying::replay;
 use std::process::ExitCode;
 use std::rt::Env;
-use urb_script::{Ended, RunFault, run};
+use urb_script::{Ended, RunFault};
 
 /// The status of a script with a bad line.
 const BAD_LINE: u8 = 2;
-
-// Runs a script from standard input to standard output.
-fn replay<R: AllocGlobal + Print + Input>(rt: &R) -> Result<Ended, RunFault> {
-    let Ok(mut reader) = BufReader::new(rt.alloc(), rt.reader()) else {
-        return Err(RunFault::NoMemory);
-    };
-    let mut writer = io::writer(rt);
-    run(rt.alloc(), &mut reader, &mut writer)
-}
 
 // Tells the fault where a run broke off, and gives the status.
 fn finish<R: Eprint>(rt: &R, outcome: Result<Ended, RunFault>) -> u8
