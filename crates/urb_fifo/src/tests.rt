@@ -31,14 +31,15 @@ fn config() -> Result<Config, Fail>
 }
 
 // Certifies names, and compares how many each of them releases. Where a growth was refused, nothing has changed, and the
-// same call goes through the second time.
+// same call goes through the second time. Whether a call was refused.
 fn certify_all<A: Allocator + Copy>(
     fifo: &mut Fifo<A>,
     steps: &[(u8, u32, u32)],
-) -> Result<(), Fail>
+) -> Result<bool, Fail>
     requires { fifo.old.limits ≡ record { n = 3; cap = 10 } }
     ensures { fifo.new.limits ≡ fifo.old.limits }
 {
+    let mut refused = false;
     for (sender, seq, want) in steps {
         if *sender > 3 || *seq == 0 || *seq > 10 {
             return Err(Fail::from("a name of the group"));
@@ -48,6 +49,7 @@ fn certify_all<A: Allocator + Copy>(
         let released = match fifo.certify(certificate) {
             Ok(released) => released,
             Err(NoMemory) => {
+                refused = true;
                 if fifo.log().len() != logged || fifo.is_certified(certificate) {
                     return Err(Fail::from("a refused certificate changed something"));
                 }
@@ -58,7 +60,7 @@ fn certify_all<A: Allocator + Copy>(
             return Err(Fail::from("so many names are released"));
         }
     }
-    Ok(())
+    Ok(refused)
 }
 
 #[test]
@@ -110,10 +112,12 @@ fn each_growth_may_be_refused(rt: HostRuntime) -> Result<(), Fail> {
         let heap = Refusing::new(rt.alloc(), refused);
         let mut fifo = Fifo::new(&heap, config()?);
         let first = name(1, 1)?;
+        let mut told = false;
         if fifo.reserve(first).is_err() {
+            told = true;
             assert!(rt; fifo.log().is_empty() && !fifo.is_certified(first));
         }
-        certify_all(
+        told |= certify_all(
             &mut fifo,
             &[
                 (1, 2, 0),
@@ -125,7 +129,8 @@ fn each_growth_may_be_refused(rt: HostRuntime) -> Result<(), Fail> {
             ],
         )?;
         assert_eq!(rt; fifo.count(node(1)?), 6);
-        if heap.met() {
+        assert_eq!(rt; told, heap.met());
+        if told {
             met = refused;
         }
     }

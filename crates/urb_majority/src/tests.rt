@@ -22,11 +22,12 @@ fn name(seq: u32) -> Result<Name, Fail> {
 }
 
 // Counts nodes for names, and compares the answers. Where a growth was refused, nothing has changed, and the same call goes
-// through the second time.
+// through the second time. Whether a call was refused.
 fn note_all<A: Allocator + Copy>(
     acks: &mut Acks<A>,
     steps: &[(u32, u8, Noted)],
-) -> Result<(), Fail> {
+) -> Result<bool, Fail> {
+    let mut refused = false;
     for (seq, number, want) in steps {
         let name = name(*seq)?;
         let node = node(*number)?;
@@ -35,6 +36,7 @@ fn note_all<A: Allocator + Copy>(
         let noted = match acks.note(name, node) {
             Ok(noted) => noted,
             Err(NoMemory) => {
+                refused = true;
                 if acks.noted(name, node) != known {
                     return Err(Fail::from("a refused acknowledgement was counted"));
                 }
@@ -45,15 +47,17 @@ fn note_all<A: Allocator + Copy>(
             return Err(Fail::from("another answer"));
         }
     }
-    Ok(())
+    Ok(refused)
 }
 
 // Certifies names, in the same way.
-fn certify_all<A: Allocator + Copy>(acks: &mut Acks<A>, numbers: &[u32]) -> Result<(), Fail> {
+fn certify_all<A: Allocator + Copy>(acks: &mut Acks<A>, numbers: &[u32]) -> Result<bool, Fail> {
+    let mut refused = false;
     for seq in numbers {
         let name = name(*seq)?;
         let known = acks.certified(name);
         if acks.certify(name).is_err() {
+            refused = true;
             if acks.certified(name) != known {
                 return Err(Fail::from("a refused certificate changed something"));
             }
@@ -63,7 +67,7 @@ fn certify_all<A: Allocator + Copy>(acks: &mut Acks<A>, numbers: &[u32]) -> Resu
             return Err(Fail::from("the name is certified"));
         }
     }
-    Ok(())
+    Ok(refused)
 }
 
 #[test]
@@ -80,7 +84,8 @@ fn the_third_of_five_nodes_makes_a_majority(rt: HostRuntime) -> Result<(), Fail>
         ],
     )?;
     assert!(rt; !acks.certified(name(1)?));
-    certify_all(&mut acks, &[1])
+    assert!(rt; !certify_all(&mut acks, &[1])?);
+    Ok(())
 }
 
 #[test]
@@ -105,7 +110,8 @@ fn acknowledgements_are_lost_and_certificates_stay(rt: HostRuntime) -> Result<()
     assert!(rt; acks.certified(name(2)?));
     assert!(rt; !acks.certified(name(1)?));
     assert!(rt; !acks.noted(name(2)?, node(2)?));
-    note_all(&mut acks, &[(2, 2, Noted::Counted), (2, 1, Noted::Reached)])
+    note_all(&mut acks, &[(2, 2, Noted::Counted), (2, 1, Noted::Reached)])?;
+    Ok(())
 }
 
 #[test]
@@ -131,13 +137,15 @@ fn each_growth_may_be_refused(rt: HostRuntime) -> Result<(), Fail> {
     for refused in 1..9 {
         let heap = Refusing::new(rt.alloc(), refused);
         let mut acks = Acks::new(&heap, Config::new(3, 10).ok_or("a config")?);
-        note_all(&mut acks, &[(2, 2, Noted::Counted)])?;
+        let mut told = note_all(&mut acks, &[(2, 2, Noted::Counted)])?;
         if acks.reserve(name(1)?).is_err() {
+            told = true;
             assert!(rt; acks.noted(name(2)?, node(2)?));
         }
-        note_all(&mut acks, &[(1, 1, Noted::Counted), (1, 3, Noted::Reached)])?;
-        certify_all(&mut acks, &[1, 2])?;
-        if heap.met() {
+        told |= note_all(&mut acks, &[(1, 1, Noted::Counted), (1, 3, Noted::Reached)])?;
+        told |= certify_all(&mut acks, &[1, 2])?;
+        assert_eq!(rt; told, heap.met());
+        if told {
             met = refused;
         }
     }

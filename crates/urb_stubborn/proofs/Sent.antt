@@ -75,6 +75,10 @@ fewer p first (suc count) h k = ⊎_elim here (later (fewer p (suc first) count)
 pub few_to_others : (n p : ℕ) (pair : Label × Content) → 1 ≤ p → p ≤ n → n ≤ 7 → length (to_others n p pair) ≤ 6
 few_to_others n p pair low high most = omega (arith, length-map (others n p) (λ q. packet p q pair), fewer p 1 n low (omega arith))
 
+-- whoever sends it, at most one to each node
+pub at_most_to_all : (n p : ℕ) (pair : Label × Content) → length (to_others n p pair) ≤ n
+at_most_to_all n p pair = omega (arith, length-map (others n p) (λ q. packet p q pair), passing p (nodes n), length-numbers 1 n)
+
 -- so many pairs have at most six times as many
 pub few_packets : (n p : ℕ) (pairs : List (Label × Content)) → 1 ≤ p → p ≤ n → n ≤ 7 → length (flat_map (to_others n p) pairs) ≤ 6 * length pairs
 few_packets n p [] low high most = omega arith

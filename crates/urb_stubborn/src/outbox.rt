@@ -44,7 +44,6 @@ impl<A: Allocator + Copy> Outbox<A> {
         name: Name,
         message: &Message<A>,
     ) -> Result<Outbox<A>, NoMemory>
-        requires { node ≤ config.n }
         ensures { IfOk result (λ outbox. outbox ≡ to_others config.n node (name, message.now)) }
     {
         let mut packets = Vec::new(alloc);

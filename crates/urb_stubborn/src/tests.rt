@@ -129,9 +129,6 @@ fn a_message_goes_to_every_other_node(rt: HostRuntime) -> Result<(), Fail> {
         sender: node,
         seq: 1,
     };
-    if node.number() > config.n() {
-        return Err(Fail::from("the node is not of the group"));
-    }
     let outbox = Outbox::of_pair(alloc, config, node, name, &sent)?;
     assert_eq!(rt; outbox.len(), 2);
     assert!(rt; outbox.get(2).is_none());
@@ -145,26 +142,30 @@ fn a_message_goes_to_every_other_node(rt: HostRuntime) -> Result<(), Fail> {
     Ok(())
 }
 
-// Two ticks of seventeen names, each made again where it is refused; whether a growth was refused.
+// Two ticks of seventeen names, each made again where it is refused; whether one was refused.
 fn ticks_twice<'h>(heap: Heap<'h>, messages: Heap<'h>) -> Result<bool, Fail> {
     let mut sender = Sender::new(messages)?;
     let mut resend = resend()?;
     for _ in 0..17 {
         sender.broadcast(messages)?;
     }
+    let mut refused = false;
     for seqs in [&FIRST_TICK, &SECOND_TICK] {
         let outbox = match sender.tick(heap, &mut resend) {
             Ok(outbox) => outbox,
-            Err(_no_memory) => sender.tick(heap, &mut resend)?,
+            Err(NoMemory) => {
+                refused = true;
+                sender.tick(heap, &mut resend)?
+            }
         };
         if !are_to_two(&outbox, seqs) {
             return Err(Fail::from("a refused tick moved the cursor"));
         }
     }
-    Ok(heap.met())
+    Ok(refused)
 }
 
-// Packets of a message to the others, made again where that is refused; whether a growth was refused.
+// Packets of a message to the others, made again where that is refused; whether it was refused.
 fn sends_to_others<'h>(heap: Heap<'h>, messages: Heap<'h>) -> Result<bool, Fail> {
     let sender = Sender::new(messages)?;
     let name = Name {
@@ -172,17 +173,17 @@ fn sends_to_others<'h>(heap: Heap<'h>, messages: Heap<'h>) -> Result<bool, Fail>
         seq: 1,
     };
     let sent = message(messages, 1)?;
-    if sender.node.number() > sender.config.n() {
-        return Err(Fail::from("the node is not of the group"));
-    }
-    let outbox = match Outbox::of_pair(heap, sender.config, sender.node, name, &sent) {
-        Ok(outbox) => outbox,
-        Err(_no_memory) => Outbox::of_pair(heap, sender.config, sender.node, name, &sent)?,
+    let (outbox, refused) = match Outbox::of_pair(heap, sender.config, sender.node, name, &sent) {
+        Ok(outbox) => (outbox, false),
+        Err(NoMemory) => {
+            let outbox = Outbox::of_pair(heap, sender.config, sender.node, name, &sent)?;
+            (outbox, true)
+        }
     };
     if !are_to_two(&outbox, &[1]) {
         return Err(Fail::from("another packet was sent"));
     }
-    Ok(heap.met())
+    Ok(refused)
 }
 
 #[test]
