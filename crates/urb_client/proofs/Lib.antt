@@ -8,3 +8,4 @@ pub mod Progress
 pub mod RequestLaws
 pub mod ResponseLaws
 mod Limits
+mod Received

@@ -10,7 +10,7 @@ use Rattle.urb_client.specs.Sessions.{Event, Asks, Fault, Says, Begins, HasBadLe
 use Rattle.urb_client.proofs.Parts.{two, number_again}
 
 -- bytes have one length in front
-one_length : (m n : ℕ) (x y bytes : List ℕ) → m < 2 ^ 16 → n < 2 ^ 16 → bytes ≡ big_bytes 2 m ++ x → bytes ≡ big_bytes 2 n ++ y → (m ≡ n) × (x ≡ y)
+pub one_length : (m n : ℕ) (x y bytes : List ℕ) → m < 2 ^ 16 → n < 2 ^ 16 → bytes ≡ big_bytes 2 m ++ x → bytes ≡ big_bytes 2 n ++ y → (m ≡ n) × (x ≡ y)
 one_length m n x y bytes m_fits n_fits p q =
     let same = same_Some _ _ (sym (number_again 2 (2 ^ 16) two m x m_fits) ∙ ap (number_at 2) (sym p ∙ q) ∙ number_again 2 (2 ^ 16) two n y n_fits) in
     (ap (λ (r : ℕ × List ℕ). r.0) same, ap (λ (r : ℕ × List ℕ). r.1) same)

@@ -4,11 +4,13 @@
 mod format;
 mod input;
 mod reading;
+mod receiving;
 mod request;
 mod response;
 mod sessions;
 
 pub use reading::parse_response;
+pub use receiving::{ResponseFault, read_response};
 pub use request::{Request, encode_request, parse_request};
 pub use response::{Entries, NodeState, Response, encode_response};
 pub use sessions::{Desk, Ended, SessionFault, one_reading, session};

@@ -81,8 +81,8 @@ pub enum Piece {
     Whole(usize),
 }
 
-// The number in the two bytes of a length.
-fn length_of(bytes: &[u8]) -> u16
+/// The number in the two bytes of a length.
+pub fn length_of(bytes: &[u8]) -> u16
     requires { length bytes.now ≡ 2 }
     ensures { bytes.now ≡ big_bytes 2 result }
 {

@@ -2,6 +2,7 @@
 
 mod failing;
 mod frames;
+mod receiving;
 
 use super::*;
 use std::alloc::{Allocator, Global};
