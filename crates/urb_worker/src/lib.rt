@@ -20,6 +20,10 @@
 //! let house = hub.close(tallies);
 //! ```
 //!
+//! `run_group` does all of this for a group that was opened: it starts the threads, and ends them when its `Watch` returns.
+//! Workers stand in an outer scope, and what sends them tickets in an inner one, which owns the lines: when it ends the lines
+//! go, so the workers end, and their stores and tallies come back.
+//!
 //! `Outgoing` is for whoever answers lines or frames: the answers go out together, and before a read that may wait.
 //!
 //! No proof says that a thread runs, that a message comes or that a wait ends: tests show it. A worker waits for tickets and
@@ -30,11 +34,15 @@ mod desk;
 mod hub;
 mod job;
 mod links;
+mod outside;
 mod pacing;
 mod receiving;
 mod responses;
+mod running;
 mod serving;
+mod staff;
 mod stages;
+mod stations;
 mod stop;
 mod tallied;
 mod tally;
@@ -45,9 +53,12 @@ pub use desk::NodeDesk;
 pub use hub::{Gate, Hub, OpenGate};
 pub use job::Job;
 pub use links::{Link, MemoryLink, UdpLink};
+pub use outside::Watch;
 pub use pacing::{Outgoing, PacedInput, PacedWriter};
 pub use receiving::receive;
-pub use serving::{Ticket, serve};
+pub use running::run_group;
+pub use serving::{Ticket, serve, serve_from};
+pub use stations::Station;
 pub use stop::Stop;
 pub use tally::{HubName, Tally};
 pub use ticking::timer;

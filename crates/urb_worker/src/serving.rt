@@ -51,12 +51,27 @@ pub fn serve<K: HouseName, L: HubName, S: Stable<Alloc = Global> + Drop, N: Link
     tally: Tally<L>,
 ) -> Tally<L> {
     let mut store = store;
+    serve_from(rt, alloc, hub, node, &mut store, jobs, link, gate, tally)
+}
+
+/// The same with a store that is lent, for one who closes it afterwards.
+pub fn serve_from<K: HouseName, L: HubName, S: Stable<Alloc = Global>, N: Link, G: Gate, R: Wait>(
+    rt: &R,
+    alloc: Global,
+    hub: &Hub<K, L>,
+    node: NodeId,
+    store: &mut S,
+    jobs: Receiver<Ticket<K>>,
+    link: &N,
+    gate: &G,
+    tally: Tally<L>,
+) -> Tally<L> {
     let mut tally = tally;
     for _ in rt.forever() {
         let Ok(Ticket { job, answer }) = jobs.recv(rt) else {
             break;
         };
-        let (finished, counted) = hub.work(rt, alloc, node, job, &mut store, gate, tally);
+        let (finished, counted) = hub.work(rt, alloc, node, job, store, gate, tally);
         tally = counted;
         send_out(alloc, link, finished.reply());
         if let Some(answer) = answer {

@@ -1,0 +1,10 @@
+use Rattle.std.proofs.Common.{rules}
+use Rattle.urb_worker.proofs.running.run_workers.Goals as goal
+
+pub scoped-requires : goal.scoped-requires
+scoped-requires g c = record {
+  at = λ _. (
+    (c.requires.nodes.0, c.requires.nodes.1, c.requires.lines),
+    (search rules, search rules, search rules, search rules, search rules, search rules),
+  )
+}

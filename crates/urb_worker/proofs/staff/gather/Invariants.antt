@@ -1,0 +1,10 @@
+use Rattle.std.proofs.Common.{◌≡◌, ◌≤◌, length, vec_len, vec_capacity}
+use Rattle.urb_worker.proofs.staff.gather.Given as goal
+
+abbrev pub invariant-loop-worker : goal.invariant-loop-worker
+invariant-loop-worker g l = record {
+  stores : vec_len l.stores ≡ length l.yielded;
+  tallies : vec_len l.tallies ≡ length l.yielded;
+  places : vec_len l.fn.workers ≤ vec_capacity l.stores;
+  counts : vec_len l.fn.workers ≤ vec_capacity l.tallies;
+}

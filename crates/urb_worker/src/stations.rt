@@ -1,0 +1,52 @@
+//! The sockets of a group's nodes, on this machine's loopback.
+
+ghost use Rattle.std.specs.Prelude.{◌≡◌};
+
+use std::io;
+use std::net::{Ipv4Addr, Net, SocketAddr, TcpListener, TcpStream, UdpSocket};
+use std::time::Duration;
+
+/// How many sessions of clients a node has at a time.
+pub const SESSIONS: usize = 4;
+
+// How long a connection that only wakes may take, in milliseconds. Where there is no room for it, others wait already.
+const PATIENCE: u64 = 200;
+
+/// A node's two sockets at 127.0.0.1, with their ports: packets come to the one, and clients to the other.
+#[derive(Drop)]
+pub struct Station {
+    pub udp: UdpSocket,
+    pub tcp: TcpListener,
+    pub udp_port: u16,
+    pub tcp_port: u16,
+}
+
+impl Station {
+    /// Opens a node's sockets at these ports, where 0 stands for any that is free. The error is the system's, as of a port that
+    /// is in use; nothing stays open then.
+    pub fn open<R: Net<Listener = TcpListener, Stream = TcpStream>>(
+        rt: &R,
+        udp_port: u16,
+        tcp_port: u16,
+    ) -> io::Result<Station> {
+        let udp = UdpSocket::bind(rt, (Ipv4Addr::LOCALHOST, udp_port))?;
+        let tcp = TcpListener::bind(rt, (Ipv4Addr::LOCALHOST, tcp_port))?;
+        let udp_port = udp.local_addr()?.port();
+        let tcp_port = tcp.local_addr()?.port();
+        Ok(Station {
+            udp,
+            tcp,
+            udp_port,
+            tcp_port,
+        })
+    }
+
+    /// Wakes what waits at the sockets: an empty datagram for the receiver, and a connection for each that takes sessions.
+    pub fn wake<R: Net<Listener = TcpListener, Stream = TcpStream>>(&self, rt: &R) {
+        let _ = self.udp.send_to(&[], (Ipv4Addr::LOCALHOST, self.udp_port));
+        let at = SocketAddr::from((Ipv4Addr::LOCALHOST, self.tcp_port));
+        for _ in 0..SESSIONS {
+            let _ = TcpStream::connect_timeout(rt, &at, Duration::from_millis(PATIENCE));
+        }
+    }
+}
