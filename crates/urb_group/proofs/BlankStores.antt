@@ -9,7 +9,7 @@ use Rattle.urb_stable.specs.Storing.{IsContents}
 blank : {A : Type 0} (m : Memory) → m ≡ empty_memory → IsBlank (in_memory A) m
 blank m e =
     record {
-      certain = ap (λ (m : Memory). m.certain) e;
+      certain = λ honest. ap (λ (m : Memory). m.certain) e;
       doubtful = ap (λ (m : Memory). m.doubtful) e;
       doubt = ap (λ (m : Memory). m.doubt) e;
       rest = λ honest records c. subst (λ (m : Memory). IsContents m.certain m.doubt records) e c;

@@ -44,9 +44,9 @@ blank-at g (s ∷ stores) h (suc i) store e = blank-at g stores h.1 i store e
 blank-store : {S A : Type 0} (g : Ghosts S A) (size : Limits) (p : ℕ) (store : S) → IsBlank g store → IsStoreOf g ((started size).node p) store
 blank-store g size p store blank =
     record {
-      contents = λ honest records c. subst (λ (o : Option Entry). IsContents (g.certain store) o records) blank.doubt c ∙ blank.certain;
+      contents = λ honest records c. subst (λ (o : Option Entry). IsContents (g.certain store) o records) blank.doubt c ∙ blank.certain honest;
       left = λ honest. record { certain = []; doubtful = None; only = blank.rest honest; may = λ records c. c };
-      up = λ honest e. (blank.certain, blank.doubt);
+      up = λ honest e. (blank.certain honest, blank.doubt);
     }
 
 pub new-stocked : {S A : Type 0} (g : Ghosts S A) (size : Limits) (stores : List S) (cluster : Clustered S) → All (IsBlank g) stores → Shows cluster.group (started size) → cluster.stores ≡ stores → IsStocked g cluster

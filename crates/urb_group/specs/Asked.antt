@@ -8,9 +8,9 @@ use Rattle.urb_stable.specs.declared.stable.StoreFault.{StoreFault}
 use Rattle.urb_stable.specs.declared.stable.StoreFault.TheVariants as fault
 
 module _ {S A : Type 0} (g : Ghosts S A) where
-  -- the store has no record, and none is in doubt; nor does a stop leave one, where the store is honest
+  -- none is in doubt; and where the store is honest, it has no record, nor does a stop leave one
   pub record IsBlank (store : S) : Type 0 where
-    pub certain : g.certain store ≡ []
+    pub certain : g.is_honest store → g.certain store ≡ []
     pub doubtful : g.is_doubtful store ≡ false
     pub doubt : g.doubt store ≡ None
     pub rest : g.is_honest store → g.leaves_only store (IsContents [] None)

@@ -10,3 +10,4 @@ pub mod KeepLemmas
 pub mod CreateLemmas
 pub mod SchemaLemmas
 pub mod StopLemmas
+pub mod NodeLemmas

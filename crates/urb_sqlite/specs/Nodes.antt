@@ -1,18 +1,32 @@
 -- What the opening of a node's journal finds, by what its files held.
-use Rattle.std.specs.Prelude.{◌≡◌, ℕ, List, []}
+use Rattle.std.specs.Prelude.{◌≡◌, ℕ, zero, suc, List, [], Some, slice_get}
+use Rattle.sqlite_disk.specs.declared.start.Start as start
+use Rattle.sqlite_wal.specs.Files.{image_at}
 use Rattle.sqlite_wal.specs.Recovery.{Image}
 use Rattle.sqlite_trees.specs.Tree.{Trees}
 use Rattle.sqlite.specs.Files.{HoldsDatabase}
 use Rattle.urb_stable.specs.Entries.{Entry}
+use Rattle.urb_stable.specs.declared.stable.Stable.{Ghosts}
 use Rattle.urb_sqlite.specs.Rows.{StandsFor}
 use Rattle.urb_sqlite.specs.OpenJournal.{IsJournal}
 
--- what the log and the database file of a node held
-abbrev pub held_by : (ℕ → List ℕ) → (ℕ → List ℕ) → ℕ → Image
-held_by logs databases node = record { log = logs node; db = databases node }
+-- what the log and the database file of a node held, for nodes 1 to 7
+abbrev pub held_by : {A B C D E F G : Type 0} → start.Ghosts A → start.Ghosts B → start.Ghosts C → start.Ghosts D → start.Ghosts E → start.Ghosts F → start.Ghosts G → ℕ → Image
+held_by a b c d e f g (suc zero) = image_at a
+held_by a b c d e f g (suc (suc zero)) = image_at b
+held_by a b c d e f g (suc (suc (suc zero))) = image_at c
+held_by a b c d e f g (suc (suc (suc (suc zero)))) = image_at d
+held_by a b c d e f g (suc (suc (suc (suc (suc zero))))) = image_at e
+held_by a b c d e f g (suc (suc (suc (suc (suc (suc zero)))))) = image_at f
+held_by a b c d e f g _ = image_at g
 
 -- While the storage gives back what was written: a journal that stood in the files is honest and has its records, and where
 -- the database file was empty the journal is honest and has none.
 pub record IsFoundIn (image : Image) (is_clean is_honest : Type 0) (records : List Entry) : Type 0 where
   pub stood : is_clean → (db : Trees) → HoldsDatabase image db → IsJournal db → is_honest × StandsFor db records
   pub fresh : is_clean → image.db ≡ [] → is_honest × (records ≡ [])
+
+module _ {S A : Type 0} (g : Ghosts S A) where
+  -- The journals, one after the other, are those of the nodes 1, 2, 3, .., each found in what its node's files held.
+  abbrev pub AreFoundIn : (ℕ → Image) → List S → Type 0
+  AreFoundIn held journals = (i : ℕ) (journal : S) → slice_get journals i ≡ Some journal → IsFoundIn (held (suc i)) (g.is_clean journal) (g.is_honest journal) (g.certain journal)

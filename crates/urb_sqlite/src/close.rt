@@ -45,16 +45,27 @@ fn remove_log(rt: &HostRuntime, path: &str) -> Result<(), StoreFault>
     }
 }
 
+/// Closes a journal that was opened at this path, and removes its log.
+pub fn closed_at<D: Disk + Drop>(
+    rt: &HostRuntime,
+    path: &str,
+    journal: SqlStable<FileStore<D>>,
+) -> Result<(), StoreFault>
+    ensures { IfErr result (λ e. (e ≡ StoreFault.NoMemory) ⊎ (e ≡ StoreFault.Device)) }
+{
+    let files = journal.close()?;
+    let removed = remove_log(rt, path);
+    // Until here the files are locked, so that nobody has begun another log.
+    drop(files);
+    removed
+}
+
 impl<S: Start> SqlStable<FileStore<FileFrom<S>>> {
     /// Closes the journal at the path where it was opened, and removes its log, so that one file is left of it. After a fault
     /// both files are left, and no record is lost.
     pub fn close_at(self, rt: &HostRuntime, path: &str) -> Result<(), StoreFault>
         ensures { IfErr result (λ e. (e ≡ StoreFault.NoMemory) ⊎ (e ≡ StoreFault.Device)) }
     {
-        let files = self.close()?;
-        let removed = remove_log(rt, path);
-        // Until here the files are locked, so that nobody has begun another log.
-        drop(files);
-        removed
+        closed_at(rt, path, self)
     }
 }

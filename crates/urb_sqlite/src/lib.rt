@@ -3,8 +3,8 @@
 
 mod calls;
 mod close;
-mod either;
 mod journal;
+mod node_file;
 mod nodes;
 mod open;
 mod rows;
@@ -12,9 +12,9 @@ mod shape;
 mod statements;
 mod stop;
 
-pub use either::Either;
 pub use journal::SqlStable;
-pub use nodes::{Contents, FilesOf, JournalOf, NodeJournal, close_node, open_node};
+pub use node_file::{Contents, NodeFile, Unnamed};
+pub use nodes::{NodeJournal, close_node, close_nodes, open_node, open_nodes};
 
 #[cfg(test)]
 mod tests;

@@ -1,81 +1,106 @@
-//! The journals of a group's nodes in one list, though their files hold different records: a name for what each held.
+//! The journals of a group's nodes in one list, each found as its files held it.
 
-ghost use Rattle.std.specs.Prelude.{◌≡◌, ◌⊎◌, ℕ, List, [], true, false, IfOk, IfErr};
-ghost use Rattle.urb_stable.specs.Storing.{is_place, IsContents};
-ghost use Rattle.urb_sqlite.specs.Nodes.{held_by, IsFoundIn};
+ghost use Rattle.std.specs.Prelude.{◌≡◌, ◌⊎◌, length, true, false, IfOk, IfErr, IsTrue};
+ghost use Rattle.sqlite.specs.Files.{image_of};
+ghost use Rattle.sqlite_wal.specs.Files.{image_at};
+ghost use Rattle.urb_stable.specs.Storing.{is_place};
+ghost use Rattle.urb_sqlite.specs.Nodes.{held_by, AreFoundIn, IsFoundIn};
 
-use crate::{Either, SqlStable};
-use sqlite::{FileFrom, FileStore, Start};
-use std::marker::{Brand, PhantomData};
+use crate::close::closed_at;
+use crate::{Contents, NodeFile, SqlStable};
+use sqlite::{FileFrom, FileStore, Files, Options, Start};
+use sqlite_disk::Disk;
+use sqlite_std_file::OpenError;
+use std::hash::{BuildHasher, RandomState};
+use std::io::ErrorKind;
 use std::rt::HostRuntime;
-use urb_names::NodeId;
+use urb_names::{Config, NodeId};
 use urb_stable::{Stable, StoreFault};
 
-/// What the files of each node's journal held as they were opened, by the number of the node. No code can read it: what is
-/// proved over `K: Contents` is proved for all contents, also for those that the files really held. Under one `K` the files of
-/// a node are opened once.
-pub trait Contents: Drop {
-    /// The bytes of the logs.
-    ghost logs: { ℕ → List ℕ };
+/// The journal of a node of any number, so that those of all nodes stand in one list.
+pub type NodeJournal<K> = SqlStable<FileStore<NodeFile<K>>>;
 
-    /// The bytes of the database files.
-    ghost databases: { ℕ → List ℕ };
-}
-
-/// For a program to name.
-impl Contents for Brand {
-    ghost logs = { λ _. [] };
-
-    ghost databases = { λ _. [] };
-}
-
-/// Stands for what the files of node `P` held.
-#[derive(Drop)]
-pub struct FilesOf<K: Contents, const P: u8> {
-    of: PhantomData<K>,
-}
-
-impl<K: Contents, const P: u8> Start for FilesOf<K, P> {
-    ghost log = { K.logs P };
-
-    ghost db = { K.databases P };
-
-    ghost is_mixing = { true };
-
-    fn mixes() -> bool {
-        true
+/// The files at this path, where `S` stands for what they hold.
+fn files_of<S: Start + Default>(
+    rt: &HostRuntime,
+    path: &str,
+) -> Result<Files<FileFrom<S>>, StoreFault>
+    ensures fault { IfErr result (λ e. is_place e ≡ false) }
+    ensures usable { IfOk result (λ files. IsTrue (⟦<FileFrom<S> as Disk>⟧.is_usable files.log) × IsTrue (⟦<FileFrom<S> as Disk>⟧.is_usable files.db)) }
+    ensures held { IfOk result (λ files. image_of ⟦<FileFrom<S> as Disk>⟧ files ≡ image_at S.Start) }
+{
+    match sqlite_std_file::open(rt, path, S::default()) {
+        Ok(files) => Ok(files),
+        Err(OpenError::OutOfMemory) => Err(StoreFault::NoMemory),
+        Err(OpenError::Io(error)) if error.kind() == ErrorKind::OutOfMemory => {
+            Err(StoreFault::NoMemory)
+        }
+        Err(_) => Err(StoreFault::Device),
     }
 }
 
-/// The journal of node `P`.
-pub type JournalOf<K, const P: u8> = SqlStable<FileStore<FileFrom<FilesOf<K, P>>>>;
-
-fn opened<K: Contents, const P: u8>(
+/// The files at this path, where they are those of this node.
+fn files_of_node<K: Contents>(
     rt: &HostRuntime,
     path: &str,
-) -> Result<SqlStable<FileStore<FileFrom<FilesOf<K, P>>>>, StoreFault>
+    node: NodeId,
+) -> Result<Files<NodeFile<K>>, StoreFault>
     ensures fault { IfErr result (λ e. is_place e ≡ false) }
-    ensures found { IfOk result (λ j. IsFoundIn (held_by K.logs K.databases P)
-        (⟦<SqlStable<FileStore<FileFrom<FilesOf<K, P>>>> as Stable>⟧.is_clean j) (⟦<SqlStable<FileStore<FileFrom<FilesOf<K, P>>>> as Stable>⟧.is_honest j)
-        (⟦<SqlStable<FileStore<FileFrom<FilesOf<K, P>>>> as Stable>⟧.certain j)) }
+    ensures usable { IfOk result (λ files. IsTrue (⟦<NodeFile<K> as Disk>⟧.is_usable files.log) × IsTrue (⟦<NodeFile<K> as Disk>⟧.is_usable files.db)) }
+    ensures held { IfOk result (λ files. image_of ⟦<NodeFile<K> as Disk>⟧ files ≡ held_by K.First.Start K.Second.Start K.Third.Start K.Fourth.Start K.Fifth.Start K.Sixth.Start K.Seventh.Start node) }
 {
-    SqlStable::open_from(rt, path, FilesOf { of: PhantomData })
+    match node.number() {
+        1 => match files_of::<K::First>(rt, path) {
+            Ok(files) => Ok(Files {
+                log: NodeFile::First(files.log),
+                db: NodeFile::First(files.db),
+            }),
+            Err(fault) => Err(fault),
+        },
+        2 => match files_of::<K::Second>(rt, path) {
+            Ok(files) => Ok(Files {
+                log: NodeFile::Second(files.log),
+                db: NodeFile::Second(files.db),
+            }),
+            Err(fault) => Err(fault),
+        },
+        3 => match files_of::<K::Third>(rt, path) {
+            Ok(files) => Ok(Files {
+                log: NodeFile::Third(files.log),
+                db: NodeFile::Third(files.db),
+            }),
+            Err(fault) => Err(fault),
+        },
+        4 => match files_of::<K::Fourth>(rt, path) {
+            Ok(files) => Ok(Files {
+                log: NodeFile::Fourth(files.log),
+                db: NodeFile::Fourth(files.db),
+            }),
+            Err(fault) => Err(fault),
+        },
+        5 => match files_of::<K::Fifth>(rt, path) {
+            Ok(files) => Ok(Files {
+                log: NodeFile::Fifth(files.log),
+                db: NodeFile::Fifth(files.db),
+            }),
+            Err(fault) => Err(fault),
+        },
+        6 => match files_of::<K::Sixth>(rt, path) {
+            Ok(files) => Ok(Files {
+                log: NodeFile::Sixth(files.log),
+                db: NodeFile::Sixth(files.db),
+            }),
+            Err(fault) => Err(fault),
+        },
+        _ => match files_of::<K::Seventh>(rt, path) {
+            Ok(files) => Ok(Files {
+                log: NodeFile::Seventh(files.log),
+                db: NodeFile::Seventh(files.db),
+            }),
+            Err(fault) => Err(fault),
+        },
+    }
 }
-
-/// The journal of a node of any number, as one type, so that those of all nodes stand in one list.
-pub type NodeJournal<K> = Either<
-    JournalOf<K, 1>,
-    Either<
-        JournalOf<K, 2>,
-        Either<
-            JournalOf<K, 3>,
-            Either<
-                JournalOf<K, 4>,
-                Either<JournalOf<K, 5>, Either<JournalOf<K, 6>, JournalOf<K, 7>>>,
-            >,
-        >,
-    >,
->;
 
 /// Opens the journal of a node at this path, as of `SqlStable::open`, where `K` stands for what the node's files hold: for a
 /// program that opens one journal a node, and comes back to what it stored before.
@@ -86,45 +111,58 @@ pub fn open_node<K: Contents>(
 ) -> Result<NodeJournal<K>, StoreFault>
     ensures fault { IfErr result (λ e. is_place e ≡ false) }
     // A journal that stood in the node's files is found with its records, and none where the database file was empty.
-    ensures found { IfOk result (λ j. IsFoundIn (held_by K.logs K.databases node)
-        (⟦<NodeJournal<K> as Stable>⟧.is_clean j) (⟦<NodeJournal<K> as Stable>⟧.is_honest j) (⟦<NodeJournal<K> as Stable>⟧.certain j)) }
+    ensures found { IfOk result (λ j. IsFoundIn (held_by K.First.Start K.Second.Start K.Third.Start K.Fourth.Start K.Fifth.Start K.Sixth.Start K.Seventh.Start node) (⟦<NodeJournal<K> as Stable>⟧.is_clean j) (⟦<NodeJournal<K> as Stable>⟧.is_honest j) (⟦<NodeJournal<K> as Stable>⟧.certain j)) }
 {
-    match node.number() {
-        1 => match opened::<K, 1>(rt, path) {
-            Ok(journal) => Ok(Either::First(journal)),
-            Err(fault) => Err(fault),
-        },
-        2 => match opened::<K, 2>(rt, path) {
-            Ok(journal) => Ok(Either::Other(Either::First(journal))),
-            Err(fault) => Err(fault),
-        },
-        3 => match opened::<K, 3>(rt, path) {
-            Ok(journal) => Ok(Either::Other(Either::Other(Either::First(journal)))),
-            Err(fault) => Err(fault),
-        },
-        4 => match opened::<K, 4>(rt, path) {
-            Ok(journal) => Ok(Either::Other(Either::Other(Either::Other(Either::First(journal))))),
-            Err(fault) => Err(fault),
-        },
-        5 => match opened::<K, 5>(rt, path) {
-            Ok(journal) => Ok(Either::Other(Either::Other(Either::Other(Either::Other(Either::First(
-                journal,
-            )))))),
-            Err(fault) => Err(fault),
-        },
-        6 => match opened::<K, 6>(rt, path) {
-            Ok(journal) => Ok(Either::Other(Either::Other(Either::Other(Either::Other(Either::Other(
-                Either::First(journal),
-            )))))),
-            Err(fault) => Err(fault),
-        },
-        _ => match opened::<K, 7>(rt, path) {
-            Ok(journal) => Ok(Either::Other(Either::Other(Either::Other(Either::Other(Either::Other(
-                Either::Other(journal),
-            )))))),
-            Err(fault) => Err(fault),
-        },
+    // As in SQLite, these name no file.
+    if path == ":memory:" || path.starts_with("file:") {
+        return Err(StoreFault::Device);
     }
+    let Ok(random) = RandomState::new(rt) else {
+        return Err(StoreFault::Device);
+    };
+    let options = Options::new(random.hash_one(&0u8));
+    let files = files_of_node::<K>(rt, path, node)?;
+    SqlStable::open_files(rt.alloc(), files, options)
+}
+
+/// The journal of a node in this directory, `node-P.db`.
+fn open_in<K: Contents>(
+    rt: &HostRuntime,
+    directory: &str,
+    node: NodeId,
+) -> Result<NodeJournal<K>, StoreFault>
+    ensures fault { IfErr result (λ e. is_place e ≡ false) }
+    ensures found { IfOk result (λ j. IsFoundIn (held_by K.First.Start K.Second.Start K.Third.Start K.Fourth.Start K.Fifth.Start K.Sixth.Start K.Seventh.Start node) (⟦<NodeJournal<K> as Stable>⟧.is_clean j) (⟦<NodeJournal<K> as Stable>⟧.is_honest j) (⟦<NodeJournal<K> as Stable>⟧.certain j)) }
+{
+    let path = format!(in rt.alloc(); "{directory}/node-{}.db", node.number())?;
+    open_node(rt, path.as_str(), node)
+}
+
+/// Opens the journals of all nodes of a group, `node-1.db`, `node-2.db` and so on in this directory, which has to be there:
+/// for a program's start. The first fault ends it, with its node, and the journals that were open are let go.
+pub fn open_nodes<K: Contents>(
+    rt: &HostRuntime,
+    directory: &str,
+    config: Config,
+) -> Result<Vec<NodeJournal<K>>, (NodeId, StoreFault)>
+    ensures fault { IfErr result (λ e. is_place e.1 ≡ false) }
+    // One for each node, in order.
+    ensures count { IfOk result (λ journals. length journals.items ≡ config.n) }
+    // A journal that stood in a node's files is found with its records, and none where the database file was empty.
+    ensures found { IfOk result (λ journals. AreFoundIn ⟦<NodeJournal<K> as Stable>⟧ (held_by K.First.Start K.Second.Start K.Third.Start K.Fourth.Start K.Fifth.Start K.Sixth.Start K.Seventh.Start) journals.items) }
+{
+    let n = config.n();
+    let Ok(mut journals) = Vec::with_capacity(rt.alloc(), usize::from(n)) else {
+        return Err((NodeId::new(1).unwrap(), StoreFault::NoMemory));
+    };
+    for at in 0..n {
+        let node = NodeId::new(at + 1).unwrap();
+        match open_in(rt, directory, node) {
+            Ok(journal) => journals.push_reserved(journal),
+            Err(fault) => return Err((node, fault)),
+        }
+    }
+    Ok(journals)
 }
 
 /// Closes the journal that was opened at this path, as of `SqlStable::close_at`: for a program that ends.
@@ -135,19 +173,50 @@ pub fn close_node<K: Contents>(
 ) -> Result<(), StoreFault>
     ensures { IfErr result (λ e. (e ≡ StoreFault.NoMemory) ⊎ (e ≡ StoreFault.Device)) }
 {
-    match journal {
-        Either::First(it) => it.close_at(rt, path),
-        Either::Other(Either::First(it)) => it.close_at(rt, path),
-        Either::Other(Either::Other(Either::First(it))) => it.close_at(rt, path),
-        Either::Other(Either::Other(Either::Other(Either::First(it)))) => it.close_at(rt, path),
-        Either::Other(Either::Other(Either::Other(Either::Other(Either::First(it))))) => {
-            it.close_at(rt, path)
-        }
-        Either::Other(
-            Either::Other(Either::Other(Either::Other(Either::Other(Either::First(it))))),
-        ) => { it.close_at(rt, path) }
-        Either::Other(
-            Either::Other(Either::Other(Either::Other(Either::Other(Either::Other(it))))),
-        ) => { it.close_at(rt, path) }
+    closed_at(rt, path, journal)
+}
+
+/// Closes the journal of a node in this directory.
+fn close_in<K: Contents>(
+    rt: &HostRuntime,
+    directory: &str,
+    number: usize,
+    journal: NodeJournal<K>,
+) -> Result<(), StoreFault>
+    ensures { IfErr result (λ e. (e ≡ StoreFault.NoMemory) ⊎ (e ≡ StoreFault.Device)) }
+{
+    let path = format!(in rt.alloc(); "{directory}/node-{number}.db")?;
+    closed_at(rt, path.as_str(), journal)
+}
+
+/// The first of two outcomes, where it is a fault, or else the second one.
+fn first_fault(
+    first: Result<(), StoreFault>,
+    second: Result<(), StoreFault>,
+) -> Result<(), StoreFault>
+    ensures { (result ≡ first) ⊎ (result ≡ second) }
+{
+    match first {
+        Ok(()) => second,
+        Err(fault) => Err(fault),
     }
+}
+
+/// Closes the journals that `open_nodes` opened in this directory, so that one file is left of each: for a program that ends.
+/// Where one can't be closed, both of its files are left and no record is lost; the others are closed none the less, and the
+/// fault of the first such node is answered.
+pub fn close_nodes<K: Contents>(
+    rt: &HostRuntime,
+    directory: &str,
+    journals: Vec<NodeJournal<K>>,
+) -> Result<(), StoreFault>
+    ensures { IfErr result (λ e. (e ≡ StoreFault.NoMemory) ⊎ (e ≡ StoreFault.Device)) }
+{
+    let mut journals = journals;
+    let mut outcome = Ok(());
+    while let Some(journal) = journals.pop() {
+        let number = journals.len() + 1;
+        outcome = first_fault(close_in(rt, directory, number, journal), outcome);
+    }
+    outcome
 }

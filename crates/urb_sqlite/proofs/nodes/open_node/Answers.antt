@@ -1,13 +1,11 @@
-use Rattle.std.proofs.Common.{◌≡◌, ℕ, List, subst, arith}
-use Rattle.urb_stable.specs.Entries.{Entry}
-use Rattle.urb_sqlite.specs.Nodes.{held_by, IsFoundIn}
+use Rattle.sqlite.specs.State.{HasCleanDisk}
+use Rattle.sqlite.specs.Files.{file_state}
+use Rattle.urb_sqlite.specs.OpenJournal.{IsHonestJournal}
+use Rattle.urb_sqlite.specs.Reading.{records_of}
+use Rattle.urb_sqlite.proofs.NodeLemmas.{found_in}
 use Rattle.urb_sqlite.proofs.nodes.open_node.Goals as goal
 
-same_node : (logs databases : ℕ → List ℕ) (a b : ℕ) (is_clean is_honest : Type 0) (records : List Entry) → a ≡ b
-    → IsFoundIn (held_by logs databases a) is_clean is_honest records → IsFoundIn (held_by logs databases b) is_clean is_honest records
-same_node logs databases a b is_clean is_honest records same found = subst (λ n. IsFoundIn (held_by logs databases n) is_clean is_honest records) same found
-
-pub returns-in-Ok-opened-6-clause-found : goal.returns-in-Ok-opened-6-clause-found
-returns-in-Ok-opened-6-clause-found g c =
-    let seventh : 7 ≡ c.args.node = omega (arith, c.in_default, c.number.ensures.number, c.number.ensures.range) in
-    same_node g.K.Contents.logs g.K.Contents.databases 7 c.args.node _ _ _ seventh c.in-Ok-opened-6.ensures.found
+pub returns-clause-found : goal.returns-clause-found
+returns-clause-found g c =
+    found_in c.open_files.result _ _ (λ j. HasCleanDisk (file_state j.conn)) (λ j. IsHonestJournal (file_state j.conn)) (λ j. records_of (file_state j.conn).now.trees) c.in_ok-files.ensures.held
+    c.open_files.ensures.fresh c.open_files.ensures.found

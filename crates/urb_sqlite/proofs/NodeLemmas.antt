@@ -1,0 +1,37 @@
+-- What the journal of a node is found to be, and one more journal behind others.
+use Rattle.std.proofs.Common.{Err, List, Ok, Result, Some, [], ap, length, slice_get, subst, suc, sym, zero, ℕ, ◌++◌, ◌∙◌, ◌∷◌, ◌≡◌}
+use Rattle.std.specs.Prelude.{IfOk}
+use Rattle.sqlite_trees.specs.Tree.{Trees}
+use Rattle.sqlite_wal.specs.Recovery.{Image}
+use Rattle.sqlite.specs.Files.{HoldsDatabase}
+use Rattle.urb_stable.specs.Entries.{Entry}
+use Rattle.urb_sqlite.specs.Nodes.{IsFoundIn}
+use Rattle.urb_sqlite.specs.OpenJournal.{IsJournal}
+use Rattle.urb_sqlite.specs.Rows.{StandsFor}
+
+pub found_in : {A E : Type 0} (opened : Result A E) (seen held : Image) (is_clean is_honest : A → Type 0) (records : A → List Entry) → seen ≡ held
+    → IfOk opened (λ j. is_clean j → seen.db ≡ [] → is_honest j × (records j ≡ []))
+    → IfOk opened (λ j. is_clean j → (db : Trees) → HoldsDatabase seen db → IsJournal db → is_honest j × StandsFor db (records j))
+    → IfOk opened (λ j. IsFoundIn held (is_clean j) (is_honest j) (records j))
+found_in (Ok j) seen held is_clean is_honest records same fresh found =
+    record {
+      stood = λ clean db holds journal. found clean db (subst (λ image. HoldsDatabase image db) (sym same) holds) journal;
+      fresh = λ clean none. fresh clean (ap (λ (image : Image). image.db) same ∙ none);
+    }
+found_in (Err e) seen held is_clean is_honest records same fresh found = tt
+
+found_behind : {S : Type 0} (P : ℕ → S → Type 0) (xs : List S) (x : S) → ((i : ℕ) (y : S) → slice_get xs i ≡ Some y → P i y) → P (length xs) x
+    → (i : ℕ) (y : S) → slice_get (xs ++ x ∷ []) i ≡ Some y → P i y
+found_behind P [] x old last zero y e = (let same : x ≡ y = cc in subst (P 0) same last)
+found_behind P [] x old last (suc i) y e = cc
+found_behind P (z ∷ xs) x old last zero y e = old zero y e
+found_behind P (z ∷ xs) x old last (suc i) y e = found_behind (λ k. P (suc k)) xs x (λ k w h. old (suc k) w h) last i y e
+
+-- the journal of the next node, behind those of the nodes before it
+pub one_more : {S : Type 0} (before after : List S) (next : S) (clean honest : S → Type 0) (records : S → List Entry) (held : ℕ → Image) (node : ℕ) → after ≡ before ++ next ∷ [] → node ≡ suc (length before)
+    → ((i : ℕ) (y : S) → slice_get before i ≡ Some y → IsFoundIn (held (suc i)) (clean y) (honest y) (records y)) → IsFoundIn (held node) (clean next) (honest next) (records next)
+    → (i : ℕ) (y : S) → slice_get after i ≡ Some y → IsFoundIn (held (suc i)) (clean y) (honest y) (records y)
+one_more before after next clean honest records held node grown counted earlier last i y got =
+    found_behind (λ i y. IsFoundIn (held (suc i)) (clean y) (honest y) (records y)) before next earlier
+    (subst (λ n. IsFoundIn (held n) (clean next) (honest next) (records next)) counted last)
+    i y (subst (λ xs. slice_get xs i ≡ Some y) grown got)

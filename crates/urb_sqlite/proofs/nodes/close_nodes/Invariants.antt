@@ -1,0 +1,8 @@
+use Rattle.std.proofs.Common.{◌≡◌, ◌⊎◌}
+use Rattle.std.specs.Prelude.{IfErr}
+use Rattle.urb_stable.specs.declared.stable.StoreFault.TheVariants.{Device, NoMemory}
+use Rattle.urb_sqlite.proofs.nodes.close_nodes.Given as goal
+
+-- a fault so far is one of these
+abbrev pub invariant-loop-journal : goal.invariant-loop-journal
+invariant-loop-journal g l = IfErr l.outcome (λ e. (e ≡ NoMemory) ⊎ (e ≡ Device))
