@@ -25,6 +25,7 @@ use Rattle.urb_stable.specs.Entries.{Entry, name_of}
 use Rattle.urb_stable.specs.Records.{pend}
 use Rattle.urb_stable.specs.declared.record.Record.TheVariants.{Cert, Pend, PendCert}
 use Rattle.urb_names.specs.declared.refusal.Refusal.TheVariants as refusal
+use Rattle.urb_node.specs.declared.cause.Cause.{Cause}
 
 -- what is found passes the test
 found-passes : {X : Type 0} (test : X → Bool) (xs : List X) (a : X) → find test xs ≡ Some a → test a ≡ true
@@ -97,7 +98,7 @@ module _ (w : World) (p position : ℕ) (entry : Entry) (told : Done) where
   OnlyOwn outcome = outcome.0 ≡ Stored told → told.accepted ≡ true → StoresOwn outcome.1 p entry told
 
   -- an own record's pair is stored with it
-  pair-stored : (held : Entry) (cause : Option ℕ) → entry ≡ held → is_accepted p held ≡ true
+  pair-stored : (held : Entry) (cause : Option Cause) → entry ≡ held → is_accepted p held ≡ true
       → (m : Content) × (has_pair (pend (entry ∷ [])) (name_of held) m ≡ true) × HasStored (world_after w p (Stored (done w.size.n p held (w.node p)), keeps_record p held cause (w.node p))).1 p (name_of held) m
   pair-stored held cause e own_is = over held refl e own_is
     where

@@ -21,6 +21,7 @@ use Rattle.urb_stable.specs.Entries.{Entry}
 use Rattle.urb_stable.specs.Fitting.{KeepsOwn, Kept, Rules, held_by_majority, in_range, is_next_own, known_held}
 use Rattle.urb_stable.specs.Records.{cert, pend}
 use Rattle.urb_stable.specs.declared.record.Record.TheVariants.{Cert, Pend, PendCert}
+use Rattle.urb_node.specs.declared.cause.Cause.{Cause}
 
 -- the two are as one for what a group holds in memory
 pub record Alike (size : Limits) (p : ℕ) (a b : Node) : Type 0 where
@@ -106,11 +107,11 @@ module _ (size : Limits) (node new : ℕ → Node) (alike : (p : ℕ) → Alike 
   state-same p Ready h = tt
   state-same p (Storing r cause) h = (joins p r h.0, caused r cause h.1)
     where
-      caused : (r : Entry) (cause : Option ℕ) → IsCaused old_images r cause → IsCaused new_images r cause
+      caused : (r : Entry) (cause : Option Cause) → IsCaused old_images r cause → IsCaused new_images r cause
       caused r None h = tt
-      caused (Pend x m) (Some q) h = grows q x m h
-      caused (PendCert x m) (Some q) h = grows q x m h
-      caused (Cert x) (Some q) h = tt
+      caused (Pend x m) (Some cause) h = grows cause.source x m h
+      caused (PendCert x m) (Some cause) h = grows cause.source x m h
+      caused (Cert x) (Some cause) h = tt
   state-same p (Down None) h = tt
   state-same p (Down (Some r)) h = joins p r h
 

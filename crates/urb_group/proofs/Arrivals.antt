@@ -12,7 +12,7 @@ use Rattle.urb_names.specs.Names.{has_name, same_name}
 use Rattle.urb_names.specs.Naming.{Content, Label, Limits}
 use Rattle.urb_names.specs.Nodes.{majority_passes}
 use Rattle.urb_names.specs.Pairs.{has_pair, message_of}
-use Rattle.urb_node.specs.Part.{Node}
+use Rattle.urb_node.specs.Part.{Node, packet_from}
 use Rattle.urb_node.specs.Replies.{Same}
 use Rattle.urb_node.specs.declared.answer.Answer.TheVariants.{Again, Noted}
 use Rattle.urb_node.specs.Steps.{arrives, counts}
@@ -129,8 +129,8 @@ pub leads-arrives : (size : Limits) (images : ℕ → List Entry) → AllKept si
 leads-arrives size images all p q x m node e k t =
     cond_both (is_none (message_of (pend node.records) x)) _ _ (Leads size images p)
     (λ none. cond_both (majority_passes size.n (λ z. (z == p) || (z == q))) _ _ (Leads size images p)
-    (λ most. leads-drafts size images p node (PendCert x m) (Some q) e k (joins-other_certified size images all p q node.records e x m t (none_found _ none) most) t)
-    (λ _. leads-drafts size images p node (Pend x m) (Some q) e k (joins-other size images all p q node.records e x m t (none_found _ none)) t))
+    (λ most. leads-drafts size images p node (PendCert x m) (Some (packet_from q)) e k (joins-other_certified size images all p q node.records e x m t (none_found _ none) most) t)
+    (λ _. leads-drafts size images p node (Pend x m) (Some (packet_from q)) e k (joins-other size images all p q node.records e x m t (none_found _ none)) t))
     (λ some. cond_both (not (has_name (cert node.records) x)) _ _ (Leads size images p)
     (λ new. pending new (found some))
     (λ _. leads-same size images p (Same (Again x), node) e k tt))
@@ -143,7 +143,7 @@ leads-arrives size images all p q x m node e k t =
         let after : AcksKept images node.records (with_ack node.acks x q) = acks-after size images all p q node.records e x m t o.0 o.1 node.acks k.acks in
         let kept : NodeKept size images p (record node { acks = with_ack node.acks x q }) = record { kept = k.kept; state = k.state; acks = after; broadcast = k.broadcast } in
         cond_both (majority_passes size.n (acked (with_ack node.acks x q) x)) _ _ (Leads size images p)
-        (λ most. leads-drafts size images p (record node { acks = with_ack node.acks x q }) (Cert x) (Some q) e kept
+        (λ most. leads-drafts size images p (record node { acks = with_ack node.acks x q }) (Cert x) (Some (packet_from q)) e kept
         (joins-certificate size images all p q node.records e x m t o.0 o.1 node.acks k.acks new most) tt)
         (λ _. cond_both (acked node.acks x q) _ _ (Leads size images p)
         (λ _. leads-same size images p (Same (Again x), record node { acks = with_ack node.acks x q }) e kept tt)

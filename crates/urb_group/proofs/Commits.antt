@@ -12,8 +12,9 @@ use Rattle.urb_node.specs.Replies.{Stored}
 use Rattle.urb_node.specs.Steps.{broadcast_after, comes_up, commits, crashes, done, doubt, fails, goes_down, is_down, keeps_record, next_position, restarts, restarts_with, same_record, says}
 use Rattle.urb_stable.specs.Entries.{Entry}
 use Rattle.urb_names.specs.declared.refusal.Refusal.TheVariants as refusal
+use Rattle.urb_node.specs.declared.cause.Cause.{Cause}
 
-leads-stored : (size : Limits) (images : ℕ → List Entry) (p : ℕ) (node : Node) (r : Entry) (cause : Option ℕ) → images p ≡ node.records → NodeKept size images p node → MayJoin size images p node.records r → IsCaused images r cause
+leads-stored : (size : Limits) (images : ℕ → List Entry) (p : ℕ) (node : Node) (r : Entry) (cause : Option Cause) → images p ≡ node.records → NodeKept size images p node → MayJoin size images p node.records r → IsCaused images r cause
     → Leads size images p (Stored (done size.n p r node), keeps_record p r cause node)
 leads-stored size images p node r cause e k j c =
     record {

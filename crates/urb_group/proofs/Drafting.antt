@@ -12,6 +12,7 @@ use Rattle.urb_stable.proofs.KeptRules.{kept-known, kept-unique}
 use Rattle.urb_stable.specs.Entries.{Entry}
 use Rattle.urb_stable.specs.Fitting.{Kept}
 use Rattle.urb_stable.specs.Records.{pend}
+use Rattle.urb_node.specs.declared.cause.Cause.{Cause}
 
 abbrev pub AllKept : Limits → (ℕ → List Entry) → Type 0
 AllKept size images = (q : ℕ) → Kept size images q [] (images q)
@@ -37,7 +38,7 @@ agree size images all p q x m o h k =
 pub leads-refuses : (size : Limits) (images : ℕ → List Entry) (p : ℕ) (node : Node) (r : Refusal) → images p ≡ node.records → NodeKept size images p node → Leads size images p (refuses node r)
 leads-refuses size images p node r e k = leads-same size images p (refuses node r) e k tt
 
-pub leads-drafts : (size : Limits) (images : ℕ → List Entry) (p : ℕ) (node : Node) (r : Entry) (cause : Option ℕ) → images p ≡ node.records → NodeKept size images p node
+pub leads-drafts : (size : Limits) (images : ℕ → List Entry) (p : ℕ) (node : Node) (r : Entry) (cause : Option Cause) → images p ≡ node.records → NodeKept size images p node
     → MayJoin size images p node.records r → IsCaused images r cause → Leads size images p (drafts node r cause)
 leads-drafts size images p node r cause e k j c =
     leads-same size images p (drafts node r cause) e (record { kept = k.kept; state = (j, c); acks = k.acks; broadcast = k.broadcast }) tt

@@ -20,6 +20,7 @@ use Rattle.urb_stable.specs.Entries.{Entry}
 use Rattle.urb_stable.specs.Fitting.{Kept, Rules, in_range}
 use Rattle.urb_stable.specs.Records.{cert, pend}
 use Rattle.urb_stable.specs.declared.record.Record.TheVariants.{Cert, Pend, PendCert}
+use Rattle.urb_node.specs.declared.cause.Cause.{Cause}
 
 -- one more acknowledgement of a pair that is pending here
 acks-with : (images : ℕ → List Entry) (records : List Entry) (acks : List (Label × ℕ)) (x : Label) (m : Content) (q : ℕ) → AcksKept images records acks
@@ -89,15 +90,15 @@ module _ (size : Limits) (images : ℕ → List Entry) (p : ℕ) (node : Node) (
     pair-found : message_of (pend joined) x ≡ Some m
     pair-found = ap (λ ps. message_of ps x) adds ∙ message_of-new (pend node.records) x m fresh
 
-    pair-acks : (cause : Option ℕ) → ((q : ℕ) → cause ≡ Some q → has_pair (pend (images q)) x m ≡ true) → AcksKept after joined (with_cause (with_ack node.acks x p) x cause)
+    pair-acks : (cause : Option Cause) → ((c : Cause) → cause ≡ Some c → has_pair (pend (images c.source)) x m ≡ true) → AcksKept after joined (with_cause (with_ack node.acks x p) x cause)
     pair-acks cause held = at cause held
       where
         own_ack : AcksKept after joined (with_ack node.acks x p)
         own_ack = acks-with after joined node.acks x m p old-acks pair-found (subst (λ (rs : List Entry). has_pair (pend rs) x m ≡ true) (sym (updated-at images p joined)) (has_pair-found (pend joined) x m pair-found))
 
-        at : (cause : Option ℕ) → ((q : ℕ) → cause ≡ Some q → has_pair (pend (images q)) x m ≡ true) → AcksKept after joined (with_cause (with_ack node.acks x p) x cause)
+        at : (cause : Option Cause) → ((c : Cause) → cause ≡ Some c → has_pair (pend (images c.source)) x m ≡ true) → AcksKept after joined (with_cause (with_ack node.acks x p) x cause)
         at None h = own_ack
-        at (Some q) h = acks-with after joined (with_ack node.acks x p) x m q own_ack pair-found (after-grows q x m (h q refl))
+        at (Some c) h = acks-with after joined (with_ack node.acks x p) x m c.source own_ack pair-found (after-grows c.source x m (h c refl))
 
     pair-broadcast : cond (x.sender == p) (node.broadcast ++ m ∷ []) node.broadcast ≡ own p (pend joined)
     pair-broadcast = at (x.sender == p) refl ∙ ap (own p) (sym adds)
@@ -116,11 +117,11 @@ fresh-pend size images p records x m h = none_found _ (and_parts (in_range size 
 fresh-certified : (size : Limits) (images : ℕ → List Entry) (p : ℕ) (records : List Entry) (x : Label) (m : Content) → Rules size images p records (PendCert x m) → message_of (pend records) x ≡ None
 fresh-certified size images p records x m h = none_found _ (and_parts (in_range size x) (is_none (message_of (pend records) x)) h.a).1
 
-caused-by : (images : ℕ → List Entry) (x : Label) (m : Content) (cause : Option ℕ) → IsCaused images (Pend x m) cause → (q : ℕ) → cause ≡ Some q → has_pair (pend (images q)) x m ≡ true
-caused-by images x m None h q e = cc
-caused-by images x m (Some i) h q e = let f : i ≡ q = cc in subst (λ (j : ℕ). has_pair (pend (images j)) x m ≡ true) f h
+caused-by : (images : ℕ → List Entry) (x : Label) (m : Content) (cause : Option Cause) → IsCaused images (Pend x m) cause → (c : Cause) → cause ≡ Some c → has_pair (pend (images c.source)) x m ≡ true
+caused-by images x m None h c e = cc
+caused-by images x m (Some first) h c e = let f : first ≡ c = cc in subst (λ (d : Cause). has_pair (pend (images d.source)) x m ≡ true) f h
 
-caused-by_certified : (images : ℕ → List Entry) (x : Label) (m : Content) (cause : Option ℕ) → IsCaused images (PendCert x m) cause → IsCaused images (Pend x m) cause
+caused-by_certified : (images : ℕ → List Entry) (x : Label) (m : Content) (cause : Option Cause) → IsCaused images (PendCert x m) cause → IsCaused images (Pend x m) cause
 caused-by_certified images x m None h = tt
 caused-by_certified images x m (Some i) h = h
 
@@ -130,7 +131,7 @@ joined-broadcast size images p node e k (Pend x m) j = pair-broadcast size image
 joined-broadcast size images p node e k (PendCert x m) j = pair-broadcast size images p node e k (PendCert x m) j x m (pend-append node.records (PendCert x m ∷ [])) (fresh-certified size _ p node.records x m j)
 joined-broadcast size images p node e k (Cert x) j = k.broadcast ∙ ap (own p) (sym (pend-append node.records (Cert x ∷ []) ∙ append-nil (pend node.records)))
 
-pub joined-acks : (size : Limits) (images : ℕ → List Entry) (p : ℕ) (node : Node) → images p ≡ node.records → NodeKept size images p node → (r : Entry) (cause : Option ℕ) → MayJoin size images p node.records r
+pub joined-acks : (size : Limits) (images : ℕ → List Entry) (p : ℕ) (node : Node) → images p ≡ node.records → NodeKept size images p node → (r : Entry) (cause : Option Cause) → MayJoin size images p node.records r
     → IsCaused images r cause → AcksKept (updated images p (node.records ++ r ∷ [])) (node.records ++ r ∷ []) (acks_after p r cause node.acks)
 joined-acks size images p node e k (Pend x m) cause j c =
     pair-acks size images p node e k (Pend x m) j x m (pend-append node.records (Pend x m ∷ [])) (fresh-pend size _ p node.records x m j) cause (caused-by images x m cause c)

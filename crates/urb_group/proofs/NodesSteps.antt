@@ -15,6 +15,7 @@ use Rattle.urb_stable.proofs.KeptRules.{Grows, kept-grow, rules-grow}
 use Rattle.urb_stable.specs.Entries.{Entry}
 use Rattle.urb_stable.specs.Records.{pend}
 use Rattle.urb_stable.specs.declared.record.Record.TheVariants.{Cert, Pend, PendCert}
+use Rattle.urb_node.specs.declared.cause.Cause.{Cause}
 
 -- the nodes after a step, and the packets that it hands out
 pub record StepKept (outcome : Reply × World) : Type 0 where
@@ -36,11 +37,11 @@ updated-grows old new p records g q x m = at (q == p)
 may_join-grows : (size : Limits) (old new : ℕ → List Entry) (p : ℕ) (records : List Entry) (r : Entry) → Grows old new → MayJoin size old p records r → MayJoin size new p records r
 may_join-grows size old new p records r g h = rules-grow size (updated old p (records ++ r ∷ [])) (updated new p (records ++ r ∷ [])) p records r (updated-grows old new p (records ++ r ∷ []) g) h
 
-caused-grows : (old new : ℕ → List Entry) (r : Entry) (cause : Option ℕ) → Grows old new → IsCaused old r cause → IsCaused new r cause
+caused-grows : (old new : ℕ → List Entry) (r : Entry) (cause : Option Cause) → Grows old new → IsCaused old r cause → IsCaused new r cause
 caused-grows old new r None g h = tt
-caused-grows old new (Pend x m) (Some q) g h = g q x m h
-caused-grows old new (PendCert x m) (Some q) g h = g q x m h
-caused-grows old new (Cert x) (Some q) g h = tt
+caused-grows old new (Pend x m) (Some cause) g h = g cause.source x m h
+caused-grows old new (PendCert x m) (Some cause) g h = g cause.source x m h
+caused-grows old new (Cert x) (Some cause) g h = tt
 
 doubt-grows : (size : Limits) (old new : ℕ → List Entry) (p : ℕ) (records : List Entry) (o : Option Entry) → Grows old new → DoubtKept size old p records o → DoubtKept size new p records o
 doubt-grows size old new p records None g h = tt

@@ -15,7 +15,7 @@ use Rattle.urb_names.specs.Naming.{Content, Label, Limits}
 use Rattle.urb_names.specs.Nodes.{is_node, majority_passes}
 use Rattle.urb_names.specs.Pairs.{has_pair, is_numbered, message_of, next_number}
 use Rattle.urb_names.specs.declared.refusal.PacketFault.{PacketFault}
-use Rattle.urb_node.specs.Part.{Down, Node, Ready, State, Storing}
+use Rattle.urb_node.specs.Part.{Down, Node, Ready, State, Storing, packet_from}
 use Rattle.urb_node.specs.Replies.{Refused, Reply}
 use Rattle.urb_node.specs.Steps.{arrives, comes_up, commits, crashes, doubt, fails, goes_down, is_down, is_storing, next_position, restarts, same_record, says, submits, submits_by_number, ticks}
 use Rattle.urb_stable.proofs.JoinedRecords.{pend-append}
@@ -23,6 +23,7 @@ use Rattle.urb_stable.specs.Entries.{Entry, IsEntry}
 use Rattle.urb_stable.specs.Records.{cert, pend}
 use Rattle.urb_stable.specs.declared.record.Record.TheVariants.{Cert, Pend, PendCert}
 use Rattle.urb_names.specs.declared.refusal.Refusal.TheVariants as refusal
+use Rattle.urb_node.specs.declared.cause.Cause.{Cause}
 
 -- ---- records
 
@@ -61,7 +62,7 @@ stays : (node new : Node) → node.records ≡ new.records → doubt node.state 
 stays node new e f h = record { stored = subst (λ (rs : List Entry). AreShort (pend rs)) e h.stored; doubtful = subst (λ (d : Option Entry). DoubtShort d) f h.doubtful }
 
 -- a draft of a short message
-holds : (node : Node) (r : Entry) (cause : Option ℕ) → DoubtShort (Some r) → NodeShort node → NodeShort (record node { state = Storing r cause })
+holds : (node : Node) (r : Entry) (cause : Option Cause) → DoubtShort (Some r) → NodeShort node → NodeShort (record node { state = Storing r cause })
 holds node r cause d h = record { stored = h.stored; doubtful = d }
 
 -- the doubtful record is stored
@@ -92,7 +93,7 @@ arrive-short : (size : Limits) (p q : ℕ) (x : Label) (m : Content) (node : Nod
 arrive-short size p q x m node l =
     cond_both (is_none (message_of (pend node.records) x)) _ _ (Keeps node)
     (λ _. cond_both (majority_passes size.n (λ z. (z == p) || (z == q))) _ _ (Keeps node)
-    (λ _. holds node (PendCert x m) (Some q) (short-certified x m l)) (λ _. holds node (Pend x m) (Some q) (short-pend x m l)))
+    (λ _. holds node (PendCert x m) (Some (packet_from q)) (short-certified x m l)) (λ _. holds node (Pend x m) (Some (packet_from q)) (short-pend x m l)))
     (λ _. cond_both (not (has_name (cert node.records) x)) _ _ (Keeps node)
     (λ _. cond_both (majority_passes size.n (acked (with_ack node.acks x q) x)) _ _ (Keeps node)
     (λ _ h. record { stored = h.stored; doubtful = short-cert x })

@@ -28,6 +28,7 @@ use Rattle.urb_group.specs.Stopping.{MayLeave}
 use Rattle.urb_group.specs.World.{World}
 use Rattle.urb_group.specs.declared.command.Command.{Command}
 use Rattle.urb_group.specs.declared.command.Command.TheVariants as command
+use Rattle.urb_node.specs.declared.cause.Cause.{Cause}
 
 -- ---- an event happened, or nothing did
 
@@ -183,7 +184,7 @@ lost g node new before after draft fault keeps store up records down =
 
 -- a node of this world holds the draft
 pub record HoldsIn (w : World) (draft : Placed) : Type 0 where
-  pub cause : Option ℕ
+  pub cause : Option Cause
   pub positive : 0 < draft.node
   pub there : is_node w.size.n draft.node ≡ true
   pub storing : (w.node draft.node).state ≡ Storing draft.entry cause

@@ -23,6 +23,7 @@ use Rattle.urb_group.proofs.NodesSteps.{updated-at}
 use Rattle.urb_group.specs.Step.{Commit, Fail, Restart, at_node, step, world_after}
 use Rattle.urb_group.specs.Stopping.{MayLeave}
 use Rattle.urb_group.specs.World.{World, updated}
+use Rattle.urb_node.specs.declared.cause.Cause.{Cause}
 
 -- ---- what records say of themselves
 
@@ -55,7 +56,7 @@ node-after w p outcome there =
     ap (λ (o : Reply × World). o.1.node p) (cond-true (is_node w.size.n p) (world_after w p outcome) (Refused refusal.BadNode, w) there) ∙ updated-at w.node p outcome.1
 
 -- its held record is stored
-pub commit-node : (w : World) (p position : ℕ) (entry : Entry) (cause : Option ℕ) → is_node w.size.n p ≡ true → (w.node p).state ≡ Storing entry cause → position ≡ suc (length (w.node p).records)
+pub commit-node : (w : World) (p position : ℕ) (entry : Entry) (cause : Option Cause) → is_node w.size.n p ≡ true → (w.node p).state ≡ Storing entry cause → position ≡ suc (length (w.node p).records)
     → (((step w (Commit p position entry)).1.node p).records ≡ (w.node p).records ++ entry ∷ []) × (((step w (Commit p position entry)).1.node p).state ≡ Ready)
 unfolding step
 commit-node w p position entry cause there held at =
@@ -71,7 +72,7 @@ commit-node w p position entry cause there held at =
         ∙ cond-true ((position == next_position (w.node p)) && same_record entry entry) _ _ (and_from (position == next_position (w.node p)) _ (eq-eqb position (next_position (w.node p)) at) (same_record-same entry))
 
 -- its store failed
-pub fail-node : (w : World) (p : ℕ) (entry : Entry) (cause : Option ℕ) → is_node w.size.n p ≡ true → (w.node p).state ≡ Storing entry cause
+pub fail-node : (w : World) (p : ℕ) (entry : Entry) (cause : Option Cause) → is_node w.size.n p ≡ true → (w.node p).state ≡ Storing entry cause
     → (((step w (Fail p)).1.node p).records ≡ (w.node p).records) × (((step w (Fail p)).1.node p).state ≡ Down (Some entry))
 unfolding step
 fail-node w p entry cause there held =

@@ -23,6 +23,7 @@ use Rattle.urb_node.specs.Replies.{Done, Refused, Reply, Stored, WentDown, packe
 use Rattle.urb_node.specs.Steps.{commits, done, fails, goes_down, is_down, keeps_record, next_position, refuses, restarts, same_record}
 use Rattle.urb_stable.specs.Entries.{Entry}
 use Rattle.urb_stable.specs.Placed.{Placed}
+use Rattle.urb_node.specs.declared.cause.Cause.{Cause}
 
 -- ---- replies by what the group holds
 
@@ -98,7 +99,7 @@ unfallen-is group p result sound h = subst (λ (o : Option State). IsUnfallen gr
 pub record IsHeldAs (group : GroupView) (p : ℕ) (draft : Placed) : Type 0 where
   pub there : is_node group.size.n p ≡ true
   pub node : draft.node ≡ p
-  pub cause : Option ℕ
+  pub cause : Option Cause
   pub state : (view_of group p).state ≡ part.Storing draft.entry cause
   pub position : draft.pos ≡ suc (view_of group p).count
 

@@ -20,6 +20,7 @@ use Rattle.urb_group.specs.Truth.{AreTruthful}
 use Rattle.urb_group.specs.World.{World, image_of, opened, stored, truthful}
 use Rattle.urb_group.specs.declared.taken.Taken.{Taken}
 use Rattle.urb_group.specs.declared.taken.Taken.TheVariants as taken
+use Rattle.urb_node.specs.declared.cause.Cause.{Cause}
 
 -- The event happened in this world, and its reply was told: the group shows the world after it. What was truthful is
 -- truthful after it, and so is each packet that the reply hands out.
@@ -39,7 +40,7 @@ IsRefused old event refusal new = ((w : World) → Shows old w → IsRefusedAs (
 
 -- the group's node holds this draft
 pub record HoldsDraft (group : GroupView) (draft : Placed) : Type 0 where
-  pub cause : Option ℕ
+  pub cause : Option Cause
   pub state : (view_of group draft.node).state ≡ Storing draft.entry cause
   pub position : draft.pos ≡ suc (view_of group draft.node).count
 

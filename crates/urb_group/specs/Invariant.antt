@@ -11,13 +11,14 @@ use Rattle.urb_stable.specs.Entries.{Entry}
 use Rattle.urb_stable.specs.Fitting.{Kept, Rules}
 use Rattle.urb_stable.specs.Records.{cert, pend}
 use Rattle.urb_stable.specs.declared.record.Record.TheVariants.{Cert, Pend, PendCert}
+use Rattle.urb_node.specs.declared.cause.Cause.{Cause}
 
 -- a pair whose storing an arrival caused is held by the node that it came from
-abbrev pub IsCaused : (ℕ → List Entry) → Entry → Option ℕ → Type 0
+abbrev pub IsCaused : (ℕ → List Entry) → Entry → Option Cause → Type 0
 IsCaused images r None = Unit {0}
-IsCaused images (Pend x m) (Some q) = has_pair (pend (images q)) x m ≡ true
-IsCaused images (PendCert x m) (Some q) = has_pair (pend (images q)) x m ≡ true
-IsCaused images (Cert x) (Some q) = Unit {0}
+IsCaused images (Pend x m) (Some cause) = has_pair (pend (images cause.source)) x m ≡ true
+IsCaused images (PendCert x m) (Some cause) = has_pair (pend (images cause.source)) x m ≡ true
+IsCaused images (Cert x) (Some cause) = Unit {0}
 
 -- the record would keep the rules if it were stored
 abbrev pub MayJoin : Limits → (ℕ → List Entry) → ℕ → List Entry → Entry → Type 0

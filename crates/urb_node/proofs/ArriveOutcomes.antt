@@ -12,7 +12,7 @@ use Rattle.urb_majority.specs.Acks.{ack_lt}
 use Rattle.urb_majority.proofs.Counts.{count_alike, count_one_more}
 use Rattle.urb_stable.specs.Records.{cert}
 use Rattle.urb_stable.specs.declared.record.Record.TheVariants.{Pend, PendCert, Cert}
-use Rattle.urb_node.specs.Part.{Node}
+use Rattle.urb_node.specs.Part.{Node, packet_from}
 use Rattle.urb_node.specs.Replies.{Same}
 use Rattle.urb_node.specs.declared.answer.Answer.TheVariants as answer
 use Rattle.urb_node.specs.Steps.{arrives, takes, counts, drafts}
@@ -76,7 +76,7 @@ counted-says a node x q s = counted-shows a.limits a.node (ready_view a) (counte
 counts-says : (a : Memory) (q : ℕ) (x : Label) (node : Node) → ShowsReady a node → has_name a.certified x ≡ false → Says (counts a.limits q x node) (counted_outcome a q x)
 counts-says a q x node s c =
     subst (λ (b : Bool). Says (
-    if b then drafts after (Cert x) (Some q)
+    if b then drafts after (Cert x) (Some (packet_from q))
     else (if acked node.acks x q then (Same (answer.Again x), after) else (Same (answer.Noted x), after))
     ) (counted_outcome a q x)) (shown-majority a.limits a.node (ready_view a) node s x q c) (reached (majority_passes a.limits.n (acked (with_ack a.acks x q) x)))
   where
@@ -93,9 +93,9 @@ counts-says a q x node s c =
     again true e = (refl, subst (λ (b : Bool). ShowsReady (record a { acks = if b then a.acks else placed ack_lt a.acks (x, q) }) after) e shows)
     again false e = (refl, shows)
 
-    reached : (b : Bool) → Says (if b then drafts after (Cert x) (Some q) else (if acked node.acks x q then (Same (answer.Again x), after) else (Same (answer.Noted x), after)))
-        (if b then Wants (Cert x) (Some q) (with_counted a x q) else (if acked a.acks x q then Answers (answer.Again x) a else Answers (answer.Noted x) (with_counted a x q)))
-    reached true = drafts-says (with_counted a x q) after (Cert x) (Some q) shows
+    reached : (b : Bool) → Says (if b then drafts after (Cert x) (Some (packet_from q)) else (if acked node.acks x q then (Same (answer.Again x), after) else (Same (answer.Noted x), after)))
+        (if b then Wants (Cert x) (Some (packet_from q)) (with_counted a x q) else (if acked a.acks x q then Answers (answer.Again x) a else Answers (answer.Noted x) (with_counted a x q)))
+    reached true = drafts-says (with_counted a x q) after (Cert x) (Some (packet_from q)) shows
     reached false =
         subst (λ (b : Bool). Says (if b then (Same (answer.Again x), after) else (Same (answer.Noted x), after)) (if acked a.acks x q then Answers (answer.Again x) a else Answers (answer.Noted x) (with_counted a x q))) before
         (again (acked a.acks x q) refl)
@@ -108,9 +108,9 @@ arrive-says a q x m node s apart pl pu ql qu =
     else (if not (has_name (cert node.records) x) then counts a.limits q x node else (Same (answer.Again x), node))
     ) (arrive_outcome a q x m)) (shown-found a.limits a.node (ready_view a) node s x) (found (message_of a.pairs x))
   where
-    taken : (b : Bool) → Says (if b then drafts node (PendCert x m) (Some q) else drafts node (Pend x m) (Some q)) (Wants (if b then PendCert x m else Pend x m) (Some q) a)
-    taken true = drafts-says a node (PendCert x m) (Some q) s
-    taken false = drafts-says a node (Pend x m) (Some q) s
+    taken : (b : Bool) → Says (if b then drafts node (PendCert x m) (Some (packet_from q)) else drafts node (Pend x m) (Some (packet_from q))) (Wants (if b then PendCert x m else Pend x m) (Some (packet_from q)) a)
+    taken true = drafts-says a node (PendCert x m) (Some (packet_from q)) s
+    taken false = drafts-says a node (Pend x m) (Some (packet_from q)) s
 
     certified : (b : Bool) → has_name a.certified x ≡ b → Says (if not b then counts a.limits q x node else (Same (answer.Again x), node)) (if b then Answers (answer.Again x) a else counted_outcome a q x)
     certified true e = (refl, s)
@@ -121,7 +121,7 @@ arrive-says a q x m node s apart pl pu ql qu =
         else (if not (has_name (cert node.records) x) then counts a.limits q x node else (Same (answer.Again x), node))
         ) (pending_outcome a q x m o)
     found None =
-        subst (λ (b : Bool). Says (if b then drafts node (PendCert x m) (Some q) else drafts node (Pend x m) (Some q)) (Wants (if is_majority 2 a.limits.n then PendCert x m else Pend x m) (Some q) a)) (sym (two-majority a.limits.n a.node q apart pl pu ql qu))
+        subst (λ (b : Bool). Says (if b then drafts node (PendCert x m) (Some (packet_from q)) else drafts node (Pend x m) (Some (packet_from q))) (Wants (if is_majority 2 a.limits.n then PendCert x m else Pend x m) (Some (packet_from q)) a)) (sym (two-majority a.limits.n a.node q apart pl pu ql qu))
         (taken (is_majority 2 a.limits.n))
     found (Some first) =
         subst (λ (b : Bool). Says (if not b then counts a.limits q x node else (Same (answer.Again x), node)) (if has_name a.certified x then Answers (answer.Again x) a else counted_outcome a q x)) (s.certified x)

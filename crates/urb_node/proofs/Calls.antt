@@ -18,6 +18,7 @@ use Rattle.urb_node.specs.Steps.{acks_after, broadcast_after, comes_up, commits,
 use Rattle.urb_stable.specs.Entries.{Entry, name_of}
 use Rattle.urb_stable.specs.declared.record.Record.TheVariants.{Cert, Pend, PendCert}
 use Rattle.urb_names.specs.declared.refusal.Refusal.TheVariants as refusal
+use Rattle.urb_node.specs.declared.cause.Cause.{Cause}
 
 -- this is the reply of a node's part of a step, and what is held in memory is the node after it
 abbrev pub Gives : Limits → ℕ → Reply × Node → Reply → NodeView → Type 0
@@ -56,7 +57,7 @@ same_record-true (Cert x) (PendCert y o) h = absurd (false≢true h)
 same_record-true (Cert x) (Cert y) h = ap Cert (same_name-true x y h)
 
 -- the receipt is the held draft's
-pub confirm-call : (size : Limits) (n p : ℕ) (view new : NodeView) (node : Node) (r : Entry) (cause : Option ℕ) → ShowsNode size p view node → view.state ≡ Storing r cause
+pub confirm-call : (size : Limits) (n p : ℕ) (view new : NodeView) (node : Node) (r : Entry) (cause : Option Cause) → ShowsNode size p view node → view.state ≡ Storing r cause
     → are_rising view.pairs ≡ true → IsNext size p view.pairs view.certified r → SaysMore view new r → new.state ≡ Ready → new.cursor ≡ view.cursor
     → ((x : Label) (q : ℕ) → has_name new.certified x ≡ false → acked new.acks x q ≡ acked (acks_after p r cause view.acks) x q)
     → Gives size p (commits n p (suc view.count) r node node.state)
@@ -72,7 +73,7 @@ confirm-call size n p view new node r cause s held rise next more state cursor a
         (and_from (suc view.count == next_position node) _ (eq-eqb (suc view.count) (next_position node) (sym (shown-position size p view node s))) (same_record-same r))
 
 -- it is another one
-pub stale-call : (size : Limits) (n p : ℕ) (view : NodeView) (node : Node) (r : Entry) (cause : Option ℕ) (position : ℕ) (entry : Entry) → ShowsNode size p view node → view.state ≡ Storing r cause
+pub stale-call : (size : Limits) (n p : ℕ) (view : NodeView) (node : Node) (r : Entry) (cause : Option Cause) (position : ℕ) (entry : Entry) → ShowsNode size p view node → view.state ≡ Storing r cause
     → ((position == suc view.count) && same_record entry r) ≡ false → Gives size p (commits n p position entry node node.state) (Refused refusal.Stale) view
 stale-call size n p view node r cause position entry s held other =
     subst (λ (outcome : Reply × Node). Gives size p outcome (Refused refusal.Stale) view) (sym same) (refl, s)
@@ -84,7 +85,7 @@ stale-call size n p view node r cause position entry s held other =
 
 -- ---- fail and crash
 
-pub fail-call : (size : Limits) (p : ℕ) (view new : NodeView) (node : Node) (r : Entry) (cause : Option ℕ) → ShowsNode size p view node → view.state ≡ Storing r cause
+pub fail-call : (size : Limits) (p : ℕ) (view new : NodeView) (node : Node) (r : Entry) (cause : Option Cause) → ShowsNode size p view node → view.state ≡ Storing r cause
     → new ≡ record view { state = Down (Some r); acks = [] } → Gives size p (fails p node node.state) (WentDown p) new
 fail-call size p view new node r cause s held e =
     subst (λ (state : State). Gives size p (fails p node state) (WentDown p) new) (sym (sym s.state ∙ held))

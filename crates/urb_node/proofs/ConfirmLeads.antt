@@ -20,6 +20,7 @@ use Rattle.urb_node.specs.Replies.{Done, Stored}
 use Rattle.urb_node.specs.Steps.{commits, is_accepted}
 use Rattle.urb_node.specs.Values.{Memory, Holding, ShowsReady, draft_of}
 use Rattle.urb_node.proofs.RecordOutcomes.{IsFirst, IsReleased, commit-says, same_limits, told_of}
+use Rattle.urb_node.specs.declared.cause.Cause.{Cause}
 
 -- a certified name is pending, so one that is not pending is not certified
 pub first_held : {A : Type 0} (h : Held A) (r : Entry) → IsHeld h → IsNextHeld h r → IsFirst (memory_of h) r
@@ -43,7 +44,7 @@ released_held h k d =
       certified = λ x. sym (d.released.1.certified x) ∙ ap (λ names. has_name names x) k.certified;
     }
 
-pub confirm-leads : {A : Type 0} (held : Held A) (entry : Entry) (cause : Option ℕ) (packets : List Carried) (receipt : Placed) (new : Memory) (told : Done) → IsDrafted held entry cause packets → IsPendingSet held.pending → IsDelivery held.fifo
+pub confirm-leads : {A : Type 0} (held : Held A) (entry : Entry) (cause : Option Cause) (packets : List Carried) (receipt : Placed) (new : Memory) (told : Done) → IsDrafted held entry cause packets → IsPendingSet held.pending → IsDelivery held.fifo
     → receipt ≡ record { node = held.node; pos = held.stored + 1; entry = entry } → new ≡ with_record (memory_of held) entry cause
     → told.accepted ≡ is_accepted held.node entry → told.name ≡ name_of entry → told.sent ≡ packets → length new.log ≡ length held.fifo.log + told.released
     → Confirms (record { memory = memory_of held; entry = entry; cause = cause }) receipt (Ok (new, told))

@@ -11,9 +11,10 @@ use Rattle.urb_node.specs.Replies.{Sent}
 use Rattle.urb_node.specs.Shown.{NodeView, ShowsNode}
 use Rattle.urb_node.specs.Steps.{doubt, drafts, due, goes_down, resends}
 use Rattle.urb_stable.specs.Entries.{Entry}
+use Rattle.urb_node.specs.declared.cause.Cause.{Cause}
 
 -- The memory holds this draft, and else what it held.
-pub draft-shows : (size : Limits) (p : ℕ) (view new : NodeView) (node : Node) (r : Entry) (cause : Option ℕ) → ShowsNode size p view node
+pub draft-shows : (size : Limits) (p : ℕ) (view new : NodeView) (node : Node) (r : Entry) (cause : Option Cause) → ShowsNode size p view node
     → new ≡ record view { state = Storing r cause } → ShowsNode size p new (drafts node r cause).1
 draft-shows size p view new node r cause s e =
     subst (λ (v : NodeView). ShowsNode size p v (drafts node r cause).1) (sym e)

@@ -21,6 +21,7 @@ use Rattle.urb_stable.specs.Fitting.{KeepsOwn}
 use Rattle.urb_stable.specs.Log.{log}
 use Rattle.urb_stable.specs.Records.{cert, pend}
 use Rattle.urb_stable.specs.declared.record.Record.TheVariants.{Cert, Pend, PendCert}
+use Rattle.urb_node.specs.declared.cause.Cause.{Cause}
 
 -- the memory `new` says what `view` said, and the record
 pub record SaysMore (view new : NodeView) (r : Entry) : Type 0 where
@@ -44,12 +45,12 @@ log-released view log_after certificates r x one before same e records l h = e �
 
 -- ---- acknowledgements
 
-cause-same : (a b : List (Label × ℕ)) (y : Label) (cause : Option ℕ) (x : Label) (q : ℕ) → acked a x q ≡ acked b x q → acked (with_cause a y cause) x q ≡ acked (with_cause b y cause) x q
+cause-same : (a b : List (Label × ℕ)) (y : Label) (cause : Option Cause) (x : Label) (q : ℕ) → acked a x q ≡ acked b x q → acked (with_cause a y cause) x q ≡ acked (with_cause b y cause) x q
 cause-same a b y None x q e = e
-cause-same a b y (Some z) x q e = with-same a b y z x q e
+cause-same a b y (Some cause) x q e = with-same a b y cause.source x q e
 
 -- what is counted after a record depends on what was counted
-after-same : (p : ℕ) (r : Entry) (cause : Option ℕ) (a b : List (Label × ℕ)) (x : Label) (q : ℕ) → acked a x q ≡ acked b x q → acked (acks_after p r cause a) x q ≡ acked (acks_after p r cause b) x q
+after-same : (p : ℕ) (r : Entry) (cause : Option Cause) (a b : List (Label × ℕ)) (x : Label) (q : ℕ) → acked a x q ≡ acked b x q → acked (acks_after p r cause a) x q ≡ acked (acks_after p r cause b) x q
 after-same p (Pend y m) cause a b x q e = cause-same (with_ack a y p) (with_ack b y p) y cause x q (with-same a b y p x q e)
 after-same p (PendCert y m) cause a b x q e = cause-same (with_ack a y p) (with_ack b y p) y cause x q (with-same a b y p x q e)
 after-same p (Cert y) cause a b x q e = e
@@ -99,7 +100,7 @@ joined-shows size p view new node after r s rise next more records broadcast sta
     all_certified x = more.certified x ∙ (names-joined node.records r view.certified s.certified x ∙ ap (λ rs. has_name (cert rs) x) (sym records))
 
 -- The held record is stored.
-pub confirm-shows : (size : Limits) (p : ℕ) (view new : NodeView) (node : Node) (r : Entry) (cause : Option ℕ) → ShowsNode size p view node
+pub confirm-shows : (size : Limits) (p : ℕ) (view new : NodeView) (node : Node) (r : Entry) (cause : Option Cause) → ShowsNode size p view node
     → are_rising view.pairs ≡ true → IsNext size p view.pairs view.certified r → SaysMore view new r
     → new.state ≡ Ready → new.cursor ≡ view.cursor
     → ((x : Label) (q : ℕ) → has_name new.certified x ≡ false → acked new.acks x q ≡ acked (acks_after p r cause view.acks) x q)

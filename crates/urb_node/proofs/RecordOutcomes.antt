@@ -27,6 +27,7 @@ use Rattle.urb_node.proofs.Calls.{same_record-same}
 use Rattle.urb_node.proofs.ShownNodes.{with-same}
 use Rattle.urb_node.proofs.JoinedMemory.{SaysMore, confirm-shows, done-shown, log-stays, log-released}
 use Rattle.urb_node.proofs.ArriveOutcomes.{counted-with}
+use Rattle.urb_node.specs.declared.cause.Cause.{Cause}
 
 -- the log is the release of certificates, the newest first, and they are all that is certified
 pub record IsReleased (a : Memory) : Type 0 where
@@ -71,7 +72,7 @@ delivers-more a x h new =
 
 -- ---- the memory with the record
 
-pub record-more : (state new : State) (a : Memory) (r : Entry) (cause : Option ℕ) → IsReleased a → IsFirst a r → SaysMore (view_in state a) (view_in new (with_record a r cause)) r
+pub record-more : (state new : State) (a : Memory) (r : Entry) (cause : Option Cause) → IsReleased a → IsFirst a r → SaysMore (view_in state a) (view_in new (with_record a r cause)) r
 record-more state new a (Pend x m) cause h f =
     record {
       pairs = λ y o. has_pair-inserted (x, m) a.pairs y o ∙ behind (same_name x y && same_message m o) (has_pair a.pairs y o);
@@ -94,14 +95,14 @@ record-more state new a (Cert x) cause h f =
       count = refl;
     }
 
-pub record-acks : (a : Memory) (r : Entry) (cause : Option ℕ) (y : Label) (z : ℕ) → acked (with_record a r cause).acks y z ≡ acked (acks_after a.node r cause a.acks) y z
+pub record-acks : (a : Memory) (r : Entry) (cause : Option Cause) (y : Label) (z : ℕ) → acked (with_record a r cause).acks y z ≡ acked (acks_after a.node r cause a.acks) y z
 record-acks a (Pend x m) None y z = counted-with a.acks x a.node y z
 record-acks a (PendCert x m) None y z = counted-with a.acks x a.node y z
 record-acks a (Cert x) cause y z = refl
-record-acks a (Pend x m) (Some q) y z = counted-with (counted_with a.acks x a.node) x q y z ∙ with-same (counted_with a.acks x a.node) (with_ack a.acks x a.node) x q y z (counted-with a.acks x a.node y z)
-record-acks a (PendCert x m) (Some q) y z = counted-with (counted_with a.acks x a.node) x q y z ∙ with-same (counted_with a.acks x a.node) (with_ack a.acks x a.node) x q y z (counted-with a.acks x a.node y z)
+record-acks a (Pend x m) (Some cause) y z = counted-with (counted_with a.acks x a.node) x cause.source y z ∙ with-same (counted_with a.acks x a.node) (with_ack a.acks x a.node) x cause.source y z (counted-with a.acks x a.node y z)
+record-acks a (PendCert x m) (Some cause) y z = counted-with (counted_with a.acks x a.node) x cause.source y z ∙ with-same (counted_with a.acks x a.node) (with_ack a.acks x a.node) x cause.source y z (counted-with a.acks x a.node y z)
 
-pub same_limits : (a : Memory) (r : Entry) (cause : Option ℕ) → ((with_record a r cause).limits ≡ a.limits) × ((with_record a r cause).node ≡ a.node)
+pub same_limits : (a : Memory) (r : Entry) (cause : Option Cause) → ((with_record a r cause).limits ≡ a.limits) × ((with_record a r cause).node ≡ a.node)
 same_limits a (Pend x m) cause = (refl, refl)
 same_limits a (PendCert x m) cause = (refl, refl)
 same_limits a (Cert x) cause = (refl, refl)

@@ -16,6 +16,7 @@ use Rattle.urb_node.specs.Part.{State}
 use Rattle.urb_node.proofs.RecordOutcomes.{same_limits}
 use Rattle.urb_node.specs.Steps.{packets_of}
 use Rattle.urb_node.specs.Values.{Memory, ShowsIn}
+use Rattle.urb_node.specs.declared.cause.Cause.{Cause}
 
 -- packets of the pairs in memory are of the stored ones of each node that is shown
 pub of-stored : (state : State) (a : Memory) (packets : List Carried) → AreFrom a.node a.pairs packets → AreOfStored (ShowsIn state a) a.node packets
@@ -25,12 +26,12 @@ of-stored state a packets from node s = all_weaker (IsFrom a.node a.pairs) _ pac
 inserted-from : (n p : ℕ) (pairs : List (Label × Content)) (pair : Label × Content) → AreFrom p (inserted pair pairs) (packets_of n p (Pend pair.0 pair.1))
 inserted-from n p pairs pair = to_others-from n p (inserted pair pairs) pair (has_pair-inserted pair pairs pair.0 pair.1 ∙ has_pair-head pair pairs)
 
-record-from : (n p : ℕ) (a : Memory) (r : Entry) (cause : Option ℕ) → AreFrom p (with_record a r cause).pairs (packets_of n p r)
+record-from : (n p : ℕ) (a : Memory) (r : Entry) (cause : Option Cause) → AreFrom p (with_record a r cause).pairs (packets_of n p r)
 record-from n p a (Pend x m) cause = inserted-from n p a.pairs (x, m)
 record-from n p a (PendCert x m) cause = inserted-from n p a.pairs (x, m)
 record-from n p a (Cert x) cause = tt
 
-pub stored-from : (old new : Memory) (r : Entry) (cause : Option ℕ) (packets : List Carried) → new ≡ with_record old r cause → packets ≡ packets_of old.limits.n old.node r → AreFrom new.node new.pairs packets
+pub stored-from : (old new : Memory) (r : Entry) (cause : Option Cause) (packets : List Carried) → new ≡ with_record old r cause → packets ≡ packets_of old.limits.n old.node r → AreFrom new.node new.pairs packets
 stored-from old new r cause packets after is =
     subst (λ (ps : List Carried). AreFrom new.node new.pairs ps) (sym is)
     (subst (λ (a : Memory). AreFrom a.node a.pairs (packets_of old.limits.n old.node r)) (sym after) (subst (λ (p : ℕ). AreFrom p (with_record old r cause).pairs (packets_of old.limits.n old.node r)) (sym (same_limits old r cause).1) (record-from old.limits.n old.node old r cause)))

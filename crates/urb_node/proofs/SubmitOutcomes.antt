@@ -21,6 +21,7 @@ use Rattle.urb_node.specs.Outcomes.{Answers, Refuses, Wants, own_of, own_record,
 use Rattle.urb_node.proofs.ShownNodes.{shown-found, shown-broadcast}
 use Rattle.urb_node.proofs.Drafts.{draft-shows}
 use Rattle.urb_node.proofs.Told.{Says}
+use Rattle.urb_node.specs.declared.cause.Cause.{Cause}
 
 -- what is found first stands at its place
 pub find-place : {X : Type 0} (test : X → Bool) (xs : List X) (x : X) → find test xs ≡ Some x → slice_get xs (position_or_len test xs) ≡ Some x
@@ -41,7 +42,7 @@ alone (suc (suc n)) h = ne_eqb (suc (suc n)) 1 (λ e. (let f = e in omega arith)
 -- ---- the outcomes
 
 -- a draft of the record
-pub drafts-says : (a : Memory) (node : Node) (entry : Entry) (cause : Option ℕ) → ShowsReady a node → Says (drafts node entry cause) (Wants entry cause a)
+pub drafts-says : (a : Memory) (node : Node) (entry : Entry) (cause : Option Cause) → ShowsReady a node → Says (drafts node entry cause) (Wants entry cause a)
 drafts-says a node entry cause s = (
   ap (λ k. Drafted (name_of entry) (suc k)) (sym s.count),
   draft-shows a.limits a.node (ready_view a) (view_in (Storing entry cause) a) node entry cause s refl,

@@ -26,13 +26,15 @@ use Rattle.urb_node.specs.Outcomes.{Wants, arrive_outcome, counted_outcome, numb
 use Rattle.urb_node.specs.Steps.{packets_of}
 use Rattle.urb_node.specs.Values.{Memory}
 use Rattle.urb_node.proofs.NextRecords.{arrival-next, next_own-fresh, submit-next}
+use Rattle.urb_node.specs.Part.{packet_from}
+use Rattle.urb_node.specs.declared.cause.Cause.{Cause}
 
 -- a pending record, certified at once or not
 abbrev pub pending_entry : Bool → Label → Content → Entry
 pending_entry is_certified x m = if is_certified then PendCert x m else Pend x m
 
 -- a draft of it can be held
-pub made : {A : Type 0} (old new : Held A) (x : Label) (m : Content) (b : Bool) (cause : Option ℕ) (packets : List Carried) → IsHeld new → ForSome cause (λ q. (1 ≤ q) × (q ≤ new.config.n)) → memory_of new ≡ memory_of old → IsNextHeld old (pending_entry b x m)
+pub made : {A : Type 0} (old new : Held A) (x : Label) (m : Content) (b : Bool) (cause : Option Cause) (packets : List Carried) → IsHeld new → ForSome cause (λ c. (1 ≤ c.source) × (c.source ≤ new.config.n)) → memory_of new ≡ memory_of old → IsNextHeld old (pending_entry b x m)
     → HasRoom new (pending_entry b x m) → packets ≡ to_others old.config.n old.node (x, m) → IsDrafted new (pending_entry b x m) cause packets
 made old new x m b cause packets kept caused same next room sends =
     record {
@@ -82,7 +84,7 @@ submit-wants a m entry b short new number room alone is =
     ∙ ap (λ entry. Wants entry None a) (sym (is ∙ ap (λ b. pending_entry b (name a.node (suc (length (own_of a)))) m) alone)))))
 
 -- what a submit found that wants a record stored: q is the node's number, as the pending set has it
-pub submit-told : (a : Memory) (q : ℕ) (m : Content) (entry : Entry) (cause : Option ℕ) (b : Bool) (after : Memory) → q ≡ a.node → length m.payload ≤ 1024 → name_given q m.client m.number (own q a.pairs) ≡ None
+pub submit-told : (a : Memory) (q : ℕ) (m : Content) (entry : Entry) (cause : Option Cause) (b : Bool) (after : Memory) → q ≡ a.node → length m.payload ≤ 1024 → name_given q m.client m.number (own q a.pairs) ≡ None
     → m.number ≡ next_number m.client (own q a.pairs) → length (own q a.pairs) < a.limits.cap → b ≡ is_majority 1 a.limits.n → entry ≡ pending_entry b (name a.node (length (own q a.pairs) + 1)) m → cause ≡ None → after ≡ a
     → submit_outcome a m ≡ Wants entry cause after
 submit-told a q m entry cause b after is short new number room alone entry_is none same =
@@ -100,12 +102,12 @@ pub arrived-next : (limits : Limits) (p : ℕ) (pairs : List (Label × Content))
 arrived-next limits p pairs certified x m b may fresh = either_next limits p pairs certified x m b (arrival-next limits p pairs certified x m may fresh)
 
 -- what an arrival found that wants a record stored
-pub arrive-told : (a : Memory) (q : ℕ) (x : Label) (m : Content) (entry : Entry) (cause : Option ℕ) (b : Bool) (after : Memory) → message_of a.pairs x ≡ None → b ≡ is_majority 2 a.limits.n
-    → entry ≡ pending_entry b x m → cause ≡ Some q → after ≡ a → arrive_outcome a q x m ≡ Wants entry cause after
+pub arrive-told : (a : Memory) (q : ℕ) (x : Label) (m : Content) (entry : Entry) (cause : Option Cause) (b : Bool) (after : Memory) → message_of a.pairs x ≡ None → b ≡ is_majority 2 a.limits.n
+    → entry ≡ pending_entry b x m → cause ≡ Some (packet_from q) → after ≡ a → arrive_outcome a q x m ≡ Wants entry cause after
 arrive-told a q x m entry cause b after fresh both entry_is some same =
     ap (pending_outcome a q x m) fresh
-    ∙ (ap (λ c. Wants (pending_entry c x m) (Some q) a) (sym both)
-    ∙ (ap (λ e. Wants e (Some q) a) (sym entry_is) ∙ ap₂ (λ cause after. Wants entry cause after) (sym some) (sym same)))
+    ∙ (ap (λ c. Wants (pending_entry c x m) (Some (packet_from q)) a) (sym both)
+    ∙ (ap (λ e. Wants e (Some (packet_from q)) a) (sym entry_is) ∙ ap₂ (λ cause after. Wants entry cause after) (sym some) (sym same)))
 
 -- a packet of a pending name that is not certified
 pub arrive-counts : (a : Memory) (q : ℕ) (x : Label) (m first : Content) → message_of a.pairs x ≡ Some first → has_name a.certified x ≡ false → arrive_outcome a q x m ≡ counted_outcome a q x

@@ -1,5 +1,5 @@
 -- What a node holds in memory, seen from the layers that keep it, and what holds of it in each state.
-use Rattle.std.specs.Prelude.{◌≡◌, ◌≤◌, ◌+◌, ℕ, true, is_some, List, [], length, Some, Option}
+use Rattle.std.specs.Prelude.{◌≡◌, ◌≤◌, ◌+◌, true, is_some, List, [], length, Some, Option}
 use Rattle.std.specs.Option.{ForSome}
 use Rattle.urb_names.specs.Naming.{Label}
 use Rattle.urb_names.specs.Names.{has_name}
@@ -10,6 +10,7 @@ use Rattle.urb_stable.specs.declared.record.Record.TheVariants.{Pend, PendCert, 
 use Rattle.urb_node.specs.Next.{IsNext}
 use Rattle.urb_node.specs.Steps.{packets_of}
 use Rattle.urb_node.specs.Values.{Memory}
+use Rattle.urb_node.specs.declared.cause.Cause.{Cause}
 use Rattle.urb_node.specs.declared.held.Held.{Held}
 
 -- what the layers keep, as one memory
@@ -56,11 +57,11 @@ HasRoom h (Cert x) = (h.acks.reserved ≡ Some x) × (h.fifo.reserved ≡ Some x
 
 -- a draft of the record can be held: the record is next, there is room for it, a node of the group caused it if any did,
 -- and these are its packets
-pub record IsDrafted {A : Type 0} (h : Held A) (entry : Entry) (cause : Option ℕ) (packets : List Carried) : Type 0 where
+pub record IsDrafted {A : Type 0} (h : Held A) (entry : Entry) (cause : Option Cause) (packets : List Carried) : Type 0 where
   pub held : IsHeld h
   pub next : IsNextHeld h entry
   pub room : HasRoom h entry
-  pub caused : ForSome cause (λ q. (1 ≤ q) × (q ≤ h.config.n))
+  pub caused : ForSome cause (λ c. (1 ≤ c.source) × (c.source ≤ h.config.n))
   pub sends : packets ≡ packets_of h.config.n h.node entry
 
 -- nothing is counted, and a doubtful record is next

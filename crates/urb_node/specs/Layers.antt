@@ -9,6 +9,7 @@ use Rattle.urb_majority.specs.Acks.{ack_lt}
 use Rattle.urb_fifo.specs.Releasing.{newly_released}
 use Rattle.urb_stable.specs.Entries.{Entry}
 use Rattle.urb_stable.specs.declared.record.Record.TheVariants.{Pend, PendCert, Cert}
+use Rattle.urb_node.specs.declared.cause.Cause.{Cause}
 use Rattle.urb_node.specs.Values.{Memory}
 
 -- the acknowledgements with this node counted for the name, in its place
@@ -16,9 +17,9 @@ abbrev pub counted_with : List (Label × ℕ) → Label → ℕ → List (Label 
 counted_with acks x q = if acked acks x q then acks else placed ack_lt acks (x, q)
 
 -- and with the node that caused a record, where there is one
-abbrev pub counted_cause : List (Label × ℕ) → Label → Option ℕ → List (Label × ℕ)
+abbrev pub counted_cause : List (Label × ℕ) → Label → Option Cause → List (Label × ℕ)
 counted_cause acks x None = acks
-counted_cause acks x (Some q) = counted_with acks x q
+counted_cause acks x (Some cause) = counted_with acks x cause.source
 
 -- the certified names with this one, in its place
 abbrev pub certified_with : List Label → Label → List Label
@@ -29,7 +30,7 @@ abbrev pub delivered_with : List Label → List Label → Label → List Label
 delivered_with log certified x = if has_name certified x then log else log ++ newly_released log certified x
 
 -- the memory with one more pending pair, for which the node itself and the one that caused it are counted
-abbrev pub with_pair : Memory → Label → Content → Option ℕ → Memory
+abbrev pub with_pair : Memory → Label → Content → Option Cause → Memory
 with_pair a x m cause =
     record a {
       pairs = inserted (x, m) a.pairs;
@@ -42,7 +43,7 @@ abbrev pub with_certificate : Memory → Label → Memory
 with_certificate a x = record a { certified = certified_with a.certified x; log = delivered_with a.log a.certified x }
 
 -- the memory once a record is stored
-abbrev pub with_record : Memory → Entry → Option ℕ → Memory
+abbrev pub with_record : Memory → Entry → Option Cause → Memory
 with_record a (Pend x m) cause = with_pair a x m cause
 with_record a (PendCert x m) cause = with_certificate (with_pair a x m cause) x
 with_record a (Cert x) cause = with_certificate (record a { count = suc a.count }) x

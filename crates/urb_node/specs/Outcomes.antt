@@ -12,6 +12,8 @@ use Rattle.urb_stable.specs.declared.record.Record.TheVariants.{Pend, PendCert, 
 use Rattle.urb_pending.specs.PendingSet.{name_given}
 use Rattle.urb_node.specs.declared.answer.Answer.{Answer}
 use Rattle.urb_node.specs.declared.answer.Answer.TheVariants as answer
+use Rattle.urb_node.specs.declared.cause.Cause.{Cause}
+use Rattle.urb_node.specs.Part.{packet_from}
 use Rattle.urb_node.specs.Values.{Memory}
 use Rattle.urb_node.specs.Layers.{counted_with}
 
@@ -19,7 +21,7 @@ use Rattle.urb_node.specs.Layers.{counted_with}
 pub data Outcome : Type 0 where
   Answers : Answer → Memory → Outcome
   Refuses : Refusal → Outcome
-  Wants : Entry → Option ℕ → Memory → Outcome
+  Wants : Entry → Option Cause → Memory → Outcome
 
 -- the node's own messages
 abbrev pub own_of : Memory → List Content
@@ -65,13 +67,13 @@ with_counted a x q = record a { acks = counted_with a.acks x q }
 -- a packet of a name that is pending and not certified
 abbrev pub counted_outcome : Memory → ℕ → Label → Outcome
 counted_outcome a q x =
-    if majority_passes a.limits.n (acked (with_ack a.acks x q) x) then Wants (Cert x) (Some q) (with_counted a x q)
+    if majority_passes a.limits.n (acked (with_ack a.acks x q) x) then Wants (Cert x) (Some (packet_from q)) (with_counted a x q)
     else if acked a.acks x q then Answers (answer.Again x) a
     else Answers (answer.Noted x) (with_counted a x q)
 
 -- a packet from q, by the message that is pending under its name, where there is one
 abbrev pub pending_outcome : Memory → ℕ → Label → Content → Option Content → Outcome
-pending_outcome a q x m None = Wants (if is_majority 2 a.limits.n then PendCert x m else Pend x m) (Some q) a
+pending_outcome a q x m None = Wants (if is_majority 2 a.limits.n then PendCert x m else Pend x m) (Some (packet_from q)) a
 pending_outcome a q x m (Some first) = if has_name a.certified x then Answers (answer.Again x) a else counted_outcome a q x
 
 -- a packet from q

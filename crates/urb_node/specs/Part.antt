@@ -2,13 +2,18 @@
 use Rattle.std.specs.Prelude.{List, None, Option, map, ℕ}
 use Rattle.urb_names.specs.Naming.{Content, Label}
 use Rattle.urb_names.specs.Pairs.{own}
+use Rattle.urb_node.specs.declared.cause.Cause.{Cause}
 use Rattle.urb_stable.specs.Entries.{Entry}
 use Rattle.urb_stable.specs.Records.{pend}
 
--- ready; storing a record, with the node whose arrival caused it, or none; down, perhaps with one doubtful record
+-- a draft that a packet from this node caused
+abbrev pub packet_from : ℕ → Cause
+packet_from q = record { source = q }
+
+-- ready; storing a record, with the packet that caused it, or none; down, perhaps with one doubtful record
 pub data State : Type 0 where
   Ready : State
-  Storing : (entry : Entry) (cause : Option ℕ) → State
+  Storing : (entry : Entry) (cause : Option Cause) → State
   Down : (doubtful : Option Entry) → State
 
 -- one node's part of the world

@@ -9,8 +9,9 @@ use Rattle.urb_names.specs.Naming.{Content, Label, Limits}
 use Rattle.urb_names.specs.Nodes.{majority_passes}
 use Rattle.urb_names.specs.Pairs.{has_pair, is_numbered, message_of, next_number}
 use Rattle.urb_names.specs.declared.refusal.Refusal.{Refusal}
-use Rattle.urb_node.specs.Part.{Down, Node, Ready, State, Storing, own_acks}
+use Rattle.urb_node.specs.Part.{Down, Node, Ready, State, Storing, own_acks, packet_from}
 use Rattle.urb_node.specs.Replies.{Done, Drafted, Refused, Reply, Same, Sent, Stored, Up, WentDown}
+use Rattle.urb_node.specs.declared.cause.Cause.{Cause}
 use Rattle.urb_node.specs.declared.answer.Answer.TheVariants.{Accepted, Again, Noted}
 use Rattle.urb_stable.specs.Entries.{Entry, name_of}
 use Rattle.urb_stable.specs.Log.{log}
@@ -35,7 +36,7 @@ abbrev pub next_position : Node → ℕ
 next_position node = suc (length node.records)
 
 -- the node holds a draft of this record, caused by this node or by none
-abbrev pub drafts : Node → Entry → Option ℕ → Reply × Node
+abbrev pub drafts : Node → Entry → Option Cause → Reply × Node
 drafts node entry cause = (Drafted (name_of entry) (next_position node), record node { state = Storing entry cause })
 
 -- the node stays as it is
@@ -74,15 +75,15 @@ submits size p m node =
 -- An arrival from q of a name that is not pending: the pair is drafted, certified at once where p and q are a majority.
 abbrev pub takes : Limits → ℕ → ℕ → Label → Content → Node → Reply × Node
 takes size p q x m node =
-    if majority_passes size.n (λ z. (z == p) || (z == q)) then drafts node (PendCert x m) (Some q)
-    else drafts node (Pend x m) (Some q)
+    if majority_passes size.n (λ z. (z == p) || (z == q)) then drafts node (PendCert x m) (Some (packet_from q))
+    else drafts node (Pend x m) (Some (packet_from q))
 
 -- An arrival from q of a name that is pending and not certified: q is counted, and a certificate is drafted where the
 -- counted nodes are a majority.
 abbrev pub counts : Limits → ℕ → Label → Node → Reply × Node
 counts size q x node =
     let after = record node { acks = with_ack node.acks x q } in
-    if majority_passes size.n (acked after.acks x) then drafts after (Cert x) (Some q)
+    if majority_passes size.n (acked after.acks x) then drafts after (Cert x) (Some (packet_from q))
     else (if acked node.acks x q then (Same (Again x), after) else (Same (Noted x), after))
 
 -- a truthful packet comes from q to a ready node
@@ -93,12 +94,12 @@ arrives size p q x m node =
     else (Same (Again x), node))
 
 -- the acknowledgements with the causing node counted, where there is one
-abbrev pub with_cause : List (Label × ℕ) → Label → Option ℕ → List (Label × ℕ)
+abbrev pub with_cause : List (Label × ℕ) → Label → Option Cause → List (Label × ℕ)
 with_cause acks x None = acks
-with_cause acks x (Some q) = with_ack acks x q
+with_cause acks x (Some cause) = with_ack acks x cause.source
 
 -- the acknowledgements once a record is stored: of a pending one the node itself and the causing node are counted
-abbrev pub acks_after : ℕ → Entry → Option ℕ → List (Label × ℕ) → List (Label × ℕ)
+abbrev pub acks_after : ℕ → Entry → Option Cause → List (Label × ℕ) → List (Label × ℕ)
 acks_after p (Pend x m) cause acks = with_cause (with_ack acks x p) x cause
 acks_after p (PendCert x m) cause acks = with_cause (with_ack acks x p) x cause
 acks_after p (Cert x) cause acks = acks
@@ -132,7 +133,7 @@ done n p entry node =
     }
 
 -- the node once its held record is stored
-abbrev pub keeps_record : ℕ → Entry → Option ℕ → Node → Node
+abbrev pub keeps_record : ℕ → Entry → Option Cause → Node → Node
 keeps_record p entry cause node =
     record {
       records = node.records ++ entry ∷ [];

@@ -4,6 +4,7 @@ use Rattle.urb_names.specs.Naming.{Limits, Label, Content}
 use Rattle.urb_stable.specs.Entries.{Entry}
 use Rattle.urb_stable.specs.Placed.{Placed}
 use Rattle.urb_node.specs.Part.{Node, State, Ready, Storing, Down}
+use Rattle.urb_node.specs.declared.cause.Cause.{Cause}
 use Rattle.urb_node.specs.Shown.{NodeView, ShowsNode}
 
 -- what a node holds in memory of what it has stored and counted
@@ -21,7 +22,7 @@ pub record Memory : Type 0 where
 pub record Holding : Type 0 where
   pub memory : Memory
   pub entry : Entry
-  pub cause : Option ℕ
+  pub cause : Option Cause
 
 -- a node that is down, and the record that its store may have
 pub record Fallen : Type 0 where

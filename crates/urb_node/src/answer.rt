@@ -3,7 +3,7 @@
 use urb_names::Name;
 
 /// An answer that takes no draft: the event changed nothing that is stored.
-#[derive(Clone, Copy, Debug, PartialEq, Eq)]
+#[derive(Debug, Drop, PartialEq, Eq)]
 pub enum Answer {
     /// The submit is a repeat: its message was broadcast under this name before.
     Accepted(Name),

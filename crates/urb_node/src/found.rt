@@ -13,6 +13,7 @@ ghost use Rattle.urb_node.specs.Outcomes.{arrive_outcome, counted_outcome, repea
 ghost use Rattle.urb_node.specs.Values.{IsSameNode};
 
 use crate::Answer;
+use crate::cause::Cause;
 use crate::held::Held;
 use std::alloc::{Allocator, Global};
 use urb_majority::Acks;
@@ -22,13 +23,13 @@ use urb_names::{
 use urb_stable::Record;
 use urb_stubborn::Outbox;
 
-/// A record to be stored, with its copy for the store, the node whose packet caused it, and the packets to send then.
+/// A record to be stored, with its copy for the store, the packet that caused it, and the packets to send then.
 #[derive(Drop)]
 #[derive_where(Debug)]
 pub(crate) struct Wanted<A: Allocator = Global> {
     pub(crate) entry: Record<Message<A>>,
     pub(crate) copy: Record<Message<A>>,
-    pub(crate) cause: Option<NodeId>,
+    pub(crate) cause: Option<Cause>,
     pub(crate) packets: Outbox<A>,
 }
 
@@ -106,11 +107,11 @@ fn make_wanted<A: Allocator + Copy>(
     name: Name,
     message: Message<A>,
     is_certified: bool,
-    cause: Option<NodeId>,
+    cause: Option<Cause>,
 ) -> Result<Wanted<A>, NoMemory>
     requires kept { IsHeld held.old }
     requires next { IsNextHeld held.old (if is_certified then PendCert name message else Pend name message) }
-    requires caused { ForSome cause (λ q. (1 ≤ q) × (q ≤ held.old.config.n)) }
+    requires caused { ForSome cause (λ c. (1 ≤ c.source) × (c.source ≤ held.old.config.n)) }
     ensures kept { IsHeld held.new }
     ensures same { memory_of held.new ≡ memory_of held.old }
     ensures wanted { IfOk result (λ w. IsWanted held.new w × (w.entry ≡ (if is_certified then PendCert name message else Pend name message)) × (w.cause ≡ cause)) }
@@ -229,7 +230,7 @@ fn counted<A: Allocator + Copy>(
         return Ok(Found::New(Wanted {
             entry: Record::Cert(name),
             copy: Record::Cert(name),
-            cause: Some(source),
+            cause: Some(Cause { source }),
             packets: Outbox::empty(alloc),
         }));
     }
@@ -260,7 +261,8 @@ pub(crate) fn arrived<A: Allocator + Copy>(
     if held.pending.message(name).is_none() {
         let message = Message::copied(alloc, packet.client(), packet.number(), packet.payload())?;
         let is_certified = is_majority(2, held.config.n());
-        return Ok(Found::New(make_wanted(held, alloc, name, message, is_certified, Some(source))?));
+        let cause = Some(Cause { source });
+        return Ok(Found::New(make_wanted(held, alloc, name, message, is_certified, cause)?));
     }
     if held.acks.certified(name) {
         return Ok(Found::Known(Answer::Again(name)));

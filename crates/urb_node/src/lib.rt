@@ -2,6 +2,7 @@
 #![tactic(auto)]
 
 mod answer;
+mod cause;
 mod down;
 mod found;
 mod held;

@@ -64,7 +64,8 @@ fn step_of<A: Allocator + Copy>(held: Held<A>, found: Found<A>) -> Step<A>
 }
 
 impl<A: Allocator + Copy> Ready<A> {
-    /// A node of a group that has stored nothing: a process of the book as it is initialized (section 3.9).
+    /// A node of a group that has stored nothing: a process of the book's logged uniform reliable broadcast as it is initialized
+    /// (section 3.7).
     pub fn new(alloc: A, config: Config, node: NodeId) -> Result<Ready<A>, NoMemory>
         requires { node ≤ config.n }
         ensures memory { IfOk result (λ ready. ready ≡ new_memory config node) }
@@ -87,7 +88,8 @@ impl<A: Allocator + Copy> Ready<A> {
         })
     }
 
-    /// A client's message: the broadcast of the book's algorithm (section 3.9.6), as far as its store.
+    /// A client's message: the broadcast of the book's majority-ack algorithm with logging (section 3.7), under the node's
+    /// next number (broadcast with sequence number, section 3.9), as far as its store.
     pub fn submit(
         self,
         alloc: A,
@@ -109,8 +111,8 @@ impl<A: Allocator + Copy> Ready<A> {
         }
     }
 
-    /// A packet of another node of the group, of a message that its source holds: the delivery of a best-effort broadcast
-    /// in the book's algorithm (section 3.9.6), as far as its store.
+    /// A packet of another node of the group, of a message that its source holds: the delivery of a stubborn best-effort
+    /// broadcast in the book's majority-ack algorithm with logging (section 3.7), as far as its store.
     pub fn arrive(self, alloc: A, packet: PacketView<'_>) -> Result<Step<A>, (Ready<A>, Refusal)>
         requires { IsForNode self packet }
         ensures event { Arrives self packet.entry.source packet.entry.name packet.entry.message result }

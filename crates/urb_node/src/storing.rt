@@ -12,6 +12,7 @@ ghost use Rattle.urb_node.specs.Moves.{AreOfStored, Confirms, Crashes, Fails};
 ghost use Rattle.urb_node.specs.Steps.{is_accepted};
 ghost use Rattle.urb_node.specs.Values.{ShowsReady, ShowsStoring};
 
+use crate::cause::Cause;
 use crate::down::fallen;
 use crate::found::note;
 use crate::held::Held;
@@ -29,7 +30,7 @@ use urb_stubborn::Outbox;
 pub struct Storing<A: Allocator = Global> {
     pub(crate) held: Held<A>,
     pub(crate) entry: Record<Message<A>>,
-    pub(crate) cause: Option<NodeId>,
+    pub(crate) cause: Option<Cause>,
     // What is sent once the record is stored. It leaves this value by `confirm` alone.
     pub(crate) packets: Outbox<A>,
 }
@@ -45,16 +46,16 @@ impl<A: Allocator> Model for Storing<A> {
     ghost invariant = { λ a. IsDrafted a.held a.entry a.cause a.packets };
 }
 
-// A stored message is acknowledged by the node, and by the one whose packet caused it.
-fn count<A: Allocator + Copy>(acks: &mut Acks<A>, name: Name, node: NodeId, cause: Option<NodeId>)
+// A stored message is acknowledged by the node, and by the one that the packet which caused it came from.
+fn count<A: Allocator + Copy>(acks: &mut Acks<A>, name: Name, node: NodeId, cause: Option<Cause>)
     requires { acks.old.reserved ≡ Some name }
     ensures counted { acks.new.counted ≡ counted_cause (counted_with acks.old.counted name node) name cause }
     ensures same { (acks.new.limits ≡ acks.old.limits) × (acks.new.certified ≡ acks.old.certified) }
     ensures reserved { acks.new.reserved ≡ Some name }
 {
     note(acks, name, node).unwrap();
-    if let Some(source) = cause {
-        note(acks, name, source).unwrap();
+    if let Some(cause) = cause {
+        note(acks, name, cause.source).unwrap();
     }
 }
 
@@ -63,7 +64,7 @@ fn join_pair<A: Allocator + Copy>(
     held: &mut Held<A>,
     name: Name,
     message: Message<A>,
-    cause: Option<NodeId>,
+    cause: Option<Cause>,
 )
     requires kept { IsHeld held.old }
     requires next { IsNextHeld held.old (Pend name message) }
@@ -98,7 +99,7 @@ fn join_certificate<A: Allocator + Copy>(held: &mut Held<A>, name: Name) -> u32
 pub(crate) fn stored<A: Allocator + Copy>(
     mut held: Held<A>,
     entry: Record<Message<A>>,
-    cause: Option<NodeId>,
+    cause: Option<Cause>,
 ) -> (Held<A>, u32)
     requires kept { IsHeld held }
     requires next { IsNextHeld held entry }

@@ -78,7 +78,7 @@ fn record_of<A: Allocator + Copy>(
 }
 
 /// What a call led to.
-#[derive(Clone, Copy, Debug, PartialEq, Eq)]
+#[derive(Debug, Drop, PartialEq, Eq)]
 enum Led {
     Same(Answer),
     Refused(Refusal),

@@ -31,6 +31,7 @@ use Rattle.urb_script.specs.Staged.{IsHeldBy}
 use Rattle.urb_script.specs.Steps.{Plays, Takes, answer, happens, happens_with, new_scene, reopens}
 use Rattle.urb_script.proofs.SceneSteps.{IsQuiet, kept_held, quiet_step, restart_with, stored_held}
 use Rattle.urb_script.proofs.Staging.{commit_node, elsewhere, fail_node, restart_node, restart_stays, step-size}
+use Rattle.urb_node.specs.declared.cause.Cause.{Cause}
 
 -- the world keeps its rules; each storage is what some store may hold beside its node; and a number that is no node is idle
 pub record IsKeptScene (scene : Scene) : Type 0 where
@@ -134,21 +135,21 @@ one_more scene p e node entry k moves h =
     (λ q. subst (λ (n : Node). (m : Memory) × IsHeldBy n (updated scene.storage p (scene.storage p ++ entry ∷ []) q) m) (sym (moves q)) (one_holds scene p q node (scene.storage p ++ entry ∷ []) k h))
 
 -- what holds nothing is no node, so what holds something is one
-holder : (scene : Scene) (p : ℕ) (entry : Entry) (cause : Option ℕ) → IsKeptScene scene → (scene.world.node p).state ≡ Storing entry cause → is_node scene.world.size.n p ≡ true
+holder : (scene : Scene) (p : ℕ) (entry : Entry) (cause : Option Cause) → IsKeptScene scene → (scene.world.node p).state ≡ Storing entry cause → is_node scene.world.size.n p ≡ true
 holder scene p entry cause k e = at (is_node scene.world.size.n p) refl
   where
     at : (b : Bool) → is_node scene.world.size.n p ≡ b → is_node scene.world.size.n p ≡ true
     at true is = is
     at false not = absurd (cc (k.idle p not, e))
 
-keeps_one : (scene : Scene) (p : ℕ) (entry : Entry) (cause : Option ℕ) → IsKeptScene scene → (scene.world.node p).state ≡ Storing entry cause
+keeps_one : (scene : Scene) (p : ℕ) (entry : Entry) (cause : Option Cause) → IsKeptScene scene → (scene.world.node p).state ≡ Storing entry cause
     → (m : Memory) × IsHeldBy (keeps_record p entry cause (scene.world.node p)) (scene.storage p ++ entry ∷ []) m
 keeps_one scene p entry cause k e =
     let h = k.holds p in
     let m : Memory = record { certain = h.0.certain ++ entry ∷ []; doubt = None; doubtful = false; failures = 0; armed = None } in
     (m, stored_held p entry cause (scene.world.node p) (scene.storage p) h.0 m (ap is_down e) h.1 refl refl)
 
-doubts_one : (scene : Scene) (p : ℕ) (entry : Entry) (cause : Option ℕ) → IsKeptScene scene → (scene.world.node p).state ≡ Storing entry cause
+doubts_one : (scene : Scene) (p : ℕ) (entry : Entry) (cause : Option Cause) → IsKeptScene scene → (scene.world.node p).state ≡ Storing entry cause
     → (m : Memory) × IsHeldBy (goes_down p (scene.world.node p)).1 (scene.storage p ++ entry ∷ []) m
 doubts_one scene p entry cause k e =
     let h = k.holds p in

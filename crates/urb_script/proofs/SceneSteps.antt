@@ -21,6 +21,7 @@ use Rattle.urb_node.specs.Steps.{arrives, broadcast_after, comes_up, counts, cra
 use Rattle.urb_group.specs.World.{World, truthful, updated}
 use Rattle.urb_group.specs.Step.{Arrive, Commit, Crash, Event, Fail, Restart, Submit, Tick, at_node, bytes_arrive, is_for, packet_arrives, step, world_after}
 use Rattle.urb_script.specs.Staged.{IsHeldBy}
+use Rattle.urb_node.specs.declared.cause.Cause.{Cause}
 
 -- ---- events that leave storage as it is
 
@@ -136,7 +137,7 @@ quiet_step w e q storage m i h = quiet_held (w.node q) ((step w e).1.node q) sto
 
 -- ---- a store that takes or loses the held record
 
-pub stored_held : (p : ℕ) (entry : Entry) (cause : Option ℕ) (node : Node) (storage : List Entry) (before after : Memory) → is_down node.state ≡ false → IsHeldBy node storage before
+pub stored_held : (p : ℕ) (entry : Entry) (cause : Option Cause) (node : Node) (storage : List Entry) (before after : Memory) → is_down node.state ≡ false → IsHeldBy node storage before
     → after.certain ≡ before.certain ++ entry ∷ [] → after.doubt ≡ None → IsHeldBy (keeps_record p entry cause node) (storage ++ entry ∷ []) after
 stored_held p entry cause node storage before after up h takes clear =
     let same : storage ≡ node.records = up_storage node storage before h up in

@@ -34,6 +34,7 @@ use Rattle.urb_script.specs.Staged.{AreHeldBy, IsHeldBy, ShowsScene}
 use Rattle.urb_script.specs.Steps.{answer, happens, happens_with}
 use Rattle.urb_script.specs.Texts.{reply_text}
 use Rattle.urb_script.proofs.SceneSteps.{IsQuiet, kept_held, lost_held, quiet_step, restart_with, stored_held}
+use Rattle.urb_node.specs.declared.cause.Cause.{Cause}
 
 -- ---- the limits stay
 
@@ -159,7 +160,7 @@ at_one w p q o outcome is same =
 
 -- ---- the draft that a node holds
 
-in_held : (b : Bool) (s : State) (p count : ℕ) (draft : Placed) → cond b (held_in s p count) None ≡ Some draft → (cause : Option ℕ) × (b ≡ true) × (s ≡ Storing draft.entry cause) × (draft.node ≡ p) × (draft.pos ≡ suc count)
+in_held : (b : Bool) (s : State) (p count : ℕ) (draft : Placed) → cond b (held_in s p count) None ≡ Some draft → (cause : Option Cause) × (b ≡ true) × (s ≡ Storing draft.entry cause) × (draft.node ≡ p) × (draft.pos ≡ suc count)
 in_held false s p count draft e = absurd (cc)
 in_held true Ready p count draft e = absurd (cc)
 in_held true (Storing entry cause) p count draft e =
@@ -169,7 +170,7 @@ in_held true (Down doubtful) p count draft e = absurd (cc)
 
 -- in the world
 pub record Holds (w : World) (p : ℕ) (draft : Placed) : Type 0 where
-  cause : Option ℕ
+  cause : Option Cause
   is : is_node w.size.n p ≡ true
   state : (w.node p).state ≡ Storing draft.entry cause
   node : draft.node ≡ p
@@ -188,7 +189,7 @@ held group w p draft s e =
 
 -- ---- a store that takes or loses the held record
 
-pub commit_node : (w : World) (p q : ℕ) (entry : Entry) (cause : Option ℕ) → is_node w.size.n p ≡ true → (w.node p).state ≡ Storing entry cause
+pub commit_node : (w : World) (p q : ℕ) (entry : Entry) (cause : Option Cause) → is_node w.size.n p ≡ true → (w.node p).state ≡ Storing entry cause
     → (step w (Commit p (next_position (w.node p)) entry)).1.node q ≡ updated w.node p (keeps_record p entry cause (w.node p)) q
 unfolding step
 commit_node w p q entry cause is state =
@@ -196,7 +197,7 @@ commit_node w p q entry cause is state =
     (ap (λ (s : State). commits w.size.n p (next_position (w.node p)) entry (w.node p) s) state
     ∙ cond-true ((next_position (w.node p) == next_position (w.node p)) && same_record entry entry) _ _ (ap₂ (λ (a b : Bool). a && b) (eq-eqb (next_position (w.node p)) (next_position (w.node p)) refl) (same_record-same entry)))
 
-pub fail_node : (w : World) (p q : ℕ) (entry : Entry) (cause : Option ℕ) → is_node w.size.n p ≡ true → (w.node p).state ≡ Storing entry cause
+pub fail_node : (w : World) (p q : ℕ) (entry : Entry) (cause : Option Cause) → is_node w.size.n p ≡ true → (w.node p).state ≡ Storing entry cause
     → (step w (Fail p)).1.node q ≡ updated w.node p (goes_down p (w.node p)).1 q
 unfolding step
 fail_node w p q entry cause is state = at_one w p q _ (goes_down p (w.node p)) is (ap (λ (s : State). fails p (w.node p) s) state)

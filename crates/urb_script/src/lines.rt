@@ -16,13 +16,13 @@ use urb_node::{Answer, Done};
 use urb_stubborn::Outbox;
 
 // Writes an answer that was given at once.
-fn push_answer<A: Allocator>(text: &mut Vec<u8, A>, answer: Answer) -> Result<(), NoMemory>
-    ensures { OnOk result (text.new.items ≡ text.old.items ++ reply_text (Same answer)) }
+fn push_answer<A: Allocator>(text: &mut Vec<u8, A>, answer: &Answer) -> Result<(), NoMemory>
+    ensures { OnOk result (text.new.items ≡ text.old.items ++ reply_text (Same answer.now)) }
 {
     match answer {
-        Answer::Accepted(name) => push_told(text, Told::Accepted(name)),
-        Answer::Noted(name) => push_told(text, Told::Noted(name)),
-        Answer::Again(name) => push_told(text, Told::Again(name)),
+        Answer::Accepted(name) => push_told(text, Told::Accepted(*name)),
+        Answer::Noted(name) => push_told(text, Told::Noted(*name)),
+        Answer::Again(name) => push_told(text, Told::Again(*name)),
     }
 }
 
@@ -99,7 +99,7 @@ pub fn push_reply<A: Allocator + Copy>(
             let (name, position) = (*name, *pos);
             push_told(text, Told::Drafted { name, position })
         }
-        Reply::Same(answer) => push_answer(text, *answer),
+        Reply::Same(answer) => push_answer(text, answer),
         Reply::Stored(done) => push_done(text, done),
         Reply::Sent(packets) => push_sent(text, packets),
         Reply::WentDown(node) => push_told(text, Told::Down(*node)),

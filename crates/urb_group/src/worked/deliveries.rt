@@ -2,7 +2,7 @@
 ghost use Rattle.std.specs.Prelude.{[], ◌∷◌, None, Some};
 ghost use Rattle.urb_names.specs.Names.{name};
 ghost use Rattle.urb_stable.specs.declared.record.Record.TheVariants.{Pend, PendCert, Cert};
-ghost use Rattle.urb_node.specs.Part.{Ready, Storing};
+ghost use Rattle.urb_node.specs.Part.{Ready, Storing, packet_from};
 ghost use Rattle.urb_group.specs.World.{image_of};
 ghost use Rattle.urb_group.specs.Scripts.{◌⇒◌, Plays, PlaysOpened, Drafts, Accepts, Takes, Logs, Holds, Is, noted, again, message, submit, store, arrive, log_of, held, look_at};
 ghost use Rattle.urb_group.specs.Examples.{pending, limits};
@@ -133,7 +133,7 @@ pub fn larger_groups()
         submit 1 (message 7 1 "a") ⇒ Drafts (name 1 1) 1
         ∷ store 1 ⇒ Accepts (name 1 1) 4 0
         ∷ arrive 1 2 1 1 ⇒ Drafts (name 1 1) 1
-        ∷ look_at 2 ⇒ Is (record { records = []; state = Storing (Pend (name 1 1) (message 7 1 "a")) (Some 1); acks = []; cursor = None; broadcast = [] })
+        ∷ look_at 2 ⇒ Is (record { records = []; state = Storing (Pend (name 1 1) (message 7 1 "a")) (Some (packet_from 1)); acks = []; cursor = None; broadcast = [] })
         ∷ store 2 ⇒ Takes (name 1 1) 4 0
         ∷ look_at 2 ⇒ Is (record {
           records = Pend (name 1 1) (message 7 1 "a") ∷ [];
@@ -151,7 +151,7 @@ pub fn larger_groups()
         ∷ arrive 2 1 1 1 ⇒ Drafts (name 1 1) 2
         ∷ look_at 1 ⇒ Is (record {
           records = Pend (name 1 1) (message 7 1 "a") ∷ [];
-          state = Storing (Cert (name 1 1)) (Some 2);
+          state = Storing (Cert (name 1 1)) (Some (packet_from 2));
           acks = (name 1 1, 2) ∷ (name 1 1, 1) ∷ [];
           cursor = None;
           broadcast = message 7 1 "a" ∷ [];

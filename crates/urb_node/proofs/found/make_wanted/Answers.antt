@@ -14,7 +14,7 @@ pub returns-clause-wanted : goal.returns-clause-wanted
 returns-clause-wanted g c =
     let copied = ap (λ (m : Content). pending_entry c.args.is_certified c.args.name m) c.in_ok-copy.ensures in
     let room = subst (λ (entry : Entry). HasRoom c.make_room_for.new.held entry) c.pending_record-entry.ensures c.in_ok-make_room_for.ensures.room in
-    let caused = subst (λ (n : ℕ). ForSome c.args.cause (λ q. (1 ≤ q) × (q ≤ n))) (ap (λ (a : Memory). a.limits.n) (sym c.make_room_for.ensures.same)) c.requires.caused in
+    let caused = subst (λ (n : ℕ). ForSome c.args.cause (λ cause. (1 ≤ cause.source) × (cause.source ≤ n))) (ap (λ (a : Memory). a.limits.n) (sym c.make_room_for.ensures.same)) c.requires.caused in
     let drafted = made c.args.held.now c.make_room_for.new.held c.args.name c.args.message c.args.is_certified c.args.cause c.in_ok-packets.packets c.make_room_for.ensures.kept caused c.make_room_for.ensures.same c.requires.next room c.in_ok-packets.ensures in (
       (
         subst (λ (entry : Entry). IsDrafted c.make_room_for.new.held entry c.args.cause c.in_ok-packets.packets) (sym c.pending_record-entry.ensures) drafted,
