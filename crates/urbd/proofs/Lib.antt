@@ -1,1 +1,5 @@
+mod Building
 mod Parsing
+mod Pushing
+mod NumbersRead
+mod Showing

@@ -1,21 +1,63 @@
 -- The command line of the program, in the words of its parser.
-use Rattle.std.specs.Prelude.{◌≡◌, ◌⊎◌, ℕ, List, [], true, codes}
-use Rattle.clap.specs.Words.{App, Shape, Text, with_subcommand, fault_of, Kinds, IsAmong}
-use Rattle.clap.specs.Simple.{new_shape}
+use Rattle.std.specs.Prelude.{◌≡◌, ◌⊎◌, ℕ, ℤ, pos, List, [], ◌∷◌, true, codes, Some}
+use Rattle.clap.specs.Words.{App, Rule, Text, new_app, new_rule, with_rule, with_subcommand, fault_of, Kinds, IsAmong}
+use Rattle.clap.specs.declared.builder.action.ArgAction.TheVariants.{Set}
+use Rattle.clap.specs.declared.builder.value_parser.ValueParser.TheVariants as vp
 use Rattle.clap.specs.declared.error.kind.ErrorKind.{ErrorKind}
 use Rattle.clap.specs.declared.error.kind.ErrorKind.TheVariants.{OutOfMemory, DisplayHelp}
 
+-- a required word at its place
+abbrev pub place_rule : Text → Rule
+place_rule name = record (new_rule name) { required = true; action = Some Set }
+
+-- a required option with any text
+abbrev pub text_rule : Text → Rule
+text_rule name = record (place_rule name) { long = Some name }
+
+-- a required option with a number from low to high
+abbrev pub number_rule : Text → ℤ → ℤ → Rule
+number_rule name low high = record (text_rule name) { parser = Some (vp.Signed low high) }
+
 -- `replay` takes no words of its own
-abbrev pub replay_shape : Shape
-replay_shape = new_shape (codes "replay")
+abbrev pub replay_app : App
+replay_app = new_app (codes "replay")
+
+-- `serve` takes how many nodes there are, the cap, the folder, the base of the ports, and how often nodes resend
+abbrev pub serve_app : App
+serve_app =
+    with_rule (with_rule (with_rule (with_rule (with_rule (new_app (codes "serve"))
+    (number_rule (codes "nodes") (pos 1) (pos 7)))
+    (number_rule (codes "cap") (pos 1) (pos 1000000)))
+    (text_rule (codes "dir")))
+    (number_rule (codes "base-port") (pos 1024) (pos 65000)))
+    (number_rule (codes "tick-ms") (pos 1) (pos 60000))
+
+-- `submit` takes a port, a client, its number, and the payload
+abbrev pub submit_app : App
+submit_app =
+    with_rule (with_rule (with_rule (with_rule (new_app (codes "submit"))
+    (number_rule (codes "port") (pos 1) (pos 65535)))
+    (number_rule (codes "client") (pos 1) (pos 65535)))
+    (number_rule (codes "number") (pos 0) (pos 4294967295)))
+    (place_rule (codes "TEXT"))
+
+-- `read` takes a port, a place, and how many entries at most
+abbrev pub read_app : App
+read_app =
+    with_rule (with_rule (with_rule (new_app (codes "read"))
+    (number_rule (codes "port") (pos 1) (pos 65535)))
+    (number_rule (codes "from") (pos 1) (pos 4294967295)))
+    (number_rule (codes "max") (pos 1) (pos 8))
 
 -- the program has to be told one of its subcommands
 abbrev pub bare_app : App
-bare_app = record { top = record (new_shape (codes "urbd")) { subcommand_required = true }; subs = [] }
+bare_app = record { top = record (new_app (codes "urbd")).top { subcommand_required = true }; subs = [] }
 
 -- the program with its subcommands
 abbrev pub urbd_app : App
-urbd_app = with_subcommand bare_app replay_shape
+urbd_app =
+    with_subcommand (with_subcommand (with_subcommand (with_subcommand bare_app
+    replay_app.top) serve_app.top) submit_app.top) read_app.top
 
 -- what the parser finds wrong first with these words: nothing where they are a command line of the program
 abbrev pub faults_of : List Text → Kinds

@@ -1,2 +1,4 @@
 pub mod CommandLine
+pub mod Shown
 pub mod Statuses
+pub mod Tasks

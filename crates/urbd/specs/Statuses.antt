@@ -1,7 +1,9 @@
--- How a run of a script ends the program.
+-- How a run of a script, and a response, end the program.
 use Rattle.std.specs.Prelude.{ℕ, Result, Ok, Err}
 use Rattle.urbd.specs.declared.faults.Fault.{Fault}
 use Rattle.urbd.specs.declared.faults.Fault.TheVariants as fault
+use Rattle.urb_client.specs.declared.receiving.ResponseFault.{ResponseFault}
+use Rattle.urb_client.specs.declared.receiving.ResponseFault.TheVariants as response
 use Rattle.urb_script.specs.declared.runs.Ended.{Ended}
 use Rattle.urb_script.specs.declared.runs.Ended.TheVariants.{Whole, BadLine}
 use Rattle.urb_script.specs.declared.runs.RunFault.{RunFault}
@@ -18,3 +20,9 @@ abbrev pub fault_of_run : RunFault → Fault
 fault_of_run Read = fault.Read
 fault_of_run Write = fault.Write
 fault_of_run NoMemory = fault.NoMemory
+
+-- the fault of the program that there is no response
+abbrev pub fault_of_response : ResponseFault → Fault
+fault_of_response response.Read = fault.Read
+fault_of_response response.NoMemory = fault.NoMemory
+fault_of_response response.NoResponse = fault.BadReply

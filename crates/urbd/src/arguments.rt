@@ -1,31 +1,23 @@
 //! The command line: its words, and what they ask for.
 
-ghost use Rattle.std.specs.Prelude.{◌≡◌, ◌⊎◌, [], map, IfOk, IfErr, OnOk};
-ghost use Rattle.clap.specs.Words.{kind_of, app_of};
+ghost use Rattle.std.specs.Prelude.{◌≡◌, ◌⊎◌, [], Some, map, IfOk, IfErr, OnOk};
+ghost use Rattle.clap.specs.Words.{kind_of, subcommand_of};
 ghost use Rattle.urbd.specs.CommandLine.{urbd_app, faults_of, IsToldBy, HasStatus};
+ghost use Rattle.urbd.specs.Tasks.{task_named, task_of};
 
+use crate::commands::command;
 use crate::faults::{Fault, tell};
 use crate::lines::Line;
+use crate::values::line_of;
+use clap::Error;
 use clap::error::ErrorKind;
-use clap::{Command, Error};
-use std::alloc::{AllocError, Global};
+use std::alloc::Global;
 use std::convert::AsStr;
 use std::rt::Env;
 use std::{env, io};
 
 /// The status of a command line that isn't the program's.
 const BAD_COMMAND_LINE: u8 = 3;
-
-// The command line that the program takes.
-fn command<'a>(alloc: Global) -> Result<Command<'a>, AllocError>
-    ensures { IfOk result (λ made. app_of made ≡ urbd_app) }
-{
-    let replay = Command::new(alloc, "replay").about("Runs a script from standard input");
-    Command::new(alloc, "urbd")
-        .about("Logged uniform FIFO broadcast")
-        .subcommand_required(true)
-        .subcommand(replay)
-}
 
 // Prints the parser's text, and gives the status.
 fn refused<R: Print + Eprint>(rt: &R, error: &Error) -> u8
@@ -52,9 +44,11 @@ pub fn line<'a, S: AsStr, R: Print + Eprint>(
     rt: &R,
     alloc: Global,
     words: &'a [S],
-) -> Result<Line, u8>
+) -> Result<Line<'a>, u8>
     // A line is taken only where the parser finds no fault in it.
     ensures taken { OnOk result (faults_of (map S.text words.entry.now) ≡ []) }
+    // What is asked for is the subcommand that the words name, with the values of its options in their ranges.
+    ensures asked { IfOk result (λ line. task_named (subcommand_of urbd_app (map S.text words.entry.now)) ≡ Some (task_of line)) }
     // The status of one that isn't is that of the first fault, or of memory that was refused.
     ensures refused { IfErr result (HasStatus (faults_of (map S.text words.entry.now))) }
 {
@@ -62,7 +56,10 @@ pub fn line<'a, S: AsStr, R: Print + Eprint>(
         return Err(tell(rt, Fault::NoMemory));
     };
     match command.try_get_matches_from(words) {
-        Ok(_) => Ok(Line::Replay),
+        Ok(matches) => match line_of(&matches) {
+            Some(line) => Ok(line),
+            None => Err(tell(rt, Fault::Read)),
+        },
         Err(error) => Err(refused(rt, &error)),
     }
 }

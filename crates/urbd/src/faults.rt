@@ -3,20 +3,31 @@
 ghost use Rattle.std.specs.Prelude.{◌≡◌};
 
 use thiserror::Error;
+use urb_client::ResponseFault;
+use urb_names::NoMemory;
 use urb_script::RunFault;
 
 /// Why the program ended before its work was done. Its status is then 1.
 #[derive(Clone, Copy, Debug, PartialEq, Eq, Error)]
 pub enum Fault {
-    /// Standard input, or the command line, could not be read.
+    /// Standard input, the command line, or what a node sent could not be read.
     #[error("read failed")]
     Read,
-    /// Standard output could not be written.
+    /// Standard output could not be written, or nothing sent to a node.
     #[error("write failed")]
     Write,
     /// Memory was refused.
     #[error("no memory")]
     NoMemory,
+    /// A port could not be had, or none is open there.
+    #[error("network failed")]
+    Network,
+    /// What a node sent is no response to what was asked.
+    #[error("bad reply")]
+    BadReply,
+    /// What the journals hold was refused: the number of the refusal, and its detail.
+    #[error("refused {0} {1}")]
+    Refused(u8, u32),
 }
 
 impl From<RunFault> for Fault {
@@ -31,6 +42,32 @@ impl From<RunFault> for Fault {
             RunFault::Write => Fault::Write,
             RunFault::NoMemory => Fault::NoMemory,
         }
+    }
+}
+
+impl From<ResponseFault> for Fault {
+    ghost use Rattle.std.specs.Prelude.{◌≡◌};
+    ghost use Rattle.urbd.specs.Statuses.{fault_of_response};
+
+    ghost from_gives = { λ fault e. e ≡ fault_of_response fault };
+
+    fn from(fault: ResponseFault) -> Fault {
+        match fault {
+            ResponseFault::Read => Fault::Read,
+            ResponseFault::NoMemory => Fault::NoMemory,
+            ResponseFault::NoResponse => Fault::BadReply,
+        }
+    }
+}
+
+impl From<NoMemory> for Fault {
+    ghost use Rattle.std.specs.Prelude.{◌≡◌};
+    ghost use Rattle.urbd.specs.declared.faults.Fault.TheVariants.{NoMemory as no_memory};
+
+    ghost from_gives = { λ _ e. e ≡ no_memory };
+
+    fn from(_: NoMemory) -> Fault {
+        Fault::NoMemory
     }
 }
 

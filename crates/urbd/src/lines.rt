@@ -1,8 +1,44 @@
 //! What a command line asks for.
 
+ghost use Rattle.std.specs.Prelude.{◌<◌, ◌≤◌};
+
+use crate::serving::Serving;
+
+/// A message to submit: at which port, as which client, under which of its numbers, and its text.
+#[derive(Clone, Copy, Debug)]
+pub struct Submitting<'a> {
+    /// The node's port for clients, from 1.
+    pub port: u16,
+    /// The client's number, from 1.
+    pub client: u16,
+    /// Which of the client's messages it is.
+    pub number: u32,
+    /// The message.
+    pub text: &'a str,
+    ghost within: { (0 < port) × (0 < client) },
+}
+
+/// Entries to read: at which port, from which place of the log on, and how many at most.
+#[derive(Clone, Copy, Debug)]
+pub struct Reading {
+    /// The node's port for clients, from 1.
+    pub port: u16,
+    /// The first place, from 1.
+    pub from: u32,
+    /// How many entries, 1 to 8.
+    pub max: u8,
+    ghost within: { (0 < port) × (0 < from) × (0 < max) × (max ≤ 8) },
+}
+
 /// What the program is asked to do.
-#[derive(Clone, Copy, Debug, PartialEq, Eq)]
-pub enum Line {
+#[derive(Clone, Copy, Debug)]
+pub enum Line<'a> {
     /// Run a script from standard input to standard output.
     Replay,
+    /// Run a group of nodes until standard input ends.
+    Serve(Serving<'a>),
+    /// Send one message to a node.
+    Submit(Submitting<'a>),
+    /// Show entries of a node's log.
+    Read(Reading),
 }

@@ -5,16 +5,24 @@ ghost use Rattle.std.specs.Prelude.{◌≡◌, ◌≤◌};
 ghost use Rattle.urbd.specs.Statuses.{status_of};
 
 mod arguments;
+mod clients;
+mod commands;
+mod daemon;
 mod faults;
 mod lines;
+mod printed;
+mod printing;
 mod replaying;
+mod serving;
+mod values;
 
 use crate::arguments::{line, words};
+use crate::clients::{read, submit};
+use crate::daemon::serve;
 use crate::faults::{Fault, tell};
 use crate::lines::Line;
 use crate::replaying::replay;
 use std::process::ExitCode;
-use std::rt::Env;
 use urb_script::{Ended, RunFault};
 
 /// The status of a script with a bad line.
@@ -32,8 +40,8 @@ fn finish<R: Eprint>(rt: &R, outcome: Result<Ended, RunFault>) -> u8
 }
 
 // Does what the command line asks for, and gives the status.
-fn program<R: Env + AllocGlobal + Print + Eprint + Input>(rt: &R) -> u8
-    ensures { result ≤ 3 }
+fn program(rt: &HostRuntime) -> u8
+    ensures { result ≤ 4 }
 {
     let words = match words(rt) {
         Ok(words) => words,
@@ -41,6 +49,9 @@ fn program<R: Env + AllocGlobal + Print + Eprint + Input>(rt: &R) -> u8
     };
     match line(rt, rt.alloc(), words.as_slice()) {
         Ok(Line::Replay) => finish(rt, replay(rt)),
+        Ok(Line::Serve(serving)) => serve(rt, serving),
+        Ok(Line::Submit(submitting)) => submit(rt, submitting),
+        Ok(Line::Read(reading)) => read(rt, reading),
         Err(status) => status,
     }
 }

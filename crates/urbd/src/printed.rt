@@ -1,0 +1,13 @@
+//! What a command of a client prints.
+
+ghost use Rattle.std.specs.Prelude.{◌≤◌};
+
+/// A text for standard output, and the program's status behind it.
+#[derive(Drop)]
+pub struct Printed {
+    /// Whole lines.
+    pub text: Vec<u8>,
+    /// 0 where it was done, and 4 where it was refused.
+    pub status: u8,
+    ghost low: { status ≤ 4 },
+}

@@ -1,0 +1,41 @@
+//! What `urbd serve` is told.
+
+ghost use Rattle.std.specs.Prelude.{◌≡◌, ◌<◌, ◌≤◌, IsSome, IfSome};
+
+/// A group to run: how many nodes, how many messages each keeps, where its journals are, its ports, and how often each node resends.
+#[derive(Clone, Copy, Debug)]
+pub struct Serving<'a> {
+    /// Nodes, 1 to 7.
+    pub nodes: u8,
+    /// Messages that each node keeps at most, 1 to 1,000,000.
+    pub cap: u32,
+    /// The folder of the journals.
+    pub dir: &'a str,
+    /// Node P has UDP port base + P and TCP port base + 10 + P; 1,024 to 65,000.
+    pub base: u16,
+    /// Milliseconds from one tick to the next, 1 to 60,000.
+    pub every: u32,
+    ghost within: { (0 < nodes) × (nodes ≤ 7) × (0 < cap) × (cap ≤ 1000000) × (1024 ≤ base) × (base ≤ 65000) × (0 < every) × (every ≤ 60000) },
+}
+
+impl<'a> Serving<'a> {
+    /// A group of these; none exactly where one of them is outside its range.
+    pub fn new(nodes: u8, cap: u32, dir: &'a str, base: u16, every: u32) -> Option<Serving<'a>>
+        ensures some { (0 < nodes) × (nodes ≤ 7) × (0 < cap) × (cap ≤ 1000000) × (1024 ≤ base) × (base ≤ 65000) × (0 < every) × (every ≤ 60000) → IsSome result }
+        ensures fields { IfSome result (λ s. (s.nodes ≡ nodes) × (s.cap ≡ cap) × (s.dir ≡ dir.entry) × (s.base ≡ base) × (s.every ≡ every)) }
+    {
+        if nodes == 0 || 7 < nodes || cap == 0 || 1_000_000 < cap {
+            return None;
+        }
+        if base < 1_024 || 65_000 < base || every == 0 || 60_000 < every {
+            return None;
+        }
+        Some(Serving {
+            nodes,
+            cap,
+            dir,
+            base,
+            every,
+        })
+    }
+}
