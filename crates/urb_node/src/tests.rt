@@ -282,16 +282,10 @@ fn risen<A: Allocator + Copy>(
     }
 }
 
-// A tick; where it is refused for memory, the next one.
+// A tick.
 fn ticked<A: Allocator + Copy>(ready: Ready<A>, heap: A) -> Result<(Ready<A>, Outbox<A>), Fail> {
     let (ready, sent) = ready.tick(heap);
-    match sent {
-        Ok(sent) => Ok((ready, sent)),
-        Err(_no_memory) => {
-            let (ready, sent) = ready.tick(heap);
-            Ok((ready, sent?))
-        }
-    }
+    Ok((ready, sent?))
 }
 
 impl<A: Allocator + Copy> Tested<A> {

@@ -108,13 +108,16 @@ fn an_opened_node_goes_on_from_its_image(rt: HostRuntime) -> Result<(), Fail> {
     Ok(())
 }
 
-// Where a growth is refused, the same call goes through the second time.
+// Where a growth is refused, the same call goes through the second time. Whether it was refused.
 fn opened_at_last<'h>(heap: Heap<'h>, calm: Heap<'h>) -> Result<bool, Fail> {
-    let ready = match opened(heap, calm)? {
-        Ok(ready) => ready,
-        Err(NoMemory) => opened(heap, calm)??,
+    let (ready, refused) = match opened(heap, calm)? {
+        Ok(ready) => (ready, false),
+        Err(NoMemory) => (opened(heap, calm)??, true),
     };
-    is_opened(&ready, calm)
+    if !is_opened(&ready, calm)? {
+        return Err(Fail::from("the node is not what its image says"));
+    }
+    Ok(refused)
 }
 
 #[test]
@@ -123,7 +126,7 @@ fn each_growth_may_be_refused(rt: HostRuntime) -> Result<(), Fail> {
     let mut growths = 0;
     for refused in 1..100 {
         let heap = Refusing::new(rt.alloc(), refused);
-        assert!(rt; opened_at_last(&heap, &calm)?);
+        assert_eq!(rt; opened_at_last(&heap, &calm)?, heap.met());
         if !heap.met() {
             growths = heap.asked();
             break;

@@ -14,21 +14,34 @@ fn tells<A: Allocator + Copy>(tested: &Tested<A>, named: Name) -> (u32, usize, b
     )
 }
 
+/// A node, and whether a call of it was refused for memory.
+#[derive(Drop)]
+struct Played<A: Allocator> {
+    tested: Tested<A>,
+    refused: bool,
+}
+
 // Makes a call; where it is refused for memory, nothing has changed, and the same call is made again.
 fn make_twice<A: Allocator + Copy>(
-    tested: Tested<A>,
+    played: Played<A>,
     call: Call,
     named: Name,
-) -> Result<(Tested<A>, Led), Fail> {
+) -> Result<(Played<A>, Led), Fail> {
+    let Played { tested, refused } = played;
     let before = tells(&tested, named);
     let (tested, led) = tested.make(call, b"m", named)?;
     if led != Led::Refused(Refusal::NoMemory) {
-        return Ok((tested, led));
+        return Ok((Played { tested, refused }, led));
     }
     if tells(&tested, named) != before {
         return Err(Fail::from("a refused call changed the node"));
     }
-    tested.make(call, b"m", named)
+    let (tested, led) = tested.make(call, b"m", named)?;
+    let played = Played {
+        tested,
+        refused: true,
+    };
+    Ok((played, led))
 }
 
 /// How many messages node 1 and node 2 broadcast.
@@ -55,27 +68,49 @@ fn numbered(call: Call, number: u32) -> Call {
 }
 
 // Makes the calls for the messages with this number.
-fn play_number<A: Allocator + Copy>(tested: Tested<A>, number: u32) -> Result<Tested<A>, Fail> {
-    let mut tested = tested;
+fn play_number<A: Allocator + Copy>(played: Played<A>, number: u32) -> Result<Played<A>, Fail> {
+    let mut played = played;
     for (call, sender, what) in &CALLS {
         let named = name(*sender, number)?;
-        let (after, led) = make_twice(tested, numbered(*call, number), named)?;
+        let (after, led) = make_twice(played, numbered(*call, number), named)?;
         if led != expected(*what, named) {
             return Err(Fail::new(format_args!("{call:?} led to {led:?}")));
         }
-        tested = after;
+        played = after;
     }
-    Ok(tested)
+    Ok(played)
 }
 
-// All calls, and a tick, at node 1 of five.
-fn plays_all<A: Allocator + Copy>(heap: A, calm: A) -> Result<bool, Fail> {
-    let mut tested = Tested::new(5, 1, heap, calm)?;
-    for before in 0..COUNT {
-        tested = play_number(tested, before + 1)?;
+// A tick; where it is refused for memory, the next one. How many packets it sends, and whether it was refused.
+fn tick_twice<A: Allocator + Copy>(
+    ready: Ready<A>,
+    heap: A,
+) -> Result<(Ready<A>, usize, bool), Fail> {
+    let (ready, sent) = ready.tick(heap);
+    match sent {
+        Ok(sent) => Ok((ready, sent.len(), false)),
+        Err(NoMemory) => {
+            let (ready, sent) = ticked(ready, heap)?;
+            Ok((ready, sent.len(), true))
+        }
     }
-    let (ready, sent) = ticked(tested.ready, heap)?;
-    Ok(sent.len() == 48 && ready.own_len() == COUNT && ready.log().len() == 6)
+}
+
+// All calls, and a tick, at node 1 of five. Whether one of them was refused.
+fn plays_all<A: Allocator + Copy>(heap: A, calm: A) -> Result<bool, Fail> {
+    let mut played = Played {
+        tested: Tested::new(5, 1, heap, calm)?,
+        refused: false,
+    };
+    for before in 0..COUNT {
+        played = play_number(played, before + 1)?;
+    }
+    let Played { tested, refused } = played;
+    let (ready, sent, is_tick_refused) = tick_twice(tested.ready, heap)?;
+    if sent != 48 || ready.own_len() != COUNT || ready.log().len() != 6 {
+        return Err(Fail::from("the node is not where its calls lead"));
+    }
+    Ok(refused || is_tick_refused)
 }
 
 #[test]
@@ -84,8 +119,9 @@ fn a_refused_growth_gives_the_node_back_as_it_was(rt: HostRuntime) -> Result<(),
     let mut met = 0;
     for refused in 1..1000 {
         let heap = Refusing::new(rt.alloc(), refused);
-        assert!(rt; plays_all(&heap, &calm)?);
-        if !heap.met() {
+        let told = plays_all(&heap, &calm)?;
+        assert_eq!(rt; told, heap.met());
+        if !told {
             break;
         }
         met = refused;
