@@ -1,6 +1,6 @@
 //! The commands of a client, over bytes in memory and over a socket.
 
-ghost use Rattle.std.specs.Prelude.{◌<◌};
+ghost use Rattle.std.specs.Prelude.{◌<◌, ◌≤◌, length};
 
 use super::{is, new_terminal, what_it_shows};
 use crate::clients::{read_at, read_over, show, submit_at, submit_over};
@@ -17,6 +17,7 @@ use std::thread::Threads;
 /// What client 7 submits as its first message.
 fn hi(port: u16) -> Submitting<'static>
     requires { 0 < port }
+    ensures { length result.text.now ≤ 1024 }
 {
     Submitting {
         port,
