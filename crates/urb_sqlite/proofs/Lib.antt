@@ -11,3 +11,4 @@ pub mod CreateLemmas
 pub mod SchemaLemmas
 pub mod StopLemmas
 pub mod NodeLemmas
+pub mod StoppingLemmas

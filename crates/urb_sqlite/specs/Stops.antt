@@ -1,8 +1,32 @@
--- What the next opening finds after a stop.
-use Rattle.std.specs.Prelude.{◌≡◌, ◌⊎◌, List, [], ◌∷◌, ◌++◌, Result, Ok, Err}
+-- What the next opening finds after a stop: one journal, and those of all nodes of a cluster.
+use Rattle.std.specs.Prelude.{◌≡◌, ◌⊎◌, ℕ, suc, List, [], ◌∷◌, ◌++◌, Option, Some, Result, Ok, Err, slice_get}
+use Rattle.sqlite.specs.State.{State, HasCleanDisk}
 use Rattle.urb_stable.specs.Entries.{Entry}
+use Rattle.urb_stable.specs.Storing.{IsContents}
+use Rattle.urb_stable.specs.declared.stable.Stable.{Ghosts}
+use Rattle.urb_group.specs.Stocked.{LeavesOf}
+use Rattle.urb_group.specs.World.{World}
+use Rattle.urb_sqlite.specs.OpenJournal.{IsHonestJournal, LeavesOnly}
+use Rattle.urb_sqlite.specs.Reading.{records_of}
 
 -- The records before, or with the one that was stored; where its store had succeeded, these with it.
 abbrev pub IsFoundAfter : {A E : Type 0} → Result A E → List Entry → Entry → List Entry → Type 0
 IsFoundAfter (Ok _) before r found = found ≡ before ++ r ∷ []
 IsFoundAfter (Err e) before r found = (found ≡ before) ⊎ (found ≡ before ++ r ∷ [])
+
+-- The new journal was opened after a stop of the old one: while the storage gives back what was written, it is honest, and
+-- holds what the stop left, whatever that is.
+pub record IsReopened (old new : State) : Type 0 where
+  pub clean : HasCleanDisk new → HasCleanDisk old
+  pub left : HasCleanDisk new → (certain : List Entry) (doubtful : Option Entry) → LeavesOnly old (IsContents certain doubtful) → IsHonestJournal new × IsContents certain doubtful (records_of new.now.trees)
+
+-- the same for several, one after the other
+abbrev pub AreReopened : {S : Type 0} → List S → List S → (S → State) → Type 0
+AreReopened [] [] at = Unit {0}
+AreReopened (old ∷ before) (new ∷ after) at = IsReopened (at old) (at new) × AreReopened before after at
+AreReopened before after at = ⊥
+
+module _ {S A : Type 0} (g : Ghosts S A) where
+  -- what a stop leaves of each store whose storage is clean, it may leave of the world's node
+  abbrev pub WouldLeave : World → List S → Type 0
+  WouldLeave w stores = (i : ℕ) (store : S) → slice_get stores i ≡ Some store → g.is_clean store → LeavesOf g (w.node (suc i)) store

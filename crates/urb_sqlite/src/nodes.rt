@@ -139,7 +139,7 @@ fn open_in<K: Contents>(
 }
 
 /// Opens the journals of all nodes of a group, `node-1.db`, `node-2.db` and so on in this directory, which has to be there:
-/// for a program's start. The first fault ends it, with its node, and the journals that were open are let go.
+/// for a program's start. The first fault ends it, with its node, and the journals that were open are closed.
 pub fn open_nodes<K: Contents>(
     rt: &HostRuntime,
     directory: &str,
@@ -159,7 +159,10 @@ pub fn open_nodes<K: Contents>(
         let node = NodeId::new(at + 1).unwrap();
         match open_in(rt, directory, node) {
             Ok(journal) => journals.push_reserved(journal),
-            Err(fault) => return Err((node, fault)),
+            Err(fault) => {
+                let _ = close_nodes(rt, directory, journals);
+                return Err((node, fault));
+            }
         }
     }
     Ok(journals)
