@@ -2,9 +2,10 @@
 
 ghost use Rattle.std.specs.Prelude.{◌≡◌};
 
+use std::alloc::AllocError;
 use thiserror::Error;
 use urb_client::ResponseFault;
-use urb_names::NoMemory;
+use urb_names::{NoMemory, Refusal};
 use urb_script::RunFault;
 
 /// Why the program ended before its work was done. Its status is then 1.
@@ -16,7 +17,7 @@ pub enum Fault {
     /// Standard output could not be written, or nothing sent to a node.
     #[error("write failed")]
     Write,
-    /// Memory was refused.
+    /// Memory was refused, or a thread.
     #[error("no memory")]
     NoMemory,
     /// A port could not be had, or none is open there.
@@ -68,6 +69,31 @@ impl From<NoMemory> for Fault {
 
     fn from(_: NoMemory) -> Fault {
         Fault::NoMemory
+    }
+}
+
+impl From<AllocError> for Fault {
+    ghost use Rattle.std.specs.Prelude.{◌≡◌};
+    ghost use Rattle.urbd.specs.declared.faults.Fault.TheVariants.{NoMemory as no_memory};
+
+    ghost from_gives = { λ _ e. e ≡ no_memory };
+
+    fn from(_: AllocError) -> Fault {
+        Fault::NoMemory
+    }
+}
+
+impl From<Refusal> for Fault {
+    ghost use Rattle.std.specs.Prelude.{◌≡◌};
+    ghost use Rattle.urbd.specs.Statuses.{fault_of_refusal};
+
+    ghost from_gives = { λ refusal e. e ≡ fault_of_refusal refusal };
+
+    fn from(refusal: Refusal) -> Fault {
+        match refusal {
+            Refusal::NoMemory => Fault::NoMemory,
+            _ => Fault::Refused(refusal.number(), refusal.detail()),
+        }
     }
 }
 

@@ -1,6 +1,9 @@
 //! What `urbd serve` is told.
 
-ghost use Rattle.std.specs.Prelude.{◌≡◌, ◌<◌, ◌≤◌, IsSome, IfSome};
+ghost use Rattle.std.specs.Prelude.{◌≡◌, IsSome, IfSome};
+ghost use Rattle.urbd.specs.Served.{AreServed};
+
+use urb_names::Config;
 
 /// A group to run: how many nodes, how many messages each keeps, where its journals are, its ports, and how often each node resends.
 #[derive(Clone, Copy, Debug)]
@@ -15,13 +18,13 @@ pub struct Serving<'a> {
     pub base: u16,
     /// Milliseconds from one tick to the next, 1 to 60,000.
     pub every: u32,
-    ghost within: { (0 < nodes) × (nodes ≤ 7) × (0 < cap) × (cap ≤ 1000000) × (1024 ≤ base) × (base ≤ 65000) × (0 < every) × (every ≤ 60000) },
+    ghost within: { AreServed nodes cap base every },
 }
 
 impl<'a> Serving<'a> {
     /// A group of these; none exactly where one of them is outside its range.
     pub fn new(nodes: u8, cap: u32, dir: &'a str, base: u16, every: u32) -> Option<Serving<'a>>
-        ensures some { (0 < nodes) × (nodes ≤ 7) × (0 < cap) × (cap ≤ 1000000) × (1024 ≤ base) × (base ≤ 65000) × (0 < every) × (every ≤ 60000) → IsSome result }
+        ensures some { AreServed nodes cap base every → IsSome result }
         ensures fields { IfSome result (λ s. (s.nodes ≡ nodes) × (s.cap ≡ cap) × (s.dir ≡ dir.entry) × (s.base ≡ base) × (s.every ≡ every)) }
     {
         if nodes == 0 || 7 < nodes || cap == 0 || 1_000_000 < cap {
@@ -37,5 +40,12 @@ impl<'a> Serving<'a> {
             base,
             every,
         })
+    }
+
+    /// The limits of the group.
+    pub fn config(&self) -> Config
+        ensures { (result.n ≡ self.now.nodes) × (result.cap ≡ self.now.cap) }
+    {
+        Config::new(self.nodes, self.cap).unwrap()
     }
 }

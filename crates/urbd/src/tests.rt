@@ -1,12 +1,14 @@
 //! The program over a terminal of the tests' own: command lines, scripts, and ends that fail.
 
 mod clients;
+mod groups;
 mod lines;
 mod scripts;
 
 use crate::arguments::{line, words};
+use crate::finish;
 use crate::lines::Line;
-use crate::{finish, replay};
+use crate::replaying::replay;
 use std::alloc::{Allocator, Global};
 use std::cell::RefCell;
 use std::env::{Env, FillError};
