@@ -113,11 +113,14 @@ fn a_fault_is_told_by_its_refusal(rt: HostRuntime) {
 
 type Heap<'h> = &'h Refusing<Global>;
 
-// A store that was refused memory has kept nothing, and keeps the record when a retrieve has said so.
+// A store that was refused memory has kept nothing, and keeps the record when a retrieve has said so. Whether a call was
+// refused.
 fn kept_at_last<'h>(heap: Heap<'h>, calm: Heap<'h>) -> Result<bool, Fail> {
     let node = NodeId::new(1).ok_or("1 is a node")?;
     let mut store = MemStable::new(heap);
+    let mut refused = false;
     if let Err(doubt) = Draft::new(node, 1, pending(calm)?).keep(&mut store) {
+        refused = true;
         if doubt.fault() != StoreFault::NoMemory || !store.doubtful() || store.next() != 1 {
             return Err(Fail::from("a refused growth is want of memory"));
         }
@@ -129,13 +132,17 @@ fn kept_at_last<'h>(heap: Heap<'h>, calm: Heap<'h>) -> Result<bool, Fail> {
     let records = match store.retrieve(heap) {
         Ok(records) => records,
         Err(fault) => {
+            refused = true;
             if fault != StoreFault::NoMemory || store.next() != 2 {
                 return Err(Fail::from("a refused retrieve changes nothing"));
             }
             store.retrieve(heap)?
         }
     };
-    Ok(records.len() == 1 && records[0].is_same(&pending(calm)?))
+    if records.len() != 1 || !records[0].is_same(&pending(calm)?) {
+        return Err(Fail::from("it keeps the record"));
+    }
+    Ok(refused)
 }
 
 #[test]
@@ -144,7 +151,7 @@ fn each_growth_refused_is_want_of_memory(rt: HostRuntime) -> Result<(), Fail> {
     let mut growths = 0;
     for refused in 1..100 {
         let heap = Refusing::new(rt.alloc(), refused);
-        assert!(rt; kept_at_last(&heap, &calm)?);
+        assert_eq!(rt; kept_at_last(&heap, &calm)?, heap.met());
         if !heap.met() {
             growths = heap.asked();
             break;
