@@ -120,13 +120,17 @@ fn commands<'h>(calm: Heap<'h>) -> Option<Vec<Command<Heap<'h>>, Heap<'h>>> {
     Some(commands)
 }
 
-// How many replies come back from a cluster that plays them; none where the cluster could not be made.
-fn replies<'h>(heap: Heap<'h>, calm: Heap<'h>) -> Option<usize> {
+// How many replies come back from a cluster that plays them, and whether one was refused memory: the node went down, or the
+// play ended. None where the cluster could not be made.
+fn replies<'h>(heap: Heap<'h>, calm: Heap<'h>) -> Option<(usize, bool)> {
     let commands = commands(calm)?;
     let mut cluster = cluster(heap)?;
     match play(heap, &mut cluster, &commands) {
-        Ok(replies) => Some(replies.len()),
-        Err((replies, NoMemory)) => Some(replies.len()),
+        Ok(replies) => Some((
+            replies.len(),
+            !matches!(replies.get(1), Some(Reply::Stored(_))),
+        )),
+        Err((replies, NoMemory)) => Some((replies.len(), true)),
     }
 }
 
@@ -138,6 +142,10 @@ fn play_ends_where_memory_is_refused(rt: HostRuntime) -> Result<(), Fail> {
     for refused in 1..100 {
         let heap = Refusing::new(rt.alloc(), refused);
         last = replies(&heap, &calm);
+        assert_eq!(rt;
+            last.map_or(true, |(_count, is_refused)| is_refused),
+            heap.met()
+        );
         if !heap.met() {
             break;
         }
@@ -146,6 +154,6 @@ fn play_ends_where_memory_is_refused(rt: HostRuntime) -> Result<(), Fail> {
         }
     }
     assert!(rt; 3 < ended);
-    assert_eq!(rt; last, Some(5));
+    assert_eq!(rt; last, Some((5, false)));
     Ok(())
 }

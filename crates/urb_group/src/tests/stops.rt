@@ -108,22 +108,24 @@ fn a_record_that_was_stored_and_not_told_comes_back(rt: HostRuntime) -> Result<(
 /// Refuses one growth.
 type Heap<'h> = &'h Refusing<Global>;
 
-// Whether node 1 has its message stored after a stop; where memory is refused to the opening, after another one.
-fn holds_reopened<'h>(heap: Heap<'h>, calm: Heap<'h>) -> Option<bool> {
+// Whether node 1 has its message stored after a stop; where memory is refused to the opening, after another one. And whether
+// it was refused.
+fn holds_reopened<'h>(heap: Heap<'h>, calm: Heap<'h>) -> Option<(bool, bool)> {
     let one = node(1)?;
     let mut cluster = cluster(calm)?;
     cluster.apply(calm, &submit(calm)?);
     cluster.apply(calm, &Command::Store(one));
-    let opened = match cluster.reopen(heap) {
-        Ok(opened) => opened,
+    let (opened, refused) = match cluster.reopen(heap) {
+        Ok(opened) => (opened, false),
         Err((stores, refusal)) => {
             if refusal != Refusal::NoMemory || stores.len() != 3 {
                 return None;
             }
-            Cluster::open(calm, Config::new(3, 10)?, stores).ok()?
+            let opened = Cluster::open(calm, Config::new(3, 10)?, stores).ok()?;
+            (opened, true)
         }
     };
-    Some(opened.group().holds(one, first()?))
+    Some((opened.group().holds(one, first()?), refused))
 }
 
 #[test]
@@ -132,7 +134,7 @@ fn no_store_is_lost_where_memory_is_refused(rt: HostRuntime) -> Result<(), Fail>
     let mut growths = 0;
     for refused in 1..100 {
         let heap = Refusing::new(rt.alloc(), refused);
-        assert_eq!(rt; holds_reopened(&heap, &calm), Some(true));
+        assert_eq!(rt; holds_reopened(&heap, &calm), Some((true, heap.met())));
         if !heap.met() {
             growths = heap.asked();
             break;
