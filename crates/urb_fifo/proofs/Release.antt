@@ -7,8 +7,8 @@ use Rattle.urb_names.specs.Ordered.{placed, reserved_for}
 use Rattle.urb_names.specs.Release.{beginning, part_of, released}
 use Rattle.urb_names.proofs.SameNames.{same_name-true}
 use Rattle.urb_names.proofs.Ordered.{any_insert}
-use Rattle.urb_names.proofs.Released.{beginning_is, length-row, new_on_row, part-released, reach, row}
-use Rattle.urb_names.proofs.Reached.{reach-certified, reach-is, reach-same, released-more}
+use Rattle.urb_names.proofs.Released.{beginning_is, length-row, part-released, reach, row}
+use Rattle.urb_names.proofs.Reached.{reach-certified, reach-same, released-more}
 use Rattle.urb_fifo.specs.Delivery.{Delivery, IsDelivery, IsNameOf, IsReleaseOf}
 use Rattle.urb_fifo.specs.Releasing.{certifying, newly_released}
 
@@ -27,27 +27,6 @@ part_reaches d parts s = ap length (parts s ∙ beginning_is s d.certified) ∙ 
 -- they are within the cap
 pub reach_within : (d : Delivery) → ((x : Label) → has_name d.certified x ≡ true → IsNameOf d.limits x) → (s : ℕ) → reach s d.certified ≤ d.limits.cap
 reach_within d within s = ⊎_elim (λ (h : reach s d.certified < 1). omega arith) (λ (h : 1 ≤ reach s d.certified). (within (name s (reach s d.certified)) (reach-certified s (reach s d.certified) d.certified h (omega arith))).seq) (cases_lt (reach s d.certified) 1)
-
--- Where the log has k names of the certificate's sender, and with the certificate the names up to another number are certified and the next
--- is not, the names behind k up to that number are released.
-pub newly_is : (d : Delivery) (x : Label) (k end : ℕ) → ((s : ℕ) → part_of s d.log ≡ beginning s d.certified) → k ≡ length (part_of x.sender d.log) → k ≤ end
-    → ((i : ℕ) → k < i → i ≤ end → has_name (x ∷ d.certified) (name x.sender i) ≡ true) → has_name (x ∷ d.certified) (name x.sender (suc end)) ≡ false
-    → newly_released d.log d.certified x ≡ row x.sender (suc k) (end - k)
-newly_is d x k end parts count more certified stops =
-    ap (filter (λ y. not (has_name d.log y))) (beginning_is x.sender (x ∷ d.certified) ∙ ap (row x.sender 1) now)
-    ∙ (new_on_row x.sender d.log k end more (parts x.sender ∙ (beginning_is x.sender d.certified ∙ ap (row x.sender 1) old))
-    ∙ ap (λ (a : ℕ). row x.sender a (end - k)) (let next : 1 + k ≡ suc k = omega arith in next))
-  where
-    old : reach x.sender d.certified ≡ k
-    old = sym (part_reaches d parts x.sender) ∙ sym count
-
-    now : reach x.sender (x ∷ d.certified) ≡ end
-    now =
-        reach-is x.sender end (x ∷ d.certified)
-        (λ i l u. ⊎_elim (λ f. certified i f u)
-        (λ f. or_right (same_name x (name x.sender i)) (has_name d.certified (name x.sender i)) (reach-certified x.sender i d.certified l (let o = old in omega arith)))
-        (cases_lt k i))
-        stops
 
 -- the certified names with one more in its place
 pub certified_with : (certified : List Label) (x y : Label) → has_name (placed name_lt certified x) y ≡ has_name (x ∷ certified) y

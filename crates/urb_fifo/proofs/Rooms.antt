@@ -1,5 +1,5 @@
 -- What always holds of a release, and room, as a certificate comes.
-use Rattle.std.proofs.Common.{◌≡◌, ℕ, suc, ◌+◌, ◌-◌, ◌<◌, ◌≤◌, true, false, List, ◌∷◌, ◌++◌, length, map, Some, sym, ap, ap₂, subst, ◌∙◌, ⊎_elim, inl, inr, ◌⊎◌, arith, vec_len, vec_capacity}
+use Rattle.std.proofs.Common.{◌≡◌, ℕ, suc, ◌+◌, ◌-◌, ◌<◌, ◌≤◌, true, false, not, List, ◌∷◌, ◌++◌, filter, length, map, Some, refl, sym, ap, ap₂, subst, ◌∙◌, ⊎_elim, inl, inr, ◌⊎◌, arith, eq-eqb, vec_len, vec_capacity}
 use Rattle.std.proofs.lemmas.Bool.{cases_Bool, cases_lt, false≢true, or_cases, or_left}
 use Rattle.std.specs.Bool.{IsTrue}
 use Rattle.urb_names.specs.Naming.{IsLimits, Label}
@@ -9,14 +9,14 @@ use Rattle.urb_names.specs.Ordered.{is_rising, placed, reserved_for}
 use Rattle.urb_names.specs.Release.{beginning, part_of}
 use Rattle.urb_names.proofs.SameNames.{same_name-same, same_name-true}
 use Rattle.urb_names.proofs.Ordered.{names_ordered, reserved_for-some, rising_placed}
-use Rattle.urb_names.proofs.Released.{length-row, log_certified, reach}
+use Rattle.urb_names.proofs.Released.{beginning_is, length-row, log_certified, new_on_row, reach, reach-grows, row}
 use Rattle.urb_names.proofs.Reached.{reach-certified}
 use Rattle.urb_fifo.specs.Delivery.{Delivery, IsDelivery, IsNameOf, IsReleaseOf}
 use Rattle.urb_fifo.specs.Releasing.{newly_released}
 use Rattle.urb_fifo.specs.Room.{HasRoom, IsKept, view_of}
 use Rattle.urb_fifo.specs.declared.fifo.Fifo.TheInside.{Inside}
 use Rattle.urb_fifo.proofs.Lengths.{seven_parts}
-use Rattle.urb_fifo.proofs.Release.{certified_with, newly_is, part_reaches, parts_of_release, reach_within, release_goes_on}
+use Rattle.urb_fifo.proofs.Release.{certified_with, part_reaches, parts_of_release, reach_within, release_goes_on}
 
 -- what always holds follows from order, limits and the certificates
 pub delivery_of : (d : Delivery) (certificates : List Label) → IsLimits d.limits → IsTrue (is_rising name_lt d.certified) → ((x : Label) → has_name d.certified x ≡ true → IsNameOf d.limits x) → IsReleaseOf certificates d → IsDelivery d
@@ -45,21 +45,20 @@ delivery_of d certificates limits order within h = record {
         (λ (l : 1 ≤ reach 0 d.certified). let first : 0 < 0 = (within (name 0 1) (reach-certified 0 1 d.certified (omega arith) l)).label.sender.0 in absurd (omega arith))
         (cases_lt (reach 0 d.certified) 1)
 
--- where only the capacities grew
-pub kept_bigger : {A : Type 0} (a b : Inside A) → b.config ≡ a.config → b.reserved ≡ a.reserved
-    → b.certified.items ≡ a.certified.items → vec_len b.certified ≡ vec_len a.certified → vec_capacity a.certified ≤ vec_capacity b.certified
+-- where there is only more room
+pub kept_bigger : {A : Type 0} (a b : Inside A) → b.config ≡ a.config → b.reserved ≡ a.reserved → b.certified.names ≡ a.certified.names → (a.certified.room ≡ true → b.certified.room ≡ true)
     → b.log.items ≡ a.log.items → vec_len b.log ≡ vec_len a.log → vec_capacity a.log ≤ vec_capacity b.log
     → IsKept a → IsKept b
-kept_bigger a b config reserved certified certified_len certified_room log log_len log_room kept = record {
+kept_bigger a b config reserved certified certified_room log log_len log_room kept = record {
   delivery = subst IsDelivery (sym same) kept.delivery;
   room = λ x e.
       let room : HasRoom a x = kept.room x (sym reserved ∙ e) in
-      let before : has_name b.certified.items x ≡ false → has_name a.certified.items x ≡ false = λ none. ap (λ (xs : List Label). has_name xs x) (sym certified) ∙ none in
+      let before : has_name b.certified.names x ≡ false → has_name a.certified.names x ≡ false = λ none. ap (λ (xs : List Label). has_name xs x) (sym certified) ∙ none in
       record {
-        certified = λ none. let old : vec_len a.certified < vec_capacity a.certified = room.certified (before none) in omega arith;
+        certified = λ none. certified_room (room.certified (before none));
         log = λ none.
-            let old : vec_len a.log + length (newly_released a.log.items a.certified.items x) ≤ vec_capacity a.log = room.log (before none) in
-            let new : length (newly_released b.log.items b.certified.items x) ≡ length (newly_released a.log.items a.certified.items x) = ap (λ (d : Delivery). length (newly_released d.log d.certified x)) same in
+            let old : vec_len a.log + length (newly_released a.log.items a.certified.names x) ≤ vec_capacity a.log = room.log (before none) in
+            let new : length (newly_released b.log.items b.certified.names x) ≡ length (newly_released a.log.items a.certified.names x) = ap (λ (d : Delivery). length (newly_released d.log d.certified x)) same in
             omega arith;
       };
 }
@@ -68,56 +67,52 @@ kept_bigger a b config reserved certified certified_len certified_room log log_l
     same = λ i. record { limits = config i; certified = certified i; log = log i; reserved = reserved i }
 
 -- where one more name of the group is certified
-pub kept_certified : {A : Type 0} (a b : Inside A) (x : Label) → IsNameOf a.config x → has_name a.certified.items x ≡ false
+pub kept_certified : {A : Type 0} (a b : Inside A) (x : Label) → IsNameOf a.config x → has_name a.certified.names x ≡ false
     → b.config ≡ a.config → b.reserved ≡ reserved_for a.reserved x
-    → b.certified.items ≡ placed name_lt a.certified.items x
-    → b.log.items ≡ a.log.items ++ newly_released a.log.items a.certified.items x
+    → b.certified.names ≡ placed name_lt a.certified.names x
+    → b.log.items ≡ a.log.items ++ newly_released a.log.items a.certified.names x
     → IsKept a → IsKept b
 kept_certified a b x is none config reserved certified log kept = record {
   delivery =
       delivery_of (view_of b) (x ∷ kept.delivery.released.0) (subst IsLimits (sym config) kept.delivery.limits)
-      (ap (is_rising name_lt) certified ∙ rising_placed name_lt same_name names_ordered a.certified.items x none kept.delivery.order)
-      (λ y e. subst (λ l. IsNameOf l y) (sym config) (names y (or_cases (same_name x y) (has_name a.certified.items y) (sym (ap (λ xs. has_name xs y) certified ∙ certified_with a.certified.items x y) ∙ e))))
+      (ap (is_rising name_lt) certified ∙ rising_placed name_lt same_name names_ordered a.certified.names x none kept.delivery.order)
+      (λ y e. subst (λ l. IsNameOf l y) (sym config) (names y (or_cases (same_name x y) (has_name a.certified.names y) (sym (ap (λ xs. has_name xs y) certified ∙ certified_with a.certified.names x y) ∙ e))))
       (release_goes_on kept.delivery.released.0 (view_of a) (view_of b) x kept.delivery.released.1 log certified);
   room = λ y e.
       let parts = reserved_for-some a.reserved x y (sym reserved ∙ e) in
-      let there : has_name b.certified.items x ≡ true = ap (λ xs. has_name xs x) certified ∙ (certified_with a.certified.items x x ∙ or_left (same_name x x) (has_name a.certified.items x) (same_name-same x)) in
+      let there : has_name b.certified.names x ≡ true = ap (λ xs. has_name xs x) certified ∙ (certified_with a.certified.names x x ∙ or_left (same_name x x) (has_name a.certified.names x) (same_name-same x)) in
       subst (HasRoom b) parts.1 (record {
         certified = λ gone. absurd (false≢true (sym gone ∙ there));
         log = λ gone. absurd (false≢true (sym gone ∙ there));
       });
 }
   where
-    names : (y : Label) → (same_name x y ≡ true) ⊎ (has_name a.certified.items y ≡ true) → IsNameOf a.config y
+    names : (y : Label) → (same_name x y ≡ true) ⊎ (has_name a.certified.names y ≡ true) → IsNameOf a.config y
     names y (inl e) = subst (IsNameOf a.config) (same_name-true x y e) is
     names y (inr e) = kept.delivery.within y e
 
--- the number of names that a certificate releases
-pub newly_kept : {A : Type 0} (a : Inside A) (x : Label) (k end : ℕ) → IsNameOf a.config x → IsKept a → k ≡ length (part_of x.sender a.log.items) → k ≤ end → end ≤ a.config.cap
-    → ((i : ℕ) → k < i → i ≤ end → has_name (x ∷ a.certified.items) (name x.sender i) ≡ true) → (end < a.config.cap → has_name (x ∷ a.certified.items) (name x.sender (suc end)) ≡ false)
-    → newly_released a.log.items a.certified.items x ≡ map (name x.sender) (numbers_from (suc k) (end - k))
-newly_kept a x k end is kept count more most certified stops =
-    newly_is (view_of a) x k end kept.delivery.parts count more certified (⊎_elim stops (λ (l : a.config.cap ≤ end). past l (cases_Bool (has_name (x ∷ a.certified.items) (name x.sender (suc end))))) (cases_lt end a.config.cap))
-  where
-    over : a.config.cap ≤ end → IsNameOf a.config (name x.sender (suc end)) → ⊥
-    over l h = omega (arith, h.seq)
-
-    past : a.config.cap ≤ end → (has_name (x ∷ a.certified.items) (name x.sender (suc end)) ≡ true) ⊎ (has_name (x ∷ a.certified.items) (name x.sender (suc end)) ≡ false) → has_name (x ∷ a.certified.items) (name x.sender (suc end)) ≡ false
-    past l (inr e) = e
-    past l (inl e) = absurd (over l (either (or_cases (same_name x (name x.sender (suc end))) (has_name a.certified.items (name x.sender (suc end))) e)))
-      where
-        either : (same_name x (name x.sender (suc end)) ≡ true) ⊎ (has_name a.certified.items (name x.sender (suc end)) ≡ true) → IsNameOf a.config (name x.sender (suc end))
-        either (inl f) = subst (IsNameOf a.config) (same_name-true x (name x.sender (suc end)) f) is
-        either (inr f) = kept.delivery.within (name x.sender (suc end)) f
+-- what a certificate releases: the names of its sender behind those in the log, up to where they will be certified
+pub newly_kept : {A : Type 0} (a : Inside A) (x : Label) (k end : ℕ) → IsKept a → k ≡ length (beginning x.sender a.certified.names) → end ≡ length (beginning x.sender (x ∷ a.certified.names))
+    → (k ≤ end) × (newly_released a.log.items a.certified.names x ≡ map (name x.sender) (numbers_from (suc k) (end - k)))
+newly_kept a x k end kept old new =
+    let before : k ≡ reach x.sender a.certified.names = old ∙ (ap length (beginning_is x.sender a.certified.names) ∙ length-row x.sender 1 (reach x.sender a.certified.names)) in
+    let after : end ≡ reach x.sender (x ∷ a.certified.names) = new ∙ (ap length (beginning_is x.sender (x ∷ a.certified.names)) ∙ length-row x.sender 1 (reach x.sender (x ∷ a.certified.names))) in
+    let grows : reach x.sender a.certified.names ≤ reach x.sender (x ∷ a.certified.names) = reach-grows x.sender x a.certified.names (eq-eqb x.sender x.sender refl) in
+    let more : k ≤ end = omega arith in (
+      more,
+      ap (filter (λ y. not (has_name a.log.items y))) (beginning_is x.sender (x ∷ a.certified.names) ∙ ap (row x.sender 1) (sym after))
+          ∙ (new_on_row x.sender a.log.items k end more (kept.delivery.parts x.sender ∙ (beginning_is x.sender a.certified.names ∙ ap (row x.sender 1) (sym before)))
+          ∙ ap (λ (i : ℕ). row x.sender i (end - k)) (let next : 1 + k ≡ suc k = omega arith in next)),
+    )
 
 -- how many names a certificate releases
 pub newly_count : (d : Delivery) (x : Label) (from end : ℕ) → newly_released d.log d.certified x ≡ map (name x.sender) (numbers_from (suc from) (end - from)) → length (newly_released d.log d.certified x) ≡ end - from
 newly_count d x from end names = ap length names ∙ length-row x.sender (suc from) (end - from)
 
 -- where room was made for a name
-pub kept_reserved : {A : Type 0} (a b : Inside A) (x : Label) (from end : ℕ) → newly_released a.log.items a.certified.items x ≡ map (name x.sender) (numbers_from (suc from) (end - from))
+pub kept_reserved : {A : Type 0} (a b : Inside A) (x : Label) (from end : ℕ) → newly_released a.log.items a.certified.names x ≡ map (name x.sender) (numbers_from (suc from) (end - from))
     → b.config ≡ a.config → b.reserved ≡ Some x
-    → b.certified.items ≡ a.certified.items → vec_len b.certified + 1 ≤ vec_capacity b.certified
+    → b.certified.names ≡ a.certified.names → b.certified.room ≡ true
     → b.log.items ≡ a.log.items → vec_len b.log + (end - from) ≤ vec_capacity b.log
     → IsKept a → IsKept b
 kept_reserved a b x from end names config reserved certified certified_room log log_room kept = record {
@@ -131,10 +126,10 @@ kept_reserved a b x from end names config reserved certified certified_room log 
   room = λ y e.
       let same : x ≡ y = (let both : Some x ≡ Some y = sym reserved ∙ e in cc) in
       subst (HasRoom b) same (record {
-        certified = λ none. omega arith;
+        certified = λ none. certified_room;
         log = λ none.
-            let count : length (newly_released a.log.items a.certified.items x) ≡ end - from = newly_count (view_of a) x from end names in
-            let new : length (newly_released b.log.items b.certified.items x) ≡ length (newly_released a.log.items a.certified.items x) = ap₂ (λ xs ys. length (newly_released xs ys x)) log certified in
+            let count : length (newly_released a.log.items a.certified.names x) ≡ end - from = newly_count (view_of a) x from end names in
+            let new : length (newly_released b.log.items b.certified.names x) ≡ length (newly_released a.log.items a.certified.names x) = ap₂ (λ xs ys. length (newly_released xs ys x)) log certified in
             omega arith;
       });
 }

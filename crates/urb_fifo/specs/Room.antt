@@ -1,5 +1,5 @@
--- What the vectors of a release keep: what always holds, and room for the name that is reserved.
-use Rattle.std.specs.Prelude.{◌≡◌, false, ◌<◌, ◌≤◌, ◌+◌, length}
+-- What the fields of a release keep: what always holds, and room in the log for the name that is reserved.
+use Rattle.std.specs.Prelude.{◌≡◌, true, false, ◌≤◌, ◌+◌, length}
 use Rattle.std.specs.Vec.{vec_len, vec_capacity}
 use Rattle.std.specs.Option.{ForSome}
 use Rattle.urb_names.specs.Naming.{Label}
@@ -10,12 +10,12 @@ use Rattle.urb_fifo.specs.declared.fifo.Fifo.TheInside.{Inside}
 
 -- what contracts see of the fields
 abbrev pub view_of : {A : Type 0} → Inside A → Delivery
-view_of a = record { limits = a.config; certified = a.certified.items; log = a.log.items; reserved = a.reserved }
+view_of a = record { limits = a.config; certified = a.certified.names; log = a.log.items; reserved = a.reserved }
 
 -- where the name is not certified yet, there is room for it, and for all that its certificate would release
 pub record HasRoom {A : Type 0} (a : Inside A) (x : Label) : Type 0 where
-  pub certified : has_name a.certified.items x ≡ false → vec_len a.certified < vec_capacity a.certified
-  pub log : has_name a.certified.items x ≡ false → vec_len a.log + length (newly_released a.log.items a.certified.items x) ≤ vec_capacity a.log
+  pub certified : has_name a.certified.names x ≡ false → a.certified.room ≡ true
+  pub log : has_name a.certified.names x ≡ false → vec_len a.log + length (newly_released a.log.items a.certified.names x) ≤ vec_capacity a.log
 
 -- what the fields keep: their value, and the room that is promised
 pub record IsKept {A : Type 0} (a : Inside A) : Type 0 where

@@ -2,7 +2,6 @@
 
 ghost use Rattle.std.specs.Prelude.{◌≡◌, ℕ, suc, ◌<◌, ◌≤◌, ◌+◌, ◌-◌, ◌*◌, ◌^◌, ◌==◌, true, false, [], ◌∷◌, ◌++◌, None, Some, map, length, count_by, vec_len, vec_capacity, List, IsOk, IfOk, OnOk, OnErr};
 ghost use Rattle.std.specs.Bool.{Decides};
-ghost use Rattle.std.specs.List.{prefix_len};
 ghost use Rattle.urb_names.specs.Nodes.{numbers_from};
 ghost use Rattle.urb_names.specs.Names.{has_name, name, name_lt};
 ghost use Rattle.urb_names.specs.Naming.{IsLabel, IsLimits, Label};
@@ -13,6 +12,7 @@ ghost use Rattle.urb_fifo.specs.Releasing.{certifying, newly_released};
 
 use std::alloc::{Allocator, Global};
 use std::marker::Model;
+use urb_certified::Certified;
 use urb_names::{Config, Name, NoMemory, NodeId};
 
 /// The certified names, and the log of those that are released: a name is released once it and all lower numbers of its
@@ -21,7 +21,7 @@ use urb_names::{Config, Name, NoMemory, NodeId};
 #[derive_where(Debug)]
 pub struct Fifo<A: Allocator = Global> {
     config: Config,
-    certified: Vec<Name, A>,
+    certified: Certified<A>,
     log: Vec<Name, A>,
     reserved: Option<Name>,
 }
@@ -46,23 +46,6 @@ fn limits_of(config: Config)
     let _cap = config.cap();
 }
 
-fn precedes(first: &Name, second: Name) -> bool
-    ensures { result ≡ name_lt first.now second }
-{
-    *first < second
-}
-
-// Where a name stands among names in order, or would stand.
-fn place_of(names: &[Name], name: Name) -> usize
-    ensures place { result ≡ prefix_len (λ other. name_lt other name) names.now }
-    ensures within { result ≤ length names.now }
-{
-    names
-        .iter()
-        .take_while(|other| precedes(other, name))
-        .count()
-}
-
 // What is left of a reservation once a name was added.
 fn reserved_for(reserved: Option<Name>, name: Name) -> Option<Name>
     ensures { result ≡ reserved_for reserved name }
@@ -77,45 +60,6 @@ fn are_same(first: &[Name], second: &[Name]) -> bool
     ensures { Decides result (first.now ≡ second.now) }
 {
     first == second
-}
-
-fn is_of(name: &Name, sender: NodeId) -> bool
-    ensures { result ≡ (name.now.sender == sender) }
-{
-    name.sender == sender
-}
-
-// How many names of a sender are in a log.
-fn count_of(log: &[Name], sender: NodeId) -> usize
-    ensures { result ≡ length (part_of sender log.now) }
-{
-    log.iter().filter(|name| is_of(name, sender)).count()
-}
-
-// The number up to which the names of a name's sender are certified from one number on, once this name is certified too.
-fn run_end(certified: &[Name], certificate: Name, from: u32, cap: u32) -> u32
-    requires { from ≤ cap }
-    ensures range { (from ≤ result) × (result ≤ cap) }
-    ensures certified { (i : ℕ) → from < i → i ≤ result → has_name (certificate ∷ certified.now) (name certificate.sender i) ≡ true }
-    ensures stops { result < cap → has_name (certificate ∷ certified.now) (name certificate.sender (suc result)) ≡ false }
-{
-    let mut end = from;
-    while end < cap && is_next(certified, certificate, end) {
-        end += 1;
-    }
-    end
-}
-
-// Whether the number behind this one of a name's sender is certified, or is the name's.
-fn is_next(certified: &[Name], certificate: Name, end: u32) -> bool
-    requires { end < 2 ^ 32 - 1 }
-    ensures { result ≡ has_name (certificate ∷ certified.now) (name certificate.sender (suc end)) }
-{
-    let next = Name {
-        sender: certificate.sender,
-        seq: end + 1,
-    };
-    certificate == next || certified.contains(&next)
 }
 
 #[tactic(auto, using(crate::proofs::Rows::row_next, crate::proofs::Rows::row_none))]
@@ -142,7 +86,7 @@ impl<A: Allocator + Copy> Fifo<A> {
         limits_of(config);
         Fifo {
             config,
-            certified: Vec::new(alloc),
+            certified: Certified::new(alloc),
             log: Vec::new(alloc),
             reserved: None,
         }
@@ -159,7 +103,7 @@ impl<A: Allocator + Copy> Fifo<A> {
     pub fn is_certified(&self, name: Name) -> bool
         ensures { result ≡ has_name self.now.certified name }
     {
-        self.certified.contains(&name)
+        self.certified.has(name)
     }
 
     /// The names that are released, in the order of their release.
@@ -174,24 +118,30 @@ impl<A: Allocator + Copy> Fifo<A> {
         ensures count { result ≡ length (part_of sender self.now.log) }
         ensures most { result ≤ self.now.limits.cap }
     {
-        count_of(&self.log, sender) as u32
+        self.certified.reach(sender)
     }
 
     /// The same names certified and released, with no room reserved. Its memory comes from `alloc`.
     pub fn copy(&self, alloc: A) -> Result<Fifo<A>, NoMemory>
         ensures { IfOk result (λ copy. copy ≡ record self.now { reserved = None }) }
     {
-        let mut copy = Fifo::new(alloc, self.config);
-        copy.certified.extend_from_slice(&self.certified)?;
-        copy.log.extend_from_slice(&self.log)?;
-        Ok(copy)
+        let mut log = Vec::new(alloc);
+        log.extend_from_slice(&self.log)?;
+        let certified = self.certified.copy(alloc)?;
+        let reserved = None;
+        Ok(Fifo {
+            config: self.config,
+            certified,
+            log,
+            reserved,
+        })
     }
 
     /// Whether both have the same names certified, and have released the same log.
     pub fn is_same(&self, other: &Fifo<A>) -> bool
         ensures { Decides result ((self.now.certified ≡ other.now.certified) × (self.now.log ≡ other.now.log)) }
     {
-        are_same(&self.certified, &other.certified) && are_same(&self.log, &other.log)
+        self.certified.is_same(&other.certified) && are_same(&self.log, &other.log)
     }
 
     // The number behind which names of a certificate's sender would be released by it, and the last that would be.
@@ -203,8 +153,8 @@ impl<A: Allocator + Copy> Fifo<A> {
         ensures label { IsLabel certificate }
     {
         certificate.limits();
-        let from = self.count(certificate.sender);
-        let end = run_end(&self.certified, certificate, from, self.config.cap());
+        let from = self.certified.reach(certificate.sender);
+        let end = self.certified.reach_with(certificate);
         (from, end)
     }
 
@@ -217,8 +167,8 @@ impl<A: Allocator + Copy> Fifo<A> {
         ensures err { OnErr result (self.new ≡ self.old) }
     {
         let (from, end) = self.released_by(name);
-        self.certified.reserve(1)?;
         self.log.reserve((end - from) as usize)?;
+        self.certified.make_room()?;
         self.reserved = Some(name);
         Ok(())
     }
@@ -243,9 +193,8 @@ impl<A: Allocator + Copy> Fifo<A> {
         }
         let (from, end) = self.released_by(name);
         let released = end - from;
-        let at = place_of(&self.certified, name);
         self.log.reserve(released as usize)?;
-        self.certified.insert(at, name)?;
+        self.certified.add(name)?;
         release(&mut self.log, name.sender, from, end);
         self.reserved = reserved_for(self.reserved, name);
         Ok(released)

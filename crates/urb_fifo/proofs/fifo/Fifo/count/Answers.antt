@@ -1,20 +1,16 @@
-use Rattle.std.proofs.Common.{arith, rules, ap, ◌≡◌, ◌≤◌, length}
-use Rattle.urb_names.specs.Release.{part_of}
+use Rattle.std.proofs.Common.{arith, rules, ap, sym, subst, ◌∙◌, ◌≡◌, ◌≤◌, length}
+use Rattle.urb_names.specs.Release.{beginning, part_of}
 use Rattle.urb_fifo.specs.Delivery.{Delivery}
 use Rattle.urb_fifo.specs.Room.{view_of}
 use Rattle.urb_fifo.proofs.Release.{part_within}
 use Rattle.urb_fifo.proofs.fifo.Fifo.count.Goals as goal
 
-pub overflow_cast-result : goal.overflow_cast-result
-overflow_cast-result g c =
-    let most : length (part_of c.args.sender c.self.inside.log.items) ≤ c.self.inside.config.cap = part_within (view_of c.self.inside) c.self.invariant.delivery c.args.sender in
-    let count : c.count_of.result ≡ length (part_of c.args.sender c.self.inside.log.items) = search rules in
-    let cap = c.self.invariant.delivery.limits in
-    omega (arith, cap.3)
-
-pub returns-clause-most : goal.returns-clause-most
-returns-clause-most g c =
-    let most : length (part_of c.args.sender c.self.inside.log.items) ≤ c.self.inside.config.cap = part_within (view_of c.self.inside) c.self.invariant.delivery c.args.sender in
-    let count : c.count_of.result ≡ length (part_of c.args.sender c.self.inside.log.items) = search rules in
-    let cap : c.self.inside.config.cap ≡ c.args.self.now.limits.cap = ap (λ (d : Delivery). d.limits.cap) c.self.view_is in
-    omega arith
+pub returns : goal.returns
+returns g c =
+    let a = c.self.inside in
+    let s = c.args.sender in
+    let inner : c.reach.result ≡ length (part_of s a.log.items) = c.reach.ensures ∙ ap length (sym (c.self.invariant.delivery.parts s)) in
+    let count : c.reach.result ≡ length (part_of s c.args.self.now.log) = inner ∙ ap (λ (d : Delivery). length (part_of s d.log)) c.self.view_is in
+    let most : length (part_of s a.log.items) ≤ a.config.cap = part_within (view_of a) c.self.invariant.delivery s in
+    let cap : a.config.cap ≡ c.args.self.now.limits.cap = ap (λ (d : Delivery). d.limits.cap) c.self.view_is in
+    record { count = count; most = omega arith }

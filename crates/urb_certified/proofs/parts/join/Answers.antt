@@ -1,0 +1,15 @@
+use Rattle.std.proofs.Common.{rules, sym, subst, ◌≡◌}
+use Rattle.urb_names.specs.Naming.{Label}
+use Rattle.urb_names.specs.Names.{name_lt}
+use Rattle.urb_names.specs.Ordered.{placed}
+use Rattle.urb_certified.specs.Parts.{IsJoined}
+use Rattle.urb_certified.proofs.Kept.{puts}
+use Rattle.urb_certified.proofs.parts.join.Goals as goal
+
+pub returns-clause-ok : goal.returns-clause-ok
+returns-clause-ok g c =
+    let low = c.args.low.now in
+    let above = c.args.above.now.items in
+    let x = c.args.name in
+    subst (IsJoined low above x low) (sym c.in_ok-put_above.ensures.ok)
+    (puts low above x c.requires.parts c.limits.ensures c.requires.absent (c.is_next.ensures.other c.if-is_next.false))

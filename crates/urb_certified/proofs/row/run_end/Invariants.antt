@@ -1,0 +1,14 @@
+use Rattle.std.proofs.Common.{◌≡◌, ℕ, ◌<◌, ◌≤◌, ◌-◌, ◌^◌, true}
+use Rattle.urb_names.specs.Names.{has_name, name}
+use Rattle.urb_certified.proofs.row.run_end.Given as goal
+
+-- all up to here are there
+abbrev pub invariant-loop-end : goal.invariant-loop-end
+invariant-loop-end l = record {
+  first : l.start.seq ≤ l.end;
+  last : l.end ≤ 2 ^ 32 - 1;
+  held : (i : ℕ) → l.start.seq < i → i ≤ l.end → has_name l.names (name l.start.sender i) ≡ true;
+}
+
+abbrev pub decreases-loop-end : goal.decreases-loop-end
+decreases-loop-end l = 2 ^ 32 - 1 - l.end

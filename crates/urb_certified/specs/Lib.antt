@@ -1,0 +1,4 @@
+pub mod Sets
+pub mod Certificates
+pub mod Parts
+pub mod Room

@@ -1,0 +1,127 @@
+//! The certified names of a group's senders, which no history makes slow to look up.
+
+ghost use Rattle.std.specs.Prelude.{◌≡◌, ℕ, suc, ◌+◌, ◌-◌, ◌<◌, ◌≤◌, ◌^◌, true, false, [], ◌∷◌, None, Some, length, slice_index_or, vec_len, vec_capacity, OnOk, OnErr, IfOk, IsOk};
+ghost use Rattle.std.specs.Bool.{Decides};
+ghost use Rattle.urb_names.specs.Names.{has_name, name_lt, same_name};
+ghost use Rattle.urb_names.specs.Release.{beginning};
+ghost use Rattle.urb_certified.specs.Certificates.{IsCertificates, with_name};
+
+use crate::parts::{MOST_SENDERS, has, join, low_of, reach_with};
+use crate::row::are_same;
+use std::alloc::{Allocator, Global};
+use std::marker::Model;
+use urb_names::{Name, NoMemory, NodeId};
+
+/// Certified names, each once: for each sender how far they go from 1 on without a gap, and those above the gap in order.
+#[derive(Drop)]
+#[derive_where(Debug)]
+pub struct Certified<A: Allocator = Global> {
+    low: [u32; MOST_SENDERS],
+    above: Vec<Name, A>,
+}
+
+impl<A: Allocator> Model for Certified<A> {
+    ghost use Rattle.urb_certified.specs.Certificates.{Certificates};
+
+    ghost Value = { Certificates };
+
+    ghost use Rattle.urb_certified.specs.Room.{view_of, IsKept};
+
+    ghost view = { view_of };
+
+    ghost invariant = { IsKept };
+}
+
+impl<A: Allocator + Copy> Certified<A> {
+    /// No name is certified. Takes no memory; what grows later is taken from `alloc`.
+    pub fn new(alloc: A) -> Certified<A>
+        ensures { result.names ≡ [] }
+    {
+        Certified {
+            low: [0; MOST_SENDERS],
+            above: Vec::new(alloc),
+        }
+    }
+
+    /// What always holds of certified names: for proofs alone, since it does nothing.
+    pub fn limits(&self)
+        ensures { IsCertificates self.now }
+    {
+        let _above = &self.above;
+    }
+
+    /// Whether a name is certified.
+    pub fn has(&self, name: Name) -> bool
+        ensures { result ≡ has_name self.now.names name }
+    {
+        has(&self.low, &self.above, name)
+    }
+
+    /// How many names of a sender are certified from 1 on without a gap.
+    pub fn reach(&self, sender: NodeId) -> u32
+        ensures { result ≡ length (beginning sender self.now.names) }
+    {
+        low_of(&self.low, sender)
+    }
+
+    /// How many of the sender's names would be certified from 1 on without a gap, were this name certified too.
+    pub fn reach_with(&self, name: Name) -> u32
+        ensures { result ≡ length (beginning name.sender (name ∷ self.now.names)) }
+    {
+        reach_with(&self.low, &self.above, name)
+    }
+
+    /// Makes room for any one name more, so that its `add` takes no memory. `NoMemory` means that a growth was refused: the
+    /// call may be made again.
+    pub fn make_room(&mut self) -> Result<(), NoMemory>
+        ensures names { self.new.names ≡ self.old.names }
+        ensures ok { OnOk result (self.new.room ≡ true) }
+        ensures err { OnErr result (self.old.room ≡ true → self.new.room ≡ true) }
+    {
+        self.above.reserve(1)?;
+        Ok(())
+    }
+
+    /// One more name is certified. Where it closes a gap, those that follow it stand without a gap too.
+    /// `NoMemory` means that a growth was refused: the call may be made again.
+    pub fn add(&mut self, name: Name) -> Result<(), NoMemory>
+        ensures ok { OnOk result (self.new.names ≡ with_name self.old.names name) }
+        ensures err { OnErr result ((self.new.names ≡ self.old.names) × (self.old.room ≡ true → self.new.room ≡ true)) }
+        // Want of memory comes only where the name is new, and never where there is room.
+        ensures again { has_name self.old.names name ≡ true → IsOk result }
+        ensures roomy { self.old.room ≡ true → IsOk result }
+    {
+        if self.has(name) {
+            return Ok(());
+        }
+        join(&mut self.low, &mut self.above, name)?;
+        Ok(())
+    }
+
+    /// No name is certified any more. The memory stays.
+    pub fn clear(&mut self)
+        ensures { self.new.names ≡ [] }
+    {
+        self.low = [0; MOST_SENDERS];
+        self.above.clear();
+    }
+
+    /// The same names. Its memory comes from `alloc`.
+    pub fn copy(&self, alloc: A) -> Result<Certified<A>, NoMemory>
+        ensures { IfOk result (λ copy. copy.names ≡ self.now.names) }
+    {
+        let mut above = Vec::new(alloc);
+        above.extend_from_slice(&self.above)?;
+        Ok(Certified {
+            low: self.low,
+            above,
+        })
+    }
+
+    /// Whether both have the same names.
+    pub fn is_same(&self, other: &Certified<A>) -> bool
+        ensures { Decides result (self.now.names ≡ other.now.names) }
+    {
+        self.low == other.low && are_same(&self.above, &other.above)
+    }
+}
