@@ -2,7 +2,9 @@
 
 ghost use Rattle.std.specs.Prelude.{◌≡◌};
 
+use std::alloc::AllocError;
 use thiserror::Error;
+use urb_names::Refusal;
 use urb_script::RunFault;
 
 /// Why the program ended before its work was done. Its status is then 1.
@@ -14,9 +16,43 @@ pub enum Fault {
     /// Standard output could not be written.
     #[error("write failed")]
     Write,
-    /// Memory was refused.
+    /// Memory was refused, or a thread.
     #[error("no memory")]
     NoMemory,
+    /// A port could not be had.
+    #[error("network failed")]
+    Network,
+    /// What answered a request is no response to it.
+    #[error("bad reply")]
+    BadReply,
+    /// A group was not opened, for the refusal of this number and detail.
+    #[error("refused {0} {1}")]
+    Refused(u8, u32),
+}
+
+impl From<AllocError> for Fault {
+    ghost use Rattle.std.specs.Prelude.{◌≡◌};
+    ghost use Rattle.urbd.specs.declared.faults.Fault.TheVariants.{NoMemory as no_memory};
+
+    ghost from_gives = { λ _ e. e ≡ no_memory };
+
+    fn from(_: AllocError) -> Fault {
+        Fault::NoMemory
+    }
+}
+
+impl From<Refusal> for Fault {
+    ghost use Rattle.std.specs.Prelude.{◌≡◌};
+    ghost use Rattle.urbd.specs.Statuses.{fault_of_refusal};
+
+    ghost from_gives = { λ refusal e. e ≡ fault_of_refusal refusal };
+
+    fn from(refusal: Refusal) -> Fault {
+        match refusal {
+            Refusal::NoMemory => Fault::NoMemory,
+            _ => Fault::Refused(refusal.number(), refusal.detail()),
+        }
+    }
 }
 
 impl From<RunFault> for Fault {

@@ -5,8 +5,12 @@ ghost use Rattle.std.specs.Prelude.{◌≡◌, ◌≤◌};
 ghost use Rattle.urbd.specs.Statuses.{status_of};
 
 mod arguments;
+mod daemon;
 mod faults;
+mod host;
+mod journals;
 mod lines;
+mod serving;
 
 use crate::arguments::{line, words};
 use crate::faults::{Fault, tell};

@@ -1,0 +1,58 @@
+//! What `urbd serve` is told.
+
+ghost use Rattle.std.specs.Prelude.{◌≡◌, MatchOption};
+ghost use Rattle.urbd.specs.Served.{AreServed};
+
+use urb_names::Config;
+
+/// A group to run: how many nodes, how many messages each keeps, where its journals are, its ports, and how often each node
+/// resends.
+#[derive(Clone, Copy, Debug)]
+pub struct Serving<'a> {
+    /// Nodes, 1 to 7.
+    pub nodes: u8,
+    /// Messages that each node keeps at most, 1 to 1,000,000.
+    pub cap: u32,
+    /// The folder of the journals.
+    pub dir: &'a str,
+    /// Node P has UDP port base + P and TCP port base + 10 + P; 1,024 to 65,000.
+    pub base: u16,
+    /// Milliseconds from one tick to the next, 1 to 60,000.
+    pub every: u32,
+    ghost within: { AreServed nodes cap base every },
+}
+
+impl<'a> Serving<'a> {
+    /// The group of these; none where one is out of its range.
+    pub fn new(nodes: u8, cap: u32, dir: &'a str, base: u16, every: u32) -> Option<Serving<'a>>
+        ensures { MatchOption result (AreServed nodes cap base every → ⊥)
+            (λ s. (s.nodes ≡ nodes) × (s.cap ≡ cap) × (s.dir ≡ dir.entry) × (s.base ≡ base) × (s.every ≡ every)) }
+    {
+        if nodes == 0 || nodes > 7 {
+            return None;
+        }
+        if cap == 0 || cap > 1_000_000 {
+            return None;
+        }
+        if base < 1_024 || base > 65_000 {
+            return None;
+        }
+        if every == 0 || every > 60_000 {
+            return None;
+        }
+        Some(Serving {
+            nodes,
+            cap,
+            dir,
+            base,
+            every,
+        })
+    }
+
+    /// The limits of the group.
+    pub fn config(&self) -> Config
+        ensures { (result.n ≡ self.now.nodes) × (result.cap ≡ self.now.cap) }
+    {
+        Config::new(self.nodes, self.cap).unwrap()
+    }
+}
