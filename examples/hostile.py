@@ -194,8 +194,10 @@ def is_refused(program, folder, base, text, what):
     output, errors = process.communicate(timeout=30)
     assert (process.returncode, output, errors) == (1, b"", b"urbd: " + text + b"\n"), (what, process.returncode, output, errors)
     after = contents(folder)
-    changed = {path for path in {**before, **after} if before.get(path) != after.get(path)}
+    changed = {path for path, bytes_of in before.items() if after.get(path) != bytes_of}
     assert not changed, (what, changed)
+    # Beside a journal that was refused the database leaves its log, without a record.
+    assert all(path.endswith("-wal") for path in set(after) - set(before)), (what, set(after) - set(before))
     print(f"{what}: {errors.decode().strip()}", flush=True)
 
 
@@ -235,7 +237,6 @@ def refused_openings(program, folder, base):
     damages = (
         ("UPDATE journal SET kind = 4 WHERE pos = 1", b"refused 17 1", "a row that is no record"),
         ("DELETE FROM journal", b"refused 14 0", "a journal without its records"),
-        ("DROP TABLE journal", b"refused 14 0", "a journal without its table"),
         (None, b"refused 15 0", "a file that is no database"),
     )
     for statement, text, what in damages:
