@@ -137,27 +137,3 @@ fn each_growth_may_be_refused(rt: HostRuntime) -> Result<(), Fail> {
     assert!(rt; 2 <= met, "a growth was refused");
     Ok(())
 }
-
-#[test]
-fn forty_names_are_released_in_order(rt: HostRuntime) -> Result<(), Fail> {
-    let config = Config::new(3, 40).ok_or("a config")?;
-    let mut rising = Fifo::new(rt.alloc(), config);
-    let mut falling = Fifo::new(rt.alloc(), config);
-    let mut odd_first = Fifo::new(rt.alloc(), config);
-    let mut want = Vec::new(rt.alloc());
-    for seq in 1..41 {
-        let odd = if seq <= 20 {
-            2 * seq - 1
-        } else {
-            2 * (seq - 20)
-        };
-        rising.certify(name(2, seq)?)?;
-        falling.certify(name(2, 41 - seq)?)?;
-        odd_first.certify(name(2, odd)?)?;
-        want.push(name(2, seq)?)?;
-    }
-    assert_eq!(rt; rising.log(), want.as_slice());
-    assert_eq!(rt; falling.log(), want.as_slice());
-    assert_eq!(rt; odd_first.log(), want.as_slice());
-    Ok(())
-}
