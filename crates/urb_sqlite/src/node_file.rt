@@ -15,25 +15,25 @@ use std::marker::Brand;
 /// proved for all contents, also for those that the files really held. Under one `K` the files of a node are opened once.
 pub trait Contents: Drop {
     /// Stands for what the files of node 1 held.
-    type First: Start + Default;
+    type First: Start + Default + Send;
 
     /// Stands for what the files of node 2 held.
-    type Second: Start + Default;
+    type Second: Start + Default + Send;
 
     /// Stands for what the files of node 3 held.
-    type Third: Start + Default;
+    type Third: Start + Default + Send;
 
     /// Stands for what the files of node 4 held.
-    type Fourth: Start + Default;
+    type Fourth: Start + Default + Send;
 
     /// Stands for what the files of node 5 held.
-    type Fifth: Start + Default;
+    type Fifth: Start + Default + Send;
 
     /// Stands for what the files of node 6 held.
-    type Sixth: Start + Default;
+    type Sixth: Start + Default + Send;
 
     /// Stands for what the files of node 7 held.
-    type Seventh: Start + Default;
+    type Seventh: Start + Default + Send;
 }
 
 /// For a program to name: at this type nothing is said of a file that is not empty.
