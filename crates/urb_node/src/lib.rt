@@ -7,6 +7,7 @@ mod down;
 mod found;
 mod held;
 mod judging;
+mod known_pairs;
 pub mod laws;
 mod opening;
 mod queries;

@@ -1,21 +1,17 @@
 //! One node under test, with its store in memory.
 
 mod calls;
+mod packets;
 mod receipts;
 mod refused;
 mod restarts;
 mod ticks;
 
-ghost use Rattle.std.specs.Prelude.{◌≡◌, OnOk};
-ghost use Rattle.urb_node.specs.Moves.{IsForNode};
-
+use crate::tests::packets::{bytes_of, check, packet_of, place};
 use crate::{Answer, Done, Down, Ready, Step, Storing};
 use std::alloc::Allocator;
 use std::test::Fail;
-use urb_names::{
-    ClientId, Config, MAX_PAYLOAD, Message, Name, NodeId, Packet, PacketView, Refusal, encode,
-    parse,
-};
+use urb_names::{ClientId, Config, MAX_PAYLOAD, Message, Name, NodeId, Refusal};
 use urb_stable::{Draft, MemStable, Receipt, Record, Stable};
 use urb_stubborn::Outbox;
 
@@ -131,71 +127,6 @@ struct Tested<A: Allocator> {
     store: MemStable<A>,
     heap: A,
     calm: A,
-}
-
-// Which node of which group it is.
-fn place<A: Allocator + Copy>(ready: &Ready<A>) -> (NodeId, Config)
-    ensures { result ≡ (ready.now.node, ready.now.limits) }
-{
-    (ready.held.node, ready.held.config)
-}
-
-// Fails where the packet, of this message, may not come to the node.
-fn check<A: Allocator + Copy>(
-    ready: &Ready<A>,
-    packet: &PacketView<'_>,
-    sent: &Message<A>,
-) -> Result<(), Fail>
-    ensures { OnOk result (IsForNode ready.now packet.now) }
-{
-    let named = packet.name();
-    let (node, config) = place(ready);
-    if packet.client() != sent.client()
-        || packet.number() != sent.number()
-        || packet.payload() != sent.payload()
-    {
-        return Err(Fail::from("the packet is of another message"));
-    }
-    if packet.target() != node || packet.source().number() > config.n() {
-        return Err(Fail::from("a packet comes from a node of the group"));
-    }
-    if named.sender.number() > config.n() || named.seq > config.cap() {
-        return Err(Fail::from("the name is beyond the limits"));
-    }
-    let is_held = ready.holds(&named, sent);
-    if named.sender == node && !is_held {
-        return Err(Fail::from("the node has broadcast no such message"));
-    }
-    match ready.message(named) {
-        None => Ok(()),
-        Some(there) => {
-            if there.is_same(sent) {
-                Ok(())
-            } else {
-                Err(Fail::from("the name is of another message"))
-            }
-        }
-    }
-}
-
-// The bytes of a packet of this message.
-fn bytes_of<A: Allocator + Copy>(
-    calm: A,
-    source: NodeId,
-    target: NodeId,
-    named: Name,
-    sent: &Message<A>,
-) -> Result<Vec<u8, A>, Fail> {
-    if source == target {
-        return Err(Fail::from("a packet comes from another node"));
-    }
-    let packet = Packet::new(source, target, named, sent.copy(calm)?);
-    Ok(encode(calm, &packet)?)
-}
-
-// The packet of these bytes.
-fn packet_of(bytes: &[u8]) -> Result<PacketView<'_>, Fail> {
-    Ok(parse(bytes)?)
 }
 
 // A packet of a message of client 7 comes to the node from a source that may have it.

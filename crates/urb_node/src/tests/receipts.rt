@@ -1,6 +1,7 @@
 //! What a node holds back until its store has taken a record, and what is left of it where the store has not.
 
 use super::*;
+use urb_names::Packet;
 
 // The receipt of a draft, of a store that holds as many records as come before it.
 fn receipt_of<A: Allocator + Copy>(draft: Draft<A>, calm: A) -> Result<Receipt<A>, Fail> {

@@ -3,7 +3,7 @@ use Rattle.std.specs.List.{list_all}
 use Rattle.urb_names.specs.Pairs.{has_pair}
 use Rattle.urb_stable.specs.Records.{pend}
 use Rattle.urb_node.specs.Judging.{pairs_with}
-use Rattle.urb_node.proofs.judging.are_known.Given as goal
+use Rattle.urb_node.proofs.known_pairs.are_known.Given as goal
 
 -- all pairs so far are known
 abbrev pub invariant-loop-record : goal.invariant-loop-record

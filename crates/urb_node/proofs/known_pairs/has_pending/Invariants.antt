@@ -2,7 +2,7 @@ use Rattle.std.proofs.Common.{◌≡◌, drop}
 use Rattle.std.specs.List.{list_all}
 use Rattle.urb_names.specs.Pairs.{has_pair}
 use Rattle.urb_stable.specs.Records.{pend}
-use Rattle.urb_node.proofs.judging.has_pending.Given as goal
+use Rattle.urb_node.proofs.known_pairs.has_pending.Given as goal
 
 -- the image has all pairs so far
 abbrev pub invariant-loop-index : goal.invariant-loop-index

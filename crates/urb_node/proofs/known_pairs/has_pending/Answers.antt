@@ -2,8 +2,8 @@ use Rattle.std.proofs.Common.{rules, ◌≡◌, ◌<◌, arith, false, true, sli
 use Rattle.urb_names.specs.Pairs.{has_pair}
 use Rattle.urb_stable.specs.Records.{pend}
 use Rattle.urb_node.proofs.ImagePairs.{none_left, one_more, one_not}
-use Rattle.urb_node.proofs.judging.has_pending.Goals as goal
-use Rattle.urb_node.proofs.judging.has_pending.Goals.{in-Some+else-not-has, in_default}
+use Rattle.urb_node.proofs.known_pairs.has_pending.Goals as goal
+use Rattle.urb_node.proofs.known_pairs.has_pending.Goals.{in-Some+else-not-has, in_default}
 
 pub returns-then-not-has : goal.returns-then-not-has
 returns-then-not-has g c =
