@@ -16,6 +16,7 @@ from running import Daemon, Gone, start
 
 NODES = 3
 CLIENTS = 12
+TURN = 0.2  # seconds that a client keeps a session: a node has four at a time, and others wait
 
 class Client(threading.Thread):
     """Submits its messages 1, 2, 3, .. at one node, each until it is accepted."""
@@ -29,13 +30,11 @@ class Client(threading.Thread):
 
     def run(self):
         try:
-            session, asked = self.group.session(self.node), 0
+            session, since = self.group.session(self.node), time.monotonic()
             while True:
-                # A node has four sessions at a time: after some requests others have their turn.
-                asked += 1
-                if asked % 25 == 0:
+                if time.monotonic() > since + TURN:
                     session.close()
-                    session = self.group.session(self.node)
+                    session, since = self.group.session(self.node), time.monotonic()
                 message = len(self.accepted) + 1
                 seq, refusal = session.submit(self.number, message, payload_of(self.number, message))
                 if seq is not None:

@@ -1,4 +1,19 @@
-//! All nodes of a group: the group itself, a cluster of it with its stores, the laws that hold in every world that a run of it reaches, and worked examples.
+//! All nodes of a group in one process: the group itself, the group with its stores, the laws that hold in every world that a
+//! run of it reaches, and worked examples.
+//!
+//! ```text
+//! let mut group = Group::new(alloc, config)?;            // or Group::open(alloc, config, images)
+//! let taken = group.submit(alloc, node, client, number, payload)?;
+//! let done = group.commit(receipt)?;                     // or group.fail(doubt)
+//! group.promise();                                       // what holds of every group that there is
+//!
+//! let mut cluster = Cluster::new(alloc, config, stores)?;      // a group with a store for each node
+//! let reply = cluster.apply(alloc, &command);            // one event, with its store
+//! let cluster = Cluster::open(alloc, config, stores)?;   // after a stop: it goes on
+//! ```
+//!
+//! Each call is one step of every world that the group shows (`specs/Step.antt`), or is refused and changes nothing. `play`
+//! carries the headline, and `laws` the theorems over all runs. No call here waits, sends or looks at a clock.
 #![tactic(auto)]
 
 mod arriving;

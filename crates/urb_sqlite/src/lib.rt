@@ -1,4 +1,13 @@
-//! One journal a node: a SQLite database with a row for each stored record.
+//! One journal a node: a SQLite database with a row for each stored record, as a `Stable` of `urb_stable`.
+//!
+//! ```text
+//! let journal = open_node::<K>(rt, path, node)?;         // makes the table where it is absent, and reads the rows once
+//! let receipt = draft.keep(&mut journal)?;               // one INSERT, one commit, one sync
+//! close_node(rt, path, journal)?;                        // one file is left
+//! ```
+//!
+//! `open_nodes` and `close_nodes` do this for all nodes of a group. `adopt` takes a connection over, and `stop_and_open` carries
+//! the theorem from a stop inside any call to the next opening. A row that is there is never changed or removed.
 #![tactic(auto)]
 
 mod calls;

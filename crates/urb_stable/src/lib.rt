@@ -1,4 +1,19 @@
-//! Records, drafts and stores.
+//! Stable storage of a node (sections 2.1 and 3.7 of the book): records, drafts, receipts and doubts.
+//!
+//! A record says that a message is pending, that it is certified, or both at once. A `Draft` is a record that waits for its
+//! storage, and the only way from it to a `Receipt` goes through a store that took it:
+//!
+//! ```text
+//! match draft.keep(&mut store) {
+//!     Ok(receipt) => ..,                                 // it is stored, for good
+//!     Err(doubt) => ..,                                  // it may be stored or not: the node goes down, and asks
+//! }
+//! let image = store.retrieve(alloc)?;                    // all that it holds; no doubt is left
+//! let misfit = first_misfit(config, &images);            // of the images of all nodes; none where they fit together
+//! ```
+//!
+//! `Stable` is the contract of every storage; `MemStable` is one in memory, which can be armed to fail. Nothing here removes or
+//! changes a record that was stored.
 #![tactic(auto)]
 
 mod doubt;
