@@ -3,7 +3,7 @@ use Rattle.std.proofs.Common.{Bool, List, None, Option, Some, [], ap, arith, con
 use Rattle.std.proofs.Math.Seq.{take-suc}
 use Rattle.std.specs.Option.{SomeIff, option_or}
 use Rattle.std.specs.Prelude.{filter, find, flat_map, option_map}
-use Rattle.urb_names.specs.Names.{has_name, same_name}
+use Rattle.urb_names.specs.Names.{has_name}
 use Rattle.urb_names.specs.Naming.{Content, Label, Limits}
 use Rattle.urb_names.specs.Nodes.{numbers_from}
 use Rattle.urb_names.specs.Pairs.{message_of, own}

@@ -1,16 +1,10 @@
 -- Counts over images, as counts over the numbers of their nodes.
-use Rattle.std.proofs.Common.{Bool, List, [], ap, arith, cond, count_by, false, length, map, refl, slice_index_or, suc, sym, true, zero, ℕ, ◌&&◌, ◌+◌, ◌==◌, ◌||◌, ◌∙◌, ◌∷◌, ◌≡◌}
+use Rattle.std.proofs.Common.{Bool, List, [], ap, arith, cond, count_by, false, length, map, refl, slice_index_or, suc, sym, true, zero, ℕ, ◌+◌, ◌∙◌, ◌∷◌, ◌≡◌}
 use Rattle.std.proofs.lemmas.List.Recursion.{is_count_by}
 use Rattle.std.proofs.lemmas.List.Sums.{sum_by-cons}
-use Rattle.std.specs.List.{list_any}
-use Rattle.urb_names.specs.Names.{has_name, same_name}
-use Rattle.urb_names.specs.Naming.{Content, Label}
 use Rattle.urb_names.specs.Nodes.{nodes, numbers_from}
-use Rattle.urb_names.specs.Pairs.{own}
 use Rattle.urb_stable.specs.Entries.{Entry}
 use Rattle.urb_stable.specs.Images.{image_of}
-use Rattle.urb_stable.specs.Records.{cert, pend}
-use Rattle.urb_stable.specs.declared.record.Record.TheVariants.{Cert, Pend, PendCert}
 
 count-first : {A : Type 0} (test : A → Bool) (x : A) (xs : List A) → count_by test (x ∷ xs) ≡ cond (test x) (1 + count_by test xs) (count_by test xs)
 count-first test x xs = sum_by-cons (λ y. cond (test y) 1 0) x xs ∙ at (test x) (count_by test xs)

@@ -1,10 +1,9 @@
 -- What is told of a record by those before it, as an image is gone through.
-use Rattle.std.proofs.Common.{List, None, Option, Some, [], ap, append-nil, arith, cond, count_by, eq-eqb, eqb-true, false, length, refl, slice_get, slice_index_or, subst, suc, sym, take, true, ℕ, ⊎_elim, ◌++◌, ◌+◌, ◌<◌, ◌==◌, ◌||◌, ◌∙◌, ◌∷◌, ◌≡◌, ◌≤◌, ◌⊎◌}
+use Rattle.std.proofs.Common.{List, Some, [], ap, append-nil, arith, cond, eq-eqb, eqb-true, false, length, refl, slice_get, slice_index_or, subst, suc, sym, take, true, ℕ, ⊎_elim, ◌++◌, ◌+◌, ◌<◌, ◌==◌, ◌||◌, ◌∙◌, ◌∷◌, ◌≡◌, ◌≤◌, ◌⊎◌}
 use Rattle.std.proofs.Math.Seq.{take-suc}
 use Rattle.std.proofs.lemmas.Bool.{cases_Bool}
 use Rattle.std.proofs.lemmas.List.{length-take-le}
 use Rattle.std.proofs.lemmas.List.Folds.{list_any-append}
-use Rattle.std.specs.BTreeMap as tree
 use Rattle.std.specs.BTreeSet as set
 use Rattle.urb_names.proofs.FoundPairs.{own-other, own-push}
 use Rattle.urb_names.specs.Names.{has_name, same_name}
@@ -12,8 +11,8 @@ use Rattle.urb_names.specs.Naming.{Content, Label}
 use Rattle.urb_names.specs.Pairs.{own}
 use Rattle.urb_stable.proofs.Indexed.{one_longer, order-same, pend-next, read_more, same_some}
 use Rattle.urb_stable.proofs.JoinedRecords.{cert-append}
-use Rattle.urb_stable.specs.Before.{AreBefore, IsBefore, IsCount, IsSetOf, by_client, number_found}
-use Rattle.urb_stable.specs.Entries.{Entry, name_of}
+use Rattle.urb_stable.specs.Before.{AreBefore, IsBefore, IsCount, IsSetOf}
+use Rattle.urb_stable.specs.Entries.{Entry}
 use Rattle.urb_stable.specs.Indexes.{by_name}
 use Rattle.urb_stable.specs.Records.{cert, pend}
 use Rattle.urb_stable.specs.declared.before.Before.{Before}

@@ -1,4 +1,4 @@
-use Rattle.std.proofs.Common.{None, Option, Some, arith, length, refl, subst, sym, ℕ, ◌<◌}
+use Rattle.std.proofs.Common.{Option, Some, arith, length, refl, subst, sym, ℕ, ◌<◌}
 use Rattle.std.proofs.lemmas.Option.{slice_get_read, slice_get_within}
 use Rattle.std.specs.Prelude.{option_map}
 use Rattle.urb_stable.proofs.Walks.{Looks, left, left-less, looks-end, looks-first, looks-next, named-found, stands-next, stands-within}

@@ -1,4 +1,4 @@
-use Rattle.std.proofs.Common.{[], map, suc, ◌-◌, ◌≡◌}
+use Rattle.std.proofs.Common.{[], suc, ◌-◌, ◌≡◌}
 use Rattle.std.specs.Prelude.{flat_map}
 use Rattle.urb_names.specs.Nodes.{numbers_from}
 use Rattle.urb_stable.specs.Fitting.{first_misfit, first_of_all, misfits_behind}
