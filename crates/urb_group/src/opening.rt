@@ -1,8 +1,10 @@
 //! A group that is opened from the images of its nodes.
 
-ghost use Rattle.std.specs.Prelude.{◌≡◌, ◌<◌, ◌≤◌, length, map, suc, slice_get, slice_index_or, Some, [], vec_capacity, vec_len};
+ghost use Rattle.std.specs.Prelude.{◌≡◌, ◌<◌, ◌≤◌, length, map, suc, slice_get, slice_index_or, Some, [], vec_capacity, vec_len, IfOk};
 ghost use Rattle.std.specs.List.{All};
 ghost use Rattle.urb_stable.specs.Entries.{IsEntry};
+ghost use Rattle.urb_stable.specs.Fitting.{first_misfit};
+ghost use Rattle.urb_stable.specs.Images.{image_of};
 ghost use Rattle.urb_group.specs.Calls.{Opens};
 
 use crate::Group;
@@ -10,7 +12,7 @@ use crate::places::Node;
 use std::alloc::Allocator;
 use urb_names::{Config, Message, NoMemory, NodeId, Refusal};
 use urb_node::Ready;
-use urb_stable::{Record, first_misfit, limits_of};
+use urb_stable::{Images, Misfit, Record, limits_of};
 
 // That every record of the images is within its limits: for proofs alone, since it does nothing.
 fn limits_of_images<A: Allocator>(images: &[Vec<Record<Message<A>>, A>])
@@ -19,6 +21,19 @@ fn limits_of_images<A: Allocator>(images: &[Vec<Record<Message<A>>, A>])
     for image in images {
         limits_of(image);
     }
+}
+
+// The first misfit of the images. All memory that it takes to judge them comes from `alloc`, and is asked for first.
+fn misfit_of<A: Allocator + Copy>(
+    alloc: A,
+    config: Config,
+    images: &[Vec<Record<Message<A>>, A>],
+) -> Result<Option<Misfit>, NoMemory>
+    requires { length images.now ≡ config.n }
+    ensures { IfOk result (λ told. told ≡ first_misfit config (image_of (map (λ image. image.items) images.now))) }
+{
+    let read = Images::new(alloc, images)?;
+    Ok(read.first_misfit(config))
 }
 
 impl<A: Allocator + Copy> Group<A> {
@@ -39,7 +54,7 @@ impl<A: Allocator + Copy> Group<A> {
         let n = config.n();
         let mut nodes = Vec::with_capacity(alloc, usize::from(n))?;
         limits_of_images(&images);
-        if let Some(misfit) = first_misfit(config, &images) {
+        if let Some(misfit) = misfit_of(alloc, config, &images)? {
             return Err(Refusal::Inconsistent {
                 rule: misfit.rule,
                 node: misfit.node,

@@ -1,19 +1,20 @@
 -- The first misfit of images, as a loop over nodes and records finds it.
-use Rattle.std.proofs.Common.{Bool, List, None, Option, Some, [], ap, arith, cond, drop, drop-cons, false, length, map, not, refl, slice_get, slice_index_or, subst, suc, sym, take, true, zero, ℕ, ⊎_elim, ◌++◌, ◌+◌, ◌-◌, ◌<◌, ◌==◌, ◌∙◌, ◌∷◌, ◌≡◌, ◌≤◌, ◌⊎◌}
+use Rattle.std.proofs.Common.{Bool, List, None, Option, Some, [], ap, arith, cond, drop, drop-cons, false, is_some, length, map, not, refl, slice_get, slice_index_or, subst, suc, sym, take, true, zero, ℕ, ⊎_elim, ◌++◌, ◌+◌, ◌-◌, ◌&&◌, ◌<◌, ◌==◌, ◌∙◌, ◌∷◌, ◌≡◌, ◌≤◌, ◌⊎◌}
 use Rattle.std.proofs.Math.Seq.{take-suc}
 use Rattle.std.specs.Option.{SomeIff, option_or}
 use Rattle.std.specs.Prelude.{filter, find, flat_map, option_map}
-use Rattle.urb_names.specs.Names.{same_name}
+use Rattle.urb_names.specs.Names.{has_name}
 use Rattle.urb_names.specs.Naming.{Content, Label, Limits}
 use Rattle.urb_names.specs.Nodes.{numbers_from}
 use Rattle.urb_names.specs.Pairs.{message_of, own}
 use Rattle.urb_names.specs.declared.refusal.Rule.{Rule}
 use Rattle.urb_names.specs.declared.refusal.Rule.TheVariants.{A, B, C, D}
+use Rattle.urb_stable.specs.Before.{client_count, same_client}
 use Rattle.urb_stable.specs.Entries.{Entry, name_of}
-use Rattle.urb_stable.specs.Fitting.{broken, first_broken, first_of_all, is_next_own, keeps, keeps_b, misfits_behind}
+use Rattle.urb_stable.specs.Fitting.{broken, first_broken, first_of_all, in_range, is_next_own, keeps, keeps_a, keeps_b, misfits_behind}
 use Rattle.urb_stable.specs.Images.{image_of}
 use Rattle.urb_stable.specs.declared.fitting.Misfit.{Misfit}
-use Rattle.urb_stable.specs.Records.{pend}
+use Rattle.urb_stable.specs.Records.{cert, pend}
 use Rattle.urb_stable.specs.declared.record.Record.TheVariants.{Cert, Pend, PendCert}
 
 -- ---- a search that goes on
@@ -32,27 +33,6 @@ from_here records i r l e = drop-cons records i r l ∙ ap (λ x. x ∷ drop (su
 
 one_more : (i : ℕ) → suc i ≡ i + 1
 one_more i = omega arith
-
--- ---- messages
-
-pub message-first : (x : Label) (r : Entry) (records : List Entry) → message_of (pend (r ∷ records)) x ≡ option_or (message_of (pend (r ∷ [])) x) (message_of (pend records) x)
-message-first x (Pend y m) records = at (same_name y x)
-  where
-    at : (b : Bool) → cond b (Some m) (message_of (pend records) x) ≡ option_or (cond b (Some m) None) (message_of (pend records) x)
-    at true = refl
-    at false = refl
-message-first x (PendCert y m) records = at (same_name y x)
-  where
-    at : (b : Bool) → cond b (Some m) (message_of (pend records) x) ≡ option_or (cond b (Some m) None) (message_of (pend records) x)
-    at true = refl
-    at false = refl
-message-first x (Cert y) records = refl
-
-pub message-step : (x : Label) (records : List Entry) (i : ℕ) (r : Entry) → i < length records → r ≡ slice_index_or records i r
-    → message_of (pend (drop i records)) x ≡ option_or (message_of (pend (r ∷ [])) x) (message_of (pend (drop (i + 1) records)) x)
-message-step x records i r l e =
-    ap (λ rs. message_of (pend rs) x) (from_here records i r l e)
-    ∙ (message-first x r (drop (suc i) records) ∙ ap (λ j. option_or (message_of (pend (r ∷ [])) x) (message_of (pend (drop j records)) x)) (one_more i))
 
 -- ---- turns
 
@@ -136,3 +116,14 @@ node-told size images i node image o e f h =
 -- the node that a number gives
 pub node-is : (P : Type 0) (o : Option ℕ) (node number : ℕ) → SomeIff o P number → o ≡ Some node → node ≡ number
 node-is P o node number h e = (subst (λ (r : Option ℕ). SomeIff r P number) e h).1
+
+-- the messages of the client of an own pair
+pub turn-clients : (r : Entry) (x : Label) (m : Content) (messages : List Content) → (r ≡ Pend x m) ⊎ (r ≡ PendCert x m) → same_client r messages ≡ client_count m.client messages
+turn-clients r x m messages is = ⊎_elim (λ f. ap (λ s. same_client s messages) f) (λ f. ap (λ s. same_client s messages) f) is
+
+-- a certificate for a pending name is new where the name is not certified yet
+pub certificate-new : (size : Limits) (earlier : List Entry) (r : Entry) (x : Label) (certified : Bool) → r ≡ Cert x → true ≡ in_range size x → true ≡ is_some (message_of (pend earlier) x) → certified ≡ has_name (cert earlier) (name_of r)
+    → not certified ≡ keeps_a size earlier r
+certificate-new size earlier r x certified is range pending e =
+    ap not (e ∙ ap (λ s. has_name (cert earlier) (name_of s)) is)
+    ∙ (ap (λ b. b && not (has_name (cert earlier) x)) pending ∙ (ap (λ b. b && (is_some (message_of (pend earlier) x) && not (has_name (cert earlier) x))) range ∙ sym (ap (keeps_a size earlier) is)))

@@ -70,7 +70,7 @@ one_more : (i : ℕ) → suc i ≡ i + 1
 one_more i = omega arith
 
 -- the pairs of one record more
-pend-next : (image : List Entry) (i : ℕ) (r : Entry) → i < length image → r ≡ slice_index_or image i r → pend (take (i + 1) image) ≡ pend (take i image) ++ pend (r ∷ [])
+pub pend-next : (image : List Entry) (i : ℕ) (r : Entry) → i < length image → r ≡ slice_index_or image i r → pend (take (i + 1) image) ≡ pend (take i image) ++ pend (r ∷ [])
 pend-next image i r l e =
     ap (λ n. pend (take n image)) (sym (one_more i))
     ∙ (ap pend (take-suc image i r l ∙ ap (λ x. take i image ++ x ∷ []) (sym e)) ∙ pend-append (take i image) (r ∷ []))
@@ -104,17 +104,17 @@ module _ (image : List Entry) (i : ℕ) (r : Entry) (l : i < length image) (e : 
 
 -- ---- an index with one record more
 
-read_more : {X : Type 0} (xs : List X) (y z : X) (k : ℕ) → slice_get (xs ++ y ∷ []) k ≡ Some z → (slice_get xs k ≡ Some z) ⊎ ((k ≡ length xs) × (z ≡ y))
+pub read_more : {X : Type 0} (xs : List X) (y z : X) (k : ℕ) → slice_get (xs ++ y ∷ []) k ≡ Some z → (slice_get xs k ≡ Some z) ⊎ ((k ≡ length xs) × (z ≡ y))
 read_more [] y z zero e = inr (refl, cc)
 read_more [] y z (suc k) e = absurd cc
 read_more (x ∷ xs) y z zero e = inl e
 read_more (x ∷ xs) y z (suc k) e = elim (read_more xs y z k e) [ inl p ↦ inl p | inr q ↦ inr (ap suc q.0, q.1) ]
 
-one_longer : {X : Type 0} (xs : List X) (y : X) → length (xs ++ y ∷ []) ≡ length xs + 1
+pub one_longer : {X : Type 0} (xs : List X) (y : X) → length (xs ++ y ∷ []) ≡ length xs + 1
 one_longer [] y = refl
 one_longer (x ∷ xs) y = let ih = one_longer xs y in omega (arith, ih)
 
-same_some : {X : Type 0} (a b : X) (o : Option X) → o ≡ Some a → o ≡ Some b → a ≡ b
+pub same_some : {X : Type 0} (a b : X) (o : Option X) → o ≡ Some a → o ≡ Some b → a ≡ b
 same_some a b o e f = cc
 
 more-index : {A : Type 0} (image : List Entry) (i : ℕ) (r : Entry) (old new : Places A) (o : Option ℕ) → slice_get image i ≡ Some r → IsIndexOf image i old → o ≡ tree.get by_name old.last (name_of r)

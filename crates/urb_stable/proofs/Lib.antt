@@ -9,3 +9,5 @@ pub mod FoundRecords
 pub mod FirstMisfits
 pub mod Indexed
 mod Walks
+mod Told
+mod ReadImages

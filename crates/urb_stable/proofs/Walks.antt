@@ -1,9 +1,11 @@
 -- Going through the records of one name, from the last one to the first.
-use Rattle.std.proofs.Common.{Bool, List, None, Option, Some, [], ap, arith, false, length, slice_get, subst, suc, sym, take, true, ℕ, ◌<◌, ◌||◌, ◌∙◌, ◌∷◌, ◌≡◌, ◌≤◌}
+use Rattle.std.proofs.Common.{Bool, List, None, Option, Some, [], ap, arith, false, is_some, length, refl, slice_get, subst, suc, sym, take, true, ℕ, ◌<◌, ◌||◌, ◌∙◌, ◌∷◌, ◌≡◌, ◌≤◌}
 use Rattle.std.proofs.lemmas.List.{take_all}
 use Rattle.std.specs.BTreeMap as tree
+use Rattle.std.specs.Option.{option_or}
+use Rattle.std.specs.Prelude.{option_map}
 use Rattle.urb_names.specs.Naming.{Content, Label}
-use Rattle.urb_names.specs.Pairs.{has_pair}
+use Rattle.urb_names.specs.Pairs.{has_pair, message_of}
 use Rattle.urb_stable.proofs.Indexed.{none-has}
 use Rattle.urb_stable.specs.Entries.{Entry, name_of}
 use Rattle.urb_stable.specs.Indexes.{IsIndexOf, IsLast, by_name}
@@ -79,3 +81,48 @@ seeks-next image x m index k r o h s here e found = (
 
 pub seeks-end : (image : List Entry) (x : Label) (m : Content) → Seeks image x m None → false ≡ has_pair (pend image) x m
 seeks-end image x m s = sym (s.2 ∙ none-has (pend (take s.0 image)) x m s.1.last)
+
+-- ---- a walk that looks for the first message of a name
+
+-- what the records before this place say of the name is what is still to come, or else what was found last
+abbrev pub Looks : List Entry → Label → ℕ → Option Content → Option ℕ → Type 0
+Looks image x before found place = (n : ℕ) × Stands image x n place × (message_of (pend (take before image)) x ≡ option_or (message_of (pend (take n image)) x) found)
+
+or-none : (o : Option Content) → o ≡ option_or o None
+or-none None = refl
+or-none (Some m) = refl
+
+pub looks-first : {A : Type 0} (image : List Entry) (x : Label) (index : Places A) (k : ℕ) (r : Entry) (o : Option ℕ) → IsIndexOf image (length image) index → k < length image → slice_get image k ≡ Some r → name_of r ≡ x → slice_get index.before.items k ≡ Some o
+    → Looks image x k None o
+looks-first image x index k r o h within here named found = (k, stands-before image x index k r o h within here named found, or-none (message_of (pend (take k image)) x))
+
+pub looks-next : {A : Type 0} (image : List Entry) (x : Label) (index : Places A) (before k : ℕ) (r : Entry) (old new : Option Content) (o : Option ℕ) → IsIndexOf image (length image) index → Looks image x before old (Some k) → slice_get image k ≡ Some r
+    → new ≡ message_of (pend (r ∷ [])) x → slice_get index.before.items k ≡ Some o → Looks image x before new o
+looks-next image x index before k r old new o h s here is found =
+    let last = s.1.last in
+    let same : last.entry ≡ r = same_some last.entry r (slice_get image k) last.here here in
+    let some : is_some (message_of (pend (r ∷ [])) x) ≡ true = subst (λ (e : Entry). is_some (message_of (pend (e ∷ [])) x) ≡ true) same last.pair in
+    let message : message_of (pend (take s.0 image)) x ≡ option_or (message_of (pend (take k image)) x) (message_of (pend (r ∷ [])) x) =
+    subst (λ (e : Entry). message_of (pend (take s.0 image)) x ≡ option_or (message_of (pend (take k image)) x) (message_of (pend (e ∷ [])) x)) same last.message in (
+      k,
+      stands-next image x index s.0 k r o h s.1 here found,
+      s.2
+          ∙ (ap (λ p. option_or p old) message
+          ∙ (at (message_of (pend (take k image)) x) (message_of (pend (r ∷ [])) x) some ∙ ap (λ p. option_or (message_of (pend (take k image)) x) p) (sym is))),
+    )
+  where
+    at : (a b : Option Content) → is_some b ≡ true → option_or (option_or a b) old ≡ option_or a b
+    at (Some m) b e = refl
+    at None (Some m) e = refl
+    at None None e = absurd cc
+
+pub looks-end : (image : List Entry) (x : Label) (before : ℕ) (found : Option Content) → Looks image x before found None → found ≡ message_of (pend (take before image)) x
+looks-end image x before found s = sym (s.2 ∙ ap (λ p. option_or p found) s.1.last)
+
+-- the record that has the name
+pub named-found : (image : List Entry) (k : ℕ) (x : Label) → option_map name_of (slice_get image k) ≡ Some x → (r : Entry) × (slice_get image k ≡ Some r) × (name_of r ≡ x)
+named-found image k x e = at (slice_get image k) refl e
+  where
+    at : (o : Option Entry) → slice_get image k ≡ o → option_map name_of o ≡ Some x → (r : Entry) × (slice_get image k ≡ Some r) × (name_of r ≡ x)
+    at None here f = absurd cc
+    at (Some r) here f = (r, here, cc)

@@ -1,17 +1,21 @@
 //! Which images of the nodes' storages fit together, and what is told of others.
 
-ghost use Rattle.std.specs.Prelude.{◌≡◌, ◌≤◌, ◌&&◌, ◌==◌, [], ◌∷◌, length, map, is_some, count_by, option_map};
-ghost use Rattle.std.specs.List.{list_any};
-ghost use Rattle.urb_names.specs.Names.{has_name};
+ghost use Rattle.std.specs.Prelude.{◌≡◌, ◌<◌, ◌≤◌, [], ◌∷◌, length, map, is_some, count_by, option_map, slice_get, take, IfOk, List, Some};
+ghost use Rattle.urb_names.specs.Naming.{Content};
 ghost use Rattle.urb_names.specs.Nodes.{nodes};
-ghost use Rattle.urb_names.specs.Pairs.{has_pair, message_of, own};
+ghost use Rattle.urb_names.specs.Pairs.{has_pair, message_of};
+ghost use Rattle.urb_stable.specs.Before.{client_count};
+ghost use Rattle.urb_stable.specs.Entries.{name_of};
 ghost use Rattle.urb_stable.specs.Fitting.{first_broken, first_misfit, first_of_all, held_by_majority, in_range, is_next_own, keeps_a, keeps_b, keeps_c, keeps_d, misfits_behind};
 ghost use Rattle.urb_stable.specs.Images.{image_of};
-ghost use Rattle.urb_stable.specs.Records.{cert, pend};
+ghost use Rattle.urb_stable.specs.Records.{pend};
 
 use crate::Record;
+use crate::before::Before;
+use crate::image::Image;
 use std::alloc::Allocator;
-use urb_names::{ClientId, Config, Message, Name, NodeId, Rule, is_majority};
+use std::marker::Model;
+use urb_names::{Config, Message, Name, NoMemory, NodeId, Rule, is_majority};
 
 #[cfg(test)]
 mod tests;
@@ -25,38 +29,72 @@ pub struct Misfit {
     pub name: Name,
 }
 
-/// The first misfit of the images of a group's nodes 1, 2, .., by node, then by position, then by rule; `None` where they
-/// fit together, so that a group goes on from them (recovery, sections 2.2 and 3.7 of the book). Takes no memory.
-pub fn first_misfit<A: Allocator>(
-    config: Config,
-    images: &[Vec<Record<Message<A>>, A>],
-) -> Option<Misfit>
-    requires { length images.now ≡ config.n }
-    ensures { result ≡ first_misfit config (image_of (map (λ image. image.items) images.now)) }
-{
-    let _n = config.n();
-    for (i, image) in images.iter().enumerate() {
-        let node = NodeId::new(i as u8 + 1).unwrap();
-        if let Some(misfit) = misfit_in(config, images, node, image) {
-            return Some(misfit);
+/// The images of a group's nodes 1, 2, .., each of them gone through once, so that their records are judged by look-ups:
+/// in n log n steps where they have n records.
+#[derive(Drop)]
+pub struct Images<'r, A: Allocator> {
+    images: Vec<Image<'r, A>, A>,
+}
+
+impl<'r, A: Allocator> Model for Images<'r, A> {
+    ghost use Rattle.std.specs.Prelude.{List, map};
+    ghost use Rattle.urb_stable.specs.Entries.{Entry};
+    ghost use Rattle.urb_stable.specs.NodeImages.{AreNumbered};
+
+    ghost Value = { List (List Entry) };
+
+    ghost view = { λ a. map (λ image. image.records) a.images.items };
+
+    ghost invariant = { λ a. AreNumbered a.images.items };
+}
+
+impl<'r, A: Allocator + Copy> Images<'r, A> {
+    /// The images of the nodes 1, 2, .., read from where they lie. All memory that it takes to judge them comes from
+    /// `alloc`, and is taken here.
+    pub fn new(
+        alloc: A,
+        images: &'r [Vec<Record<Message<A>>, A>],
+    ) -> Result<Images<'r, A>, NoMemory>
+        ensures { IfOk result (λ read. read ≡ map (λ image. image.items) images.now) }
+    {
+        let mut read = Vec::new(alloc);
+        for (i, image) in images.iter().enumerate() {
+            read.push(Image::new(alloc, i + 1, image)?)?;
         }
+        Ok(Images { images: read })
     }
-    None
+
+    /// The first misfit of the images, by node, then by position, then by rule; `None` where they fit together, so that a
+    /// group goes on from them (recovery, sections 2.2 and 3.7 of the book). Takes no memory.
+    pub fn first_misfit(&self, config: Config) -> Option<Misfit>
+        requires { length self.now ≡ config.n }
+        ensures { result ≡ first_misfit config (image_of self.now) }
+    {
+        let _n = config.n();
+        for (i, image) in self.images.iter().enumerate() {
+            let node = NodeId::new(i as u8 + 1).unwrap();
+            if let Some(misfit) = misfit_in(config, &self.images, node, image) {
+                return Some(misfit);
+            }
+        }
+        None
+    }
 }
 
 // The first misfit of one image.
-fn misfit_in<A: Allocator>(
+fn misfit_in<A: Allocator + Copy>(
     config: Config,
-    images: &[Vec<Record<Message<A>>, A>],
+    images: &[Image<A>],
     node: NodeId,
-    image: &[Record<Message<A>>],
+    image: &Image<A>,
 ) -> Option<Misfit>
-    requires { length images.now ≡ config.n }
-    ensures { result ≡ first_of_all (misfits_behind config (image_of (map (λ image. image.items) images.now)) node [] image.now) }
+    requires size { length images.now ≡ config.n }
+    requires numbered { image.now.number ≡ node }
+    ensures { result ≡ first_of_all (misfits_behind config (image_of (map (λ image. image.records) images.now)) node [] image.now.records) }
 {
-    for (i, entry) in image.iter().enumerate() {
-        let earlier = &image[..i];
-        if let Some(rule) = broken_rule(config, images, node, earlier, entry) {
+    let records = image.records();
+    for (i, entry) in records.iter().enumerate() {
+        if let Some(rule) = broken_rule(config, images, node, image, i, entry) {
             let name = entry.name();
             return Some(Misfit { rule, node, name });
         }
@@ -64,73 +102,81 @@ fn misfit_in<A: Allocator>(
     None
 }
 
-// The first rule that a record breaks, with the records before it in its image.
-fn broken_rule<A: Allocator>(
+// The first rule that the record at this place of the image breaks, with the records before it.
+fn broken_rule<A: Allocator + Copy>(
     config: Config,
-    images: &[Vec<Record<Message<A>>, A>],
+    images: &[Image<A>],
     node: NodeId,
-    earlier: &[Record<Message<A>>],
+    image: &Image<A>,
+    place: usize,
     entry: &Record<Message<A>>,
 ) -> Option<Rule>
-    requires { length images.now ≡ config.n }
-    ensures { result ≡ first_broken config (image_of (map (λ image. image.items) images.now)) node earlier.now entry.now }
+    requires size { length images.now ≡ config.n }
+    requires numbered { image.now.number ≡ node }
+    requires here { slice_get image.now.records place ≡ Some entry.now }
+    ensures { result ≡ first_broken config (image_of (map (λ image. image.records) images.now)) node (take place image.now.records) entry.now }
 {
-    if !is_new(config, earlier, entry) {
+    if !is_new(config, image, place, entry) {
         return Some(Rule::A);
     }
-    if !is_in_turn(node, earlier, entry) {
+    if !is_in_turn(node, image, place, entry) {
         return Some(Rule::B);
     }
     if !is_at_its_sender(images, node, entry) {
         return Some(Rule::C);
     }
-    if !is_certified_rightly(config, images, earlier, entry) {
+    if !is_certified_rightly(config, images, image, place, entry) {
         return Some(Rule::D);
     }
     None
 }
 
-fn is_new<A: Allocator>(
+fn is_new<A: Allocator + Copy>(
     config: Config,
-    earlier: &[Record<Message<A>>],
+    image: &Image<A>,
+    place: usize,
     entry: &Record<Message<A>>,
 ) -> bool
-    ensures { result ≡ keeps_a config earlier.now entry.now }
+    requires here { slice_get image.now.records place ≡ Some entry.now }
+    ensures { result ≡ keeps_a config (take place image.now.records) entry.now }
 {
     match entry {
         Record::Pend(name, _) | Record::PendCert(name, _) => {
-            is_in_range(config, *name) && !is_pending(earlier, *name)
+            is_in_range(config, *name) && !is_pending(image, place, *name)
         }
         Record::Cert(name) => {
             is_in_range(config, *name)
-                && is_pending(earlier, *name)
-                && !is_certified(earlier, *name)
+                && is_pending(image, place, *name)
+                && !image.told_before(place).certified
         }
     }
 }
 
-fn is_in_turn<A: Allocator>(
+fn is_in_turn<A: Allocator + Copy>(
     node: NodeId,
-    earlier: &[Record<Message<A>>],
+    image: &Image<A>,
+    place: usize,
     entry: &Record<Message<A>>,
 ) -> bool
-    ensures { result ≡ keeps_b node earlier.now entry.now }
+    requires numbered { image.now.number ≡ node }
+    requires here { slice_get image.now.records place ≡ Some entry.now }
+    ensures { result ≡ keeps_b node (take place image.now.records) entry.now }
 {
     match entry {
         Record::Pend(name, message) | Record::PendCert(name, message) => {
             let name = *name;
-            name.sender != node || is_next_own(node, earlier, name, message)
+            name.sender != node || is_next_own(image.told_before(place), name, message)
         }
         Record::Cert(_) => true,
     }
 }
 
-fn is_at_its_sender<A: Allocator>(
-    images: &[Vec<Record<Message<A>>, A>],
+fn is_at_its_sender<A: Allocator + Copy>(
+    images: &[Image<A>],
     node: NodeId,
     entry: &Record<Message<A>>,
 ) -> bool
-    ensures { result ≡ keeps_c (image_of (map (λ image. image.items) images.now)) node entry.now }
+    ensures { result ≡ keeps_c (image_of (map (λ image. image.records) images.now)) node entry.now }
 {
     match entry {
         Record::Pend(name, message) | Record::PendCert(name, message) => {
@@ -141,19 +187,21 @@ fn is_at_its_sender<A: Allocator>(
     }
 }
 
-fn is_certified_rightly<A: Allocator>(
+fn is_certified_rightly<A: Allocator + Copy>(
     config: Config,
-    images: &[Vec<Record<Message<A>>, A>],
-    earlier: &[Record<Message<A>>],
+    images: &[Image<A>],
+    image: &Image<A>,
+    place: usize,
     entry: &Record<Message<A>>,
 ) -> bool
-    requires { length images.now ≡ config.n }
-    ensures { result ≡ keeps_d config.n (image_of (map (λ image. image.items) images.now)) earlier.now entry.now }
+    requires size { length images.now ≡ config.n }
+    requires here { slice_get image.now.records place ≡ Some entry.now }
+    ensures { result ≡ keeps_d config.n (image_of (map (λ image. image.records) images.now)) (take place image.now.records) entry.now }
 {
     match entry {
         Record::Pend(_, _) => true,
         Record::PendCert(name, message) => is_held_by_majority(config, images, *name, message),
-        Record::Cert(name) => match message_in(earlier, *name) {
+        Record::Cert(name) => match image.message_before(place, *name) {
             Some(message) => is_held_by_majority(config, images, *name, message),
             None => false,
         },
@@ -167,119 +215,67 @@ fn is_in_range(config: Config, name: Name) -> bool
     name.sender.number() <= config.n() && name.seq <= config.cap()
 }
 
-// Whether the pair is the node's next one, and its client's, behind these records.
-fn is_next_own<A: Allocator>(
-    node: NodeId,
-    earlier: &[Record<Message<A>>],
-    name: Name,
-    message: &Message<A>,
-) -> bool
-    ensures { result ≡ is_next_own (own node (pend earlier.now)) name message.now }
+// Whether the pair is the node's next one, and its client's, with what is said of its record.
+fn is_next_own<A: Allocator>(before: Before, name: Name, message: &Message<A>) -> bool
+    ensures { (messages : List Content) → before.own ≡ length messages → before.of_client ≡ client_count message.now.client messages → result ≡ is_next_own messages name message.now }
 {
     name.limits();
     message.limits();
-    own_count(earlier, node) == (name.seq - 1) as usize
-        && client_count(earlier, node, message.client()) == (message.number() - 1) as usize
+    before.own == (name.seq - 1) as usize && before.of_client == (message.number() - 1) as usize
 }
 
 // Whether the node's image has the pair.
-fn is_held_by<A: Allocator>(
-    images: &[Vec<Record<Message<A>>, A>],
+fn is_held_by<A: Allocator + Copy>(
+    images: &[Image<A>],
     node: NodeId,
     name: Name,
     message: &Message<A>,
 ) -> bool
-    ensures { result ≡ has_pair (pend (image_of (map (λ image. image.items) images.now) node)) name message.now }
+    ensures { result ≡ has_pair (pend (image_of (map (λ image. image.records) images.now) node)) name message.now }
 {
     match images.get(node.number() as usize - 1) {
-        Some(image) => holds(image, name, message),
+        Some(image) => image.has(name, message),
         None => false,
     }
 }
 
 // Whether the images of a majority have the pair.
-fn is_held_by_majority<A: Allocator>(
+fn is_held_by_majority<A: Allocator + Copy>(
     config: Config,
-    images: &[Vec<Record<Message<A>>, A>],
+    images: &[Image<A>],
     name: Name,
     message: &Message<A>,
 ) -> bool
     requires { length images.now ≡ config.n }
-    ensures { result ≡ held_by_majority config.n (image_of (map (λ image. image.items) images.now)) name message.now }
+    ensures { result ≡ held_by_majority config.n (image_of (map (λ image. image.records) images.now)) name message.now }
 {
     is_majority(holders(images, name, message) as u8, config.n())
 }
 
 // How many images have the pair.
-fn holders<A: Allocator>(
-    images: &[Vec<Record<Message<A>>, A>],
-    name: Name,
-    message: &Message<A>,
-) -> usize
-    ensures count { result ≡ count_by (λ node. has_pair (pend (image_of (map (λ image. image.items) images.now) node)) name message.now) (nodes (length images.now)) }
+fn holders<A: Allocator + Copy>(images: &[Image<A>], name: Name, message: &Message<A>) -> usize
+    ensures count { result ≡ count_by (λ node. has_pair (pend (image_of (map (λ image. image.records) images.now) node)) name message.now) (nodes (length images.now)) }
     ensures most { result ≤ length images.now }
 {
     images
         .iter()
-        .filter(|image| holds(image, name, message))
+        .filter(|image| image.has(name, message))
         .count()
 }
 
-// Whether one of the records is of the pair.
-fn holds<A: Allocator>(records: &[Record<Message<A>>], name: Name, message: &Message<A>) -> bool
-    ensures { result ≡ has_pair (pend records.now) name message.now }
+// Whether a record before this place is of a pair of this name, the name of the record there.
+fn is_pending<A: Allocator + Copy>(image: &Image<A>, place: usize, name: Name) -> bool
+    requires named { option_map name_of (slice_get image.now.records place) ≡ Some name }
+    ensures { result ≡ is_some (message_of (pend (take place image.now.records)) name) }
 {
-    records.iter().any(|entry| is_of_pair(entry, name, message))
-}
-
-// The message of the first of the records that is of a pair of this name.
-fn message_in<A: Allocator>(records: &[Record<Message<A>>], name: Name) -> Option<&Message<A>>
-    ensures { option_map (λ m. m.now) result ≡ message_of (pend records.now) name }
-{
-    for entry in records {
-        if let Some(message) = message_at(entry, name) {
-            return Some(message);
-        }
-    }
-    None
-}
-
-fn is_pending<A: Allocator>(records: &[Record<Message<A>>], name: Name) -> bool
-    ensures { result ≡ is_some (message_of (pend records.now) name) }
-{
-    message_in(records, name).is_some()
-}
-
-// Whether one of the records certifies the name.
-fn is_certified<A: Allocator>(records: &[Record<Message<A>>], name: Name) -> bool
-    ensures { result ≡ has_name (cert records.now) name }
-{
-    records.iter().any(|entry| is_certificate(entry, name))
-}
-
-// How many of the records are of pairs of this sender.
-fn own_count<A: Allocator>(records: &[Record<Message<A>>], sender: NodeId) -> usize
-    ensures { result ≡ length (own sender (pend records.now)) }
-{
-    records.iter().filter(|entry| is_own(entry, sender)).count()
-}
-
-// How many of them are of this client.
-fn client_count<A: Allocator>(
-    records: &[Record<Message<A>>],
-    sender: NodeId,
-    client: ClientId,
-) -> usize
-    ensures { result ≡ count_by (λ m. m.client == client) (own sender (pend records.now)) }
-{
-    records
-        .iter()
-        .filter(|entry| is_of_client(entry, sender, client))
-        .count()
+    image.message_before(place, name).is_some()
 }
 
 // The message of a record that is of a pair of this name.
-fn message_at<A: Allocator>(entry: &Record<Message<A>>, name: Name) -> Option<&Message<A>>
+pub(crate) fn message_at<A: Allocator>(
+    entry: &Record<Message<A>>,
+    name: Name,
+) -> Option<&Message<A>>
     ensures { option_map (λ m. m.now) result ≡ message_of (pend (entry.now ∷ [])) name }
 {
     match entry {
@@ -304,42 +300,6 @@ pub(crate) fn is_of_pair<A: Allocator>(
     match entry {
         Record::Pend(other, content) | Record::PendCert(other, content) => {
             *other == name && content.is_same(message)
-        }
-        Record::Cert(_) => false,
-    }
-}
-
-// Whether it certifies this name.
-fn is_certificate<A: Allocator>(entry: &Record<Message<A>>, name: Name) -> bool
-    ensures { result ≡ has_name (cert (entry.now ∷ [])) name }
-{
-    match entry {
-        Record::Pend(_, _) => false,
-        Record::PendCert(other, _) | Record::Cert(other) => *other == name,
-    }
-}
-
-// Whether it is of a pair of this sender.
-fn is_own<A: Allocator>(entry: &Record<Message<A>>, sender: NodeId) -> bool
-    ensures { result ≡ list_any (λ pair. pair.0.sender == sender) (pend (entry.now ∷ [])) }
-{
-    match entry {
-        Record::Pend(name, _) | Record::PendCert(name, _) => {
-            let name = *name;
-            name.sender == sender
-        }
-        Record::Cert(_) => false,
-    }
-}
-
-// Whether it is of a pair of this sender and client.
-fn is_of_client<A: Allocator>(entry: &Record<Message<A>>, sender: NodeId, client: ClientId) -> bool
-    ensures { result ≡ list_any (λ pair. (pair.0.sender == sender) && (pair.1.client == client)) (pend (entry.now ∷ [])) }
-{
-    match entry {
-        Record::Pend(name, message) | Record::PendCert(name, message) => {
-            let name = *name;
-            name.sender == sender && message.client() == client
         }
         Record::Cert(_) => false,
     }

@@ -1,12 +1,13 @@
 //! An index of an image, by which each pair of it is found without going through the image.
 
-ghost use Rattle.std.specs.Prelude.{◌≡◌, ◌<◌, ◌+◌, length, IfOk};
-ghost use Rattle.urb_names.specs.Pairs.{has_pair};
+ghost use Rattle.std.specs.Prelude.{◌≡◌, ◌<◌, ◌+◌, length, option_map, slice_get, take, IfOk, Some};
+ghost use Rattle.urb_names.specs.Pairs.{has_pair, message_of};
+ghost use Rattle.urb_stable.specs.Entries.{name_of};
 ghost use Rattle.urb_stable.specs.Indexes.{IsIndexOf};
 ghost use Rattle.urb_stable.specs.Records.{pend};
 
 use crate::Record;
-use crate::fitting::is_of_pair;
+use crate::fitting::{is_of_pair, message_at};
 use std::alloc::Allocator;
 use std::collections::BTreeMap;
 use std::marker::Model;
@@ -84,6 +85,27 @@ fn finds<A: Allocator + Copy>(
     false
 }
 
+// The message of the first record before this place that is of a pair of this name, the name of the record there: goes
+// through the records of the name, from the last one on.
+fn finds_before<'r, A: Allocator + Copy>(
+    places: &Places<A>,
+    image: &'r [Record<Message<A>>],
+    place: usize,
+    name: Name,
+) -> Option<&'r Message<A>>
+    requires named { option_map name_of (slice_get image.now place) ≡ Some name }
+    requires indexed { IsIndexOf image.now (length image.now) places.now }
+    ensures { option_map (λ m. m.now) result ≡ message_of (pend (take place image.now)) name }
+{
+    let mut found = None;
+    let mut next = places.before[place];
+    while let Some(at) = next {
+        found = message_at(&image[at], name);
+        next = places.before[at];
+    }
+    found
+}
+
 impl<'r, A: Allocator + Copy> Index<'r, A> {
     /// The index of an image. Its memory comes from `alloc`.
     pub fn new(alloc: A, image: &'r [Record<Message<A>>]) -> Result<Index<'r, A>, NoMemory>
@@ -111,5 +133,14 @@ impl<'r, A: Allocator + Copy> Index<'r, A> {
         ensures { result ≡ has_pair (pend self.now) name message.now }
     {
         finds(&self.places, self.image, name, message)
+    }
+
+    /// The message of the first record before this place that is of a pair of this name, the name of the record there.
+    /// Takes no memory.
+    pub(crate) fn message_before(&self, place: usize, name: Name) -> Option<&Message<A>>
+        requires named { option_map name_of (slice_get self.now place) ≡ Some name }
+        ensures { option_map (λ m. m.now) result ≡ message_of (pend (take place self.now)) name }
+    {
+        finds_before(&self.places, self.image, place, name)
     }
 }

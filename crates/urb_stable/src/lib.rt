@@ -16,9 +16,11 @@
 //! changes a record that was stored.
 #![tactic(auto)]
 
+mod before;
 mod doubt;
 mod draft;
 mod fitting;
+mod image;
 mod index;
 mod memory;
 mod receipt;
@@ -27,7 +29,7 @@ mod stable;
 
 pub use doubt::Doubt;
 pub use draft::Draft;
-pub use fitting::{Misfit, first_misfit};
+pub use fitting::{Images, Misfit};
 pub use index::Index;
 pub use memory::{Failure, MemStable};
 pub use receipt::Receipt;

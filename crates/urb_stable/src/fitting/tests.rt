@@ -1,9 +1,10 @@
 //! Images that fit together, and the first misfit of others.
 
-use crate::{Misfit, Record, first_misfit};
+use crate::{Images, Misfit, Record};
 use std::alloc::{Allocator, Global};
 use std::test::Fail;
 use urb_names::{ClientId, Config, Message, Name, NodeId, Rule};
+use urb_refusing::Refusing;
 
 const CAP: u32 = 10;
 
@@ -41,8 +42,11 @@ fn record<A: Allocator + Copy>(alloc: A, form: Form) -> Result<Record<Message<A>
     }
 }
 
-// What is told of these images, one for each node.
-fn told(alloc: Global, forms: &[&[Form]]) -> Result<Option<Misfit>, Fail> {
+// Images with these records, one for each node.
+fn images<A: Allocator + Copy>(
+    alloc: A,
+    forms: &[&[Form]],
+) -> Result<Vec<Vec<Record<Message<A>>, A>, A>, Fail> {
     let mut images = Vec::new(alloc);
     for image in forms {
         let mut records = Vec::new(alloc);
@@ -51,11 +55,17 @@ fn told(alloc: Global, forms: &[&[Form]]) -> Result<Option<Misfit>, Fail> {
         }
         images.push(records)?;
     }
+    Ok(images)
+}
+
+// What is told of these images, one for each node.
+fn told(alloc: Global, forms: &[&[Form]]) -> Result<Option<Misfit>, Fail> {
+    let images = images(alloc, forms)?;
     if images.len() > 7 {
         return Err(Fail::from("seven nodes at most"));
     }
     let config = Config::new(images.len() as u8, CAP).ok_or("a config")?;
-    Ok(first_misfit(config, &images))
+    Ok(Images::new(alloc, &images)?.first_misfit(config))
 }
 
 fn misfit(rule: Rule, node: u8, sender: u8, seq: u32) -> Result<Option<Misfit>, Fail> {
@@ -156,5 +166,30 @@ fn the_first_misfit_of_the_first_node_is_told(rt: HostRuntime) -> Result<(), Fai
         told(rt.alloc(), &[&first, &[Form::Cert(1, 1)], &[]])?,
         misfit(Rule::B, 1, 1, 3)?
     );
+    Ok(())
+}
+
+// Whether there was memory to read images that lie elsewhere.
+fn is_read(heap: &Refusing<Global>, calm: &Refusing<Global>) -> Result<bool, Fail> {
+    let first = [Form::PendCert(1, 1), Form::Pend(2, 1), Form::Cert(2, 1)];
+    let second = [Form::Pend(2, 1), Form::PendCert(1, 1)];
+    let images = images(calm, &[&first, &second])?;
+    Ok(Images::new(heap, &images).is_ok())
+}
+
+#[test]
+fn each_growth_of_what_judges_may_be_refused(rt: HostRuntime) -> Result<(), Fail> {
+    let calm = Refusing::new(rt.alloc(), 0);
+    let mut growths = 0;
+    for refused in 1..100 {
+        let heap = Refusing::new(rt.alloc(), refused);
+        let read = is_read(&heap, &calm)?;
+        assert!(rt; read != heap.met());
+        if read {
+            growths = heap.asked();
+            break;
+        }
+    }
+    assert!(rt; 1 < growths);
     Ok(())
 }

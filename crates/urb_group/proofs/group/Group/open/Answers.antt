@@ -18,7 +18,7 @@ none_left (x ∷ xs) n e z = absurd (omega arith)
 pub returns-in-Some : goal.returns-in-Some
 returns-in-Some g c =
     let same : c.deref-2.result.now ≡ c.args.images.items = search rules in
-    subst (λ xs. first_misfit c.args.config (image_of (map (λ image. image.items) xs)) ≡ Some c.in-Some.misfit) same (sym c.first_misfit.ensures ∙ c.in-Some.is)
+    subst (λ xs. first_misfit c.args.config (image_of (map (λ image. image.items) xs)) ≡ Some c.in-Some.misfit) same (sym c.in_ok-misfit.ensures ∙ c.in-Some.is)
 
 pub loop-image-init : goal.loop-image-init
 loop-image-init g c =
@@ -50,7 +50,7 @@ open-requires-clause-rules g c =
     let opened = subst (λ left. HasOpened (λ image. image.items) c.args.config c.args.images.items c.loop-image.yielded left c.loop-image.number c.loop-image.nodes.items) c.in-Some-image.ensures.steps.0 c.loop-image.invariant.opened in
     let same : c.deref-2.result.now ≡ c.args.images.items = search rules in
     let read : c.deref.result.now ≡ c.args.images.items = search rules in
-    let none = subst (λ xs. first_misfit c.args.config (image_of (map (λ image. image.items) xs)) ≡ None) same (sym c.first_misfit.ensures ∙ c.in_default.is) in
+    let none = subst (λ xs. first_misfit c.args.config (image_of (map (λ image. image.items) xs)) ≡ None) same (sym c.in_ok-misfit.ensures ∙ c.in_default.is) in
     let are : AreImages c.args.config (map (λ image. image.items) c.args.images.items) =
     record { one_each = length-map c.args.images.items (λ image. image.items) ∙ c.requires; limits = subst (λ xs. All (All IsEntry) (map (λ image. image.items) xs)) read c.limits_of_images.ensures } in
     let is : c.unwrap-node.result ≡ c.loop-image.number + 1 = search rules in
@@ -76,7 +76,7 @@ invariant_of-result g c =
     let gone : c.loop-image.image-iterator.rest.items ≡ [] = none_left c.loop-image.image-iterator.rest.items c.loop-image.image-iterator.rest.len c.loop-image.image-iterator.rest.ok.0 c.in-None.ensures.steps.0 in
     let same : c.deref-2.result.now ≡ c.args.images.items = search rules in
     let read : c.deref.result.now ≡ c.args.images.items = search rules in
-    let none = subst (λ xs. first_misfit c.args.config (image_of (map (λ image. image.items) xs)) ≡ None) same (sym c.first_misfit.ensures ∙ c.in_default.is) in
+    let none = subst (λ xs. first_misfit c.args.config (image_of (map (λ image. image.items) xs)) ≡ None) same (sym c.in_ok-misfit.ensures ∙ c.in_default.is) in
     let are : AreImages c.args.config (map (λ image. image.items) c.args.images.items) =
     record { one_each = length-map c.args.images.items (λ image. image.items) ∙ c.requires; limits = subst (λ xs. All (All IsEntry) (map (λ image. image.items) xs)) read c.limits_of_images.ensures } in
     all-group (λ image. image.items) c.args.config c.args.images.items c.loop-image.yielded c.loop-image.number c.loop-image.nodes.items
@@ -86,6 +86,6 @@ pub returns : goal.returns
 returns g c =
     let gone : c.loop-image.image-iterator.rest.items ≡ [] = none_left c.loop-image.image-iterator.rest.items c.loop-image.image-iterator.rest.len c.loop-image.image-iterator.rest.ok.0 c.in-None.ensures.steps.0 in
     let same : c.deref-2.result.now ≡ c.args.images.items = search rules in
-    let none = subst (λ xs. first_misfit c.args.config (image_of (map (λ image. image.items) xs)) ≡ None) same (sym c.first_misfit.ensures ∙ c.in_default.is) in
+    let none = subst (λ xs. first_misfit c.args.config (image_of (map (λ image. image.items) xs)) ≡ None) same (sym c.in_ok-misfit.ensures ∙ c.in_default.is) in
     all-opens (λ image. image.items) c.args.config c.args.images.items c.loop-image.yielded c.loop-image.number c.loop-image.nodes.items
     (subst (λ left. HasOpened (λ image. image.items) c.args.config c.args.images.items c.loop-image.yielded left c.loop-image.number c.loop-image.nodes.items) gone c.loop-image.invariant.opened) none

@@ -1,0 +1,8 @@
+use Rattle.std.proofs.Common.{List, ap, ◌∙◌}
+use Rattle.urb_stable.specs.Entries.{Entry}
+use Rattle.urb_stable.specs.Fitting.{first_misfit}
+use Rattle.urb_stable.specs.Images.{image_of}
+use Rattle.urb_group.proofs.opening.misfit_of.Goals as goal
+
+pub returns : goal.returns
+returns g c = c.first_misfit.ensures ∙ ap (λ (xs : List (List Entry)). first_misfit c.args.config (image_of xs)) c.in_ok-read.ensures

@@ -1,7 +1,0 @@
-use Rattle.std.proofs.Common.{drop, ◌≡◌}
-use Rattle.urb_names.specs.Pairs.{message_of}
-use Rattle.urb_stable.specs.Records.{pend}
-use Rattle.urb_stable.proofs.fitting.message_in.Given as goal
-
-abbrev pub invariant-loop-entry : goal.invariant-loop-entry
-invariant-loop-entry g l = message_of (pend (drop l.entry-index l.records)) l.name ≡ message_of (pend l.records) l.name
