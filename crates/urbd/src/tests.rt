@@ -1,6 +1,7 @@
 //! The program over a terminal of the tests' own: command lines, scripts, and ends that fail.
 
 mod clients;
+mod groups;
 mod lines;
 mod scripts;
 
