@@ -3,3 +3,4 @@ mod Parsing
 mod Pushing
 mod NumbersRead
 mod Showing
+mod Sending

@@ -10,6 +10,7 @@ mod commands;
 mod daemon;
 mod faults;
 mod host;
+mod journals;
 mod lines;
 mod printed;
 mod printing;
@@ -19,8 +20,9 @@ mod values;
 
 use crate::arguments::{line, words};
 use crate::clients::{read, submit};
-use crate::daemon::{run_journals, tell_end};
+use crate::daemon::tell_end;
 use crate::faults::{Fault, tell};
+use crate::journals::{named, plain, run_journals};
 use crate::lines::Line;
 use crate::replaying::replay;
 use std::marker::Brand;
@@ -62,29 +64,35 @@ fn main(rt: HostRuntime) -> ExitCode {
         Ok(words) => words,
         Err(status) => return ExitCode::from(status),
     };
-    let status = match line(&rt, rt.alloc(), words.as_slice()) {
-        Ok(Line::Serve(serving)) => {
-            match open_nodes::<Brand>(&rt, serving.dir, serving.config()) {
-                Ok(journals) => {
-                    let (journals, ended) = run_journals(
-                        &rt,
-                        rt.alloc(),
-                        serving.config(),
-                        serving.base,
-                        serving.every,
-                        journals,
-                    );
-                    // One that can't be closed has lost nothing: its next opening reads what is in its log.
-                    let _ = close_nodes(&rt, serving.dir, journals);
-                    tell_end(&rt, ended)
-                }
-                Err((_, fault)) => tell(&rt, Fault::from(fault.refusal())),
-            }
-        }
-        Ok(line) => answer(&rt, line),
-        Err(status) => status,
+    let serving = match line(&rt, rt.alloc(), words.as_slice()) {
+        Ok(Line::Serve(serving)) => serving,
+        Ok(line) => return ExitCode::from(answer(&rt, line)),
+        Err(status) => return ExitCode::from(status),
     };
-    ExitCode::from(status)
+    let journals = match open_nodes::<Brand>(&rt, serving.dir, serving.config()) {
+        Ok(journals) => journals,
+        Err((_, fault)) => return ExitCode::from(tell(&rt, Fault::from(fault.refusal()))),
+    };
+    let journals = match named(rt.alloc(), journals) {
+        Ok(journals) => journals,
+        Err(journals) => {
+            let _ = close_nodes(&rt, serving.dir, journals);
+            return ExitCode::from(tell(&rt, Fault::NoMemory));
+        }
+    };
+    let (journals, ended) = run_journals(
+        &rt,
+        rt.alloc(),
+        serving.config(),
+        serving.base,
+        serving.every,
+        journals,
+    );
+    // One that can't be closed has lost nothing: its next opening reads what is in its log.
+    if let Some(journals) = plain(rt.alloc(), journals) {
+        let _ = close_nodes(&rt, serving.dir, journals);
+    }
+    ExitCode::from(tell_end(&rt, ended))
 }
 
 #[cfg(test)]
