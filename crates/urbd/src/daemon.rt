@@ -5,8 +5,6 @@ ghost use Rattle.urbd.specs.Statuses.{end_of};
 
 use crate::faults::{Fault, tell};
 use crate::host::Host;
-use sqlite::FileStore;
-use sqlite_disk::Disk;
 use std::alloc::Global;
 use std::io::Read;
 use std::marker::Brand;
@@ -14,7 +12,6 @@ use std::net::{Ipv4Addr, Net, TcpListener, TcpStream, UdpSocket};
 use std::sync::ledger::Blank;
 use urb_group::{Config, Group, Record, Stable};
 use urb_show::House;
-use urb_sqlite::SqlStable;
 use urb_worker::{Station, UdpLink, Watch, run_group};
 
 // Tells that the group runs, and watches until standard input ends.
@@ -205,25 +202,6 @@ where
         }
         Err(fault) => (stores, Err(fault)),
     }
-}
-
-/// Runs a group over journals in files, as `run_over` does over any stores. All that a thread is handed of a journal is proved
-/// here, once for every kind of file.
-pub fn run_journals<D: Disk + Send + Drop, R>(
-    rt: &R,
-    alloc: Global,
-    config: Config,
-    base: u16,
-    every: u32,
-    journals: Vec<SqlStable<FileStore<D>>>,
-) -> (Vec<SqlStable<FileStore<D>>>, Result<u64, Fault>)
-where
-    R: Host + Net<Listener = TcpListener, Stream = TcpStream>,
-    requires journals { vec_len journals ≡ config.n }
-    requires base { base ≤ 65000 }
-    ensures { vec_len result.0 ≡ vec_len journals }
-{
-    run_over(rt, alloc, config, base, every, journals)
 }
 
 /// Tells how a run has ended, and gives the program's status: `closed E` with the count of events and 0, or the fault and 1.
