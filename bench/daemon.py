@@ -1,9 +1,10 @@
 #!/usr/bin/env python3
-"""daemon.py PROGRAM [--rounds R] [--seconds S] [--dir D]     the daemon beside redis and etcd, in one run on one disk
+"""daemon.py PROGRAM [--rounds R] [--seconds S] [--messages M] [--dir D]     the daemon beside redis and etcd, in one run on one disk
 
 PROGRAM is the built urbd. Needs a C compiler; measures redis (Debian's redis-server, with appendonly yes and appendfsync always)
 and a group of three of etcd on loopback (etcd-server, golang-go, golang-etcd-server-dev) where they are installed. Each figure is the
-median of R rounds (5), in which all servers take turns, S seconds (2) a measurement. Every server listens on 127.0.0.1 and is
+median of R rounds (5; with 0 of them there is the last line alone), in which all servers take turns, S seconds (2) a measurement. The
+last line is of M messages (100,000). Every server listens on 127.0.0.1 and is
 stopped at the end. Files are made in a folder below D (the system's folder for such files), which is removed.
 """
 import argparse
@@ -26,6 +27,7 @@ BASE = {1: 21000, 3: 22000}
 REDIS = 23000
 ETCD = 24000
 STARTED = 10.0  # seconds that a server may take to listen
+REST = 30.0  # seconds over which a group at rest is looked at
 
 
 def percentile(times, share):
@@ -292,11 +294,16 @@ def history(program, room, messages, length):
     daemon = Daemon(program, folder, 3)
     begin = time.perf_counter()
     submit_all(daemon.port(1), messages, length)
+    accepted = time.perf_counter() - begin
     end = time.monotonic() + 600
-    while min(log_length(daemon.port(node)) for node in (1, 2, 3)) < messages and time.monotonic() < end:
+    while (shown := min(log_length(daemon.port(node)) for node in (1, 2, 3))) < messages and time.monotonic() < end:
         time.sleep(0.2)
     took = time.perf_counter() - begin
     memory = daemon.memory()
+    time.sleep(2)
+    before = daemon.busy()
+    time.sleep(REST)
+    rest = 100 * (daemon.busy() - before) / REST
     daemon.process.send_signal(signal.SIGKILL)
     daemon.process.wait()
     size = sum(it.stat().st_size for it in folder.iterdir()) / 1e6
@@ -304,8 +311,23 @@ def history(program, room, messages, length):
     opening = again.opening
     again.stop()
     shutil.rmtree(folder)
-    print(f"{messages} messages of {length} bytes on three nodes: {took:.1f} s until all logs have them, {memory:.0f} MB of memory,"
-          f" {size:.0f} MB of files; killed, and open again after {opening:.2f} s")
+    print(f"{messages} messages of {length} bytes on three nodes: {accepted:.1f} s until they are accepted, {took:.1f} s until all logs have"
+          f" {shown}, {memory:.0f} MB of memory, at rest {rest:.2f} % of one processor, {size:.0f} MB of files; killed, and open again after"
+          f" {opening:.2f} s")
+
+
+def show(table, rounds):
+    print(f"{'medians of ' + str(rounds) + ' rounds':58} {'urbd':>10} {'beside':>10} {'':4} {'ratio':>6}")
+    table.line("accepted, one client, one node; redis XADD", "submit 1", "xadd", "us", 1.0)
+    table.line("accepted, one client, three nodes; redis XADD", "submit 3", "xadd", "us", 1.0)
+    table.line("accepted, one client, one node; one fdatasync", "submit 1", "fdatasync", "us", 2.0)
+    table.line("accepted, one client, three nodes; one fdatasync", "submit 3", "fdatasync", "us", 2.0)
+    table.line("shown at three nodes; etcd's put, median", "visible p50", "put p50", "us", 0.5)
+    table.line("shown at three nodes; etcd's put, 99th percentile", "visible p99", "put p99", "us", 0.5)
+    table.line("reads of 8 entries, four clients; redis XRANGE", "read", "xrange", "/s", 1.0, turned=True)
+    table.line("a reader's 99th percentile beside writers; without", "reader p99 beside", "reader p99 alone", "us", 1.3)
+    table.line("accepted, twelve clients; records of three journals", "twelve", "journals", "/s", 0.8, turned=True)
+    print(f"{'at rest: of one processor':58} {table.of('at rest'):10.2f} %")
 
 
 def main():
@@ -328,17 +350,8 @@ def main():
                 measure_daemon(table, load, program, room, nodes, options.seconds)
             measure_redis(table, load, room, options.seconds)
             measure_etcd(table, bench, room, options.seconds)
-        print(f"{'medians of ' + str(options.rounds) + ' rounds':58} {'urbd':>10} {'beside':>10} {'':4} {'ratio':>6}")
-        table.line("accepted, one client, one node; redis XADD", "submit 1", "xadd", "us", 1.0)
-        table.line("accepted, one client, three nodes; redis XADD", "submit 3", "xadd", "us", 1.0)
-        table.line("accepted, one client, one node; one fdatasync", "submit 1", "fdatasync", "us", 2.0)
-        table.line("accepted, one client, three nodes; one fdatasync", "submit 3", "fdatasync", "us", 2.0)
-        table.line("shown at three nodes; etcd's put, median", "visible p50", "put p50", "us", 0.5)
-        table.line("shown at three nodes; etcd's put, 99th percentile", "visible p99", "put p99", "us", 0.5)
-        table.line("reads of 8 entries, four clients; redis XRANGE", "read", "xrange", "/s", 1.0, turned=True)
-        table.line("a reader's 99th percentile beside writers; without", "reader p99 beside", "reader p99 alone", "us", 1.3)
-        table.line("accepted, twelve clients; records of three journals", "twelve", "journals", "/s", 0.8, turned=True)
-        print(f"{'at rest: of one processor':58} {table.of('at rest'):10.2f} %")
+        if options.rounds:
+            show(table, options.rounds)
         history(program, room, options.messages, 100)
     finally:
         shutil.rmtree(room, ignore_errors=True)

@@ -1,7 +1,7 @@
 #!/usr/bin/env python3
 """A running group that is refused one growth of memory: growth 1, 2, 3, .. in turn.
 
-usage: refused_memory.py PROGRAM [--first K] [--last K] [--base-port B]
+usage: refused_memory.py PROGRAM [--first K] [--last K] [--step D] [--base-port B]
 Each start on an empty folder is refused another growth (refuse.c beside this file, preloaded: needs a C compiler), and clients talk to
 what runs. Then the group starts again on the same folder with all its memory: each accepted name is accepted again under its
 number, and each log begins with what was read before. A start that can't be says so, and ends at once. Needs Python 3.8 or later,
@@ -109,13 +109,14 @@ def main():
     words.add_argument("program")
     words.add_argument("--first", type=int, default=1)
     words.add_argument("--last", type=int, default=500)
+    words.add_argument("--step", type=int, default=1)
     words.add_argument("--base-port", type=int, default=26000)
     options = words.parse_args()
     room = tempfile.mkdtemp()
     try:
         library = built(room)
         met = opened = accepted = 0
-        for growth in range(options.first, options.last + 1):
+        for growth in range(options.first, options.last + 1, options.step):
             was_met, is_open, count = try_growth(options.program, room, options.base_port, library, growth)
             met, opened, accepted = met + was_met, opened + is_open, accepted + count
     finally:
