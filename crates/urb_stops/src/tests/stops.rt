@@ -206,7 +206,7 @@ fn met(alloc: Global, node: usize, is_log: bool) -> Option<u64> {
             return Some(stops);
         }
         if failed {
-            stops += 1;
+            stops = stops.saturating_add(1);
         }
     }
     None
