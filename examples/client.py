@@ -4,8 +4,6 @@
     client.py PORT submit CLIENT NUMBER TEXT    submits until the message is accepted, and prints its number at the node
     client.py PORT read PLACE                   prints the log's entries from this place on, as far as it goes today
     client.py PORT follow PLACE                 the same, and goes on with what comes
-    client.py PORT status                       prints the node's state, the messages that it has sent and the length of its log
-    client.py PORT crash, client.py PORT restart    has the node go down, or come back with what its journal holds
 """
 import socket
 import struct
@@ -14,8 +12,6 @@ import time
 from collections import namedtuple
 
 Entry = namedtuple("Entry", "sender seq client number payload")
-Status = namedtuple("Status", "state sent logged")
-STATES = ("down", "ready", "storing")
 AGAIN = {1, 3, 4, 11, 15, 16}  # refusals after which the same submit may be accepted
 
 
@@ -82,20 +78,6 @@ class Node:
             entries.append(Entry(*name, fields[at - length:at]))
         return entries
 
-    def status(self):
-        opcode, fields = self.ask(b"\x03")
-        assert opcode == 0x83, f"opcode {opcode:02x}"
-        state, sent, logged = struct.unpack(">BII", fields)
-        return Status(STATES[state], sent, logged)
-
-    def crash(self):
-        """Has the node go down; what it held and had not stored is lost."""
-        assert self.ask(b"\x04")[0] == 0x84
-
-    def restart(self):
-        """Has a node that is down come back with what its journal holds."""
-        assert self.ask(b"\x05")[0] == 0x84
-
     def log(self, place, follow=False, pause=0.05):
         """Each entry from this place on; to the end of today, or for ever."""
         while True:
@@ -108,22 +90,10 @@ class Node:
                 time.sleep(pause)
 
 
-def main(port, command, *words):
-    node = Node(int(port))
+if __name__ == "__main__":
+    node, command, words = Node(int(sys.argv[1])), sys.argv[2], sys.argv[3:]
     if command == "submit":
         print("accepted", node.submit(int(words[0]), int(words[1]), words[2].encode()))
-    elif command == "status":
-        print(*node.status())
-    elif command in ("crash", "restart"):
-        getattr(node, command)()
-        print("done")
     else:
         for e in node.log(int(words[0]), follow=command == "follow"):
             print(f"{e.sender}.{e.seq} {e.client} {e.number} {e.payload.hex() or '-'}", flush=True)
-
-
-if __name__ == "__main__":
-    try:
-        main(*sys.argv[1:])
-    except Refused as refused:
-        sys.exit(str(refused))
