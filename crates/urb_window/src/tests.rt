@@ -1,0 +1,1 @@
+//! Windows in several orders, and refused growth.
