@@ -1,1 +1,3 @@
 pub mod PendingSet
+pub mod Rows
+pub mod ClientIndex
