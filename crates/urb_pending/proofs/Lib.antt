@@ -6,3 +6,5 @@ pub mod Kept
 pub mod Rows
 pub mod Index
 pub mod Changed
+pub mod Looked
+pub mod Indexed

@@ -85,6 +85,29 @@ impl<A: Allocator + Copy> Clients<A> {
         let place = place_of(&self.rows, client);
         self.rows[place].push(seq);
     }
+
+    /// Makes room for one message more of the client, where it is the node's own.
+    pub(crate) fn make_room_where(&mut self, own: bool, client: ClientId) -> Result<(), NoMemory>
+        ensures given { (c : ℕ) → given_to c self.new ≡ given_to c self.old }
+        ensures kept { (c : ℕ) → has_room c self.old ≡ true → has_room c self.new ≡ true }
+        ensures ok { OnOk result (own ≡ true → has_room client self.new ≡ true) }
+        ensures roomy { (own ≡ true → has_room client self.old ≡ true) → IsOk result }
+    {
+        if own {
+            return self.make_room(client);
+        }
+        Ok(())
+    }
+
+    /// The client's next message has the name of this number, where it is the node's own.
+    pub(crate) fn add_where(&mut self, own: bool, client: ClientId, seq: u32)
+        requires { own ≡ true → has_room client self.old ≡ true }
+        ensures { (c : ℕ) → given_to c self.new ≡ (if own && (c == client) then given_to c self.old ++ seq ∷ [] else given_to c self.old) }
+    {
+        if own {
+            self.add(client, seq);
+        }
+    }
 }
 
 fn is_before<A: Allocator + Copy>(row: &ClientRow<A>, client: ClientId) -> bool
