@@ -1,0 +1,5 @@
+pub mod Halved
+pub mod Counted
+pub mod Placed
+pub mod Closed
+pub mod Rooms
