@@ -62,7 +62,7 @@ module _ {V : Type 0} where
       at (inr m) parts ih =
           let other : p.0 ≡ n → ⊥ = parts.0 in
           let over : n < p.0 = omega arith in
-          subst (AreOver k) (sym (placed_front number_lt (n, v) p ps (le-ltb p.0 n m))) (l, u, over, o.1, o.2)
+          subst (AreOver k) (sym (placed_front number_lt (n, v) p ps (le-ltb p.0 n m))) (l, u, (over, o.1, o.2))
 
   -- what is not among all pairs of a row is behind the lower part
   pub absent_low : (first : ℕ) (low : List V) (rest : List (ℕ × V)) (n : ℕ) → first ≤ n → numbered (counted_from first low ++ rest) n ≡ None → first + length low ≤ n

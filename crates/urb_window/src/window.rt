@@ -132,7 +132,8 @@ impl<T, A: Allocator + Copy> Window<T, A> {
 
     // Puts another value under a number that has one, and gives the old one back.
     pub(crate) fn replace(&mut self, number: u32, value: T) -> T
-        requires { IsSome (numbered (pairs_of self.old) number) }
+        requires from { 0 < number }
+        requires present { IsSome (numbered (pairs_of self.old) number) }
         ensures old { numbered (pairs_of self.old) number ≡ Some result }
         ensures new { IsReplaced self.old number value self.new }
     {
@@ -168,9 +169,10 @@ impl<T, A: Allocator + Copy> Window<T, A> {
     {
         if is_next(self.low.len(), number) {
             extend(&mut self.low, &mut self.above, value)?;
-        } else {
-            put_above(&mut self.above, number, value)?;
+            self.reserved = None;
+            return Ok(());
         }
+        put_above(&mut self.above, number, value)?;
         self.reserved = None;
         Ok(())
     }
