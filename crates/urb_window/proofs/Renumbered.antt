@@ -4,9 +4,13 @@ use Rattle.std.specs.List.{prefix_len}
 use Rattle.std.specs.Prelude.{IsSome}
 use Rattle.std.proofs.lemmas.Bool.{cases_Bool, cases_eq, cases_lt, cond-false, cond-true, eqb-true, false≢true, le-ltb, lt-ltb, ltb-true}
 use Rattle.urb_window.specs.Row.{AreOver, counted_from, holds_at, numbered, renumbered}
-use Rattle.urb_window.proofs.Halved.{numbered_absent, one_more}
+use Rattle.urb_window.proofs.Halved.{numbered_absent, numbered_found, one_more}
+use Rattle.urb_window.proofs.Counted.{numbered_behind}
 
 module _ {V : Type 0} where
+  abbrev place : ℕ → List (ℕ × V) → ℕ
+  place n pairs = prefix_len (λ p. nat_lt p.0 n) pairs
+
   renumbered_other : (p : ℕ × V) (ps : List (ℕ × V)) (n : ℕ) (v : V) → (p.0 ≡ n → ⊥) → renumbered (p ∷ ps) n v ≡ p ∷ renumbered ps n v
   renumbered_other p ps n v e = ap (λ q. q ∷ renumbered ps n v) (cond-false (p.0 == n) (p.0, v) p (ne_eqb p.0 n e))
 
@@ -56,17 +60,14 @@ module _ {V : Type 0} where
   renumbered_place k [] n v d o e = absurd (false≢true e)
   renumbered_place k (p ∷ ps) n v d o e = at (renumbered_place p.0 ps n v d o.2) (nat_lt p.0 n) refl e
     where
-      abbrev place : ℕ
-      place = prefix_len (λ q. nat_lt q.0 n) ps
-
-      at : (holds_at ps place n ≡ true → renumbered ps n v ≡ slice_set ps place ((get_or ps place d).0, v)) → (b : Bool) → nat_lt p.0 n ≡ b
-          → holds_at (p ∷ ps) (cond b (1 + place) 0) n ≡ true
-          → renumbered (p ∷ ps) n v ≡ slice_set (p ∷ ps) (cond b (1 + place) 0) ((get_or (p ∷ ps) (cond b (1 + place) 0) d).0, v)
+      at : (holds_at ps (place n ps) n ≡ true → renumbered ps n v ≡ slice_set ps (place n ps) ((get_or ps (place n ps) d).0, v)) → (b : Bool) → nat_lt p.0 n ≡ b
+          → holds_at (p ∷ ps) (cond b (1 + place n ps) 0) n ≡ true
+          → renumbered (p ∷ ps) n v ≡ slice_set (p ∷ ps) (cond b (1 + place n ps) 0) ((get_or (p ∷ ps) (cond b (1 + place n ps) 0) d).0, v)
       at ih true f h =
           let less : p.0 < n = ltb-true p.0 n f in
-          let held : holds_at ps place n ≡ true = ap (λ (i : ℕ). holds_at (p ∷ ps) i n) (one_more place) ∙ h in
+          let held : holds_at ps (place n ps) n ≡ true = ap (λ (i : ℕ). holds_at (p ∷ ps) i n) (one_more (place n ps)) ∙ h in
           renumbered_other p ps n v (λ g. omega arith)
-          ∙ (ap (λ qs. p ∷ qs) (ih held) ∙ ap (λ (i : ℕ). slice_set (p ∷ ps) i ((get_or (p ∷ ps) i d).0, v)) (one_more place))
+          ∙ (ap (λ qs. p ∷ qs) (ih held) ∙ ap (λ (i : ℕ). slice_set (p ∷ ps) i ((get_or (p ∷ ps) i d).0, v)) (one_more (place n ps)))
       at ih false f h =
           let same : p.0 ≡ n = eqb-true p.0 n h in
           renumbered_here p ps n v same ∙ ap (λ qs. (p.0, v) ∷ qs) (renumbered_none p.0 ps n v o.2 (omega arith))
@@ -87,3 +88,21 @@ module _ {V : Type 0} where
       at : (holds_at pairs (prefix_len (λ p. nat_lt p.0 n) pairs) n ≡ true) ⊎ (holds_at pairs (prefix_len (λ p. nat_lt p.0 n) pairs) n ≡ false) → holds_at pairs (prefix_len (λ p. nat_lt p.0 n) pairs) n ≡ true
       at (inl e) = e
       at (inr e) = absurd (false≢true (sym (ap is_some (numbered_absent k pairs n o e)) ∙ some))
+
+  -- what the pair at the place of a number of the upper part is
+  pub record IsFound (low : List V) (above : List (ℕ × V)) (n : ℕ) (v : V) (i : ℕ) (d : ℕ × V) : Type 0 where
+    pub old : numbered (counted_from 1 low ++ above) n ≡ Some d.1
+    pub set : slice_set above i (d.0, v) ≡ renumbered above n v
+
+  pub finds : (low : List V) (above : List (ℕ × V)) (n : ℕ) (v : V) (i : ℕ) (d : ℕ × V) → AreOver 0 above → 1 + length low ≤ n → IsSome (numbered (counted_from 1 low ++ above) n)
+      → i ≡ prefix_len (λ p. nat_lt p.0 n) above → d ≡ get_or above i d → IsFound low above n v i d
+  finds low above n v i d over behind some at read =
+      let there : numbered (counted_from 1 low ++ above) n ≡ numbered above n = numbered_behind 1 low above n behind in
+      let held : holds_at above (place n above) n ≡ true = stands 0 above n over (subst (λ (o : Option V). is_some o ≡ true) there some) in
+      let here : d ≡ get_or above (place n above) d = read ∙ ap (λ (j : ℕ). get_or above j d) at in
+      record {
+        old = there ∙ (numbered_found above n d held ∙ sym (ap (λ (p : ℕ × V). Some p.1) here));
+        set =
+            ap (λ (j : ℕ). slice_set above j (d.0, v)) at
+            ∙ (ap (λ (p : ℕ × V). slice_set above (place n above) (p.0, v)) here ∙ sym (renumbered_place 0 above n v d over held));
+      }
