@@ -4,3 +4,6 @@ pub mod Placed
 pub mod Renumbered
 pub mod Closed
 pub mod Rooms
+pub mod Looked
+pub mod Lent
+pub mod Ranked

@@ -5,7 +5,7 @@ ghost use Rattle.urb_names.specs.Names.{name_lt};
 ghost use Rattle.urb_window.specs.Entries.{above_of, low_of, value_of, window_of, with_value};
 ghost use Rattle.urb_window.specs.WindowSet.{IsWindowSet, with_entry};
 
-use crate::rows::{after_in, count_of, entry_of, fill, first_from, index_of};
+use crate::rows::{after_in, count_of, entry_of, fill, first_from, index_of, row_of};
 use crate::window::Window;
 use std::alloc::{Allocator, Global};
 use std::marker::Model;
@@ -52,17 +52,15 @@ impl<T, A: Allocator + Copy> Windows<T, A> {
         let _rows = &self.rows;
     }
 
-    // The row of a sender, where there is one yet.
-    fn row(&self, sender: NodeId) -> Option<&Window<T, A>> {
-        self.rows.get(index_of(sender))
-    }
-
     /// The value under a name.
     pub fn get(&self, name: Name) -> Option<&T>
         ensures { option_map (λ v. v.now) result ≡ value_of self.now.entries name }
     {
         name.limits();
-        self.row(name.sender)?.get(name.seq)
+        match row_of(&self.rows, name.sender) {
+            Some(row) => row.get(name.seq),
+            None => None,
+        }
     }
 
     /// Puts another value under a name that has one, and gives the old one back.
@@ -119,7 +117,7 @@ impl<T, A: Allocator + Copy> Windows<T, A> {
     pub fn low(&self, sender: NodeId) -> u32
         ensures { result ≡ low_of sender self.now.entries }
     {
-        match self.row(sender) {
+        match row_of(&self.rows, sender) {
             Some(row) => row.low(),
             None => 0,
         }
@@ -129,7 +127,7 @@ impl<T, A: Allocator + Copy> Windows<T, A> {
     pub fn window(&self, sender: NodeId) -> &[T]
         ensures { result.now ≡ window_of sender self.now.entries }
     {
-        match self.row(sender) {
+        match row_of(&self.rows, sender) {
             Some(row) => row.window(),
             None => &[],
         }
@@ -139,7 +137,7 @@ impl<T, A: Allocator + Copy> Windows<T, A> {
     pub fn above(&self, sender: NodeId) -> u32
         ensures { result ≡ above_of sender self.now.entries }
     {
-        match self.row(sender) {
+        match row_of(&self.rows, sender) {
             Some(row) => row.above(),
             None => 0,
         }
