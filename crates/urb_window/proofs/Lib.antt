@@ -7,3 +7,5 @@ pub mod Rooms
 pub mod Looked
 pub mod Lent
 pub mod Ranked
+pub mod Changed
+pub mod Filed

@@ -15,7 +15,7 @@ use Rattle.urb_window.specs.Rows.{entries_from, named, no_row, row_at}
 use Rattle.urb_window.proofs.Counted.{numbered_behind, pairs_over}
 use Rattle.urb_window.proofs.Halved.{numbered_none}
 
-same_number : (s : ℕ) (n : ℕ) (x : Label) → s ≡ x.sender → same_name (name s n) x ≡ (n == x.seq)
+pub same_number : (s : ℕ) (n : ℕ) (x : Label) → s ≡ x.sender → same_name (name s n) x ≡ (n == x.seq)
 same_number s n x e = ap (λ (b : Bool). b && (n == x.seq)) (eq-eqb s x.sender e)
 
 module _ {V : Type 0} where
