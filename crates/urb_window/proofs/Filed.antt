@@ -1,8 +1,9 @@
 -- Windows keep what they keep: the rows of the senders, and the room that is promised.
-use Rattle.std.proofs.Common.{◌≡◌, ℕ, suc, ◌+◌, ◌-◌, ◌<◌, ◌≤◌, List, length, get_or, slice_set, Option, Some, None, refl, sym, ap, ◌∙◌, subst, inl, inr, ◌⊎◌, arith}
+use Rattle.std.proofs.Common.{◌≡◌, ℕ, suc, ◌+◌, ◌-◌, ◌<◌, ◌≤◌, List, length, get_or, slice_set, Option, Some, None, is_some, refl, sym, ap, ◌∙◌, subst, inl, inr, ◌⊎◌, arith}
+use Rattle.std.specs.Prelude.{IsSome}
 use Rattle.std.specs.List.{AllByRecursion}
-use Rattle.std.proofs.lemmas.Bool.{cases_eq}
-use Rattle.std.proofs.lemmas.List.{get_or-set_other, get_or-set_same, get_or_default, length-set, set-get_or}
+use Rattle.std.proofs.lemmas.Bool.{cases_eq, cases_lt, false≢true}
+use Rattle.std.proofs.lemmas.List.{get_or-set_other, get_or-set_same, get_or_default, get_or_past, length-set, set-get_or}
 use Rattle.urb_names.specs.Naming.{Label}
 use Rattle.urb_names.specs.Ordered.{placed}
 use Rattle.urb_window.specs.Entries.{entry_lt, value_of, with_value}
@@ -40,6 +41,20 @@ module _ {V : Type 0} where
       let index : i ≡ x.sender - 1 = omega arith in
       ap (λ (j : ℕ). entries_from 1 (slice_set rows j new)) index
       ∙ valued_rows 1 rows x v new (omega arith) (omega arith) (put.pairs ∙ ap (λ (r : Row V). renumbered (pairs_of r) x.seq v) (sym (row_here rows x.sender i row at within read)))
+
+  -- where a name has a value, its sender has a row
+  pub present_within : (rows : List (Row V)) (x : Label) (i : ℕ) → i + 1 ≡ x.sender → IsSome (value_of (entries_from 1 rows) x) → i < length rows
+  present_within rows x i at some = within (cases_lt i (length rows))
+    where
+      within : (i < length rows) ⊎ (length rows ≤ i) → i < length rows
+      within (inl l) = l
+      within (inr l) =
+          let none : numbered (pairs_of (row_at rows x.sender)) x.seq ≡ None = ap (λ (r : Row V). numbered (pairs_of r) x.seq) (get_or_past rows (x.sender - 1) no_row (omega arith)) in
+          absurd (false≢true (sym (ap is_some (value_rows 1 rows x (omega arith) ∙ none)) ∙ some))
+
+  -- a row with the same pairs
+  pub same_here : (rows : List (Row V)) (i : ℕ) (row new : Row V) → i < length rows → row ≡ get_or rows i row → pairs_of new ≡ pairs_of row → entries_from 1 (slice_set rows i new) ≡ entries_from 1 rows
+  same_here rows i row new within read pairs = same_rows 1 rows i new (pairs ∙ ap pairs_of (read ∙ get_or_default rows i row no_row within))
 
 module _ {T A : Type 0} where
   -- where rows came behind those that are there, or nothing changed

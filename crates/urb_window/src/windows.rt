@@ -71,7 +71,9 @@ impl<T, A: Allocator + Copy> Windows<T, A> {
     {
         name.limits();
         let row = &mut self.rows[index_of(name.sender)];
-        row.replace(name.seq, value)
+        let old = row.replace(name.seq, value);
+        row.limits();
+        old
     }
 
     /// Makes room for a value under this name, so that its `insert` takes no memory, also where it closes a gap. The room is kept
@@ -86,6 +88,7 @@ impl<T, A: Allocator + Copy> Windows<T, A> {
         fill(&mut self.rows)?;
         let row = &mut self.rows[index_of(name.sender)];
         row.reserve(name.seq)?;
+        row.limits();
         self.reserved = Some(name);
         Ok(())
     }
