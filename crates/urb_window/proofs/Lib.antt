@@ -9,3 +9,4 @@ pub mod Lent
 pub mod Ranked
 pub mod Changed
 pub mod Filed
+pub mod Walked
