@@ -1,8 +1,9 @@
 -- The entries of rows from one row on.
-use Rattle.std.proofs.Common.{◌≡◌, ℕ, zero, suc, ◌+◌, ◌-◌, ◌<◌, ◌≤◌, Bool, true, false, cond, ◌==◌, nat_lt, List, [], ◌∷◌, ◌++◌, drop, find, map, length, get_or, Option, Some, None, option_map, refl, sym, ap, ap₂, ◌∙◌, subst, inl, inr, ◌⊎◌, arith}
+use Rattle.std.proofs.Common.{◌≡◌, ℕ, zero, suc, ◌+◌, ◌-◌, ◌<◌, ◌≤◌, Bool, true, false, cond, not, ◌==◌, nat_lt, List, [], ◌∷◌, ◌++◌, drop, find, map, length, get_or, Option, Some, None, option_map, refl, sym, ap, ap₂, ◌∙◌, subst, inl, inr, ◌⊎◌, arith}
 use Rattle.std.specs.Prelude.{slice_get}
 use Rattle.std.specs.Option.{option_or}
-use Rattle.std.proofs.lemmas.Bool.{cases_eq, cases_lt, cond-false, cond-true}
+use Rattle.std.specs.List.{list_all}
+use Rattle.std.proofs.lemmas.Bool.{and_parts, cases_eq, cases_lt, cond-false, cond-true, not-true, not_from_false}
 use Rattle.std.proofs.lemmas.List.{drop_all, drop_more, length-append, length-map}
 use Rattle.std.proofs.lemmas.List.Folds.{find-append}
 use Rattle.std.proofs.lemmas.Option.{slice_get-map}
@@ -10,7 +11,7 @@ use Rattle.urb_names.specs.Naming.{Label}
 use Rattle.urb_names.specs.Names.{name, name_lt}
 use Rattle.urb_window.specs.Row.{Row, pairs_of}
 use Rattle.urb_window.specs.Rows.{entries_from, named, no_row}
-use Rattle.urb_window.proofs.Ranked.{higher_sender_lt, lower_sender_lt, same_sender_lt}
+use Rattle.urb_window.proofs.Ranked.{all_entries, all_named, higher_sender_lt, lower_sender_lt, same_sender_lt}
 
 module _ {V : Type 0} where
   -- the entries of the rows from place i on
@@ -60,3 +61,60 @@ module _ {V : Type 0} where
       ap (λ es. slice_get es j) (at_row rows i row l read)
       ∙ (get_behind (named (i + 1) (pairs_of row)) (entries_at (i + 1) rows) j (subst (λ (n : ℕ). n ≤ j) (sym (length-map (pairs_of row) _)) behind)
       ∙ ap (λ (n : ℕ). slice_get (entries_at (i + 1) rows) (j - n)) (length-map (pairs_of row) _))
+
+  -- ---- the first name behind one
+
+  find_all : {X : Type 0} (test : X → Bool) (xs : List X) → list_all test xs ≡ true → find test xs ≡ slice_get xs 0
+  find_all test [] h = refl
+  find_all test (x ∷ xs) h = cond-true (test x) (Some x) (find test xs) (and_parts (test x) (list_all test xs) h).0
+
+  find_none : {X : Type 0} (test : X → Bool) (xs : List X) → list_all (λ x. not (test x)) xs ≡ true → find test xs ≡ None
+  find_none test [] h = refl
+  find_none test (x ∷ xs) h =
+      let parts = and_parts (not (test x)) (list_all (λ y. not (test y)) xs) h in
+      cond-false (test x) (Some x) (find test xs) (not-true _ parts.0) ∙ find_none test xs parts.1
+
+  find_named : (s : ℕ) (pairs : List (ℕ × V)) (x : Label) → s ≡ x.sender → option_map (λ e. e.0) (find (λ e. name_lt x e.0) (named s pairs)) ≡ option_map (λ p. name s p.0) (find (λ p. nat_lt x.seq p.0) pairs)
+  find_named s [] x e = refl
+  find_named s (p ∷ ps) x e =
+      let same : name s x.seq ≡ x = (λ i. record { sender = e i; seq = x.seq }) in
+      let order : name_lt x (name s p.0) ≡ nat_lt x.seq p.0 = ap (λ (y : Label). name_lt y (name s p.0)) (sym same) ∙ same_sender_lt s x.seq (name s p.0) refl in
+      ap (λ (b : Bool). option_map (λ (f : Label × V). f.0) (cond b (Some (name s p.0, p.1)) (find (λ f. name_lt x f.0) (named s ps)))) order ∙ at (nat_lt x.seq p.0) (find_named s ps x e)
+    where
+      at : (b : Bool) → option_map (λ f. f.0) (find (λ f. name_lt x f.0) (named s ps)) ≡ option_map (λ q. name s q.0) (find (λ q. nat_lt x.seq q.0) ps)
+          → option_map (λ (f : Label × V). f.0) (cond b (Some (name s p.0, p.1)) (find (λ f. name_lt x f.0) (named s ps))) ≡ option_map (λ (q : ℕ × V). name s q.0) (cond b (Some p) (find (λ q. nat_lt x.seq q.0) ps))
+      at true ih = refl
+      at false ih = ih
+
+  -- rows of lower senders have none
+  find_from : (rows : List (Row V)) (first : ℕ) (x : Label) → first ≤ x.sender → find (λ e. name_lt x e.0) (entries_from first rows) ≡ find (λ e. name_lt x e.0) (entries_from x.sender (drop (x.sender - first) rows))
+  find_from [] first x l = sym (ap (λ (rs : List (Row V)). find (λ (e : Label × V). name_lt x e.0) (entries_from x.sender rs)) (drop_all (x.sender - first) [] (omega arith)))
+  find_from (r ∷ rs) first x l = at (cases_eq first x.sender) (find_from rs (suc first) x)
+    where
+      at : (first ≡ x.sender) ⊎ (first ≡ x.sender → ⊥)
+          → (suc first ≤ x.sender → find (λ e. name_lt x e.0) (entries_from (suc first) rs) ≡ find (λ e. name_lt x e.0) (entries_from x.sender (drop (x.sender - suc first) rs)))
+          → find (λ e. name_lt x e.0) (entries_from first (r ∷ rs)) ≡ find (λ e. name_lt x e.0) (entries_from x.sender (drop (x.sender - first) (r ∷ rs)))
+      at (inl e) ih =
+          let none : 0 ≡ x.sender - first = omega arith in
+          ap (λ (n : ℕ). find (λ (f : Label × V). name_lt x f.0) (entries_from n (r ∷ rs))) e
+          ∙ ap (λ (k : ℕ). find (λ (f : Label × V). name_lt x f.0) (entries_from x.sender (drop k (r ∷ rs)))) none
+      at (inr e) ih =
+          let later : suc (x.sender - suc first) ≡ x.sender - first = omega arith in
+          find-append (λ (f : Label × V). name_lt x f.0) (named first (pairs_of r)) (entries_from (suc first) rs)
+          ∙ (ap (λ (o : Option (Label × V)). option_or o (find (λ f. name_lt x f.0) (entries_from (suc first) rs)))
+          (find_none (λ (f : Label × V). name_lt x f.0) (named first (pairs_of r)) (all_named first (λ (f : Label × V). not (name_lt x f.0)) (pairs_of r) (λ f g. not_from_false _ (higher_sender_lt x f.0 (omega arith)))))
+          ∙ (ih (omega arith) ∙ ap (λ (k : ℕ). find (λ (f : Label × V). name_lt x f.0) (entries_from x.sender (drop k (r ∷ rs)))) later))
+
+  -- the first name behind one: in the row of its sender, or else the first of the rows behind it
+  pub after_found : (rows : List (Row V)) (x : Label) (i n : ℕ) (row : Row V) → i + 1 ≡ x.sender → i < length rows → row ≡ get_or rows i row
+      → option_map (λ p. p.0) (find (λ p. nat_lt x.seq p.0) (pairs_of row)) ≡ Some n
+      → option_map (λ e. e.0) (find (λ e. name_lt x e.0) (entries_from 1 rows)) ≡ Some (name x.sender n)
+  after_found rows x i n row at l read found = ?
+
+  pub after_missed : (rows : List (Row V)) (x : Label) (i : ℕ) (row : Row V) → i + 1 ≡ x.sender → i < length rows → row ≡ get_or rows i row
+      → option_map (λ p. p.0) (find (λ p. nat_lt x.seq p.0) (pairs_of row)) ≡ None
+      → option_map (λ e. e.0) (find (λ e. name_lt x e.0) (entries_from 1 rows)) ≡ option_map (λ e. e.0) (slice_get (entries_at (i + 1) rows) 0)
+  after_missed rows x i row at l read missed = ?
+
+  pub after_beyond : (rows : List (Row V)) (x : Label) → 1 ≤ x.sender → length rows ≤ x.sender - 1 → find (λ e. name_lt x e.0) (entries_from 1 rows) ≡ None
+  after_beyond rows x one l = find_from rows 1 x one ∙ ap (λ (rs : List (Row V)). find (λ (e : Label × V). name_lt x e.0) (entries_from x.sender rs)) (drop_all (x.sender - 1) rows l)

@@ -117,12 +117,14 @@ pub(crate) fn after_in<T, A: Allocator + Copy>(rows: &[Window<T, A>], name: Name
     ensures { result ≡ option_map (λ entry. entry.0) (find (λ entry. name_lt name entry.0) (entries_from 1 rows.now)) }
 {
     let index = index_of(name.sender);
-    let row = rows.get(index)?;
-    if let Some(seq) = row.after(name.seq) {
-        return Some(Name {
-            sender: name.sender,
-            seq,
-        });
+    match rows.get(index) {
+        Some(row) => match row.after(name.seq) {
+            Some(seq) => {
+                let sender = name.sender;
+                Some(Name { sender, seq })
+            }
+            None => first_from(rows, index + 1),
+        },
+        None => None,
     }
-    first_from(rows, index + 1)
 }
