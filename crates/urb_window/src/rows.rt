@@ -102,8 +102,9 @@ pub(crate) fn first_from<T, A: Allocator + Copy>(
     ensures { result ≡ option_map (λ entry. entry.0) (slice_get (entries_from (start + 1) (drop start rows.now)) 0) }
 {
     for i in start..rows.len() {
-        if let Some((seq, _)) = rows[i].pair(0) {
-            rows[i].limits();
+        let row = &rows[i];
+        row.limits();
+        if let Some((seq, _)) = row.pair(0) {
             let sender = sender_at(i)?;
             return Some(Name { sender, seq });
         }
