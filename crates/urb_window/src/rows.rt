@@ -1,10 +1,10 @@
 //! The rows of the senders, in order of their numbers.
 
-ghost use Rattle.std.specs.Prelude.{◌≡◌, ◌+◌, ◌-◌, ◌≤◌, ◌<◌, OnOk, IsOk, length, find, option_map, slice_get, drop};
+ghost use Rattle.std.specs.Prelude.{◌≡◌, ◌+◌, ◌-◌, ◌≤◌, ◌<◌, Some, IfSome, IfNone, OnOk, IsOk, length, find, option_map, slice_get, drop};
 ghost use Rattle.std.specs.List.{AllByRecursion};
 ghost use Rattle.urb_names.specs.Names.{name_lt};
 ghost use Rattle.urb_window.specs.Row.{IsRow};
-ghost use Rattle.urb_window.specs.Rows.{entries_from};
+ghost use Rattle.urb_window.specs.Rows.{entries_from, no_row, row_at};
 
 use crate::window::Window;
 use std::alloc::Allocator;
@@ -19,6 +19,17 @@ pub(crate) fn index_of(sender: NodeId) -> usize
     ensures within { result < 7 }
 {
     sender.number() as usize - 1
+}
+
+// The row of a sender, where there is one yet.
+pub(crate) fn row_of<T, A: Allocator>(
+    rows: &[Window<T, A>],
+    sender: NodeId,
+) -> Option<&Window<T, A>>
+    ensures some { IfSome result (λ row. row.now ≡ row_at rows.now sender) }
+    ensures none { IfNone result (row_at rows.now sender ≡ no_row) }
+{
+    rows.get(index_of(sender))
 }
 
 // The sender whose row stands at a place.
@@ -91,7 +102,9 @@ pub(crate) fn first_from<T, A: Allocator + Copy>(
     ensures { result ≡ option_map (λ entry. entry.0) (slice_get (entries_from (start + 1) (drop start rows.now)) 0) }
 {
     for i in start..rows.len() {
-        if let Some(seq) = rows[i].after(0) {
+        let row = &rows[i];
+        row.limits();
+        if let Some((seq, _)) = row.pair(0) {
             let sender = sender_at(i)?;
             return Some(Name { sender, seq });
         }
@@ -105,12 +118,14 @@ pub(crate) fn after_in<T, A: Allocator + Copy>(rows: &[Window<T, A>], name: Name
     ensures { result ≡ option_map (λ entry. entry.0) (find (λ entry. name_lt name entry.0) (entries_from 1 rows.now)) }
 {
     let index = index_of(name.sender);
-    let row = rows.get(index)?;
-    if let Some(seq) = row.after(name.seq) {
-        return Some(Name {
-            sender: name.sender,
-            seq,
-        });
+    match rows.get(index) {
+        Some(row) => match row.after(name.seq) {
+            Some(seq) => {
+                let sender = name.sender;
+                Some(Name { sender, seq })
+            }
+            None => first_from(rows, index + 1),
+        },
+        None => None,
     }
-    first_from(rows, index + 1)
 }

@@ -1,9 +1,9 @@
 //! The upper part of a row: pairs of a number and its value, by rising number, looked up by halving.
 
-ghost use Rattle.std.specs.Prelude.{◌≡◌, ◌<◌, ◌≤◌, ◌+◌, ◌∷◌, IfSome, IfNone, IfErr, OnOk, OnErr, IsOk, IsTrue, length, nat_lt, ◌==◌, ◌&&◌};
+ghost use Rattle.std.specs.Prelude.{◌≡◌, ◌<◌, ◌≤◌, ◌+◌, ◌∷◌, IfSome, IfNone, IfErr, OnOk, OnErr, IsOk, IsTrue, length, nat_lt, false};
 ghost use Rattle.std.specs.VecDeque.{deque_len, deque_capacity};
 ghost use Rattle.std.specs.List.{prefix_len};
-ghost use Rattle.urb_window.specs.Row.{AreOver, begins_at, holds_at, number_lt};
+ghost use Rattle.urb_window.specs.Row.{AreOver, holds_at, number_lt};
 ghost use Rattle.urb_names.specs.Ordered.{placed};
 
 use std::alloc::{AllocFailed, Allocator};

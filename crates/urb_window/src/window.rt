@@ -108,8 +108,10 @@ impl<T, A: Allocator + Copy> Window<T, A> {
         if index < self.low.len() {
             return Some((index as u32 + 1, &self.low[index]));
         }
-        let pair = self.above.get(index - self.low.len())?;
-        Some((pair.0, &pair.1))
+        match self.above.get(index - self.low.len()) {
+            Some(pair) => Some((pair.0, &pair.1)),
+            None => None,
+        }
     }
 
     // The first number over this one.
@@ -119,14 +121,19 @@ impl<T, A: Allocator + Copy> Window<T, A> {
         if (number as usize) < self.low.len() {
             return Some(number + 1);
         }
-        let next = number.checked_add(1)?;
-        let pair = self.above.get(place_of(&self.above, next))?;
-        Some(pair.0)
+        if number == u32::MAX {
+            return None;
+        }
+        match self.above.get(place_of(&self.above, number + 1)) {
+            Some(pair) => Some(pair.0),
+            None => None,
+        }
     }
 
     // Puts another value under a number that has one, and gives the old one back.
     pub(crate) fn replace(&mut self, number: u32, value: T) -> T
-        requires { IsSome (numbered (pairs_of self.old) number) }
+        requires from { 0 < number }
+        requires present { IsSome (numbered (pairs_of self.old) number) }
         ensures old { numbered (pairs_of self.old) number ≡ Some result }
         ensures new { IsReplaced self.old number value self.new }
     {
@@ -143,7 +150,7 @@ impl<T, A: Allocator + Copy> Window<T, A> {
         ensures ok { OnOk result (self.new ≡ record self.old { reserved = Some number }) }
         ensures err { OnErr result (self.new ≡ self.old) }
     {
-        if is_next(&self.low, number) {
+        if is_next(self.low.len(), number) {
             self.low.reserve(self.above.len() + 1)?;
         } else {
             self.above.reserve(1)?;
@@ -160,21 +167,23 @@ impl<T, A: Allocator + Copy> Window<T, A> {
         ensures err { IfErr result (λ v. (v ≡ value) × (self.new ≡ self.old)) }
         ensures reserved { self.old.reserved ≡ Some number → IsOk result }
     {
-        if is_next(&self.low, number) {
+        if is_next(self.low.len(), number) {
             extend(&mut self.low, &mut self.above, value)?;
-        } else {
-            put_above(&mut self.above, number, value)?;
+            self.reserved = None;
+            return Ok(());
         }
+        put_above(&mut self.above, number, value)?;
         self.reserved = None;
         Ok(())
     }
 }
 
 // Whether a number is the next one behind those without a gap.
-fn is_next<T>(low: &[T], number: u32) -> bool
-    ensures { Decides result (number ≡ length low.now + 1) }
+fn is_next(low: usize, number: u32) -> bool
+    requires { low < 2 ^ 32 }
+    ensures { Decides result (number ≡ low + 1) }
 {
-    number as usize == low.len() + 1
+    number as usize == low + 1
 }
 
 // The value of the next number joins the lower part, and with it those that follow it without a gap.

@@ -5,7 +5,7 @@ ghost use Rattle.urb_names.specs.Names.{name_lt};
 ghost use Rattle.urb_window.specs.Entries.{above_of, low_of, value_of, window_of, with_value};
 ghost use Rattle.urb_window.specs.WindowSet.{IsWindowSet, with_entry};
 
-use crate::rows::{after_in, count_of, entry_of, fill, first_from, index_of};
+use crate::rows::{after_in, count_of, entry_of, fill, first_from, index_of, row_of};
 use crate::window::Window;
 use std::alloc::{Allocator, Global};
 use std::marker::Model;
@@ -52,17 +52,15 @@ impl<T, A: Allocator + Copy> Windows<T, A> {
         let _rows = &self.rows;
     }
 
-    // The row of a sender, where there is one yet.
-    fn row(&self, sender: NodeId) -> Option<&Window<T, A>> {
-        self.rows.get(index_of(sender))
-    }
-
     /// The value under a name.
     pub fn get(&self, name: Name) -> Option<&T>
         ensures { option_map (λ v. v.now) result ≡ value_of self.now.entries name }
     {
         name.limits();
-        self.row(name.sender)?.get(name.seq)
+        match row_of(&self.rows, name.sender) {
+            Some(row) => row.get(name.seq),
+            None => None,
+        }
     }
 
     /// Puts another value under a name that has one, and gives the old one back.
@@ -73,7 +71,9 @@ impl<T, A: Allocator + Copy> Windows<T, A> {
     {
         name.limits();
         let row = &mut self.rows[index_of(name.sender)];
-        row.replace(name.seq, value)
+        let old = row.replace(name.seq, value);
+        row.limits();
+        old
     }
 
     /// Makes room for a value under this name, so that its `insert` takes no memory, also where it closes a gap. The room is kept
@@ -88,6 +88,7 @@ impl<T, A: Allocator + Copy> Windows<T, A> {
         fill(&mut self.rows)?;
         let row = &mut self.rows[index_of(name.sender)];
         row.reserve(name.seq)?;
+        row.limits();
         self.reserved = Some(name);
         Ok(())
     }
@@ -119,7 +120,7 @@ impl<T, A: Allocator + Copy> Windows<T, A> {
     pub fn low(&self, sender: NodeId) -> u32
         ensures { result ≡ low_of sender self.now.entries }
     {
-        match self.row(sender) {
+        match row_of(&self.rows, sender) {
             Some(row) => row.low(),
             None => 0,
         }
@@ -129,7 +130,7 @@ impl<T, A: Allocator + Copy> Windows<T, A> {
     pub fn window(&self, sender: NodeId) -> &[T]
         ensures { result.now ≡ window_of sender self.now.entries }
     {
-        match self.row(sender) {
+        match row_of(&self.rows, sender) {
             Some(row) => row.window(),
             None => &[],
         }
@@ -139,7 +140,7 @@ impl<T, A: Allocator + Copy> Windows<T, A> {
     pub fn above(&self, sender: NodeId) -> u32
         ensures { result ≡ above_of sender self.now.entries }
     {
-        match self.row(sender) {
+        match row_of(&self.rows, sender) {
             Some(row) => row.above(),
             None => 0,
         }
