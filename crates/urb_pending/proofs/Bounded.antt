@@ -1,16 +1,14 @@
 -- How many pairs there can be.
-use Rattle.std.proofs.Common.{◌≡◌, ℕ, suc, ◌+◌, ◌*◌, ◌<◌, ◌≤◌, Bool, true, false, cond, ◌&&◌, ◌==◌, List, [], ◌∷◌, length, ⊎_elim, arith, eqb-true, ltb-true, nat_lt, count_by, Fits, w32}
+use Rattle.std.proofs.Common.{◌≡◌, ℕ, suc, ◌+◌, ◌*◌, ◌<◌, ◌≤◌, true, ◌&&◌, ◌==◌, List, [], ◌∷◌, length, ⊎_elim, arith, eqb-true, ltb-true, nat_lt, Fits, w32}
 use Rattle.std.specs.Prelude.{nat_le}
 use Rattle.std.specs.List.{list_all}
 use Rattle.std.proofs.Math.Nat.{suc-mul, mul-le-mul_right}
 use Rattle.std.proofs.lemmas.Nat.{mul-le}
 use Rattle.std.proofs.lemmas.Bool.{and_parts, or_cases, leb-true}
-use Rattle.std.proofs.lemmas.List.Sums.{count_by-le-length}
 use Rattle.urb_names.specs.Cyclic.{are_rising}
 use Rattle.urb_names.specs.Naming.{Limits, Label, Content}
 use Rattle.urb_names.specs.Nodes.{is_node}
 use Rattle.urb_names.specs.Names.{name_lt}
-use Rattle.urb_names.specs.Pairs.{own}
 use Rattle.urb_pending.specs.PendingSet.{PendingSet, IsPendingSet, is_within}
 
 -- a name within the limits
@@ -79,11 +77,3 @@ pub length_fits : (set : PendingSet) → IsPendingSet set → Fits w32 (length s
 length_fits set h =
     let most : set.limits.n * set.limits.cap ≤ 7 * 1000000 = mul-le set.limits.n set.limits.cap 7 1000000 h.limits.1 h.limits.3 in
     omega (arith, length_bounded set h, most)
-
--- the node's own messages are no more than cap
-pub own_fits : (set : PendingSet) → IsPendingSet set → Fits w32 (length (own set.node set.pairs))
-own_fits set h = omega (arith, h.capped, h.limits.3)
-
--- a client's are no more than that
-pub clients_fit : (set : PendingSet) (client : ℕ) → IsPendingSet set → Fits w32 (count_by (λ m. m.client == client) (own set.node set.pairs) + 1)
-clients_fit set client h = omega (arith, h.capped, count_by-le-length (λ m. m.client == client) (own set.node set.pairs), h.limits.3)

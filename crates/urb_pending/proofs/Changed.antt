@@ -1,5 +1,5 @@
 -- What rows tell once one client's row is another.
-use Rattle.std.proofs.Common.{◌≡◌, ℕ, zero, suc, ◌<◌, Bool, true, false, cond, ◌==◌, List, [], ◌∷◌, ◌++◌, length, get_or, insert, None, Some, Option, slice_get, slice_set, refl, sym, ap, ◌∙◌, is_some, eq-eqb, eqb-true}
+use Rattle.std.proofs.Common.{◌≡◌, ℕ, ◌<◌, Bool, true, false, cond, ◌==◌, List, [], ◌∷◌, ◌++◌, length, get_or, insert, None, Some, Option, slice_get, refl, sym, ap, ◌∙◌, is_some, eq-eqb, eqb-true}
 use Rattle.std.proofs.lemmas.Bool.{false≢true}
 use Rattle.urb_names.specs.Ordered.{placed}
 use Rattle.urb_pending.specs.Rows.{Row, row_lt, row_of, are_in_order}
@@ -54,12 +54,6 @@ pub row_read : (client : ℕ) (rows : List Row) (row here : Row) (i : ℕ) → I
 row_read client rows row here i h place read =
     let found = get_at rows i here row (ap (slice_get rows) place ∙ h.at) in
     (found.0, read ∙ found.1)
-
--- the same put in its place changes nothing
-pub set_same : {X : Type 0} (xs : List X) (i : ℕ) (x : X) → slice_get xs i ≡ Some x → slice_set xs i x ≡ xs
-set_same [] i x e = absurd cc
-set_same (y ∷ ys) zero x e = let same : y ≡ x = cc in ap (λ z. z ∷ ys) (sym same)
-set_same (y ∷ ys) (suc i) x e = ap (λ zs. y ∷ zs) (set_same ys i x e)
 
 pub row_within : (client : ℕ) (rows : List Row) (row : Row) (i : ℕ) → IsHeld client rows row → i ≡ place_in client rows → i < length rows
 row_within client rows row i h place = (get_at rows i row row (ap (slice_get rows) place ∙ h.at)).0

@@ -1,5 +1,5 @@
 -- The index of own messages by client, with one message more.
-use Rattle.std.proofs.Common.{◌≡◌, ℕ, zero, suc, ◌+◌, Bool, true, false, cond, not, ◌&&◌, ◌==◌, List, [], ◌∷◌, ◌++◌, length, count_by, find, None, Some, Option, slice_get, refl, sym, ap, ◌∙◌, subst, inl, inr, ◌⊎◌, arith, eq-eqb, eqb-true, ne_eqb}
+use Rattle.std.proofs.Common.{◌≡◌, ℕ, zero, suc, ◌+◌, Bool, true, false, cond, not, ◌&&◌, ◌==◌, List, [], ◌∷◌, ◌++◌, length, count_by, find, None, Some, Option, slice_get, refl, sym, ap, ◌∙◌, arith, eq-eqb, eqb-true, ne_eqb}
 use Rattle.std.proofs.lemmas.Bool.{eqb-false}
 use Rattle.std.specs.Prelude.{option_map}
 use Rattle.std.specs.List.{position_or_len}
@@ -7,12 +7,9 @@ use Rattle.std.specs.Option.{option_or}
 use Rattle.std.proofs.lemmas.List.{length-append}
 use Rattle.std.proofs.lemmas.List.Sums.{sum_by-append}
 use Rattle.urb_names.specs.Naming.{Content}
-use Rattle.urb_names.specs.Names.{name}
 use Rattle.urb_names.specs.Pairs.{is_numbered, next_number}
-use Rattle.urb_pending.specs.PendingSet.{name_given}
-use Rattle.urb_pending.specs.Rows.{Row, row_of}
-use Rattle.urb_pending.specs.ClientIndex.{IsIndexOf, given_to, has_room, numbers_in, is_roomy, nth, place_given}
-use Rattle.urb_pending.proofs.Rows.{with_row}
+use Rattle.urb_pending.specs.Rows.{Row}
+use Rattle.urb_pending.specs.ClientIndex.{IsIndexOf, given_to, nth, place_given}
 
 -- the place, from 1, of the first that passes
 abbrev first_place : (Content → Bool) → List Content → Option ℕ
@@ -143,19 +140,3 @@ index_same ms rows new h given = record {
   counts = λ c. ap length (given c) ∙ h.counts c;
   finds = λ c number. h.finds c number ∙ ap (λ numbers. nth numbers number) (sym (given c));
 }
-
--- no message, no row
-pub index_empty : IsIndexOf [] []
-index_empty = record { counts = λ c. refl; finds = λ c number. at number }
-  where
-    at : (number : ℕ) → None ≡ nth [] number
-    at zero = refl
-    at (suc n) = refl
-
--- the name of a message is told by its number in the index
-pub find_given : (node client number : ℕ) (ms : List Content) (rows : List Row) → IsIndexOf ms rows → option_map (name node) (nth (given_to client rows) number) ≡ name_given node client number ms
-find_given node client number ms rows h = ap (option_map (name node)) (sym (h.finds client number)) ∙ at (find (is_numbered client number) ms)
-  where
-    at : (found : Option Content) → option_map (name node) (option_map (λ m. suc (position_or_len (is_numbered client number) ms)) found) ≡ option_map (λ m. name node (suc (position_or_len (is_numbered client number) ms))) found
-    at None = refl
-    at (Some m) = refl

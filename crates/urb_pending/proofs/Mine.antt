@@ -1,19 +1,16 @@
 -- A sender's own pairs among pairs in order.
-use Rattle.std.proofs.Common.{◌≡◌, ℕ, zero, suc, ◌+◌, ◌<◌, ◌≤◌, Bool, true, false, cond, not, ◌&&◌, ◌==◌, List, [], ◌∷◌, ◌++◌, map, filter, length, count_by, None, Some, refl, sym, ap, ◌∙◌, subst, arith, eq-eqb, lt-ltb, nat_lt}
-use Rattle.std.specs.Prelude.{find, option_map}
-use Rattle.std.specs.List.{list_all, position_or_len}
+use Rattle.std.proofs.Common.{◌≡◌, ℕ, zero, suc, ◌+◌, ◌<◌, ◌≤◌, Bool, true, false, cond, ◌&&◌, ◌==◌, List, [], ◌∷◌, ◌++◌, map, filter, length, None, Some, refl, sym, ap, ◌∙◌, subst, arith, eq-eqb, lt-ltb, nat_lt}
+use Rattle.std.specs.List.{list_all}
 use Rattle.std.proofs.lemmas.Bool.{and_parts, and_from, false≢true, cond-true, cond-false, or_right}
-use Rattle.std.proofs.lemmas.List.{map-append, length-map}
-use Rattle.std.proofs.lemmas.List.Sums.{length-filter, sum_by-cons}
+use Rattle.std.proofs.lemmas.List.{map-append}
 use Rattle.std.proofs.lemmas.List.Folds.{list_all-map}
 use Rattle.urb_names.specs.Naming.{Label, Content}
 use Rattle.urb_names.specs.Nodes.{numbers_from}
 use Rattle.urb_names.specs.Names.{name, names, name_lt, same_name}
 use Rattle.urb_names.specs.Release.{part_of}
-use Rattle.urb_names.specs.Pairs.{own, message_of, is_numbered}
+use Rattle.urb_names.specs.Pairs.{own, message_of}
 use Rattle.urb_names.specs.Cyclic.{are_rising, inserted}
 use Rattle.urb_names.proofs.SameNames.{same_name-true}
-use Rattle.urb_pending.specs.PendingSet.{name_given}
 use Rattle.urb_names.proofs.RisingPairs.{name_lt-trans}
 use Rattle.urb_pending.proofs.Ordered.{not_before_itself}
 
@@ -41,10 +38,6 @@ part_mine s (p ∷ ps) = step (part_mine s ps) (p.0.sender == s)
         → cond b (p.0 ∷ part_of s (map (λ pair. pair.0) ps)) (part_of s (map (λ pair. pair.0) ps)) ≡ map (λ pair. pair.0) (cond b (p ∷ mine s ps) (mine s ps))
     step ih true = ap (λ xs. p.0 ∷ xs) ih
     step ih false = ih
-
--- how many are the sender's
-pub length-own : (s : ℕ) (ps : List (Label × Content)) → length (own s ps) ≡ count_by (is_of s) ps
-length-own s ps = ap length (own_mine s ps) ∙ (length-map (mine s ps) (λ (pair : Label × Content). pair.1) ∙ length-filter (is_of s) ps)
 
 -- another sender's pair is none of them
 pub mine_other : (s : ℕ) (p : Label × Content) (ps : List (Label × Content)) → is_of s p ≡ false → mine s (inserted p ps) ≡ mine s ps

@@ -1,10 +1,10 @@
 -- Rows in order of client: what halving finds, and one row more or changed.
-use Rattle.std.proofs.Common.{◌≡◌, ℕ, zero, suc, ◌+◌, ◌<◌, ◌≤◌, Bool, true, false, cond, ◌&&◌, ◌||◌, ◌==◌, List, [], ◌∷◌, length, get_or, insert, None, Some, Option, find, is_some, slice_get, slice_set, refl, sym, ap, ◌∙◌, subst, inl, inr, ◌⊎◌, arith, nat_lt, eq-eqb, eqb-true, ne_eqb, lt-ltb, ltb-true, ltb-false}
+use Rattle.std.proofs.Common.{◌≡◌, ℕ, zero, suc, ◌+◌, ◌<◌, ◌≤◌, Bool, true, false, cond, ◌||◌, ◌==◌, List, [], ◌∷◌, length, get_or, None, Some, Option, is_some, slice_get, slice_set, refl, sym, ap, ◌∙◌, subst, inl, inr, ◌⊎◌, arith, nat_lt, eq-eqb, eqb-true, ne_eqb, lt-ltb, ltb-true}
 use Rattle.std.specs.List.{list_all, list_any, prefix_len}
 use Rattle.std.specs.List.Sorted.{IsPartitionedBy, IsPartitionPoint}
-use Rattle.std.proofs.lemmas.Bool.{and_from, and_parts, cases_order, eqb-false, false≢true, or_from}
+use Rattle.std.proofs.lemmas.Bool.{and_from, and_parts, cases_order, eqb-false, false≢true}
 use Rattle.urb_names.proofs.Places.{get_none}
-use Rattle.urb_names.specs.Ordered.{is_rising, placed}
+use Rattle.urb_names.specs.Ordered.{placed}
 use Rattle.urb_names.proofs.Ordered.{IsStrictOrder, rising_placed, placed_behind, placed_front}
 use Rattle.urb_pending.specs.Rows.{Row, row_lt, row_of, are_in_order}
 

@@ -1,5 +1,5 @@
 -- Which rows of clients are the index of a node's own messages.
-use Rattle.std.specs.Prelude.{◌≡◌, ℕ, zero, suc, ◌==◌, Bool, true, false, List, [], length, count_by, find, Option, Some, None, option_map, slice_get}
+use Rattle.std.specs.Prelude.{◌≡◌, ℕ, zero, suc, ◌==◌, Bool, false, List, [], length, count_by, find, Option, Some, None, option_map, slice_get}
 use Rattle.std.specs.List.{position_or_len}
 use Rattle.urb_names.specs.Naming.{Content}
 use Rattle.urb_names.specs.Pairs.{is_numbered}

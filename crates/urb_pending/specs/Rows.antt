@@ -1,5 +1,5 @@
 -- What contracts see of a client's row.
-use Rattle.std.specs.Prelude.{ℕ, Bool, List, ◌==◌, nat_lt, Option, Some, None, find}
+use Rattle.std.specs.Prelude.{ℕ, Bool, List, ◌==◌, nat_lt, Option, find}
 use Rattle.urb_names.specs.Ordered.{is_rising}
 
 -- a client, the numbers of the names that the node gave its messages, and whether there is room for one more

@@ -1,5 +1,4 @@
 use Rattle.std.proofs.Common.{rules, sym, ap, ◌∙◌, ◌≡◌, ◌==◌, is_some, le-ltb}
-use Rattle.urb_pending.specs.Rows.{Row, row_of}
 use Rattle.urb_pending.proofs.Rows.{held_or_not, held_past}
 use Rattle.urb_pending.proofs.clients.is_at.Goals as goal
 

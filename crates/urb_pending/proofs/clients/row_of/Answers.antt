@@ -1,6 +1,5 @@
-use Rattle.std.proofs.Common.{rules, sym, ap, ◌∙◌, ◌≡◌, ◌<◌, ◌≤◌, ◌==◌, length, get_or, false, true}
+use Rattle.std.proofs.Common.{rules, sym, ◌≡◌, ◌<◌, ◌≤◌, ◌==◌, length, get_or, false}
 use Rattle.std.proofs.lemmas.Bool.{eqb-false, eqb-true}
-use Rattle.urb_pending.specs.Rows.{row_of, are_in_order}
 use Rattle.urb_pending.proofs.Rows.{held_here, held_not, held_past}
 use Rattle.urb_pending.proofs.clients.row_of.Goals as goal
 

@@ -1,8 +1,8 @@
-use Rattle.std.proofs.Common.{rules, sym, ap, subst, ◌∙◌, ◌≡◌, ◌<◌, ◌==◌, length, true, List, ◌++◌, ◌∷◌, []}
-use Rattle.urb_pending.specs.Rows.{Row, row_of, are_in_order}
-use Rattle.urb_pending.specs.ClientIndex.{given_to, has_room, numbers_in}
-use Rattle.urb_pending.proofs.Rows.{IsHeld, order_changed, place_in, row_changed}
-use Rattle.urb_pending.proofs.Changed.{HasRoom, given_pushed, roomy_row, row_read, row_within}
+use Rattle.std.proofs.Common.{rules, sym, ap, ◌∙◌, ◌≡◌, ◌<◌, length, true, ◌++◌, ◌∷◌, []}
+use Rattle.urb_pending.specs.Rows.{Row}
+use Rattle.urb_pending.specs.ClientIndex.{has_room, numbers_in}
+use Rattle.urb_pending.proofs.Rows.{order_changed, place_in, row_changed}
+use Rattle.urb_pending.proofs.Changed.{given_pushed, roomy_row, row_read, row_within}
 use Rattle.urb_pending.proofs.clients.Clients.add.Goals as goal
 
 pub index_mut-requires : goal.index_mut-requires

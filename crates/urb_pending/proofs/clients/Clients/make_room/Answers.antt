@@ -1,9 +1,8 @@
-use Rattle.std.proofs.Common.{rules, sym, ap, subst, ◌∙◌, ◌≡◌, ◌<◌, ◌==◌, is_some, length, true, false, List, [], insert, IsErr, IsOk}
-use Rattle.urb_names.specs.Ordered.{placed}
-use Rattle.urb_pending.specs.Rows.{Row, row_lt, row_of, are_in_order}
-use Rattle.urb_pending.specs.ClientIndex.{given_to, has_room, numbers_in, is_roomy}
-use Rattle.urb_pending.proofs.Rows.{IsHeld, order_changed, order_placed, place_in, row_changed, row_placed}
-use Rattle.urb_pending.proofs.Changed.{HasRow, given_same, no_row, not_roomy, placed_at, room_kept, room_made, row_read, row_there, row_within}
+use Rattle.std.proofs.Common.{rules, sym, ap, subst, ◌∙◌, ◌≡◌, ◌<◌, length, true, insert}
+use Rattle.urb_pending.specs.Rows.{Row, row_of, are_in_order}
+use Rattle.urb_pending.specs.ClientIndex.{has_room, numbers_in, is_roomy}
+use Rattle.urb_pending.proofs.Rows.{order_changed, order_placed, place_in, row_changed, row_placed}
+use Rattle.urb_pending.proofs.Changed.{given_same, no_row, not_roomy, placed_at, room_kept, room_made, row_read, row_there, row_within}
 use Rattle.urb_pending.proofs.clients.Clients.make_room.Goals as goal
 
 pub index_mut-requires : goal.index_mut-requires

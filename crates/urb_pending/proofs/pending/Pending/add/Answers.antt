@@ -1,4 +1,4 @@
-use Rattle.std.proofs.Common.{rules, sym, ap, ◌∙◌, ◌≡◌, ◌==◌, refl}
+use Rattle.std.proofs.Common.{rules, ap, ◌∙◌, ◌≡◌, ◌==◌, refl}
 use Rattle.urb_names.specs.Naming.{Label}
 use Rattle.urb_names.specs.Ordered.{placed}
 use Rattle.urb_window.specs.Entries.{entry_lt}

@@ -1,6 +1,5 @@
-use Rattle.std.proofs.Common.{rules, sym, ap, ◌∙◌, ◌≡◌, None, Some}
+use Rattle.std.proofs.Common.{◌∙◌, ◌≡◌, None, Some}
 use Rattle.urb_names.specs.Names.{same_message}
-use Rattle.urb_window.specs.Entries.{value_of}
 use Rattle.urb_pending.proofs.Looked.{found_is, told_same}
 use Rattle.urb_pending.proofs.pending.Pending.has.Goals as goal
 

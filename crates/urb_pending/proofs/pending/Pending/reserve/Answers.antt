@@ -1,4 +1,3 @@
-use Rattle.std.proofs.Common.{rules, ◌≡◌}
 use Rattle.urb_pending.proofs.Indexed.{roomier, roomier_same}
 use Rattle.urb_pending.proofs.pending.Pending.reserve.Goals as goal
 
