@@ -62,9 +62,9 @@ acks_ordered = record { transitive = ack_lt-trans; one_way = ack_lt-one_way }
 -- where only the capacities grew
 pub kept_bigger : {A : Type 0} (a b : Inside A) → b.reserved ≡ a.reserved
     → b.counted.items ≡ a.counted.items → vec_len b.counted ≡ vec_len a.counted → vec_capacity a.counted ≤ vec_capacity b.counted
-    → b.certified.items ≡ a.certified.items → vec_len b.certified ≡ vec_len a.certified → vec_capacity a.certified ≤ vec_capacity b.certified
+    → b.certified.names ≡ a.certified.names → (a.certified.room ≡ true → b.certified.room ≡ true)
     → IsKept a → IsKept b
-kept_bigger a b reserved counted counted_len counted_room certified certified_len certified_room kept = record {
+kept_bigger a b reserved counted counted_len counted_room certified certified_room kept = record {
   order = record {
     counted = subst (λ (xs : List (Label × ℕ)). IsTrue (is_rising ack_lt xs)) (sym counted) kept.order.counted;
     certified = subst (λ (xs : List Label). IsTrue (is_rising name_lt xs)) (sym certified) kept.order.certified;
@@ -74,7 +74,7 @@ kept_bigger a b reserved counted counted_len counted_room certified certified_le
       let count : count_by (acked b.counted.items x) (nodes 7) ≡ count_by (acked a.counted.items x) (nodes 7) = ap (λ (xs : List (Label × ℕ)). count_by (acked xs x) (nodes 7)) counted in
       record {
         counted = omega (arith, room.counted);
-        certified = λ none. let old : vec_len a.certified < vec_capacity a.certified = room.certified (ap (λ (xs : List Label). has_name xs x) (sym certified) ∙ none) in omega arith;
+        certified = λ none. certified_room (room.certified (ap (λ (xs : List Label). has_name xs x) (sym certified) ∙ none));
       };
 }
 
@@ -87,7 +87,7 @@ pub kept_noted : {A : Type 0} (a b : Inside A) (x : Label) (q : ℕ) → 0 < q �
 kept_noted a b x q above within none reserved counted len capacity certified kept = record {
   order = record {
     counted = ap (is_rising ack_lt) counted ∙ rising_placed ack_lt same_ack acks_ordered a.counted.items (x, q) none kept.order.counted;
-    certified = subst (λ v. IsTrue (is_rising name_lt v.items)) (sym certified) kept.order.certified;
+    certified = subst (λ v. IsTrue (is_rising name_lt v.names)) (sym certified) kept.order.certified;
   };
   room = λ y e.
       let parts = reserved_for-some a.reserved x y (sym reserved ∙ e) in
@@ -98,26 +98,26 @@ kept_noted a b x q above within none reserved counted len capacity certified kep
       ∙ count_with a.counted.items x q 7 above within none) in
       subst (HasRoom b) parts.1 (record {
         counted = omega (arith, room.counted);
-        certified = subst (λ v. has_name v.items x ≡ false → vec_len v < vec_capacity v) (sym certified) room.certified;
+        certified = subst (λ v. has_name v.names x ≡ false → v.room ≡ true) (sym certified) room.certified;
       });
 }
 
 -- where one more name is certified
-pub kept_certified : {A : Type 0} (a b : Inside A) (x : Label) → has_name a.certified.items x ≡ false
+pub kept_certified : {A : Type 0} (a b : Inside A) (x : Label) → has_name a.certified.names x ≡ false
     → b.reserved ≡ reserved_for a.reserved x
-    → b.certified.items ≡ placed name_lt a.certified.items x
+    → b.certified.names ≡ placed name_lt a.certified.names x
     → b.counted ≡ a.counted
     → IsKept a → IsKept b
 kept_certified a b x none reserved certified counted kept = record {
   order = record {
     counted = subst (λ v. IsTrue (is_rising ack_lt v.items)) (sym counted) kept.order.counted;
-    certified = ap (is_rising name_lt) certified ∙ rising_placed name_lt same_name names_ordered a.certified.items x none kept.order.certified;
+    certified = ap (is_rising name_lt) certified ∙ rising_placed name_lt same_name names_ordered a.certified.names x none kept.order.certified;
   };
   room = λ y e.
       let parts = reserved_for-some a.reserved x y (sym reserved ∙ e) in
       let room : HasRoom a x = kept.room x (subst (λ (z : Label). a.reserved ≡ Some z) (sym parts.1) parts.0) in
-      let there : has_name b.certified.items x ≡ true =
-      ap (λ (xs : List Label). has_name xs x) certified ∙ (any_insert (λ z. same_name z x) a.certified.items _ x ∙ or_left (same_name x x) (has_name a.certified.items x) (same_name-same x)) in
+      let there : has_name b.certified.names x ≡ true =
+      ap (λ (xs : List Label). has_name xs x) certified ∙ (any_insert (λ z. same_name z x) a.certified.names _ x ∙ or_left (same_name x x) (has_name a.certified.names x) (same_name-same x)) in
       subst (HasRoom b) parts.1 (record {
         counted = subst (λ v. vec_len v + 7 ≤ vec_capacity v + count_by (acked v.items x) (nodes 7)) (sym counted) room.counted;
         certified = λ gone. absurd (false≢true (sym gone ∙ there));

@@ -2,7 +2,7 @@
 
 ghost use Rattle.std.specs.Prelude.{◌≡◌, ◌<◌, ◌≤◌, ◌&&◌, ◌==◌, true, [], None, Some, IsOk, IfOk, OnOk, OnErr, count_by, length};
 ghost use Rattle.std.specs.List.{prefix_len};
-ghost use Rattle.urb_names.specs.Names.{has_name, name_lt, same_name};
+ghost use Rattle.urb_names.specs.Names.{has_name, same_name};
 ghost use Rattle.urb_names.specs.Nodes.{nodes};
 ghost use Rattle.urb_names.specs.Acknowledged.{acked};
 ghost use Rattle.urb_names.specs.Ordered.{reserved_for};
@@ -11,6 +11,7 @@ ghost use Rattle.urb_majority.specs.Counting.{answer_of, certifying, counting, h
 
 use std::alloc::{Allocator, Global};
 use std::marker::Model;
+use urb_certified::Certified;
 use urb_names::{Config, Name, NoMemory, NodeId, is_majority};
 
 // The greatest number of nodes that there may be.
@@ -34,7 +35,7 @@ pub enum Noted {
 pub struct Acks<A: Allocator = Global> {
     config: Config,
     counted: Vec<(Name, NodeId), A>,
-    certified: Vec<Name, A>,
+    certified: Certified<A>,
     reserved: Option<Name>,
 }
 
@@ -50,27 +51,10 @@ impl<A: Allocator> Model for Acks<A> {
     ghost invariant = { IsKept };
 }
 
-fn precedes(first: &Name, second: Name) -> bool
-    ensures { result ≡ name_lt first.now second }
-{
-    *first < second
-}
-
 fn ack_precedes(first: &(Name, NodeId), name: Name, node: NodeId) -> bool
     ensures { result ≡ ack_lt first.now (name, node) }
 {
     first.0 < name || (first.0 == name && first.1 < node)
-}
-
-// Where a name stands among names in order, or would stand.
-fn place_of(names: &[Name], name: Name) -> usize
-    ensures place { result ≡ prefix_len (λ other. name_lt other name) names.now }
-    ensures within { result ≤ length names.now }
-{
-    names
-        .iter()
-        .take_while(|other| precedes(other, name))
-        .count()
 }
 
 // Where an acknowledgement stands among those in order, or would stand.
@@ -131,7 +115,7 @@ impl<A: Allocator + Copy> Acks<A> {
         Acks {
             config,
             counted: Vec::new(alloc),
-            certified: Vec::new(alloc),
+            certified: Certified::new(alloc),
             reserved: None,
         }
     }
@@ -197,7 +181,7 @@ impl<A: Allocator + Copy> Acks<A> {
         ensures err { OnErr result (self.new ≡ self.old) }
     {
         self.counted.reserve(MOST_NODES)?;
-        self.certified.reserve(1)?;
+        self.certified.make_room()?;
         self.reserved = Some(name);
         Ok(())
     }
@@ -226,7 +210,7 @@ impl<A: Allocator + Copy> Acks<A> {
     pub fn certified(&self, name: Name) -> bool
         ensures { result ≡ has_name self.now.certified name }
     {
-        self.certified.contains(&name)
+        self.certified.has(name)
     }
 
     /// Certifies a name, once its certificate is stored. `NoMemory` means that a growth was refused: the call may be made again.
@@ -240,8 +224,7 @@ impl<A: Allocator + Copy> Acks<A> {
         if self.certified(name) {
             return Ok(());
         }
-        let at = place_of(&self.certified, name);
-        self.certified.insert(at, name)?;
+        self.certified.add(name)?;
         self.reserved = reserved_for(self.reserved, name);
         Ok(())
     }

@@ -1,4 +1,4 @@
-use Rattle.std.proofs.Common.{arith, rules, refl, ap, ◌∙◌, ◌≡◌, ◌<◌, false, Some, vec_len, vec_capacity}
+use Rattle.std.proofs.Common.{rules, refl, ap, ◌∙◌, ◌≡◌, ◌<◌, false, Some, vec_len, vec_capacity}
 use Rattle.urb_names.specs.Acknowledged.{acked}
 use Rattle.urb_names.specs.Ordered.{placed}
 use Rattle.urb_majority.specs.Acks.{AckSet, ack_lt}
@@ -9,7 +9,7 @@ use Rattle.urb_majority.proofs.acks.Acks.note.Goals as goal
 pub invariant_of-self : goal.invariant_of-self
 invariant_of-self g c =
     let grown = c.in_err-insert.ensures in
-    kept_bigger c.self.inside _ refl grown.items grown.len grown.capacity refl refl (omega arith) c.self.invariant
+    kept_bigger c.self.inside _ refl grown.items grown.len grown.capacity refl (λ room. room) c.self.invariant
 
 pub returns-in_err-insert-clause-roomy : goal.returns-in_err-insert-clause-roomy
 returns-in_err-insert-clause-roomy g c =
