@@ -1,20 +1,21 @@
 //! The acknowledgements counted for each name, and the certified names.
 
-ghost use Rattle.std.specs.Prelude.{◌≡◌, ◌<◌, ◌≤◌, ◌&&◌, ◌==◌, true, [], None, Some, IsOk, IfOk, OnOk, OnErr, count_by, length};
-ghost use Rattle.std.specs.List.{prefix_len};
-ghost use Rattle.urb_names.specs.Names.{has_name, name_lt, same_name};
+ghost use Rattle.std.specs.Prelude.{◌≡◌, ◌<◌, ◌≤◌, true, false, [], None, Some, IsOk, IfOk, OnOk, OnErr, count_by, is_some};
+ghost use Rattle.urb_names.specs.Names.{has_name};
 ghost use Rattle.urb_names.specs.Nodes.{nodes};
 ghost use Rattle.urb_names.specs.Acknowledged.{acked};
-ghost use Rattle.urb_names.specs.Ordered.{reserved_for};
+ghost use Rattle.urb_names.specs.Ordered.{placed, reserved_for};
+ghost use Rattle.urb_window.specs.Entries.{value_of};
 ghost use Rattle.urb_majority.specs.Acks.{ack_lt, IsAckSet};
 ghost use Rattle.urb_majority.specs.Counting.{answer_of, certifying, counting, has_majority, has_majority_with};
+ghost use Rattle.urb_majority.specs.Masks.{acks_in, mask_of};
 
+use crate::mask::{bits_up_to, has_bit, with_bit};
 use std::alloc::{Allocator, Global};
 use std::marker::Model;
+use urb_certified::Certified;
 use urb_names::{Config, Name, NoMemory, NodeId, is_majority};
-
-// The greatest number of nodes that there may be.
-const MOST_NODES: usize = 7;
+use urb_window::Windows;
 
 /// What an acknowledgement does.
 #[derive(Clone, Copy, Debug, PartialEq, Eq)]
@@ -33,8 +34,8 @@ pub enum Noted {
 #[derive_where(Debug)]
 pub struct Acks<A: Allocator = Global> {
     config: Config,
-    counted: Vec<(Name, NodeId), A>,
-    certified: Vec<Name, A>,
+    counted: Windows<u8, A>,
+    certified: Certified<A>,
     reserved: Option<Name>,
 }
 
@@ -50,67 +51,70 @@ impl<A: Allocator> Model for Acks<A> {
     ghost invariant = { IsKept };
 }
 
-fn precedes(first: &Name, second: Name) -> bool
-    ensures { result ≡ name_lt first.now second }
+// The mask under a name, and 0 where it has none.
+fn mask_of<A: Allocator + Copy>(masks: &Windows<u8, A>, name: Name) -> u8
+    ensures { result ≡ mask_of masks.now.entries name }
 {
-    *first < second
+    match masks.get(name) {
+        Some(mask) => *mask,
+        None => 0,
+    }
 }
 
-fn ack_precedes(first: &(Name, NodeId), name: Name, node: NodeId) -> bool
-    ensures { result ≡ ack_lt first.now (name, node) }
+// Whether there is a mask under a name.
+fn has_mask<A: Allocator + Copy>(masks: &Windows<u8, A>, name: Name) -> bool
+    ensures { result ≡ is_some (value_of masks.now.entries name) }
 {
-    first.0 < name || (first.0 == name && first.1 < node)
+    masks.get(name).is_some()
 }
 
-// Where a name stands among names in order, or would stand.
-fn place_of(names: &[Name], name: Name) -> usize
-    ensures place { result ≡ prefix_len (λ other. name_lt other name) names.now }
-    ensures within { result ≤ length names.now }
-{
-    names
-        .iter()
-        .take_while(|other| precedes(other, name))
-        .count()
-}
-
-// Where an acknowledgement stands among those in order, or would stand.
-fn ack_place_of(counted: &[(Name, NodeId)], name: Name, node: NodeId) -> usize
-    ensures place { result ≡ prefix_len (λ ack. ack_lt ack (name, node)) counted.now }
-    ensures within { result ≤ length counted.now }
-{
-    counted
-        .iter()
-        .take_while(|ack| ack_precedes(ack, name, node))
-        .count()
-}
-
-fn is_ack(ack: &(Name, NodeId), name: Name, number: u8) -> bool
-    ensures { result ≡ (same_name ack.now.0 name && (ack.now.1 == number)) }
-{
-    ack.0 == name && ack.1.number() == number
-}
-
+#[tactic(auto, using(crate::proofs::Flattened::acked_bit))]
 // Whether the node with this number is counted for a name.
-fn is_counted(counted: &[(Name, NodeId)], name: Name, number: u8) -> bool
-    ensures { result ≡ acked counted.now name number }
+fn is_counted<A: Allocator + Copy>(masks: &Windows<u8, A>, name: Name, number: u8) -> bool
+    requires { (0 < number) × (number ≤ 7) }
+    ensures { result ≡ acked (acks_in masks.now.entries) name number }
 {
-    counted.iter().any(|ack| is_ack(ack, name, number))
+    masks.limits();
+    has_bit(mask_of(masks, name), number)
 }
 
 // How many of n nodes are counted for a name.
-#[tactic(auto, using(crate::proofs::Counts::count_of_next, crate::proofs::Counts::count_of_none))]
-fn count_of(counted: &[(Name, NodeId)], name: Name, n: u8) -> u8
+fn count_of<A: Allocator + Copy>(masks: &Windows<u8, A>, name: Name, n: u8) -> u8
     requires { n ≤ 7 }
-    ensures count { result ≡ count_by (acked counted.now name) (nodes n) }
+    ensures count { result ≡ count_by (acked (acks_in masks.now.entries) name) (nodes n) }
     ensures most { result ≤ n }
 {
-    let mut count = 0;
-    for number in 1..=n {
-        if is_counted(counted, name, number) {
-            count += 1;
-        }
+    masks.limits();
+    bits_up_to(mask_of(masks, name), n)
+}
+
+// Counts the node with this number for a name, for which it was not counted.
+fn count<A: Allocator + Copy>(
+    masks: &mut Windows<u8, A>,
+    name: Name,
+    number: u8,
+) -> Result<(), NoMemory>
+    requires range { (0 < number) × (number ≤ 7) }
+    requires new { acked (acks_in masks.old.entries) name number ≡ false }
+    ensures ok { OnOk result (acks_in masks.new.entries ≡ placed ack_lt (acks_in masks.old.entries) (name, number)) }
+    ensures there { OnOk result (is_some (value_of masks.new.entries name) ≡ true) }
+    ensures err { OnErr result (masks.new ≡ masks.old) }
+    ensures roomy { (value_of masks.old.entries name ≡ None → masks.old.reserved ≡ Some name) → IsOk result }
+{
+    masks.limits();
+    let mask = with_bit(mask_of(masks, name), number);
+    if has_mask(masks, name) {
+        masks.replace(name, mask);
+        masks.limits();
+        return Ok(());
     }
-    count
+    match masks.insert(name, mask) {
+        Ok(()) => {
+            masks.limits();
+            Ok(())
+        }
+        Err((_, refused)) => Err(refused),
+    }
 }
 
 // What is left of a reservation once a name was added.
@@ -130,8 +134,8 @@ impl<A: Allocator + Copy> Acks<A> {
     {
         Acks {
             config,
-            counted: Vec::new(alloc),
-            certified: Vec::new(alloc),
+            counted: Windows::new(alloc),
+            certified: Certified::new(alloc),
             reserved: None,
         }
     }
@@ -140,7 +144,8 @@ impl<A: Allocator + Copy> Acks<A> {
     pub fn limits(&self)
         ensures { IsAckSet self.now }
     {
-        let _counted = &self.counted;
+        self.counted.limits();
+        self.certified.limits();
     }
 
     /// Whether a node is counted for a name.
@@ -196,8 +201,8 @@ impl<A: Allocator + Copy> Acks<A> {
         ensures ok { OnOk result (self.new ≡ record self.old { reserved = Some name }) }
         ensures err { OnErr result (self.new ≡ self.old) }
     {
-        self.counted.reserve(MOST_NODES)?;
-        self.certified.reserve(1)?;
+        self.certified.make_room()?;
+        self.counted.reserve(name)?;
         self.reserved = Some(name);
         Ok(())
     }
@@ -212,12 +217,12 @@ impl<A: Allocator + Copy> Acks<A> {
         ensures again { acked self.old.counted name node ≡ true → IsOk result }
         ensures roomy { self.old.reserved ≡ Some name → IsOk result }
     {
-        if is_counted(&self.counted, name, node.number()) {
+        let number = node.number();
+        if is_counted(&self.counted, name, number) {
             return Ok(Noted::Again);
         }
         let answer = self.answer(name, node);
-        let at = ack_place_of(&self.counted, name, node);
-        self.counted.insert(at, (name, node))?;
+        count(&mut self.counted, name, number)?;
         self.reserved = reserved_for(self.reserved, name);
         Ok(answer)
     }
@@ -226,7 +231,7 @@ impl<A: Allocator + Copy> Acks<A> {
     pub fn certified(&self, name: Name) -> bool
         ensures { result ≡ has_name self.now.certified name }
     {
-        self.certified.contains(&name)
+        self.certified.has(name)
     }
 
     /// Certifies a name, once its certificate is stored. `NoMemory` means that a growth was refused: the call may be made again.
@@ -240,8 +245,7 @@ impl<A: Allocator + Copy> Acks<A> {
         if self.certified(name) {
             return Ok(());
         }
-        let at = place_of(&self.certified, name);
-        self.certified.insert(at, name)?;
+        self.certified.add(name)?;
         self.reserved = reserved_for(self.reserved, name);
         Ok(())
     }

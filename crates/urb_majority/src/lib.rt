@@ -2,6 +2,7 @@
 #![tactic(auto)]
 
 mod acks;
+mod mask;
 #[cfg(test)]
 mod tests;
 

@@ -1,6 +1,7 @@
 -- From what a node's memory finds out to where its call leads.
 use Rattle.std.proofs.Common.{◌≡◌, suc, true, List, Result, Ok, Err, refl, sym, ap, ◌∙◌, subst}
 use Rattle.std.specs.Prelude.{IfOk, OnOk, OnErr, if◌then◌else◌}
+use Rattle.urb_names.specs.Naming.{Label, Content}
 use Rattle.urb_names.specs.Carried.{Carried}
 use Rattle.urb_names.specs.Cyclic.{are_rising}
 use Rattle.urb_names.specs.declared.refusal.NoMemory.{NoMemory}
@@ -16,6 +17,7 @@ use Rattle.urb_node.specs.Part.{Node, State}
 use Rattle.urb_node.specs.Replies.{Reply, Drafted, Sent, Refused}
 use Rattle.urb_node.specs.Steps.{is_down, is_storing, refuses, resends, ticks}
 use Rattle.urb_node.specs.Values.{Memory, ShowsReady, ready_view, IsSameNode}
+use Rattle.urb_node.specs.Held.{IsHeld}
 use Rattle.urb_node.specs.Outcomes.{Outcome, Answers, Refuses, Wants}
 use Rattle.urb_node.specs.Found.{Finds, IsFoundIn, IsRefusalOf, TakesMemory, step_from}
 use Rattle.urb_node.specs.Moves.{IsRefusedAs, LeadsTo, MayGrow, Ticks}
@@ -92,3 +94,23 @@ tick-leads a old new (Ok packets) rise is sent moved stays = ((refl, refl), show
           subst (λ (after : _). ShowsReady (record a { cursor = after }) (resends a.limits.n a.node node).1) (sym cursor) sends.1,
         )
 tick-leads a old new (Err e) rise is sent moved stays = ap (λ (r : Resending). record a { cursor = r.cursor }) (stays ∙ is)
+
+-- a tick changes the cursor alone
+pub tick_keeps : (old new : Resending) (pairs : List (Label × Content)) (result : Result (List Carried) NoMemory) → OnOk result (new ≡ ticked old pairs) → OnErr result (new ≡ old) → (new.limits ≡ old.limits) × (new.node ≡ old.node)
+tick_keeps old new pairs (Ok packets) moved stays = (ap (λ (r : Resending). r.limits) moved, ap (λ (r : Resending). r.node) moved)
+tick_keeps old new pairs (Err e) moved stays = (ap (λ (r : Resending). r.limits) stays, ap (λ (r : Resending). r.node) stays)
+
+-- so all else is kept
+pub held_after_tick : {A : Type 0} (h : Held A) (new : Resending) → IsHeld h → (new.limits ≡ h.resend.limits) × (new.node ≡ h.resend.node) → IsHeld (record h { resend = new })
+held_after_tick h new k same = record {
+  node = k.node;
+  pending_limits = k.pending_limits;
+  pending_node = k.pending_node;
+  acks_limits = k.acks_limits;
+  fifo_limits = k.fifo_limits;
+  resend_limits = same.0 ∙ k.resend_limits;
+  resend_node = same.1 ∙ k.resend_node;
+  certified = k.certified;
+  pending = k.pending;
+  count = k.count;
+}

@@ -1,5 +1,5 @@
 -- Cyclic order of names: the next one.
-use Rattle.std.proofs.Common.{◌≡◌, Bool, true, false, cond, not, List, [], ◌∷◌, ◌++◌, filter, Some, refl, ◌∙◌}
+use Rattle.std.proofs.Common.{◌≡◌, Bool, true, false, cond, not, List, [], ◌∷◌, ◌++◌, filter, None, Some, refl, ◌∙◌}
 use Rattle.std.specs.Prelude.{find, option_map}
 use Rattle.std.specs.Option.{option_or}
 use Rattle.urb_names.specs.Naming.{Label, Content}
@@ -34,3 +34,8 @@ first_of_rest test (p ∷ ps) = step (test p)
 pub first_cyclic : (cursor : Label) (ps : List (Label × Content)) → option_or (option_map (λ pair. pair.0) (find (λ pair. name_lt cursor pair.0) ps)) (first_name ps) ≡ first_name (cyclic (Some cursor) ps)
 first_cyclic cursor ps =
     first_of_rest (λ pair. name_lt cursor pair.0) ps ∙ first_in_front (λ pair. name_lt cursor pair.0) ps (filter (λ pair. not (name_lt cursor pair.0)) ps)
+
+-- without a cursor the first of all comes first
+pub whole_cycle : (ps : List (Label × Content)) → first_name ps ≡ first_name (cyclic None ps)
+whole_cycle [] = refl
+whole_cycle (p ∷ ps) = refl

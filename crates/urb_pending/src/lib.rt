@@ -2,7 +2,9 @@
 //! section 3.7).
 #![tactic(auto)]
 
+mod clients;
 mod pending;
+mod row;
 #[cfg(test)]
 mod tests;
 

@@ -11,7 +11,7 @@ use urb_refusing::Refusing;
 /// Refuses one growth.
 type Heap<'h> = &'h Refusing<Global>;
 
-const CAP: u32 = 20;
+const CAP: u32 = 40;
 
 fn node(number: u8) -> Result<NodeId, Fail> {
     Ok(NodeId::new(number).ok_or("a node")?)
@@ -230,6 +230,145 @@ fn a_refused_growth_changes_nothing(rt: HostRuntime) -> Result<(), Fail> {
             met = refused;
         }
         assert!(rt; 1 < met && met < 99, "{met} growths");
+    }
+    Ok(())
+}
+
+// What is told of a sender: how far its names go without a gap, how many are behind it, and how many are pending at all.
+fn told<A: Allocator + Copy>(pending: &Pending<A>, sender: NodeId) -> [u32; 3] {
+    [pending.low(sender), pending.above(sender), pending.count()]
+}
+
+#[test]
+fn a_gap_is_told_until_it_closes(rt: HostRuntime) -> Result<(), Fail> {
+    let alloc = rt.alloc();
+    let mut set = Tested::new(alloc, 2)?;
+    let sender = node(1)?;
+    assert_eq!(rt; told(&set.pending, sender), [0, 0, 0]);
+    for (seq, want) in [
+        (1, [1, 0, 1]),
+        (2, [2, 0, 2]),
+        (5, [2, 1, 3]),
+        (3, [3, 1, 4]),
+        (4, [5, 0, 5]),
+    ] {
+        let added = set.add(name(1, seq)?, message(alloc, client(7)?, seq)?)?;
+        assert!(rt; added.is_ok());
+        assert_eq!(rt; told(&set.pending, sender), want, "after {seq}");
+    }
+    assert_eq!(rt; told(&set.pending, node(3)?), [0, 0, 5]);
+    Ok(())
+}
+
+// Whether a window has this many messages, with the client's numbers 1, 2, 3, ..
+fn is_counted<A: Allocator + Copy>(window: &[Message<A>], count: usize) -> bool {
+    let mut next = 1;
+    for message in window {
+        if message.number() != next {
+            return false;
+        }
+        next = next.saturating_add(1);
+    }
+    window.len() == count
+}
+
+#[test]
+fn a_window_fills_in_any_order(rt: HostRuntime) -> Result<(), Fail> {
+    let alloc = rt.alloc();
+    let mut rising = Tested::new(alloc, 1)?;
+    let mut falling = Tested::new(alloc, 1)?;
+    let mut odd_first = Tested::new(alloc, 1)?;
+    let of = client(7)?;
+    for seq in 1..41 {
+        let odd = if seq <= 20 {
+            2 * seq - 1
+        } else {
+            2 * (seq - 20)
+        };
+        assert!(rt; rising.add(name(2, seq)?, message(alloc, of, seq)?)?.is_ok());
+        assert!(rt;
+            falling
+                .add(name(2, 41 - seq)?, message(alloc, of, 41 - seq)?)?
+                .is_ok()
+        );
+        assert!(rt;
+            odd_first
+                .add(name(2, odd)?, message(alloc, of, odd)?)?
+                .is_ok()
+        );
+    }
+    for set in [&rising, &falling, &odd_first] {
+        assert_eq!(rt; told(&set.pending, node(2)?), [40, 0, 40]);
+        assert!(rt; is_counted(set.pending.window(node(2)?), 40));
+        assert!(rt; set.pending.window(node(1)?).is_empty());
+    }
+    Ok(())
+}
+
+// Adds a name, with or without room reserved before. A refusal changes nothing, and the same call goes through.
+fn add_once<'h>(
+    set: &mut Tested<Heap<'h>>,
+    heap: Heap<'h>,
+    reserving: bool,
+    name: Name,
+    sent: Message<Heap<'h>>,
+) -> Result<(), Fail> {
+    let before = told(&set.pending, name.sender);
+    if reserving && set.pending.reserve(name, sent.client()).is_err() {
+        if !heap.met() || told(&set.pending, name.sender) != before {
+            return Err(Fail::from("a refused reservation changed the set"));
+        }
+        set.pending.reserve(name, sent.client())?;
+    }
+    let asked = heap.asked();
+    if let Err((back, NoMemory)) = set.add(name, sent)? {
+        if !heap.met() || told(&set.pending, name.sender) != before {
+            return Err(Fail::from("a refused message changed the set"));
+        }
+        if set.add(name, back)?.is_err() {
+            return Err(Fail::from("the same message was refused again"));
+        }
+    }
+    if reserving && heap.asked() != asked {
+        return Err(Fail::from("a reserved name took memory"));
+    }
+    Ok(())
+}
+
+// Closes the gaps of another node, and numbers messages of three clients; whether a growth was refused.
+fn closes_gaps<'h>(heap: Heap<'h>, messages: Heap<'h>, reserving: bool) -> Result<bool, Fail> {
+    let mut set = Tested::new(heap, 1)?;
+    for seq in [9, 3, 8, 2, 7, 5, 4, 1, 6] {
+        let sent = message(messages, client(7)?, seq)?;
+        add_once(&mut set, heap, reserving, name(2, seq)?, sent)?;
+    }
+    for (seq, of, number) in [(1, 9, 1), (2, 7, 1), (3, 8, 1), (4, 7, 2), (5, 9, 2)] {
+        let sent = message(messages, client(of)?, number)?;
+        add_once(&mut set, heap, reserving, name(1, seq)?, sent)?;
+    }
+    let pending = &set.pending;
+    if told(pending, node(2)?) != [9, 0, 14] || !is_counted(pending.window(node(2)?), 9) {
+        return Err(Fail::from("a name is missing"));
+    }
+    if pending.find(client(7)?, 2) != Some(name(1, 4)?) || pending.client_next(client(9)?) != 3 {
+        return Err(Fail::from("a client's number is missing"));
+    }
+    Ok(heap.met())
+}
+
+#[test]
+fn a_growth_refused_while_a_gap_closes_changes_nothing(rt: HostRuntime) -> Result<(), Fail> {
+    let messages = Refusing::new(rt.alloc(), 0);
+    for reserving in [true, false] {
+        let mut met = 0;
+        for refused in 1..100 {
+            let heap = Refusing::new(rt.alloc(), refused);
+            if !closes_gaps(&heap, &messages, reserving)? {
+                break;
+            }
+            met = refused;
+        }
+        assert!(rt; 5 < met && met < 99, "{met} growths");
     }
     Ok(())
 }

@@ -5,9 +5,14 @@ use Rattle.urb_node.specs.Held.{memory_of}
 use Rattle.urb_node.specs.Moves.{AreOfStored, Ticks}
 use Rattle.urb_node.specs.Part.{Ready}
 use Rattle.urb_node.specs.Values.{Memory, ShowsReady}
-use Rattle.urb_node.proofs.Leads.{tick-leads}
+use Rattle.urb_node.proofs.Leads.{held_after_tick, tick-leads, tick_keeps}
 use Rattle.urb_node.proofs.SentPackets.{tick-from, tick-of_stored}
 use Rattle.urb_node.proofs.ready.Ready.tick.Goals as goal
+
+pub invariant_of-result : goal.invariant_of-result
+invariant_of-result g c =
+    held_after_tick c.self.inside.held c.tick-sent.new.self c.self.invariant
+    (tick_keeps c.self.inside.held.resend c.tick-sent.new.self (memory_of c.self.inside.held).pairs c.tick-sent.result c.tick-sent.ensures.ok c.tick-sent.ensures.err)
 
 pub returns-clause-event : goal.returns-clause-event
 returns-clause-event g c =

@@ -1,0 +1,7 @@
+use Rattle.std.proofs.Common.{subst}
+use Rattle.urb_majority.specs.Acks.{IsAckSet}
+use Rattle.urb_majority.proofs.Flattened.{acks_rise}
+use Rattle.urb_majority.proofs.acks.Acks.limits.Goals as goal
+
+pub returns : goal.returns
+returns g c = subst IsAckSet c.self.view_is (record { counted = acks_rise c.self.inside.counted.entries c.limits.ensures.rising; certified = c.limits-2.ensures })

@@ -1,0 +1,12 @@
+pub mod Halved
+pub mod Counted
+pub mod Placed
+pub mod Renumbered
+pub mod Closed
+pub mod Rooms
+pub mod Looked
+pub mod Lent
+pub mod Ranked
+pub mod Changed
+pub mod Filed
+pub mod Walked

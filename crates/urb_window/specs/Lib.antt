@@ -1,0 +1,6 @@
+pub mod Entries
+pub mod WindowSet
+pub mod Row
+pub mod Rows
+pub mod Room
+pub mod Kept
