@@ -99,11 +99,11 @@ module _ (w : World) (p position : ℕ) (entry : Entry) (told : Done) where
 
   -- an own record's pair is stored with it
   pair-stored : (held : Entry) (cause : Option Cause) → entry ≡ held → is_accepted p held ≡ true
-      → (m : Content) × (has_pair (pend (entry ∷ [])) (name_of held) m ≡ true) × HasStored (world_after w p (Stored (done w.size.n p held (w.node p)), keeps_record p held cause (w.node p))).1 p (name_of held) m
+      → (m : Content) × (has_pair (pend (entry ∷ [])) (name_of held) m ≡ true) × HasStored (world_after w p (Stored (done w.size.n p held cause (w.node p)), keeps_record p held cause (w.node p))).1 p (name_of held) m
   pair-stored held cause e own_is = over held refl e own_is
     where
       after : World
-      after = (world_after w p (Stored (done w.size.n p held (w.node p)), keeps_record p held cause (w.node p))).1
+      after = (world_after w p (Stored (done w.size.n p held cause (w.node p)), keeps_record p held cause (w.node p))).1
 
       there : (x : Label) (m : Content) → has_pair (pend (held ∷ [])) x m ≡ true → has_pair (pend (stored after p)) x m ≡ true
       there x m h =
@@ -130,12 +130,12 @@ module _ (w : World) (p position : ℕ) (entry : Entry) (told : Done) where
       cond_both ((position == next_position (w.node p)) && same_record entry held) _ _ (λ (o : Reply × Node). OnlyOwn (world_after w p o))
       (λ taken f a. here taken f a) (λ _ f a. cc)
     where
-      here : ((position == next_position (w.node p)) && same_record entry held) ≡ true → Stored (done w.size.n p held (w.node p)) ≡ Stored told → told.accepted ≡ true
-          → StoresOwn (world_after w p (Stored (done w.size.n p held (w.node p)), keeps_record p held cause (w.node p))).1 p entry told
+      here : ((position == next_position (w.node p)) && same_record entry held) ≡ true → Stored (done w.size.n p held cause (w.node p)) ≡ Stored told → told.accepted ≡ true
+          → StoresOwn (world_after w p (Stored (done w.size.n p held cause (w.node p)), keeps_record p held cause (w.node p))).1 p entry told
       here taken f a =
-          let g : done w.size.n p held (w.node p) ≡ told = cc in
+          let g : done w.size.n p held cause (w.node p) ≡ told = cc in
           let e : entry ≡ held = same_record-true entry held (and_parts (position == next_position (w.node p)) (same_record entry held) taken).1 in
-          subst (λ (d : Done). StoresOwn (world_after w p (Stored (done w.size.n p held (w.node p)), keeps_record p held cause (w.node p))).1 p entry d) g
+          subst (λ (d : Done). StoresOwn (world_after w p (Stored (done w.size.n p held cause (w.node p)), keeps_record p held cause (w.node p))).1 p entry d) g
           (pair-stored held cause e (ap (λ (d : Done). d.accepted) g ∙ a))
 
   pub committed-stored : (step w (Commit p position entry)).0 ≡ Stored told → told.accepted ≡ true → StoresOwn (step w (Commit p position entry)).1 p entry told

@@ -1,6 +1,7 @@
 -- An arrival keeps what all nodes keep.
-use Rattle.std.proofs.Common.{Bool, List, None, Some, [], ap, cond, eqb-true, false, inl, inr, is_none, is_some, not, refl, subst, sym, true, ℕ, ⊎_elim, ◌&&◌, ◌++◌, ◌==◌, ◌||◌, ◌∙◌, ◌∷◌, ◌≡◌, ◌⊎◌}
+use Rattle.std.proofs.Common.{Bool, List, None, Option, Some, [], ap, cond, eqb-true, false, inl, inr, is_none, is_some, not, refl, subst, sym, true, ℕ, ⊎_elim, ◌&&◌, ◌++◌, ◌==◌, ◌||◌, ◌∙◌, ◌∷◌, ◌≡◌, ◌⊎◌}
 use Rattle.std.proofs.lemmas.Bool.{and_from, and_parts, cond_both, not-false, not-true, or_cases}
+use Rattle.urb_group.proofs.ArriveCases.{any-heard, told_node}
 use Rattle.urb_group.proofs.Drafting.{AllKept, agree, leads-drafts, to_sender}
 use Rattle.urb_group.proofs.NodesSteps.{Leads, leads-same, updated-at}
 use Rattle.urb_group.specs.Invariant.{AcksKept, MayJoin, NodeKept}
@@ -8,14 +9,17 @@ use Rattle.urb_group.specs.World.{updated}
 use Rattle.urb_names.proofs.FoundPairs.{has_pair-found, has_pair-itself, has_pair-left, no_pair, none_found, some_found}
 use Rattle.urb_names.proofs.SameNames.{majority_grows, same_name-true}
 use Rattle.urb_names.specs.Acknowledged.{acked, with_ack}
+use Rattle.urb_names.specs.Carried.{says_certified}
 use Rattle.urb_names.specs.Names.{has_name, same_name}
 use Rattle.urb_names.specs.Naming.{Content, Label, Limits}
 use Rattle.urb_names.specs.Nodes.{majority_passes}
 use Rattle.urb_names.specs.Pairs.{has_pair, message_of}
+use Rattle.urb_names.specs.declared.flags.Flags.{Flags}
 use Rattle.urb_node.specs.Part.{Node, packet_from}
 use Rattle.urb_node.specs.Replies.{Same}
-use Rattle.urb_node.specs.declared.answer.Answer.TheVariants.{Again, Noted}
-use Rattle.urb_node.specs.Steps.{arrives, counts}
+use Rattle.urb_node.specs.declared.answer.Answer.TheVariants.{Again, Answered, Noted}
+use Rattle.urb_node.specs.declared.cause.Cause.{Cause}
+use Rattle.urb_node.specs.Steps.{answers, arrives, counts, reply_to}
 use Rattle.urb_stable.proofs.JoinedRecords.{pend-append}
 use Rattle.urb_stable.proofs.KeptRules.{Grows, kept-range}
 use Rattle.urb_stable.specs.Entries.{Entry}
@@ -124,27 +128,47 @@ module _ (size : Limits) (images : ℕ → List Entry) (all : AllKept size image
             let f : k.0 ≡ o = cc in
             with_record-grows (Cert x) z x o (subst (λ (v : Content). has_pair (pend (images z)) x v ≡ true) f k.2)
 
-pub leads-arrives : (size : Limits) (images : ℕ → List Entry) → AllKept size images → (p q : ℕ) (x : Label) (m : Content) (node : Node) → images p ≡ node.records → NodeKept size images p node
-    → has_pair (pend (images q)) x m ≡ true → Leads size images p (arrives size p q x m node)
-leads-arrives size images all p q x m node e k t =
+pub leads-arrives : (size : Limits) (images : ℕ → List Entry) → AllKept size images → (p q : ℕ) (x : Label) (m : Content) (flags : Option Flags) (node : Node) → images p ≡ node.records → NodeKept size images p node
+    → has_pair (pend (images q)) x m ≡ true → Leads size images p (arrives size p q x m flags node)
+leads-arrives size images all p q x m flags node e k t =
     cond_both (is_none (message_of (pend node.records) x)) _ _ (Leads size images p)
     (λ none. cond_both (majority_passes size.n (λ z. (z == p) || (z == q))) _ _ (Leads size images p)
-    (λ most. leads-drafts size images p node (PendCert x m) (Some (packet_from q)) e k (joins-other_certified size images all p q node.records e x m t (none_found _ none) most) t)
-    (λ _. leads-drafts size images p node (Pend x m) (Some (packet_from q)) e k (joins-other size images all p q node.records e x m t (none_found _ none)) t))
+    (λ most. leads-drafts size images p node (PendCert x m) cause e k (joins-other_certified size images all p q node.records e x m t (none_found _ none) most) t)
+    (λ _. leads-drafts size images p node (Pend x m) cause e k (joins-other size images all p q node.records e x m t (none_found _ none)) t))
     (λ some. cond_both (not (has_name (cert node.records) x)) _ _ (Leads size images p)
-    (λ new. pending new (found some))
-    (λ _. leads-same size images p (Same (Again x), node) e k tt))
+    (λ new. any-heard (λ told. Leads size images p (counts size q x flags told)) q x flags node (pending new (found some)))
+    (λ old. any-heard (λ told. Leads size images p (answers p q x m flags told)) q x flags node (certified (not-false (has_name (cert node.records) x) old) (found some) flags)))
   where
+    cause : Option Cause
+    cause = Some (packet_from q (says_certified flags))
+
     found : is_none (message_of (pend node.records) x) ≡ false → (o : Content) × (message_of (pend node.records) x ≡ Some o)
     found h = some_found (message_of (pend node.records) x) (not-false (is_some (message_of (pend node.records) x)) h)
 
-    pending : not (has_name (cert node.records) x) ≡ true → (o : Content) × (message_of (pend node.records) x ≡ Some o) → Leads size images p (counts size q x node)
-    pending new o =
-        let after : AcksKept images node.records (with_ack node.acks x q) = acks-after size images all p q node.records e x m t o.0 o.1 node.acks k.acks in
-        let kept : NodeKept size images p (record node { acks = with_ack node.acks x q }) = record { kept = k.kept; state = k.state; acks = after; broadcast = k.broadcast } in
+    -- the node with other certificates heard, and these counted
+    told_kept : (acks heard : List (Label × ℕ)) → AcksKept images node.records acks → NodeKept size images p (told_node node acks heard)
+    told_kept acks heard after = record { kept = k.kept; state = k.state; acks = after; broadcast = k.broadcast }
+
+    pending : not (has_name (cert node.records) x) ≡ true → (o : Content) × (message_of (pend node.records) x ≡ Some o) → (heard : List (Label × ℕ)) → Leads size images p (counts size q x flags (record node { heard = heard }))
+    pending new o heard =
+        let kept = told_kept (with_ack node.acks x q) heard (acks-after size images all p q node.records e x m t o.0 o.1 node.acks k.acks) in
         cond_both (majority_passes size.n (acked (with_ack node.acks x q) x)) _ _ (Leads size images p)
-        (λ most. leads-drafts size images p (record node { acks = with_ack node.acks x q }) (Cert x) (Some (packet_from q)) e kept
+        (λ most. leads-drafts size images p (told_node node (with_ack node.acks x q) heard) (Cert x) cause e kept
         (joins-certificate size images all p q node.records e x m t o.0 o.1 node.acks k.acks new most) tt)
         (λ _. cond_both (acked node.acks x q) _ _ (Leads size images p)
-        (λ _. leads-same size images p (Same (Again x), record node { acks = with_ack node.acks x q }) e kept tt)
-        (λ _. leads-same size images p (Same (Noted x), record node { acks = with_ack node.acks x q }) e kept tt))
+        (λ _. leads-same size images p (Same (Again x), told_node node (with_ack node.acks x q) heard) e kept tt)
+        (λ _. leads-same size images p (Same (Noted x), told_node node (with_ack node.acks x q) heard) e kept tt))
+
+    -- the answer is of the pair that is stored here, and of its certificate
+    certified : has_name (cert node.records) x ≡ true → (o : Content) × (message_of (pend node.records) x ≡ Some o) → (flags : Option Flags) (heard : List (Label × ℕ))
+        → Leads size images p (answers p q x m flags (record node { heard = heard }))
+    certified c o None heard = leads-same size images p (Same (Again x), told_node node node.acks heard) e (told_kept node.acks heard k.acks) tt
+    certified c o (Some f) heard =
+        cond_both f.heard _ _ (Leads size images p) (λ _. leads-same size images p (Same (Again x), told_node node node.acks heard) e (told_kept node.acks heard k.acks) tt)
+        (λ _. leads-same size images p (Same (Answered x (reply_to p q x m (record node { heard = heard }) ∷ [])), told_node node node.acks heard) e (told_kept node.acks heard k.acks)
+        (record { source = refl; pair = held; certificate = λ _. c }, tt))
+      where
+        held : has_pair (pend node.records) x m ≡ true
+        held =
+            has_pair-found (pend node.records) x m
+            (o.1 ∙ ap Some (same size images all p q node.records e x m t o.0 o.1 node.acks k.acks))

@@ -1,16 +1,16 @@
 -- What one step makes of the drafts that the nodes of a world hold.
-use Rattle.std.proofs.Common.{Bool, Err, List, None, Ok, Option, Result, Some, bytes_eq, cond, false, find, is_none, length, nat_lt, not, refl, subst, sym, true, ℕ, ◌&&◌, ◌++◌, ◌==◌, ◌||◌, ◌∷◌, ◌≡◌, ◌⊎◌, [], inl, inr}
+use Rattle.std.proofs.Common.{Bool, Err, List, None, Ok, Option, Result, Some, bytes_eq, cond, false, find, length, nat_lt, not, refl, subst, sym, true, ℕ, ◌&&◌, ◌++◌, ◌==◌, ◌||◌, ◌∷◌, ◌≡◌, ◌⊎◌, [], inl, inr}
 use Rattle.std.proofs.lemmas.Bool.{cond-false, cond_both}
+use Rattle.urb_group.proofs.ArriveCases.{arrive-cases}
 use Rattle.urb_group.proofs.NodesSteps.{updated-at}
 pub use Rattle.urb_group.specs.Delivering.{event_node}
 use Rattle.urb_group.specs.Step.{Arrive, Commit, Crash, Event, Fail, Restart, Submit, Tick, at_node, bytes_arrive, is_for, packet_arrives, step, world_after}
 use Rattle.urb_group.specs.World.{World, truthful}
-use Rattle.urb_names.specs.Acknowledged.{acked, with_ack}
 use Rattle.urb_names.specs.Carried.{Carried}
-use Rattle.urb_names.specs.Names.{has_name}
 use Rattle.urb_names.specs.Naming.{Content, Label, Limits}
-use Rattle.urb_names.specs.Nodes.{is_node, majority_passes}
-use Rattle.urb_names.specs.Pairs.{is_numbered, message_of, next_number}
+use Rattle.urb_names.specs.Nodes.{is_node}
+use Rattle.urb_names.specs.Pairs.{is_numbered, next_number}
+use Rattle.urb_names.specs.declared.flags.Flags.{Flags}
 use Rattle.urb_names.specs.declared.refusal.PacketFault.{PacketFault}
 use Rattle.urb_names.specs.declared.refusal.Refusal.{Refusal}
 use Rattle.urb_names.specs.declared.refusal.Refusal.TheVariants as refusal
@@ -18,7 +18,6 @@ use Rattle.urb_node.specs.Part.{Down, Node, Ready, State, Storing}
 use Rattle.urb_node.specs.Replies.{Drafted, Refused, Reply, Same, Sent, Stored, Up, WentDown}
 use Rattle.urb_node.specs.Steps.{arrives, commits, crashes, fails, is_down, is_storing, next_position, restarts, same_record, says, submits, submits_by_number, ticks}
 use Rattle.urb_stable.specs.Entries.{Entry}
-use Rattle.urb_stable.specs.Records.{cert, pend}
 
 -- ---- the other nodes, and the limits
 
@@ -105,21 +104,15 @@ submit-calm size p m node =
     (λ e. cond_both (nat_lt 1024 (length m.payload)) _ _ (Calm node) (λ _. tt)
     (λ _. submits-calm size p m (find (is_numbered m.client m.number) node.broadcast) node e)))
 
-arrive-calm : (size : Limits) (p q : ℕ) (x : Label) (m : Content) (node : Node) → is_storing node.state ≡ false → Calm node (arrives size p q x m node)
-arrive-calm size p q x m node e =
-    cond_both (is_none (message_of (pend node.records) x)) _ _ (Calm node)
-    (λ _. cond_both (majority_passes size.n (λ z. (z == p) || (z == q))) _ _ (Calm node) (λ _. tt) (λ _. tt))
-    (λ _. cond_both (not (has_name (cert node.records) x)) _ _ (Calm node)
-    (λ _. cond_both (majority_passes size.n (acked (with_ack node.acks x q) x)) _ _ (Calm node) (λ _. tt)
-    (λ _. cond_both (acked node.acks x q) _ _ (Calm node) (λ _. (e, e)) (λ _. (e, e))))
-    (λ _. (e, e)))
+arrive-calm : (size : Limits) (p q : ℕ) (x : Label) (m : Content) (flags : Option Flags) (node : Node) → is_storing node.state ≡ false → Calm node (arrives size p q x m flags node)
+arrive-calm size p q x m flags node e = arrive-cases (Calm node) size p q x m flags node (λ cause. tt) (λ cause. tt) (λ acks heard cause. tt) (λ acks heard told. (e, e))
 
 packet-calm : (w : World) (p : ℕ) (packet : Carried) → Calm (w.node p) (packet_arrives w p packet)
 packet-calm w p packet =
     cond_both (is_down (w.node p).state) _ _ (Calm (w.node p)) (λ _. tt)
     (λ _. cond_both (is_storing (w.node p).state) _ _ (Calm (w.node p)) (λ _. tt)
     (λ e. cond_both (not (truthful w packet)) _ _ (Calm (w.node p)) (λ _. tt)
-    (λ _. arrive-calm w.size p packet.source packet.name packet.message (w.node p) e)))
+    (λ _. arrive-calm w.size p packet.source packet.name packet.message packet.flags (w.node p) e)))
 
 commit-calm : (n p position : ℕ) (entry : Entry) (node : Node) (s : State) → Calm node (commits n p position entry node s)
 commit-calm n p position entry node Ready = tt

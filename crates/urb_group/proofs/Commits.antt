@@ -2,7 +2,7 @@
 use Rattle.std.proofs.Common.{List, None, Option, Some, [], ℕ, ◌&&◌, ◌++◌, ◌==◌, ◌∷◌, ◌≡◌}
 use Rattle.std.proofs.lemmas.Bool.{cond_both, false≢true}
 use Rattle.urb_group.proofs.Drafting.{leads-refuses}
-use Rattle.urb_group.proofs.JoinedRecord.{joined-acks, joined-broadcast, joined-grows, joined-kept, joined-sent, own_acks-kept}
+use Rattle.urb_group.proofs.JoinedRecord.{joined-acks, joined-broadcast, joined-certified, joined-grows, joined-kept, joined-sent, own_acks-kept}
 use Rattle.urb_group.proofs.NodesSteps.{Leads, leads-same, updated-at}
 use Rattle.urb_group.specs.Invariant.{DoubtKept, IsCaused, MayJoin, NodeKept, StateKept}
 use Rattle.urb_group.specs.World.{updated}
@@ -15,17 +15,18 @@ use Rattle.urb_names.specs.declared.refusal.Refusal.TheVariants as refusal
 use Rattle.urb_node.specs.declared.cause.Cause.{Cause}
 
 leads-stored : (size : Limits) (images : ℕ → List Entry) (p : ℕ) (node : Node) (r : Entry) (cause : Option Cause) → images p ≡ node.records → NodeKept size images p node → MayJoin size images p node.records r → IsCaused images r cause
-    → Leads size images p (Stored (done size.n p r node), keeps_record p r cause node)
+    → Leads size images p (Stored (done size.n p r cause node), keeps_record p r cause node)
 leads-stored size images p node r cause e k j c =
     record {
       grows = joined-grows size images p node e k r j;
+      certified = joined-certified size images p node e k r j;
       kept = record {
         kept = joined-kept size images p node e k r j;
         state = tt;
         acks = joined-acks size images p node e k r cause j c;
         broadcast = joined-broadcast size images p node e k r j;
       };
-      sent = joined-sent size images p node e k r j size.n;
+      sent = joined-sent size images p node e k r cause j size.n;
     }
 
 pub leads-commits : (size : Limits) (images : ℕ → List Entry) (p position : ℕ) (entry : Entry) (node : Node) (s : State) → images p ≡ node.records → NodeKept size images p node → StateKept size images p node.records s
@@ -68,6 +69,7 @@ leads-up_joined : (size : Limits) (images : ℕ → List Entry) (p : ℕ) (node 
 leads-up_joined size images p node e k r j =
     record {
       grows = joined-grows size images p node e k r j;
+      certified = joined-certified size images p node e k r j;
       kept = record {
         kept = joined-kept size images p node e k r j;
         state = tt;

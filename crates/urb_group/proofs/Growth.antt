@@ -1,19 +1,22 @@
 -- What is stored, broadcast and delivered only grows at its end.
-use Rattle.std.proofs.Common.{Bool, Err, List, None, Ok, Option, Result, Some, [], ap, append-nil, append_assoc, bytes_eq, cond, eqb-true, false, filter, find, is_none, length, nat_lt, not, refl, reverse, subst, sym, true, ℕ, ◌&&◌, ◌++◌, ◌==◌, ◌||◌, ◌∙◌, ◌∷◌, ◌≡◌}
+use Rattle.std.proofs.Common.{Bool, Err, List, None, Ok, Option, Result, Some, [], ap, append-nil, append_assoc, bytes_eq, cond, eqb-true, false, filter, find, length, nat_lt, not, refl, reverse, subst, sym, true, ℕ, ◌&&◌, ◌++◌, ◌==◌, ◌||◌, ◌∙◌, ◌∷◌, ◌≡◌}
 use Rattle.std.proofs.lemmas.Bool.{cond_both}
 use Rattle.std.proofs.lemmas.List.{reverse-append}
+use Rattle.urb_group.proofs.ArriveCases.{arrive-cases}
+use Rattle.urb_group.proofs.Truths.{borne-certificate, borne-pair, to_borne}
 use Rattle.urb_group.specs.Growing.{GoesOn}
 use Rattle.urb_group.specs.Step.{Arrive, Commit, Crash, Event, Fail, Restart, Run, Submit, Tick, at_node, bytes_arrive, is_for, packet_arrives, run, step, world_after}
 use Rattle.urb_group.specs.World.{World, stored, truthful}
 use Rattle.urb_names.proofs.FoundPairs.{has_pair-left}
-use Rattle.urb_names.specs.Acknowledged.{acked, with_ack}
+use Rattle.urb_names.proofs.SameNames.{any_left}
 use Rattle.urb_names.specs.Beginnings.{Begins}
 use Rattle.urb_names.specs.Carried.{Carried}
 use Rattle.urb_names.specs.Names.{has_name}
 use Rattle.urb_names.specs.Naming.{Content, Label, Limits}
-use Rattle.urb_names.specs.Nodes.{is_node, majority_passes}
-use Rattle.urb_names.specs.Pairs.{has_pair, is_numbered, message_of, next_number}
+use Rattle.urb_names.specs.Nodes.{is_node}
+use Rattle.urb_names.specs.Pairs.{has_pair, is_numbered, next_number}
 use Rattle.urb_names.specs.Release.{beginning, released}
+use Rattle.urb_names.specs.declared.flags.Flags.{Flags}
 use Rattle.urb_names.specs.declared.refusal.PacketFault.{PacketFault}
 use Rattle.urb_node.specs.Part.{Down, Node, Ready, State, Storing}
 use Rattle.urb_node.specs.Replies.{Refused, Reply}
@@ -54,6 +57,11 @@ pair-begins xs ys h x m k =
     subst (λ (zs : List Entry). has_pair (pend zs) x m ≡ true) h.1
     (subst (λ (ps : List (Label × Content)). has_pair ps x m ≡ true) (sym (pend-append xs h.0)) (has_pair-left (pend xs) (pend h.0) x m k))
 
+pub certificate-begins : (xs ys : List Entry) → Begins xs ys → (x : Label) → has_name (cert xs) x ≡ true → has_name (cert ys) x ≡ true
+certificate-begins xs ys h x k =
+    subst (λ (zs : List Entry). has_name (cert zs) x ≡ true) h.1
+    (subst (λ (names : List Label). has_name names x ≡ true) (sym (cert-append xs h.0)) (any_left _ (cert xs) (cert h.0) k))
+
 -- ---- one node
 
 pub record Extends (old new : Node) : Type 0 where
@@ -82,21 +90,16 @@ submit-extends size p m node =
     (λ _. cond_both (nat_lt 1024 (length m.payload)) _ _ (Goes node) (λ _. stays node node refl refl)
     (λ _. submits-extends size p m (find (is_numbered m.client m.number) node.broadcast) node)))
 
-arrive-extends : (size : Limits) (p q : ℕ) (x : Label) (m : Content) (node : Node) → Goes node (arrives size p q x m node)
-arrive-extends size p q x m node =
-    cond_both (is_none (message_of (pend node.records) x)) _ _ (Goes node)
-    (λ _. cond_both (majority_passes size.n (λ z. (z == p) || (z == q))) _ _ (Goes node) (λ _. stays node _ refl refl) (λ _. stays node _ refl refl))
-    (λ _. cond_both (not (has_name (cert node.records) x)) _ _ (Goes node)
-    (λ _. cond_both (majority_passes size.n (acked (with_ack node.acks x q) x)) _ _ (Goes node) (λ _. stays node _ refl refl)
-    (λ _. cond_both (acked node.acks x q) _ _ (Goes node) (λ _. stays node _ refl refl) (λ _. stays node _ refl refl)))
-    (λ _. stays node node refl refl))
+arrive-extends : (size : Limits) (p q : ℕ) (x : Label) (m : Content) (flags : Option Flags) (node : Node) → Goes node (arrives size p q x m flags node)
+arrive-extends size p q x m flags node =
+    arrive-cases (Goes node) size p q x m flags node (λ cause. stays node _ refl refl) (λ cause. stays node _ refl refl) (λ acks heard cause. stays node _ refl refl) (λ acks heard told. stays node _ refl refl)
 
 packet-extends : (w : World) (p : ℕ) (packet : Carried) → Goes (w.node p) (packet_arrives w p packet)
 packet-extends w p packet =
     cond_both (is_down (w.node p).state) _ _ (Goes (w.node p)) (λ _. stays (w.node p) (w.node p) refl refl)
     (λ _. cond_both (is_storing (w.node p).state) _ _ (Goes (w.node p)) (λ _. stays (w.node p) (w.node p) refl refl)
     (λ _. cond_both (not (truthful w packet)) _ _ (Goes (w.node p)) (λ _. stays (w.node p) (w.node p) refl refl)
-    (λ _. arrive-extends w.size p packet.source packet.name packet.message (w.node p))))
+    (λ _. arrive-extends w.size p packet.source packet.name packet.message packet.flags (w.node p))))
 
 more_broadcast : (p : ℕ) (r : Entry) (messages : List Content) → Begins messages (broadcast_after p r messages)
 more_broadcast p (Pend x m) messages = cond_both (x.sender == p) _ _ (Begins messages) (λ _. begins-push messages m) (λ _. begins-itself messages)
@@ -137,7 +140,11 @@ goes_on old new h =
       records = λ p. (h p).records;
       broadcast = λ p. (h p).broadcast;
       delivered = λ p. log-begins (stored old p) (stored new p) (h p).records;
-      truth = λ packet t. pair-begins (stored old packet.source) (stored new packet.source) (h packet.source).records packet.name packet.message t;
+      truth = λ packet t.
+          let more = (h packet.source).records in
+          to_borne (stored new packet.source) packet
+          (pair-begins (stored old packet.source) (stored new packet.source) more packet.name packet.message (borne-pair (stored old packet.source) packet t))
+          (λ e. certificate-begins (stored old packet.source) (stored new packet.source) more packet.name (borne-certificate (stored old packet.source) packet t e));
     }
 
 extends-itself : (node : Node) → Extends node node

@@ -1,19 +1,19 @@
 -- A record that joins the stored ones keeps what all nodes keep.
 use Rattle.std.proofs.Common.{Bool, List, None, Option, Some, [], ap, append-nil, cond, eqb-true, false, is_none, map, refl, subst, sym, true, ℕ, ⊎_elim, ◌&&◌, ◌++◌, ◌==◌, ◌||◌, ◌∙◌, ◌∷◌, ◌≡◌}
-use Rattle.std.proofs.lemmas.Bool.{and_parts, false_from_ne_true, false≢true, or_cases}
+use Rattle.std.proofs.lemmas.Bool.{and_parts, false_from_ne_true, false≢true, or_cases, or_left}
 use Rattle.urb_group.proofs.NodesSteps.{updated-at}
 use Rattle.urb_group.specs.Invariant.{AcksKept, IsCaused, MayJoin, NodeKept}
 use Rattle.urb_group.specs.World.{updated}
 use Rattle.urb_names.proofs.FoundPairs.{has_pair-found, has_pair-left, message_of-more, message_of-new, none_found, own-other, own-push}
 use Rattle.urb_names.proofs.SentPairs.{to_others-from}
-use Rattle.urb_names.proofs.SameNames.{any_left, same_name-true}
+use Rattle.urb_names.proofs.SameNames.{any_left, any_right, same_name-same, same_name-true}
 use Rattle.urb_names.specs.Acknowledged.{acked, with_ack}
 use Rattle.urb_names.specs.Carried.{AreFrom, to_others}
 use Rattle.urb_names.specs.Names.{has_name, same_name}
 use Rattle.urb_names.specs.Naming.{Content, Label, Limits}
 use Rattle.urb_names.specs.Pairs.{has_pair, message_of, own}
 use Rattle.urb_node.specs.Part.{Node, own_acks}
-use Rattle.urb_node.specs.Steps.{acks_after, broadcast_after, packets_of, with_cause}
+use Rattle.urb_node.specs.Steps.{acks_after, broadcast_after, heard_of, packets_of, with_cause}
 use Rattle.urb_stable.proofs.JoinedRecords.{cert-append, pend-append}
 use Rattle.urb_stable.proofs.KeptRules.{Grows, kept-grow, kept-push}
 use Rattle.urb_stable.specs.Entries.{Entry}
@@ -73,12 +73,18 @@ module _ (size : Limits) (images : ℕ → List Entry) (p : ℕ) (node : Node) (
       at true e h = joined-grows x m (subst (λ (i : ℕ). has_pair (pend (images i)) x m ≡ true) (eqb-true q p e) h)
       at false e h = h
 
+  -- a certificate stays
+  pub joined-certified : (x : Label) → has_name (cert (images p)) x ≡ true → has_name (cert joined) x ≡ true
+  joined-certified x h =
+      subst (λ (xs : List Label). has_name xs x ≡ true) (sym (cert-append node.records (r ∷ [])))
+      (any_left _ (cert node.records) (cert (r ∷ [])) (subst (λ (rs : List Entry). has_name (cert rs) x ≡ true) here h))
+
   pub joined-kept : Kept size after p [] joined
   joined-kept = kept-push size after p [] node.records r (kept-grow size images after p [] node.records after-grows k.kept) join
 
   -- what is not certified now was not before
   certified-before : (x : Label) → has_name (cert joined) x ≡ false → has_name (cert node.records) x ≡ false
-  certified-before x c = false_from_ne_true _ (λ h. false≢true (sym c ∙ subst (λ (xs : List Label). has_name xs x ≡ true) (sym (cert-append node.records (r ∷ []))) (any_left _ (cert node.records) (cert (r ∷ [])) h)))
+  certified-before x c = false_from_ne_true _ (λ h. false≢true (sym c ∙ joined-certified x (subst (λ (rs : List Entry). has_name (cert rs) x ≡ true) (sym here) h)))
 
   old-acks : AcksKept after joined node.acks
   old-acks x q c h =
@@ -107,8 +113,8 @@ module _ (size : Limits) (images : ℕ → List Entry) (p : ℕ) (node : Node) (
         at true e = ap (λ ms. ms ++ m ∷ []) k.broadcast ∙ sym (own-push p (pend node.records) x m e)
         at false e = k.broadcast ∙ sym (own-other p (pend node.records) x m e)
 
-    pair-sent : (n : ℕ) → AreFrom p (pend joined) (to_others n p (x, m))
-    pair-sent n = to_others-from n p (pend joined) (x, m) (has_pair-found (pend joined) x m pair-found)
+    pair-sent : (n : ℕ) (is_certified : Bool) (heard : Option ℕ) → (is_certified ≡ true → has_name (cert joined) x ≡ true) → AreFrom p (pend joined) (cert joined) (to_others n p is_certified heard (x, m))
+    pair-sent n is_certified heard told = to_others-from n p (pend joined) (cert joined) is_certified heard (x, m) (has_pair-found (pend joined) x m pair-found) told
 
 -- the record of a pair finds no earlier one
 fresh-pend : (size : Limits) (images : ℕ → List Entry) (p : ℕ) (records : List Entry) (x : Label) (m : Content) → Rules size images p records (Pend x m) → message_of (pend records) x ≡ None
@@ -139,8 +145,17 @@ joined-acks size images p node e k (PendCert x m) cause j c =
     pair-acks size images p node e k (PendCert x m) j x m (pend-append node.records (PendCert x m ∷ [])) (fresh-certified size _ p node.records x m j) cause (caused-by images x m cause (caused-by_certified images x m cause c))
 joined-acks size images p node e k (Cert x) cause j c = old-acks size images p node e k (Cert x) j
 
-pub joined-sent : (size : Limits) (images : ℕ → List Entry) (p : ℕ) (node : Node) → images p ≡ node.records → NodeKept size images p node → (r : Entry) → MayJoin size images p node.records r
-    → (n : ℕ) → AreFrom p (pend (node.records ++ r ∷ [])) (packets_of n p r)
-joined-sent size images p node e k (Pend x m) j n = pair-sent size images p node e k (Pend x m) j x m (pend-append node.records (Pend x m ∷ [])) (fresh-pend size _ p node.records x m j) n
-joined-sent size images p node e k (PendCert x m) j n = pair-sent size images p node e k (PendCert x m) j x m (pend-append node.records (PendCert x m ∷ [])) (fresh-certified size _ p node.records x m j) n
-joined-sent size images p node e k (Cert x) j n = tt
+-- the name of a record that is a certificate too is certified once it is stored
+last-certified : (records : List Entry) (x : Label) (m : Content) → has_name (cert (records ++ PendCert x m ∷ [])) x ≡ true
+last-certified records x m =
+    subst (λ (xs : List Label). has_name xs x ≡ true) (sym (cert-append records (PendCert x m ∷ [])))
+    (any_right _ (cert records) (x ∷ []) (or_left (same_name x x) false (same_name-same x)))
+
+pub joined-sent : (size : Limits) (images : ℕ → List Entry) (p : ℕ) (node : Node) → images p ≡ node.records → NodeKept size images p node → (r : Entry) (cause : Option Cause) → MayJoin size images p node.records r
+    → (n : ℕ) → AreFrom p (pend (node.records ++ r ∷ [])) (cert (node.records ++ r ∷ [])) (packets_of n p r cause)
+joined-sent size images p node e k (Pend x m) cause j n =
+    pair-sent size images p node e k (Pend x m) j x m (pend-append node.records (Pend x m ∷ [])) (fresh-pend size _ p node.records x m j) n false (heard_of cause) (λ h. absurd (false≢true h))
+joined-sent size images p node e k (PendCert x m) cause j n =
+    pair-sent size images p node e k (PendCert x m) j x m (pend-append node.records (PendCert x m ∷ [])) (fresh-certified size _ p node.records x m j) n true (heard_of cause)
+    (λ _. last-certified node.records x m)
+joined-sent size images p node e k (Cert x) cause j n = tt

@@ -1,3 +1,5 @@
+pub mod Truths
+pub mod ArriveCases
 pub mod NodesSteps
 pub mod Drafting
 pub mod Submits
@@ -15,6 +17,7 @@ pub mod Alike
 pub mod Shows
 pub mod Refusals
 pub mod KeptWorlds
+pub mod Unanswered
 pub mod Conditions
 pub mod Accepted
 pub mod Replaced
@@ -46,3 +49,21 @@ pub mod Asking
 pub mod StoredRecords
 pub mod Deliveries
 pub mod AgreeingDeliveries
+pub mod CountedNodes
+pub mod LiveNodes
+pub mod Live
+pub mod Settling
+pub mod Plans
+pub mod Onward
+pub mod Carrying
+pub mod Standing
+pub mod Turning
+pub mod Turns
+pub mod Ticking
+pub mod DuePairs
+pub mod NodeLists
+pub mod Rounds
+pub mod ComingBack
+pub mod Delivered
+pub mod Stranded
+pub mod StrandedGroups

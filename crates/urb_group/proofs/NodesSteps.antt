@@ -2,18 +2,20 @@
 use Rattle.std.proofs.Common.{Bool, List, None, Option, Some, [], ap, cond, eq-eqb, eqb-true, false, refl, subst, sym, true, ℕ, ◌++◌, ◌==◌, ◌∙◌, ◌∷◌, ◌≡◌}
 use Rattle.std.proofs.lemmas.Bool.{cond-true}
 use Rattle.std.specs.List.{AllByRecursion}
+use Rattle.urb_group.proofs.Truths.{to_borne}
 use Rattle.urb_group.specs.Invariant.{AcksKept, DoubtKept, IsCaused, MayJoin, NodeKept, NodesKept, StateKept}
 use Rattle.urb_group.specs.Step.{world_after}
 use Rattle.urb_group.specs.World.{World, stored, truthful, updated}
 use Rattle.urb_names.proofs.SentPairs.{all_weaker}
 use Rattle.urb_names.specs.Carried.{AreFrom, Carried, IsFrom}
+use Rattle.urb_names.specs.Names.{has_name}
 use Rattle.urb_names.specs.Naming.{Content, Label, Limits}
 use Rattle.urb_names.specs.Pairs.{has_pair}
 use Rattle.urb_node.specs.Part.{Down, Node, Ready, State, Storing}
 use Rattle.urb_node.specs.Replies.{Reply, packets_in}
 use Rattle.urb_stable.proofs.KeptRules.{Grows, kept-grow, rules-grow}
 use Rattle.urb_stable.specs.Entries.{Entry}
-use Rattle.urb_stable.specs.Records.{pend}
+use Rattle.urb_stable.specs.Records.{cert, pend}
 use Rattle.urb_stable.specs.declared.record.Record.TheVariants.{Cert, Pend, PendCert}
 use Rattle.urb_node.specs.declared.cause.Cause.{Cause}
 
@@ -66,18 +68,20 @@ node-grows size old new p node g h =
 
 -- ---- one node's step
 
--- the outcome keeps all pairs, what holds of a node, and sends packets of stored pairs alone
+-- the outcome keeps all pairs and certificates, what holds of a node, and sends packets of what is stored alone
 pub record Leads (size : Limits) (images : ℕ → List Entry) (p : ℕ) (outcome : Reply × Node) : Type 0 where
   pub grows : (x : Label) (m : Content) → has_pair (pend (images p)) x m ≡ true → has_pair (pend outcome.1.records) x m ≡ true
+  pub certified : (x : Label) → has_name (cert (images p)) x ≡ true → has_name (cert outcome.1.records) x ≡ true
   pub kept : NodeKept size (updated images p outcome.1.records) p outcome.1
-  pub sent : AreFrom p (pend outcome.1.records) (packets_in outcome.0)
+  pub sent : AreFrom p (pend outcome.1.records) (cert outcome.1.records) (packets_in outcome.0)
 
 -- where the records stay
 pub leads-same : (size : Limits) (images : ℕ → List Entry) (p : ℕ) (outcome : Reply × Node) → images p ≡ outcome.1.records → NodeKept size images p outcome.1
-    → AreFrom p (pend outcome.1.records) (packets_in outcome.0) → Leads size images p outcome
+    → AreFrom p (pend outcome.1.records) (cert outcome.1.records) (packets_in outcome.0) → Leads size images p outcome
 leads-same size images p outcome e k s =
     record {
       grows = λ x m h. subst (λ (rs : List Entry). has_pair (pend rs) x m ≡ true) e h;
+      certified = λ x h. subst (λ (rs : List Entry). has_name (cert rs) x ≡ true) e h;
       kept = node-grows size images (updated images p outcome.1.records) p outcome.1 stays k;
       sent = s;
     }
@@ -119,8 +123,13 @@ nodes-step w p outcome inv leads =
     at_node q true e = subst (λ (i : ℕ). NodeKept w.size after i outcome.1) (sym (eqb-true q p e)) (node-grows w.size (updated (stored w) p outcome.1.records) after p outcome.1 to_after leads.kept)
     at_node q false e = node-grows w.size (stored w) after q (w.node q) grow (inv q)
 
-    is_true : (packet : Carried) → IsFrom p (pend outcome.1.records) packet → has_pair (pend (after packet.source)) packet.name packet.message ≡ true
+    here : after p ≡ outcome.1.records
+    here = ap (λ (node : Node). node.records) (updated-at w.node p outcome.1)
+
+    is_true : (packet : Carried) → IsFrom p (pend outcome.1.records) (cert outcome.1.records) packet → truthful (world_after w p outcome).1 packet ≡ true
     is_true packet h =
-        to_after packet.source packet.name packet.message
-        (subst (λ (i : ℕ). has_pair (pend (updated (stored w) p outcome.1.records i)) packet.name packet.message ≡ true) (sym h.0)
-        (subst (λ (rs : List Entry). has_pair (pend rs) packet.name packet.message ≡ true) (sym (updated-at (stored w) p outcome.1.records)) h.1))
+        to_borne (after packet.source) packet (subst (λ (rs : List Entry). has_pair (pend rs) packet.name packet.message ≡ true) from h.pair)
+        (λ e. subst (λ (rs : List Entry). has_name (cert rs) packet.name ≡ true) from (h.certificate e))
+      where
+        from : outcome.1.records ≡ after packet.source
+        from = sym (ap after h.source ∙ here)

@@ -49,16 +49,16 @@ submit_at {A = A} node a m r e h =
     subst (λ (p : Place A). SubmitsAt p m (after_step r)) (sym e) (λ n s. step-leads A (submits a.limits a.node m n) a r (h n s))
 
 -- a truthful packet at a ready node arrives
-ready-arrives : (packet : Carried) (b : Bool) (size : Limits) (p : ℕ) (node : Node) → Ready ≡ node.state → b ≡ true → arrives_as packet b size p node ≡ arrives size p packet.source packet.name packet.message node
+ready-arrives : (packet : Carried) (b : Bool) (size : Limits) (p : ℕ) (node : Node) → Ready ≡ node.state → b ≡ true → arrives_as packet b size p node ≡ arrives size p packet.source packet.name packet.message packet.flags node
 ready-arrives packet b size p node e t =
     cond-false (is_down node.state) _ _ (ap is_down (sym e)) ∙ (cond-false (is_storing node.state) _ _ (ap is_storing (sym e)) ∙ cond-false (not b) _ _ (ap not t))
 
 pub arrive_at : {A : Type 0} (node : Place A) (a : Memory) (packet : Carried) (b : Bool) (r : Result (Step A) (Memory × Refusal)) → node ≡ place.Ready a → b ≡ true
-    → Arrives a packet.source packet.name packet.message r → ArrivesAt node packet b (after_step r)
+    → Arrives a packet.source packet.name packet.message packet.flags r → ArrivesAt node packet b (after_step r)
 arrive_at {A = A} node a packet b r e t h =
     subst (λ (p : Place A). ArrivesAt p packet b (after_step r)) (sym e)
     (λ n s. subst (λ (outcome : Reply × Node). Leads outcome (at_ready A a) (told_taken (after_step r).1) (after_step r).0 × HoldsAt (after_step r).0 (after_step r).1)
-    (sym (ready-arrives packet b a.limits a.node n s.state t)) (step-leads A (arrives a.limits a.node packet.source packet.name packet.message n) a r (h n s)))
+    (sym (ready-arrives packet b a.limits a.node n s.state t)) (step-leads A (arrives a.limits a.node packet.source packet.name packet.message packet.flags n) a r (h n s)))
 
 -- ---- receipts
 

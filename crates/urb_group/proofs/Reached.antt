@@ -1,9 +1,10 @@
 -- A packet that comes to a node of a group: whether it is truthful, and what it leads to.
-use Rattle.std.proofs.Common.{Bool, Err, List, MatchBool, None, Ok, Result, Some, ap, cond, false, map, refl, slice_index_or, subst, suc, sym, true, ℕ, ◌&&◌, ◌∙◌, ◌≡◌, ◌≤◌, ◌<◌, arith}
+use Rattle.std.proofs.Common.{Bool, Err, List, MatchBool, None, Ok, Result, Some, ap, cond, false, map, not, refl, slice_index_or, subst, suc, sym, true, ℕ, ◌&&◌, ◌||◌, ◌∙◌, ◌≡◌, ◌≤◌, ◌<◌, arith}
 use Rattle.std.proofs.lemmas.Bool.{and_parts, cond-true}
 use Rattle.std.specs.Prelude.{slice_get}
 use Rattle.urb_names.proofs.FoundPairs.{has_pair-found}
-use Rattle.urb_names.specs.Carried.{Carried}
+use Rattle.urb_names.specs.Carried.{Carried, says_certified}
+use Rattle.urb_names.specs.Names.{has_name}
 use Rattle.urb_names.specs.Naming.{Content, Label, Limits}
 use Rattle.urb_names.specs.Nodes.{is_node}
 use Rattle.urb_names.specs.Pairs.{has_pair}
@@ -11,7 +12,7 @@ use Rattle.urb_names.specs.declared.refusal.PacketFault.{PacketFault}
 use Rattle.urb_names.specs.declared.refusal.Refusal.{Refusal}
 use Rattle.urb_names.specs.declared.refusal.Refusal.TheVariants as refusal
 use Rattle.urb_stable.proofs.OwnRules.{own-unique}
-use Rattle.urb_stable.specs.Records.{pend}
+use Rattle.urb_stable.specs.Records.{cert, pend}
 use Rattle.urb_node.specs.Moves.{FindsMessage}
 use Rattle.urb_node.specs.Next.{MayArrive}
 use Rattle.urb_node.specs.Replies.{Refused, Reply}
@@ -19,10 +20,10 @@ use Rattle.urb_node.specs.Shown.{NodeView, no_view}
 use Rattle.urb_group.specs.Calls.{IsRefused, Takes}
 use Rattle.urb_group.specs.Moving.{ArrivesAt, MayReach, Moved, arrives_as}
 use Rattle.urb_group.specs.Places.{IsGroup, ShowsAt, memory_in, shown, view_at}
-use Rattle.urb_group.specs.Reaching.{AreEnds, TellsTruth, is_for_node}
+use Rattle.urb_group.specs.Reaching.{AreEnds, HoldsPair, IsAsCertified, TellsTruth, is_for_node}
 use Rattle.urb_group.specs.Shown.{GroupView, Shows, view_of}
 use Rattle.urb_group.specs.Step.{Arrive, at_node, is_for, step}
-use Rattle.urb_group.specs.World.{World, truthful}
+use Rattle.urb_group.specs.World.{World, bears_out, stored, truthful}
 use Rattle.urb_group.specs.declared.places.Node.{Node as Place}
 use Rattle.urb_group.specs.declared.places.Node.TheVariants as place
 use Rattle.urb_group.specs.declared.taken.Taken.{Taken}
@@ -30,15 +31,16 @@ use Rattle.urb_group.proofs.Conditions.{arrival-meets}
 use Rattle.urb_group.proofs.GroupMoves.{takes}
 use Rattle.urb_group.proofs.Lifting.{place_shows}
 use Rattle.urb_group.proofs.Replaced.{read_mapped}
+use Rattle.urb_group.proofs.Truths.{borne-pair}
 
 -- ---- what a node has stored
 
 same_some : (m o : Content) → Some m ≡ Some o → m ≡ o
 same_some m o e = cc
 
-pub some_truth : {A : Type 0} (node : Place A) (packet : Carried) (m : Content) (result : Bool) → FindsMessage (ShowsAt node) packet.name (Some m) → MatchBool result (m ≡ packet.message) (¬ (m ≡ packet.message))
-    → TellsTruth node packet result
-some_truth node packet m result finds same n s = at result (has_pair ps packet.name packet.message) refl same
+pub some_pair : {A : Type 0} (node : Place A) (packet : Carried) (m : Content) (result : Bool) → FindsMessage (ShowsAt node) packet.name (Some m) → MatchBool result (m ≡ packet.message) (¬ (m ≡ packet.message))
+    → HoldsPair node packet result
+some_pair node packet m result finds same n s = at result (has_pair ps packet.name packet.message) refl same
   where
     ps : List (Label × Content)
     ps = pend n.records
@@ -48,8 +50,8 @@ some_truth node packet m result finds same n s = at result (has_pair ps packet.n
     at false false e h = sym e
     at false true e h = absurd (h (same_some m packet.message (finds n s ∙ own-unique (memory_in node).limits (memory_in node).node n.records s.rules packet.name packet.message e)))
 
-pub none_truth : {A : Type 0} (node : Place A) (packet : Carried) → FindsMessage (ShowsAt node) packet.name None → TellsTruth node packet false
-none_truth node packet finds n s = at (has_pair (pend n.records) packet.name packet.message) refl
+pub no_pair_held : {A : Type 0} (node : Place A) (packet : Carried) → FindsMessage (ShowsAt node) packet.name None → HoldsPair node packet false
+no_pair_held node packet finds n s = at (has_pair (pend n.records) packet.name packet.message) refl
   where
     nothing : None ≡ Some packet.message → ⊥
     nothing e = cc
@@ -57,6 +59,13 @@ none_truth node packet finds n s = at (has_pair (pend n.records) packet.name pac
     at : (b : Bool) → has_pair (pend n.records) packet.name packet.message ≡ b → false ≡ has_pair (pend n.records) packet.name packet.message
     at false e = sym e
     at true e = absurd (nothing (finds n s ∙ own-unique (memory_in node).limits (memory_in node).node n.records s.rules packet.name packet.message e))
+
+-- both together bear the packet out
+pub both_true : {A : Type 0} (node : Place A) (packet : Carried) (b : Bool) → HoldsPair node packet true → IsAsCertified node packet b → TellsTruth node packet b
+both_true node packet b pair certified n s = certified n s ∙ ap (λ (c : Bool). c && (not (says_certified packet.flags) || has_name (cert n.records) packet.name)) (pair n s)
+
+pub pair_lacks : {A : Type 0} (node : Place A) (packet : Carried) → HoldsPair node packet false → TellsTruth node packet false
+pair_lacks node packet pair n s = ap (λ (c : Bool). c && (not (says_certified packet.flags) || has_name (cert n.records) packet.name)) (pair n s)
 
 -- ---- refused before it reaches the node
 
@@ -92,7 +101,7 @@ module _ {A : Type 0} (size : Limits) (places : List (Place A)) (group : IsGroup
   truth_is : (w : World) → Shows (shown size places) w → b ≡ truthful w packet
   truth_is w s =
       tells (w.node (suc source)) (place_shows size places group source from from was w s)
-      ∙ ap (λ (q : ℕ). has_pair (pend (w.node q).records) packet.name packet.message) (sym ends.source.0)
+      ∙ ap (λ (q : ℕ). bears_out (w.node q).records packet) (sym ends.source.0)
 
   -- a truthful packet may come to the node
   pub may_reach : (node : Place A) → slice_get places i ≡ Some node → MayReach node packet b
@@ -106,7 +115,7 @@ module _ {A : Type 0} (size : Limits) (places : List (Place A)) (group : IsGroup
       over (place.Down f) l k v = tt
       over (place.Ready a) l k v = λ t.
           let held : has_pair (view_of (shown size places) packet.source).pairs packet.name packet.message ≡ true =
-          (group.sound.shows.nodes packet.source).pairs packet.name packet.message ∙ (sym (truth_is group.sound.world group.sound.shows) ∙ t) in
+          (group.sound.shows.nodes packet.source).pairs packet.name packet.message ∙ borne-pair (stored w packet.source) packet (sym (truth_is w group.sound.shows) ∙ t) in
           let meets : MayArrive size (suc i) (view_of (shown size places) (suc i)).pairs packet.name packet.message = arrival-meets (shown size places) group.sound (suc i) packet.source packet.name packet.message held in
           let low : source < size.n = ends.source.1 in
           record {

@@ -1,22 +1,21 @@
 -- A refused event leaves the world.
-use Rattle.std.proofs.Common.{Bool, Err, List, None, Ok, Option, Result, Some, [], ap, append-nil, ap₂, bytes_eq, cond, eqb-true, false, find, is_none, length, nat_lt, not, refl, sym, true, ℕ, ◌&&◌, ◌++◌, ◌==◌, ◌||◌, ◌∙◌, ◌∷◌, ◌≡◌}
+use Rattle.std.proofs.Common.{Bool, Err, List, None, Ok, Option, Result, Some, [], ap, append-nil, ap₂, bytes_eq, cond, eqb-true, false, find, length, nat_lt, not, refl, sym, true, ℕ, ◌&&◌, ◌++◌, ◌==◌, ◌||◌, ◌∙◌, ◌∷◌, ◌≡◌}
 use Rattle.std.proofs.Math.Path.{fun_ext}
 use Rattle.std.proofs.lemmas.Bool.{cond_both}
+use Rattle.urb_group.proofs.ArriveCases.{arrive-cases}
 use Rattle.urb_group.specs.Step.{Arrive, Commit, Crash, Event, Fail, Restart, Submit, Tick, at_node, bytes_arrive, is_for, packet_arrives, step, world_after}
 use Rattle.urb_group.specs.World.{World, truthful, updated}
-use Rattle.urb_names.specs.Acknowledged.{acked, with_ack}
 use Rattle.urb_names.specs.Carried.{Carried}
-use Rattle.urb_names.specs.Names.{has_name}
 use Rattle.urb_names.specs.Naming.{Content, Label, Limits}
-use Rattle.urb_names.specs.Nodes.{is_node, majority_passes}
-use Rattle.urb_names.specs.Pairs.{is_numbered, message_of, next_number}
+use Rattle.urb_names.specs.Nodes.{is_node}
+use Rattle.urb_names.specs.Pairs.{is_numbered, next_number}
+use Rattle.urb_names.specs.declared.flags.Flags.{Flags}
 use Rattle.urb_names.specs.declared.refusal.PacketFault.{PacketFault}
 use Rattle.urb_names.specs.declared.refusal.Refusal.{Refusal}
 use Rattle.urb_node.specs.Part.{Down, Node, Ready, State, Storing}
 use Rattle.urb_node.specs.Replies.{Refused, Reply, packets_in}
 use Rattle.urb_node.specs.Steps.{arrives, commits, crashes, fails, is_down, is_storing, next_position, restarts, same_record, says, submits, submits_by_number, ticks}
 use Rattle.urb_stable.specs.Entries.{Entry}
-use Rattle.urb_stable.specs.Records.{cert, pend}
 use Rattle.urb_names.specs.declared.refusal.Refusal.TheVariants as refusal
 
 -- where it refuses, the node stays
@@ -42,21 +41,15 @@ submit-quiet size p m node =
     (λ _. cond_both (nat_lt 1024 (length m.payload)) _ _ (Quiet node) (λ _ r e. refl)
     (λ _. submits-new size p m (find (is_numbered m.client m.number) node.broadcast) node)))
 
-arrive-quiet : (size : Limits) (p q : ℕ) (x : Label) (m : Content) (node : Node) → Quiet node (arrives size p q x m node)
-arrive-quiet size p q x m node =
-    cond_both (is_none (message_of (pend node.records) x)) _ _ (Quiet node)
-    (λ _. cond_both (majority_passes size.n (λ z. (z == p) || (z == q))) _ _ (Quiet node) (λ _ r e. cc) (λ _ r e. cc))
-    (λ _. cond_both (not (has_name (cert node.records) x)) _ _ (Quiet node)
-    (λ _. cond_both (majority_passes size.n (acked (with_ack node.acks x q) x)) _ _ (Quiet node) (λ _ r e. cc)
-    (λ _. cond_both (acked node.acks x q) _ _ (Quiet node) (λ _ r e. cc) (λ _ r e. cc)))
-    (λ _ r e. cc))
+arrive-quiet : (size : Limits) (p q : ℕ) (x : Label) (m : Content) (flags : Option Flags) (node : Node) → Quiet node (arrives size p q x m flags node)
+arrive-quiet size p q x m flags node = arrive-cases (Quiet node) size p q x m flags node (λ cause r e. cc) (λ cause r e. cc) (λ acks heard cause r e. cc) (λ acks heard told r e. cc)
 
 packet-quiet : (w : World) (p : ℕ) (packet : Carried) → Quiet (w.node p) (packet_arrives w p packet)
 packet-quiet w p packet =
     cond_both (is_down (w.node p).state) _ _ (Quiet (w.node p)) (λ _ r e. refl)
     (λ _. cond_both (is_storing (w.node p).state) _ _ (Quiet (w.node p)) (λ _ r e. refl)
     (λ _. cond_both (not (truthful w packet)) _ _ (Quiet (w.node p)) (λ _ r e. refl)
-    (λ _. arrive-quiet w.size p packet.source packet.name packet.message (w.node p))))
+    (λ _. arrive-quiet w.size p packet.source packet.name packet.message packet.flags (w.node p))))
 
 commit-quiet : (n p position : ℕ) (entry : Entry) (node : Node) (s : State) → Quiet node (commits n p position entry node s)
 commit-quiet n p position entry node Ready = λ r e. refl

@@ -11,6 +11,7 @@ use Rattle.urb_group.proofs.Submits.{leads-submits}
 use Rattle.urb_group.proofs.Ticks.{leads-ticks}
 use Rattle.urb_group.proofs.Growth.{run-goes_on, step-goes_on}
 use Rattle.urb_group.proofs.NodesSteps.{Leads, StepKept, nodes-step}
+use Rattle.urb_group.proofs.Truths.{borne-pair}
 use Rattle.urb_group.specs.Invariant.{IsKept, NodesKept}
 use Rattle.urb_group.specs.Truth.{AllTruthful, ToldTruth}
 use Rattle.urb_group.specs.Step.{Arrive, Commit, Crash, Event, Fail, IsReached, IsStart, Of_images, Of_new, Restart, Submit, Tick, at_node, bytes_arrive, is_for, packet_arrives, run, step, world_after}
@@ -48,7 +49,7 @@ packet-leads w p packet kept =
     cond_both (is_down (w.node p).state) _ _ (Leads w.size (stored w) p) (λ _. leads-refuses w.size (stored w) p (w.node p) refusal.Down refl (kept p))
     (λ _. cond_both (is_storing (w.node p).state) _ _ (Leads w.size (stored w) p) (λ _. leads-refuses w.size (stored w) p (w.node p) refusal.Busy refl (kept p))
     (λ _. cond_both (not (truthful w packet)) _ _ (Leads w.size (stored w) p) (λ _. leads-refuses w.size (stored w) p (w.node p) refusal.Forged refl (kept p))
-    (λ t. leads-arrives w.size (stored w) (all_kept w kept) p packet.source packet.name packet.message (w.node p) refl (kept p) (not-false (truthful w packet) t))))
+    (λ t. leads-arrives w.size (stored w) (all_kept w kept) p packet.source packet.name packet.message packet.flags (w.node p) refl (kept p) (borne-pair (stored w packet.source) packet (not-false (truthful w packet) t)))))
 
 bytes-keep : (w : World) (p : ℕ) (bytes : Result Carried PacketFault) → NodesKept w → StepKept (bytes_arrive w p bytes)
 bytes-keep w p (Err fault) kept = refused-keeps w (refusal.Packet fault) kept

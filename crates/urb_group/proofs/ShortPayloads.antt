@@ -1,26 +1,28 @@
 -- Every payload that is stored, held or doubtful is within the limit, in every world of a run.
-use Rattle.std.proofs.Common.{Bool, Err, List, None, Ok, Option, Result, Some, [], ap, bytes_eq, cond, false, find, is_none, length, nat_lt, not, refl, subst, suc, sym, true, zero, ℕ, ⊎_elim, ◌&&◌, ◌++◌, ◌==◌, ◌||◌, ◌∷◌, ◌≡◌, ◌≤◌}
+use Rattle.std.proofs.Common.{Bool, Err, List, None, Ok, Option, Result, Some, [], ap, bytes_eq, cond, false, find, length, nat_lt, not, refl, subst, suc, sym, true, zero, ℕ, ⊎_elim, ◌&&◌, ◌++◌, ◌==◌, ◌||◌, ◌∷◌, ◌≡◌, ◌≤◌}
 use Rattle.std.proofs.lemmas.Bool.{cond_both, false≢true, ltb-false, not-false}
 use Rattle.std.proofs.lemmas.List.Elements.{recursion_from_All}
 use Rattle.std.specs.List.{All, AllByRecursion}
+use Rattle.urb_group.proofs.ArriveCases.{arrive-cases, told_node}
+use Rattle.urb_group.proofs.Truths.{borne-pair}
 use Rattle.urb_group.specs.Invariant.{AreShort, DoubtShort, NodeShort, NodesShort}
 use Rattle.urb_group.specs.Step.{Arrive, Commit, Crash, Event, Fail, Restart, Submit, Tick, at_node, bytes_arrive, is_for, packet_arrives, run, step, world_after}
-use Rattle.urb_group.specs.World.{World, image_of, opened, truthful}
+use Rattle.urb_group.specs.World.{World, image_of, opened, stored, truthful}
 use Rattle.urb_names.proofs.FoundPairs.{has_pair-cases}
 use Rattle.urb_names.proofs.OrderedPairs.{has_pair-first}
-use Rattle.urb_names.specs.Acknowledged.{acked, with_ack}
 use Rattle.urb_names.specs.Carried.{Carried}
-use Rattle.urb_names.specs.Names.{has_name, name}
+use Rattle.urb_names.specs.Names.{name}
 use Rattle.urb_names.specs.Naming.{Content, Label, Limits}
-use Rattle.urb_names.specs.Nodes.{is_node, majority_passes}
-use Rattle.urb_names.specs.Pairs.{has_pair, is_numbered, message_of, next_number}
+use Rattle.urb_names.specs.Nodes.{is_node}
+use Rattle.urb_names.specs.Pairs.{has_pair, is_numbered, next_number}
+use Rattle.urb_names.specs.declared.flags.Flags.{Flags}
 use Rattle.urb_names.specs.declared.refusal.PacketFault.{PacketFault}
-use Rattle.urb_node.specs.Part.{Down, Node, Ready, State, Storing, packet_from}
+use Rattle.urb_node.specs.Part.{Down, Node, Ready, State, Storing}
 use Rattle.urb_node.specs.Replies.{Refused, Reply}
 use Rattle.urb_node.specs.Steps.{arrives, comes_up, commits, crashes, doubt, fails, goes_down, is_down, is_storing, next_position, restarts, same_record, says, submits, submits_by_number, ticks}
 use Rattle.urb_stable.proofs.JoinedRecords.{pend-append}
 use Rattle.urb_stable.specs.Entries.{Entry, IsEntry}
-use Rattle.urb_stable.specs.Records.{cert, pend}
+use Rattle.urb_stable.specs.Records.{pend}
 use Rattle.urb_stable.specs.declared.record.Record.TheVariants.{Cert, Pend, PendCert}
 use Rattle.urb_names.specs.declared.refusal.Refusal.TheVariants as refusal
 use Rattle.urb_node.specs.declared.cause.Cause.{Cause}
@@ -89,16 +91,10 @@ submit-short size p m node =
     (λ _. cond_both (nat_lt 1024 (length m.payload)) _ _ (Keeps node) (λ _ h. h)
     (λ l. number-short size p m (find (is_numbered m.client m.number) node.broadcast) node (ltb-false 1024 (length m.payload) l))))
 
-arrive-short : (size : Limits) (p q : ℕ) (x : Label) (m : Content) (node : Node) → length m.payload ≤ 1024 → Keeps node (arrives size p q x m node)
-arrive-short size p q x m node l =
-    cond_both (is_none (message_of (pend node.records) x)) _ _ (Keeps node)
-    (λ _. cond_both (majority_passes size.n (λ z. (z == p) || (z == q))) _ _ (Keeps node)
-    (λ _. holds node (PendCert x m) (Some (packet_from q)) (short-certified x m l)) (λ _. holds node (Pend x m) (Some (packet_from q)) (short-pend x m l)))
-    (λ _. cond_both (not (has_name (cert node.records) x)) _ _ (Keeps node)
-    (λ _. cond_both (majority_passes size.n (acked (with_ack node.acks x q) x)) _ _ (Keeps node)
-    (λ _ h. record { stored = h.stored; doubtful = short-cert x })
-    (λ _. cond_both (acked node.acks x q) _ _ (Keeps node) (λ _ h. stays node (record node { acks = with_ack node.acks x q }) refl refl h) (λ _ h. stays node (record node { acks = with_ack node.acks x q }) refl refl h)))
-    (λ _ h. h))
+arrive-short : (size : Limits) (p q : ℕ) (x : Label) (m : Content) (flags : Option Flags) (node : Node) → length m.payload ≤ 1024 → Keeps node (arrives size p q x m flags node)
+arrive-short size p q x m flags node l =
+    arrive-cases (Keeps node) size p q x m flags node (λ cause. holds node (Pend x m) cause (short-pend x m l)) (λ cause. holds node (PendCert x m) cause (short-certified x m l))
+    (λ acks heard cause h. record { stored = h.stored; doubtful = short-cert x }) (λ acks heard told h. stays node (told_node node acks heard) refl refl h)
 
 commit-short : (n p position : ℕ) (entry : Entry) (node : Node) (s : State) → node.state ≡ s → Keeps node (commits n p position entry node s)
 commit-short n p position entry node Ready e = λ h. h
@@ -140,7 +136,7 @@ packet-short w p packet short =
     cond_both (is_down (w.node p).state) _ _ (Keeps (w.node p)) (λ _ h. h)
     (λ _. cond_both (is_storing (w.node p).state) _ _ (Keeps (w.node p)) (λ _ h. h)
     (λ _. cond_both (not (truthful w packet)) _ _ (Keeps (w.node p)) (λ _ h. h)
-    (λ t. arrive-short w.size p packet.source packet.name packet.message (w.node p) ((short packet.source).stored packet.name packet.message (not-false (truthful w packet) t)))))
+    (λ t. arrive-short w.size p packet.source packet.name packet.message packet.flags (w.node p) ((short packet.source).stored packet.name packet.message (borne-pair (stored w packet.source) packet (not-false (truthful w packet) t))))))
 
 outcome-short : (w : World) (p : ℕ) (outcome : Reply × Node) → Keeps (w.node p) outcome → NodesShort w → NodesShort (at_node w p outcome).1
 outcome-short w p outcome h short q =

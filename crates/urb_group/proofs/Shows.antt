@@ -7,7 +7,7 @@ use Rattle.urb_group.specs.Step.{at_node, world_after}
 use Rattle.urb_group.specs.World.{AreImages, World, image_of, opened, started, updated}
 use Rattle.urb_names.specs.Naming.{Limits}
 use Rattle.urb_names.specs.Nodes.{is_node}
-use Rattle.urb_node.proofs.Openings.{shows-opened_node}
+use Rattle.urb_node.proofs.Openings.{nothing-shows}
 use Rattle.urb_node.specs.Part.{Node, opened_node}
 use Rattle.urb_node.specs.Replies.{Refused, Reply}
 use Rattle.urb_node.specs.Shown.{NodeView, ShowsNode, no_view}
@@ -75,5 +75,5 @@ pub shows-new : (size : Limits) → Shows (record { size = size; nodes = replica
 shows-new size = record { size = refl; nodes = each }
   where
     each : (q : ℕ) → ShowsNode size q (view_of (record { size = size; nodes = replicate size.n no_view }) q) (opened_node q [])
-    each zero = shows-opened_node size zero no_view [] tt (λ x m. refl) (λ x. refl) refl refl refl refl (λ x q c. refl)
-    each (suc j) = subst (λ (v : NodeView). ShowsNode size (suc j) v (opened_node (suc j) [])) (sym (all_same size.n j)) (shows-opened_node size (suc j) no_view [] tt (λ x m. refl) (λ x. refl) refl refl refl refl (λ x q c. refl))
+    each zero = nothing-shows size zero
+    each (suc j) = subst (λ (v : NodeView). ShowsNode size (suc j) v (opened_node (suc j) [])) (sym (all_same size.n j)) (nothing-shows size (suc j))

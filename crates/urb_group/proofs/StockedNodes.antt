@@ -66,7 +66,7 @@ commit-node w p position entry cause there held at =
       ap (λ (n : Node). n.state) is,
     )
   where
-    taken : commits w.size.n p position entry (w.node p) (w.node p).state ≡ (Stored (done w.size.n p entry (w.node p)), keeps_record p entry cause (w.node p))
+    taken : commits w.size.n p position entry (w.node p) (w.node p).state ≡ (Stored (done w.size.n p entry cause (w.node p)), keeps_record p entry cause (w.node p))
     taken =
         ap (commits w.size.n p position entry (w.node p)) held
         ∙ cond-true ((position == next_position (w.node p)) && same_record entry entry) _ _ (and_from (position == next_position (w.node p)) _ (eq-eqb position (next_position (w.node p)) at) (same_record-same entry))

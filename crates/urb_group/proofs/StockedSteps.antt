@@ -1,23 +1,22 @@
 -- Events by which no record joins a node's list: what a stop may leave of the node stays, or grows by a held record.
-use Rattle.std.proofs.Common.{Bool, Err, List, None, Ok, Option, Result, Some, bytes_eq, cond, eqb-true, false, find, inl, inr, is_none, length, nat_lt, not, refl, subst, sym, true, ℕ, ◌==◌, ◌||◌, ◌∙◌, ◌≡◌, ◌⊎◌, ⊎_elim}
+use Rattle.std.proofs.Common.{Bool, Err, List, None, Ok, Option, Result, Some, bytes_eq, cond, eqb-true, false, find, inl, inr, length, nat_lt, not, refl, subst, sym, true, ℕ, ◌==◌, ◌||◌, ◌∙◌, ◌≡◌, ◌⊎◌, ⊎_elim}
 use Rattle.std.proofs.lemmas.Bool.{cond_both, false≢true}
+use Rattle.urb_group.proofs.ArriveCases.{arrive-cases}
 use Rattle.urb_group.specs.Step.{Arrive, Commit, Crash, Event, Fail, Restart, Submit, Tick, at_node, bytes_arrive, is_for, packet_arrives, step, world_after}
 use Rattle.urb_group.specs.Stocked.{IsStoreOf, LeavesOf}
 use Rattle.urb_group.specs.Stopping.{MayLeave}
 use Rattle.urb_group.specs.World.{World, truthful}
-use Rattle.urb_names.specs.Acknowledged.{acked, with_ack}
 use Rattle.urb_names.specs.Carried.{Carried}
-use Rattle.urb_names.specs.Names.{has_name}
 use Rattle.urb_names.specs.Naming.{Content, Label, Limits}
-use Rattle.urb_names.specs.Nodes.{is_node, majority_passes}
-use Rattle.urb_names.specs.Pairs.{is_numbered, message_of, next_number}
+use Rattle.urb_names.specs.Nodes.{is_node}
+use Rattle.urb_names.specs.Pairs.{is_numbered, next_number}
+use Rattle.urb_names.specs.declared.flags.Flags.{Flags}
 use Rattle.urb_names.specs.declared.refusal.PacketFault.{PacketFault}
 use Rattle.urb_names.specs.declared.refusal.Refusal.TheVariants as refusal
 use Rattle.urb_node.specs.Part.{Down, Node, Ready, State, Storing}
 use Rattle.urb_node.specs.Replies.{Refused, Reply}
 use Rattle.urb_node.specs.Steps.{arrives, crashes, doubt, fails, is_down, is_storing, submits, submits_by_number, ticks}
 use Rattle.urb_stable.specs.Entries.{Entry}
-use Rattle.urb_stable.specs.Records.{cert, pend}
 use Rattle.urb_stable.specs.Storing.{IsContents}
 use Rattle.urb_stable.specs.declared.stable.Stable.{Ghosts}
 
@@ -57,21 +56,16 @@ submit-stays size p m node =
     (λ e. cond_both (nat_lt 1024 (length m.payload)) _ _ (Leaves node) (λ _. same node)
     (λ _. submits-stay size p m (find (is_numbered m.client m.number) node.broadcast) node d e)))
 
-arrive-stays : (size : Limits) (p q : ℕ) (x : Label) (m : Content) (node : Node) → is_down node.state ≡ false → is_storing node.state ≡ false → Leaves node (arrives size p q x m node)
-arrive-stays size p q x m node d e =
-    cond_both (is_none (message_of (pend node.records) x)) _ _ (Leaves node)
-    (λ _. cond_both (majority_passes size.n (λ z. (z == p) || (z == q))) _ _ (Leaves node) (λ _. from_ready node _ d e refl) (λ _. from_ready node _ d e refl))
-    (λ _. cond_both (not (has_name (cert node.records) x)) _ _ (Leaves node)
-    (λ _. cond_both (majority_passes size.n (acked (with_ack node.acks x q) x)) _ _ (Leaves node) (λ _. from_ready node _ d e refl)
-    (λ _. cond_both (acked node.acks x q) _ _ (Leaves node) (λ _. from_ready node _ d e refl) (λ _. from_ready node _ d e refl)))
-    (λ _. same node))
+arrive-stays : (size : Limits) (p q : ℕ) (x : Label) (m : Content) (flags : Option Flags) (node : Node) → is_down node.state ≡ false → is_storing node.state ≡ false → Leaves node (arrives size p q x m flags node)
+arrive-stays size p q x m flags node d e =
+    arrive-cases (Leaves node) size p q x m flags node (λ cause. from_ready node _ d e refl) (λ cause. from_ready node _ d e refl) (λ acks heard cause. from_ready node _ d e refl) (λ acks heard told. from_ready node _ d e refl)
 
 packet-stays : (w : World) (p : ℕ) (packet : Carried) → Leaves (w.node p) (packet_arrives w p packet)
 packet-stays w p packet =
     cond_both (is_down (w.node p).state) _ _ (Leaves (w.node p)) (λ _. same (w.node p))
     (λ d. cond_both (is_storing (w.node p).state) _ _ (Leaves (w.node p)) (λ _. same (w.node p))
     (λ e. cond_both (not (truthful w packet)) _ _ (Leaves (w.node p)) (λ _. same (w.node p))
-    (λ _. arrive-stays w.size p packet.source packet.name packet.message (w.node p) d e)))
+    (λ _. arrive-stays w.size p packet.source packet.name packet.message packet.flags (w.node p) d e)))
 
 fail-stays : (p : ℕ) (node : Node) (s : State) → node.state ≡ s → Leaves node (fails p node s)
 fail-stays p node Ready f = same node

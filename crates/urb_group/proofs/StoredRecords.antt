@@ -1,17 +1,17 @@
 -- Which events store a record, and how much of a log a stored record releases.
-use Rattle.std.proofs.Common.{Bool, Err, None, Ok, Option, Result, Some, [], ap, arith, bytes_eq, cond, eqb-true, false, find, is_none, length, length-append, nat_lt, not, refl, subst, sym, true, ℕ, ◌&&◌, ◌++◌, ◌+◌, ◌==◌, ◌||◌, ◌∷◌, ◌≡◌}
+use Rattle.std.proofs.Common.{Bool, Err, None, Ok, Option, Result, Some, [], ap, arith, bytes_eq, cond, eqb-true, false, find, length, length-append, nat_lt, not, refl, subst, sym, true, ℕ, ◌&&◌, ◌++◌, ◌+◌, ◌==◌, ◌||◌, ◌∷◌, ◌≡◌}
 use Rattle.std.proofs.lemmas.Bool.{cond_both}
+use Rattle.urb_group.proofs.ArriveCases.{arrive-cases}
 use Rattle.urb_group.proofs.Growth.{log-begins}
 use Rattle.urb_group.proofs.NodesSteps.{updated-at}
 use Rattle.urb_group.specs.Delivering.{StoresNothing}
 use Rattle.urb_group.specs.Step.{Arrive, Commit, Crash, Event, Fail, Restart, Submit, Tick, at_node, bytes_arrive, is_for, packet_arrives, step, world_after}
 use Rattle.urb_group.specs.World.{World, stored, truthful}
-use Rattle.urb_names.specs.Acknowledged.{acked, with_ack}
 use Rattle.urb_names.specs.Carried.{Carried}
-use Rattle.urb_names.specs.Names.{has_name}
 use Rattle.urb_names.specs.Naming.{Content, Label, Limits}
-use Rattle.urb_names.specs.Nodes.{is_node, majority_passes}
-use Rattle.urb_names.specs.Pairs.{is_numbered, message_of, next_number}
+use Rattle.urb_names.specs.Nodes.{is_node}
+use Rattle.urb_names.specs.Pairs.{is_numbered, next_number}
+use Rattle.urb_names.specs.declared.flags.Flags.{Flags}
 use Rattle.urb_names.specs.declared.refusal.PacketFault.{PacketFault}
 use Rattle.urb_names.specs.declared.refusal.Refusal.TheVariants as refusal
 use Rattle.urb_node.specs.Part.{Down, Node, Ready, State, Storing}
@@ -19,7 +19,6 @@ use Rattle.urb_node.specs.Replies.{Done, Refused, Reply, Stored}
 use Rattle.urb_node.specs.Steps.{arrives, commits, crashes, done, fails, is_down, is_storing, keeps_record, next_position, same_record, submits, submits_by_number, ticks}
 use Rattle.urb_stable.specs.Entries.{Entry}
 use Rattle.urb_stable.specs.Log.{log}
-use Rattle.urb_stable.specs.Records.{cert, pend}
 
 -- ---- events that store nothing
 
@@ -39,21 +38,15 @@ submit-stays size p m node =
     (λ _. cond_both (is_storing node.state) _ _ (Stays node) (λ _. refl)
     (λ _. cond_both (nat_lt 1024 (length m.payload)) _ _ (Stays node) (λ _. refl) (λ _. submits-stays size p m (find (is_numbered m.client m.number) node.broadcast) node)))
 
-arrive-stays : (size : Limits) (p q : ℕ) (x : Label) (m : Content) (node : Node) → Stays node (arrives size p q x m node)
-arrive-stays size p q x m node =
-    cond_both (is_none (message_of (pend node.records) x)) _ _ (Stays node)
-    (λ _. cond_both (majority_passes size.n (λ z. (z == p) || (z == q))) _ _ (Stays node) (λ _. refl) (λ _. refl))
-    (λ _. cond_both (not (has_name (cert node.records) x)) _ _ (Stays node)
-    (λ _. cond_both (majority_passes size.n (acked (with_ack node.acks x q) x)) _ _ (Stays node) (λ _. refl)
-    (λ _. cond_both (acked node.acks x q) _ _ (Stays node) (λ _. refl) (λ _. refl)))
-    (λ _. refl))
+arrive-stays : (size : Limits) (p q : ℕ) (x : Label) (m : Content) (flags : Option Flags) (node : Node) → Stays node (arrives size p q x m flags node)
+arrive-stays size p q x m flags node = arrive-cases (Stays node) size p q x m flags node (λ cause. refl) (λ cause. refl) (λ acks heard cause. refl) (λ acks heard told. refl)
 
 packet-stays : (w : World) (p : ℕ) (packet : Carried) → Stays (w.node p) (packet_arrives w p packet)
 packet-stays w p packet =
     cond_both (is_down (w.node p).state) _ _ (Stays (w.node p)) (λ _. refl)
     (λ _. cond_both (is_storing (w.node p).state) _ _ (Stays (w.node p)) (λ _. refl)
     (λ _. cond_both (not (truthful w packet)) _ _ (Stays (w.node p)) (λ _. refl)
-    (λ _. arrive-stays w.size p packet.source packet.name packet.message (w.node p))))
+    (λ _. arrive-stays w.size p packet.source packet.name packet.message packet.flags (w.node p))))
 
 tick-stays : (n p : ℕ) (node : Node) → Stays node (ticks n p node)
 tick-stays n p node = cond_both (is_down node.state) _ _ (Stays node) (λ _. refl) (λ _. cond_both (is_storing node.state) _ _ (Stays node) (λ _. refl) (λ _. refl))
@@ -103,12 +96,12 @@ module _ (told : Done) where
   commits-release n p position entry node Ready = λ h. cc
   commits-release n p position entry node (Down doubtful) = λ h. cc
   commits-release n p position entry node (Storing held cause) =
-      cond_both ((position == next_position node) && same_record entry held) (Stored (done n p held node), keeps_record p held cause node) (Refused refusal.Stale, node) (Releases node)
+      cond_both ((position == next_position node) && same_record entry held) (Stored (done n p held cause node), keeps_record p held cause node) (Refused refusal.Stale, node) (Releases node)
       (λ _ h. when_stored h) (λ _ h. cc)
     where
-      when_stored : Stored (done n p held node) ≡ Stored told → length (log (node.records ++ held ∷ [])) ≡ length (log node.records) + told.released
+      when_stored : Stored (done n p held cause node) ≡ Stored told → length (log (node.records ++ held ∷ [])) ≡ length (log node.records) + told.released
       when_stored h =
-          let same : done n p held node ≡ told = cc in
+          let same : done n p held cause node ≡ told = cc in
           let released = ap (λ (d : Done). d.released) same in
           let grown = log-begins node.records (node.records ++ held ∷ []) (held ∷ [], refl) in
           let longer = ap length grown.1 in

@@ -4,13 +4,13 @@ use Rattle.std.proofs.lemmas.Bool.{cond_both}
 use Rattle.urb_group.proofs.Drafting.{leads-refuses}
 use Rattle.urb_group.proofs.NodesSteps.{Leads, leads-same}
 use Rattle.urb_group.specs.Invariant.{NodeKept}
-use Rattle.urb_names.proofs.SentPairs.{all-from, in_itself, in_resent, in_rising}
+use Rattle.urb_names.proofs.SentPairs.{all-from, in_due, in_itself, in_resent, in_rising}
 use Rattle.urb_names.specs.Cyclic.{rising}
 use Rattle.urb_names.specs.Naming.{Limits}
 use Rattle.urb_node.specs.Part.{Node}
 use Rattle.urb_node.specs.Steps.{due, is_down, is_storing, resends, ticks}
 use Rattle.urb_stable.specs.Entries.{Entry}
-use Rattle.urb_stable.specs.Records.{pend}
+use Rattle.urb_stable.specs.Records.{cert, pend}
 use Rattle.urb_names.specs.declared.refusal.Refusal.TheVariants as refusal
 
 pub leads-ticks : (size : Limits) (images : ℕ → List Entry) (p : ℕ) (node : Node) → images p ≡ node.records → NodeKept size images p node → Leads size images p (ticks size.n p node)
@@ -19,4 +19,6 @@ leads-ticks size images p node e k =
     (λ _. cond_both (is_storing node.state) _ _ (Leads size images p) (λ _. leads-refuses size images p node refusal.Busy e k)
     (λ _. leads-same size images p (resends size.n p node) e
     (record { kept = k.kept; state = k.state; acks = k.acks; broadcast = k.broadcast })
-    (all-from size.n p (pend node.records) (due node) (in_resent (pend node.records) node.cursor (rising (pend node.records)) (in_rising (pend node.records) (pend node.records) (in_itself (pend node.records)))))))
+    (all-from size.n p (pend node.records) (cert node.records) node.heard (due size.n p node)
+    (in_resent (pend node.records) node.cursor _
+    (in_due (pend node.records) size.n p node.heard (rising (pend node.records)) (in_rising (pend node.records) (pend node.records) (in_itself (pend node.records))))))))

@@ -133,12 +133,12 @@ module _ (group : GroupView) (draft : Placed) (held : held_draft group draft.nod
   pub commit-stored : (told : Done) × ((step w (Commit draft.node draft.pos draft.entry)).0 ≡ Stored told)
   unfolding step
   commit-stored = (
-    done w.size.n draft.node draft.entry (w.node draft.node),
+    done w.size.n draft.node draft.entry is_as.cause (w.node draft.node),
     node-reply group draft.node w shows (commits w.size.n draft.node draft.pos draft.entry (w.node draft.node) (w.node draft.node).state) is_as.there
         ∙ (ap (λ (t : part.State). (commits w.size.n draft.node draft.pos draft.entry (w.node draft.node) t).0) (state-is group draft.node w shows (part.Storing draft.entry is_as.cause) is_as.state)
         ∙ ap (λ (o : Reply × Node). o.0)
         (cond-true ((draft.pos == next_position (w.node draft.node)) && same_record draft.entry draft.entry)
-        (Stored (done w.size.n draft.node draft.entry (w.node draft.node)), keeps_record draft.node draft.entry is_as.cause (w.node draft.node)) (refuses (w.node draft.node) refusal.Stale)
+        (Stored (done w.size.n draft.node draft.entry is_as.cause (w.node draft.node)), keeps_record draft.node draft.entry is_as.cause (w.node draft.node)) (refuses (w.node draft.node) refusal.Stale)
         (and_from (draft.pos == next_position (w.node draft.node)) _
         (eq-eqb draft.pos (next_position (w.node draft.node)) (is_as.position ∙ ap (λ (i : ℕ). suc i) (shows.nodes draft.node).count)) (same_record-same draft.entry)))),
   )

@@ -2,7 +2,7 @@
 use Rattle.std.specs.Prelude.{List, None, Option, Some, false, replicate, ℕ, ◌∷◌, [], ◌≡◌, zero, suc, map}
 use Rattle.urb_group.specs.InMemory.{in_memory}
 use Rattle.urb_group.specs.World.{World, image_of, started}
-use Rattle.urb_group.specs.Scripts.{Accepts, Drafts, Line, Told, message, store, submit, ◌⇒◌}
+use Rattle.urb_group.specs.Scripts.{Accepts, Drafts, Line, Told, flags_of, message, store, submit, ◌⇒◌}
 use Rattle.urb_names.specs.Carried.{Carried}
 use Rattle.urb_names.specs.Names.{name}
 use Rattle.urb_names.specs.Naming.{Content, Label, Limits}
@@ -38,7 +38,7 @@ misfit rule node sender number = Some (record { rule = rule; node = node; name =
 
 -- a node in this state that has stored these records, and has counted and broadcast nothing
 abbrev pub node_in : State → List Entry → Node
-node_in state records = record { records = records; state = state; acks = []; cursor = None; broadcast = [] }
+node_in state records = record { records = records; state = state; acks = []; heard = []; cursor = None; broadcast = [] }
 
 -- a world all of whose nodes are this one
 abbrev pub world_of : Node → World
@@ -52,9 +52,13 @@ shut_by_failures = record (in_memory (Unit {0})) { is_honest = λ s. s.doubtful 
 abbrev pub filled : ℕ → ℕ → ℕ → Content
 filled client number count = record { client = client; number = number; payload = replicate count 120 }
 
--- a packet from q to p
+-- a packet of version one from q to p
 abbrev pub carried : ℕ → ℕ → ℕ → ℕ → Content → Carried
-carried q p sender number m = record { source = q; target = p; name = name sender number; message = m }
+carried q p sender number m = record { source = q; target = p; name = name sender number; message = m; flags = None }
+
+-- one of version two, with the flags of this number
+abbrev pub flagged : ℕ → ℕ → ℕ → ℕ → ℕ → Content → Carried
+flagged flags q p sender number m = record (carried q p sender number m) { flags = Some (flags_of flags) }
 
 -- node 1 of two submits as many messages as these, from this number on, and stores each
 abbrev pub stored_from : ℕ → ℕ → List (Line × Told)

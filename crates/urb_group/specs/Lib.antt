@@ -2,9 +2,12 @@ pub mod World
 pub mod Step
 pub mod Safe
 pub mod Truth
+pub mod Answering
 pub mod Growing
 pub mod Accepting
 pub mod Stopping
+pub mod Recovering
+pub mod Recovered
 pub mod Invariant
 pub mod Shown
 pub mod Places
@@ -24,3 +27,4 @@ pub mod Stocked
 pub mod InMemory
 pub mod Reopening
 pub mod Delivering
+pub mod Recoveries

@@ -101,7 +101,7 @@ arrives_as packet is_truthful size p node =
     if is_down node.state then refuses node refusal.Down
     else (if is_storing node.state then refuses node refusal.Busy
     else (if not is_truthful then refuses node refusal.Forged
-    else arrives size p packet.source packet.name packet.message node))
+    else arrives size p packet.source packet.name packet.message packet.flags node))
 
 -- a packet
 abbrev pub ArrivesAt : {A : Type 0} → Place A → Carried → Bool → Place A × Result (Taken A) Refusal → Type 0

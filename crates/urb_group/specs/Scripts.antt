@@ -1,6 +1,6 @@
 -- Scripts: lines that a group is run by, each beside its answer.
 use Prim.Native.String.{String}
-use Rattle.std.specs.Prelude.{Bool, Err, List, None, Ok, Option, Some, [], codes, false, filter, is_some, length, map, true, ℕ, ◌++◌, ◌∷◌, ◌≡◌}
+use Rattle.std.specs.Prelude.{Bool, Err, List, None, Ok, Option, Some, [], codes, false, filter, is_some, length, map, true, ℕ, ◌++◌, ◌==◌, ◌||◌, ◌∷◌, ◌≡◌}
 use Rattle.urb_group.specs.Step.{Arrive, Commit, Crash, Event, Fail, Restart, Submit, Tick, step}
 use Rattle.urb_group.specs.World.{World, opened, started, stored, updated}
 use Rattle.urb_names.specs.Carried.{Carried}
@@ -8,13 +8,14 @@ use Rattle.urb_names.specs.Names.{name}
 use Rattle.urb_names.specs.Naming.{Content, Label, Limits}
 use Rattle.urb_names.specs.Nodes.{nodes}
 use Rattle.urb_names.specs.Pairs.{message_of}
+use Rattle.urb_names.specs.declared.flags.Flags.{Flags}
 use Rattle.urb_names.specs.declared.refusal.PacketFault.{PacketFault}
 use Rattle.urb_names.specs.declared.refusal.Refusal.{Refusal}
 use Rattle.urb_names.specs.declared.refusal.Refusal.TheVariants as refusal
 use Rattle.urb_node.specs.Part.{Down, Node, Ready, State, Storing}
 use Rattle.urb_node.specs.Replies.{Drafted, Refused, Reply, Same, Sent, Stored, Up, WentDown}
 use Rattle.urb_node.specs.Steps.{next_position}
-use Rattle.urb_node.specs.declared.answer.Answer.TheVariants.{Accepted, Again, Noted}
+use Rattle.urb_node.specs.declared.answer.Answer.TheVariants.{Accepted, Again, Answered, Noted}
 use Rattle.urb_node.specs.declared.answer.Answer.{Answer}
 use Rattle.urb_stable.specs.Entries.{Entry}
 use Rattle.urb_stable.specs.Fitting.{first_misfit}
@@ -30,7 +31,7 @@ pub data Told : Type 0 where
   Drafts : (x : Label) (position : ℕ) → Told
   Accepts : (x : Label) (sent released : ℕ) → Told  -- a record of an own message is stored: how many packets went out, and how many names were released
   Takes : (x : Label) (sent released : ℕ) → Told  -- any other record is stored
-  Answers : (answer : Answer) → Told
+  Answers : (told : Answer (List (ℕ × Option Flags))) → Told  -- a packet in answer by its target and its flags
   Sends : (packets : List (ℕ × Label)) → Told  -- each by its target and its name
   Goes_down : (p : ℕ) → Told
   Comes_up : (p : ℕ) → Told
@@ -52,6 +53,14 @@ noted sender number = Answers (Noted (name sender number))
 abbrev pub again : ℕ → ℕ → Told
 again sender number = Answers (Again (name sender number))
 
+-- the flags of this number: 1 where a certificate is told of, 2 where one was heard, 3 for both, and 0 for neither
+abbrev pub flags_of : ℕ → Flags
+flags_of number = record { certified = (number == 1) || (number == 3); heard = (number == 2) || (number == 3) }
+
+-- this name is certified, which q is told by a packet with these flags
+abbrev pub answered : ℕ → ℕ → ℕ → ℕ → Told
+answered sender number q flags = Answers (Answered (name sender number) ((q, Some (flags_of flags)) ∷ []))
+
 -- the node went down
 abbrev pub down : ℕ → Told
 down p = Goes_down p
@@ -65,10 +74,17 @@ abbrev pub told_stored : Bool → Label → ℕ → ℕ → Told
 told_stored true x sent released = Accepts x sent released
 told_stored false x sent released = Takes x sent released
 
+-- an answer, in short
+abbrev pub told_answer : Answer (List Carried) → Answer (List (ℕ × Option Flags))
+told_answer (Accepted x) = Accepted x
+told_answer (Noted x) = Noted x
+told_answer (Again x) = Again x
+told_answer (Answered x packets) = Answered x (map (λ packet. (packet.target, packet.flags)) packets)
+
 -- a reply, in short
 abbrev pub told : Reply → Told
 told (Drafted x position) = Drafts x position
-told (Same answer) = Answers answer
+told (Same answer) = Answers (told_answer answer)
 told (Stored done) = told_stored done.accepted done.name (length done.sent) done.released
 told (Sent packets) = Sends (map (λ packet. (packet.target, packet.name)) packets)
 told (WentDown p) = Goes_down p
@@ -152,11 +168,19 @@ abbrev pub or_nothing : Option Content → Content
 or_nothing None = record { client = 1; number = 1; payload = [] }
 or_nothing (Some m) = m
 
--- what q has stored under the name comes to p; where there is none, a message that q doesn't hold
-abbrev pub arrive : ℕ → ℕ → ℕ → ℕ → Line
-arrive q p sender number scene =
+-- what q has stored under the name comes to p, with these flags; where there is none, a message that q doesn't hold
+abbrev pub arrive_with : Option Flags → ℕ → ℕ → ℕ → ℕ → Line
+arrive_with flags q p sender number scene =
     let stored_by_q = message_of (pend (stored scene.world q)) (name sender number) in
-    happens (Arrive p (Ok (record { source = q; target = p; name = name sender number; message = or_nothing stored_by_q }))) scene
+    happens (Arrive p (Ok (record { source = q; target = p; name = name sender number; message = or_nothing stored_by_q; flags = flags }))) scene
+
+-- in a packet of version one
+abbrev pub arrive : ℕ → ℕ → ℕ → ℕ → Line
+arrive q p sender number = arrive_with None q p sender number
+
+-- in a packet of version two, with the flags of this number
+abbrev pub arrive2 : ℕ → ℕ → ℕ → ℕ → ℕ → Line
+arrive2 q p sender number flags = arrive_with (Some (flags_of flags)) q p sender number
 
 -- a group that is opened, or the first misfit
 abbrev pub told_open : Option Misfit → Scene → Told × Scene

@@ -41,7 +41,7 @@ packet_arrives w p packet =
     if is_down (w.node p).state then refuses (w.node p) refusal.Down
     else (if is_storing (w.node p).state then refuses (w.node p) refusal.Busy
     else (if not (truthful w packet) then refuses (w.node p) refusal.Forged
-    else arrives w.size p packet.source packet.name packet.message (w.node p)))
+    else arrives w.size p packet.source packet.name packet.message packet.flags (w.node p)))
 
 -- bytes come to p: no packet, one for another node, or one for p
 abbrev pub bytes_arrive : World → ℕ → Result Carried PacketFault → Reply × World

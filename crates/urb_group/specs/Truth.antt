@@ -1,11 +1,11 @@
--- Packets that tell the truth: their source has stored the message that they carry.
+-- Packets that tell the truth: their source has stored the message that they carry, and the certificate that they tell of.
 use Rattle.std.specs.List.{AllByRecursion}
 use Rattle.std.specs.Prelude.{IsTrue, List}
 use Rattle.urb_group.specs.World.{World, truthful}
 use Rattle.urb_names.specs.Carried.{Carried}
 use Rattle.urb_node.specs.Replies.{Reply, packets_in}
 
--- each of these packets is of a pair that its source holds
+-- each of these packets is truthful
 abbrev pub AreTruthful : World → List Carried → Type 0
 AreTruthful w packets = AllByRecursion (λ packet. IsTrue (truthful w packet)) packets
 

@@ -1,13 +1,14 @@
 -- The world: all nodes, and every packet ever sent.
-use Rattle.std.specs.Prelude.{Bool, List, [], if◌then◌else◌, length, ℕ, ◌==◌, ◌≡◌}
+use Rattle.std.specs.Prelude.{Bool, List, [], if◌then◌else◌, length, not, ℕ, ◌&&◌, ◌==◌, ◌||◌, ◌≡◌}
 use Rattle.std.specs.List.{All}
-use Rattle.urb_names.specs.Carried.{Carried}
+use Rattle.urb_names.specs.Carried.{Carried, says_certified}
+use Rattle.urb_names.specs.Names.{has_name}
 use Rattle.urb_names.specs.Naming.{Limits}
 use Rattle.urb_names.specs.Pairs.{has_pair}
 use Rattle.urb_node.specs.Part.{Node, opened_node}
 use Rattle.urb_stable.specs.Entries.{Entry, IsEntry}
 pub use Rattle.urb_stable.specs.Images.{image_of}
-use Rattle.urb_stable.specs.Records.{pend}
+use Rattle.urb_stable.specs.Records.{cert, pend}
 
 -- a group's limits, the part of each node, and every packet ever sent
 pub record World : Type 0 where
@@ -36,6 +37,11 @@ pub record AreImages (size : Limits) (images : List (List Entry)) : Type 0 where
   pub one_each : length images ≡ size.n
   pub limits : All (All IsEntry) images
 
--- whether the source holds the packet's pair
+-- whether these records bear a packet out: they have its pair, and its certificate where it tells of one
+abbrev pub bears_out : List Entry → Carried → Bool
+bears_out records packet =
+    has_pair (pend records) packet.name packet.message && (not (says_certified packet.flags) || has_name (cert records) packet.name)
+
+-- whether the source has stored the packet's pair, and its certificate where the packet tells of one
 abbrev pub truthful : World → Carried → Bool
-truthful w packet = has_pair (pend (stored w packet.source)) packet.name packet.message
+truthful w packet = bears_out (stored w packet.source) packet

@@ -4,7 +4,7 @@ ghost use Rattle.std.specs.Prelude.{◌≡◌, false, MatchOption};
 ghost use Rattle.std.specs.Bool.{MatchBool};
 ghost use Rattle.urb_names.specs.Packets.{packet_of};
 ghost use Rattle.urb_group.specs.Calls.{Takes};
-ghost use Rattle.urb_group.specs.Reaching.{AreEnds, TellsTruth, is_for_node};
+ghost use Rattle.urb_group.specs.Reaching.{AreEnds, HoldsPair, IsAsCertified, TellsTruth, is_for_node};
 ghost use Rattle.urb_group.specs.Step.{Arrive};
 
 use crate::places::{Node, arrived, move_at, place_of};
@@ -36,8 +36,8 @@ fn is_carried<A: Allocator>(message: &Message<A>, packet: &PacketView<'_>) -> bo
 }
 
 // Whether a node has stored the message that a packet carries, under its name.
-fn tells_truth<A: Allocator + Copy>(node: &Node<A>, packet: &PacketView<'_>) -> bool
-    ensures { TellsTruth node.now packet.now result }
+fn holds_pair<A: Allocator + Copy>(node: &Node<A>, packet: &PacketView<'_>) -> bool
+    ensures { HoldsPair node.now packet.now result }
 {
     match node.message(packet.name()) {
         Some(message) => is_carried(message, packet),
@@ -45,13 +45,30 @@ fn tells_truth<A: Allocator + Copy>(node: &Node<A>, packet: &PacketView<'_>) -> 
     }
 }
 
+// Whether a node has stored a certificate of a packet's name, where the packet tells of one.
+fn is_as_certified<A: Allocator + Copy>(node: &Node<A>, packet: &PacketView<'_>) -> bool
+    ensures { IsAsCertified node.now packet.now result }
+{
+    match packet.flags() {
+        Some(flags) => !flags.certified || node.certified(packet.name()),
+        None => true,
+    }
+}
+
+// Whether a node's storage bears a packet out.
+fn tells_truth<A: Allocator + Copy>(node: &Node<A>, packet: &PacketView<'_>) -> bool
+    ensures { TellsTruth node.now packet.now result }
+{
+    holds_pair(node, packet) && is_as_certified(node, packet)
+}
+
 impl<A: Allocator + Copy> Group<A> {
     /// Bytes come to a node, as a datagram brings them, from wherever: only a packet for this node is taken, of a message
-    /// that the packet's source has stored.
+    /// that the packet's source has stored, and which tells of a certificate only where its source has stored one.
     ///
     /// `Packet`: the bytes are no packet. `BadNode`: it names a node that is none, or another than this one. `Down`,
-    /// `Busy`: the node takes none now; the packet is sent again. `Forged`: its source has not stored its message.
-    /// `NoMemory`: the packet is lost, and sent again.
+    /// `Busy`: the node takes none now; the packet is sent again. `Forged`: its source has not stored its message, or not
+    /// the certificate that it tells of. `NoMemory`: the packet is lost, and sent again.
     pub fn arrive(&mut self, alloc: A, node: NodeId, bytes: &[u8]) -> Result<Taken<A>, Refusal>
         ensures { Takes self.old node (Arrive node (packet_of bytes.now)) result self.new }
     {

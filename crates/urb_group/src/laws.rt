@@ -4,17 +4,21 @@
 //! (second edition, 2011). Uniform FIFO order is that of V. Hadzilacos and S. Toueg, A Modular Approach to
 //! Fault-Tolerant Broadcasts and Related Problems (1994).
 
-ghost use Rattle.std.specs.Prelude.{◌≡◌, ℕ, IsTrue, List};
+ghost use Rattle.std.specs.Prelude.{◌≡◌, ℕ, IsTrue, List, None, [], true};
+ghost use Rattle.urb_names.specs.Carried.{Carried};
+ghost use Rattle.std.specs.List.{AllByRecursion};
 ghost use Rattle.urb_names.specs.Naming.{Limits, Label, Content};
 ghost use Rattle.urb_names.specs.declared.refusal.Refusal.{Refusal};
 ghost use Rattle.urb_stable.specs.Entries.{Entry};
 ghost use Rattle.urb_stable.specs.Fitting.{Fits};
 ghost use Rattle.urb_stable.specs.Log.{DeliversExactly};
 ghost use Rattle.urb_node.specs.Replies.{Reply, Done, Same, Stored, Refused};
+ghost use Rattle.urb_node.specs.Steps.{says_heard};
 ghost use Rattle.urb_node.specs.declared.answer.Answer.TheVariants.{Accepted};
 ghost use Rattle.urb_group.specs.World.{World, AreImages, image_of, opened, started};
 ghost use Rattle.urb_group.specs.Step.{Event, Submit, Commit, step, Run, IsReached};
 ghost use Rattle.urb_group.specs.Safe.{Safe, OneMessage};
+ghost use Rattle.urb_group.specs.Answering.{answers_to};
 ghost use Rattle.urb_group.specs.Truth.{AreTruthful, AllTruthful, ToldTruth};
 ghost use Rattle.urb_group.specs.Growing.{GoesOn, EntriesGrow, AgreeInTime};
 ghost use Rattle.urb_group.specs.Accepting.{HasStored, StoresOwn};
@@ -29,14 +33,26 @@ pub fn every_run_is_safe()
     ensures { (w : World) → IsReached w → Safe w }
 {}
 
-/// Each packet that was ever sent is of a message that its source has stored, at the moment of its sending and for good:
-/// the links and the broadcast create nothing (no creation, sections 2.4 and 3.7).
+/// Each packet that was ever sent is of a message that its source has stored, and tells of a certificate only where its
+/// source has stored that too, at the moment of its sending and for good: the links and the broadcast create nothing (no
+/// creation, sections 2.4 and 3.7).
 pub fn every_packet_is_truthful()
     ensures sent { (w : World) → IsReached w → AllTruthful w }
     ensures for_good { (old new : World) (events : List Event) (replies : List Reply) →
         IsReached old → Run old events replies new → AreTruthful new old.sent }
     ensures told { (old new : World) (events : List Event) (replies : List Reply) →
         IsReached old → Run old events replies new → ToldTruth new replies }
+{}
+
+/// A packet that says that the certificate of its target was heard is not answered at once, nor is one of version one; and
+/// whatever happens in between, the answer to an answer is not. So no two nodes answer each other for ever.
+pub fn answers_end()
+    ensures heard { (w : World) (p : ℕ) (packet : Carried) →
+        says_heard packet.flags ≡ true → answers_to w p packet ≡ [] }
+    ensures first_version { (w : World) (p : ℕ) (packet : Carried) →
+        packet.flags ≡ None → answers_to w p packet ≡ [] }
+    ensures ends { (first : Carried) (u v w : World) (p q r : ℕ) → AllByRecursion (λ second.
+        AllByRecursion (λ third. answers_to w r third ≡ []) (answers_to v q second)) (answers_to u p first) }
 {}
 
 /// No two nodes hold different messages under one name (no creation, section 3.7).

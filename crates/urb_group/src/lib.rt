@@ -13,7 +13,8 @@
 //! ```
 //!
 //! Each call is one step of every world that the group shows (`specs/Step.antt`), or is refused and changes nothing. `play`
-//! carries the headline, and `laws` the theorems over all runs. No call here waits, sends or looks at a clock.
+//! carries the headline, `laws` the theorems over all runs, and `recovering` that no state is a dead end. No call here waits,
+//! sends or looks at a clock.
 #![tactic(auto)]
 
 mod arriving;
@@ -28,6 +29,7 @@ mod places;
 mod playing;
 mod promise;
 mod queries;
+pub mod recovering;
 mod reopening;
 mod reply;
 mod state;

@@ -1,7 +1,7 @@
 //! What a group tells of its nodes, in whatever state each of them is.
 
 ghost use Rattle.std.specs.Prelude.{◌≡◌, Some, option_map};
-ghost use Rattle.urb_node.specs.Moves.{CountsOwn as CountsOwnAt, FindsMessage as FindsMessageAt, TellsLog as TellsLogAt};
+ghost use Rattle.urb_node.specs.Moves.{CountsOwn as CountsOwnAt, FindsMessage as FindsMessageAt, IsCertified, TellsLog as TellsLogAt};
 ghost use Rattle.urb_group.specs.Calls.{Answers, CountsOwn, FindsMessage, Holds, TellsLog};
 ghost use Rattle.urb_group.specs.Places.{ShowsAt, state_in};
 ghost use Rattle.urb_group.specs.States.{state_of};
@@ -42,6 +42,17 @@ impl<A: Allocator + Copy> Node<A> {
             Node::Ready(ready) => ready.message(name),
             Node::Storing(storing) => storing.message(name),
             Node::Down(down) => down.message(name),
+        }
+    }
+
+    /// Whether the node has stored a certificate of a name.
+    pub(crate) fn certified(&self, name: Name) -> bool
+        ensures { IsCertified (ShowsAt self.now) name result }
+    {
+        match self {
+            Node::Ready(ready) => ready.certified(name),
+            Node::Storing(storing) => storing.certified(name),
+            Node::Down(down) => down.certified(name),
         }
     }
 

@@ -109,7 +109,9 @@ impl<S: Stable> Cluster<S> {
 
     /// The stores, that of node 1 first. The group and its drafts are gone. Takes no memory.
     pub fn into_stores(self) -> Vec<S, S::Alloc>
-        ensures { result.items ≡ self.stores }
+        ensures value { result.items ≡ self.stores }
+        // One for each node.
+        ensures counted { length result.items ≡ self.group.size.n }
     {
         self.stores
     }

@@ -11,8 +11,8 @@ use urb_stubborn::Outbox;
 pub enum Reply<A: Allocator = Global> {
     /// The node holds a draft of a record of this name, for this position in its store.
     Drafted { name: Name, pos: u32 },
-    /// Nothing is to be stored.
-    Same(Answer),
+    /// Nothing is to be stored. An answer with packets: the node sends them.
+    Same(Answer<Outbox<A>>),
     /// The node's store took its draft.
     Stored(Done<A>),
     /// The node sends these packets.

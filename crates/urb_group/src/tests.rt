@@ -7,10 +7,10 @@ mod nodes;
 mod stops;
 
 use super::*;
-use nodes::{Nodes, first, is_answer, is_certificate, node};
+use nodes::{Nodes, answered, first, is_accepted, is_certificate, is_drafted, is_noted, node};
 use std::alloc::Global;
 use std::test::Fail;
-use urb_names::{Packet, encode};
+use urb_names::{Flags, Packet, encode};
 use urb_stable::Failure;
 
 // One node delivers what it stores, and takes a repeat for the same.
@@ -25,7 +25,7 @@ fn one_delivers(alloc: Global) -> Option<bool> {
             && done.accepted
             && done.released == 1
             && nodes.delivers(1)
-            && is_answer(&again, Answer::Accepted(first()?)),
+            && is_accepted(&again, first()?),
     )
 }
 
@@ -66,7 +66,7 @@ fn three_of_four(alloc: Global) -> Option<bool> {
     let third = nodes.forward(3, &sent)?.sent;
     let noted = nodes.arrive(1, &second)?;
     let taken = nodes.arrive(1, &third)?;
-    Some(is_answer(&noted, Answer::Noted(first()?)) && is_certificate(&taken))
+    Some(is_noted(&noted, first()?) && is_certificate(&taken))
 }
 
 #[test]
@@ -86,7 +86,7 @@ fn counts_anew(alloc: Global) -> Option<bool> {
     nodes.restart(1)?;
     let noted = nodes.arrive(1, &third)?;
     let taken = nodes.arrive(1, &second)?;
-    Some(is_answer(&noted, Answer::Noted(first()?)) && is_certificate(&taken))
+    Some(is_noted(&noted, first()?) && is_certificate(&taken))
 }
 
 #[test]
@@ -124,7 +124,7 @@ fn refusals_of_a_forged_packet(alloc: Global) -> Option<(Refusal, Refusal)> {
         return None;
     }
     let message = Message::copied(alloc, ClientId::new(7)?, 1, b"a").ok()?;
-    let bytes = encode(alloc, &Packet::new(one, two, first()?, message)).ok()?;
+    let bytes = encode(alloc, &Packet::new(one, two, first()?, message, None)).ok()?;
     nodes.submit()?;
     let there = nodes.group.arrive(alloc, two, &bytes).err()?;
     let here = nodes.group.arrive(alloc, one, &bytes).err()?;
@@ -137,6 +137,65 @@ fn a_packet_is_forged_until_its_source_has_stored_it(rt: HostRuntime) -> Result<
         refusals_of_a_forged_packet(rt.alloc()),
         Some((Refusal::Forged, Refusal::BadNode))
     );
+    Ok(())
+}
+
+// The bytes of a packet of the first message from node 1 to node 3, which tells of a certificate.
+fn of_a_certificate(alloc: Global) -> Option<Vec<u8>> {
+    let (one, three) = (node(1)?, node(3)?);
+    if one == three {
+        return None;
+    }
+    let message = Message::copied(alloc, ClientId::new(7)?, 1, b"a").ok()?;
+    let flags = Flags {
+        certified: true,
+        heard: false,
+    };
+    encode(
+        alloc,
+        &Packet::new(one, three, first()?, message, Some(flags)),
+    )
+    .ok()
+}
+
+// How a packet is refused that tells of a certificate which its source hasn't stored, and whether that of a source which has
+// is drafted.
+fn told_of_a_certificate(alloc: Global) -> Option<(Refusal, bool)> {
+    let mut nodes = Nodes::new(alloc, 3)?;
+    let sent = nodes.broadcast()?.sent;
+    let second = nodes.forward(2, &sent)?.sent;
+    let bytes = of_a_certificate(alloc)?;
+    let forged = nodes.group.arrive(alloc, node(3)?, &bytes).err()?;
+    let taken = nodes.arrive(3, &second)?;
+    Some((forged, is_drafted(&taken)))
+}
+
+#[test]
+fn a_certificate_that_its_source_lacks_is_forged(rt: HostRuntime) -> Result<(), Fail> {
+    assert_eq!(rt;
+        told_of_a_certificate(rt.alloc()),
+        Some((Refusal::Forged, true))
+    );
+    Ok(())
+}
+
+// Node 1's packet comes to node 2 once more, which has certified its name and answers; the answer makes node 1 certify it too,
+// and to whom node 1 sends at its next tick: how many packets these are.
+fn sent_and_answered(alloc: Global) -> Option<(usize, usize)> {
+    let mut nodes = Nodes::new(alloc, 3)?;
+    let one = node(1)?;
+    let sent = nodes.broadcast()?.sent;
+    nodes.forward(2, &sent)?;
+    let again = nodes.arrive(2, &sent)?;
+    let answer = answered(again)?;
+    nodes.forward(1, &answer)?;
+    let ticked = nodes.group.tick(alloc, one).ok()?;
+    Some((answer.len(), ticked.len()))
+}
+
+#[test]
+fn a_node_is_told_and_then_sent_to_no_more(rt: HostRuntime) -> Result<(), Fail> {
+    assert_eq!(rt; sent_and_answered(rt.alloc()), Some((1, 1)));
     Ok(())
 }
 

@@ -1,4 +1,3 @@
-pub mod Counts
 pub mod Majorities
 pub mod Rooms
 pub mod Joined

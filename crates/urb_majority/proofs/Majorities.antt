@@ -10,7 +10,7 @@ use Rattle.urb_names.proofs.SameNames.{same_name-same}
 use Rattle.urb_majority.specs.Acks.{AckSet}
 use Rattle.urb_majority.specs.Counting.{answer_of, has_majority, has_majority_with}
 use Rattle.urb_majority.specs.declared.acks.Noted.TheVariants.{Again, Counted, Reached}
-use Rattle.urb_majority.proofs.Counts.{count_alike, count_one_more}
+use Rattle.urb_window.proofs.Counts.{count_alike, count_one_more}
 
 -- one node more is counted
 pub count_with : (acks : List (Label × ℕ)) (x : Label) (q n : ℕ) → 0 < q → q ≤ n → acked acks x q ≡ false → count_by (acked ((x, q) ∷ acks) x) (nodes n) ≡ suc (count_by (acked acks x) (nodes n))

@@ -1,20 +1,17 @@
 //! The acknowledgements counted for each name, and the certified names.
 
-ghost use Rattle.std.specs.Prelude.{◌≡◌, ◌<◌, ◌≤◌, ◌&&◌, ◌==◌, true, [], None, Some, IsOk, IfOk, OnOk, OnErr, count_by, length};
-ghost use Rattle.std.specs.List.{prefix_len};
-ghost use Rattle.urb_names.specs.Names.{has_name, name_lt, same_name};
-ghost use Rattle.urb_names.specs.Nodes.{nodes};
+ghost use Rattle.std.specs.Prelude.{◌≡◌, true, [], None, Some, IsOk, IfOk, OnOk, OnErr};
+ghost use Rattle.urb_names.specs.Names.{has_name};
 ghost use Rattle.urb_names.specs.Acknowledged.{acked};
 ghost use Rattle.urb_names.specs.Ordered.{reserved_for};
-ghost use Rattle.urb_majority.specs.Acks.{ack_lt, IsAckSet};
+ghost use Rattle.urb_majority.specs.Acks.{IsAckSet};
 ghost use Rattle.urb_majority.specs.Counting.{answer_of, certifying, counting, has_majority, has_majority_with};
 
 use std::alloc::{Allocator, Global};
 use std::marker::Model;
+use urb_certified::Certified;
 use urb_names::{Config, Name, NoMemory, NodeId, is_majority};
-
-// The greatest number of nodes that there may be.
-const MOST_NODES: usize = 7;
+use urb_window::Marks;
 
 /// What an acknowledgement does.
 #[derive(Clone, Copy, Debug, PartialEq, Eq)]
@@ -33,8 +30,8 @@ pub enum Noted {
 #[derive_where(Debug)]
 pub struct Acks<A: Allocator = Global> {
     config: Config,
-    counted: Vec<(Name, NodeId), A>,
-    certified: Vec<Name, A>,
+    counted: Marks<A>,
+    certified: Certified<A>,
     reserved: Option<Name>,
 }
 
@@ -48,69 +45,6 @@ impl<A: Allocator> Model for Acks<A> {
     ghost view = { view_of };
 
     ghost invariant = { IsKept };
-}
-
-fn precedes(first: &Name, second: Name) -> bool
-    ensures { result ≡ name_lt first.now second }
-{
-    *first < second
-}
-
-fn ack_precedes(first: &(Name, NodeId), name: Name, node: NodeId) -> bool
-    ensures { result ≡ ack_lt first.now (name, node) }
-{
-    first.0 < name || (first.0 == name && first.1 < node)
-}
-
-// Where a name stands among names in order, or would stand.
-fn place_of(names: &[Name], name: Name) -> usize
-    ensures place { result ≡ prefix_len (λ other. name_lt other name) names.now }
-    ensures within { result ≤ length names.now }
-{
-    names
-        .iter()
-        .take_while(|other| precedes(other, name))
-        .count()
-}
-
-// Where an acknowledgement stands among those in order, or would stand.
-fn ack_place_of(counted: &[(Name, NodeId)], name: Name, node: NodeId) -> usize
-    ensures place { result ≡ prefix_len (λ ack. ack_lt ack (name, node)) counted.now }
-    ensures within { result ≤ length counted.now }
-{
-    counted
-        .iter()
-        .take_while(|ack| ack_precedes(ack, name, node))
-        .count()
-}
-
-fn is_ack(ack: &(Name, NodeId), name: Name, number: u8) -> bool
-    ensures { result ≡ (same_name ack.now.0 name && (ack.now.1 == number)) }
-{
-    ack.0 == name && ack.1.number() == number
-}
-
-// Whether the node with this number is counted for a name.
-fn is_counted(counted: &[(Name, NodeId)], name: Name, number: u8) -> bool
-    ensures { result ≡ acked counted.now name number }
-{
-    counted.iter().any(|ack| is_ack(ack, name, number))
-}
-
-// How many of n nodes are counted for a name.
-#[tactic(auto, using(crate::proofs::Counts::count_of_next, crate::proofs::Counts::count_of_none))]
-fn count_of(counted: &[(Name, NodeId)], name: Name, n: u8) -> u8
-    requires { n ≤ 7 }
-    ensures count { result ≡ count_by (acked counted.now name) (nodes n) }
-    ensures most { result ≤ n }
-{
-    let mut count = 0;
-    for number in 1..=n {
-        if is_counted(counted, name, number) {
-            count += 1;
-        }
-    }
-    count
 }
 
 // What is left of a reservation once a name was added.
@@ -130,8 +64,8 @@ impl<A: Allocator + Copy> Acks<A> {
     {
         Acks {
             config,
-            counted: Vec::new(alloc),
-            certified: Vec::new(alloc),
+            counted: Marks::new(alloc),
+            certified: Certified::new(alloc),
             reserved: None,
         }
     }
@@ -140,14 +74,15 @@ impl<A: Allocator + Copy> Acks<A> {
     pub fn limits(&self)
         ensures { IsAckSet self.now }
     {
-        let _counted = &self.counted;
+        self.counted.limits();
+        self.certified.limits();
     }
 
     /// Whether a node is counted for a name.
     pub fn noted(&self, name: Name, node: NodeId) -> bool
         ensures { result ≡ acked self.now.counted name node }
     {
-        is_counted(&self.counted, name, node.number())
+        self.counted.has(name, node)
     }
 
     // Whether the nodes that are counted for a name are a majority.
@@ -155,7 +90,7 @@ impl<A: Allocator + Copy> Acks<A> {
         ensures { result ≡ has_majority self.now name }
     {
         let n = self.config.n();
-        is_majority(count_of(&self.counted, name, n), n)
+        is_majority(self.counted.count_of(name, n), n)
     }
 
     #[tactic(auto, using(crate::proofs::Majorities::with_counted))]
@@ -165,14 +100,13 @@ impl<A: Allocator + Copy> Acks<A> {
         ensures { result ≡ has_majority_with self.now name node }
     {
         let n = self.config.n();
-        let number = node.number();
-        if number > n {
+        if node.number() > n {
             return self.has_majority(name);
         }
-        if is_counted(&self.counted, name, number) {
+        if self.counted.has(name, node) {
             self.has_majority(name)
         } else {
-            is_majority(count_of(&self.counted, name, n) + 1, n)
+            is_majority(self.counted.count_of(name, n) + 1, n)
         }
     }
 
@@ -196,8 +130,8 @@ impl<A: Allocator + Copy> Acks<A> {
         ensures ok { OnOk result (self.new ≡ record self.old { reserved = Some name }) }
         ensures err { OnErr result (self.new ≡ self.old) }
     {
-        self.counted.reserve(MOST_NODES)?;
-        self.certified.reserve(1)?;
+        self.certified.make_room()?;
+        self.counted.reserve(name)?;
         self.reserved = Some(name);
         Ok(())
     }
@@ -212,21 +146,27 @@ impl<A: Allocator + Copy> Acks<A> {
         ensures again { acked self.old.counted name node ≡ true → IsOk result }
         ensures roomy { self.old.reserved ≡ Some name → IsOk result }
     {
-        if is_counted(&self.counted, name, node.number()) {
+        if self.counted.has(name, node) {
             return Ok(Noted::Again);
         }
         let answer = self.answer(name, node);
-        let at = ack_place_of(&self.counted, name, node);
-        self.counted.insert(at, (name, node))?;
+        self.counted.add(name, node)?;
         self.reserved = reserved_for(self.reserved, name);
         Ok(answer)
+    }
+
+    /// The certified names.
+    pub fn certificates(&self) -> &Certified<A>
+        ensures { result.now.names ≡ self.now.certified }
+    {
+        &self.certified
     }
 
     /// Whether a name is certified.
     pub fn certified(&self, name: Name) -> bool
         ensures { result ≡ has_name self.now.certified name }
     {
-        self.certified.contains(&name)
+        self.certified.has(name)
     }
 
     /// Certifies a name, once its certificate is stored. `NoMemory` means that a growth was refused: the call may be made again.
@@ -240,8 +180,7 @@ impl<A: Allocator + Copy> Acks<A> {
         if self.certified(name) {
             return Ok(());
         }
-        let at = place_of(&self.certified, name);
-        self.certified.insert(at, name)?;
+        self.certified.add(name)?;
         self.reserved = reserved_for(self.reserved, name);
         Ok(())
     }

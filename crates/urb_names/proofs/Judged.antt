@@ -1,10 +1,12 @@
 -- What a judgement of fields says of them.
-use Rattle.std.proofs.Common.{◌≡◌, ◌∙◌, sym, ◌≤◌, ◌==◌, ◌||◌, not, nat_lt, Bool, true, false, length, Result, Ok, Err, refl, ap, arith, if◌then◌else◌}
+use Rattle.std.proofs.Common.{◌≡◌, ◌∙◌, sym, ℕ, ◌≤◌, ◌==◌, ◌||◌, not, nat_lt, ltb-true, lt-ltb, Bool, true, false, length, Option, Some, None, is_some, Result, Ok, Err, refl, ap, arith, if◌then◌else◌}
 use Rattle.std.proofs.lemmas.Bool.Decides.{nat_tests}
 use Rattle.urb_names.specs.Carried.{Carried}
+use Rattle.urb_names.specs.declared.flags.Flags.{Flags}
 use Rattle.urb_names.specs.declared.refusal.PacketFault.{PacketFault}
 use Rattle.urb_names.specs.declared.refusal.PacketFault.TheVariants as fault
-use Rattle.urb_names.specs.Packets.{Fields, IsFields, IsPacket, fields_of, carried_of, is_in_range, judged}
+use Rattle.urb_names.proofs.FlagNumbers.{number_again, number_below, said_again}
+use Rattle.urb_names.specs.Packets.{Fields, IsFields, IsPacket, are_flags, carried_of, fields_of, flags_byte, flags_number, flags_of, has_flags, is_in_range, judged, version_of}
 
 -- a test that didn't end in its fault
 passed : {X E : Type 0} (b : Bool) (e : E) (y : Result X E) (p : X) → (if b then Err e else y) ≡ Ok p → (b ≡ false) × (y ≡ Ok p)
@@ -18,7 +20,7 @@ last_passed false x e p h = absurd (cc)
 -- what passes each test
 pub record Sound (f : Fields) : Type 0 where
   pub magic : f.magic ≡ 0x5542
-  pub version : f.version ≡ 1
+  pub version : ((f.version == 1) || (f.version == 2)) ≡ true
   pub size : f.size ≡ length f.payload
   pub short : f.size ≤ 1024
   pub range : is_in_range f ≡ true
@@ -31,13 +33,13 @@ abbrev sized : Fields → Result Carried PacketFault
 sized f = if nat_lt 1024 f.size || not (f.size == length f.payload) then Err fault.Length else in_range f
 
 abbrev versioned : Fields → Result Carried PacketFault
-versioned f = if not (f.version == 1) then Err fault.Version else sized f
+versioned f = if not ((f.version == 1) || (f.version == 2)) then Err fault.Version else sized f
 
 pub sound : (f : Fields) (p : Carried) → judged f ≡ Ok p → Sound f × (carried_of f ≡ p)
 unfolding judged
 sound f p h =
     let magic = passed (not (f.magic == 0x5542)) fault.Magic (versioned f) p h in
-    let version = passed (not (f.version == 1)) fault.Version (sized f) p magic.1 in
+    let version = passed (not ((f.version == 1) || (f.version == 2))) fault.Version (sized f) p magic.1 in
     let size = passed (nat_lt 1024 f.size || not (f.size == length f.payload)) fault.Length (in_range f) p version.1 in
     let range = last_passed (is_in_range f) (carried_of f) fault.Range p size.1 in (
       record {
@@ -50,9 +52,23 @@ sound f p h =
       range.1,
     )
 
+-- the version is that of the flags
+version_again : (flags : Option ℕ) (magic version : ℕ) → magic ≡ 0x5542 → ((version == 1) || (version == 2)) ≡ true → is_some flags ≡ has_flags magic version →
+    version ≡ version_of (flags_of flags)
+version_again None magic version is one_of as_flags = grind (arith, nat_tests, is, one_of, as_flags)
+version_again (Some byte) magic version is one_of as_flags = grind (arith, nat_tests, is, one_of, as_flags)
+
+-- a byte of at most three is that of the flags that it says
+byte_again : (flags : Option ℕ) → are_flags flags ≡ true → flags ≡ flags_byte (flags_of flags)
+byte_again None h = refl
+byte_again (Some byte) h = ap (λ (n : ℕ). Some n) (number_again byte (ltb-true byte 4 h))
+
 -- sound fields are those of a packet
-pub fields_again : (f : Fields) → Sound f → f ≡ fields_of (carried_of f)
-fields_again f s = λ i. record { magic = s.magic i; version = s.version i; source = f.source; target = f.target; sender = f.sender; seq = f.seq; client = f.client; number = f.number; size = s.size i; payload = f.payload }
+pub fields_again : (f : Fields) → IsFields f → Sound f → f ≡ fields_of (carried_of f)
+fields_again f fit s =
+    let version = version_again f.flags f.magic f.version s.magic s.version fit.has_flags in
+    let flags = byte_again f.flags (grind (arith, nat_tests, s.range)) in
+    λ i. record { magic = s.magic i; version = version i; source = f.source; target = f.target; flags = flags i; sender = f.sender; seq = f.seq; client = f.client; number = f.number; size = s.size i; payload = f.payload }
 
 pub is_packet : (f : Fields) → IsFields f → Sound f → IsPacket (carried_of f)
 is_packet f fit s =
@@ -64,14 +80,30 @@ is_packet f fit s =
       message = record { client = (grind (arith, nat_tests, s.range), fit.client); number = (grind (arith, nat_tests, s.range), fit.number); payload = omega (arith, s.size, s.short) };
     }
 
+-- the version and the flags of a packet pass, and say its flags again
+version_passes : (flags : Option Flags) → ((version_of flags == 1) || (version_of flags == 2)) ≡ true
+version_passes None = refl
+version_passes (Some flags) = refl
+
+pub flags_pass : (flags : Option Flags) → are_flags (flags_byte flags) ≡ true
+flags_pass None = refl
+flags_pass (Some flags) = lt-ltb (flags_number flags) 4 (number_below flags)
+
+flags_say : (flags : Option Flags) → flags_of (flags_byte flags) ≡ flags
+flags_say None = refl
+flags_say (Some flags) = ap (λ (f : Flags). Some f) (said_again flags)
+
 -- the fields of a packet pass
 pub accepted : (p : Carried) → IsPacket p → judged (fields_of p) ≡ Ok p
 unfolding judged
 accepted p h =
-    let range : is_in_range (fields_of p) ≡ true = grind (arith, nat_tests, h.source.0, h.source.1, h.target.0, h.target.1, h.apart, h.name.sender.0, h.name.sender.1, h.name.seq.0, h.message.client.0, h.message.number.0) in
+    let flags : are_flags (flags_byte p.flags) ≡ true = flags_pass p.flags in
+    let range : is_in_range (fields_of p) ≡ true = grind (arith, nat_tests, flags, h.source.0, h.source.1, h.target.0, h.target.1, h.apart, h.name.sender.0, h.name.sender.1, h.name.seq.0, h.message.client.0, h.message.number.0) in
+    let version : ((version_of p.flags == 1) || (version_of p.flags == 2)) ≡ true = version_passes p.flags in
     let short : nat_lt 1024 (length p.message.payload) ≡ false = grind (arith, nat_tests, h.message.payload) in
     let same : (length p.message.payload == length p.message.payload) ≡ true = grind (arith, nat_tests) in
-    rw (short, same, range) refl
+    let said : carried_of (fields_of p) ≡ p = λ i. record { source = p.source; target = p.target; name = p.name; message = p.message; flags = flags_say p.flags i } in
+    rw (version, short, same, range) (ap (λ (q : Carried). Ok q) said)
 
 -- whether a fault is Short
 abbrev is_short : PacketFault → Bool
@@ -94,6 +126,6 @@ last false x = refl
 pub never_short : (f : Fields) → judged f ≡ Err fault.Short → ⊥
 unfolding judged
 never_short f h =
-    let told = others (not (f.magic == 0x5542)) fault.Magic (versioned f) refl (others (not (f.version == 1)) fault.Version (sized f) refl (others (nat_lt 1024 f.size || not (f.size == length f.payload)) fault.Length (in_range f) refl (last (is_in_range f) (carried_of f)))) in
+    let told = others (not (f.magic == 0x5542)) fault.Magic (versioned f) refl (others (not ((f.version == 1) || (f.version == 2))) fault.Version (sized f) refl (others (nat_lt 1024 f.size || not (f.size == length f.payload)) fault.Length (in_range f) refl (last (is_in_range f) (carried_of f)))) in
     let is : true ≡ false = ap tells_short (sym h) ∙ told in
     absurd cc

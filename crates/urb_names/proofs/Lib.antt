@@ -1,4 +1,5 @@
 pub mod Numbers
+pub mod FlagNumbers
 pub mod Judged
 pub mod Spelled
 pub mod Parsed

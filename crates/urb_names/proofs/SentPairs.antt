@@ -1,13 +1,15 @@
 -- The packets of a broadcast and of a tick are of the sender's pairs.
-use Rattle.std.proofs.Common.{Bool, List, Option, [], filter, flat_map, map, not, refl, suc, take, true, zero, ℕ, ◌++◌, ◌∷◌, ◌≡◌}
+use Rattle.std.proofs.Common.{Bool, List, Option, Some, [], false, filter, flat_map, map, not, refl, suc, take, true, zero, ℕ, ◌++◌, ◌∷◌, ◌≡◌}
 use Rattle.std.proofs.lemmas.Bool.{cond_both}
 use Rattle.std.specs.List.{AllByRecursion}
 use Rattle.urb_names.proofs.OrderedPairs.{has_pair-behind, has_pair-head}
-use Rattle.urb_names.specs.Carried.{AreFrom, IsFrom, others, to_others}
+use Rattle.urb_names.specs.Acknowledged.{acked}
+use Rattle.urb_names.specs.Carried.{AreFrom, IsFrom, due_of, is_due, is_heard_of, others, packets_to, to_others, to_unheard}
 use Rattle.urb_names.specs.Cyclic.{cyclic, inserted, is_after, resent, rising}
-use Rattle.urb_names.specs.Names.{name_lt}
+use Rattle.urb_names.specs.Names.{has_name, name_lt}
 use Rattle.urb_names.specs.Naming.{Content, Label}
 use Rattle.urb_names.specs.Pairs.{has_pair}
+use Rattle.urb_names.specs.declared.flags.Flags.{Flags}
 
 -- ---- facts of each element
 
@@ -62,17 +64,41 @@ in_resent all cursor ps h =
     (all_append _ (filter (λ pair. is_after cursor pair.0) ps) (filter (λ pair. not (is_after cursor pair.0)) ps) (all_kept_filter _ (λ pair. is_after cursor pair.0) ps h)
     (all_kept_filter _ (λ pair. not (is_after cursor pair.0)) ps h))
 
+-- those of them that are due
+pub in_due : (all : List (Label × Content)) (n p : ℕ) (heard : List (Label × ℕ)) (ps : List (Label × Content)) → AllIn all ps → AllIn all (due_of n p heard ps)
+in_due all n p heard ps h = all_kept_filter _ (λ pair. is_due n p heard pair.0) ps h
+
 -- ---- packets
 
--- the packets of one pair
-pub to_others-from : (n p : ℕ) (pairs : List (Label × Content)) (pair : Label × Content) → has_pair pairs pair.0 pair.1 ≡ true → AreFrom p pairs (to_others n p pair)
-to_others-from n p pairs pair h = all_map (IsFrom p pairs) (λ q. record { source = p; target = q; name = pair.0; message = pair.1 }) (others n p) (λ q. (refl, h))
+-- the packets of one pair, whose flags tell of a certificate only where there is one
+pub packets_to-from : (p : ℕ) (flags : ℕ → Flags) (targets : List ℕ) (pairs : List (Label × Content)) (certified : List Label) (pair : Label × Content) →
+    has_pair pairs pair.0 pair.1 ≡ true → ((q : ℕ) → (flags q).certified ≡ true → has_name certified pair.0 ≡ true) → AreFrom p pairs certified (packets_to p flags targets pair)
+packets_to-from p flags targets pairs certified pair h k =
+    all_map (IsFrom p pairs certified) (λ q. record { source = p; target = q; name = pair.0; message = pair.1; flags = Some (flags q) }) targets
+    (λ q. record { source = refl; pair = h; certificate = k q })
+
+-- those of a stored record
+pub to_others-from : (n p : ℕ) (pairs : List (Label × Content)) (certified : List Label) (is_certified : Bool) (heard : Option ℕ) (pair : Label × Content) →
+    has_pair pairs pair.0 pair.1 ≡ true → (is_certified ≡ true → has_name certified pair.0 ≡ true) → AreFrom p pairs certified (to_others n p is_certified heard pair)
+to_others-from n p pairs certified is_certified heard pair h k =
+    packets_to-from p (λ q. record { certified = is_certified; heard = is_heard_of heard q }) (others n p) pairs certified pair h (λ q. k)
+
+-- those of a pair that is resent
+pub to_unheard-from : (n p : ℕ) (pairs : List (Label × Content)) (certified : List Label) (heard : List (Label × ℕ)) (pair : Label × Content) →
+    has_pair pairs pair.0 pair.1 ≡ true → AreFrom p pairs certified (to_unheard n p certified heard pair)
+to_unheard-from n p pairs certified heard pair h =
+    packets_to-from p (λ q. record { certified = has_name certified pair.0; heard = false }) (filter (λ q. not (acked heard pair.0 q)) (others n p)) pairs certified pair h (λ q k. k)
 
 -- the packets of many
-pub all-from : (n p : ℕ) (pairs ps : List (Label × Content)) → AllIn pairs ps → AreFrom p pairs (flat_map (to_others n p) ps)
-all-from n p pairs [] h = tt
-all-from n p pairs (pair ∷ ps) h = all_append (IsFrom p pairs) (to_others n p pair) (flat_map (to_others n p) ps) (to_others-from n p pairs pair h.0) (all-from n p pairs ps h.1)
+pub all-from : (n p : ℕ) (pairs : List (Label × Content)) (certified : List Label) (heard : List (Label × ℕ)) (ps : List (Label × Content)) →
+    AllIn pairs ps → AreFrom p pairs certified (flat_map (to_unheard n p certified heard) ps)
+all-from n p pairs certified heard [] h = tt
+all-from n p pairs certified heard (pair ∷ ps) h =
+    all_append (IsFrom p pairs certified) (to_unheard n p certified heard pair) (flat_map (to_unheard n p certified heard) ps)
+    (to_unheard-from n p pairs certified heard pair h.0) (all-from n p pairs certified heard ps h.1)
 
 -- the packets of a tick
-pub resent-from : (n p : ℕ) (cursor : Option Label) (pairs : List (Label × Content)) → AreFrom p pairs (flat_map (to_others n p) (resent cursor pairs))
-resent-from n p cursor pairs = all-from n p pairs (resent cursor pairs) (in_resent pairs cursor pairs (in_itself pairs))
+pub resent-from : (n p : ℕ) (cursor : Option Label) (pairs : List (Label × Content)) (certified : List Label) (heard : List (Label × ℕ)) →
+    AreFrom p pairs certified (flat_map (to_unheard n p certified heard) (resent cursor (due_of n p heard pairs)))
+resent-from n p cursor pairs certified heard =
+    all-from n p pairs certified heard (resent cursor (due_of n p heard pairs)) (in_resent pairs cursor (due_of n p heard pairs) (in_due pairs n p heard pairs (in_itself pairs)))

@@ -1,8 +1,12 @@
 -- Acknowledgements: pairs of a name and a node that is counted for it.
-use Rattle.std.specs.Prelude.{ℕ, Bool, ◌&&◌, ◌==◌, if◌then◌else◌, List, ◌∷◌}
+use Rattle.std.specs.Prelude.{ℕ, Bool, ◌&&◌, ◌||◌, ◌==◌, nat_lt, if◌then◌else◌, List, ◌∷◌}
 use Rattle.std.specs.List.{list_any}
 use Rattle.urb_names.specs.Naming.{Label}
-use Rattle.urb_names.specs.Names.{same_name}
+use Rattle.urb_names.specs.Names.{name_lt, same_name}
+
+-- acknowledgements are ordered by name, then by node
+abbrev pub ack_lt : Label × ℕ → Label × ℕ → Bool
+ack_lt a b = name_lt a.0 b.0 || (same_name a.0 b.0 && nat_lt a.1 b.1)
 
 -- whether the node is counted for the name
 abbrev pub acked : List (Label × ℕ) → Label → ℕ → Bool

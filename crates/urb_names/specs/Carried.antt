@@ -1,29 +1,64 @@
 -- A packet, as contracts see it.
-use Rattle.std.specs.Prelude.{IsTrue, List, filter, map, not, ℕ, ◌==◌, ◌≡◌}
-use Rattle.std.specs.List.{AllByRecursion}
+use Rattle.std.specs.Prelude.{Bool, IsTrue, List, None, Option, Some, false, filter, map, not, true, ℕ, ◌==◌, ◌≡◌}
+use Rattle.std.specs.List.{AllByRecursion, list_any}
+use Rattle.urb_names.specs.Acknowledged.{acked}
+use Rattle.urb_names.specs.Names.{has_name}
 use Rattle.urb_names.specs.Naming.{Label, Content}
 use Rattle.urb_names.specs.Nodes.{nodes}
 use Rattle.urb_names.specs.Pairs.{has_pair}
+use Rattle.urb_names.specs.declared.flags.Flags.{Flags}
 
--- a packet: a name and its message, from a node to another
+-- a packet: a name and its message, from a node to another, and in version two what its source tells of certificates
 pub record Carried : Type 0 where
   pub source : ℕ
   pub target : ℕ
   pub name : Label
   pub message : Content
+  pub flags : Option Flags
+
+-- whether these flags say that the source has stored a certificate of the name
+abbrev pub says_certified : Option Flags → Bool
+says_certified None = false
+says_certified (Some flags) = flags.certified
 
 -- the nodes of a group of n other than p, rising
 abbrev pub others : ℕ → ℕ → List ℕ
 others n p = filter (λ q. not (q == p)) (nodes n)
 
--- the packets of a pair from p to each other node, targets rising
-abbrev pub to_others : ℕ → ℕ → Label × Content → List Carried
-to_others n p pair = map (λ q. record { source = p; target = q; name = pair.0; message = pair.1 }) (others n p)
+-- the packets of a pair from p to these nodes, each with the flags for its target
+abbrev pub packets_to : ℕ → (ℕ → Flags) → List ℕ → Label × Content → List Carried
+packets_to p flags targets pair = map (λ q. record { source = p; target = q; name = pair.0; message = pair.1; flags = Some (flags q) }) targets
 
--- the packet is of one of these pairs, with p as its source
-abbrev pub IsFrom : ℕ → List (Label × Content) → Carried → Type 0
-IsFrom p pairs packet = (packet.source ≡ p) × IsTrue (has_pair pairs packet.name packet.message)
+-- whether this is the node that was heard, where one was
+abbrev pub is_heard_of : Option ℕ → ℕ → Bool
+is_heard_of None q = false
+is_heard_of (Some node) q = q == node
+
+-- The packets of a stored pair from p to each other node, targets rising: whether its record is a certificate too, and the
+-- node whose certificate of it was heard, where there is one.
+abbrev pub to_others : ℕ → ℕ → Bool → Option ℕ → Label × Content → List Carried
+to_others n p certified heard pair = packets_to p (λ q. record { certified = certified; heard = is_heard_of heard q }) (others n p) pair
+
+-- whether some other node's certificate of the name was not heard
+abbrev pub is_due : ℕ → ℕ → List (Label × ℕ) → Label → Bool
+is_due n p heard x = list_any (λ q. not (acked heard x q)) (others n p)
+
+-- the pairs that are due
+abbrev pub due_of : ℕ → ℕ → List (Label × ℕ) → List (Label × Content) → List (Label × Content)
+due_of n p heard pairs = filter (λ pair. is_due n p heard pair.0) pairs
+
+-- the packets of a pair from p to each other node whose certificate of it was not heard, targets rising
+abbrev pub to_unheard : ℕ → ℕ → List Label → List (Label × ℕ) → Label × Content → List Carried
+to_unheard n p certified heard pair =
+    packets_to p (λ q. record { certified = has_name certified pair.0; heard = false }) (filter (λ q. not (acked heard pair.0 q)) (others n p)) pair
+
+-- The packet is of one of these pairs, with p as its source; and where it says that p has stored a certificate, its name is one
+-- of these.
+pub record IsFrom (p : ℕ) (pairs : List (Label × Content)) (certified : List Label) (packet : Carried) : Type 0 where
+  pub source : packet.source ≡ p
+  pub pair : IsTrue (has_pair pairs packet.name packet.message)
+  pub certificate : says_certified packet.flags ≡ true → has_name certified packet.name ≡ true
 
 -- each of these packets is
-abbrev pub AreFrom : ℕ → List (Label × Content) → List Carried → Type 0
-AreFrom p pairs packets = AllByRecursion (IsFrom p pairs) packets
+abbrev pub AreFrom : ℕ → List (Label × Content) → List Label → List Carried → Type 0
+AreFrom p pairs certified packets = AllByRecursion (IsFrom p pairs certified) packets

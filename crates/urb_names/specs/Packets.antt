@@ -1,7 +1,8 @@
--- The packet grammar: what a packet spells, and the first fault of bytes that spell none.
-use Rattle.std.specs.Prelude.{◌≡◌, ◌≢◌, ◌<◌, ◌≤◌, ◌^◌, ◌==◌, ◌&&◌, ◌||◌, not, nat_lt, ℕ, Bool, List, ◌∷◌, ◌++◌, length, drop, slice_index, Result, Ok, Err, if◌then◌else◌}
+-- The packet grammar, of two versions: what a packet spells, and the first fault of bytes that spell none.
+use Rattle.std.specs.Prelude.{◌≡◌, ◌≢◌, ◌<◌, ◌≤◌, ◌^◌, ◌+◌, ◌/◌, ◌%◌, ◌==◌, ◌&&◌, ◌||◌, not, nat_lt, ℕ, Bool, true, List, [], ◌∷◌, ◌++◌, length, drop, slice_index, Option, Some, None, is_some, IfSome, Result, Ok, Err, if◌then◌else◌}
 use Rattle.byteorder.specs.Endian.{big_bytes, big_number}
 use Rattle.urb_names.specs.Naming.{IsLabel, IsContent}
+use Rattle.urb_names.specs.declared.flags.Flags.{Flags}
 use Rattle.urb_names.specs.declared.refusal.PacketFault.{PacketFault}
 use Rattle.urb_names.specs.declared.refusal.PacketFault.TheVariants as fault
 use Rattle.urb_names.specs.Carried.{Carried}
@@ -15,12 +16,14 @@ pub record IsPacket (p : Carried) : Type 0 where
   pub name : IsLabel p.name
   pub message : IsContent p.message
 
--- what stands in the fields of a header, and the bytes behind it
+-- What stands in the fields of a header, and the bytes behind it. A byte of flags stands in packets of version two alone, behind the
+-- target.
 pub record Fields : Type 0 where
   pub magic : ℕ
   pub version : ℕ
   pub source : ℕ
   pub target : ℕ
+  pub flags : Option ℕ
   pub sender : ℕ
   pub seq : ℕ
   pub client : ℕ
@@ -28,31 +31,58 @@ pub record Fields : Type 0 where
   pub size : ℕ
   pub payload : List ℕ
 
--- each number fits its field: two bytes, one, one, one, one, four, two, four, two
+-- whether a byte of flags is to stand behind the target: where the magic bytes are 55 42, and the version is two
+abbrev pub has_flags : ℕ → ℕ → Bool
+has_flags magic version = (magic == 0x5542) && (version == 2)
+
+-- each number fits its field: two bytes, one, one, one, the flags one where they are to stand, then one, four, two, four, two
 pub record IsFields (f : Fields) : Type 0 where
   pub magic : f.magic < 2 ^ 16
   pub version : f.version < 2 ^ 8
   pub source : f.source < 2 ^ 8
   pub target : f.target < 2 ^ 8
+  pub has_flags : is_some f.flags ≡ has_flags f.magic f.version
+  pub flags : IfSome f.flags (λ flags. flags < 2 ^ 8)
   pub sender : f.sender < 2 ^ 8
   pub seq : f.seq < 2 ^ 32
   pub client : f.client < 2 ^ 16
   pub number : f.number < 2 ^ 32
   pub size : f.size < 2 ^ 16
 
+-- the byte of flags, where there is one
+abbrev pub flags_spelled : Option ℕ → List ℕ
+flags_spelled None = []
+flags_spelled (Some flags) = flags ∷ []
+
 -- the spelling of fields: their numbers in order, each with its highest byte first, and then the payload
 abbrev pub spelled : Fields → List ℕ
 spelled f =
-    (big_bytes 2 f.magic ++ f.version ∷ f.source ∷ f.target ∷ f.sender ∷ big_bytes 4 f.seq ++ big_bytes 2 f.client ++ big_bytes 4 f.number ++ big_bytes 2 f.size)
+    (big_bytes 2 f.magic ++ f.version ∷ f.source ∷ f.target ∷ flags_spelled f.flags)
+    ++ (f.sender ∷ big_bytes 4 f.seq ++ big_bytes 2 f.client ++ big_bytes 4 f.number ++ big_bytes 2 f.size)
     ++ f.payload
 
--- the fields of a packet of version one: the magic bytes 55 42, and as size the length of the payload
+-- the version of a packet: two where it tells of certificates, else one
+abbrev pub version_of : Option Flags → ℕ
+version_of None = 1
+version_of (Some flags) = 2
+
+-- the number of the flags: `certified` is worth 1, and `heard` 2
+abbrev pub flags_number : Flags → ℕ
+flags_number flags = (if flags.certified then 1 else 0) + (if flags.heard then 2 else 0)
+
+-- the byte of a packet's flags, where it has them
+abbrev pub flags_byte : Option Flags → Option ℕ
+flags_byte None = None
+flags_byte (Some flags) = Some (flags_number flags)
+
+-- the fields of a packet: the magic bytes 55 42, its version and its flags, and as size the length of the payload
 abbrev pub fields_of : Carried → Fields
 fields_of p = record {
   magic = 0x5542;
-  version = 1;
+  version = version_of p.flags;
   source = p.source;
   target = p.target;
+  flags = flags_byte p.flags;
   sender = p.name.sender;
   seq = p.name.seq;
   client = p.message.client;
@@ -65,6 +95,15 @@ fields_of p = record {
 abbrev pub spelling : Carried → List ℕ
 spelling p = spelled (fields_of p)
 
+-- the flags that a number says which is at most three
+abbrev pub flags_said : ℕ → Flags
+flags_said number = record { certified = number % 2 == 1; heard = number / 2 == 1 }
+
+-- the flags that a byte says, where there is one
+abbrev pub flags_of : Option ℕ → Option Flags
+flags_of None = None
+flags_of (Some byte) = Some (flags_said byte)
+
 -- the packet that fields say
 abbrev pub carried_of : Fields → Carried
 carried_of f = record {
@@ -72,43 +111,64 @@ carried_of f = record {
   target = f.target;
   name = record { sender = f.sender; seq = f.seq };
   message = record { client = f.client; number = f.number; payload = f.payload };
+  flags = flags_of f.flags;
 }
 
--- whether the nodes are such, source and target differ, and no number is 0
+-- whether flags, where there are any, are at most three
+abbrev pub are_flags : Option ℕ → Bool
+are_flags None = true
+are_flags (Some byte) = nat_lt byte 4
+
+-- whether the nodes are such, source and target differ, no number is 0, and the flags are at most three
 abbrev pub is_in_range : Fields → Bool
 is_in_range f =
     ((is_node 7 f.source && is_node 7 f.target) && (is_node 7 f.sender && not (f.source == f.target)))
-    && ((nat_lt 0 f.seq && nat_lt 0 f.client) && nat_lt 0 f.number)
+    && ((nat_lt 0 f.seq && nat_lt 0 f.client) && (nat_lt 0 f.number && are_flags f.flags))
 
 -- the packet that fields say, or their first fault: in the magic bytes, the version, the size, or the range of a field
 unfoldable pub judged : Fields → Result Carried PacketFault
 judged f =
     if not (f.magic == 0x5542) then Err fault.Magic
-    else if not (f.version == 1) then Err fault.Version
+    else if not ((f.version == 1) || (f.version == 2)) then Err fault.Version
     else if nat_lt 1024 f.size || not (f.size == length f.payload) then Err fault.Length
     else if is_in_range f then Ok (carried_of f)
     else Err fault.Range
 
--- the first fault of bytes: Short where there are fewer than a header has; else that of the fields that they spell
+-- whether bytes begin so that a byte of flags is to stand behind the target
+abbrev pub begins_with_flags : List ℕ → Bool
+begins_with_flags bytes = has_flags (big_number 2 bytes) (slice_index bytes 2)
+
+-- how many bytes a header has that begins so: nineteen with a byte of flags, else eighteen
+abbrev pub header_length : List ℕ → ℕ
+header_length bytes = if begins_with_flags bytes then 19 else 18
+
+-- the first fault of bytes: Short where there are fewer than their header has; else that of the fields that they spell
 abbrev pub IsFirstFault : List ℕ → PacketFault → Type 0
-IsFirstFault bytes fault.Short = length bytes < 18
+IsFirstFault bytes fault.Short = length bytes < header_length bytes
 IsFirstFault bytes e = (f : Fields) × IsFields f × (bytes ≡ spelled f) × (judged f ≡ Err e)
 
--- the fields that eighteen bytes or more spell
-abbrev pub fields_at : List ℕ → Fields
-fields_at bytes = record {
+-- the fields that bytes spell with these flags, where the rest begins behind them
+abbrev pub fields_with : Option ℕ → List ℕ → List ℕ → Fields
+fields_with flags bytes rest = record {
   magic = big_number 2 bytes;
   version = slice_index bytes 2;
   source = slice_index bytes 3;
   target = slice_index bytes 4;
-  sender = slice_index bytes 5;
-  seq = big_number 4 (drop 6 bytes);
-  client = big_number 2 (drop 10 bytes);
-  number = big_number 4 (drop 12 bytes);
-  size = big_number 2 (drop 16 bytes);
-  payload = drop 18 bytes;
+  flags = flags;
+  sender = slice_index rest 0;
+  seq = big_number 4 (drop 1 rest);
+  client = big_number 2 (drop 5 rest);
+  number = big_number 4 (drop 7 rest);
+  size = big_number 2 (drop 11 rest);
+  payload = drop 13 rest;
 }
+
+-- the fields that bytes spell, as many as their header has or more
+abbrev pub fields_at : List ℕ → Fields
+fields_at bytes =
+    if begins_with_flags bytes then fields_with (Some (slice_index bytes 5)) bytes (drop 6 bytes)
+    else fields_with None bytes (drop 5 bytes)
 
 -- the packet that bytes spell, or their first fault
 abbrev pub packet_of : List ℕ → Result Carried PacketFault
-packet_of bytes = if nat_lt (length bytes) 18 then Err fault.Short else judged (fields_at bytes)
+packet_of bytes = if nat_lt (length bytes) (header_length bytes) then Err fault.Short else judged (fields_at bytes)

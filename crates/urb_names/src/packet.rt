@@ -2,11 +2,12 @@
 ghost use Rattle.std.specs.Prelude.{◌≡◌, ◌≢◌};
 ghost use Rattle.urb_names.specs.Packets.{IsPacket};
 
-use crate::{Message, Name, NodeId};
+use crate::{Flags, Message, Name, NodeId};
 use std::alloc::{Allocator, Global};
 use std::marker::Model;
 
-/// A message under its name, from one node to another: what a datagram carries.
+/// A message under its name, from one node to another, and in version two what its source tells of certificates: what a
+/// datagram carries.
 #[derive(Drop)]
 #[derive_where(Debug)]
 pub struct Packet<A: Allocator = Global> {
@@ -14,6 +15,7 @@ pub struct Packet<A: Allocator = Global> {
     target: NodeId,
     name: Name,
     message: Message<A>,
+    flags: Option<Flags>,
 }
 
 impl<A: Allocator> Model for Packet<A> {
@@ -22,22 +24,29 @@ impl<A: Allocator> Model for Packet<A> {
 
     ghost Value = { Carried };
 
-    ghost view = { λ a. record { source = a.source; target = a.target; name = a.name; message = a.message } };
+    ghost view = { λ a. record { source = a.source; target = a.target; name = a.name; message = a.message; flags = a.flags } };
 
     ghost invariant = { λ a. a.source ≢ a.target };
 }
 
 impl<A: Allocator> Packet<A> {
-    /// The packet of these parts. Takes no memory.
-    pub fn new(source: NodeId, target: NodeId, name: Name, message: Message<A>) -> Packet<A>
+    /// The packet of these parts: of version two where it has flags, else of version one. Takes no memory.
+    pub fn new(
+        source: NodeId,
+        target: NodeId,
+        name: Name,
+        message: Message<A>,
+        flags: Option<Flags>,
+    ) -> Packet<A>
         requires { source ≢ target }
-        ensures { result ≡ record { source = source; target = target; name = name; message = message } }
+        ensures { result ≡ record { source = source; target = target; name = name; message = message; flags = flags } }
     {
         Packet {
             source,
             target,
             name,
             message,
+            flags,
         }
     }
 
@@ -68,6 +77,13 @@ impl<A: Allocator> Packet<A> {
         ensures { result.now ≡ self.now.message }
     {
         &self.message
+    }
+
+    /// What its source tells of certificates; none in a packet of version one.
+    pub fn flags(&self) -> Option<Flags>
+        ensures { result ≡ self.now.flags }
+    {
+        self.flags
     }
 
     /// Its message, without a copy.

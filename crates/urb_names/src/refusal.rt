@@ -26,19 +26,19 @@ impl<T: Drop> From<AllocFailed<T>> for NoMemory {
 /// Why bytes are no packet: the first of these that holds.
 #[derive(Clone, Copy, Debug, PartialEq, Eq, Error)]
 pub enum PacketFault {
-    /// There are fewer than the 18 bytes of a header.
+    /// There are fewer bytes than a header has: 19 where they begin as version two does, else 18.
     #[error("the packet is too short")]
     Short,
     /// The first two bytes are not 55 42: it is no packet of this program.
     #[error("the packet begins with other bytes")]
     Magic,
-    /// The third byte is not 01: it is a packet of another version.
+    /// The third byte is neither 01 nor 02: it is a packet of another version.
     #[error("the packet has another version")]
     Version,
     /// The length of the payload is over 1,024, or not the number of the bytes behind the header.
     #[error("the packet has another length")]
     Length,
-    /// A node is not 1 to 7, a number is 0, or source and target are the same.
+    /// A node is not 1 to 7, a number is 0, source and target are the same, or the flags are over 3.
     #[error("a field of the packet is out of range")]
     Range,
 }

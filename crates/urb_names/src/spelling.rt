@@ -1,21 +1,27 @@
 //! Packets as bytes: reading them, and writing them.
-ghost use Rattle.std.specs.Prelude.{◌≡◌, ◌≤◌, ◌⊎◌, length, Ok, Err, Some, None, IfOk, IfErr, MatchResult, if◌then◌else◌};
+ghost use Rattle.std.specs.Prelude.{◌≡◌, ◌≤◌, ◌⊎◌, length, Ok, Err, Some, None, IfOk, IfErr, MatchResult, if◌then◌else◌, [], ◌∷◌, ◌++◌};
+ghost use Rattle.byteorder.specs.Endian.{big_bytes};
 ghost use Rattle.urb_names.specs.Carried.{Carried};
-ghost use Rattle.urb_names.specs.Packets.{IsPacket, spelling, judged, is_in_range, carried_of, fields_at, packet_of, IsFirstFault};
+ghost use Rattle.urb_names.specs.Packets.{IsPacket, IsFirstFault, are_flags, begins_with_flags, carried_of, fields_at, fields_with, flags_of, header_length, is_in_range, judged, packet_of, spelling, version_of};
 
 use crate::{
-    ClientId, MAX_PAYLOAD, Name, NoMemory, NodeId, Packet, PacketFault, PacketView, Refusal,
+    ClientId, Flags, MAX_PAYLOAD, Name, NoMemory, NodeId, Packet, PacketFault, PacketView, Refusal,
 };
 use byteorder::{BigEndian, ByteOrder};
 use std::alloc::Allocator;
 use std::marker::Model;
 
-// How many bytes stand before the payload, and what the first three of them are.
-const HEADER: usize = 18;
-
+// The first two bytes of each packet, and the third of those that have a byte of flags and of those that have none.
 const MAGIC: u16 = 0x5542;
 
-const VERSION: u8 = 1;
+const WITHOUT_FLAGS: u8 = 1;
+
+const WITH_FLAGS: u8 = 2;
+
+// How many bytes stand before the flags, and behind them before the payload.
+const FRONT: usize = 5;
+
+const BACK: usize = 13;
 
 // What stands in the fields of bytes that may be a packet.
 #[derive(Drop)]
@@ -24,6 +30,7 @@ struct Fields<'a> {
     version: u8,
     source: u8,
     target: u8,
+    flags: Option<u8>,
     sender: u8,
     seq: u32,
     client: u16,
@@ -37,25 +44,67 @@ impl<'a> Model for Fields<'a> {
 
     ghost Value = { Values };
 
-    ghost view = { λ a. record { magic = a.magic; version = a.version; source = a.source; target = a.target; sender = a.sender; seq = a.seq; client = a.client; number = a.number; size = a.size; payload = a.payload.now } };
+    ghost view = { λ a. record { magic = a.magic; version = a.version; source = a.source; target = a.target; flags = a.flags; sender = a.sender; seq = a.seq; client = a.client; number = a.number; size = a.size; payload = a.payload.now } };
 }
 
-// The fields of as many bytes as a header has, or more.
-fn fields_at(bytes: &[u8]) -> Fields<'_>
-    requires { HEADER ≤ length bytes.now }
-    ensures { result ≡ fields_at bytes.now }
+// Whether bytes begin so that a byte of flags is to stand behind the target.
+fn begins_with_flags(bytes: &[u8]) -> bool
+    ensures { result ≡ begins_with_flags bytes.now }
+{
+    bytes.len() > 2 && BigEndian::read_u16(bytes) == MAGIC && bytes[2] == WITH_FLAGS
+}
+
+// How many bytes a header has that begins so.
+fn header_length(bytes: &[u8]) -> usize
+    ensures { result ≡ header_length bytes.now }
+{
+    if begins_with_flags(bytes) {
+        FRONT + 1 + BACK
+    } else {
+        FRONT + BACK
+    }
+}
+
+// The fields of bytes with these flags, where the rest begins behind them.
+fn fields_with<'a>(flags: Option<u8>, bytes: &[u8], rest: &'a [u8]) -> Fields<'a>
+    requires front { FRONT ≤ length bytes.now }
+    requires back { BACK ≤ length rest.now }
+    ensures { result ≡ fields_with flags bytes.now rest.now }
 {
     Fields {
         magic: BigEndian::read_u16(bytes),
         version: bytes[2],
         source: bytes[3],
         target: bytes[4],
-        sender: bytes[5],
-        seq: BigEndian::read_u32(&bytes[6..]),
-        client: BigEndian::read_u16(&bytes[10..]),
-        number: BigEndian::read_u32(&bytes[12..]),
-        size: BigEndian::read_u16(&bytes[16..]),
-        payload: &bytes[HEADER..],
+        flags,
+        sender: rest[0],
+        seq: BigEndian::read_u32(&rest[1..]),
+        client: BigEndian::read_u16(&rest[5..]),
+        number: BigEndian::read_u32(&rest[7..]),
+        size: BigEndian::read_u16(&rest[11..]),
+        payload: &rest[BACK..],
+    }
+}
+
+// The fields of as many bytes as their header has, or more.
+fn fields_at(bytes: &[u8]) -> Fields<'_>
+    requires { header_length bytes.now ≤ length bytes.now }
+    ensures { result ≡ fields_at bytes.now }
+{
+    if begins_with_flags(bytes) {
+        fields_with(Some(bytes[FRONT]), bytes, &bytes[FRONT + 1..])
+    } else {
+        fields_with(None, bytes, &bytes[FRONT..])
+    }
+}
+
+// The flags that a byte says, where there is one; an outer none where it is over three.
+fn flags_in(byte: Option<u8>) -> Option<Option<Flags>>
+    ensures { result ≡ (if are_flags byte then Some (flags_of byte) else None) }
+{
+    match byte {
+        Some(byte) => Some(Some(Flags::of_number(byte)?)),
+        None => Some(None),
     }
 }
 
@@ -68,6 +117,7 @@ fn in_range<'a>(fields: &Fields<'a>) -> Option<PacketView<'a>>
     let target = NodeId::new(fields.target)?;
     let sender = NodeId::new(fields.sender)?;
     let client = ClientId::new(fields.client)?;
+    let flags = flags_in(fields.flags)?;
     if source == target || fields.seq == 0 || fields.number == 0 {
         return None;
     }
@@ -75,7 +125,15 @@ fn in_range<'a>(fields: &Fields<'a>) -> Option<PacketView<'a>>
         sender,
         seq: fields.seq,
     };
-    Some(PacketView::new(source, target, name, client, fields.number, fields.payload))
+    Some(PacketView::new(
+        source,
+        target,
+        name,
+        client,
+        fields.number,
+        fields.payload,
+        flags,
+    ))
 }
 
 #[tactic(auto, unfolding(crate::specs::Packets::judged))]
@@ -86,7 +144,7 @@ fn judged<'a>(fields: &Fields<'a>) -> Result<PacketView<'a>, PacketFault>
     if fields.magic != MAGIC {
         return Err(PacketFault::Magic);
     }
-    if fields.version != VERSION {
+    if fields.version != WITHOUT_FLAGS && fields.version != WITH_FLAGS {
         return Err(PacketFault::Version);
     }
     if usize::from(fields.size) > MAX_PAYLOAD || usize::from(fields.size) != fields.payload.len() {
@@ -106,7 +164,7 @@ pub fn parse(bytes: &[u8]) -> Result<PacketView<'_>, PacketFault>
     ensures fault { IfErr result (λ e. IsFirstFault bytes.now e) }
     ensures exact { result ≡ packet_of bytes.now }
 {
-    if bytes.len() < HEADER {
+    if bytes.len() < header_length(bytes) {
         return Err(PacketFault::Short);
     }
     judged(&fields_at(bytes))
@@ -125,24 +183,52 @@ pub fn decode<A: Allocator>(alloc: A, bytes: &[u8]) -> Result<Packet<A>, Refusal
     Ok(parse(bytes)?.to_packet(alloc)?)
 }
 
-/// The one spelling of a packet, for a datagram: at most 1,042 bytes.
+// The bytes of a packet before its flags.
+fn front<A: Allocator>(packet: &Packet<A>) -> [u8; FRONT]
+    ensures { result ≡ big_bytes 2 0x5542 ++ version_of packet.now.flags ∷ packet.now.source ∷ packet.now.target ∷ [] }
+{
+    let mut bytes = [0; FRONT];
+    BigEndian::write_u16(&mut bytes, MAGIC);
+    bytes[2] = match packet.flags() {
+        Some(_) => WITH_FLAGS,
+        None => WITHOUT_FLAGS,
+    };
+    bytes[3] = packet.source().number();
+    bytes[4] = packet.target().number();
+    bytes
+}
+
+// Those behind its flags, and before its payload.
+fn back(name: Name, client: u16, number: u32, size: u16) -> [u8; BACK]
+    ensures { result ≡ name.sender ∷ big_bytes 4 name.seq ++ big_bytes 2 client ++ big_bytes 4 number ++ big_bytes 2 size }
+{
+    let mut bytes = [0; BACK];
+    bytes[0] = name.sender.number();
+    BigEndian::write_u32(&mut bytes[1..], name.seq);
+    BigEndian::write_u16(&mut bytes[5..], client);
+    BigEndian::write_u32(&mut bytes[7..], number);
+    BigEndian::write_u16(&mut bytes[11..], size);
+    bytes
+}
+
+/// The one spelling of a packet, for a datagram: at most 1,043 bytes.
 pub fn encode<A: Allocator>(alloc: A, packet: &Packet<A>) -> Result<Vec<u8, A>, NoMemory>
     ensures { IfOk result (λ v. v.items ≡ spelling packet.now) }
 {
     let message = packet.message();
     let payload = message.payload();
-    let mut header = [0; HEADER];
-    BigEndian::write_u16(&mut header, MAGIC);
-    header[2] = VERSION;
-    header[3] = packet.source().number();
-    header[4] = packet.target().number();
-    header[5] = packet.name().sender.number();
-    BigEndian::write_u32(&mut header[6..], packet.name().seq);
-    BigEndian::write_u16(&mut header[10..], message.client().number());
-    BigEndian::write_u32(&mut header[12..], message.number());
-    BigEndian::write_u16(&mut header[16..], payload.len() as u16);
-    let mut bytes = Vec::with_capacity(alloc, HEADER + payload.len())?;
-    bytes.extend_from_slice(&header)?;
+    let mut bytes = Vec::with_capacity(alloc, FRONT + 1 + BACK + payload.len())?;
+    bytes.extend_from_slice(&front(packet))?;
+    if let Some(flags) = packet.flags() {
+        bytes.push(flags.number())?;
+    }
+    let client = message.client().number();
+    bytes.extend_from_slice(&back(
+        packet.name(),
+        client,
+        message.number(),
+        payload.len() as u16,
+    ))?;
     bytes.extend_from_slice(payload)?;
     Ok(bytes)
 }

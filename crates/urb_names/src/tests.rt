@@ -14,6 +14,10 @@ const WITH_PAYLOAD: &[u8] =
 const WITHOUT_PAYLOAD: &[u8] =
     b"\x55\x42\x01\x02\x01\x01\x00\x00\x00\x01\x00\x07\x00\x00\x00\x01\x00\x00";
 
+// The first again, in version two: node 1 has stored a certificate of its name.
+const WITH_FLAGS: &[u8] =
+    b"\x55\x42\x02\x01\x02\x01\x01\x00\x00\x00\x01\x00\x07\x00\x00\x00\x01\x00\x01a";
+
 fn node(number: u8) -> Result<NodeId, Fail>
     ensures { IfOk result (λ p. p ≡ number) }
 {
@@ -21,7 +25,13 @@ fn node(number: u8) -> Result<NodeId, Fail>
 }
 
 // The first message of node 1, from client 7 with number 1.
-fn first(alloc: Global, source: u8, target: u8, payload: &[u8]) -> Result<Packet, Fail>
+fn first(
+    alloc: Global,
+    source: u8,
+    target: u8,
+    payload: &[u8],
+    flags: Option<Flags>,
+) -> Result<Packet, Fail>
     requires apart { source ≢ target }
     requires payload { length payload.now ≤ 1024 }
 {
@@ -33,7 +43,7 @@ fn first(alloc: Global, source: u8, target: u8, payload: &[u8]) -> Result<Packet
         seq: 1,
     };
     let message = Message::copied(alloc, client, 1, payload)?;
-    Ok(Packet::new(source, target, name, message))
+    Ok(Packet::new(source, target, name, message, flags))
 }
 
 fn are_same(first: &Packet, second: &Packet) -> bool {
@@ -41,16 +51,23 @@ fn are_same(first: &Packet, second: &Packet) -> bool {
         && first.target() == second.target()
         && first.name() == second.name()
         && first.message().is_same(second.message())
+        && first.flags() == second.flags()
 }
 
 #[test]
 fn packets_are_spelled_and_read_as_in_the_vectors(rt: HostRuntime) -> Result<(), Fail> {
     let alloc = rt.alloc();
-    let with_payload = first(alloc, 1, 2, b"a")?;
-    let without_payload = first(alloc, 2, 1, b"")?;
+    let with_payload = first(alloc, 1, 2, b"a", None)?;
+    let without_payload = first(alloc, 2, 1, b"", None)?;
+    let certified = Flags {
+        certified: true,
+        heard: false,
+    };
+    let with_flags = first(alloc, 1, 2, b"a", Some(certified))?;
     for (packet, bytes) in [
         (&with_payload, WITH_PAYLOAD),
         (&without_payload, WITHOUT_PAYLOAD),
+        (&with_flags, WITH_FLAGS),
     ] {
         assert!(rt; encode(alloc, packet)?.as_slice() == bytes);
         assert!(rt; are_same(&decode(alloc, bytes)?, packet));
@@ -69,17 +86,48 @@ fn a_view_is_the_packet_without_a_copy(rt: HostRuntime) -> Result<(), Fail> {
     assert_eq!(rt; view.client().number(), 7);
     assert_eq!(rt; view.number(), 1);
     assert!(rt; view.payload() == b"a".as_slice());
-    assert!(rt; are_same(&view.to_packet(alloc)?, &first(alloc, 1, 2, b"a")?));
-    let payload = first(alloc, 1, 2, b"a")?.into_message().into_payload();
+    assert_eq!(rt; view.flags(), None);
+    assert!(rt; are_same(&view.to_packet(alloc)?, &first(alloc, 1, 2, b"a", None)?));
+    let payload = first(alloc, 1, 2, b"a", None)?
+        .into_message()
+        .into_payload();
     assert!(rt; payload.as_slice() == b"a".as_slice());
     Ok(())
 }
 
 #[test]
+fn the_byte_of_flags_says_what_is_certified_and_what_was_heard(
+    rt: HostRuntime,
+) -> Result<(), Fail> {
+    let alloc = rt.alloc();
+    for (byte, certified, heard) in [
+        (0, false, false),
+        (1, true, false),
+        (2, false, true),
+        (3, true, true),
+    ] {
+        let mut bytes = Vec::from_slice(alloc, WITH_FLAGS)?;
+        bytes[5] = byte;
+        let flags = Flags { certified, heard };
+        assert_eq!(rt; flags.number(), byte);
+        assert_eq!(rt; Flags::of_number(byte), Some(flags));
+        assert_eq!(rt; parse(&bytes)?.flags(), Some(flags));
+        let packet = first(alloc, 1, 2, b"a", Some(flags))?;
+        assert!(rt; encode(alloc, &packet)?.as_slice() == bytes.as_slice());
+        assert!(rt; are_same(&parse(&bytes)?.to_packet(alloc)?, &packet));
+    }
+    Ok(())
+}
+
+#[test]
 fn bytes_are_refused_with_their_first_fault(rt: HostRuntime) -> Result<(), Fail> {
-    let cases: [(&[u8], PacketFault); 6] = [
+    let cases: [(&[u8], PacketFault); 11] = [
         (
             b"\x55\x42\x01\x01\x02\x01\x00\x00\x00\x01\x00\x07\x00\x00\x00\x01\x00",
+            PacketFault::Short,
+        ),
+        (
+            b"\x55\x42\x02\x01\x02\x01\x01\x00\x00\x00\x01\x00\x07\x00\x00\x00\x01\x00",
             PacketFault::Short,
         ),
         (
@@ -87,7 +135,19 @@ fn bytes_are_refused_with_their_first_fault(rt: HostRuntime) -> Result<(), Fail>
             PacketFault::Magic,
         ),
         (
-            b"\x55\x42\x09\x01\x02\x01\x00\x00\x00\x01\x00\x07\x00\x00\x00\x01\x00\x01a",
+            b"\x55\x43\x02\x01\x02\x01\x01\x00\x00\x00\x01\x00\x07\x00\x00\x00\x01\x00",
+            PacketFault::Magic,
+        ),
+        (
+            b"\x55\x42\x00\x01\x02\x01\x00\x00\x00\x01\x00\x07\x00\x00\x00\x01\x00\x01a",
+            PacketFault::Version,
+        ),
+        (
+            b"\x55\x42\x03\x01\x02\x01\x01\x00\x00\x00\x01\x00\x07\x00\x00\x00\x01\x00\x01a",
+            PacketFault::Version,
+        ),
+        (
+            b"\x55\x42\x09\x02\x02\x01\x00\x00\x00\x00\x00\x07\x00\x00\x00\x01\x00\x09a",
             PacketFault::Version,
         ),
         (
@@ -95,12 +155,16 @@ fn bytes_are_refused_with_their_first_fault(rt: HostRuntime) -> Result<(), Fail>
             PacketFault::Length,
         ),
         (
+            b"\x55\x42\x02\x01\x02\x04\x01\x00\x00\x00\x01\x00\x07\x00\x00\x00\x01\x00\x02a",
+            PacketFault::Length,
+        ),
+        (
             b"\x55\x42\x01\x02\x02\x01\x00\x00\x00\x01\x00\x07\x00\x00\x00\x01\x00\x01a",
             PacketFault::Range,
         ),
         (
-            b"\x55\x42\x09\x02\x02\x01\x00\x00\x00\x00\x00\x07\x00\x00\x00\x01\x00\x09a",
-            PacketFault::Version,
+            b"\x55\x42\x02\x01\x02\x04\x01\x00\x00\x00\x01\x00\x07\x00\x00\x00\x01\x00\x01a",
+            PacketFault::Range,
         ),
     ];
     for (bytes, fault) in cases {
@@ -115,17 +179,45 @@ fn bytes_are_refused_with_their_first_fault(rt: HostRuntime) -> Result<(), Fail>
 
 #[test]
 fn a_packet_that_is_cut_or_has_more_is_refused(rt: HostRuntime) -> Result<(), Fail> {
-    for (end, _) in WITH_PAYLOAD.iter().enumerate() {
-        let fault = if end < 18 {
-            PacketFault::Short
-        } else {
-            PacketFault::Length
-        };
-        assert_eq!(rt; parse(&WITH_PAYLOAD[..end]).err(), Some(fault));
+    for (packet, header) in [(WITH_PAYLOAD, 18), (WITH_FLAGS, 19)] {
+        for (end, _) in packet.iter().enumerate() {
+            let fault = if end < header {
+                PacketFault::Short
+            } else {
+                PacketFault::Length
+            };
+            assert_eq!(rt; parse(&packet[..end]).err(), Some(fault));
+        }
+        let mut more = Vec::from_slice(rt.alloc(), packet)?;
+        more.push(0)?;
+        assert_eq!(rt; parse(&more).err(), Some(PacketFault::Length));
     }
-    let mut more = Vec::from_slice(rt.alloc(), WITH_PAYLOAD)?;
-    more.push(0)?;
-    assert_eq!(rt; parse(&more).err(), Some(PacketFault::Length));
+    Ok(())
+}
+
+#[test]
+fn a_byte_more_or_less_at_any_place_is_seen(rt: HostRuntime) -> Result<(), Fail> {
+    for (place, _) in WITH_FLAGS.iter().enumerate() {
+        let mut more = Vec::from_slice(rt.alloc(), &WITH_FLAGS[..place])?;
+        more.push(0)?;
+        more.extend_from_slice(&WITH_FLAGS[place..])?;
+        let fault = match place {
+            0 | 1 => PacketFault::Magic,
+            2 => PacketFault::Version,
+            _ => PacketFault::Length,
+        };
+        assert_eq!(rt; parse(&more).err(), Some(fault));
+
+        let mut less = Vec::from_slice(rt.alloc(), &WITH_FLAGS[..place])?;
+        less.extend_from_slice(&WITH_FLAGS[place + 1..])?;
+        // Without its third byte this happens to be a packet of version one: the source stands for the version.
+        let fault = match place {
+            0 | 1 => Some(PacketFault::Magic),
+            2 => None,
+            _ => Some(PacketFault::Length),
+        };
+        assert_eq!(rt; parse(&less).err(), fault);
+    }
     Ok(())
 }
 
@@ -213,7 +305,13 @@ fn read_and_spelled<'h>(heap: Heap<'h>) -> Result<Vec<u8, Heap<'h>>, Refusal> {
         Ok(message) => message,
         Err(_) => packet.message().copy(heap)?,
     };
-    let packet = Packet::new(packet.source(), packet.target(), packet.name(), message);
+    let packet = Packet::new(
+        packet.source(),
+        packet.target(),
+        packet.name(),
+        message,
+        packet.flags(),
+    );
     match encode(heap, &packet) {
         Ok(bytes) => Ok(bytes),
         Err(_) => Ok(encode(heap, &packet)?),

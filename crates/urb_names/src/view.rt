@@ -2,7 +2,7 @@
 ghost use Rattle.std.specs.Prelude.{◌≡◌, ◌≢◌, ◌<◌, ◌≤◌, length, IfOk};
 ghost use Rattle.urb_names.specs.Packets.{IsPacket};
 
-use crate::{ClientId, Message, Name, NoMemory, NodeId, Packet};
+use crate::{ClientId, Flags, Message, Name, NoMemory, NodeId, Packet};
 use std::alloc::Allocator;
 use std::marker::Model;
 
@@ -15,6 +15,7 @@ pub struct PacketView<'a> {
     client: ClientId,
     number: u32,
     payload: &'a [u8],
+    flags: Option<Flags>,
 }
 
 impl<'a> Model for PacketView<'a> {
@@ -23,7 +24,7 @@ impl<'a> Model for PacketView<'a> {
 
     ghost Value = { Carried };
 
-    ghost view = { λ a. record { source = a.source; target = a.target; name = a.name; message = record { client = a.client; number = a.number; payload = a.payload.now } } };
+    ghost view = { λ a. record { source = a.source; target = a.target; name = a.name; message = record { client = a.client; number = a.number; payload = a.payload.now }; flags = a.flags } };
 
     ghost invariant = { λ a. (a.source ≢ a.target) × (0 < a.number) × (length a.payload.now ≤ 1024) };
 }
@@ -37,11 +38,12 @@ impl<'a> PacketView<'a> {
         client: ClientId,
         number: u32,
         payload: &'a [u8],
+        flags: Option<Flags>,
     ) -> PacketView<'a>
         requires apart { source ≢ target }
         requires number { 0 < number }
         requires payload { length payload.now ≤ 1024 }
-        ensures { result ≡ record { source = source; target = target; name = name; message = record { client = client; number = number; payload = payload.now } } }
+        ensures { result ≡ record { source = source; target = target; name = name; message = record { client = client; number = number; payload = payload.now }; flags = flags } }
     {
         PacketView {
             source,
@@ -50,6 +52,7 @@ impl<'a> PacketView<'a> {
             client,
             number,
             payload,
+            flags,
         }
     }
 
@@ -98,12 +101,19 @@ impl<'a> PacketView<'a> {
         self.payload
     }
 
+    /// What its source tells of certificates; none in a packet of version one.
+    pub fn flags(&self) -> Option<Flags>
+        ensures { result ≡ self.now.flags }
+    {
+        self.flags
+    }
+
     /// The packet, with a copy of the payload. Its memory comes from `alloc`.
     pub fn to_packet<A: Allocator>(&self, alloc: A) -> Result<Packet<A>, NoMemory>
         ensures { IfOk result (λ p. p ≡ self.now) }
     {
         let message = Message::copied(alloc, self.client, self.number, self.payload)?;
-        Ok(Packet::new(self.source, self.target, self.name, message))
+        Ok(Packet::new(self.source, self.target, self.name, message, self.flags))
     }
 
     /// That every packet is one of the grammar: for proofs alone, since it does nothing.

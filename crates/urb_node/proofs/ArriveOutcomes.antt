@@ -1,26 +1,29 @@
 -- What a memory finds out about a packet is what the definition says for every node that it shows.
-use Rattle.std.proofs.Common.{◌≡◌, ◌≢◌, ℕ, zero, suc, ◌≤◌, Bool, true, false, not, ◌||◌, ◌&&◌, ◌==◌, List, ◌∷◌, count_by, Option, Some, None, is_none, refl, sym, ap, ◌∙◌, subst, arith, ne_eqb, eq-eqb, eqb-true}
+use Rattle.std.proofs.Common.{◌≡◌, ◌≢◌, ℕ, zero, suc, ◌≤◌, Bool, true, false, not, ◌||◌, ◌&&◌, ◌==◌, List, [], ◌∷◌, count_by, Option, Some, None, is_none, refl, sym, ap, ◌∙◌, subst, arith, ne_eqb, eq-eqb, eqb-true}
 use Rattle.std.specs.Prelude.{if◌then◌else◌}
 use Rattle.urb_names.specs.Naming.{Label, Content}
 use Rattle.urb_names.specs.Names.{has_name, same_name}
 use Rattle.urb_names.specs.Nodes.{nodes, numbers_from, is_majority, majority_passes}
 use Rattle.urb_names.specs.Pairs.{message_of}
+use Rattle.urb_names.specs.Carried.{says_certified}
+use Rattle.urb_names.specs.declared.flags.Flags.{Flags}
 use Rattle.urb_names.specs.Acknowledged.{acked, with_ack}
 use Rattle.urb_names.specs.Ordered.{placed}
 use Rattle.urb_names.proofs.Ordered.{any_insert}
 use Rattle.urb_majority.specs.Acks.{ack_lt}
-use Rattle.urb_majority.proofs.Counts.{count_alike, count_one_more}
+use Rattle.urb_window.proofs.Counts.{count_alike, count_one_more}
 use Rattle.urb_stable.specs.Records.{cert}
 use Rattle.urb_stable.specs.declared.record.Record.TheVariants.{Pend, PendCert, Cert}
 use Rattle.urb_node.specs.Part.{Node, packet_from}
 use Rattle.urb_node.specs.Replies.{Same}
 use Rattle.urb_node.specs.declared.answer.Answer.TheVariants as answer
-use Rattle.urb_node.specs.Steps.{arrives, takes, counts, drafts}
+use Rattle.urb_node.specs.Steps.{answers, arrives, counts, drafts, hears, reply_to, takes}
 use Rattle.urb_node.specs.Values.{Memory, ShowsReady, ready_view}
 use Rattle.urb_node.specs.Layers.{counted_with}
-use Rattle.urb_node.specs.Outcomes.{Answers, Wants, with_counted, counted_outcome, pending_outcome, arrive_outcome}
+use Rattle.urb_node.specs.Outcomes.{Answers, Outcome, Wants, answer_with, arrive_outcome, certified_outcome, counted_outcome, hearing, pending_outcome, with_counted}
 use Rattle.urb_node.proofs.ShownNodes.{shown-found, shown-majority}
-use Rattle.urb_node.proofs.Drafts.{counted-shows}
+use Rattle.urb_node.proofs.Drafts.{counted-shows, heard-shows}
+use Rattle.urb_node.specs.declared.cause.Cause.{Cause}
 use Rattle.urb_node.proofs.SubmitOutcomes.{drafts-says}
 use Rattle.urb_node.proofs.Told.{Says}
 
@@ -73,13 +76,31 @@ counted-with acks x q y z = at (acked acks x q)
 pub counted-says : (a : Memory) (node : Node) (x : Label) (q : ℕ) → ShowsReady a node → ShowsReady (with_counted a x q) (record node { acks = with_ack node.acks x q })
 counted-says a node x q s = counted-shows a.limits a.node (ready_view a) (counted_with a.acks x q) node x q s (λ y z l. counted-with a.acks x q y z)
 
-counts-says : (a : Memory) (q : ℕ) (x : Label) (node : Node) → ShowsReady a node → has_name a.certified x ≡ false → Says (counts a.limits q x node) (counted_outcome a q x)
-counts-says a q x node s c =
-    subst (λ (b : Bool). Says (
-    if b then drafts after (Cert x) (Some (packet_from q))
-    else (if acked node.acks x q then (Same (answer.Again x), after) else (Same (answer.Noted x), after))
-    ) (counted_outcome a q x)) (shown-majority a.limits a.node (ready_view a) node s x q c) (reached (majority_passes a.limits.n (acked (with_ack a.acks x q) x)))
+-- the memory once it heard what a packet tells shows the node that did
+pub hears-says : (a : Memory) (node : Node) (q : ℕ) (x : Label) (flags : Option Flags) → ShowsReady a node → ShowsReady (hearing a q x flags) (hears q x flags node)
+hears-says a node q x flags s = at (says_certified flags)
   where
+    at : (b : Bool) → ShowsReady (record a { heard = if b then counted_with a.heard x q else a.heard }) (if b then record node { heard = with_ack node.heard x q } else node)
+    at true = heard-shows a.limits a.node (ready_view a) (counted_with a.heard x q) node x q s (counted-with a.heard x q)
+    at false = s
+
+-- what a memory finds out about a packet of a name that is not certified, once it heard what the packet tells
+abbrev pub counted_then : Memory → ℕ → Label → Option Flags → Outcome
+counted_then a q x flags =
+    if majority_passes a.limits.n (acked (with_ack a.acks x q) x) then Wants (Cert x) (Some (packet_from q (says_certified flags))) (with_counted a x q)
+    else if acked a.acks x q then Answers (answer.Again x) a
+    else Answers (answer.Noted x) (with_counted a x q)
+
+counts-says : (a : Memory) (q : ℕ) (x : Label) (flags : Option Flags) (node : Node) → ShowsReady a node → has_name a.certified x ≡ false → Says (counts a.limits q x flags node) (counted_then a q x flags)
+counts-says a q x flags node s c =
+    subst (λ (b : Bool). Says (
+    if b then drafts after (Cert x) (Some cause)
+    else (if acked node.acks x q then (Same (answer.Again x), after) else (Same (answer.Noted x), after))
+    ) (counted_then a q x flags)) (shown-majority a.limits a.node (ready_view a) node s x q c) (reached (majority_passes a.limits.n (acked (with_ack a.acks x q) x)))
+  where
+    cause : Cause
+    cause = packet_from q (says_certified flags)
+
     after : Node
     after = record node { acks = with_ack node.acks x q }
 
@@ -93,36 +114,59 @@ counts-says a q x node s c =
     again true e = (refl, subst (λ (b : Bool). ShowsReady (record a { acks = if b then a.acks else placed ack_lt a.acks (x, q) }) after) e shows)
     again false e = (refl, shows)
 
-    reached : (b : Bool) → Says (if b then drafts after (Cert x) (Some (packet_from q)) else (if acked node.acks x q then (Same (answer.Again x), after) else (Same (answer.Noted x), after)))
-        (if b then Wants (Cert x) (Some (packet_from q)) (with_counted a x q) else (if acked a.acks x q then Answers (answer.Again x) a else Answers (answer.Noted x) (with_counted a x q)))
-    reached true = drafts-says (with_counted a x q) after (Cert x) (Some (packet_from q)) shows
+    reached : (b : Bool) → Says (if b then drafts after (Cert x) (Some cause) else (if acked node.acks x q then (Same (answer.Again x), after) else (Same (answer.Noted x), after)))
+        (if b then Wants (Cert x) (Some cause) (with_counted a x q) else (if acked a.acks x q then Answers (answer.Again x) a else Answers (answer.Noted x) (with_counted a x q)))
+    reached true = drafts-says (with_counted a x q) after (Cert x) (Some cause) shows
     reached false =
         subst (λ (b : Bool). Says (if b then (Same (answer.Again x), after) else (Same (answer.Noted x), after)) (if acked a.acks x q then Answers (answer.Again x) a else Answers (answer.Noted x) (with_counted a x q))) before
         (again (acked a.acks x q) refl)
 
--- For every node that the memory shows, what it finds out is what the definition says of an arrival from another node.
-pub arrive-says : (a : Memory) (q : ℕ) (x : Label) (m : Content) (node : Node) → ShowsReady a node → a.node ≢ q → 1 ≤ a.node → a.node ≤ a.limits.n → 1 ≤ q → q ≤ a.limits.n → Says (arrives a.limits a.node q x m node) (arrive_outcome a q x m)
-arrive-says a q x m node s apart pl pu ql qu =
-    subst (λ (o : Option Content). Says (
-    if is_none o then takes a.limits a.node q x m node
-    else (if not (has_name (cert node.records) x) then counts a.limits q x node else (Same (answer.Again x), node))
-    ) (arrive_outcome a q x m)) (shown-found a.limits a.node (ready_view a) node s x) (found (message_of a.pairs x))
+-- what it finds out about one of a certified name
+answers-says : (a : Memory) (q : ℕ) (x : Label) (m : Content) (flags : Option Flags) (node : Node) → ShowsReady a node → Says (answers a.node q x m flags node) (certified_outcome a q x m flags)
+answers-says a q x m None node s = (refl, s)
+answers-says a q x m (Some flags) node s = at flags.heard
   where
-    taken : (b : Bool) → Says (if b then drafts node (PendCert x m) (Some (packet_from q)) else drafts node (Pend x m) (Some (packet_from q))) (Wants (if b then PendCert x m else Pend x m) (Some (packet_from q)) a)
-    taken true = drafts-says a node (PendCert x m) (Some (packet_from q)) s
-    taken false = drafts-says a node (Pend x m) (Some (packet_from q)) s
+    at : (b : Bool) → Says (if b then (Same (answer.Again x), node) else (Same (answer.Answered x (reply_to a.node q x m node ∷ [])), node))
+        (if not b then Answers (answer.Answered x (answer_with a.node q x m (acked a.heard x q) ∷ [])) a else Answers (answer.Again x) a)
+    at true = (refl, s)
+    at false = (ap (λ heard. Same (answer.Answered x (answer_with a.node q x m heard ∷ []))) (sym (s.heard x q)), s)
 
-    certified : (b : Bool) → has_name a.certified x ≡ b → Says (if not b then counts a.limits q x node else (Same (answer.Again x), node)) (if b then Answers (answer.Again x) a else counted_outcome a q x)
-    certified true e = (refl, s)
-    certified false e = counts-says a q x node s e
+-- For every node that the memory shows, what it finds out is what the definition says of an arrival from another node.
+pub arrive-says : (a : Memory) (q : ℕ) (x : Label) (m : Content) (flags : Option Flags) (node : Node) → ShowsReady a node → a.node ≢ q → 1 ≤ a.node → a.node ≤ a.limits.n → 1 ≤ q → q ≤ a.limits.n
+    → Says (arrives a.limits a.node q x m flags node) (arrive_outcome a q x m flags)
+arrive-says a q x m flags node s apart pl pu ql qu =
+    subst (λ (o : Option Content). Says (
+    if is_none o then takes a.limits a.node q x m flags node
+    else (if not (has_name (cert node.records) x) then counts a.limits q x flags told else answers a.node q x m flags told)
+    ) (arrive_outcome a q x m flags)) (shown-found a.limits a.node (ready_view a) node s x) (found (message_of a.pairs x))
+  where
+    cause : Option Cause
+    cause = Some (packet_from q (says_certified flags))
+
+    told : Node
+    told = hears q x flags node
+
+    heard : Memory
+    heard = hearing a q x flags
+
+    shows : ShowsReady heard told
+    shows = hears-says a node q x flags s
+
+    taken : (b : Bool) → Says (if b then drafts node (PendCert x m) cause else drafts node (Pend x m) cause) (Wants (if b then PendCert x m else Pend x m) cause a)
+    taken true = drafts-says a node (PendCert x m) cause s
+    taken false = drafts-says a node (Pend x m) cause s
+
+    certified : (b : Bool) → has_name a.certified x ≡ b → Says (if not b then counts a.limits q x flags told else answers a.node q x m flags told) (if b then certified_outcome heard q x m flags else counted_outcome a q x flags)
+    certified true e = answers-says heard q x m flags told shows
+    certified false e = counts-says heard q x flags told shows e
 
     found : (o : Option Content) → Says (
-        if is_none o then takes a.limits a.node q x m node
-        else (if not (has_name (cert node.records) x) then counts a.limits q x node else (Same (answer.Again x), node))
-        ) (pending_outcome a q x m o)
+        if is_none o then takes a.limits a.node q x m flags node
+        else (if not (has_name (cert node.records) x) then counts a.limits q x flags told else answers a.node q x m flags told)
+        ) (pending_outcome a q x m flags o)
     found None =
-        subst (λ (b : Bool). Says (if b then drafts node (PendCert x m) (Some (packet_from q)) else drafts node (Pend x m) (Some (packet_from q))) (Wants (if is_majority 2 a.limits.n then PendCert x m else Pend x m) (Some (packet_from q)) a)) (sym (two-majority a.limits.n a.node q apart pl pu ql qu))
+        subst (λ (b : Bool). Says (if b then drafts node (PendCert x m) cause else drafts node (Pend x m) cause) (Wants (if is_majority 2 a.limits.n then PendCert x m else Pend x m) cause a)) (sym (two-majority a.limits.n a.node q apart pl pu ql qu))
         (taken (is_majority 2 a.limits.n))
     found (Some first) =
-        subst (λ (b : Bool). Says (if not b then counts a.limits q x node else (Same (answer.Again x), node)) (if has_name a.certified x then Answers (answer.Again x) a else counted_outcome a q x)) (s.certified x)
+        subst (λ (b : Bool). Says (if not b then counts a.limits q x flags told else answers a.node q x m flags told) (if has_name a.certified x then certified_outcome heard q x m flags else counted_outcome a q x flags)) (s.certified x)
         (certified (has_name a.certified x) refl)

@@ -3,6 +3,7 @@ use Rattle.std.proofs.Common.{◌≡◌, ℕ, suc, ◌+◌, ◌-◌, true, false
 use Rattle.std.proofs.lemmas.Bool.{and_parts, cases_Bool, false≢true, not-true}
 use Rattle.std.proofs.Common.{⊎_elim}
 use Rattle.urb_names.specs.Names.{has_name}
+use Rattle.urb_names.specs.Naming.{Label}
 use Rattle.urb_names.specs.Carried.{Carried}
 use Rattle.urb_names.specs.Pairs.{message_of}
 use Rattle.urb_names.proofs.FoundPairs.{none_found}
@@ -35,6 +36,12 @@ first_held h (PendCert x m) k next = ⊎_elim (λ e. absurd (false≢true (sym (
 first_held h (Cert x) k next =
     let parts = and_parts (in_range h.config x) (is_some (message_of h.pending.pairs x) && not (has_name h.acks.certified x)) next.new in
     not-true (has_name h.acks.certified x) (and_parts (is_some (message_of h.pending.pairs x)) (not (has_name h.acks.certified x)) parts.1).1
+
+-- a certificate is next of a name that is pending
+pub certified_pending : {A : Type 0} (h : Held A) (x : Label) → IsNextHeld h (Cert x) → is_some (message_of h.pending.pairs x) ≡ true
+certified_pending h x next =
+    let parts = and_parts (in_range h.config x) (is_some (message_of h.pending.pairs x) && not (has_name h.acks.certified x)) next.new in
+    (and_parts (is_some (message_of h.pending.pairs x)) (not (has_name h.acks.certified x)) parts.1).0
 
 pub released_held : {A : Type 0} (h : Held A) → IsHeld h → IsDelivery h.fifo → IsReleased (memory_of h)
 released_held h k d =

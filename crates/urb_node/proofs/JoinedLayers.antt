@@ -1,7 +1,7 @@
 -- The layers of a node once one more record has joined them.
-use Rattle.std.proofs.Common.{◌≡◌, suc, ◌+◌, ◌≤◌, Bool, true, false, cond, ◌&&◌, ◌||◌, List, [], ◌∷◌, ◌++◌, length, Option, Some, None, is_some, refl, sym, ap, ◌∙◌, subst, arith, inl, inr, ◌⊎◌, ⊎_elim}
+use Rattle.std.proofs.Common.{◌≡◌, ℕ, suc, ◌+◌, ◌≤◌, Bool, true, false, cond, ◌&&◌, ◌||◌, List, [], ◌∷◌, ◌++◌, length, Option, Some, None, is_some, refl, sym, ap, ◌∙◌, subst, arith, inl, inr, ◌⊎◌, ⊎_elim}
 use Rattle.std.specs.Prelude.{if◌then◌else◌}
-use Rattle.std.proofs.lemmas.Bool.{false≢true, or_left, or_right, or_cases, and_from}
+use Rattle.std.proofs.lemmas.Bool.{false≢true, or_left, or_right, or_cases, and_from, and_parts}
 use Rattle.std.proofs.lemmas.List.Edits.{length-insert}
 use Rattle.std.proofs.lemmas.List.Sums.{prefix_len-le-length}
 use Rattle.std.specs.List.{prefix_len}
@@ -16,6 +16,8 @@ use Rattle.urb_names.proofs.Ordered.{any_insert}
 use Rattle.urb_names.proofs.OrderedPairs.{has_pair-inserted}
 use Rattle.urb_names.proofs.SameNames.{same_name-same, same_name-true, same_message-same}
 use Rattle.urb_pending.specs.PendingSet.{PendingSet, added}
+use Rattle.urb_stubborn.specs.Resending.{Resending}
+use Rattle.urb_certified.specs.Certificates.{with_name}
 use Rattle.urb_majority.specs.Acks.{AckSet}
 use Rattle.urb_majority.specs.Counting.{certifying as acks_certifying}
 use Rattle.urb_fifo.specs.Delivery.{Delivery}
@@ -51,6 +53,13 @@ stays-pending pairs p x h =
 pub joined-pending : (pairs : List (Label × Content)) (x : Label) (m : Content) → is_some (message_of (inserted (x, m) pairs) x) ≡ true
 joined-pending pairs x m = named (inserted (x, m) pairs) x m (has_pair-inserted (x, m) pairs x m ∙ or_left (same_name x x && same_message m m) _ (and_from (same_name x x) _ (same_name-same x) (same_message-same m)))
 
+-- what is pending with a pair is that pair's name, or was pending
+pending-cases : (pairs : List (Label × Content)) (x : Label) (m : Content) (y : Label) → is_some (message_of (inserted (x, m) pairs) y) ≡ true → (same_name x y ≡ true) ⊎ (is_some (message_of pairs y) ≡ true)
+pending-cases pairs x m y h =
+    let found = some_found (message_of (inserted (x, m) pairs) y) h in
+    ⊎_elim (λ e. inl (and_parts (same_name x y) (same_message m found.0) e).0) (λ e. inr (named pairs y found.0 e))
+    (or_cases (same_name x y && same_message m found.0) (has_pair pairs y found.0) (sym (has_pair-inserted (x, m) pairs y found.0) ∙ has_pair-found (inserted (x, m) pairs) y found.0 found.1))
+
 length-inserted : (p : Label × Content) (pairs : List (Label × Content)) → length (inserted p pairs) ≡ suc (length pairs)
 length-inserted p [] = refl
 length-inserted p (q ∷ pairs) = at (length-inserted p pairs) (name_lt q.0 p.0)
@@ -59,20 +68,53 @@ length-inserted p (q ∷ pairs) = at (length-inserted p pairs) (name_lt q.0 p.0)
     at ih true = ap suc ih
     at ih false = refl
 
+-- ---- room
+
+-- what there is room for stays so with one name more
+roomy-more : (names : List Label) (x y : Label) → has_name names y ≡ true → has_name (with_name names x) y ≡ true
+roomy-more names x y h = at (has_name names x)
+  where
+    at : (b : Bool) → has_name (if b then names else placed name_lt names x) y ≡ true
+    at true = h
+    at false = any_insert (λ z. same_name z y) names _ x ∙ or_right (same_name x y) (has_name names y) h
+
+-- room is made for what a pending record adds
+pub room-kept : {A : Type 0} (h : Held A) (pending : PendingSet) (acks : AckSet) (resend : Resending) (x : Label) (client : ℕ) → IsHeld h → pending ≡ record h.pending { reserved = Some (x, client) } → acks ≡ record h.acks { reserved = Some x }
+    → resend ≡ record h.resend { roomy = with_name h.resend.roomy x } → IsHeld (record h { pending = pending; acks = acks; resend = resend })
+room-kept h pending acks resend x client k e f g =
+    subst (λ (p : PendingSet). IsHeld (record h { pending = p; acks = acks; resend = resend })) (sym e)
+    (subst (λ (a : AckSet). IsHeld (record h { pending = record h.pending { reserved = Some (x, client) }; acks = a; resend = resend })) (sym f)
+    (subst (λ (r : Resending). IsHeld (record h { pending = record h.pending { reserved = Some (x, client) }; acks = record h.acks { reserved = Some x }; resend = r })) (sym g)
+    (record {
+      node = k.node;
+      pending_limits = k.pending_limits;
+      pending_node = k.pending_node;
+      acks_limits = k.acks_limits;
+      fifo_limits = k.fifo_limits;
+      resend_limits = k.resend_limits;
+      resend_node = k.resend_node;
+      certified = k.certified;
+      pending = k.pending;
+      room_to_hear = λ y there. roomy-more h.resend.roomy x y (k.room_to_hear y there);
+      count = k.count;
+    })))
+
 -- ---- one more pair
 
-pub pair-kept : {A : Type 0} (old : Held A) (pending : PendingSet) (acks : AckSet) (x : Label) (m : Content) → IsHeld old → pending ≡ added x m old.pending → (acks.limits ≡ old.acks.limits) × (acks.certified ≡ old.acks.certified)
-    → IsHeld (record old { stored = old.stored + 1; pending = pending; acks = acks })
-pair-kept old pending acks x m h joined same =
+pub pair-kept : {A : Type 0} (old : Held A) (pending : PendingSet) (acks : AckSet) (resend : Resending) (x : Label) (m : Content) → IsHeld old → pending ≡ added x m old.pending → (acks.limits ≡ old.acks.limits) × (acks.certified ≡ old.acks.certified)
+    → has_name old.resend.roomy x ≡ true → resend ≡ record old.resend { heard = resend.heard } → IsHeld (record old { stored = old.stored + 1; pending = pending; acks = acks; resend = resend })
+pair-kept old pending acks resend x m h joined same room heard =
     record {
       node = h.node;
       pending_limits = ap (λ (s : PendingSet). s.limits) joined ∙ h.pending_limits;
       pending_node = ap (λ (s : PendingSet). s.node) joined ∙ h.pending_node;
       acks_limits = same.0 ∙ h.acks_limits;
       fifo_limits = h.fifo_limits;
-      resend_limits = h.resend_limits;
-      resend_node = h.resend_node;
+      resend_limits = ap (λ (r : Resending). r.limits) heard ∙ h.resend_limits;
+      resend_node = ap (λ (r : Resending). r.node) heard ∙ h.resend_node;
       certified = h.certified ∙ sym same.1;
+      room_to_hear = λ y k. subst (λ (roomy : List Label). has_name roomy y ≡ true) (sym (ap (λ (r : Resending). r.roomy) heard))
+          (⊎_elim (λ e. subst (λ (z : Label). has_name old.resend.roomy z ≡ true) (same_name-true x y e) room) (λ e. h.room_to_hear y e) (pending-cases old.pending.pairs x m y (subst (λ (s : PendingSet). is_some (message_of s.pairs y) ≡ true) joined k)));
       pending = λ y k. subst (λ (s : PendingSet). is_some (message_of s.pairs y) ≡ true) (sym joined) (stays-pending old.pending.pairs (x, m) y (h.pending y (ap (λ names. has_name names y) (sym same.1) ∙ k)));
       count =
           let more : length pending.pairs ≡ suc (length old.pending.pairs) = ap (λ (s : PendingSet). length s.pairs) joined ∙ length-inserted (x, m) old.pending.pairs in
@@ -132,6 +174,7 @@ certificate-kept old acks fifo x h pending a f =
       resend_limits = h.resend_limits;
       resend_node = h.resend_node;
       certified = ap (λ (s : Delivery). s.certified) f ∙ ((fifo-certified old.fifo x).0 ∙ (ap (λ names. certified_with names x) h.certified ∙ sym now));
+      room_to_hear = h.room_to_hear;
       pending = λ y k. ⊎_elim (λ e. h.pending y e) (λ e. subst (λ (z : Label). is_some (message_of old.pending.pairs z) ≡ true) (same_name-true x y e) pending) (with-cases old.acks.certified x y (ap (λ names. has_name names y) (sym now) ∙ k));
       count =
           let more : length old.acks.certified ≤ length (certified_with old.acks.certified x) = with-grows old.acks.certified x in
@@ -155,14 +198,15 @@ counted-kept h k more =
       resend_node = k.resend_node;
       certified = k.certified;
       pending = k.pending;
+      room_to_hear = k.room_to_hear;
       count = more;
     }
 
 -- ---- down
 
--- the memory once its acknowledgements are forgotten
+-- the memory once its acknowledgements are forgotten, and what was heard
 abbrev pub forgetful : Memory → Memory
-forgetful a = record a { acks = [] }
+forgetful a = record a { acks = []; heard = [] }
 
 pub falls : (h : Holding) → Fails h (record { memory = forgetful h.memory; doubt = Some h.entry })
 falls h = (
@@ -171,10 +215,12 @@ falls h = (
       (refl, down-shows h.memory.limits h.memory.node (view_in (Storing h.entry h.cause) h.memory) (view_in (Down (Some h.entry)) (forgetful h.memory)) node s refl),
 )
 
--- the layers once their acknowledgements are forgotten: the node is down, and a record may be in doubt
-pub down-kept : {A : Type 0} (h : Held A) (acks : AckSet) (doubt : Option Entry) → IsHeld h → ForSome doubt (IsNextHeld h) → acks ≡ record h.acks { counted = []; reserved = None } → IsFallen (record h { acks = acks }) doubt
-down-kept h acks doubt k next e =
-    subst (λ (a : AckSet). IsFallen (record h { acks = a }) doubt) (sym e)
+-- the layers once their acknowledgements are forgotten, and what was heard: the node is down, and a record may be in doubt
+pub down-kept : {A : Type 0} (h : Held A) (acks : AckSet) (resend : Resending) (doubt : Option Entry) → IsHeld h → ForSome doubt (IsNextHeld h)
+    → acks ≡ record h.acks { counted = []; reserved = None } → resend ≡ record h.resend { heard = [] } → IsFallen (record h { acks = acks; resend = resend }) doubt
+down-kept h acks resend doubt k next e f =
+    subst (λ (a : AckSet). IsFallen (record h { acks = a; resend = resend }) doubt) (sym e)
+    (subst (λ (r : Resending). IsFallen (record h { acks = record h.acks { counted = []; reserved = None }; resend = r }) doubt) (sym f)
     (record {
       held = record {
         node = k.node;
@@ -186,8 +232,10 @@ down-kept h acks doubt k next e =
         resend_node = k.resend_node;
         certified = k.certified;
         pending = k.pending;
+        room_to_hear = k.room_to_hear;
         count = k.count;
       };
       uncounted = refl;
+      unheard = refl;
       doubtful = next;
-    })
+    }))

@@ -12,7 +12,7 @@ use Rattle.urb_node.proofs.ShownNodes.{shown-self, with-same}
 use Rattle.urb_node.specs.Next.{IsNext}
 use Rattle.urb_node.specs.Part.{Node, Ready, own_acks, self_acks}
 use Rattle.urb_node.specs.Shown.{NodeView, ShowsNode}
-use Rattle.urb_node.specs.Steps.{acks_after, broadcast_after, comes_up, done, is_accepted, keeps_record, packets_of, with_cause}
+use Rattle.urb_node.specs.Steps.{acks_after, broadcast_after, comes_up, done, heard_after, heard_of, is_accepted, keeps_record, packets_of, with_cause, with_heard}
 use Rattle.urb_stable.proofs.JoinedRecords.{cert-append, pend-append}
 use Rattle.urb_stable.proofs.Logs.{released-joined}
 use Rattle.urb_stable.proofs.OwnRules.{keeps_own-push, names-joined, pairs-joined}
@@ -55,6 +55,16 @@ after-same p (Pend y m) cause a b x q e = cause-same (with_ack a y p) (with_ack 
 after-same p (PendCert y m) cause a b x q e = cause-same (with_ack a y p) (with_ack b y p) y cause x q (with-same a b y p x q e)
 after-same p (Cert y) cause a b x q e = e
 
+-- and so is what is heard
+with_heard-same : (a b : List (Label × ℕ)) (y : Label) (o : Option ℕ) (x : Label) (q : ℕ) → acked a x q ≡ acked b x q → acked (with_heard a y o) x q ≡ acked (with_heard b y o) x q
+with_heard-same a b y None x q e = e
+with_heard-same a b y (Some z) x q e = with-same a b y z x q e
+
+heard-same : (r : Entry) (cause : Option Cause) (a b : List (Label × ℕ)) (x : Label) (q : ℕ) → acked a x q ≡ acked b x q → acked (heard_after r cause a) x q ≡ acked (heard_after r cause b) x q
+heard-same (Pend y m) cause a b x q e = with_heard-same a b y (heard_of cause) x q e
+heard-same (PendCert y m) cause a b x q e = with_heard-same a b y (heard_of cause) x q e
+heard-same (Cert y) cause a b x q e = e
+
 -- ---- the broadcasts
 
 pub own-after : (p : ℕ) (records : List Entry) (r : Entry) (messages : List Content) → messages ≡ own p (pend records) → broadcast_after p r messages ≡ own p (pend (records ++ r ∷ []))
@@ -74,13 +84,14 @@ own-after p records r messages e = ap (broadcast_after p r) e ∙ over r
 
 -- ---- the node
 
--- A memory that says more shows a node with one more record, where its state, cursor and acknowledgements are that node's.
+-- A memory that says more shows a node with one more record, where its state, its cursor, what it counted and what it heard are
+-- that node's.
 pub joined-shows : (size : Limits) (p : ℕ) (view new : NodeView) (node after : Node) (r : Entry) → ShowsNode size p view node
     → are_rising view.pairs ≡ true → IsNext size p view.pairs view.certified r → SaysMore view new r
     → after.records ≡ node.records ++ r ∷ [] → after.broadcast ≡ broadcast_after p r node.broadcast
     → new.state ≡ after.state → new.cursor ≡ after.cursor → ((x : Label) (q : ℕ) → has_name new.certified x ≡ false → acked new.acks x q ≡ acked after.acks x q)
-    → ShowsNode size p new after
-joined-shows size p view new node after r s rise next more records broadcast state cursor acks =
+    → ((x : Label) (q : ℕ) → acked new.heard x q ≡ acked after.heard x q) → ShowsNode size p new after
+joined-shows size p view new node after r s rise next more records broadcast state cursor acks heard =
     record {
       pairs = λ x m. more.pairs x m ∙ (pairs-joined node.records r view.pairs s.pairs x m ∙ ap (λ rs. has_pair (pend rs) x m) (sym records));
       certified = all_certified;
@@ -89,6 +100,7 @@ joined-shows size p view new node after r s rise next more records broadcast sta
       state = state;
       cursor = cursor;
       acks = λ x q c. acks x q (all_certified x ∙ c);
+      heard = heard;
       rules = subst (λ (rs : List Entry). KeepsOwn size p [] rs) (sym records) (let k = next-keeps size p view node r s rise next in keeps_own-push size p [] node.records r s.rules k.0 k.1);
       broadcast = broadcast ∙ (own-after p node.records r node.broadcast s.broadcast ∙ ap (λ rs. own p (pend rs)) (sym records));
     }
@@ -104,10 +116,11 @@ pub confirm-shows : (size : Limits) (p : ℕ) (view new : NodeView) (node : Node
     → are_rising view.pairs ≡ true → IsNext size p view.pairs view.certified r → SaysMore view new r
     → new.state ≡ Ready → new.cursor ≡ view.cursor
     → ((x : Label) (q : ℕ) → has_name new.certified x ≡ false → acked new.acks x q ≡ acked (acks_after p r cause view.acks) x q)
-    → ShowsNode size p new (keeps_record p r cause node)
-confirm-shows size p view new node r cause s rise next more state cursor acks =
+    → ((x : Label) (q : ℕ) → acked new.heard x q ≡ acked (heard_after r cause view.heard) x q) → ShowsNode size p new (keeps_record p r cause node)
+confirm-shows size p view new node r cause s rise next more state cursor acks heard =
     joined-shows size p view new node (keeps_record p r cause node) r s rise next more refl refl state (cursor ∙ s.cursor)
     (λ x q c. acks x q c ∙ after-same p r cause view.acks node.acks x q (s.acks x q (before x c)))
+    (λ x q. heard x q ∙ heard-same r cause view.heard node.heard x q (s.heard x q))
   where
     before : (x : Label) → has_name new.certified x ≡ false → has_name (cert node.records) x ≡ false
     before x c = sym (s.certified x) ∙ left (has_name view.certified x) (has_name (cert (r ∷ [])) x) (sym (more.certified x) ∙ c)
@@ -117,15 +130,15 @@ confirm-shows size p view new node r cause s rise next more state cursor acks =
         left false b g = refl
 
 -- what is told of it
-pub done-shown : (size : Limits) (n p : ℕ) (view new : NodeView) (node : Node) (r : Entry) → ShowsNode size p view node → SaysMore view new r
-    → done n p r node ≡ record { accepted = is_accepted p r; name = name_of r; sent = packets_of n p r; released = length new.log - length view.log }
-done-shown size n p view new node r s more =
-    ap₂ (λ (after before : List Label). record { accepted = is_accepted p r; name = name_of r; sent = packets_of n p r; released = length after - length before }) (sym (more.log node.records s.log s.certified)) (sym s.log)
+pub done-shown : (size : Limits) (n p : ℕ) (view new : NodeView) (node : Node) (r : Entry) (cause : Option Cause) → ShowsNode size p view node → SaysMore view new r
+    → done n p r cause node ≡ record { accepted = is_accepted p r; name = name_of r; sent = packets_of n p r cause; released = length new.log - length view.log }
+done-shown size n p view new node r cause s more =
+    ap₂ (λ (after before : List Label). record { accepted = is_accepted p r; name = name_of r; sent = packets_of n p r cause; released = length after - length before }) (sym (more.log node.records s.log s.certified)) (sym s.log)
 
 -- A node comes up with what it had stored.
 pub up-shows : (size : Limits) (p : ℕ) (view new : NodeView) (node : Node) → ShowsNode size p view node
     → ((x : Label) (q : ℕ) → has_name view.certified x ≡ false → acked new.acks x q ≡ acked (self_acks p view.pairs) x q)
-    → new ≡ record view { state = Ready; acks = new.acks; cursor = None } → ShowsNode size p new (comes_up p node.records node.broadcast).1
+    → new ≡ record view { state = Ready; acks = new.acks; heard = []; cursor = None } → ShowsNode size p new (comes_up p node.records node.broadcast).1
 up-shows size p view new node s acks e =
     subst (λ (v : NodeView). ShowsNode size p v (comes_up p node.records node.broadcast).1) (sym e)
     (record {
@@ -136,6 +149,7 @@ up-shows size p view new node s acks e =
       state = refl;
       cursor = refl;
       acks = λ x q c. acks x q (s.certified x ∙ c) ∙ shown-self size p view node s x q;
+      heard = λ x q. refl;
       rules = s.rules;
       broadcast = s.broadcast;
     })
@@ -144,10 +158,10 @@ up-shows size p view new node s acks e =
 pub up-joined-shows : (size : Limits) (p : ℕ) (view new : NodeView) (node : Node) (r : Entry) → ShowsNode size p view node
     → are_rising view.pairs ≡ true → IsNext size p view.pairs view.certified r → SaysMore view new r
     → new.state ≡ Ready → new.cursor ≡ None → ((x : Label) (q : ℕ) → has_name new.certified x ≡ false → acked new.acks x q ≡ acked (self_acks p new.pairs) x q)
-    → ShowsNode size p new (comes_up p (node.records ++ r ∷ []) (broadcast_after p r node.broadcast)).1
-up-joined-shows size p view new node r s rise next more state cursor acks =
+    → new.heard ≡ [] → ShowsNode size p new (comes_up p (node.records ++ r ∷ []) (broadcast_after p r node.broadcast)).1
+up-joined-shows size p view new node r s rise next more state cursor acks nothing =
     joined-shows size p view new node (comes_up p (node.records ++ r ∷ []) (broadcast_after p r node.broadcast)).1 r s rise next more refl refl state cursor
-    (λ x q c. acks x q c ∙ shown-self size p plain after shown x q)
+    (λ x q c. acks x q c ∙ shown-self size p plain after shown x q) unheard
   where
     -- the same memory, with the very acknowledgements
     plain : NodeView
@@ -156,5 +170,8 @@ up-joined-shows size p view new node r s rise next more state cursor acks =
     after : Node
     after = (comes_up p (node.records ++ r ∷ []) (broadcast_after p r node.broadcast)).1
 
+    unheard : (x : Label) (q : ℕ) → acked new.heard x q ≡ acked [] x q
+    unheard x q = ap (λ heard. acked heard x q) nothing
+
     shown : ShowsNode size p plain after
-    shown = joined-shows size p view plain node after r s rise next (record { pairs = more.pairs; certified = more.certified; log = more.log; count = more.count }) refl refl state cursor (λ x q c. refl)
+    shown = joined-shows size p view plain node after r s rise next (record { pairs = more.pairs; certified = more.certified; log = more.log; count = more.count }) refl refl state cursor (λ x q c. refl) unheard

@@ -1,8 +1,10 @@
 -- From what a node's memory finds out to where its call leads.
-use Rattle.std.proofs.Common.{◌≡◌, suc, true, List, Result, Ok, Err, refl, sym, ap, ◌∙◌, subst}
+use Rattle.std.proofs.Common.{◌≡◌, ℕ, suc, true, List, Result, Ok, Err, refl, sym, ap, ◌∙◌, subst}
 use Rattle.std.specs.Prelude.{IfOk, OnOk, OnErr, if◌then◌else◌}
+use Rattle.urb_names.specs.Naming.{Label, Content}
 use Rattle.urb_names.specs.Carried.{Carried}
 use Rattle.urb_names.specs.Cyclic.{are_rising}
+use Rattle.urb_names.specs.Names.{has_name}
 use Rattle.urb_names.specs.declared.refusal.NoMemory.{NoMemory}
 use Rattle.urb_names.specs.declared.refusal.Refusal.{Refusal}
 use Rattle.urb_names.specs.declared.refusal.Refusal.TheVariants as refusal
@@ -16,6 +18,7 @@ use Rattle.urb_node.specs.Part.{Node, State}
 use Rattle.urb_node.specs.Replies.{Reply, Drafted, Sent, Refused}
 use Rattle.urb_node.specs.Steps.{is_down, is_storing, refuses, resends, ticks}
 use Rattle.urb_node.specs.Values.{Memory, ShowsReady, ready_view, IsSameNode}
+use Rattle.urb_node.specs.Held.{IsHeld}
 use Rattle.urb_node.specs.Outcomes.{Outcome, Answers, Refuses, Wants}
 use Rattle.urb_node.specs.Found.{Finds, IsFoundIn, IsRefusalOf, TakesMemory, step_from}
 use Rattle.urb_node.specs.Moves.{IsRefusedAs, LeadsTo, MayGrow, Ticks}
@@ -25,6 +28,7 @@ use Rattle.urb_node.proofs.Told.{Says}
 -- an outcome that takes memory is one whose reply may
 grows : (told : Reply × Node) (outcome : Outcome) → Says told outcome → TakesMemory outcome → MayGrow told.0
 grows told (Answers (answer.Noted x) a) says takes = subst MayGrow (sym says.0) tt
+grows told (Answers (answer.Answered x packets) a) says takes = subst MayGrow (sym says.0) tt
 grows told (Wants entry cause a) says takes = subst MayGrow (sym says.0) tt
 grows told (Answers (answer.Accepted x) a) says takes = absurd takes
 grows told (Answers (answer.Again x) a) says takes = absurd takes
@@ -73,22 +77,47 @@ pub refusal-leads : (A : Type 0) (told : Reply × Node) (outcome : Outcome) (old
 refusal-leads A told outcome old new r says finds = (is-refused told outcome r says finds.0, finds.1)
 
 -- a tick
-pub tick-leads : (a : Memory) (old new : Resending) (result : Result (List Carried) NoMemory) → are_rising a.pairs ≡ true → old ≡ record { limits = a.limits; node = a.node; cursor = a.cursor }
-    → IfOk result (λ packets. packets ≡ tick_packets old a.pairs) → OnOk result (new ≡ ticked old a.pairs) → OnErr result (new ≡ old) → Ticks a (record a { cursor = new.cursor }, result)
-tick-leads a old new (Ok packets) rise is sent moved stays = ((refl, refl), shows)
+pub tick-leads : (a : Memory) (old new : Resending) (result : Result (List Carried) NoMemory) → are_rising a.pairs ≡ true
+    → old ≡ record { limits = a.limits; node = a.node; cursor = a.cursor; heard = a.heard; roomy = old.roomy }
+    → IfOk result (λ packets. packets ≡ tick_packets old a.pairs a.certified) → OnOk result (new ≡ ticked old a.pairs) → OnErr result (new ≡ old) → Ticks a (record a { heard = new.heard; cursor = new.cursor }, result)
+tick-leads a old new (Ok packets) rise is sent moved stays = ((refl, refl), λ node s. subst (λ (heard : List (Label × ℕ)). ((ticks a.limits.n a.node node).0 ≡ Sent packets) × ShowsReady (record a { heard = heard; cursor = new.cursor }) (ticks a.limits.n a.node node).1) (sym heard) (shows node s))
   where
     here : Resending
-    here = record { limits = a.limits; node = a.node; cursor = a.cursor }
+    here = record { limits = a.limits; node = a.node; cursor = a.cursor; heard = a.heard; roomy = old.roomy }
 
     cursor : new.cursor ≡ (ticked here a.pairs).cursor
     cursor = ap (λ (r : Resending). r.cursor) (moved ∙ ap (λ r. ticked r a.pairs) is)
+
+    heard : new.heard ≡ a.heard
+    heard = ap (λ (r : Resending). r.heard) (moved ∙ ap (λ r. ticked r a.pairs) is)
 
     shows : (node : Node) → ShowsReady a node → ((ticks a.limits.n a.node node).0 ≡ Sent packets) × ShowsReady (record a { cursor = new.cursor }) (ticks a.limits.n a.node node).1
     shows node s =
         let sends = tick-shows a.limits a.limits.n a.node (ready_view a) node s rise in
         subst (λ (state : State). ((if is_down state then refuses node refusal.Down else (if is_storing state then refuses node refusal.Busy else resends a.limits.n a.node node)).0 ≡ Sent packets)
         × ShowsReady (record a { cursor = new.cursor }) (if is_down state then refuses node refusal.Down else (if is_storing state then refuses node refusal.Busy else resends a.limits.n a.node node)).1) s.state (
-          sends.0 ∙ ap Sent (sym (sent ∙ ap (λ r. tick_packets r a.pairs) is)),
+          sends.0 ∙ ap Sent (sym (sent ∙ ap (λ r. tick_packets r a.pairs a.certified) is)),
           subst (λ (after : _). ShowsReady (record a { cursor = after }) (resends a.limits.n a.node node).1) (sym cursor) sends.1,
         )
-tick-leads a old new (Err e) rise is sent moved stays = ap (λ (r : Resending). record a { cursor = r.cursor }) (stays ∙ is)
+tick-leads a old new (Err e) rise is sent moved stays = ap (λ (r : Resending). record a { heard = r.heard; cursor = r.cursor }) (stays ∙ is)
+
+-- a tick changes neither where it is nor the room to hear
+pub tick_keeps : (old new : Resending) (pairs : List (Label × Content)) (result : Result (List Carried) NoMemory) → OnOk result (new ≡ ticked old pairs) → OnErr result (new ≡ old) → (new.limits ≡ old.limits) × (new.node ≡ old.node) × (new.roomy ≡ old.roomy)
+tick_keeps old new pairs (Ok packets) moved stays = (ap (λ (r : Resending). r.limits) moved, ap (λ (r : Resending). r.node) moved, ap (λ (r : Resending). r.roomy) moved)
+tick_keeps old new pairs (Err e) moved stays = (ap (λ (r : Resending). r.limits) stays, ap (λ (r : Resending). r.node) stays, ap (λ (r : Resending). r.roomy) stays)
+
+-- so what is held stays such
+pub resend-kept : {A : Type 0} (h : Held A) (new : Resending) → IsHeld h → (new.limits ≡ h.resend.limits) × (new.node ≡ h.resend.node) × (new.roomy ≡ h.resend.roomy) → IsHeld (record h { resend = new })
+resend-kept h new k same = record {
+  node = k.node;
+  pending_limits = k.pending_limits;
+  pending_node = k.pending_node;
+  acks_limits = k.acks_limits;
+  fifo_limits = k.fifo_limits;
+  resend_limits = same.0 ∙ k.resend_limits;
+  resend_node = same.1 ∙ k.resend_node;
+  certified = k.certified;
+  pending = k.pending;
+  room_to_hear = λ x there. subst (λ (roomy : List Label). has_name roomy x ≡ true) (sym same.2) (k.room_to_hear x there);
+  count = k.count;
+}

@@ -20,3 +20,4 @@ pub mod ImageNames
 pub mod Verdicts
 pub mod RestartLeads
 pub mod Falling
+pub mod AnswersEnd

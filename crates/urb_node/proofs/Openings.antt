@@ -1,5 +1,5 @@
 -- A node that is opened from its image.
-use Rattle.std.proofs.Common.{List, None, [], false, length, refl, subst, true, ℕ, ◌++◌, ◌∷◌, ◌≡◌}
+use Rattle.std.proofs.Common.{List, None, [], ap, false, length, refl, subst, true, ℕ, ◌++◌, ◌∷◌, ◌≡◌}
 use Rattle.urb_names.specs.Acknowledged.{acked}
 use Rattle.urb_names.specs.Cyclic.{are_rising}
 use Rattle.urb_names.specs.Names.{has_name}
@@ -20,22 +20,22 @@ pub shows-opened_node : (size : Limits) (p : ℕ) (view : NodeView) (records : L
     → ((x : Label) (m : Content) → has_pair view.pairs x m ≡ has_pair (pend records) x m) → ((x : Label) → has_name view.certified x ≡ has_name (cert records) x)
     → view.log ≡ log records → view.count ≡ length records → view.state ≡ Ready → view.cursor ≡ None
     → ((x : Label) (q : ℕ) → has_name (cert records) x ≡ false → acked view.acks x q ≡ acked (own_acks p records) x q)
-    → ShowsNode size p view (opened_node p records)
-shows-opened_node size p view records k pairs certified l n s c a = record { pairs = pairs; certified = certified; log = l; count = n; state = s; cursor = c; acks = a; rules = k; broadcast = refl }
+    → view.heard ≡ [] → ShowsNode size p view (opened_node p records)
+shows-opened_node size p view records k pairs certified l n s c a h = record { pairs = pairs; certified = certified; log = l; count = n; state = s; cursor = c; acks = a; heard = λ x q. ap (λ heard. acked heard x q) h; rules = k; broadcast = refl }
 
 -- a memory that holds nothing shows a node that has read nothing
 pub nothing-shows : (size : Limits) (p : ℕ) → ShowsNode size p no_view (opened_node p [])
-nothing-shows size p = record { pairs = λ x m. refl; certified = λ x. refl; log = refl; count = refl; state = refl; cursor = refl; acks = λ x q c. refl; rules = tt; broadcast = refl }
+nothing-shows size p = record { pairs = λ x m. refl; certified = λ x. refl; log = refl; count = refl; state = refl; cursor = refl; acks = λ x q c. refl; heard = λ x q. refl; rules = tt; broadcast = refl }
 
 -- one more record of the image is read
 pub opened-more : (size : Limits) (p : ℕ) (view new : NodeView) (before : List Entry) (r : Entry) (behind : List Entry) → KeepsOwn size p [] (before ++ r ∷ behind)
     → ShowsNode size p view (opened_node p before) → are_rising view.pairs ≡ true → SaysMore view new r → new.state ≡ Ready → new.cursor ≡ None
     → ((x : Label) (q : ℕ) → has_name new.certified x ≡ false → acked new.acks x q ≡ acked (self_acks p new.pairs) x q)
-    → IsNext size p view.pairs view.certified r × ShowsNode size p new (opened_node p (before ++ r ∷ []))
-opened-more size p view new before r behind k s rise more state cursor acks =
+    → new.heard ≡ [] → IsNext size p view.pairs view.certified r × ShowsNode size p new (opened_node p (before ++ r ∷ []))
+opened-more size p view new before r behind k s rise more state cursor acks nothing =
     let parts = own-parts size p [] before r behind k in
     let next : IsNext size p view.pairs view.certified r = keeps-next size p view (opened_node p before) r s rise parts.0.1 parts.1 in (
       next,
       subst (λ (messages : List Content). ShowsNode size p new (record (opened_node p (before ++ r ∷ [])) { broadcast = messages })) (own-after p before r (own p (pend before)) refl)
-          (up-joined-shows size p view new (opened_node p before) r s rise next more state cursor acks),
+          (up-joined-shows size p view new (opened_node p before) r s rise next more state cursor acks nothing),
     )

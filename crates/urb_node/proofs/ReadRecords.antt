@@ -30,6 +30,7 @@ pub record HasRead {A : Type 0} (limits : Limits) (p : ℕ) (records before behi
   pub held : IsHeld h
   pub limits_are : h.config ≡ limits
   pub node_is : h.node ≡ p
+  pub unheard : h.resend.heard ≡ []
   pub shows : ShowsReady (memory_of h) (opened_node h.node before)
 
 -- nothing is read yet
@@ -40,6 +41,7 @@ nothing-read limits p records h held new =
       held = held;
       limits_are = ap (λ (a : Memory). a.limits) new;
       node_is = ap (λ (a : Memory). a.node) new;
+      unheard = ap (λ (a : Memory). a.heard) new;
       shows = subst (λ (a : Memory). ShowsReady a (opened_node a.node [])) (sym new) (nothing-shows limits p);
     }
 
@@ -87,6 +89,7 @@ read-more limits p records before r behind h new read rules pending delivery hel
       held = held;
       limits_are = ap (λ (a : Memory). a.limits) is ∙ (same.0 ∙ read.limits_are);
       node_is = ap (λ (a : Memory). a.node) is ∙ (same.1 ∙ read.node_is);
+      unheard = ap (λ (a : Memory). a.heard) is ∙ heard r;
       shows =
           subst (λ (a : Memory). ShowsReady a (opened_node a.node (before ++ r ∷ []))) (sym is)
           (subst (λ (limits : Limits). ShowsNode limits after.node (ready_view after) (opened_node after.node (before ++ r ∷ []))) (sym same.0)
@@ -123,10 +126,15 @@ read-more limits p records before r behind h new read rules pending delivery hel
     cursor (PendCert x m) = refl
     cursor (Cert x) = refl
 
+    heard : (r : Entry) → (with_record (memory_of h) r None).heard ≡ []
+    heard (Pend x m) = read.unheard
+    heard (PendCert x m) = read.unheard
+    heard (Cert x) = read.unheard
+
     shown : ShowsNode h.config h.node (ready_view after) (opened_node h.node (before ++ r ∷ []))
     shown =
         (opened-more h.config h.node (ready_view (memory_of h)) (ready_view after) before r behind (own_rules limits p records before (r ∷ behind) h read rules) read.shows pending.rising more refl
-        (cursor r ∙ read.shows.cursor) counted).1
+        (cursor r ∙ read.shows.cursor) counted (heard r)).1
 
 -- the whole image is read
 pub all-read : {A : Type 0} (limits : Limits) (p : ℕ) (records before behind : List Entry) (h : Held A) → HasRead limits p records before behind h → behind ≡ []

@@ -20,9 +20,9 @@ use Rattle.urb_node.specs.Part.{Node, State, Ready, Storing}
 use Rattle.urb_node.specs.Next.{IsNext}
 use Rattle.urb_node.specs.Replies.{Done, Reply, Stored}
 use Rattle.urb_node.specs.Shown.{NodeView, ShowsNode}
-use Rattle.urb_node.specs.Steps.{acks_after, commits, done, is_accepted, keeps_record, packets_of, same_record}
+use Rattle.urb_node.specs.Steps.{acks_after, commits, done, heard_after, heard_of, is_accepted, keeps_record, packets_of, same_record, with_heard}
 use Rattle.urb_node.specs.Values.{Memory, Holding, ShowsReady, ShowsStoring, view_in, ready_view}
-use Rattle.urb_node.specs.Layers.{counted_with, certified_with, delivered_with, with_record}
+use Rattle.urb_node.specs.Layers.{counted_with, certified_with, delivered_with, heard_with, with_record}
 use Rattle.urb_node.proofs.Calls.{same_record-same}
 use Rattle.urb_node.proofs.ShownNodes.{with-same}
 use Rattle.urb_node.proofs.JoinedMemory.{SaysMore, confirm-shows, done-shown, log-stays, log-released}
@@ -102,6 +102,16 @@ record-acks a (Cert x) cause y z = refl
 record-acks a (Pend x m) (Some cause) y z = counted-with (counted_with a.acks x a.node) x cause.source y z ∙ with-same (counted_with a.acks x a.node) (with_ack a.acks x a.node) x cause.source y z (counted-with a.acks x a.node y z)
 record-acks a (PendCert x m) (Some cause) y z = counted-with (counted_with a.acks x a.node) x cause.source y z ∙ with-same (counted_with a.acks x a.node) (with_ack a.acks x a.node) x cause.source y z (counted-with a.acks x a.node y z)
 
+-- what was heard, with what the cause told
+heard-with : (heard : List (Label × ℕ)) (x : Label) (o : Option ℕ) (y : Label) (z : ℕ) → acked (heard_with heard x o) y z ≡ acked (with_heard heard x o) y z
+heard-with heard x None y z = refl
+heard-with heard x (Some q) y z = counted-with heard x q y z
+
+pub record-heard : (a : Memory) (r : Entry) (cause : Option Cause) (y : Label) (z : ℕ) → acked (with_record a r cause).heard y z ≡ acked (heard_after r cause a.heard) y z
+record-heard a (Pend x m) cause y z = heard-with a.heard x (heard_of cause) y z
+record-heard a (PendCert x m) cause y z = heard-with a.heard x (heard_of cause) y z
+record-heard a (Cert x) cause y z = refl
+
 pub same_limits : (a : Memory) (r : Entry) (cause : Option Cause) → ((with_record a r cause).limits ≡ a.limits) × ((with_record a r cause).node ≡ a.node)
 same_limits a (Pend x m) cause = (refl, refl)
 same_limits a (PendCert x m) cause = (refl, refl)
@@ -115,7 +125,7 @@ told_of h =
     record {
       accepted = is_accepted h.memory.node h.entry;
       name = name_of h.entry;
-      sent = packets_of h.memory.limits.n h.memory.node h.entry;
+      sent = packets_of h.memory.limits.n h.memory.node h.entry h.cause;
       released = length (with_record h.memory h.entry h.cause).log - length h.memory.log;
     }
 
@@ -127,7 +137,7 @@ pub commit-says : (h : Holding) (node : Node) → ShowsStoring h node → are_ri
     × ShowsReady (with_record h.memory h.entry h.cause) (commits h.memory.limits.n h.memory.node (suc h.memory.count) h.entry node node.state).1
 commit-says h node s rise next released first =
     subst (λ (told : Reply × Node). (told.0 ≡ Stored (told_of h)) × ShowsReady (with_record h.memory h.entry h.cause) told.1) (sym committed)
-    (ap Stored (done-shown h.memory.limits h.memory.limits.n h.memory.node before after node h.entry s more), shows)
+    (ap Stored (done-shown h.memory.limits h.memory.limits.n h.memory.node before after node h.entry h.cause s more), shows)
   where
     before : NodeView
     before = view_in (Storing h.entry h.cause) h.memory
@@ -148,9 +158,9 @@ commit-says h node s rise next released first =
         let same = same_limits h.memory h.entry h.cause in
         subst (λ (limits : Limits). ShowsNode limits (with_record h.memory h.entry h.cause).node after (keeps_record h.memory.node h.entry h.cause node)) (sym same.0)
         (subst (λ (p : ℕ). ShowsNode h.memory.limits p after (keeps_record h.memory.node h.entry h.cause node)) (sym same.1)
-        (confirm-shows h.memory.limits h.memory.node before after node h.entry h.cause s rise next more refl (cursor h.entry) (λ x q c. record-acks h.memory h.entry h.cause x q)))
+        (confirm-shows h.memory.limits h.memory.node before after node h.entry h.cause s rise next more refl (cursor h.entry) (λ x q c. record-acks h.memory h.entry h.cause x q) (record-heard h.memory h.entry h.cause)))
 
-    committed : commits h.memory.limits.n h.memory.node (suc h.memory.count) h.entry node node.state ≡ (Stored (done h.memory.limits.n h.memory.node h.entry node), keeps_record h.memory.node h.entry h.cause node)
+    committed : commits h.memory.limits.n h.memory.node (suc h.memory.count) h.entry node node.state ≡ (Stored (done h.memory.limits.n h.memory.node h.entry h.cause node), keeps_record h.memory.node h.entry h.cause node)
     committed =
         ap (commits h.memory.limits.n h.memory.node (suc h.memory.count) h.entry node) (sym s.state)
         ∙ cond-true ((suc h.memory.count == suc (length node.records)) && same_record h.entry h.entry) _ _

@@ -24,11 +24,12 @@ use Rattle.urb_node.proofs.ShownNodes.{acked-with}
 
 -- ---- what is stored
 
-pub stored-leads : (a : Memory) (doubt : Option Entry) (image : List Entry) (acks : List (Label × ℕ)) → Says image a → CountsItself a acks
+pub stored-leads : (a : Memory) (doubt : Option Entry) (image : List Entry) (acks : List (Label × ℕ)) → a.heard ≡ [] → Says image a → CountsItself a acks
     → Restarts (record { memory = a; doubt = doubt }) image (Ok (record a { acks = acks; cursor = None }))
-stored-leads a doubt image acks told counted = (
+stored-leads a doubt image acks nothing told counted = (
   (refl, refl),
-  λ node s. restart-call a.limits a.node (view_in (Down doubt) a) (view_in Ready (record a { acks = acks; cursor = None })) node doubt image s refl told (λ x q c. counted x q) refl,
+  λ node s. restart-call a.limits a.node (view_in (Down doubt) a) (view_in Ready (record a { acks = acks; cursor = None })) node doubt image s refl told (λ x q c. counted x q)
+      (ap (λ (heard : List (Label × ℕ)). view_in Ready (record a { acks = acks; heard = heard; cursor = None })) nothing),
 )
 
 -- ---- what is stored, and the doubtful record
@@ -80,13 +81,13 @@ other-joined image a acks (PendCert x m) told = told
 other-joined image a acks (Cert x) told = told
 
 pub joined-leads : (a : Memory) (r : Entry) (image : List Entry) (acks : List (Label × ℕ)) → are_rising a.pairs ≡ true → IsNextIn a r → IsReleased a → IsFirst a r
-    → IsOther image a → Says image (with_record a r None) → CountsItself a acks
+    → a.heard ≡ [] → IsOther image a → Says image (with_record a r None) → CountsItself a acks
     → Restarts (record { memory = a; doubt = Some r }) image (Ok (record (with_record (record a { acks = acks }) r None) { cursor = None }))
-joined-leads a r image acks rise next released first old told counted =
+joined-leads a r image acks rise next released first nothing old told counted =
     let same = same_limits (record a { acks = acks }) r None in (
       same,
       λ node s.
-          let says = restart-joined-call a.limits a.node (view_in (Down (Some r)) a) (view_in Ready new) node r image s refl rise next (joined-more a r acks released first) old (says-joined image a acks r told) refl refl (λ x q c. counts-joined a r acks counted x q) in (
+          let says = restart-joined-call a.limits a.node (view_in (Down (Some r)) a) (view_in Ready new) node r image s refl rise next (joined-more a r acks released first) old (says-joined image a acks r told) refl refl (λ x q c. counts-joined a r acks counted x q) (unheard r) in (
             says.0,
             subst (λ (size : Limits). ShowsNode size new.node (view_in Ready new) (restarts a.node image node node.state).1) (sym same.0)
                 (subst (λ (p : ℕ). ShowsNode a.limits p (view_in Ready new) (restarts a.node image node node.state).1) (sym same.1) says.1),
@@ -96,10 +97,15 @@ joined-leads a r image acks rise next released first old told counted =
     new : Memory
     new = record (with_record (record a { acks = acks }) r None) { cursor = None }
 
+    unheard : (r : Entry) → (with_record (record a { acks = acks }) r None).heard ≡ []
+    unheard (Pend x m) = nothing
+    unheard (PendCert x m) = nothing
+    unheard (Cert x) = nothing
+
 pub with_doubtful-leads : (a : Memory) (doubt : Option Entry) (image : List Entry) (acks : List (Label × ℕ)) → are_rising a.pairs ≡ true → ForSome doubt (IsNextIn a) → IsReleased a → ForSome doubt (IsFirst a)
-    → IsOther image a → SaysWith image a doubt → CountsItself a acks → Restarts (record { memory = a; doubt = doubt }) image (Ok (record (with_doubtful (record a { acks = acks }) doubt) { cursor = None }))
-with_doubtful-leads a None image acks rise next released first old told counted = absurd told
-with_doubtful-leads a (Some r) image acks rise next released first old told counted = joined-leads a r image acks rise (next r refl) released (first r refl) old told counted
+    → a.heard ≡ [] → IsOther image a → SaysWith image a doubt → CountsItself a acks → Restarts (record { memory = a; doubt = doubt }) image (Ok (record (with_doubtful (record a { acks = acks }) doubt) { cursor = None }))
+with_doubtful-leads a None image acks rise next released first nothing old told counted = absurd told
+with_doubtful-leads a (Some r) image acks rise next released first nothing old told counted = joined-leads a r image acks rise (next r refl) released (first r refl) nothing old told counted
 
 -- ---- neither
 

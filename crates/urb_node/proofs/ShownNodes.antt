@@ -53,13 +53,6 @@ shown-rising size p view node s r = rising-records size p node.records view.pair
 pub shown-broadcast : (size : Limits) (p : ℕ) (view : NodeView) (node : Node) → ShowsNode size p view node → are_rising view.pairs ≡ true → node.broadcast ≡ own p view.pairs
 shown-broadcast size p view node s r = s.broadcast ∙ sym (own-records size p node.records view.pairs s.rules r s.pairs)
 
--- the node, in the words of its memory
-pub node-shown : (size : Limits) (p : ℕ) (view : NodeView) (node : Node) → ShowsNode size p view node → are_rising view.pairs ≡ true → node ≡ record node { state = view.state; cursor = view.cursor; broadcast = own p view.pairs }
-node-shown size p view node s r =
-    ap (λ state. record node { state = state }) (sym s.state)
-    ∙ (ap (λ cursor. record node { state = view.state; cursor = cursor }) (sym s.cursor)
-    ∙ ap (λ broadcast. record node { state = view.state; cursor = view.cursor; broadcast = broadcast }) (shown-broadcast size p view node s r))
-
 -- where its next record goes
 pub shown-position : (size : Limits) (p : ℕ) (view : NodeView) (node : Node) → ShowsNode size p view node → next_position node ≡ suc view.count
 shown-position size p view node s = ap suc (sym s.count)

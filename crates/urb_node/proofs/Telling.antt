@@ -1,9 +1,10 @@
 -- What a memory tells of a node's stored records is what the definition says of every node that it shows.
 use Rattle.std.proofs.Common.{◌≡◌, ◌∙◌, Bool, List, ap, length, sym, true, ℕ, Option}
+use Rattle.urb_names.specs.Names.{has_name}
 use Rattle.urb_names.specs.Naming.{Content, Label}
 use Rattle.urb_names.specs.Cyclic.{are_rising}
 use Rattle.urb_names.specs.Pairs.{has_pair, message_of, own}
-use Rattle.urb_node.specs.Moves.{CountsOwn, FindsMessage, Holds, TellsLog}
+use Rattle.urb_node.specs.Moves.{CountsOwn, FindsMessage, Holds, IsCertified, TellsLog}
 use Rattle.urb_node.specs.Part.{State}
 use Rattle.urb_node.specs.Values.{Memory, ShowsIn, view_in}
 use Rattle.urb_node.proofs.ShownNodes.{shown-broadcast, shown-found}
@@ -13,6 +14,9 @@ holds_says state a x m result e node s = e ∙ s.pairs x m
 
 pub message_says : (state : State) (a : Memory) (x : Label) (result : Option Content) → result ≡ message_of a.pairs x → FindsMessage (ShowsIn state a) x result
 message_says state a x result e node s = e ∙ shown-found a.limits a.node (view_in state a) node s x
+
+pub certified_says : (state : State) (a : Memory) (x : Label) (result : Bool) → result ≡ has_name a.certified x → IsCertified (ShowsIn state a) x result
+certified_says state a x result e node s = e ∙ s.certified x
 
 pub log_says : (state : State) (a : Memory) (result : List Label) → result ≡ a.log → TellsLog (ShowsIn state a) result
 log_says state a result e node s = e ∙ s.log

@@ -4,12 +4,13 @@ use Rattle.std.specs.Prelude.{if◌then◌else◌, is_some, nat_le, option_map}
 use Rattle.std.proofs.lemmas.List.{length-map}
 use Rattle.std.specs.List.{list_all}
 use Rattle.std.specs.Option.{ForSome}
-use Rattle.std.proofs.lemmas.Bool.{and_from, and_parts, cond-false, false≢true, le-leb, or_left, or_right}
+use Rattle.std.proofs.lemmas.Bool.{and_from, and_parts, cond-false, cond-true, false≢true, le-leb, or_left, or_right}
 use Rattle.std.proofs.lemmas.Nat.{mul-le}
 use Rattle.urb_names.specs.Naming.{Limits, Label, Content}
 use Rattle.urb_names.specs.Names.{has_name, name, names, name_lt, same_name}
 use Rattle.urb_names.specs.Nodes.{is_majority, is_node}
-use Rattle.urb_names.specs.Carried.{Carried, to_others}
+use Rattle.urb_names.specs.Carried.{Carried, says_certified, to_others}
+use Rattle.urb_names.specs.declared.flags.Flags.{Flags}
 use Rattle.urb_names.specs.Ordered.{is_rising}
 use Rattle.urb_names.specs.Release.{part_of}
 use Rattle.urb_names.specs.Pairs.{message_of, next_number, own}
@@ -22,8 +23,8 @@ use Rattle.urb_stable.specs.declared.record.Record.TheVariants.{Pend, PendCert}
 use Rattle.urb_node.specs.declared.held.Held.{Held}
 use Rattle.urb_node.specs.Held.{memory_of, HasRoom, IsDrafted, IsHeld, IsNextHeld, IsNextIn}
 use Rattle.urb_node.specs.Next.{IsNext, MayArrive}
-use Rattle.urb_node.specs.Outcomes.{Wants, arrive_outcome, counted_outcome, numbered_outcome, pending_outcome, own_of, submit_outcome}
-use Rattle.urb_node.specs.Steps.{packets_of}
+use Rattle.urb_node.specs.Outcomes.{Wants, arrive_outcome, certified_outcome, counted_outcome, hearing, numbered_outcome, pending_outcome, own_of, submit_outcome}
+use Rattle.urb_node.specs.Steps.{heard_of, packets_of}
 use Rattle.urb_node.specs.Values.{Memory}
 use Rattle.urb_node.proofs.NextRecords.{arrival-next, next_own-fresh, submit-next}
 use Rattle.urb_node.specs.Part.{packet_from}
@@ -35,17 +36,17 @@ pending_entry is_certified x m = if is_certified then PendCert x m else Pend x m
 
 -- a draft of it can be held
 pub made : {A : Type 0} (old new : Held A) (x : Label) (m : Content) (b : Bool) (cause : Option Cause) (packets : List Carried) → IsHeld new → ForSome cause (λ c. (1 ≤ c.source) × (c.source ≤ new.config.n)) → memory_of new ≡ memory_of old → IsNextHeld old (pending_entry b x m)
-    → HasRoom new (pending_entry b x m) → packets ≡ to_others old.config.n old.node (x, m) → IsDrafted new (pending_entry b x m) cause packets
+    → HasRoom new (pending_entry b x m) → packets ≡ to_others old.config.n old.node b (heard_of cause) (x, m) → IsDrafted new (pending_entry b x m) cause packets
 made old new x m b cause packets kept caused same next room sends =
     record {
       held = kept;
       next = subst (λ (a : Memory). IsNextIn a (pending_entry b x m)) (sym same) next;
       room = room;
       caused = caused;
-      sends = sends ∙ (sym (ap (λ (a : Memory). to_others a.limits.n a.node (x, m)) same) ∙ to_all b);
+      sends = sends ∙ (sym (ap (λ (a : Memory). to_others a.limits.n a.node b (heard_of cause) (x, m)) same) ∙ to_all b);
     }
   where
-    to_all : (b : Bool) → to_others new.config.n new.node (x, m) ≡ packets_of new.config.n new.node (pending_entry b x m)
+    to_all : (b : Bool) → to_others new.config.n new.node b (heard_of cause) (x, m) ≡ packets_of new.config.n new.node (pending_entry b x m) cause
     to_all true = refl
     to_all false = refl
 
@@ -102,16 +103,21 @@ pub arrived-next : (limits : Limits) (p : ℕ) (pairs : List (Label × Content))
 arrived-next limits p pairs certified x m b may fresh = either_next limits p pairs certified x m b (arrival-next limits p pairs certified x m may fresh)
 
 -- what an arrival found that wants a record stored
-pub arrive-told : (a : Memory) (q : ℕ) (x : Label) (m : Content) (entry : Entry) (cause : Option Cause) (b : Bool) (after : Memory) → message_of a.pairs x ≡ None → b ≡ is_majority 2 a.limits.n
-    → entry ≡ pending_entry b x m → cause ≡ Some (packet_from q) → after ≡ a → arrive_outcome a q x m ≡ Wants entry cause after
-arrive-told a q x m entry cause b after fresh both entry_is some same =
-    ap (pending_outcome a q x m) fresh
-    ∙ (ap (λ c. Wants (pending_entry c x m) (Some (packet_from q)) a) (sym both)
-    ∙ (ap (λ e. Wants e (Some (packet_from q)) a) (sym entry_is) ∙ ap₂ (λ cause after. Wants entry cause after) (sym some) (sym same)))
+pub arrive-told : (a : Memory) (q : ℕ) (x : Label) (m : Content) (flags : Option Flags) (entry : Entry) (cause : Option Cause) (b : Bool) (after : Memory) → message_of a.pairs x ≡ None → b ≡ is_majority 2 a.limits.n
+    → entry ≡ pending_entry b x m → cause ≡ Some (packet_from q (says_certified flags)) → after ≡ a → arrive_outcome a q x m flags ≡ Wants entry cause after
+arrive-told a q x m flags entry cause b after fresh both entry_is some same =
+    ap (pending_outcome a q x m flags) fresh
+    ∙ (ap (λ c. Wants (pending_entry c x m) (Some (packet_from q (says_certified flags))) a) (sym both)
+    ∙ (ap (λ e. Wants e (Some (packet_from q (says_certified flags))) a) (sym entry_is) ∙ ap₂ (λ cause after. Wants entry cause after) (sym some) (sym same)))
 
 -- a packet of a pending name that is not certified
-pub arrive-counts : (a : Memory) (q : ℕ) (x : Label) (m first : Content) → message_of a.pairs x ≡ Some first → has_name a.certified x ≡ false → arrive_outcome a q x m ≡ counted_outcome a q x
-arrive-counts a q x m first pending open_ = ap (pending_outcome a q x m) pending ∙ cond-false (has_name a.certified x) _ _ open_
+pub arrive-counts : (a : Memory) (q : ℕ) (x : Label) (m first : Content) (flags : Option Flags) → message_of a.pairs x ≡ Some first → has_name a.certified x ≡ false → arrive_outcome a q x m flags ≡ counted_outcome a q x flags
+arrive-counts a q x m first flags pending open_ = ap (pending_outcome a q x m flags) pending ∙ cond-false (has_name a.certified x) _ _ open_
+
+-- a packet of a certified name
+pub arrive-answers : (a : Memory) (q : ℕ) (x : Label) (m first : Content) (flags : Option Flags) → message_of a.pairs x ≡ Some first → has_name a.certified x ≡ true
+    → arrive_outcome a q x m flags ≡ certified_outcome (hearing a q x flags) q x m flags
+arrive-answers a q x m first flags pending there = ap (pending_outcome a q x m flags) pending ∙ cond-true (has_name a.certified x) _ _ there
 
 -- ---- how many records
 

@@ -22,11 +22,12 @@ abbrev pub IsFoundIn : {A : Type 0} → Held A → Found A → Type 0
 IsFoundIn held (found.Known told) = Unit {0}
 IsFoundIn held (found.New w) = IsWanted held w
 
--- an outcome that takes memory: a record to be stored, or an acknowledgement counted
+-- an outcome that takes memory: a record to be stored, an acknowledgement counted, or a packet in answer
 abbrev pub TakesMemory : Outcome → Type 0
 TakesMemory (Answers (answer.Accepted x) a) = ⊥
 TakesMemory (Answers (answer.Noted x) a) = Unit {0}
 TakesMemory (Answers (answer.Again x) a) = ⊥
+TakesMemory (Answers (answer.Answered x packets) a) = Unit {0}
 TakesMemory (Refuses r) = ⊥
 TakesMemory (Wants entry cause a) = Unit {0}
 

@@ -24,6 +24,7 @@ memory_of h =
       log = h.fifo.log;
       count = h.stored;
       acks = h.acks.counted;
+      heard = h.resend.heard;
       cursor = h.resend.cursor;
     }
 
@@ -39,6 +40,7 @@ pub record IsHeld {A : Type 0} (h : Held A) : Type 0 where
   pub resend_node : h.resend.node ≡ h.node
   pub certified : h.fifo.certified ≡ h.acks.certified
   pub pending : (x : Label) → has_name h.acks.certified x ≡ true → is_some (message_of h.pending.pairs x) ≡ true
+  pub room_to_hear : (x : Label) → is_some (message_of h.pending.pairs x) ≡ true → has_name h.resend.roomy x ≡ true
   pub count : h.stored ≤ length h.pending.pairs + length h.acks.certified
 
 -- the record is next behind this memory
@@ -51,8 +53,9 @@ IsNextHeld h r = IsNextIn (memory_of h) r
 
 -- room is reserved for all that the record will add
 abbrev pub HasRoom : {A : Type 0} → Held A → Entry → Type 0
-HasRoom h (Pend x m) = (h.pending.reserved ≡ Some (x, m.client)) × (h.acks.reserved ≡ Some x)
-HasRoom h (PendCert x m) = (h.pending.reserved ≡ Some (x, m.client)) × (h.acks.reserved ≡ Some x) × (h.fifo.reserved ≡ Some x)
+HasRoom h (Pend x m) = (h.pending.reserved ≡ Some (x, m.client)) × (h.acks.reserved ≡ Some x) × (has_name h.resend.roomy x ≡ true)
+HasRoom h (PendCert x m) =
+    (h.pending.reserved ≡ Some (x, m.client)) × (h.acks.reserved ≡ Some x) × (h.fifo.reserved ≡ Some x) × (has_name h.resend.roomy x ≡ true)
 HasRoom h (Cert x) = (h.acks.reserved ≡ Some x) × (h.fifo.reserved ≡ Some x)
 
 -- a draft of the record can be held: the record is next, there is room for it, a node of the group caused it if any did,
@@ -62,10 +65,11 @@ pub record IsDrafted {A : Type 0} (h : Held A) (entry : Entry) (cause : Option C
   pub next : IsNextHeld h entry
   pub room : HasRoom h entry
   pub caused : ForSome cause (λ c. (1 ≤ c.source) × (c.source ≤ h.config.n))
-  pub sends : packets ≡ packets_of h.config.n h.node entry
+  pub sends : packets ≡ packets_of h.config.n h.node entry cause
 
--- nothing is counted, and a doubtful record is next
+-- nothing is counted and nothing heard, and a doubtful record is next
 pub record IsFallen {A : Type 0} (h : Held A) (doubt : Option Entry) : Type 0 where
   pub held : IsHeld h
   pub uncounted : h.acks.counted ≡ []
+  pub unheard : h.resend.heard ≡ []
   pub doubtful : ForSome doubt (IsNextHeld h)

@@ -10,6 +10,7 @@ use Rattle.urb_fifo.specs.Releasing.{newly_released}
 use Rattle.urb_stable.specs.Entries.{Entry}
 use Rattle.urb_stable.specs.declared.record.Record.TheVariants.{Pend, PendCert, Cert}
 use Rattle.urb_node.specs.declared.cause.Cause.{Cause}
+use Rattle.urb_node.specs.Steps.{heard_of}
 use Rattle.urb_node.specs.Values.{Memory}
 
 -- the acknowledgements with this node counted for the name, in its place
@@ -20,6 +21,11 @@ counted_with acks x q = if acked acks x q then acks else placed ack_lt acks (x, 
 abbrev pub counted_cause : List (Label × ℕ) → Label → Option Cause → List (Label × ℕ)
 counted_cause acks x None = acks
 counted_cause acks x (Some cause) = counted_with acks x cause.source
+
+-- the certificates heard, with that of the node whose certificate came with the cause, in its place
+abbrev pub heard_with : List (Label × ℕ) → Label → Option ℕ → List (Label × ℕ)
+heard_with heard x None = heard
+heard_with heard x (Some q) = counted_with heard x q
 
 -- the certified names with this one, in its place
 abbrev pub certified_with : List Label → Label → List Label
@@ -36,6 +42,7 @@ with_pair a x m cause =
       pairs = inserted (x, m) a.pairs;
       count = suc a.count;
       acks = counted_cause (counted_with a.acks x a.node) x cause;
+      heard = heard_with a.heard x (heard_of cause);
     }
 
 -- the memory with one more certificate

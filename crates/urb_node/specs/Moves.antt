@@ -3,30 +3,33 @@ use Rattle.std.specs.Prelude.{◌≡◌, ◌≤◌, ℕ, Bool, List, length, Opt
 use Rattle.urb_names.specs.declared.refusal.NoMemory.{NoMemory}
 use Rattle.urb_names.specs.Naming.{Label, Content}
 use Rattle.urb_names.specs.Carried.{AreFrom, Carried}
+use Rattle.urb_names.specs.Names.{has_name}
 use Rattle.urb_names.specs.Pairs.{has_pair, message_of}
+use Rattle.urb_names.specs.declared.flags.Flags.{Flags}
 use Rattle.urb_names.specs.declared.refusal.Refusal.{Refusal}
 use Rattle.urb_names.specs.declared.refusal.Refusal.TheVariants as refusal
 use Rattle.urb_stable.specs.Entries.{Entry, name_of}
 use Rattle.urb_stable.specs.Log.{log}
 use Rattle.urb_stable.specs.Placed.{Placed}
-use Rattle.urb_stable.specs.Records.{pend}
+use Rattle.urb_stable.specs.Records.{cert, pend}
 use Rattle.urb_node.specs.declared.answer.Answer.TheVariants as answer
 use Rattle.urb_node.specs.declared.step.Step.{Step}
 use Rattle.urb_node.specs.declared.step.Step.TheVariants as step
 use Rattle.urb_node.specs.Next.{MayArrive}
 use Rattle.urb_node.specs.Part.{Node}
-use Rattle.urb_node.specs.Replies.{Done, Reply, Drafted, Same, Stored, Sent, WentDown, Up, Refused}
+use Rattle.urb_node.specs.Replies.{Done, Reply, Drafted, Same, Stored, Sent, WentDown, Up, Refused, packets_with}
 use Rattle.urb_node.specs.Steps.{submits, arrives, commits, fails, crashes, restarts, ticks}
 use Rattle.urb_node.specs.Values.{Memory, Holding, Fallen, ShowsReady, ShowsStoring, ShowsDown, IsSameNode, draft_of}
 
--- An event that drafts, counts an acknowledgement or sends packets may be refused for memory, and so may a restart, which
--- asks for what judging its image takes before it judges. A repeat, an Again, a receipt, a failed store, a crash and an
--- event that is refused otherwise may not.
+-- An event that drafts, counts an acknowledgement, answers a packet or sends packets may be refused for memory, and so may a
+-- restart, which asks for what judging its image takes before it judges. A repeat, an Again, a receipt, a failed store, a
+-- crash and an event that is refused otherwise may not.
 abbrev pub MayGrow : Reply → Type 0
 MayGrow (Drafted x position) = Unit {0}
 MayGrow (Same (answer.Accepted x)) = ⊥
 MayGrow (Same (answer.Noted x)) = Unit {0}
 MayGrow (Same (answer.Again x)) = ⊥
+MayGrow (Same (answer.Answered x packets)) = Unit {0}
 MayGrow (Stored done) = ⊥
 MayGrow (Sent packets) = Unit {0}
 MayGrow (WentDown p) = ⊥
@@ -52,8 +55,8 @@ abbrev pub Submits : {A : Type 0} → Memory → Content → Result (Step A) (Me
 Submits old m result = (node : Node) → ShowsReady old node → LeadsTo (submits old.limits old.node m node) old result
 
 -- a truthful packet from q: as the definition says of an arrival
-abbrev pub Arrives : {A : Type 0} → Memory → ℕ → Label → Content → Result (Step A) (Memory × Refusal) → Type 0
-Arrives old q x m result = (node : Node) → ShowsReady old node → LeadsTo (arrives old.limits old.node q x m node) old result
+abbrev pub Arrives : {A : Type 0} → Memory → ℕ → Label → Content → Option Flags → Result (Step A) (Memory × Refusal) → Type 0
+Arrives old q x m flags result = (node : Node) → ShowsReady old node → LeadsTo (arrives old.limits old.node q x m flags node) old result
 
 -- a packet that a node may be given: it is for this node, from a node of the group, and its pair may come there
 pub record IsForNode (a : Memory) (packet : Carried) : Type 0 where
@@ -87,9 +90,20 @@ Ticks old (new, Ok packets) =
     IsSameNode old new × ((node : Node) → ShowsReady old node → ((ticks old.limits.n old.node node).0 ≡ Sent packets) × ShowsReady new (ticks old.limits.n old.node node).1)
 Ticks old (new, Err e) = new ≡ old
 
--- each of these packets is of a pair in the stored records of every node that is shown so, with the node as its source
+-- Each of these packets is of a pair in the stored records of every node that is shown so, with the node as its source; and where
+-- it says that the node has stored a certificate of the name, it has.
 abbrev pub AreOfStored : (Node → Type 0) → ℕ → List Carried → Type 0
-AreOfStored Shows p packets = (node : Node) → Shows node → AreFrom p (pend node.records) packets
+AreOfStored Shows p packets = (node : Node) → Shows node → AreFrom p (pend node.records) (cert node.records) packets
+
+-- What a step answers at once is of the pairs in memory, with the node as its source ..
+abbrev pub AnswersFrom : {A : Type 0} → Step A → Type 0
+AnswersFrom (step.Same ready told) = AreFrom ready.node ready.pairs ready.certified (packets_with told)
+AnswersFrom (step.Store storing draft) = Unit {0}
+
+-- .. and of the stored pairs of every node that is shown.
+abbrev pub AnswersOfStored : {A : Type 0} → Step A → Type 0
+AnswersOfStored (step.Same ready told) = AreOfStored (ShowsReady ready) ready.node (packets_with told)
+AnswersOfStored (step.Store storing draft) = Unit {0}
 
 -- a restart with this image: as the definition says
 abbrev pub Restarts : Fallen → List Entry → Result Memory (Fallen × Refusal) → Type 0
@@ -98,10 +112,14 @@ Restarts old image (Ok ready) =
     × ((node : Node) → ShowsDown old node → ((restarts old.memory.node image node node.state).0 ≡ Up old.memory.node) × ShowsReady ready (restarts old.memory.node image node node.state).1)
 Restarts old image (Err e) = ((node : Node) → ShowsDown old node → IsRefusedAs (restarts old.memory.node image node node.state).0 e.1) × (e.0 ≡ old)
 
--- what a node answers of its stored records, where it shows nodes so: whether a pair is pending, the message under a name, the
--- log, and how many messages it has broadcast
+-- what a node answers of its stored records, where it shows nodes so: whether a pair is pending, whether a name is certified, the
+-- message under a name, the log, and how many messages it has broadcast
 abbrev pub Holds : (Node → Type 0) → Label → Content → Bool → Type 0
 Holds Shows x m result = (node : Node) → Shows node → result ≡ has_pair (pend node.records) x m
+
+-- whether the node has stored a certificate of the name
+abbrev pub IsCertified : (Node → Type 0) → Label → Bool → Type 0
+IsCertified Shows x result = (node : Node) → Shows node → result ≡ has_name (cert node.records) x
 
 -- the message that the node has stored under this name, where it has one
 abbrev pub FindsMessage : (Node → Type 0) → Label → Option Content → Type 0

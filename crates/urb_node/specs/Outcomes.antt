@@ -1,10 +1,12 @@
 -- What a ready node finds out about a call, from its memory, in the order in which it looks.
-use Rattle.std.specs.Prelude.{ℕ, suc, not, ◌==◌, nat_lt, bytes_eq, if◌then◌else◌, length, List, Option, None, Some}
+use Rattle.std.specs.Prelude.{ℕ, Bool, suc, not, true, false, ◌==◌, nat_lt, bytes_eq, if◌then◌else◌, length, List, [], ◌∷◌, Option, None, Some}
 use Rattle.urb_names.specs.Naming.{Label, Content}
 use Rattle.urb_names.specs.Names.{name, has_name}
 use Rattle.urb_names.specs.Nodes.{is_majority, majority_passes}
 use Rattle.urb_names.specs.Pairs.{message_of, own, next_number}
 use Rattle.urb_names.specs.Acknowledged.{acked, with_ack}
+use Rattle.urb_names.specs.Carried.{Carried, says_certified}
+use Rattle.urb_names.specs.declared.flags.Flags.{Flags}
 use Rattle.urb_names.specs.declared.refusal.Refusal.{Refusal}
 use Rattle.urb_names.specs.declared.refusal.Refusal.TheVariants as refusal
 use Rattle.urb_stable.specs.Entries.{Entry}
@@ -19,7 +21,7 @@ use Rattle.urb_node.specs.Layers.{counted_with}
 
 -- what a call leads to: an answer, a refusal, or a record to be stored, with the node that caused it; and the memory then
 pub data Outcome : Type 0 where
-  Answers : Answer → Memory → Outcome
+  Answers : Answer (List Carried) → Memory → Outcome
   Refuses : Refusal → Outcome
   Wants : Entry → Option Cause → Memory → Outcome
 
@@ -64,18 +66,40 @@ submit_outcome a m =
 abbrev pub with_counted : Memory → Label → ℕ → Memory
 with_counted a x q = record a { acks = counted_with a.acks x q }
 
+-- the memory with the certificate heard that these flags tell of, where they do
+abbrev pub hearing : Memory → ℕ → Label → Option Flags → Memory
+hearing a q x flags = record a { heard = if says_certified flags then counted_with a.heard x q else a.heard }
+
 -- a packet of a name that is pending and not certified
-abbrev pub counted_outcome : Memory → ℕ → Label → Outcome
-counted_outcome a q x =
-    if majority_passes a.limits.n (acked (with_ack a.acks x q) x) then Wants (Cert x) (Some (packet_from q)) (with_counted a x q)
-    else if acked a.acks x q then Answers (answer.Again x) a
-    else Answers (answer.Noted x) (with_counted a x q)
+abbrev pub counted_outcome : Memory → ℕ → Label → Option Flags → Outcome
+counted_outcome a q x flags =
+    let after = hearing a q x flags in
+    if majority_passes a.limits.n (acked (with_ack a.acks x q) x) then Wants (Cert x) (Some (packet_from q (says_certified flags))) (with_counted after x q)
+    else if acked a.acks x q then Answers (answer.Again x) after
+    else Answers (answer.Noted x) (with_counted after x q)
+
+-- the answer of p to q: that the name is certified at p, and whether the certificate of q was heard
+abbrev pub answer_with : ℕ → ℕ → Label → Content → Bool → Carried
+answer_with p q x m heard = record { source = p; target = q; name = x; message = m; flags = Some (record { certified = true; heard = heard }) }
+
+-- whether a packet of a certified name is answered: one of version two that doesn't say that the certificate was heard
+abbrev pub wants_answer : Option Flags → Bool
+wants_answer None = false
+wants_answer (Some flags) = not flags.heard
+
+-- a packet of a name that is certified
+abbrev pub certified_outcome : Memory → ℕ → Label → Content → Option Flags → Outcome
+certified_outcome a q x m flags =
+    if wants_answer flags then Answers (answer.Answered x (answer_with a.node q x m (acked a.heard x q) ∷ [])) a
+    else Answers (answer.Again x) a
 
 -- a packet from q, by the message that is pending under its name, where there is one
-abbrev pub pending_outcome : Memory → ℕ → Label → Content → Option Content → Outcome
-pending_outcome a q x m None = Wants (if is_majority 2 a.limits.n then PendCert x m else Pend x m) (Some (packet_from q)) a
-pending_outcome a q x m (Some first) = if has_name a.certified x then Answers (answer.Again x) a else counted_outcome a q x
+abbrev pub pending_outcome : Memory → ℕ → Label → Content → Option Flags → Option Content → Outcome
+pending_outcome a q x m flags None =
+    Wants (if is_majority 2 a.limits.n then PendCert x m else Pend x m) (Some (packet_from q (says_certified flags))) a
+pending_outcome a q x m flags (Some first) =
+    if has_name a.certified x then certified_outcome (hearing a q x flags) q x m flags else counted_outcome a q x flags
 
 -- a packet from q
-abbrev pub arrive_outcome : Memory → ℕ → Label → Content → Outcome
-arrive_outcome a q x m = pending_outcome a q x m (message_of a.pairs x)
+abbrev pub arrive_outcome : Memory → ℕ → Label → Content → Option Flags → Outcome
+arrive_outcome a q x m flags = pending_outcome a q x m flags (message_of a.pairs x)

@@ -1,14 +1,14 @@
 -- One node's part of the world: what it has stored, its state, and what it holds beside that.
-use Rattle.std.specs.Prelude.{List, None, Option, map, ℕ}
+use Rattle.std.specs.Prelude.{Bool, List, None, Option, [], map, ℕ}
 use Rattle.urb_names.specs.Naming.{Content, Label}
 use Rattle.urb_names.specs.Pairs.{own}
 use Rattle.urb_node.specs.declared.cause.Cause.{Cause}
 use Rattle.urb_stable.specs.Entries.{Entry}
 use Rattle.urb_stable.specs.Records.{pend}
 
--- a draft that a packet from this node caused
-abbrev pub packet_from : ℕ → Cause
-packet_from q = record { source = q }
+-- a draft that a packet from this node caused, which said that the node has stored its certificate, or didn't
+abbrev pub packet_from : ℕ → Bool → Cause
+packet_from q certified = record { source = q; certified = certified }
 
 -- ready; storing a record, with the packet that caused it, or none; down, perhaps with one doubtful record
 pub data State : Type 0 where
@@ -21,6 +21,7 @@ pub record Node : Type 0 where
   pub records : List Entry  -- what its storage holds
   pub state : State
   pub acks : List (Label × ℕ)  -- the acknowledgements counted
+  pub heard : List (Label × ℕ)  -- the certificates heard: names, each with a node that said that it has stored one
   pub cursor : Option Label
   pub broadcast : List Content  -- what it has broadcast
 
@@ -34,4 +35,4 @@ own_acks p records = self_acks p (pend records)
 
 -- a ready node that has read these records
 abbrev pub opened_node : ℕ → List Entry → Node
-opened_node p records = record { records = records; state = Ready; acks = own_acks p records; cursor = None; broadcast = own p (pend records) }
+opened_node p records = record { records = records; state = Ready; acks = own_acks p records; heard = []; cursor = None; broadcast = own p (pend records) }

@@ -4,6 +4,7 @@ use Rattle.urb_names.specs.Carried.{Carried}
 use Rattle.urb_names.specs.Naming.{Label}
 use Rattle.urb_names.specs.declared.refusal.Refusal.{Refusal}
 use Rattle.urb_node.specs.declared.answer.Answer.{Answer}
+use Rattle.urb_node.specs.declared.answer.Answer.TheVariants as answer
 
 -- what is told when a record is stored
 pub record Done : Type 0 where
@@ -16,17 +17,24 @@ pub record Done : Type 0 where
 -- or nothing was done
 pub data Reply : Type 0 where
   Drafted : (x : Label) (position : ℕ) → Reply
-  Same : (answer : Answer) → Reply
+  Same : (told : Answer (List Carried)) → Reply
   Stored : (done : Done) → Reply
   Sent : (packets : List Carried) → Reply
   WentDown : (p : ℕ) → Reply
   Up : (p : ℕ) → Reply
   Refused : (refusal : Refusal) → Reply
 
+-- the packets that an answer hands out
+abbrev pub packets_with : Answer (List Carried) → List Carried
+packets_with (answer.Accepted x) = []
+packets_with (answer.Noted x) = []
+packets_with (answer.Again x) = []
+packets_with (answer.Answered x packets) = packets
+
 -- the packets that a reply hands out
 abbrev pub packets_in : Reply → List Carried
 packets_in (Drafted x position) = []
-packets_in (Same answer) = []
+packets_in (Same told) = packets_with told
 packets_in (Stored done) = done.sent
 packets_in (Sent packets) = packets
 packets_in (WentDown p) = []

@@ -17,13 +17,14 @@ pub record NodeView : Type 0 where
   pub count : ℕ  -- how many records are stored
   pub state : State
   pub acks : List (Label × ℕ)  -- the acknowledgements of the names that are not certified
+  pub heard : List (Label × ℕ)  -- the certificates heard
   pub cursor : Option Label
 
 -- a node that holds nothing
 abbrev pub no_view : NodeView
-no_view = record { pairs = []; certified = []; log = []; count = 0; state = Ready; acks = []; cursor = None }
+no_view = record { pairs = []; certified = []; log = []; count = 0; state = Ready; acks = []; heard = []; cursor = None }
 
--- what is held in memory is this node: pairs, certified names and acknowledgements are compared as sets
+-- what is held in memory is this node: pairs, certified names, acknowledgements and certificates heard are compared as sets
 pub record ShowsNode (size : Limits) (p : ℕ) (view : NodeView) (node : Node) : Type 0 where
   pub pairs : (x : Label) (m : Content) → has_pair view.pairs x m ≡ has_pair (pend node.records) x m
   pub certified : (x : Label) → has_name view.certified x ≡ has_name (cert node.records) x
@@ -32,5 +33,6 @@ pub record ShowsNode (size : Limits) (p : ℕ) (view : NodeView) (node : Node) :
   pub state : view.state ≡ node.state
   pub cursor : view.cursor ≡ node.cursor
   pub acks : (x : Label) (q : ℕ) → has_name (cert node.records) x ≡ false → acked view.acks x q ≡ acked node.acks x q
+  pub heard : (x : Label) (q : ℕ) → acked view.heard x q ≡ acked node.heard x q
   pub rules : KeepsOwn size p [] node.records
   pub broadcast : node.broadcast ≡ own p (pend node.records)

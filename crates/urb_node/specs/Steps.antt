@@ -2,17 +2,18 @@
 use Rattle.std.specs.List.{list_all, position_or_len}
 use Rattle.std.specs.Prelude.{Bool, List, None, Option, Some, [], bytes_eq, false, find, flat_map, if◌then◌else◌, is_none, length, nat_lt, not, suc, true, ℕ, ◌&&◌, ◌++◌, ◌-◌, ◌==◌, ◌||◌, ◌∷◌}
 use Rattle.urb_names.specs.Acknowledged.{acked, with_ack}
-use Rattle.urb_names.specs.Carried.{Carried, to_others}
+use Rattle.urb_names.specs.Carried.{Carried, due_of, says_certified, to_others, to_unheard}
 use Rattle.urb_names.specs.Cyclic.{last_name, resent, rising}
 use Rattle.urb_names.specs.Names.{has_name, name, same_message, same_name}
 use Rattle.urb_names.specs.Naming.{Content, Label, Limits}
 use Rattle.urb_names.specs.Nodes.{majority_passes}
 use Rattle.urb_names.specs.Pairs.{has_pair, is_numbered, message_of, next_number}
+use Rattle.urb_names.specs.declared.flags.Flags.{Flags}
 use Rattle.urb_names.specs.declared.refusal.Refusal.{Refusal}
 use Rattle.urb_node.specs.Part.{Down, Node, Ready, State, Storing, own_acks, packet_from}
-use Rattle.urb_node.specs.Replies.{Done, Drafted, Refused, Reply, Same, Sent, Stored, Up, WentDown}
+use Rattle.urb_node.specs.Replies.{Done, Drafted, Refused, Reply, Same, Sent, Stored, Up, WentDown, packets_in}
 use Rattle.urb_node.specs.declared.cause.Cause.{Cause}
-use Rattle.urb_node.specs.declared.answer.Answer.TheVariants.{Accepted, Again, Noted}
+use Rattle.urb_node.specs.declared.answer.Answer.TheVariants.{Accepted, Again, Answered, Noted}
 use Rattle.urb_stable.specs.Entries.{Entry, name_of}
 use Rattle.urb_stable.specs.Log.{log}
 use Rattle.urb_stable.specs.Records.{cert, pend}
@@ -73,25 +74,50 @@ submits size p m node =
     else submits_by_number size p m (find (is_numbered m.client m.number) node.broadcast) node))
 
 -- An arrival from q of a name that is not pending: the pair is drafted, certified at once where p and q are a majority.
-abbrev pub takes : Limits → ℕ → ℕ → Label → Content → Node → Reply × Node
-takes size p q x m node =
-    if majority_passes size.n (λ z. (z == p) || (z == q)) then drafts node (PendCert x m) (Some (packet_from q))
-    else drafts node (Pend x m) (Some (packet_from q))
+abbrev pub takes : Limits → ℕ → ℕ → Label → Content → Option Flags → Node → Reply × Node
+takes size p q x m flags node =
+    let cause = Some (packet_from q (says_certified flags)) in
+    if majority_passes size.n (λ z. (z == p) || (z == q)) then drafts node (PendCert x m) cause else drafts node (Pend x m) cause
 
 -- An arrival from q of a name that is pending and not certified: q is counted, and a certificate is drafted where the
 -- counted nodes are a majority.
-abbrev pub counts : Limits → ℕ → Label → Node → Reply × Node
-counts size q x node =
+abbrev pub counts : Limits → ℕ → Label → Option Flags → Node → Reply × Node
+counts size q x flags node =
     let after = record node { acks = with_ack node.acks x q } in
-    if majority_passes size.n (acked after.acks x) then drafts after (Cert x) (Some (packet_from q))
+    if majority_passes size.n (acked after.acks x) then drafts after (Cert x) (Some (packet_from q (says_certified flags)))
     else (if acked node.acks x q then (Same (Again x), after) else (Same (Noted x), after))
 
+-- the node once it heard that q has stored a certificate of a pending name, where these flags say so
+abbrev pub hears : ℕ → Label → Option Flags → Node → Node
+hears q x flags node = if says_certified flags then record node { heard = with_ack node.heard x q } else node
+
+-- the answer of p to q: that p has stored its certificate, and whether it heard that of q
+abbrev pub reply_to : ℕ → ℕ → Label → Content → Node → Carried
+reply_to p q x m node =
+    record { source = p; target = q; name = x; message = m; flags = Some (record { certified = true; heard = acked node.heard x q }) }
+
+-- An arrival from q of a name that is certified: a packet of version two that doesn't say that the certificate was heard is
+-- answered, and no other is.
+abbrev pub answers : ℕ → ℕ → Label → Content → Option Flags → Node → Reply × Node
+answers p q x m None node = (Same (Again x), node)
+answers p q x m (Some flags) node =
+    if flags.heard then (Same (Again x), node) else (Same (Answered x (reply_to p q x m node ∷ [])), node)
+
 -- a truthful packet comes from q to a ready node
-abbrev pub arrives : Limits → ℕ → ℕ → Label → Content → Node → Reply × Node
-arrives size p q x m node =
-    if is_none (message_of (pend node.records) x) then takes size p q x m node
-    else (if not (has_name (cert node.records) x) then counts size q x node
-    else (Same (Again x), node))
+abbrev pub arrives : Limits → ℕ → ℕ → Label → Content → Option Flags → Node → Reply × Node
+arrives size p q x m flags node =
+    if is_none (message_of (pend node.records) x) then takes size p q x m flags node
+    else (let told = hears q x flags node in
+    if not (has_name (cert node.records) x) then counts size q x flags told else answers p q x m flags told)
+
+-- whether these flags say that the target's certificate was heard
+abbrev pub says_heard : Option Flags → Bool
+says_heard None = false
+says_heard (Some flags) = flags.heard
+
+-- the packets that a packet's target, which is this node, answers it with
+abbrev pub answers_of : Limits → Carried → Node → List Carried
+answers_of size packet node = packets_in (arrives size packet.target packet.source packet.name packet.message packet.flags node).0
 
 -- the acknowledgements with the causing node counted, where there is one
 abbrev pub with_cause : List (Label × ℕ) → Label → Option Cause → List (Label × ℕ)
@@ -104,17 +130,34 @@ acks_after p (Pend x m) cause acks = with_cause (with_ack acks x p) x cause
 acks_after p (PendCert x m) cause acks = with_cause (with_ack acks x p) x cause
 acks_after p (Cert x) cause acks = acks
 
+-- the node whose certificate came with the packet that caused a draft, where one did
+abbrev pub heard_of : Option Cause → Option ℕ
+heard_of None = None
+heard_of (Some cause) = if cause.certified then Some cause.source else None
+
+-- the certificates heard, with that of this node where there is one
+abbrev pub with_heard : List (Label × ℕ) → Label → Option ℕ → List (Label × ℕ)
+with_heard heard x None = heard
+with_heard heard x (Some q) = with_ack heard x q
+
+-- the certificates heard once a record is stored: of a pending one, that which came with the packet that caused it
+abbrev pub heard_after : Entry → Option Cause → List (Label × ℕ) → List (Label × ℕ)
+heard_after (Pend x m) cause heard = with_heard heard x (heard_of cause)
+heard_after (PendCert x m) cause heard = with_heard heard x (heard_of cause)
+heard_after (Cert x) cause heard = heard
+
 -- the messages broadcast once a record is stored: a pending one of the node's own is a broadcast
 abbrev pub broadcast_after : ℕ → Entry → List Content → List Content
 broadcast_after p (Pend x m) messages = if x.sender == p then messages ++ m ∷ [] else messages
 broadcast_after p (PendCert x m) messages = if x.sender == p then messages ++ m ∷ [] else messages
 broadcast_after p (Cert x) messages = messages
 
--- the packets of a stored record: of a pending one, to each other node
-abbrev pub packets_of : ℕ → ℕ → Entry → List Carried
-packets_of n p (Pend x m) = to_others n p (x, m)
-packets_of n p (PendCert x m) = to_others n p (x, m)
-packets_of n p (Cert x) = []
+-- the packets of a stored record: of a pending one, to each other node, which say whether it is a certificate too, and to the
+-- node whose certificate came with the packet that caused it that this was heard
+abbrev pub packets_of : ℕ → ℕ → Entry → Option Cause → List Carried
+packets_of n p (Pend x m) cause = to_others n p false (heard_of cause) (x, m)
+packets_of n p (PendCert x m) cause = to_others n p true (heard_of cause) (x, m)
+packets_of n p (Cert x) cause = []
 
 -- whether the record is a pending one of the node's own
 abbrev pub is_accepted : ℕ → Entry → Bool
@@ -123,12 +166,12 @@ is_accepted p (PendCert x m) = x.sender == p
 is_accepted p (Cert x) = false
 
 -- what is told when this record is stored
-abbrev pub done : ℕ → ℕ → Entry → Node → Done
-done n p entry node =
+abbrev pub done : ℕ → ℕ → Entry → Option Cause → Node → Done
+done n p entry cause node =
     record {
       accepted = is_accepted p entry;
       name = name_of entry;
-      sent = packets_of n p entry;
+      sent = packets_of n p entry cause;
       released = length (log (node.records ++ entry ∷ [])) - length (log node.records);
     }
 
@@ -139,6 +182,7 @@ keeps_record p entry cause node =
       records = node.records ++ entry ∷ [];
       state = Ready;
       acks = acks_after p entry cause node.acks;
+      heard = heard_after entry cause node.heard;
       cursor = node.cursor;
       broadcast = broadcast_after p entry node.broadcast;
     }
@@ -160,7 +204,7 @@ abbrev pub commits : ℕ → ℕ → ℕ → Entry → Node → State → Reply 
 commits n p position entry node Ready = refuses node refusal.Stale
 commits n p position entry node (Storing held cause) =
     if (position == next_position node) && same_record entry held
-    then (Stored (done n p held node), keeps_record p held cause node)
+    then (Stored (done n p held cause node), keeps_record p held cause node)
     else refuses node refusal.Stale
 commits n p position entry node (Down doubtful) = refuses node refusal.Down
 
@@ -172,7 +216,7 @@ doubt (Down doubtful) = doubtful
 
 -- the node loses its memory, and a record that it holds is doubtful
 abbrev pub goes_down : ℕ → Node → Reply × Node
-goes_down p node = (WentDown p, record node { state = Down (doubt node.state); acks = [] })
+goes_down p node = (WentDown p, record node { state = Down (doubt node.state); acks = []; heard = [] })
 
 -- the store of the held record failed
 abbrev pub fails : ℕ → Node → State → Reply × Node
@@ -212,7 +256,7 @@ says image records = tells image (pend records) (cert records) (log records) (le
 -- the node is ready again, with these records
 abbrev pub comes_up : ℕ → List Entry → List Content → Reply × Node
 comes_up p records messages =
-    (Up p, record { records = records; state = Ready; acks = own_acks p records; cursor = None; broadcast = messages })
+    (Up p, record { records = records; state = Ready; acks = own_acks p records; heard = []; cursor = None; broadcast = messages })
 
 -- the image is that of the stored records, or of these with the doubtful one, which then counts as stored
 abbrev pub restarts_with : ℕ → List Entry → Node → Option Entry → Reply × Node
@@ -229,13 +273,14 @@ restarts p image node Ready = refuses node refusal.NotDown
 restarts p image node (Storing entry cause) = refuses node refusal.NotDown
 restarts p image node (Down doubtful) = restarts_with p image node doubtful
 
--- the pending pairs that a tick resends
-abbrev pub due : Node → List (Label × Content)
-due node = resent node.cursor (rising (pend node.records))
+-- the pairs that a tick resends: of the pending ones those that are due, in cyclic order
+abbrev pub due : ℕ → ℕ → Node → List (Label × Content)
+due n p node = resent node.cursor (due_of n p node.heard (rising (pend node.records)))
 
--- they are sent to each other node, and the cursor is the last of their names
+-- they are sent to each other node that wasn't heard, and the cursor is the last of their names
 abbrev pub resends : ℕ → ℕ → Node → Reply × Node
-resends n p node = (Sent (flat_map (to_others n p) (due node)), record node { cursor = last_name node.cursor (due node) })
+resends n p node =
+    (Sent (flat_map (to_unheard n p (cert node.records) node.heard) (due n p node)), record node { cursor = last_name node.cursor (due n p node) })
 
 -- a tick
 abbrev pub ticks : ℕ → ℕ → Node → Reply × Node

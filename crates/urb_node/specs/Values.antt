@@ -16,6 +16,7 @@ pub record Memory : Type 0 where
   pub log : List Label
   pub count : ℕ  -- how many records are stored
   pub acks : List (Label × ℕ)  -- the acknowledgements counted
+  pub heard : List (Label × ℕ)  -- the certificates heard
   pub cursor : Option Label
 
 -- a node that holds a record which its store is to take, and the node whose packet caused it
@@ -39,6 +40,7 @@ view_in state a =
       count = a.count;
       state = state;
       acks = a.acks;
+      heard = a.heard;
       cursor = a.cursor;
     }
 
@@ -72,4 +74,4 @@ draft_of h = record { node = h.memory.node; pos = suc h.memory.count; entry = h.
 
 -- the memory of a node of a group that has stored nothing
 abbrev pub new_memory : Limits → ℕ → Memory
-new_memory limits p = record { limits = limits; node = p; pairs = []; certified = []; log = []; count = 0; acks = []; cursor = None }
+new_memory limits p = record { limits = limits; node = p; pairs = []; certified = []; log = []; count = 0; acks = []; heard = []; cursor = None }

@@ -14,7 +14,6 @@ use std::alloc::{Allocator, Global};
 use std::marker::Model;
 use urb_names::{Message, NoMemory, Refusal};
 use urb_stable::Record;
-use urb_stubborn::Resend;
 
 /// A node that is down: it takes nothing until it is restarted with what its storage holds.
 #[derive(Drop)]
@@ -35,16 +34,17 @@ impl<A: Allocator> Model for Down<A> {
     ghost invariant = { λ a. IsFallen a.held a.doubt };
 }
 
-// A node goes down: what it has counted is lost, and a record may be in doubt.
+// A node goes down: what it has counted and heard is lost, and a record may be in doubt.
 pub(crate) fn fallen<A: Allocator + Copy>(
     mut held: Held<A>,
     doubt: Option<Record<Message<A>>>,
 ) -> Down<A>
     requires kept { IsHeld held }
     requires next { ForSome doubt (IsNextHeld held) }
-    ensures { result ≡ record { memory = record (memory_of held) { acks = [] }; doubt = doubt } }
+    ensures { result ≡ record { memory = record (memory_of held) { acks = []; heard = [] }; doubt = doubt } }
 {
     held.acks.forget();
+    held.resend.forget();
     Down { held, doubt }
 }
 
@@ -53,7 +53,7 @@ fn risen<A: Allocator + Copy>(mut held: Held<A>) -> Ready<A>
     requires { IsHeld held }
     ensures { result ≡ record (memory_of held) { cursor = None } }
 {
-    held.resend = Resend::new(held.config, held.node);
+    held.resend.rewind();
     Ready { held }
 }
 

@@ -1,6 +1,6 @@
 //! What a ready node finds out about a call, before it goes anywhere.
 
-ghost use Rattle.std.specs.Prelude.{◌≡◌, ◌≢◌, ◌≤◌, false, Some, IsTrue, IsOk, OnOk, OnErr, IfOk, is_some, if◌then◌else◌};
+ghost use Rattle.std.specs.Prelude.{◌≡◌, ◌≢◌, ◌≤◌, true, false, [], ◌∷◌, Some, IsOk, OnOk, OnErr, IfOk, is_some, if◌then◌else◌};
 ghost use Rattle.std.specs.Option.{ForSome};
 ghost use Rattle.urb_names.specs.Names.{has_name};
 ghost use Rattle.urb_names.specs.Pairs.{message_of};
@@ -9,16 +9,18 @@ ghost use Rattle.urb_node.specs.Held.{memory_of, HasRoom, IsHeld, IsNextHeld};
 ghost use Rattle.urb_node.specs.Found.{Finds, IsFoundIn, IsWanted};
 ghost use Rattle.urb_node.specs.Layers.{counted_with};
 ghost use Rattle.urb_node.specs.Moves.{IsForNode};
-ghost use Rattle.urb_node.specs.Outcomes.{arrive_outcome, counted_outcome, repeat_outcome, submit_outcome};
+ghost use Rattle.urb_node.specs.Outcomes.{answer_with, arrive_outcome, certified_outcome, counted_outcome, hearing, repeat_outcome, submit_outcome, wants_answer};
 ghost use Rattle.urb_node.specs.Values.{IsSameNode};
 
 use crate::Answer;
-use crate::cause::Cause;
+use crate::cause::{Cause, cause_of, heard_of};
+use crate::hearing::{hear_packet, says_certified};
 use crate::held::Held;
 use std::alloc::{Allocator, Global};
 use urb_majority::Acks;
 use urb_names::{
-    ClientId, MAX_PAYLOAD, Message, Name, NoMemory, NodeId, PacketView, Refusal, is_majority,
+    ClientId, Flags, MAX_PAYLOAD, Message, Name, NoMemory, NodeId, Packet, PacketView, Refusal,
+    is_majority,
 };
 use urb_stable::Record;
 use urb_stubborn::Outbox;
@@ -37,7 +39,7 @@ pub(crate) struct Wanted<A: Allocator = Global> {
 #[derive(Drop)]
 #[derive_where(Debug)]
 pub(crate) enum Found<A: Allocator = Global> {
-    Known(Answer),
+    Known(Answer<Outbox<A>>),
     New(Wanted<A>),
 }
 
@@ -52,10 +54,11 @@ fn make_room<A: Allocator + Copy>(
     requires seq { name.seq ≤ held.old.config.cap }
     ensures kept { IsHeld held.new }
     ensures same { memory_of held.new ≡ memory_of held.old }
-    ensures room { OnOk result ((held.new.pending.reserved ≡ Some (name, client)) × (held.new.acks.reserved ≡ Some name)) }
+    ensures room { OnOk result ((held.new.pending.reserved ≡ Some (name, client)) × (held.new.acks.reserved ≡ Some name) × (has_name held.new.resend.roomy name ≡ true)) }
 {
     held.pending.reserve(name, client)?;
     held.acks.reserve(name)?;
+    held.resend.reserve(name)?;
     Ok(())
 }
 
@@ -116,7 +119,15 @@ fn make_wanted<A: Allocator + Copy>(
     ensures same { memory_of held.new ≡ memory_of held.old }
     ensures wanted { IfOk result (λ w. IsWanted held.new w × (w.entry ≡ (if is_certified then PendCert name message else Pend name message)) × (w.cause ≡ cause)) }
 {
-    let packets = Outbox::of_pair(alloc, held.config, held.node, name, &message)?;
+    let packets = Outbox::of_pair(
+        alloc,
+        held.config,
+        held.node,
+        name,
+        &message,
+        is_certified,
+        heard_of(&cause),
+    )?;
     let copy = pending_record(name, message.copy(alloc)?, is_certified);
     let entry = pending_record(name, message, is_certified);
     make_room_for(held, &entry)?;
@@ -210,35 +221,105 @@ fn counted<A: Allocator + Copy>(
     alloc: A,
     source: NodeId,
     name: Name,
+    flags: Option<Flags>,
 ) -> Result<Found<A>, Refusal>
     requires kept { IsHeld held.old }
     requires source { (1 ≤ source) × (source ≤ held.old.config.n) }
     requires sender { name.sender ≤ held.old.config.n }
     requires seq { name.seq ≤ held.old.config.cap }
-    requires pending { IsTrue (is_some (message_of held.old.pending.pairs name)) }
+    requires pending { is_some (message_of held.old.pending.pairs name) ≡ true }
     requires open { has_name held.old.acks.certified name ≡ false }
     ensures kept { IsHeld held.new }
     ensures same { IsSameNode (memory_of held.old) (memory_of held.new) }
     ensures wanted { IfOk result (λ found. IsFoundIn held.new found) }
-    ensures outcome { Finds (memory_of held.old) (counted_outcome (memory_of held.old) source name) result (memory_of held.new) }
+    ensures outcome { Finds (memory_of held.old) (counted_outcome (memory_of held.old) source name flags) result (memory_of held.new) }
 {
     let is_counted = held.acks.noted(name, source);
     if held.acks.majority_with(name, source) {
         held.acks.reserve(name)?;
         held.fifo.reserve(name)?;
         note(&mut held.acks, name, source).unwrap();
+        hear_packet(held, source, name, flags);
         return Ok(Found::New(Wanted {
             entry: Record::Cert(name),
             copy: Record::Cert(name),
-            cause: Some(Cause { source }),
+            cause: Some(cause_of(source, flags)),
             packets: Outbox::empty(alloc),
         }));
     }
     if is_counted {
+        hear_packet(held, source, name, flags);
         return Ok(Found::Known(Answer::Again(name)));
     }
     note(&mut held.acks, name, source)?;
+    hear_packet(held, source, name, flags);
     Ok(Found::Known(Answer::Noted(name)))
+}
+
+// The message that a packet carries.
+fn message_in<A: Allocator>(alloc: A, packet: &PacketView<'_>) -> Result<Message<A>, NoMemory>
+    ensures { IfOk result (λ m. m ≡ packet.now.message) }
+{
+    let message = Message::copied(alloc, packet.client(), packet.number(), packet.payload())?;
+    Ok(message)
+}
+
+// The answer to a packet's source: that this node has stored a certificate of the name, and whether it heard of one there.
+fn reply_to<A: Allocator + Copy>(
+    alloc: A,
+    node: NodeId,
+    packet: &PacketView<'_>,
+    heard: bool,
+) -> Result<Outbox<A>, NoMemory>
+    requires { packet.now.target ≡ node }
+    ensures { IfOk result (λ outbox. outbox ≡ answer_with node packet.now.source packet.now.name packet.now.message heard ∷ []) }
+{
+    // This gives the proof that a packet's nodes differ.
+    let _apart = packet.target();
+    let message = message_in(alloc, packet)?;
+    let flags = Flags {
+        certified: true,
+        heard,
+    };
+    let reply = Packet::new(node, packet.source(), packet.name(), message, Some(flags));
+    Outbox::one(alloc, reply)
+}
+
+// Whether the source of a packet wants an answer where the name is certified: by version two, unless it heard it before.
+fn wants_answer(flags: Option<Flags>) -> bool
+    ensures { result ≡ wants_answer flags }
+{
+    match flags {
+        Some(flags) => !flags.heard,
+        None => false,
+    }
+}
+
+// What is found about a packet of a name that is certified.
+fn answered<A: Allocator + Copy>(
+    held: &mut Held<A>,
+    alloc: A,
+    packet: &PacketView<'_>,
+) -> Result<Found<A>, Refusal>
+    requires kept { IsHeld held.old }
+    requires target { packet.now.target ≡ held.old.node }
+    requires pending { is_some (message_of held.old.pending.pairs packet.now.name) ≡ true }
+    ensures kept { IsHeld held.new }
+    ensures same { IsSameNode (memory_of held.old) (memory_of held.new) }
+    ensures wanted { IfOk result (λ found. IsFoundIn held.new found) }
+    ensures outcome { Finds (memory_of held.old) (certified_outcome (hearing (memory_of held.old) packet.now.source packet.now.name packet.now.flags) packet.now.source packet.now.name packet.now.message packet.now.flags) result (memory_of held.new) }
+{
+    let name = packet.name();
+    let source = packet.source();
+    let flags = packet.flags();
+    if !wants_answer(flags) {
+        hear_packet(held, source, name, flags);
+        return Ok(Found::Known(Answer::Again(name)));
+    }
+    let heard = says_certified(flags) || held.resend.heard(name, source);
+    let packets = reply_to(alloc, held.node, packet, heard)?;
+    hear_packet(held, source, name, flags);
+    Ok(Found::Known(Answer::Answered(name, packets)))
 }
 
 /// What a packet leads to, at a ready node.
@@ -252,20 +333,21 @@ pub(crate) fn arrived<A: Allocator + Copy>(
     ensures kept { IsHeld held.new }
     ensures same { IsSameNode (memory_of held.old) (memory_of held.new) }
     ensures wanted { IfOk result (λ found. IsFoundIn held.new found) }
-    ensures outcome { Finds (memory_of held.old) (arrive_outcome (memory_of held.old) packet.now.source packet.now.name packet.now.message) result (memory_of held.new) }
+    ensures outcome { Finds (memory_of held.old) (arrive_outcome (memory_of held.old) packet.now.source packet.now.name packet.now.message packet.now.flags) result (memory_of held.new) }
 {
     let name = packet.name();
     let source = packet.source();
+    let flags = packet.flags();
     // This gives the proof the range of a node's number.
     let _range = source.number();
     if held.pending.message(name).is_none() {
-        let message = Message::copied(alloc, packet.client(), packet.number(), packet.payload())?;
+        let message = message_in(alloc, packet)?;
         let is_certified = is_majority(2, held.config.n());
-        let cause = Some(Cause { source });
+        let cause = Some(cause_of(source, flags));
         return Ok(Found::New(make_wanted(held, alloc, name, message, is_certified, cause)?));
     }
     if held.acks.certified(name) {
-        return Ok(Found::Known(Answer::Again(name)));
+        return answered(held, alloc, packet);
     }
-    counted(held, alloc, source, name)
+    counted(held, alloc, source, name, flags)
 }

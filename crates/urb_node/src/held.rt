@@ -22,7 +22,7 @@ pub(crate) struct Held<A: Allocator = Global> {
     pub(crate) pending: Pending<A>,
     pub(crate) acks: Acks<A>,
     pub(crate) fifo: Fifo<A>,
-    pub(crate) resend: Resend,
+    pub(crate) resend: Resend<A>,
 }
 
 impl<A: Allocator + Copy> Held<A> {

@@ -1,13 +1,17 @@
 //! What holds of one node's drafts and packets, each law as the contract of a function that does nothing.
 
-ghost use Rattle.std.specs.Prelude.{◌≡◌, ◌<◌, ◌≤◌, ℕ, suc, true, false, List, Option, None, flat_map, is_some, length};
+ghost use Rattle.std.specs.Prelude.{◌≡◌, ◌<◌, ◌≤◌, ◌∷◌, [], ℕ, Bool, suc, true, false, List, Option, None, flat_map, is_some, length};
+ghost use Rattle.std.specs.List.{AllByRecursion};
 ghost use Rattle.urb_names.specs.Naming.{Content, Label, Limits};
 ghost use Rattle.urb_names.specs.Names.{has_name, name};
 ghost use Rattle.urb_names.specs.Pairs.{has_pair, message_of, next_number, own};
-ghost use Rattle.urb_names.specs.Carried.{AreFrom, to_others};
+ghost use Rattle.urb_names.specs.Carried.{AreFrom, Carried, due_of, to_others, to_unheard};
 ghost use Rattle.urb_names.specs.Cyclic.{resent};
 ghost use Rattle.urb_stable.specs.declared.record.Record.TheVariants.{Cert, Pend, PendCert};
 ghost use Rattle.urb_node.specs.Next.{IsNext, MayArrive};
+ghost use Rattle.urb_node.specs.Outcomes.{answer_with};
+ghost use Rattle.urb_node.specs.Part.{Node};
+ghost use Rattle.urb_node.specs.Steps.{answers_of, says_heard};
 
 /// What a node drafts keeps the rules about its own image, behind what it holds: the next message of its own, a message
 /// that may arrive and isn't pending, and a certificate of a name that is pending and not certified.
@@ -21,9 +25,19 @@ pub fn drafts_are_next()
         → is_some (message_of pairs x) ≡ true → has_name certified x ≡ false → IsNext size p pairs certified (Cert x) }
 {}
 
-/// The packets of a stored pair, and those of a tick, are of the node's own pending pairs with the node as their source:
-/// no creation by a link (sections 2.4 and 3.7 of the book).
+/// The packets of a stored pair, those of a tick and an answer are of the node's own pending pairs with the node as their source,
+/// and tell of a certificate only where the node has stored one: no creation by a link (sections 2.4 and 3.7 of the book).
 pub fn packets_are_of_held_pairs()
-    ensures pair { (n p : ℕ) (pairs : List (Label × Content)) (pair : Label × Content) → has_pair pairs pair.0 pair.1 ≡ true → AreFrom p pairs (to_others n p pair) }
-    ensures tick { (n p : ℕ) (cursor : Option Label) (pairs : List (Label × Content)) → AreFrom p pairs (flat_map (to_others n p) (resent cursor pairs)) }
+    ensures pair { (n p : ℕ) (pairs : List (Label × Content)) (certified : List Label) (is_certified : Bool) (heard : Option ℕ) (pair : Label × Content) → has_pair pairs pair.0 pair.1 ≡ true
+        → (is_certified ≡ true → has_name certified pair.0 ≡ true) → AreFrom p pairs certified (to_others n p is_certified heard pair) }
+    ensures tick { (n p : ℕ) (cursor : Option Label) (pairs : List (Label × Content)) (certified : List Label) (heard : List (Label × ℕ)) → AreFrom p pairs certified (flat_map (to_unheard n p certified heard) (resent cursor (due_of n p heard pairs))) }
+    ensures answer { (p q : ℕ) (pairs : List (Label × Content)) (certified : List Label) (x : Label) (m : Content) (heard : Bool) → has_pair pairs x m ≡ true → has_name certified x ≡ true → AreFrom p pairs certified (answer_with p q x m heard ∷ []) }
+{}
+
+/// A packet that says that its target's certificate was heard is not answered, nor is one of version one. And the answer to an
+/// answer is not answered, so no two nodes answer each other for ever.
+pub fn answers_end()
+    ensures heard { (size : Limits) (packet : Carried) (node : Node) → says_heard packet.flags ≡ true → answers_of size packet node ≡ [] }
+    ensures first_version { (size : Limits) (packet : Carried) (node : Node) → packet.flags ≡ None → answers_of size packet node ≡ [] }
+    ensures ends { (size : Limits) (first : Carried) (here there last : Node) → AllByRecursion (λ second. AllByRecursion (λ third. answers_of size third last ≡ []) (answers_of size second there)) (answers_of size first here) }
 {}

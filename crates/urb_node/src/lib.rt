@@ -21,6 +21,7 @@ mod answer;
 mod cause;
 mod down;
 mod found;
+mod hearing;
 mod held;
 mod judging;
 mod known_pairs;

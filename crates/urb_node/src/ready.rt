@@ -1,10 +1,11 @@
 //! A node that holds no draft.
 
-ghost use Rattle.std.specs.Prelude.{◌≡◌, ◌≤◌, [], IfErr, IfOk};
+ghost use Rattle.std.specs.Prelude.{◌≡◌, ◌≤◌, [], IfErr, IfOk, OnErr, OnOk};
 ghost use Rattle.urb_names.specs.Carried.{AreFrom};
+ghost use Rattle.urb_stubborn.specs.Resending.{tick_packets, ticked};
 ghost use Rattle.urb_node.specs.Held.{memory_of, IsHeld};
 ghost use Rattle.urb_node.specs.Found.{IsFoundIn, step_from};
-ghost use Rattle.urb_node.specs.Moves.{Arrives, AreOfStored, Crashes, IsForNode, Submits, Ticks};
+ghost use Rattle.urb_node.specs.Moves.{AnswersFrom, AnswersOfStored, Arrives, AreOfStored, Crashes, IsForNode, Submits, Ticks};
 ghost use Rattle.urb_node.specs.Part.{opened_node};
 ghost use Rattle.urb_node.specs.Values.{ShowsReady, new_memory};
 
@@ -63,6 +64,20 @@ fn step_of<A: Allocator + Copy>(held: Held<A>, found: Found<A>) -> Step<A>
     }
 }
 
+// What a tick sends, of these pending pairs and certificates.
+fn resent<A: Allocator + Copy>(
+    resend: &mut Resend<A>,
+    alloc: A,
+    pending: &Pending<A>,
+    acks: &Acks<A>,
+) -> Result<Outbox<A>, NoMemory>
+    ensures packets { IfOk result (λ outbox. outbox ≡ tick_packets resend.old pending.now.pairs acks.now.certified) }
+    ensures ok { OnOk result (resend.new ≡ ticked resend.old pending.now.pairs) }
+    ensures err { OnErr result (resend.new ≡ resend.old) }
+{
+    resend.tick(alloc, pending, acks.certificates())
+}
+
 impl<A: Allocator + Copy> Ready<A> {
     /// A node of a group that has stored nothing: a process of the book's logged uniform reliable broadcast as it is initialized
     /// (section 3.7).
@@ -83,7 +98,7 @@ impl<A: Allocator + Copy> Ready<A> {
                 pending: Pending::new(alloc, config, node),
                 acks: Acks::new(alloc, config),
                 fifo: Fifo::new(alloc, config),
-                resend: Resend::new(config, node),
+                resend: Resend::new(alloc, config, node),
             },
         })
     }
@@ -115,7 +130,11 @@ impl<A: Allocator + Copy> Ready<A> {
     /// broadcast in the book's majority-ack algorithm with logging (section 3.7), as far as its store.
     pub fn arrive(self, alloc: A, packet: PacketView<'_>) -> Result<Step<A>, (Ready<A>, Refusal)>
         requires { IsForNode self packet }
-        ensures event { Arrives self packet.entry.source packet.entry.name packet.entry.message result }
+        ensures event { Arrives self packet.entry.source packet.entry.name packet.entry.message packet.entry.flags result }
+
+        // What it answers is of the node's stored pairs, with the node as its source.
+        ensures memory { IfOk result AnswersFrom }
+        ensures stored { IfOk result AnswersOfStored }
 
         // Refused, the node is as it was, whatever it shows.
         ensures refused { IfErr result (λ e. e.0 ≡ self) }
@@ -130,19 +149,19 @@ impl<A: Allocator + Copy> Ready<A> {
         }
     }
 
-    /// A timeout: sends pending messages again (stubborn links, section 2.4 of the book). Refused for memory, the next
-    /// tick sends what this one would have sent.
+    /// A timeout: sends pending messages again to the nodes whose certificates of them were not heard (stubborn links, section
+    /// 2.4 of the book). Refused for memory, the next tick sends what this one would have sent.
     pub fn tick(self, alloc: A) -> (Ready<A>, Result<Outbox<A>, NoMemory>)
         ensures event { Ticks self result }
 
         // What it sends is of the node's stored pairs, with the node as its source.
-        ensures memory { IfOk result.1 (AreFrom self.node self.pairs) }
+        ensures memory { IfOk result.1 (AreFrom self.node self.pairs self.certified) }
         ensures stored { IfOk result.1 (AreOfStored (ShowsReady self) self.node) }
     {
         let Ready { mut held } = self;
         // This does nothing: it gives the proof what the pending pairs always keep.
         held.pending.limits();
-        let sent = held.resend.tick(alloc, &held.pending);
+        let sent = resent(&mut held.resend, alloc, &held.pending, &held.acks);
         (Ready { held }, sent)
     }
 

@@ -12,7 +12,7 @@ use urb_stubborn::Outbox;
 #[derive_where(Debug)]
 pub enum Step<A: Allocator = Global> {
     /// The node stays ready, and nothing has to be stored.
-    Same(Ready<A>, Answer),
+    Same(Ready<A>, Answer<Outbox<A>>),
     /// The node holds a record, which its store is to keep first: the draft goes there.
     Store(Storing<A>, Draft<A>),
 }

@@ -12,9 +12,10 @@ ghost use Rattle.urb_node.specs.Moves.{AreOfStored, Confirms, Crashes, Fails};
 ghost use Rattle.urb_node.specs.Steps.{is_accepted};
 ghost use Rattle.urb_node.specs.Values.{ShowsReady, ShowsStoring};
 
-use crate::cause::Cause;
+use crate::cause::{Cause, heard_of};
 use crate::down::fallen;
 use crate::found::note;
+use crate::hearing::hear;
 use crate::held::Held;
 use crate::{Done, Down, Ready};
 use std::alloc::{Allocator, Global};
@@ -68,15 +69,17 @@ fn join_pair<A: Allocator + Copy>(
 )
     requires kept { IsHeld held.old }
     requires next { IsNextHeld held.old (Pend name message) }
-    requires room { (held.old.pending.reserved ≡ Some (name, message.client)) × (held.old.acks.reserved ≡ Some name) }
+    requires room { (held.old.pending.reserved ≡ Some (name, message.client)) × (held.old.acks.reserved ≡ Some name) × (has_name held.old.resend.roomy name ≡ true) }
     requires fits { held.old.stored + 1 < 2 ^ 32 }
     ensures kept { IsHeld held.new }
     ensures memory { memory_of held.new ≡ with_pair (memory_of held.old) name message cause }
     ensures room { (held.new.acks.reserved ≡ Some name) × (held.new.fifo ≡ held.old.fifo) }
 {
     let node = held.node;
+    let heard = heard_of(&cause);
     held.pending.add(name, message).unwrap();
     count(&mut held.acks, name, node, cause);
+    hear(&mut held.resend, name, heard);
     held.stored += 1;
 }
 
@@ -164,7 +167,7 @@ impl<A: Allocator + Copy> Storing<A> {
         ensures event { Confirms self receipt result }
 
         // What it sends is of the node's stored pairs, with the node as its source.
-        ensures memory { IfOk result (λ r. AreFrom r.0.node r.0.pairs r.1.sent) }
+        ensures memory { IfOk result (λ r. AreFrom r.0.node r.0.pairs r.0.certified r.1.sent) }
         ensures stored { IfOk result (λ r. AreOfStored (ShowsReady r.0) r.0.node r.1.sent) }
     {
         let Storing {

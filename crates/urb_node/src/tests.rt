@@ -1,17 +1,23 @@
 //! One node under test, with its store in memory.
 
+mod answers;
 mod calls;
+mod led;
 mod packets;
 mod receipts;
 mod refused;
 mod restarts;
 mod ticks;
 
+use crate::tests::led::{
+    BOTH, Call, Form, IS_CERTIFIED, IS_HEARD, Led, NEITHER, Origin, Row, What, expected, form_of,
+    led_by,
+};
 use crate::tests::packets::{bytes_of, check, packet_of, place};
-use crate::{Answer, Done, Down, Ready, Step, Storing};
+use crate::{Done, Down, Ready, Step, Storing};
 use std::alloc::Allocator;
 use std::test::Fail;
-use urb_names::{ClientId, Config, MAX_PAYLOAD, Message, Name, NodeId, Refusal};
+use urb_names::{ClientId, Config, Flags, MAX_PAYLOAD, Message, Name, NodeId, Packet, Refusal};
 use urb_stable::{Draft, MemStable, Receipt, Record, Stable};
 use urb_stubborn::Outbox;
 
@@ -42,22 +48,6 @@ fn message<A: Allocator + Copy>(alloc: A, number: u32, payload: &[u8]) -> Result
     Ok(Message::copied(alloc, client(7)?, number, payload)?)
 }
 
-/// Which record was drafted.
-#[derive(Clone, Copy, Debug, PartialEq, Eq)]
-enum Form {
-    Pending,
-    Certified,
-    Certificate,
-}
-
-fn form_of<A: Allocator>(record: &Record<Message<A>>) -> Form {
-    match record {
-        Record::Pend(_, _) => Form::Pending,
-        Record::PendCert(_, _) => Form::Certified,
-        Record::Cert(_) => Form::Certificate,
-    }
-}
-
 // A record about a message of client 7, which has the number of its name.
 fn record_of<A: Allocator + Copy>(
     calm: A,
@@ -71,53 +61,6 @@ fn record_of<A: Allocator + Copy>(
         Form::Certified => Record::PendCert(named, sent),
         Form::Certificate => Record::Cert(named),
     })
-}
-
-/// What a call led to.
-#[derive(Debug, Drop, PartialEq, Eq)]
-enum Led {
-    Same(Answer),
-    Refused(Refusal),
-    /// A record of this form and name was drafted, and then stored.
-    Stored(Form, Name),
-}
-
-/// A call of a node with a message of client 7.
-#[derive(Clone, Copy, Debug)]
-enum Call {
-    /// A submit of the message with this number.
-    Submit(u32),
-    /// A packet from this node.
-    Arrive(u8),
-}
-
-/// What a call is to lead to.
-#[derive(Clone, Copy)]
-enum What {
-    Accepted,
-    Noted,
-    Again,
-    TooLong,
-    Conflict,
-    Gap(u32),
-    Full,
-    Stored(Form),
-}
-
-/// A call with its payload, and what it is to lead to, of which name.
-type Row = (Call, &'static [u8], What, (u8, u32));
-
-fn expected(what: What, named: Name) -> Led {
-    match what {
-        What::Accepted => Led::Same(Answer::Accepted(named)),
-        What::Noted => Led::Same(Answer::Noted(named)),
-        What::Again => Led::Same(Answer::Again(named)),
-        What::TooLong => Led::Refused(Refusal::TooLong),
-        What::Conflict => Led::Refused(Refusal::Conflict),
-        What::Gap(next) => Led::Refused(Refusal::Gap(next)),
-        What::Full => Led::Refused(Refusal::Full),
-        What::Stored(form) => Led::Stored(form, named),
-    }
 }
 
 /// A ready node and its store. The node has one heap; its store, and the packets that come to it, have a calm one.
@@ -134,13 +77,13 @@ fn arrive<A: Allocator + Copy>(
     ready: Ready<A>,
     heap: A,
     calm: A,
-    source: u8,
+    (source, flags): Origin,
     named: Name,
     payload: &[u8],
 ) -> Result<Result<Step<A>, (Ready<A>, Refusal)>, Fail> {
     let (target, _config) = place(&ready);
     let sent = message(calm, named.seq, payload)?;
-    let bytes = bytes_of(calm, node(source)?, target, named, &sent)?;
+    let bytes = bytes_of(calm, node(source)?, target, named, &sent, flags)?;
     let packet = packet_of(&bytes)?;
     check(&ready, &packet, &sent)?;
     Ok(ready.arrive(heap, packet))
@@ -171,11 +114,11 @@ fn submitted<A: Allocator + Copy>(
 fn arrived<A: Allocator + Copy>(
     ready: Ready<A>,
     calm: A,
-    source: u8,
+    from: Origin,
     named: Name,
     payload: &[u8],
 ) -> Result<(Storing<A>, Draft<A>), Fail> {
-    match arrive(ready, calm, calm, source, named, payload)? {
+    match arrive(ready, calm, calm, from, named, payload)? {
         Ok(step) => draft_of(step),
         Err((_ready, _refusal)) => Err(Fail::from("the packet is refused")),
     }
@@ -249,7 +192,10 @@ impl<A: Allocator + Copy> Tested<A> {
     ) -> Result<(Tested<A>, Led), Fail> {
         let mut store = store;
         let (ready, led) = match step {
-            Step::Same(ready, answer) => (ready, Led::Same(answer)),
+            Step::Same(ready, answer) => {
+                let led = led_by(&ready, &answer)?;
+                (ready, led)
+            }
             Step::Store(storing, draft) => {
                 let led = Led::Stored(form_of(draft.entry()), draft.entry().name());
                 let (ready, _done) = confirmed(storing, draft.keep(&mut store)?)?;
@@ -288,14 +234,14 @@ impl<A: Allocator + Copy> Tested<A> {
     }
 
     // A packet from this node comes.
-    fn arrive(self, source: u8, named: Name, payload: &[u8]) -> Result<(Tested<A>, Led), Fail> {
+    fn arrive(self, from: Origin, named: Name, payload: &[u8]) -> Result<(Tested<A>, Led), Fail> {
         let Tested {
             ready,
             store,
             heap,
             calm,
         } = self;
-        match arrive(ready, heap, calm, source, named, payload)? {
+        match arrive(ready, heap, calm, from, named, payload)? {
             Ok(step) => Tested::stored(step, store, heap, calm),
             Err((ready, refusal)) => {
                 let tested = Tested {
@@ -312,7 +258,8 @@ impl<A: Allocator + Copy> Tested<A> {
     fn make(self, call: Call, payload: &[u8], named: Name) -> Result<(Tested<A>, Led), Fail> {
         match call {
             Call::Submit(number) => self.submit(number, payload),
-            Call::Arrive(source) => self.arrive(source, named, payload),
+            Call::Arrive(source) => self.arrive((source, None), named, payload),
+            Call::Tell(source, flags) => self.arrive((source, Some(flags)), named, payload),
         }
     }
 
@@ -329,6 +276,7 @@ impl<A: Allocator + Copy> Tested<A> {
         }
         Ok(tested)
     }
+
     // A crash, and a restart with the records of the store.
     fn restart(self) -> Result<Tested<A>, Fail> {
         let Tested {

@@ -1,17 +1,15 @@
 -- How many pairs there can be.
-use Rattle.std.proofs.Common.{◌≡◌, ℕ, suc, ◌+◌, ◌*◌, ◌<◌, ◌≤◌, Bool, true, false, cond, ◌&&◌, ◌==◌, List, [], ◌∷◌, length, ⊎_elim, arith, eqb-true, ltb-true, nat_lt, count_by, Fits, w32}
+use Rattle.std.proofs.Common.{◌≡◌, ℕ, suc, ◌+◌, ◌*◌, ◌<◌, ◌≤◌, true, ◌&&◌, ◌==◌, List, [], ◌∷◌, length, ⊎_elim, arith, eqb-true, ltb-true, nat_lt, Fits, w32}
 use Rattle.std.specs.Prelude.{nat_le}
 use Rattle.std.specs.List.{list_all}
 use Rattle.std.proofs.Math.Nat.{suc-mul, mul-le-mul_right}
 use Rattle.std.proofs.lemmas.Nat.{mul-le}
 use Rattle.std.proofs.lemmas.Bool.{and_parts, or_cases, leb-true}
-use Rattle.std.proofs.lemmas.List.Sums.{sum_by-cons}
 use Rattle.urb_names.specs.Cyclic.{are_rising}
 use Rattle.urb_names.specs.Naming.{Limits, Label, Content}
 use Rattle.urb_names.specs.Nodes.{is_node}
 use Rattle.urb_names.specs.Names.{name_lt}
 use Rattle.urb_pending.specs.PendingSet.{PendingSet, IsPendingSet, is_within}
-use Rattle.urb_pending.proofs.Mine.{is_of, length-own}
 
 -- a name within the limits
 record InRange (limits : Limits) (x : Label) : Type 0 where
@@ -79,23 +77,3 @@ pub length_fits : (set : PendingSet) → IsPendingSet set → Fits w32 (length s
 length_fits set h =
     let most : set.limits.n * set.limits.cap ≤ 7 * 1000000 = mul-le set.limits.n set.limits.cap 7 1000000 h.limits.1 h.limits.3 in
     omega (arith, length_bounded set h, most)
-
-one_more : (a b : Bool) (m n : ℕ) → m ≤ n → cond (a && b) 1 0 + m ≤ cond a 1 0 + n
-one_more true true m n h = omega arith
-one_more true false m n h = omega arith
-one_more false b m n h = omega arith
-
--- the messages of a client are no more than the sender's
-pub clients_bounded : (s client : ℕ) (ps : List (Label × Content)) → count_by (λ pair. is_of s pair && (pair.1.client == client)) ps ≤ count_by (is_of s) ps
-clients_bounded s client [] = omega arith
-clients_bounded s client (p ∷ ps) = rw (sum_by-cons, sum_by-cons) (one_more (is_of s p) (p.1.client == client) _ _ (clients_bounded s client ps))
-
--- the node's own messages are no more than cap
-pub own_bounded : (set : PendingSet) → IsPendingSet set → count_by (is_of set.node) set.pairs ≤ set.limits.cap
-own_bounded set h = omega (arith, length-own set.node set.pairs, h.capped)
-
-pub own_fits : (set : PendingSet) → IsPendingSet set → Fits w32 (count_by (is_of set.node) set.pairs)
-own_fits set h = omega (arith, own_bounded set h, h.limits.3)
-
-pub clients_fit : (set : PendingSet) (client : ℕ) → IsPendingSet set → Fits w32 (count_by (λ pair. is_of set.node pair && (pair.1.client == client)) set.pairs + 1)
-clients_fit set client h = omega (arith, own_bounded set h, clients_bounded set.node client set.pairs, h.limits.3)

@@ -3,3 +3,8 @@ pub mod Mine
 pub mod Bounded
 pub mod Turned
 pub mod Kept
+pub mod Rows
+pub mod Index
+pub mod Changed
+pub mod Looked
+pub mod Indexed

@@ -1,19 +1,16 @@
 -- A sender's own pairs among pairs in order.
-use Rattle.std.proofs.Common.{◌≡◌, ℕ, zero, suc, ◌+◌, ◌<◌, ◌≤◌, Bool, true, false, cond, not, ◌&&◌, ◌==◌, List, [], ◌∷◌, ◌++◌, map, filter, length, count_by, None, Some, refl, sym, ap, ◌∙◌, subst, arith, eq-eqb, lt-ltb, nat_lt}
-use Rattle.std.specs.Prelude.{find, option_map}
-use Rattle.std.specs.List.{list_all, position_or_len}
+use Rattle.std.proofs.Common.{◌≡◌, ℕ, zero, suc, ◌+◌, ◌<◌, ◌≤◌, Bool, true, false, cond, ◌&&◌, ◌==◌, List, [], ◌∷◌, ◌++◌, map, filter, length, None, Some, refl, sym, ap, ◌∙◌, subst, arith, eq-eqb, lt-ltb, nat_lt}
+use Rattle.std.specs.List.{list_all}
 use Rattle.std.proofs.lemmas.Bool.{and_parts, and_from, false≢true, cond-true, cond-false, or_right}
-use Rattle.std.proofs.lemmas.List.{map-append, length-map}
-use Rattle.std.proofs.lemmas.List.Sums.{length-filter, sum_by-cons}
+use Rattle.std.proofs.lemmas.List.{map-append}
 use Rattle.std.proofs.lemmas.List.Folds.{list_all-map}
 use Rattle.urb_names.specs.Naming.{Label, Content}
 use Rattle.urb_names.specs.Nodes.{numbers_from}
 use Rattle.urb_names.specs.Names.{name, names, name_lt, same_name}
 use Rattle.urb_names.specs.Release.{part_of}
-use Rattle.urb_names.specs.Pairs.{own, message_of, is_numbered}
+use Rattle.urb_names.specs.Pairs.{own, message_of}
 use Rattle.urb_names.specs.Cyclic.{are_rising, inserted}
 use Rattle.urb_names.proofs.SameNames.{same_name-true}
-use Rattle.urb_pending.specs.PendingSet.{name_given}
 use Rattle.urb_names.proofs.RisingPairs.{name_lt-trans}
 use Rattle.urb_pending.proofs.Ordered.{not_before_itself}
 
@@ -41,10 +38,6 @@ part_mine s (p ∷ ps) = step (part_mine s ps) (p.0.sender == s)
         → cond b (p.0 ∷ part_of s (map (λ pair. pair.0) ps)) (part_of s (map (λ pair. pair.0) ps)) ≡ map (λ pair. pair.0) (cond b (p ∷ mine s ps) (mine s ps))
     step ih true = ap (λ xs. p.0 ∷ xs) ih
     step ih false = ih
-
--- how many are the sender's
-pub length-own : (s : ℕ) (ps : List (Label × Content)) → length (own s ps) ≡ count_by (is_of s) ps
-length-own s ps = ap length (own_mine s ps) ∙ (length-map (mine s ps) (λ (pair : Label × Content). pair.1) ∙ length-filter (is_of s) ps)
 
 -- another sender's pair is none of them
 pub mine_other : (s : ℕ) (p : Label × Content) (ps : List (Label × Content)) → is_of s p ≡ false → mine s (inserted p ps) ≡ mine s ps
@@ -145,62 +138,3 @@ pub mine_before : (s : ℕ) (ps : List (Label × Content)) (next : ℕ) → part
 mine_before s ps next e h =
     sym (list_all-map (λ x. name_lt x (name s next)) (λ (q : Label × Content). q.0) (mine s ps))
     ∙ subst (λ xs. list_all (λ x. name_lt x (name s next)) xs ≡ true) (sym e ∙ part_mine s ps) (before_next s 1 (length (own s ps)) next (omega arith))
-
--- ---- clients
-
--- the messages of a client among the sender's
-pub count-own : (s client : ℕ) (ps : List (Label × Content)) → count_by (λ pair. is_of s pair && (pair.1.client == client)) ps ≡ count_by (λ m. m.client == client) (own s ps)
-count-own s client [] = refl
-count-own s client (p ∷ ps) = sum_by-cons (λ pair. cond (is_of s pair && (pair.1.client == client)) 1 0) p ps ∙ step (count-own s client ps) (is_of s p)
-  where
-    step : count_by (λ pair. is_of s pair && (pair.1.client == client)) ps ≡ count_by (λ m. m.client == client) (own s ps) → (b : Bool)
-        → cond (b && (p.1.client == client)) 1 0 + count_by (λ pair. is_of s pair && (pair.1.client == client)) ps ≡ count_by (λ m. m.client == client) (cond b (p.1 ∷ own s ps) (own s ps))
-    step ih true = ap (λ n. cond (p.1.client == client) 1 0 + n) ih ∙ sym (sum_by-cons (λ m. cond (m.client == client) 1 0) p.1 (own s ps))
-    step ih false = omega (arith, ih)
-
--- ---- a message by its number
-
-find_mine : (s : ℕ) (test : Content → Bool) (ps : List (Label × Content)) → find (λ pair. is_of s pair && test pair.1) ps ≡ find (λ pair. test pair.1) (mine s ps)
-find_mine s test [] = refl
-find_mine s test (p ∷ ps) = step (find_mine s test ps) (is_of s p)
-  where
-    step : find (λ pair. is_of s pair && test pair.1) ps ≡ find (λ pair. test pair.1) (mine s ps) → (b : Bool)
-        → cond (b && test p.1) (Some p) (find (λ pair. is_of s pair && test pair.1) ps) ≡ find (λ pair. test pair.1) (cond b (p ∷ mine s ps) (mine s ps))
-    step ih true = ap (λ o. cond (test p.1) (Some p) o) ih
-    step ih false = ih
-
-find_names : (s first : ℕ) (test : Content → Bool) (ps : List (Label × Content)) → map (λ pair. pair.0) ps ≡ map (name s) (numbers_from first (length ps))
-    → option_map (λ pair. pair.0) (find (λ pair. test pair.1) ps) ≡ option_map (λ m. name s (first + position_or_len test (map (λ pair. pair.1) ps))) (find test (map (λ pair. pair.1) ps))
-find_names s first test [] e = refl
-find_names s first test (p ∷ ps) e = step (find_names s (suc first) test ps) (test p.1)
-  where
-    step : (map (λ pair. pair.0) ps ≡ map (name s) (numbers_from (suc first) (length ps))
-        → option_map (λ pair. pair.0) (find (λ pair. test pair.1) ps) ≡ option_map (λ m. name s (suc first + position_or_len test (map (λ pair. pair.1) ps))) (find test (map (λ pair. pair.1) ps)))
-        → (b : Bool)
-        → option_map (λ pair. pair.0) (cond b (Some p) (find (λ pair. test pair.1) ps))
-        ≡ option_map (λ m. name s (first + cond (not b) (1 + position_or_len test (map (λ pair. pair.1) ps)) 0)) (cond b (Some p.1) (find test (map (λ pair. pair.1) ps)))
-    step ih true = let head : p.0 ≡ name s first = cc in ap Some (head ∙ ap (name s) (at first))
-      where
-        at : (n : ℕ) → n ≡ n + 0
-        at n = omega arith
-    step ih false =
-        let tail : map (λ pair. pair.0) ps ≡ map (name s) (numbers_from (suc first) (length ps)) = cc in
-        ih tail ∙ ap (λ n. option_map (λ m. name s n) (find test (map (λ pair. pair.1) ps))) (at first (position_or_len test (map (λ pair. pair.1) ps)))
-      where
-        at : (m n : ℕ) → suc m + n ≡ m + (1 + n)
-        at m n = omega arith
-
--- where own names are numbered 1, 2, 3, .., a message's name is told by its place
-pub find_own : (s client number : ℕ) (ps : List (Label × Content)) → part_of s (map (λ pair. pair.0) ps) ≡ names s (length (own s ps))
-    → option_map (λ pair. pair.0) (find (λ pair. is_of s pair && is_numbered client number pair.1) ps) ≡ name_given s client number (own s ps)
-find_own s client number ps e =
-    ap (option_map (λ (pair : Label × Content). pair.0)) (find_mine s (is_numbered client number) ps)
-    ∙ (find_names s 1 (is_numbered client number) (mine s ps) numbered
-    ∙ (ap (λ n. option_map (λ m. name s n) (find (is_numbered client number) (map (λ pair. pair.1) (mine s ps)))) (at (position_or_len (is_numbered client number) (map (λ pair. pair.1) (mine s ps))))
-    ∙ ap (name_given s client number) (sym (own_mine s ps))))
-  where
-    at : (n : ℕ) → 1 + n ≡ suc n
-    at n = omega arith
-
-    numbered : map (λ pair. pair.0) (mine s ps) ≡ names s (length (mine s ps))
-    numbered = sym (part_mine s ps) ∙ (e ∙ ap (names s) (ap length (own_mine s ps) ∙ length-map (mine s ps) (λ (pair : Label × Content). pair.1)))

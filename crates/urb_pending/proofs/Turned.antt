@@ -1,10 +1,10 @@
 -- Cyclic order of names: the next one.
-use Rattle.std.proofs.Common.{◌≡◌, Bool, true, false, cond, not, List, [], ◌∷◌, ◌++◌, filter, Some, refl, ◌∙◌}
+use Rattle.std.proofs.Common.{◌≡◌, Bool, true, false, cond, not, List, [], ◌∷◌, ◌++◌, filter, None, Some, refl, ◌∙◌}
 use Rattle.std.specs.Prelude.{find, option_map}
 use Rattle.std.specs.Option.{option_or}
 use Rattle.urb_names.specs.Naming.{Label, Content}
 use Rattle.urb_names.specs.Names.{name_lt}
-use Rattle.urb_names.specs.Cyclic.{cyclic}
+use Rattle.urb_names.specs.Cyclic.{cyclic, is_after}
 use Rattle.urb_pending.specs.PendingSet.{first_name}
 
 -- the first that passes, or else the first of the rest, is the first where those that pass go in front of the rest
@@ -34,3 +34,22 @@ first_of_rest test (p ∷ ps) = step (test p)
 pub first_cyclic : (cursor : Label) (ps : List (Label × Content)) → option_or (option_map (λ pair. pair.0) (find (λ pair. name_lt cursor pair.0) ps)) (first_name ps) ≡ first_name (cyclic (Some cursor) ps)
 first_cyclic cursor ps =
     first_of_rest (λ pair. name_lt cursor pair.0) ps ∙ first_in_front (λ pair. name_lt cursor pair.0) ps (filter (λ pair. not (name_lt cursor pair.0)) ps)
+
+-- without a cursor the first of all comes first
+pub whole_cycle : (ps : List (Label × Content)) → first_name ps ≡ first_name (cyclic None ps)
+whole_cycle [] = refl
+whole_cycle (p ∷ ps) = refl
+
+-- the first that passes
+pub first_passing : (test : Label × Content → Bool) (ps : List (Label × Content)) → option_map (λ pair. pair.0) (find test ps) ≡ first_name (filter test ps)
+first_passing test [] = refl
+first_passing test (p ∷ ps) = step (first_passing test ps) (test p)
+  where
+    step : option_map (λ pair. pair.0) (find test ps) ≡ first_name (filter test ps) → (b : Bool) → option_map (λ pair. pair.0) (cond b (Some p) (find test ps)) ≡ first_name (cond b (p ∷ filter test ps) (filter test ps))
+    step ih true = refl
+    step ih false = ih
+
+-- without a cursor all are behind it
+pub all_behind_none : (ps : List (Label × Content)) → first_name ps ≡ first_name (filter (λ pair. is_after None pair.0) ps)
+all_behind_none [] = refl
+all_behind_none (p ∷ ps) = refl

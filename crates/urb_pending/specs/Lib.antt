@@ -1,1 +1,4 @@
 pub mod PendingSet
+pub mod Rows
+pub mod ClientIndex
+pub mod Kept

@@ -1,36 +1,40 @@
 //! The set of pending pairs, each a name with its message.
 
-ghost use Rattle.std.specs.Prelude.{◌≡◌, ◌≤◌, ◌+◌, ◌*◌, ◌&&◌, ◌==◌, [], suc, length, count_by, find, not, IsTrue, IsOk, OnOk, OnErr, IfErr, None, Some, option_map, slice_get};
-ghost use Rattle.std.specs.List.{list_any, prefix_len};
-ghost use Rattle.urb_names.specs.Names.{name_lt, same_name, same_message};
-ghost use Rattle.urb_names.specs.Pairs.{has_pair, message_of, own, is_numbered, next_number};
+ghost use Rattle.std.specs.Prelude.{◌≡◌, ◌≤◌, ◌+◌, ◌*◌, ◌&&◌, ◌==◌, [], length, IsOk, OnOk, OnErr, IfErr, None, Some, option_map, slice_get, filter};
+ghost use Rattle.urb_names.specs.Names.{same_message};
+ghost use Rattle.urb_names.specs.Pairs.{has_pair, message_of, own, next_number};
 ghost use Rattle.urb_names.specs.Cyclic.{cyclic, is_after};
-ghost use Rattle.urb_pending.specs.PendingSet.{PendingSet, IsPendingSet, added, name_given, first_name};
+ghost use Rattle.urb_window.specs.Entries.{above_of, low_of, window_of};
+ghost use Rattle.urb_pending.specs.PendingSet.{IsPendingSet, added, name_given, first_name};
 
+use crate::clients::Clients;
 use std::alloc::{Allocator, Global};
 use std::marker::Model;
 use urb_names::{ClientId, Config, Message, Name, NoMemory, NodeId};
+use urb_window::Windows;
 
-/// The pending messages of a node, each under its name.
+/// The pending messages of a node, each under its name: for each sender those of its numbers 1, 2, 3, .. without a gap lie in
+/// one vector, and those above the gap apart.
 #[derive(Drop)]
 #[derive_where(Debug)]
 pub struct Pending<A: Allocator = Global> {
     config: Config,
     node: NodeId,
-    pairs: Vec<(Name, Message<A>), A>,
+    windows: Windows<Message<A>, A>,
+    clients: Clients<A>,
     reserved: Option<(Name, ClientId)>,
 }
 
 impl<A: Allocator> Model for Pending<A> {
-    ghost use Rattle.std.specs.Prelude.{◌<◌, vec_len, vec_capacity};
-    ghost use Rattle.std.specs.Option.{OnSome};
-    ghost use Rattle.urb_pending.specs.PendingSet.{PendingSet, IsPendingSet};
+    ghost use Rattle.urb_pending.specs.PendingSet.{PendingSet};
 
     ghost Value = { PendingSet };
 
-    ghost view = { λ a. record { limits = a.config; node = a.node; pairs = a.pairs.items; reserved = a.reserved } };
+    ghost use Rattle.urb_pending.specs.Kept.{view_of, IsKept};
 
-    ghost invariant = { λ a. IsPendingSet (record { limits = a.config; node = a.node; pairs = a.pairs.items; reserved = a.reserved }) × OnSome a.reserved (vec_len a.pairs < vec_capacity a.pairs) };
+    ghost view = { view_of };
+
+    ghost invariant = { IsKept };
 }
 
 impl<A: Allocator + Copy> Pending<A> {
@@ -41,18 +45,21 @@ impl<A: Allocator + Copy> Pending<A> {
         Pending {
             config,
             node,
-            pairs: Vec::new(alloc),
+            windows: Windows::new(alloc),
+            clients: Clients::new(alloc),
             reserved: None,
         }
     }
 
-    /// Makes room for a message of this client under this name, so that its `add` takes no memory. The room is kept until
-    /// the next `add` or `reserve`.
+    /// Makes room for a message of this client under this name, so that its `add` takes no memory, also where it closes a
+    /// gap. The room is kept until the next `add` or `reserve`.
     pub fn reserve(&mut self, name: Name, client: ClientId) -> Result<(), NoMemory>
         ensures ok { OnOk result (self.new ≡ record self.old { reserved = Some (name, client) }) }
         ensures err { OnErr result (self.new ≡ self.old) }
     {
-        self.pairs.reserve(1)?;
+        let own = name.sender == self.node;
+        self.clients.make_room_where(own, client)?;
+        self.windows.reserve(name)?;
         self.reserved = Some((name, client));
         Ok(())
     }
@@ -71,41 +78,39 @@ impl<A: Allocator + Copy> Pending<A> {
         ensures reserved { self.old.reserved ≡ Some (name, message.client) → IsOk result }
     {
         name.limits();
-        let at = place_of(&self.pairs, name);
-        match self.pairs.insert(at, (name, message)) {
-            Ok(()) => {
-                self.reserved = None;
-                Ok(())
-            }
-            Err(refused) => Err((refused.value.1, NoMemory)),
+        let own = name.sender == self.node;
+        let client = message.client();
+        if self.clients.make_room_where(own, client).is_err() {
+            return Err((message, NoMemory));
         }
+        self.windows.insert(name, message)?;
+        self.clients.add_where(own, client, name.seq);
+        self.reserved = None;
+        Ok(())
     }
 
     /// Whether this message is pending under this name.
     pub fn has(&self, name: &Name, message: &Message<A>) -> bool
         ensures { result ≡ has_pair self.now.pairs name.now message.now }
     {
-        self.pairs.iter().any(|pair| is_pair(pair, *name, message))
+        match self.windows.get(*name) {
+            Some(there) => there.is_same(message),
+            None => false,
+        }
     }
 
     /// The message that is pending under a name.
     pub fn message(&self, name: Name) -> Option<&Message<A>>
         ensures { option_map (λ m. m.now) result ≡ message_of self.now.pairs name }
     {
-        for pair in &self.pairs {
-            if pair.0 == name {
-                return Some(&pair.1);
-            }
-        }
-        None
+        self.windows.get(name)
     }
 
     /// The pending message at a place in the order of names, from 0, with its name.
     pub fn get(&self, index: usize) -> Option<(Name, &Message<A>)>
         ensures { option_map (λ pair. (pair.0, pair.1.now)) result ≡ slice_get self.now.pairs index }
     {
-        let pair = self.pairs.get(index)?;
-        Some((pair.0, &pair.1))
+        self.windows.entry(index)
     }
 
     /// How many messages are pending.
@@ -113,7 +118,7 @@ impl<A: Allocator + Copy> Pending<A> {
         ensures value { result ≡ length self.now.pairs }
         ensures range { result ≤ self.now.limits.n * self.now.limits.cap }
     {
-        self.pairs.len() as u32
+        self.windows.count() as u32
     }
 
     /// How many messages the node itself has broadcast.
@@ -121,21 +126,23 @@ impl<A: Allocator + Copy> Pending<A> {
         ensures value { result ≡ length (own self.now.node self.now.pairs) }
         ensures range { result ≤ self.now.limits.cap }
     {
-        own_count(&self.pairs, self.node) as u32
+        self.windows.low(self.node)
     }
 
     /// The number that a client is to give its next message at this node, from 1.
     pub fn client_next(&self, client: ClientId) -> u32
         ensures { result ≡ next_number client (own self.now.node self.now.pairs) }
     {
-        client_count(&self.pairs, self.node, client) as u32 + 1
+        self.clients.count(client) as u32 + 1
     }
 
     /// The name that the node gave the message that this client has numbered so.
     pub fn find(&self, client: ClientId, number: u32) -> Option<Name>
         ensures { result ≡ name_given self.now.node client number (own self.now.node self.now.pairs) }
     {
-        name_numbered(&self.pairs, self.node, client, number)
+        let seq = self.clients.find(client, number)?;
+        let sender = self.node;
+        Some(Name { sender, seq })
     }
 
     /// The next pending name after a cursor, and behind the last one the first again. `None` only where nothing is pending.
@@ -143,112 +150,46 @@ impl<A: Allocator + Copy> Pending<A> {
         ensures { result ≡ first_name (cyclic cursor self.now.pairs) }
     {
         match cursor {
-            None => first_of(&self.pairs),
-            Some(name) => first_after(&self.pairs, name).or(first_of(&self.pairs)),
+            None => self.windows.first(),
+            Some(name) => self.windows.after(name).or(self.windows.first()),
         }
+    }
+
+    /// The first pending name behind a cursor, without going round. `None` where none is behind it.
+    pub fn behind(&self, cursor: Option<Name>) -> Option<Name>
+        ensures { result ≡ first_name (filter (λ pair. is_after cursor pair.0) self.now.pairs) }
+    {
+        match cursor {
+            None => self.windows.first(),
+            Some(name) => self.windows.after(name),
+        }
+    }
+
+    /// How far the sender's names are pending from 1 on without a gap: the greatest k such that 1 to k are, or 0.
+    pub fn low(&self, sender: NodeId) -> u32
+        ensures { result ≡ low_of sender self.now.pairs }
+    {
+        self.windows.low(sender)
+    }
+
+    /// The messages of the sender's names 1 to `low` in order, lent as they stand.
+    pub fn window(&self, sender: NodeId) -> &[Message<A>]
+        ensures { result.now ≡ window_of sender self.now.pairs }
+    {
+        self.windows.window(sender)
+    }
+
+    /// How many of the sender's names are pending behind the first gap: those over `low`.
+    pub fn above(&self, sender: NodeId) -> u32
+        ensures { result ≡ above_of sender self.now.pairs }
+    {
+        self.windows.above(sender)
     }
 
     /// What holds of every pending set: for proofs alone, since it does nothing.
     pub fn limits(&self)
         ensures { IsPendingSet self.now }
     {
-        let _pairs = &self.pairs;
+        let _windows = &self.windows;
     }
-}
-
-fn is_before(name: Name, other: Name) -> bool
-    ensures { result ≡ name_lt name other }
-{
-    name < other
-}
-
-fn is_pair<A: Allocator + Copy>(pair: &(Name, Message<A>), name: Name, message: &Message<A>) -> bool
-    ensures { result ≡ (same_name pair.now.0 name && same_message pair.now.1 message.now) }
-{
-    pair.0 == name && pair.1.is_same(message)
-}
-
-fn is_own<A: Allocator>(pair: &(Name, Message<A>), node: NodeId) -> bool
-    ensures { result ≡ (pair.now.0.sender == node) }
-{
-    let name = pair.0;
-    name.sender == node
-}
-
-fn is_of_client<A: Allocator>(pair: &(Name, Message<A>), node: NodeId, client: ClientId) -> bool
-    ensures { result ≡ ((pair.now.0.sender == node) && (pair.now.1.client == client)) }
-{
-    is_own(pair, node) && pair.1.client() == client
-}
-
-fn is_numbered<A: Allocator>(
-    pair: &(Name, Message<A>),
-    node: NodeId,
-    client: ClientId,
-    number: u32,
-) -> bool
-    ensures { result ≡ ((pair.now.0.sender == node) && is_numbered client number pair.now.1) }
-{
-    is_of_client(pair, node, client) && pair.1.number() == number
-}
-
-// How many pairs are this sender's.
-fn own_count<A: Allocator>(pairs: &[(Name, Message<A>)], node: NodeId) -> usize
-    ensures { result ≡ count_by (λ pair. pair.0.sender == node) pairs.now }
-{
-    pairs.iter().filter(|pair| is_own(pair, node)).count()
-}
-
-// How many of them are of this client.
-fn client_count<A: Allocator>(pairs: &[(Name, Message<A>)], node: NodeId, client: ClientId) -> usize
-    ensures { result ≡ count_by (λ pair. (pair.0.sender == node) && (pair.1.client == client)) pairs.now }
-{
-    pairs
-        .iter()
-        .filter(|pair| is_of_client(pair, node, client))
-        .count()
-}
-
-// The name of the sender's first message with this client and number.
-fn name_numbered<A: Allocator>(
-    pairs: &[(Name, Message<A>)],
-    node: NodeId,
-    client: ClientId,
-    number: u32,
-) -> Option<Name>
-    ensures { result ≡ option_map (λ pair. pair.0) (find (λ pair. (pair.0.sender == node) && is_numbered client number pair.1) pairs.now) }
-{
-    pairs
-        .iter()
-        .find(|pair| is_numbered(pair, node, client, number))
-        .map(|pair| pair.0)
-}
-
-// How many names stand before this one.
-fn place_of<A: Allocator>(pairs: &[(Name, Message<A>)], name: Name) -> usize
-    ensures { result ≡ prefix_len (λ pair. name_lt pair.0 name) pairs.now }
-{
-    for (i, pair) in pairs.iter().enumerate() {
-        if !is_before(pair.0, name) {
-            return i;
-        }
-    }
-    pairs.len()
-}
-
-// The first name.
-fn first_of<A: Allocator>(pairs: &[(Name, Message<A>)]) -> Option<Name>
-    ensures { result ≡ first_name pairs.now }
-{
-    pairs.first().map(|pair| pair.0)
-}
-
-// The first name that stands behind this one.
-fn first_after<A: Allocator>(pairs: &[(Name, Message<A>)], name: Name) -> Option<Name>
-    ensures { result ≡ option_map (λ pair. pair.0) (find (λ pair. name_lt name pair.0) pairs.now) }
-{
-    pairs
-        .iter()
-        .find(|pair| is_before(name, pair.0))
-        .map(|pair| pair.0)
 }

@@ -2,6 +2,10 @@
 
 ghost use Rattle.std.specs.Prelude.{◌≡◌};
 
+mod growth;
+mod numbers;
+mod order;
+
 use super::*;
 use std::alloc::{Allocator, Global};
 use std::test::Fail;
@@ -11,7 +15,7 @@ use urb_refusing::Refusing;
 /// Refuses one growth.
 type Heap<'h> = &'h Refusing<Global>;
 
-const CAP: u32 = 20;
+const CAP: u32 = 40;
 
 fn node(number: u8) -> Result<NodeId, Fail> {
     Ok(NodeId::new(number).ok_or("a node")?)
@@ -84,152 +88,45 @@ impl<A: Allocator + Copy> Tested<A> {
     }
 }
 
-#[test]
-fn the_next_name_goes_round(rt: HostRuntime) -> Result<(), Fail> {
-    let alloc = rt.alloc();
-    let mut set = Tested::new(alloc, 3)?;
-    assert_eq!(rt; set.pending.after(None), None);
-    for (sender, seq) in [(2, 1), (1, 3), (1, 1)] {
-        let added = set.add(name(sender, seq)?, message(alloc, client(7)?, 1)?)?;
-        assert!(rt; added.is_ok());
-    }
-    assert_eq!(rt; set.pending.after(None), Some(name(1, 1)?));
-    for (from, to) in [((1, 1), (1, 3)), ((1, 2), (1, 3)), ((2, 1), (1, 1))] {
-        let next = set.pending.after(Some(name(from.0, from.1)?));
-        assert_eq!(rt; next, Some(name(to.0, to.1)?));
+// Adds a message of another node, numbered as its name is.
+fn add_other<A: Allocator + Copy>(set: &mut Tested<A>, alloc: A, name: Name) -> Result<(), Fail> {
+    let sent = message(alloc, client(7)?, name.seq)?;
+    if set.add(name, sent)?.is_err() {
+        return Err(Fail::from("a message was refused"));
     }
     Ok(())
 }
 
-#[test]
-fn own_messages_are_found_by_number(rt: HostRuntime) -> Result<(), Fail> {
-    let alloc = rt.alloc();
-    let mut set = Tested::new(alloc, 1)?;
-    for (sender, seq, of, number) in [
-        (2, 1, 7, 1),
-        (1, 1, 7, 1),
-        (1, 2, 8, 1),
-        (3, 5, 8, 2),
-        (1, 3, 7, 2),
-    ] {
-        set.pending.reserve(name(sender, seq)?, client(of)?)?;
-        let added = set.add(name(sender, seq)?, message(alloc, client(of)?, number)?)?;
-        assert!(rt; added.is_ok());
-    }
-    let pending = &set.pending;
-    pending.limits();
-    assert_eq!(rt; pending.count(), 5);
-    assert_eq!(rt; pending.own_len(), 3);
-    for (of, next) in [(7, 3), (8, 2), (9, 1)] {
-        assert_eq!(rt; pending.client_next(client(of)?), next, "client {of}");
-    }
-    for (of, number, want) in [(7, 1, 1), (7, 2, 3), (8, 1, 2)] {
-        assert_eq!(rt;
-            pending.find(client(of)?, number),
-            Some(name(1, want)?),
-            "client {of}"
-        );
-    }
-    for (of, number) in [(7, 3), (8, 2), (9, 1)] {
-        assert_eq!(rt; pending.find(client(of)?, number), None, "client {of}");
-    }
-    let first = message(alloc, client(8)?, 1)?;
-    assert!(rt; pending.has(&name(1, 2)?, &first));
-    assert!(rt; !pending.has(&name(1, 1)?, &first));
-    let there = pending.message(name(1, 2)?).ok_or("1.2 is pending")?;
-    assert!(rt; there.is_same(&first));
-    assert!(rt; pending.message(name(1, 4)?).is_none());
-    Ok(())
-}
-
-// Whether the first names of node 2 are all that is pending, each with its number from the client.
-fn holds<'h>(
-    pending: &Pending<Heap<'h>>,
-    messages: Heap<'h>,
-    of: ClientId,
-    count: u32,
+// Whether a client's messages are those under these numbers of node 1, and its next number is the one behind them.
+fn is_numbered<A: Allocator + Copy>(
+    pending: &Pending<A>,
+    of: u16,
+    owns: &[u32],
 ) -> Result<bool, Fail> {
-    for before in 0..count {
-        let there = message(messages, of, before + 1)?;
-        if !pending.has(&name(2, before + 1)?, &there) {
+    let of = client(of)?;
+    let mut next: u32 = 1;
+    for &own in owns {
+        if pending.find(of, next) != Some(name(1, own)?) {
             return Ok(false);
         }
+        next = next.saturating_add(1);
     }
-    Ok(pending.count() == count)
+    Ok(pending.client_next(of) == next && pending.find(of, next).is_none())
 }
 
-// Reserves room for the next name; a refusal changes nothing, and the same call goes through.
-fn reserve_twice<'h>(
-    set: &mut Tested<Heap<'h>>,
-    heap: Heap<'h>,
-    messages: Heap<'h>,
-    of: ClientId,
-    before: u32,
-) -> Result<(), Fail> {
-    let next = name(2, before.saturating_add(1))?;
-    if set.pending.reserve(next, of).is_err() {
-        if !heap.met() || !holds(&set.pending, messages, of, before)? {
-            return Err(Fail::from("a refused reservation changed the set"));
-        }
-        set.pending.reserve(next, of)?;
-    }
-    Ok(())
+// What is told of a sender: how far its names go without a gap, how many are behind it, and how many are pending at all.
+fn told<A: Allocator + Copy>(pending: &Pending<A>, sender: NodeId) -> [u32; 3] {
+    [pending.low(sender), pending.above(sender), pending.count()]
 }
 
-// Adds the next name; a refusal changes nothing and gives the message back, and the same call goes through.
-fn add_twice<'h>(
-    set: &mut Tested<Heap<'h>>,
-    heap: Heap<'h>,
-    messages: Heap<'h>,
-    of: ClientId,
-    before: u32,
-) -> Result<(), Fail> {
-    let next = name(2, before.saturating_add(1))?;
-    let sent = message(messages, of, next.seq)?;
-    if let Err((back, NoMemory)) = set.add(next, sent)? {
-        if !heap.met() || !holds(&set.pending, messages, of, before)? {
-            return Err(Fail::from("a refused message changed the set"));
+// Whether a window has this many messages, with the client's numbers 1, 2, 3, ..
+fn is_counted<A: Allocator + Copy>(window: &[Message<A>], count: usize) -> bool {
+    let mut next = 1;
+    for message in window {
+        if message.number() != next {
+            return false;
         }
-        if set.add(next, back)?.is_err() {
-            return Err(Fail::from("the same message was refused again"));
-        }
+        next = next.saturating_add(1);
     }
-    Ok(())
-}
-
-// Adds as many names as there may be, with or without room reserved before; whether a growth was refused.
-fn adds_all<'h>(heap: Heap<'h>, messages: Heap<'h>, reserving: bool) -> Result<bool, Fail> {
-    let mut set = Tested::new(heap, 1)?;
-    let of = client(7)?;
-    for before in 0..CAP {
-        if reserving {
-            reserve_twice(&mut set, heap, messages, of, before)?;
-        }
-        let asked = heap.asked();
-        add_twice(&mut set, heap, messages, of, before)?;
-        if reserving && heap.asked() != asked {
-            return Err(Fail::from("a reserved name took memory"));
-        }
-    }
-    if !holds(&set.pending, messages, of, CAP)? {
-        return Err(Fail::from("a name is missing"));
-    }
-    Ok(heap.met())
-}
-
-#[test]
-fn a_refused_growth_changes_nothing(rt: HostRuntime) -> Result<(), Fail> {
-    let messages = Refusing::new(rt.alloc(), 0);
-    for reserving in [true, false] {
-        let mut met = 0;
-        for refused in 1..100 {
-            let heap = Refusing::new(rt.alloc(), refused);
-            if !adds_all(&heap, &messages, reserving)? {
-                break;
-            }
-            met = refused;
-        }
-        assert!(rt; 1 < met && met < 99, "{met} growths");
-    }
-    Ok(())
+    window.len() == count
 }

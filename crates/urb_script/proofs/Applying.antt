@@ -33,13 +33,12 @@ use Rattle.urb_node.specs.Part.{opened_node}
 use Rattle.urb_group.specs.Shown.{Shows}
 use Rattle.urb_group.specs.World.{started}
 use Rattle.urb_script.specs.declared.replies.Told.TheVariants as told
-use Rattle.std.proofs.lemmas.Bool.{cond-false}
 use Rattle.urb_names.specs.Naming.{Content, Label}
 use Rattle.urb_names.specs.Carried.{Carried}
 use Rattle.urb_names.specs.declared.refusal.PacketFault.{PacketFault}
-use Rattle.urb_names.specs.declared.refusal.PacketFault.TheVariants as fault
-use Rattle.urb_names.specs.Packets.{IsPacket, fields_at, judged, packet_of, spelling}
-use Rattle.urb_names.proofs.Parsed.{only}
+use Rattle.urb_names.specs.Packets.{IsPacket, packet_of, spelling}
+use Rattle.urb_names.specs.declared.flags.Flags.{Flags}
+use Rattle.urb_names.proofs.Parsed.{packet_spelled}
 use Rattle.urb_group.specs.Calls.{FindsMessage}
 use Rattle.urb_group.specs.Scripts.{or_nothing}
 use Rattle.urb_script.specs.Commands as lines
@@ -208,30 +207,21 @@ fails_from size old new p failure result said before text fresh t r = told_from 
 
 -- ---- packets of what a node has stored
 
-arrives_as : (scene after : Scene) (q p : ℕ) (x : Label) (bytes text : List ℕ) → packet_of bytes ≡ Ok (carried scene.world q p x) → Takes (Some scene) (lines.Raw p bytes) text after → Takes (Some scene) (lines.Arrive q p x) text after
-arrives_as scene after q p x bytes text e (inl t) = inl (t ∙ ap (λ (r : Result Carried PacketFault). happens (Arrive p r) scene) e)
-arrives_as scene after q p x bytes text e (inr t) = absurd t.1
+arrives_as : (scene after : Scene) (q p : ℕ) (x : Label) (flags : Option Flags) (bytes text : List ℕ) → packet_of bytes ≡ Ok (carried scene.world q p x flags) → Takes (Some scene) (lines.Raw p bytes) text after → Takes (Some scene) (lines.arrival q p x flags) text after
+arrives_as scene after q p x None bytes text e (inl t) = inl (t ∙ ap (λ (r : Result Carried PacketFault). happens (Arrive p r) scene) e)
+arrives_as scene after q p x (Some flags) bytes text e (inl t) = inl (t ∙ ap (λ (r : Result Carried PacketFault). happens (Arrive p r) scene) e)
+arrives_as scene after q p x flags bytes text e (inr t) = absurd t.1
 
-pub arrives_from : {E : Type 0} (size limits : Limits) (old new : Clustered Memory) (q p : ℕ) (x : Label) (found : Option Content) (bytes text : List ℕ) (result : Result (Unit {0}) E)
-    → FindsMessage old.group q x found → packet_of bytes ≡ Ok (record { source = q; target = p; name = x; message = or_nothing found })
-    → OnOk result ((scene : Scene) → ShowsScene size old scene → TakesTo limits new scene (lines.Raw p bytes) text) → OnOk result ((scene : Scene) → ShowsScene size old scene → TakesTo limits new scene (lines.Arrive q p x) text)
-arrives_from size limits old new q p x found bytes text (Ok done) finds e t = λ scene s.
+pub arrives_from : {E : Type 0} (size limits : Limits) (old new : Clustered Memory) (q p : ℕ) (x : Label) (flags : Option Flags) (found : Option Content) (bytes text : List ℕ) (result : Result (Unit {0}) E)
+    → FindsMessage old.group q x found → packet_of bytes ≡ Ok (record { source = q; target = p; name = x; message = or_nothing found; flags = flags })
+    → OnOk result ((scene : Scene) → ShowsScene size old scene → TakesTo limits new scene (lines.Raw p bytes) text) → OnOk result ((scene : Scene) → ShowsScene size old scene → TakesTo limits new scene (lines.arrival q p x flags) text)
+arrives_from size limits old new q p x flags found bytes text (Ok done) finds e t = λ scene s.
     let next = t scene s in
-    let is : packet_of bytes ≡ Ok (carried scene.world q p x) = e ∙ ap (λ (m : Option Content). let packet : Carried = record { source = q; target = p; name = x; message = or_nothing m } in Ok packet) (finds scene.world s.group) in
-    (next.0, next.1, arrives_as scene next.0 q p x bytes text is next.2)
-arrives_from size limits old new q p x found bytes text (Err fault) finds e t = tt
+    let is : packet_of bytes ≡ Ok (carried scene.world q p x flags) = e ∙ ap (λ (m : Option Content). let packet : Carried = record { source = q; target = p; name = x; message = or_nothing m; flags = flags } in Ok packet) (finds scene.world s.group) in
+    (next.0, next.1, arrives_as scene next.0 q p x flags bytes text is next.2)
+arrives_from size limits old new q p x flags found bytes text (Err fault) finds e t = tt
 
 -- what is spelled is that packet
-pub packet_spelled : (bytes : List ℕ) (p : Carried) → IsPacket p → bytes ≡ spelling p → packet_of bytes ≡ Ok p
-packet_spelled bytes p h is = cond-false (nat_lt (length bytes) 18) (Err fault.Short) (judged (fields_at bytes)) (ap (λ (bs : List ℕ). nat_lt (length bs) 18) is ∙ long p) ∙ only bytes p h is
-  where
-    long : (p : Carried) → nat_lt (length (spelling p)) 18 ≡ false
-    long p = at (nat_lt (length (spelling p)) 18) refl
-      where
-        at : (b : Bool) → nat_lt (length (spelling p)) 18 ≡ b → nat_lt (length (spelling p)) 18 ≡ false
-        at true e = absurd (omega (arith, ltb-true (length (spelling p)) 18 e))
-        at false e = e
-
 pub bytes_spelled : {V E : Type 0} (items : V → List ℕ) (result : Result V E) (packet p : Carried) → packet ≡ p → IsPacket packet → IfOk result (λ v. items v ≡ spelling packet) → IfOk result (λ v. packet_of (items v) ≡ Ok p)
 bytes_spelled items (Ok v) packet p e h is = packet_spelled (items v) packet h is ∙ ap (λ (c : Carried). Ok c) e
 bytes_spelled items (Err fault) packet p e h is = tt

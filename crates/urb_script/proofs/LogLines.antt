@@ -20,7 +20,7 @@ use Rattle.urb_group.specs.Safe.{Safe}
 use Rattle.urb_group.specs.Scripts.{Scene}
 use Rattle.urb_group.specs.Step.{Event, step}
 use Rattle.urb_group.specs.World.{World, stored}
-use Rattle.urb_script.specs.Commands.{Arrive, Command, Crash, Fail, Group, Held, Log, Raw, Reopen, Restart, Spells, Stored, Submit, Tick}
+use Rattle.urb_script.specs.Commands.{Arrive, ArriveFlagged, Command, Crash, Fail, Group, Held, Log, Raw, Reopen, Restart, Spells, Stored, Submit, Tick}
 use Rattle.urb_script.specs.LogLines.{LogsAgree, LogsAreSafe}
 use Rattle.urb_script.specs.Scripts.{Answers, StaysSafe}
 use Rattle.urb_script.specs.Steps.{Plays, Takes, answer, reopens, shown_log}
@@ -142,6 +142,7 @@ answer_grows scene (Crash p) k = event_grows scene _ k
 answer_grows scene (Restart p) k = event_grows scene _ k
 answer_grows scene Reopen k = reopen_grows scene (first_misfit scene.world.size scene.storage) k
 answer_grows scene (Arrive q p x) k = event_grows scene _ k
+answer_grows scene (ArriveFlagged q p x flags) k = event_grows scene _ k
 answer_grows scene (Raw p bytes) k = event_grows scene _ k
 answer_grows scene (Tick p) k = event_grows scene _ k
 answer_grows scene (Log p) k = grow_same scene.world

@@ -4,7 +4,10 @@ use Rattle.std.specs.Fmt.{decimal}
 use Rattle.std.proofs.lemmas.Fmt.{decimal_injective}
 use Rattle.std.specs.Str.{bytes_eq}
 use Rattle.std.specs.Prelude.{codes}
+use Rattle.urb_names.proofs.FlagNumbers.{number_below, same_flags}
 use Rattle.urb_names.specs.Naming.{Label, IsLabel}
+use Rattle.urb_names.specs.Packets.{flags_number}
+use Rattle.urb_names.specs.declared.flags.Flags.{Flags}
 use Rattle.urb_stable.specs.declared.memory.Failure.{Failure}
 use Rattle.urb_stable.specs.declared.memory.Failure.TheVariants.{Old, New}
 use Rattle.urb_script.specs.Lines.{words_of}
@@ -14,7 +17,7 @@ use Rattle.urb_script.proofs.HexWords.{same_bytes}
 use Rattle.urb_script.proofs.NameWords.{name_sender, name_seq}
 use Rattle.urb_script.proofs.Spellings.{test}
 use Rattle.urb_group.specs.Scripts.{Scene}
-use Rattle.urb_script.specs.Commands.{Command, Group, Submit, Stored, Fail, Crash, Restart, Arrive, Raw, Tick, Log, Held, Reopen, keyword, AreArguments, IsSpelled, InRange, Spells}
+use Rattle.urb_script.specs.Commands.{Command, Group, Submit, Stored, Fail, Crash, Restart, Arrive, ArriveFlagged, IsRoute, Raw, Tick, Log, Held, Reopen, keyword, AreArguments, IsSpelled, InRange, Spells}
 use Rattle.urb_script.specs.Steps.{Plays, MayCome, answer}
 use Rattle.urb_script.specs.Scripts.{Answers, Ends, IsBad, HasOneOutcome, bad_line}
 use Rattle.urb_script.specs.declared.runs.Ended.{Ended}
@@ -54,6 +57,15 @@ same_label x y l k e f =
 same_name : (x y : Label) → IsLabel x → IsLabel y → name_text x ≡ name_text y → x ≡ y
 same_name x y l k e = same_label x y l k (name_sender x y l k e) (name_seq x y l k e)
 
+-- the two nodes that a packet joins
+same_route : (f : ℕ → ℕ → Command) (source node q p : ℕ) → IsRoute source node → IsRoute q p → decimal source ≡ decimal q → decimal node ≡ decimal p → f source node ≡ f q p
+same_route f source node q p r s a b =
+    ap₂ f (same_number source q (omega (arith, r.source.1)) (omega (arith, s.source.1)) a) (same_number node p (omega (arith, r.node.1)) (omega (arith, s.node.1)) b)
+
+same_number_flags : (flags others : Flags) → decimal (flags_number flags) ≡ decimal (flags_number others) → flags ≡ others
+same_number_flags flags others e =
+    same_flags flags others (same_number (flags_number flags) (flags_number others) (omega (arith, number_below flags)) (omega (arith, number_below others)) e)
+
 same_arguments : (asked other : Command) (words : List (List ℕ)) → bytes_eq (keyword asked) (keyword other) ≡ true → InRange asked → InRange other → AreArguments asked words → AreArguments other words → asked ≡ other
 same_arguments (Group limits) (Group more) words k r s a b =
     let e = sym a ∙ b in
@@ -78,9 +90,13 @@ same_arguments Reopen Reopen words k r s a b = refl
 same_arguments Reopen other words k r s a b = absurd (cc)
 same_arguments (Arrive source node name) (Arrive q p x) words k r s a b =
     let e = sym a ∙ b in
-    ap₂ (λ (y z : ℕ). Arrive y z name) (same_number source q (omega (arith, r.0.1)) (omega (arith, s.0.1)) (word 0 e)) (same_number node p (omega (arith, r.1.1)) (omega (arith, s.1.1)) (word 1 e))
-    ∙ ap (λ (y : Label). Arrive q p y) (same_label name x r.3 s.3 (word 2 e) (word 3 e))
+    same_route (λ y z. Arrive y z name) source node q p r.0 s.0 (word 0 e) (word 1 e) ∙ ap (λ (y : Label). Arrive q p y) (same_label name x r.1 s.1 (word 2 e) (word 3 e))
 same_arguments (Arrive source node name) other words k r s a b = absurd (cc)
+same_arguments (ArriveFlagged source node name flags) (ArriveFlagged q p x others) words k r s a b =
+    let e = sym a ∙ b in
+    same_route (λ y z. ArriveFlagged y z name flags) source node q p r.0 s.0 (word 0 e) (word 1 e)
+    ∙ ap₂ (λ (y : Label) (f : Flags). ArriveFlagged q p y f) (same_label name x r.1 s.1 (word 2 e) (word 3 e)) (same_number_flags flags others (word 4 e))
+same_arguments (ArriveFlagged source node name flags) other words k r s a b = absurd (cc)
 same_arguments (Raw node bytes) (Raw p others) words k r s a b =
     let e = sym a.1 ∙ b.1 in
     ap₂ (λ (x : ℕ) (y : List ℕ). Raw x y) (same_number node p (omega (arith, r.1)) (omega (arith, s.1)) (word 0 e))

@@ -241,6 +241,7 @@ answer_kept scene (command.Crash p) k = quiet_kept scene (Crash p) tt k
 answer_kept scene (command.Restart p) k = restart_kept scene p k
 answer_kept scene command.Reopen k = reopen_kept scene k
 answer_kept scene (command.Arrive q p x) k = quiet_kept scene _ tt k
+answer_kept scene (command.ArriveFlagged q p x flags) k = quiet_kept scene _ tt k
 answer_kept scene (command.Raw p bytes) k = quiet_kept scene _ tt k
 answer_kept scene (command.Tick p) k = quiet_kept scene (Tick p) tt k
 answer_kept scene (command.Log p) k = k

@@ -3,11 +3,12 @@ use Rattle.std.proofs.Common.{◌≡◌, ◌⊎◌, inl, inr, ℕ, Bool, true, f
 use Rattle.std.specs.Prelude.{bytes_eq}
 use Rattle.std.proofs.lemmas.Bool.{cond_both, false≢true}
 use Rattle.urb_names.specs.Acknowledged.{acked, with_ack}
-use Rattle.urb_names.specs.Carried.{Carried}
+use Rattle.urb_names.specs.Carried.{Carried, says_certified}
 use Rattle.urb_names.specs.Names.{has_name}
 use Rattle.urb_names.specs.Naming.{Content, Label, Limits}
 use Rattle.urb_names.specs.Nodes.{is_node, majority_passes}
 use Rattle.urb_names.specs.Pairs.{is_numbered, message_of, next_number}
+use Rattle.urb_names.specs.declared.flags.Flags.{Flags}
 use Rattle.urb_names.specs.declared.refusal.PacketFault.{PacketFault}
 use Rattle.urb_names.specs.declared.refusal.Refusal.TheVariants as refusal
 use Rattle.urb_stable.specs.Entries.{Entry}
@@ -17,7 +18,7 @@ use Rattle.urb_stable.specs.Log.{log}
 use Rattle.urb_stable.specs.Storing.{IsContents}
 use Rattle.urb_node.specs.Part.{Down, Node, Ready, State, Storing}
 use Rattle.urb_node.specs.Replies.{Refused, Reply}
-use Rattle.urb_node.specs.Steps.{arrives, broadcast_after, comes_up, counts, crashes, doubt, fails, is_down, is_storing, keeps_record, restarts_with, same_list, same_names, same_pairs, says, submits, submits_by_number, submits_new, takes, ticks}
+use Rattle.urb_node.specs.Steps.{answers, arrives, broadcast_after, comes_up, counts, crashes, doubt, fails, hears, is_down, is_storing, keeps_record, restarts_with, same_list, same_names, same_pairs, says, submits, submits_by_number, submits_new, takes, ticks}
 use Rattle.urb_group.specs.World.{World, truthful, updated}
 use Rattle.urb_group.specs.Step.{Arrive, Commit, Crash, Event, Fail, Restart, Submit, Tick, at_node, bytes_arrive, is_for, packet_arrives, step, world_after}
 use Rattle.urb_script.specs.Staged.{IsHeldBy}
@@ -64,25 +65,43 @@ submit-quiet size p m node =
     (λ _. cond_both (nat_lt 1024 (length m.payload)) _ _ (Leaves node) (λ _. inl refl)
     (λ _. number-quiet size p m (find (is_numbered m.client m.number) node.broadcast) node up)))
 
-takes-quiet : (size : Limits) (p q : ℕ) (x : Label) (m : Content) (node : Node) → is_down node.state ≡ false → Leaves node (takes size p q x m node)
-takes-quiet size p q x m node up = cond_both (majority_passes size.n (λ z. (z == p) || (z == q))) _ _ (Leaves node) (λ _. inr (up, refl)) (λ _. inr (up, refl))
+takes-quiet : (size : Limits) (p q : ℕ) (x : Label) (m : Content) (flags : Option Flags) (node : Node) → is_down node.state ≡ false → Leaves node (takes size p q x m flags node)
+takes-quiet size p q x m flags node up = cond_both (majority_passes size.n (λ z. (z == p) || (z == q))) _ _ (Leaves node) (λ _. inr (up, refl)) (λ _. inr (up, refl))
 
-counts-quiet : (size : Limits) (q : ℕ) (x : Label) (node : Node) → is_down node.state ≡ false → Leaves node (counts size q x node)
-counts-quiet size q x node up =
+counts-quiet : (size : Limits) (q : ℕ) (x : Label) (flags : Option Flags) (node : Node) → is_down node.state ≡ false → Leaves node (counts size q x flags node)
+counts-quiet size q x flags node up =
     cond_both (majority_passes size.n (acked (with_ack node.acks x q) x)) _ _ (Leaves node) (λ _. inr (up, refl))
     (λ _. cond_both (acked node.acks x q) _ _ (Leaves node) (λ _. inr (up, refl)) (λ _. inr (up, refl)))
 
-arrive-quiet : (size : Limits) (p q : ℕ) (x : Label) (m : Content) (node : Node) → is_down node.state ≡ false → Leaves node (arrives size p q x m node)
-arrive-quiet size p q x m node up =
-    cond_both (is_none (message_of (pend node.records) x)) _ _ (Leaves node) (λ _. takes-quiet size p q x m node up)
-    (λ _. cond_both (not (has_name (cert node.records) x)) _ _ (Leaves node) (λ _. counts-quiet size q x node up) (λ _. inl refl))
+answers-quiet : (p q : ℕ) (x : Label) (m : Content) (flags : Option Flags) (node : Node) → Leaves node (answers p q x m flags node)
+answers-quiet p q x m None node = inl refl
+answers-quiet p q x m (Some flags) node = cond_both flags.heard _ _ (Leaves node) (λ _. inl refl) (λ _. inl refl)
+
+-- to hear of a certificate leaves the records and the state
+heard-records : (q : ℕ) (x : Label) (flags : Option Flags) (node : Node) → (hears q x flags node).records ≡ node.records
+heard-records q x flags node = cond_both (says_certified flags) _ _ (λ (told : Node). told.records ≡ node.records) (λ _. refl) (λ _. refl)
+
+heard-state : (q : ℕ) (x : Label) (flags : Option Flags) (node : Node) → (hears q x flags node).state ≡ node.state
+heard-state q x flags node = cond_both (says_certified flags) _ _ (λ (told : Node). told.state ≡ node.state) (λ _. refl) (λ _. refl)
+
+heard-quiet : (q : ℕ) (x : Label) (flags : Option Flags) (node new : Node) → is_down node.state ≡ false → Quiet (hears q x flags node) new → Quiet node new
+heard-quiet q x flags node new up (inl e) = inr (up, ap (λ (n : Node). n.records) e ∙ heard-records q x flags node)
+heard-quiet q x flags node new up (inr h) = inr (up, h.1 ∙ heard-records q x flags node)
+
+arrive-quiet : (size : Limits) (p q : ℕ) (x : Label) (m : Content) (flags : Option Flags) (node : Node) → is_down node.state ≡ false → Leaves node (arrives size p q x m flags node)
+arrive-quiet size p q x m flags node up =
+    let told = hears q x flags node in
+    cond_both (is_none (message_of (pend node.records) x)) _ _ (Leaves node) (λ _. takes-quiet size p q x m flags node up)
+    (λ _. cond_both (not (has_name (cert node.records) x)) (counts size q x flags told) (answers p q x m flags told) (Leaves node)
+    (λ _. heard-quiet q x flags node (counts size q x flags told).1 up (counts-quiet size q x flags told (ap is_down (heard-state q x flags node) ∙ up)))
+    (λ _. heard-quiet q x flags node (answers p q x m flags told).1 up (answers-quiet p q x m flags told)))
 
 packet-quiet : (w : World) (p : ℕ) (packet : Carried) → Leaves (w.node p) (packet_arrives w p packet)
 packet-quiet w p packet =
     cond_both (is_down (w.node p).state) _ _ (Leaves (w.node p)) (λ _. inl refl)
     (λ up. cond_both (is_storing (w.node p).state) _ _ (Leaves (w.node p)) (λ _. inl refl)
     (λ _. cond_both (not (truthful w packet)) _ _ (Leaves (w.node p)) (λ _. inl refl)
-    (λ _. arrive-quiet w.size p packet.source packet.name packet.message (w.node p) up)))
+    (λ _. arrive-quiet w.size p packet.source packet.name packet.message packet.flags (w.node p) up)))
 
 tick-quiet : (n p : ℕ) (node : Node) → Leaves node (ticks n p node)
 tick-quiet n p node =

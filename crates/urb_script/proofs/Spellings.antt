@@ -28,6 +28,10 @@ one_word word other rest words e s f = left_some rest s (cc)
 pub next_words : {words after others : List (List ℕ)} {one other : List ℕ} → words ≡ one ∷ after → words ≡ other ∷ others → after ≡ others
 next_words e f = cc
 
+-- and so are those after the first four
+pub words_behind : {words after others : List (List ℕ)} {a b c d w x y z : List ℕ} → words ≡ a ∷ b ∷ c ∷ d ∷ after → words ≡ w ∷ x ∷ y ∷ z ∷ others → after ≡ others
+words_behind e f = cc
+
 -- and so is the number that the first spells
 pub first_number : {words after others : List (List ℕ)} (m n : ℕ) → m ≤ 7 → n ≤ 7 → words ≡ decimal m ∷ after → words ≡ decimal n ∷ others → m ≡ n
 first_number m n l u e f = decimal_injective m n (omega (arith, l)) (omega (arith, u)) (ap (λ (words : List (List ℕ)). get_or words 0 []) (sym e ∙ f))

@@ -193,7 +193,7 @@ pub commit_node : (w : World) (p q : ℕ) (entry : Entry) (cause : Option Cause)
     → (step w (Commit p (next_position (w.node p)) entry)).1.node q ≡ updated w.node p (keeps_record p entry cause (w.node p)) q
 unfolding step
 commit_node w p q entry cause is state =
-    at_one w p q _ (Stored (done w.size.n p entry (w.node p)), keeps_record p entry cause (w.node p)) is
+    at_one w p q _ (Stored (done w.size.n p entry cause (w.node p)), keeps_record p entry cause (w.node p)) is
     (ap (λ (s : State). commits w.size.n p (next_position (w.node p)) entry (w.node p) s) state
     ∙ cond-true ((next_position (w.node p) == next_position (w.node p)) && same_record entry entry) _ _ (ap₂ (λ (a b : Bool). a && b) (eq-eqb (next_position (w.node p)) (next_position (w.node p)) refl) (same_record-same entry)))
 

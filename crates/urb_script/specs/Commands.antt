@@ -1,7 +1,9 @@
 -- What a line of a script asks for, and how it is spelled.
-use Rattle.std.specs.Prelude.{◌≡◌, ◌≢◌, ℕ, ◌≤◌, List, [], ◌∷◌, length, codes}
+use Rattle.std.specs.Prelude.{◌≡◌, ◌≢◌, ℕ, ◌≤◌, List, [], ◌∷◌, length, codes, Option, None, Some}
 use Rattle.std.specs.Fmt.{decimal}
 use Rattle.urb_names.specs.Naming.{Limits, IsLimits, Label, IsLabel}
+use Rattle.urb_names.specs.Packets.{flags_number}
+use Rattle.urb_names.specs.declared.flags.Flags.{Flags}
 use Rattle.urb_stable.specs.declared.memory.Failure.{Failure}
 use Rattle.urb_script.specs.Hex.{IsHexWord}
 use Rattle.urb_script.specs.Lines.{words_of}
@@ -13,8 +15,9 @@ use Rattle.urb_script.specs.declared.commands.CommandLine.{CommandLine}
 use Rattle.urb_script.specs.declared.commands.CommandLine.TheVariants as line
 
 -- A command: make the group; submit a client's message at a node; store what a node holds, or have its store fail; crash
--- or restart a node; stop all nodes at once and open them again; bring a node what another one has stored under a name, or
--- any bytes; have it resend; show a node's log; show who has a name stored.
+-- or restart a node; stop all nodes at once and open them again; bring a node what another one has stored under a name, in a
+-- packet of version one or with flags in one of version two, or any bytes; have it resend; show a node's log; show who has a name
+-- stored.
 pub data Command : Type 0 where
   Group : (limits : Limits) → Command
   Submit : (node client number : ℕ) (payload : List ℕ) → Command
@@ -24,6 +27,7 @@ pub data Command : Type 0 where
   Restart : (node : ℕ) → Command
   Reopen : Command
   Arrive : (source node : ℕ) (name : Label) → Command
+  ArriveFlagged : (source node : ℕ) (name : Label) (flags : Flags) → Command
   Raw : (node : ℕ) (bytes : List ℕ) → Command
   Tick : (node : ℕ) → Command
   Log : (node : ℕ) → Command
@@ -39,10 +43,16 @@ command (line.Crash node) = Crash node
 command (line.Restart node) = Restart node
 command line.Reopen = Reopen
 command (line.Arrive source node name) = Arrive source node name
+command (line.ArriveFlagged source node name flags) = ArriveFlagged source node name flags
 command (line.Raw node bytes) = Raw node bytes
 command (line.Tick node) = Tick node
 command (line.Log node) = Log node
 command (line.Held name) = Held name
+
+-- the line that brings a packet of what a node has stored: of version one, or with flags of version two
+abbrev pub arrival : ℕ → ℕ → Label → Option Flags → Command
+arrival source node name None = Arrive source node name
+arrival source node name (Some flags) = ArriveFlagged source node name flags
 
 -- the line that asks for what a command of a cluster does
 abbrev pub line_of : {A : Type 0} → acts.Command A → Command
@@ -63,6 +73,7 @@ keyword (Crash node) = codes "crash"
 keyword (Restart node) = codes "restart"
 keyword Reopen = codes "reopen"
 keyword (Arrive source node name) = codes "arrive"
+keyword (ArriveFlagged source node name flags) = codes "arrive2"
 keyword (Raw node bytes) = codes "raw"
 keyword (Tick node) = codes "tick"
 keyword (Log node) = codes "log"
@@ -78,6 +89,8 @@ AreArguments (Crash node) words = words ≡ decimal node ∷ []
 AreArguments (Restart node) words = words ≡ decimal node ∷ []
 AreArguments Reopen words = words ≡ []
 AreArguments (Arrive source node name) words = words ≡ decimal source ∷ decimal node ∷ decimal name.sender ∷ decimal name.seq ∷ []
+AreArguments (ArriveFlagged source node name flags) words =
+    words ≡ decimal source ∷ decimal node ∷ decimal name.sender ∷ decimal name.seq ∷ decimal (flags_number flags) ∷ []
 AreArguments (Raw node bytes) words = (word : List ℕ) × (words ≡ decimal node ∷ word ∷ []) × IsHexWord bytes word
 AreArguments (Tick node) words = words ≡ decimal node ∷ []
 AreArguments (Log node) words = words ≡ decimal node ∷ []
@@ -88,7 +101,13 @@ abbrev pub IsSpelled : List (List ℕ) → Command → Type 0
 IsSpelled [] asked = ⊥
 IsSpelled (first ∷ others) asked = (first ≡ keyword asked) × AreArguments asked others
 
--- each word is within its values; what arrives at a node comes from another one
+-- what arrives at a node comes from another one
+pub record IsRoute (q p : ℕ) : Type 0 where
+  pub source : IsNodeNumber q
+  pub node : IsNodeNumber p
+  pub apart : q ≢ p
+
+-- each word is within its values
 abbrev pub InRange : Command → Type 0
 InRange (Group limits) = IsLimits limits
 InRange (Submit node client number payload) = IsNodeNumber node × (1 ≤ client) × (client ≤ 65535) × (number ≤ 4294967295) × HasWord payload
@@ -97,7 +116,8 @@ InRange (Fail node failure) = IsNodeNumber node
 InRange (Crash node) = IsNodeNumber node
 InRange (Restart node) = IsNodeNumber node
 InRange Reopen = Unit {0}
-InRange (Arrive source node name) = IsNodeNumber source × IsNodeNumber node × (source ≢ node) × IsLabel name
+InRange (Arrive source node name) = IsRoute source node × IsLabel name
+InRange (ArriveFlagged source node name flags) = IsRoute source node × IsLabel name
 InRange (Raw node bytes) = IsNodeNumber node
 InRange (Tick node) = IsNodeNumber node
 InRange (Log node) = IsNodeNumber node

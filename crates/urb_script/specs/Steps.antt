@@ -5,6 +5,7 @@ use Rattle.urb_names.specs.Naming.{Content, Limits, Label}
 use Rattle.urb_names.specs.Nodes.{is_node, nodes}
 use Rattle.urb_names.specs.Packets.{packet_of}
 use Rattle.urb_names.specs.Pairs.{message_of}
+use Rattle.urb_names.specs.declared.flags.Flags.{Flags}
 use Rattle.urb_names.specs.declared.refusal.Refusal.TheVariants as refusal
 use Rattle.urb_stable.specs.Entries.{Entry}
 use Rattle.urb_stable.specs.Fitting.{first_misfit}
@@ -15,7 +16,7 @@ use Rattle.urb_group.specs.World.{World, opened, started, stored}
 use Rattle.urb_group.specs.Step.{Event, step}
 use Rattle.urb_group.specs.Step as event
 use Rattle.urb_group.specs.Scripts.{Scene, keeping, or_nothing, receipt}
-use Rattle.urb_script.specs.Commands.{Command, Group, Submit, Stored, Fail, Crash, Restart, Arrive, Raw, Tick, Log, Held, Reopen}
+use Rattle.urb_script.specs.Commands.{Command, Group, Submit, Stored, Fail, Crash, Restart, Arrive, ArriveFlagged, Raw, Tick, Log, Held, Reopen}
 use Rattle.urb_script.specs.Texts.{told_text, reply_text, log_text, held_text}
 use Rattle.urb_script.specs.declared.replies.Told.TheVariants as told
 
@@ -35,9 +36,10 @@ happens what scene = happens_with scene.storage what scene
 abbrev pub found_at : World → ℕ → Label → Option Content
 found_at w q x = if is_node w.size.n q then message_of (pend (stored w q)) x else None
 
--- the packet from q to p of what q has stored under the name; where it has nothing, of a message that nobody sent
-abbrev pub carried : World → ℕ → ℕ → Label → Carried
-carried w q p x = record { source = q; target = p; name = x; message = or_nothing (found_at w q x) }
+-- The packet from q to p of what q has stored under the name, with these flags or none; where it has nothing, of a message that
+-- nobody sent.
+abbrev pub carried : World → ℕ → ℕ → Label → Option Flags → Carried
+carried w q p x flags = record { source = q; target = p; name = x; message = or_nothing (found_at w q x); flags = flags }
 
 -- the answer where a number is no node's
 abbrev pub bad_node : List ℕ
@@ -72,7 +74,8 @@ answer scene (Fail p New) = happens_with (keeping p scene) (event.Fail p) scene
 answer scene (Crash p) = happens (event.Crash p) scene
 answer scene (Restart p) = happens (event.Restart p (scene.storage p)) scene
 answer scene Reopen = reopens (first_misfit scene.world.size scene.storage) scene
-answer scene (Arrive q p x) = happens (event.Arrive p (Ok (carried scene.world q p x))) scene
+answer scene (Arrive q p x) = happens (event.Arrive p (Ok (carried scene.world q p x None))) scene
+answer scene (ArriveFlagged q p x flags) = happens (event.Arrive p (Ok (carried scene.world q p x (Some flags)))) scene
 answer scene (Raw p bytes) = happens (event.Arrive p (packet_of bytes)) scene
 answer scene (Tick p) = happens (event.Tick p) scene
 answer scene (Log p) = (shown_log scene.world p, scene)

@@ -9,6 +9,8 @@ use Rattle.urb_names.specs.declared.refusal.Rule.TheVariants as rule
 use Rattle.urb_names.specs.declared.refusal.Refusal.{Refusal}
 use Rattle.urb_names.specs.declared.refusal.Refusal.TheVariants as refusal
 use Rattle.urb_names.specs.Carried.{Carried}
+use Rattle.urb_names.specs.Packets.{flags_number}
+use Rattle.urb_names.specs.declared.flags.Flags.{Flags}
 use Rattle.urb_node.specs.declared.answer.Answer.TheVariants as answer
 use Rattle.urb_node.specs.Replies.{Done, Reply}
 use Rattle.urb_node.specs.Replies as reply
@@ -63,6 +65,7 @@ told_text (told.Drafted x position) = codes "draft " ++ (name_text x ++ (codes "
 told_text (told.Accepted x) = codes "accepted " ++ name_text x
 told_text (told.Noted x) = codes "noted " ++ name_text x
 told_text (told.Again x) = codes "again " ++ name_text x
+told_text (told.Answered x) = codes "answered " ++ name_text x
 told_text (told.Stored x sent released) = codes "accepted " ++ (name_text x ++ (codes " sent " ++ (decimal sent ++ (codes " released " ++ decimal released))))
 told_text (told.Taken x sent released) = codes "taken " ++ (name_text x ++ (codes " sent " ++ (decimal sent ++ (codes " released " ++ decimal released))))
 told_text (told.Down p) = codes "down " ++ decimal p
@@ -73,6 +76,15 @@ told_text (told.Refused why) = codes "refused " ++ refusal_words why
 -- a packet that is sent: a space, its target, a colon, and its name
 abbrev pub packet_text : Carried → List ℕ
 packet_text packet = 32 ∷ (decimal packet.target ++ (58 ∷ name_text packet.name))
+
+-- the flags of a packet, by their number; nothing where it has none
+abbrev pub flags_text : Option Flags → List ℕ
+flags_text None = []
+flags_text (Some flags) = codes " flags " ++ decimal (flags_number flags)
+
+-- a packet that is sent in answer: its target, and its flags
+abbrev pub answer_text : Carried → List ℕ
+answer_text packet = codes " to " ++ (decimal packet.target ++ flags_text packet.flags)
 
 -- what is told when a record is stored: it is accepted where it is a message of the node's own
 abbrev pub done_text : Done → List ℕ
@@ -86,6 +98,7 @@ reply_text (reply.Drafted x position) = told_text (told.Drafted x position)
 reply_text (reply.Same (answer.Accepted x)) = told_text (told.Accepted x)
 reply_text (reply.Same (answer.Noted x)) = told_text (told.Noted x)
 reply_text (reply.Same (answer.Again x)) = told_text (told.Again x)
+reply_text (reply.Same (answer.Answered x packets)) = told_text (told.Answered x) ++ flat_map answer_text packets
 reply_text (reply.Stored done) = done_text done
 reply_text (reply.Sent packets) = codes "sent" ++ flat_map packet_text packets
 reply_text (reply.WentDown p) = told_text (told.Down p)

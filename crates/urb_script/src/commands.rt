@@ -4,15 +4,16 @@ ghost use Rattle.std.specs.Prelude.{◌≡◌, ◌≢◌, ℕ, ◌≤◌, ◌∷
 ghost use Rattle.std.specs.List.{AllByRecursion};
 ghost use Rattle.std.specs.Fmt.{decimal};
 ghost use Rattle.urb_names.specs.Naming.{Limits, IsLimits, Label, IsLabel};
+ghost use Rattle.urb_names.specs.declared.flags.Flags.{Flags};
 ghost use Rattle.urb_stable.specs.declared.memory.Failure.{Failure};
 ghost use Rattle.urb_script.specs.Lines.{words_left};
 ghost use Rattle.urb_script.specs.Wording.{IsNodeNumber, HasWord, IsPrinted, payload_word, failure_word, name_text};
-ghost use Rattle.urb_script.specs.Commands.{Command, command, AreArguments, IsSpelled, InRange, Spells, Submit, Arrive, Raw};
+ghost use Rattle.urb_script.specs.Commands.{Command, command, AreArguments, IsRoute, IsSpelled, InRange, Spells, Submit, Arrive, ArriveFlagged, Raw};
 
 use crate::hex::HexBytes;
 use crate::input::LONGEST_LINE;
 use crate::words::{first_word, last_node, last_word, number_in, number_word};
-use urb_names::{ClientId, Config, Name, NodeId};
+use urb_names::{ClientId, Config, Flags, Name, NodeId};
 use urb_stable::Failure;
 
 /// A command of a line, which lends its payload and its digits.
@@ -40,11 +41,18 @@ pub enum CommandLine<'a> {
     Restart(NodeId),
     /// Stop all nodes at once, and open them again with what their storages hold.
     Reopen,
-    /// Bring a node what the source has stored under a name.
+    /// Bring a node what the source has stored under a name, in a packet of version one.
     Arrive {
         source: NodeId,
         node: NodeId,
         name: Name,
+    },
+    /// Bring it in one of version two, with these flags.
+    ArriveFlagged {
+        source: NodeId,
+        node: NodeId,
+        name: Name,
+        flags: Flags,
     },
     /// Bring a node bytes.
     Raw {
@@ -103,6 +111,9 @@ fn command_of<'a>(word: &[u8], rest: Option<&'a [u8]>) -> Option<CommandLine<'a>
     }
     if word == b"arrive".as_slice() {
         return arrive_of(rest);
+    }
+    if word == b"arrive2".as_slice() {
+        return arrive_flagged_of(rest);
     }
     if word == b"raw".as_slice() {
         return raw_of(rest);
@@ -194,17 +205,23 @@ fn failure_of(word: &[u8]) -> Option<Failure>
     None
 }
 
-fn arrive_of<'a>(rest: Option<&[u8]>) -> Option<CommandLine<'a>>
-    ensures some { IfSome result (λ found. IsSpelled (codes "arrive" ∷ words_left rest.entry) (command found) × InRange (command found)) }
-    ensures none { IfNone result ((source node : ℕ) (name : Label) → InRange (Arrive source node name) → AreArguments (Arrive source node name) (words_left rest.entry) → ⊥) }
+// From which node to which a packet comes, and of which name.
+#[derive(Clone, Copy)]
+struct Route {
+    source: NodeId,
+    node: NodeId,
+    name: Name,
+}
+
+// The route that the next words spell, and what follows them.
+fn route_of(rest: Option<&[u8]>) -> Option<(Route, Option<&[u8]>)>
+    ensures some { IfSome result (λ r. (words_left rest.entry ≡ decimal r.0.source ∷ decimal r.0.node ∷ decimal r.0.name.sender ∷ decimal r.0.name.seq ∷ words_left r.1) × IsRoute r.0.source r.0.node × IsLabel r.0.name) }
+    ensures none { IfNone result ((source node : ℕ) (name : Label) (words : List (List ℕ)) → IsRoute source node → IsLabel name → words_left rest.entry ≢ decimal source ∷ decimal node ∷ decimal name.sender ∷ decimal name.seq ∷ words) }
 {
     let (source, rest) = number_word(rest, 1, 7)?;
     let (node, rest) = number_word(rest, 1, 7)?;
     let (sender, rest) = number_word(rest, 1, 7)?;
     let (seq, rest) = number_word(rest, 1, 4_294_967_295)?;
-    if rest.is_some() {
-        return None;
-    }
     if source == node {
         return None;
     }
@@ -215,7 +232,43 @@ fn arrive_of<'a>(rest: Option<&[u8]>) -> Option<CommandLine<'a>>
         sender,
         seq: seq as u32,
     };
-    Some(CommandLine::Arrive { source, node, name })
+    Some((Route { source, node, name }, rest))
+}
+
+fn arrive_of<'a>(rest: Option<&[u8]>) -> Option<CommandLine<'a>>
+    ensures some { IfSome result (λ found. IsSpelled (codes "arrive" ∷ words_left rest.entry) (command found) × InRange (command found)) }
+    ensures none { IfNone result ((source node : ℕ) (name : Label) → InRange (Arrive source node name) → AreArguments (Arrive source node name) (words_left rest.entry) → ⊥) }
+{
+    let Some((route, rest)) = route_of(rest) else {
+        return None;
+    };
+    if rest.is_some() {
+        return None;
+    }
+    Some(CommandLine::Arrive {
+        source: route.source,
+        node: route.node,
+        name: route.name,
+    })
+}
+
+fn arrive_flagged_of<'a>(rest: Option<&[u8]>) -> Option<CommandLine<'a>>
+    ensures some { IfSome result (λ found. IsSpelled (codes "arrive2" ∷ words_left rest.entry) (command found) × InRange (command found)) }
+    ensures none { IfNone result ((source node : ℕ) (name : Label) (flags : Flags) → InRange (ArriveFlagged source node name flags) → AreArguments (ArriveFlagged source node name flags) (words_left rest.entry) → ⊥) }
+{
+    let Some((route, rest)) = route_of(rest) else {
+        return None;
+    };
+    let (number, rest) = number_word(rest, 0, 3)?;
+    if rest.is_some() {
+        return None;
+    }
+    Some(CommandLine::ArriveFlagged {
+        source: route.source,
+        node: route.node,
+        name: route.name,
+        flags: Flags::of_number(number as u8).unwrap(),
+    })
 }
 
 fn raw_of(rest: Option<&[u8]>) -> Option<CommandLine<'_>>

@@ -4,7 +4,7 @@ ghost use Rattle.std.specs.Prelude.{◌≡◌, ◌++◌, ◌∷◌, [], OnOk, So
 ghost use Rattle.std.specs.Fmt.{decimal};
 ghost use Rattle.urb_node.specs.Replies.{Same, Sent};
 ghost use Rattle.urb_group.specs.Commands.{reply_of};
-ghost use Rattle.urb_script.specs.Texts.{IsToldAs, done_text, entry_text, packet_text, reply_text};
+ghost use Rattle.urb_script.specs.Texts.{IsToldAs, answer_text, done_text, entry_text, packet_text, reply_text};
 ghost use Rattle.urb_script.specs.Wording.{name_text, payload_word};
 
 use crate::replies::{NameWord, Told, push_told};
@@ -15,14 +15,51 @@ use urb_names::{Message, Name, NoMemory, NodeId, Packet, Refusal};
 use urb_node::{Answer, Done};
 use urb_stubborn::Outbox;
 
+// Writes a packet that is sent in answer by its target and its flags.
+fn push_answer_packet<A: Allocator>(
+    text: &mut Vec<u8, A>,
+    packet: &Packet<A>,
+) -> Result<(), NoMemory>
+    ensures { OnOk result (text.new.items ≡ text.old.items ++ answer_text packet.now) }
+{
+    let node = packet.target().number();
+    match packet.flags() {
+        Some(flags) => {
+            let flags = flags.number();
+            write!(text, " to {node} flags {flags}").map_err(|_| NoMemory)
+        }
+        None => write!(text, " to {node}").map_err(|_| NoMemory),
+    }
+}
+
+// Writes the packets that are sent in answer.
+fn push_answer_packets<A: Allocator + Copy>(
+    text: &mut Vec<u8, A>,
+    packets: &Outbox<A>,
+) -> Result<(), NoMemory>
+    ensures { OnOk result (text.new.items ≡ text.old.items ++ flat_map answer_text packets.now) }
+{
+    for at in 0..packets.len() {
+        push_answer_packet(text, packets.get(at).unwrap())?;
+    }
+    Ok(())
+}
+
 // Writes an answer that was given at once.
-fn push_answer<A: Allocator>(text: &mut Vec<u8, A>, answer: &Answer) -> Result<(), NoMemory>
+fn push_answer<A: Allocator + Copy>(
+    text: &mut Vec<u8, A>,
+    answer: &Answer<Outbox<A>>,
+) -> Result<(), NoMemory>
     ensures { OnOk result (text.new.items ≡ text.old.items ++ reply_text (Same answer.now)) }
 {
     match answer {
         Answer::Accepted(name) => push_told(text, Told::Accepted(*name)),
         Answer::Noted(name) => push_told(text, Told::Noted(*name)),
         Answer::Again(name) => push_told(text, Told::Again(*name)),
+        Answer::Answered(name, packets) => {
+            push_told(text, Told::Answered(*name))?;
+            push_answer_packets(text, packets)
+        }
     }
 }
 

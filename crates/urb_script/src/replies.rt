@@ -21,6 +21,8 @@ pub enum Told {
     Noted(Name),
     /// The packet told nothing new of this name.
     Again(Name),
+    /// The name is certified, and a packet that says so goes back.
+    Answered(Name),
     /// The record of an own message is stored: how many packets it sends, and by how many names the log grew.
     Stored { name: Name, sent: u8, released: u32 },
     /// Any other record is stored: the same of it.
@@ -162,6 +164,10 @@ impl fmt::Display for Told {
             Told::Again(name) => {
                 let name = NameWord(*name);
                 write!(f, "again {name}")
+            }
+            Told::Answered(name) => {
+                let name = NameWord(*name);
+                write!(f, "answered {name}")
             }
             Told::Stored {
                 name,

@@ -11,7 +11,7 @@ ghost use Rattle.urb_group.specs.Stocked.{IsStocked};
 ghost use Rattle.urb_group.specs.World.{World, stored};
 ghost use Rattle.urb_group.specs.Shown.{Shows};
 ghost use Rattle.std.specs.Fmt.{decimal};
-ghost use Rattle.urb_script.specs.Commands.{Arrive, Fail, InRange, Raw, Reopen, Submit, command, line_of};
+ghost use Rattle.urb_script.specs.Commands.{Fail, InRange, Raw, Reopen, Submit, arrival, command, line_of};
 ghost use Rattle.urb_script.specs.Scripts.{TakesFrom};
 ghost use Rattle.urb_script.specs.Staged.{Shown, ShowsScene, StoresAsAsked, TellsAt, TellsOf};
 ghost use Rattle.urb_script.specs.Steps.{IsLater, holders, shown_holders, shown_log};
@@ -24,7 +24,9 @@ use crate::replies::{Told, push_told};
 use crate::runs::Play;
 use std::alloc::{Allocator, Global};
 use urb_group::{Cluster, Command};
-use urb_names::{ClientId, Config, Message, Name, NoMemory, NodeId, Packet, Refusal, encode};
+use urb_names::{
+    ClientId, Config, Flags, Message, Name, NoMemory, NodeId, Packet, Refusal, encode,
+};
 use urb_stable::{Failure, MemStable};
 
 /// A cluster whose stores are in memory.
@@ -66,11 +68,12 @@ fn packet_bytes<A: Allocator + Copy>(
     node: NodeId,
     name: Name,
     message: Message<A>,
+    flags: Option<Flags>,
 ) -> Result<Vec<u8, A>, NoMemory>
     requires { source ≢ node }
-    ensures { IfOk result (λ bytes. packet_of bytes.items ≡ Ok (record { source = source; target = node; name = name; message = message })) }
+    ensures { IfOk result (λ bytes. packet_of bytes.items ≡ Ok (record { source = source; target = node; name = name; message = message; flags = flags })) }
 {
-    let packet = Packet::new(source, node, name, message);
+    let packet = Packet::new(source, node, name, message, flags);
     packet.limits();
     encode(alloc, &packet)
 }
@@ -160,22 +163,23 @@ impl<A: Allocator + Copy> Stage<A> {
         })
     }
 
-    // Brings a node what the source has stored under a name.
+    // Brings a node what the source has stored under a name, in a packet with these flags or none.
     fn arrive(
         &mut self,
         source: NodeId,
         node: NodeId,
         name: Name,
+        flags: Option<Flags>,
         text: &mut Vec<u8, A>,
     ) -> Result<(), NoMemory>
         requires fresh { text.old.items ≡ [] }
         requires apart { source ≢ node }
-        ensures shown { OnOk result (TakesFrom Shown self.old (Arrive source node name) text.new.items self.new) }
+        ensures shown { OnOk result (TakesFrom Shown self.old (arrival source node name flags) text.new.items self.new) }
         ensures kept { IsStocked (in_memory A) self.old.cluster → IsStocked (in_memory A) self.new.cluster }
     {
         let stored = self.cluster.group().message(source, name);
         let message = message_or_nothing(self.alloc, stored)?;
-        let bytes = packet_bytes(self.alloc, source, node, name, message)?;
+        let bytes = packet_bytes(self.alloc, source, node, name, message, flags)?;
         self.apply(&Command::Arrive { node, bytes }, text)
     }
 
@@ -281,7 +285,15 @@ impl<A: Allocator + Copy> Stage<A> {
             CommandLine::Fail { node, failure } => self.fail(node, failure, text),
             CommandLine::Crash(node) => self.apply(&Command::Crash(node), text),
             CommandLine::Restart(node) => self.apply(&Command::Restart(node), text),
-            CommandLine::Arrive { source, node, name } => self.arrive(source, node, name, text),
+            CommandLine::Arrive { source, node, name } => {
+                self.arrive(source, node, name, None, text)
+            }
+            CommandLine::ArriveFlagged {
+                source,
+                node,
+                name,
+                flags,
+            } => self.arrive(source, node, name, Some(flags), text),
             CommandLine::Raw { node, bytes } => self.bring(node, &bytes, text),
             CommandLine::Tick(node) => self.apply(&Command::Tick(node), text),
             CommandLine::Log(node) => self.push_log(node, text),

@@ -35,6 +35,12 @@ pub const REOPENED: (&[u8], &[u8]) = (
     b"group 3 10\ndraft 1.1 at 1\naccepted 1.1 sent 2 released 0\ndraft 1.1 at 1\ntaken 1.1 sent 2 released 1\nlog 1:\ndraft 1.1 at 2\ntaken 1.1 sent 0 released 1\nopen\nlog 1: 1.1=a\nlog 2: 1.1=a\naccepted 1.1\n",
 );
 
+/// Nodes tell each other what they have certified, and a tick sends to those alone of which that was not heard.
+pub const TOLD: (&[u8], &[u8]) = (
+    b"group 3 10\nsubmit 1 7 1 a\nstored 1\nraw 2 5542020102010100000001000700000001000161\nraw 2 5542020102040100000001000700000001000161\nraw 2 554202010201010000000100070000000100\narrive2 1 2 1 1 0\nstored 2\narrive 1 2 1 1\narrive2 1 2 1 1 0\narrive2 2 1 1 1 1\nstored 1\ntick 1\narrive2 1 2 1 1 1\narrive2 2 1 1 1 3\ntick 2\narrive2 2 3 1 1 1\nstored 3\ntick 3\ncrash 1\nrestart 1\ntick 1\n",
+    b"group 3 10\ndraft 1.1 at 1\naccepted 1.1 sent 2 released 0\nrefused forged\nrefused packet range\nrefused packet short\ndraft 1.1 at 1\ntaken 1.1 sent 2 released 1\nagain 1.1\nanswered 1.1 to 1 flags 1\ndraft 1.1 at 2\ntaken 1.1 sent 0 released 1\nsent 3:1.1\nanswered 1.1 to 1 flags 3\nagain 1.1\nsent 3:1.1\ndraft 1.1 at 1\ntaken 1.1 sent 2 released 1\nsent 1:1.1\ndown 1\nup 1\nsent 2:1.1 3:1.1\n",
+);
+
 #[test]
 fn worked_scripts_are_answered(rt: HostRuntime) -> Result<(), Fail> {
     for (script, answers, ended) in [
@@ -109,6 +115,7 @@ fn worked_scripts_are_answered(rt: HostRuntime) -> Result<(), Fail> {
         ),
         (RESENT.0, RESENT.1, Ended::Whole),
         (REOPENED.0, REOPENED.1, Ended::Whole),
+        (TOLD.0, TOLD.1, Ended::Whole),
         // It loses a draft, whose name is given anew, and keeps what a failed store has kept.
         (
             b"group 3 10\nsubmit 1 7 1 a\nreopen\nheld 1.1\nsubmit 1 7 1 b\nfail 1 new\nreopen\nheld 1.1\nsubmit 1 7 1 b\n",

@@ -20,5 +20,5 @@ told sender number letters = entry sender number (message 7 number letters)
 abbrev pub group_of : List (Label × Content) → List Label → GroupView
 group_of pairs log = record {
   size = record { n = 1; cap = 10 };
-  nodes = record { pairs = pairs; certified = log; log = log; count = length pairs; state = Ready; acks = []; cursor = None } ∷ [];
+  nodes = record { pairs = pairs; certified = log; log = log; count = length pairs; state = Ready; acks = []; heard = []; cursor = None } ∷ [];
 }

@@ -12,3 +12,4 @@ pub mod SchemaLemmas
 pub mod StopLemmas
 pub mod NodeLemmas
 pub mod StoppingLemmas
+pub mod AppliedLemmas

@@ -5,14 +5,15 @@ ghost use Rattle.std.specs.Prelude.{◌≡◌, List, length, IfOk};
 ghost use Rattle.sqlite.specs.Files.{file_state};
 ghost use Rattle.urb_group.specs.Reopening.{ContinuesFrom, HasStopped};
 ghost use Rattle.urb_group.specs.Shown.{GroupView, IsSound, Shows};
+ghost use Rattle.urb_group.specs.Stocked.{IsStocked};
 ghost use Rattle.urb_group.specs.World.{World};
-ghost use Rattle.urb_sqlite.specs.Stops.{AreReopened, WouldLeave};
+ghost use Rattle.urb_sqlite.specs.Stops.{AreReopened, IsContinuation, HaveGivenBack, WouldLeave};
 
 use crate::SqlStable;
 use sqlite::{FileStore, Options};
 use sqlite_disk::Crash;
 use std::alloc::Global;
-use urb_group::Cluster;
+use urb_group::{Cluster, Command};
 use urb_names::{Config, Refusal};
 use urb_stable::{Stable, StoreFault};
 
@@ -32,14 +33,17 @@ fn opened_again<D: Crash + Drop>(
 }
 
 /// A cluster over these stores, as of `Cluster::open`; refused, they are let go.
-fn over<S: Stable<Alloc = Global> + Drop>(
+pub(crate) fn over<S: Stable<Alloc = Global> + Drop>(
     alloc: Global,
     config: Config,
     stores: Vec<S>,
 ) -> Result<Cluster<S>, Refusal>
     requires counted { length stores.items ≡ config.n }
-    ensures { IfOk result (λ new. (old : GroupView) (w : World) → HasStopped S.Stable old w config stores.items
+    ensures goes_on { IfOk result (λ new. (old : GroupView) (w : World) → HasStopped S.Stable old w config stores.items
         → All S.Stable.is_honest new.stores → ContinuesFrom S.Stable w stores.items new.group) }
+    ensures sized { IfOk result (λ new. new.group.size ≡ config) }
+    ensures alive { IfOk result (λ new. All S.Stable.is_honest stores.items → All S.Stable.is_clean new.stores
+        → All S.Stable.is_honest new.stores) }
 {
     match Cluster::open(alloc, config, stores) {
         Ok(cluster) => Ok(cluster),
@@ -61,13 +65,83 @@ pub fn stop_and_open_all<D: Crash + Drop>(
     options: Options,
 ) -> Result<Cluster<SqlStable<FileStore<D>>>, Refusal>
     requires counted { length journals.items ≡ config.n }
+    ensures sized { IfOk result (λ new. new.group.size ≡ config) }
     // Where a stop leaves of each journal what it may leave of the nodes of a world that a group showed, the new cluster goes
-    // on from that world, as far as its disks have given back what was written.
+    // on from that world, as far as the disks have given back what was written.
     ensures goes_on { IfOk result (λ new. (old : GroupView) (w : World) → IsSound old → length old.nodes ≡ config.n → old.size ≡ config → Shows old w
-        → WouldLeave ⟦<SqlStable<FileStore<D>> as Stable>⟧ w journals.items → All ⟦<SqlStable<FileStore<D>> as Stable>⟧.is_honest new.stores → (passed : List _) × ContinuesFrom ⟦<SqlStable<FileStore<D>> as Stable>⟧ w passed new.group) }
+        → WouldLeave ⟦<SqlStable<FileStore<D>> as Stable>⟧ w journals.items → HaveGivenBack ⟦<SqlStable<FileStore<D>> as Stable>⟧ D.Disk new.stores
+        → IsContinuation ⟦<SqlStable<FileStore<D>> as Stable>⟧ w new.group) }
 {
     match opened_again(alloc, journals, options) {
         Ok(again) => over(alloc, config, again),
         Err(fault) => Err(fault.refusal()),
     }
+}
+
+/// That a stop leaves of the honest stores of a cluster at rest what it may leave of its nodes: for proofs alone.
+fn rests<S: Stable<Alloc = Global>>(cluster: &Cluster<S>)
+    ensures counted { length cluster.now.group.nodes ≡ cluster.now.group.size.n }
+    ensures sound { IsSound cluster.now.group }
+    ensures leaves { (stores : List S) → stores ≡ cluster.now.stores → (stocked : IsStocked S.Stable cluster.now)
+        → All S.Stable.is_honest cluster.now.stores → WouldLeave S.Stable stocked.world stores }
+{
+    cluster.group().promise();
+}
+
+/// Does what a command says: a stop behind it leaves of stores that were honest what a stop inside it leaves.
+pub(crate) fn applied<S: Stable<Alloc = Global>>(
+    alloc: Global,
+    cluster: &mut Cluster<S>,
+    command: &Command,
+)
+    ensures sized { cluster.new.group.size ≡ cluster.old.group.size }
+    ensures leaves { (stores : List S) → stores ≡ cluster.new.stores → (stocked : IsStocked S.Stable cluster.old)
+        → All S.Stable.is_honest cluster.old.stores → WouldLeave S.Stable stocked.world stores }
+{
+    rests(cluster);
+    let _reply = cluster.apply(alloc, command);
+}
+
+/// Stops the machine under a cluster while no command is done, and opens the journals of all nodes again, and a cluster over
+/// them. The limits are those of the cluster. Refusals as of `stop_and_open_all`.
+pub fn stop_and_reopen<D: Crash + Drop>(
+    alloc: Global,
+    cluster: Cluster<SqlStable<FileStore<D>>>,
+    config: Config,
+    options: Options,
+) -> Result<Cluster<SqlStable<FileStore<D>>>, Refusal>
+    requires same { cluster.group.size ≡ config }
+    ensures sized { IfOk result (λ new. new.group.size ≡ config) }
+    // The new cluster goes on from the world that the old one showed, where no fault had shut one of its journals.
+    ensures goes_on { IfOk result (λ new. (stocked : IsStocked ⟦<SqlStable<FileStore<D>> as Stable>⟧ cluster)
+        → All ⟦<SqlStable<FileStore<D>> as Stable>⟧.is_honest cluster.stores → HaveGivenBack ⟦<SqlStable<FileStore<D>> as Stable>⟧ D.Disk new.stores
+        → IsContinuation ⟦<SqlStable<FileStore<D>> as Stable>⟧ stocked.world new.group) }
+{
+    rests(&cluster);
+    stop_and_open_all(alloc, config, cluster.into_stores(), options)
+}
+
+/// Does what a command says, stops the machine, and opens the journals of all nodes again, and a cluster over them. A stop
+/// inside the command is one whose disks failed from some moment on: before its store, inside it, or between the store's Ok
+/// and the commit. Nobody was told a reply. The limits are those of the cluster. Refusals as of `stop_and_open_all`.
+pub fn apply_and_stop<D: Crash + Drop>(
+    alloc: Global,
+    cluster: Cluster<SqlStable<FileStore<D>>>,
+    command: &Command,
+    config: Config,
+    options: Options,
+) -> Result<Cluster<SqlStable<FileStore<D>>>, Refusal>
+    requires same { cluster.group.size ≡ config }
+    ensures sized { IfOk result (λ new. new.group.size ≡ config) }
+    // The new cluster goes on from the world that the old one showed before the command, where no fault had shut one of its
+    // journals by then.
+    ensures goes_on { IfOk result (λ new. (stocked : IsStocked ⟦<SqlStable<FileStore<D>> as Stable>⟧ cluster)
+        → All ⟦<SqlStable<FileStore<D>> as Stable>⟧.is_honest cluster.stores → HaveGivenBack ⟦<SqlStable<FileStore<D>> as Stable>⟧ D.Disk new.stores
+        → IsContinuation ⟦<SqlStable<FileStore<D>> as Stable>⟧ stocked.world new.group) }
+{
+    rests(&cluster);
+    let mut cluster = cluster;
+    applied(alloc, &mut cluster, command);
+    let journals = cluster.into_stores();
+    stop_and_open_all(alloc, config, journals, options)
 }

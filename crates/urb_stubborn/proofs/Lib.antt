@@ -1,3 +1,7 @@
 pub mod Sent
-pub mod Turning
+pub mod Unheard
+pub mod Behind
+pub mod Settle
+pub mod Between
 pub mod Round
+pub mod Alone

@@ -1,114 +1,225 @@
 -- A tick, name by name: how far it has come.
-use Rattle.std.proofs.Common.{◌≡◌, ℕ, zero, suc, ◌+◌, ◌<◌, ◌≤◌, min, List, [], ◌∷◌, ◌++◌, take, drop, length, Option, None, Some, refl, sym, ap, ap₂, ◌∙◌, subst, append-nil, append_assoc, flat_map, arith, true, ◌⊎◌, inl, inr}
-use Rattle.std.proofs.lemmas.Bool.{cases_order}
-use Rattle.std.proofs.lemmas.List.{flat_map_more, take_all, length-take}
-use Rattle.std.specs.Prelude.{IsSome, option_map}
+use Rattle.std.proofs.Common.{◌≡◌, ℕ, zero, suc, ◌+◌, ◌-◌, ◌*◌, ◌<◌, ◌≤◌, Bool, true, false, not, cond, List, [], ◌∷◌, ◌++◌, take, drop, length, filter, Option, None, Some, is_some, Result, Ok, Err, refl, sym, ap, ap₂, ◌∙◌, subst, append-nil, append_assoc, flat_map, arith}
+use Rattle.std.specs.List.{list_all}
+use Rattle.std.specs.Prelude.{IfOk, IsSome, option_map}
+use Rattle.std.proofs.lemmas.List.{flat_map_more, take_all, length-append, length-take}
 use Rattle.urb_names.specs.Naming.{Label, Content}
+use Rattle.urb_names.specs.Names.{name_lt}
 use Rattle.urb_names.specs.Pairs.{message_of}
-use Rattle.urb_names.specs.Carried.{Carried, to_others}
-use Rattle.urb_names.specs.Cyclic.{are_rising, cyclic, last_name, resent}
+use Rattle.urb_names.specs.Carried.{Carried, to_unheard}
+use Rattle.urb_names.specs.Cyclic.{are_rising, cyclic, is_after, last_name, resent}
 use Rattle.urb_pending.specs.PendingSet.{first_name}
 use Rattle.urb_stubborn.specs.Resending.{Resending, tick_packets, ticked}
+use Rattle.urb_stubborn.specs.Walking.{IsTick, IsWalked, behind, between, due_pairs, is_within}
+use Rattle.urb_stubborn.specs.declared.resend.Turn.{Turn}
+use Rattle.urb_stubborn.proofs.Behind.{Pairs}
+use Rattle.urb_stubborn.proofs.Between.{AreFound, all_found, all_pass, between_next, found_kept, rising_kept}
 use Rattle.urb_stubborn.proofs.Sent.{few_packets}
-use Rattle.urb_stubborn.proofs.Turning.{Pairs, turn, found, length-cyclic}
 
--- after so many names: where the cursor is, what comes next in cyclic order, and the packets so far
-pub record Sends (r : Resending) (pairs : List (Label × Content)) (done : ℕ) (cursor : Option Label) (packets : List Carried) : Type 0 where
-  pub turned : cyclic cursor pairs ≡ drop done (cyclic r.cursor pairs) ++ take done (cyclic r.cursor pairs)
-  pub last : cursor ≡ last_name r.cursor (take done (cyclic r.cursor pairs))
-  pub sent : packets ≡ flat_map (to_others r.limits.n r.node) (take done (cyclic r.cursor pairs))
+-- the packets of a pair that is resent
+abbrev pub sends : Resending → List Label → Label × Content → List Carried
+sends r certified pair = to_unheard r.limits.n r.node certified r.heard pair
 
-pub begun : (r : Resending) (pairs : List (Label × Content)) → Sends r pairs 0 r.cursor []
-begun r pairs = record { turned = sym (append-nil (cyclic r.cursor pairs)); last = refl; sent = refl }
+-- of all these pairs so many are done: what is left of them and of the turn, where the cursor is, and the packets so far
+pub record Walks (r : Resending) (certified : List Label) (all : List (Label × Content)) (turn : Turn) (old : List Carried) (left : ℕ) (rest : List (Label × Content)) (cursor : Option Label) (packets : List Carried) : Type 0 where
+  pub done : ℕ
+  pub count : done + left ≡ turn.left
+  pub few : done ≤ length all
+  pub others : rest ≡ drop done all
+  pub last : cursor ≡ last_name turn.cursor (take done all)
+  pub sent : packets ≡ old ++ flat_map (sends r certified) (take done all)
 
--- the next pair: it is the first in cyclic order, its message is found, and with its packets a tick is one name further
-pub record Next (r : Resending) (pairs : List (Label × Content)) (done : ℕ) (cursor : Option Label) (packets : List Carried) : Type 0 where
-  pub pair : Label × Content
-  pub name : first_name (cyclic cursor pairs) ≡ Some pair.0
-  pub message : message_of pairs pair.0 ≡ Some pair.1
-  pub further : Sends r pairs (done + 1) (Some pair.0) (packets ++ to_others r.limits.n r.node pair)
+pub begun : (r : Resending) (certified : List Label) (all : Pairs) (turn : Turn) (old : List Carried) → Walks r certified all turn old turn.left all turn.cursor old
+begun r certified all turn old =
+    record { done = 0; count = omega arith; few = omega arith; others = refl; last = refl; sent = sym (append-nil old) }
 
 last_name-push : (cursor : Option Label) (ps : Pairs) (q : Label × Content) → last_name cursor (ps ++ q ∷ []) ≡ Some q.0
 last_name-push cursor [] q = refl
 last_name-push cursor (p ∷ ps) q = last_name-push (Some p.0) ps q
 
-head_of : (done : ℕ) (c : Pairs) → done < length c → (q : Label × Content) × (drop done c ≡ q ∷ drop (suc done) c) × (take (suc done) c ≡ take done c ++ q ∷ [])
-head_of done [] h = absurd (omega arith)
-head_of zero (p ∷ c) h = (p, refl, refl)
-head_of (suc done) (p ∷ c) h = let rest = head_of done c (omega arith) in (rest.0, rest.1, ap (λ ps. p ∷ ps) rest.2)
+next_of : (done : ℕ) (all : Pairs) (q : Label × Content) (rest : Pairs) → drop done all ≡ q ∷ rest → (drop (suc done) all ≡ rest) × (take (suc done) all ≡ take done all ++ q ∷ []) × (done < length all)
+next_of zero [] q rest e = absurd cc
+next_of (suc done) [] q rest e = absurd cc
+next_of zero (p ∷ all) q rest e =
+    let tail : all ≡ rest = cc in
+    let head : p ≡ q = cc in
+    (tail, ap (λ r. r ∷ []) head, omega arith)
+next_of (suc done) (p ∷ all) q rest e = let more = next_of done all q rest e in (more.0, ap (λ ps. p ∷ ps) more.1, omega (arith, more.2))
 
-pub next : (r : Resending) (pairs : List (Label × Content)) (done : ℕ) (cursor : Option Label) (packets : List Carried) → are_rising pairs ≡ true → done < length pairs → Sends r pairs done cursor packets → Next r pairs done cursor packets
-next r pairs done cursor packets rising less h =
-    let c : Pairs = cyclic r.cursor pairs in
-    let at = head_of done c (omega (arith, less, length-cyclic r.cursor pairs)) in
-    let q : Label × Content = at.0 in
-    let rest : Pairs = drop (suc done) c ++ take done c in
-    let first : cyclic cursor pairs ≡ q ∷ rest = h.turned ∙ ap (λ ps. ps ++ take done c) at.1 in
+-- one name further
+pub further : (r : Resending) (certified : List Label) (all : Pairs) (turn : Turn) (old : List Carried) (left : ℕ) (q : Label × Content) (rest : Pairs) (cursor : Option Label) (packets new : List Carried) → 0 < left
+    → Walks r certified all turn old left (q ∷ rest) cursor packets → new ≡ packets ++ sends r certified q → Walks r certified all turn old (left - 1) rest (Some q.0) new
+further r certified all turn old left q rest cursor packets new some h e =
+    let at = next_of h.done all q rest (sym h.others) in
     record {
-      pair = q;
-      name = ap first_name first;
-      message = found cursor pairs q rest rising first;
-      further = subst (λ (k : ℕ). Sends r pairs k (Some q.0) (packets ++ to_others r.limits.n r.node q)) (one_more done) (record {
-        turned = turn cursor pairs q rest rising first ∙ (append_assoc (drop (suc done) c) (take done c) (q ∷ []) ∙ ap (λ ps. drop (suc done) c ++ ps) (sym at.2));
-        last = sym (ap (last_name r.cursor) at.2 ∙ last_name-push r.cursor (take done c) q);
-        sent = ap (λ ps. ps ++ to_others r.limits.n r.node q) h.sent
-            ∙ (flat_map_more (to_others r.limits.n r.node) [] (take done c) q ∙ ap (flat_map (to_others r.limits.n r.node)) (sym at.2));
-      });
+      done = suc h.done;
+      count = omega (arith, h.count, some);
+      few = omega (arith, at.2);
+      others = sym at.0;
+      last = sym (ap (last_name turn.cursor) at.1 ∙ last_name-push turn.cursor (take h.done all) q);
+      sent = e
+          ∙ (ap (λ ps. ps ++ sends r certified q) h.sent
+          ∙ (flat_map_more (sends r certified) old (take h.done all) q ∙ ap (λ ps. old ++ flat_map (sends r certified) ps) (sym at.1)));
     }
-  where
-    one_more : (k : ℕ) → suc k ≡ k + 1
-    one_more k = omega arith
 
--- while names are left, there is a next one
-pub some_name : (r : Resending) (pairs : List (Label × Content)) (done : ℕ) (cursor : Option Label) (packets : List Carried) → are_rising pairs ≡ true → done < length pairs → Sends r pairs done cursor packets
-    → IsSome (first_name (cyclic cursor pairs))
-some_name r pairs done cursor packets rising less h = rw (next r pairs done cursor packets rising less h).name refl
+-- the turn has no name left
+pub turn_over : (r : Resending) (certified : List Label) (all : Pairs) (turn : Turn) (old : List Carried) (left : ℕ) (rest : Pairs) (cursor : Option Label) (packets : List Carried) → left ≡ 0
+    → Walks r certified all turn old left rest cursor packets → IsWalked r certified (take turn.left all) turn old (record { left = left; cursor = cursor }) packets
+turn_over r certified all turn old left rest cursor packets e h =
+    let done : h.done ≡ turn.left = omega (arith, h.count, e) in
+    record {
+      packets = h.sent ∙ ap (λ (k : ℕ). old ++ flat_map (sends r certified) (take k all)) done;
+      left = omega (arith, e, length-take turn.left all, h.few, done);
+      cursor = h.last ∙ ap (λ (k : ℕ). last_name turn.cursor (take k all)) done;
+    }
 
--- and its message is there
-pub some_message : (r : Resending) (pairs : List (Label × Content)) (done : ℕ) (cursor : Option Label) (packets : List Carried) (x : Label) → are_rising pairs ≡ true → done < length pairs → Sends r pairs done cursor packets
-    → first_name (cyclic cursor pairs) ≡ Some x → IsSome (message_of pairs x)
-some_message r pairs done cursor packets x rising less h e =
-    let after = next r pairs done cursor packets rising less h in
-    let same : after.pair.0 ≡ x = (let both : Some after.pair.0 ≡ Some x = sym after.name ∙ e in cc) in
-    rw (← same, after.message) refl
+nothing_left : (done : ℕ) (all : Pairs) → drop done all ≡ [] → length all ≤ done
+nothing_left done [] e = omega arith
+nothing_left zero (p ∷ all) e = absurd cc
+nothing_left (suc done) (p ∷ all) e = omega (arith, nothing_left done all e)
 
--- with its packets a tick is one name further
-pub one_further : (r : Resending) (pairs : List (Label × Content)) (done : ℕ) (cursor : Option Label) (packets new : List Carried) (x : Label) (m : Content) → are_rising pairs ≡ true → done < length pairs → Sends r pairs done cursor packets
-    → first_name (cyclic cursor pairs) ≡ Some x → message_of pairs x ≡ Some m → new ≡ packets ++ to_others r.limits.n r.node (x, m) → Sends r pairs (done + 1) (Some x) new
-one_further r pairs done cursor packets new x m rising less h e f g =
-    let after = next r pairs done cursor packets rising less h in
-    let same : after.pair.0 ≡ x = (let both : Some after.pair.0 ≡ Some x = sym after.name ∙ e in cc) in
-    let found : after.pair.1 ≡ m = (let both : Some after.pair.1 ≡ Some m = sym after.message ∙ (ap (message_of pairs) same ∙ f) in cc) in
-    let pair : after.pair ≡ (x, m) = ap₂ (λ (y : Label) (o : Content). (y, o)) same found in
-    subst (λ ps. Sends r pairs (done + 1) (Some x) ps) (ap (λ p. packets ++ to_others r.limits.n r.node p) pair ∙ sym g)
-    (subst (λ y. Sends r pairs (done + 1) (Some y) (packets ++ to_others r.limits.n r.node after.pair)) same after.further)
+-- no pair is left
+pub all_walked : (r : Resending) (certified : List Label) (all : Pairs) (turn : Turn) (old : List Carried) (left : ℕ) (cursor : Option Label) (packets : List Carried)
+    → Walks r certified all turn old left [] cursor packets → IsWalked r certified (take turn.left all) turn old (record { left = left; cursor = cursor }) packets
+all_walked r certified all turn old left cursor packets h =
+    let done : length all ≤ h.done = nothing_left h.done all (sym h.others) in
+    let same : take h.done all ≡ take turn.left all = take_all h.done all done ∙ sym (take_all turn.left all (omega (arith, h.count, done))) in
+    record {
+      packets = h.sent ∙ ap (λ ps. old ++ flat_map (sends r certified) ps) same;
+      left = omega (arith, h.count, length-take turn.left all, h.few, done);
+      cursor = h.last ∙ ap (last_name turn.cursor) same;
+    }
+
+-- ---- the next pair
+
+-- what is left begins with the pair of the first name and its message
+pub record Next (pairs : List (Label × Content)) (x : Label) (rest : List (Label × Content)) : Type 0 where
+  pub message : Content
+  pub others : List (Label × Content)
+  pub whole : rest ≡ (x, message) ∷ others
+  pub found : message_of pairs x ≡ Some message
+
+next_in : (pairs : Pairs) (x : Label) (rest : Pairs) → AreFound pairs rest → first_name rest ≡ Some x → Next pairs x rest
+next_in pairs x [] h e = absurd cc
+next_in pairs x (p ∷ ps) h e =
+    let here : p.0 ≡ x = cc in
+    record { message = p.1; others = ps; whole = ap (λ (y : Label). (y, p.1) ∷ ps) here; found = ap (message_of pairs) (sym here) ∙ h.0 }
+
+pub next : (r : Resending) (pairs : Pairs) (from last : Option Label) (x : Label) → are_rising pairs ≡ true → first_name (between from last (due_pairs r pairs)) ≡ Some x → Next pairs x (between from last (due_pairs r pairs))
+next r pairs from last x rises e =
+    next_in pairs x (between from last (due_pairs r pairs))
+    (found_kept (λ p. is_within last p.0) pairs (behind from (due_pairs r pairs)) (found_kept (λ p. is_after from p.0) pairs (due_pairs r pairs) (found_kept _ pairs pairs (all_found pairs rises)))) e
+
+pub some_message : (r : Resending) (pairs : Pairs) (from last : Option Label) (x : Label) → are_rising pairs ≡ true → first_name (between from last (due_pairs r pairs)) ≡ Some x → IsSome (message_of pairs x)
+some_message r pairs from last x rises e = rw (next r pairs from last x rises e).found refl
 
 -- a message that a reference leads to
 pub some_behind : {A B : Type 0} (f : A → B) (o : Option A) → IsSome (option_map f o) → IsSome o
 some_behind f None h = h
 some_behind f (Some a) h = refl
 
-take_fewer : (done : ℕ) (c : Pairs) → done ≡ min (length c) 16 → take done c ≡ take 16 c
-take_fewer done c e = by_order (cases_order (length c) 16)
-  where
-    all : length c ≤ 16 → take done c ≡ take 16 c
-    all h = take_all done c (omega arith) ∙ sym (take_all 16 c h)
+-- with its packets a walk is one name further
+pub one_further : (r : Resending) (certified : List Label) (pairs all : Pairs) (turn : Turn) (old : List Carried) (left : ℕ) (from last cursor : Option Label) (packets new : List Carried) (x : Label) (m : Content)
+    → are_rising pairs ≡ true → 0 < left → first_name (between from last (due_pairs r pairs)) ≡ Some x → message_of pairs x ≡ Some m → new ≡ packets ++ sends r certified (x, m)
+    → Walks r certified all turn old left (between from last (due_pairs r pairs)) cursor packets
+    → Walks r certified all turn old (left - 1) (between (Some x) last (due_pairs r pairs)) (Some x) new
+one_further r certified pairs all turn old left from last cursor packets new x m rises some e f g h =
+    let n = next r pairs from last x rises e in
+    let same : n.message ≡ m = (let both : Some n.message ≡ Some m = sym n.found ∙ f in cc) in
+    let whole : between from last (due_pairs r pairs) ≡ (x, m) ∷ n.others = n.whole ∙ ap (λ (o : Content). (x, o) ∷ n.others) same in
+    let later : between (Some x) last (due_pairs r pairs) ≡ n.others = between_next from last (due_pairs r pairs) (x, m) n.others (rising_kept _ pairs rises) whole in
+    subst (λ (ps : Pairs). Walks r certified all turn old (left - 1) ps (Some x) new) (sym later)
+    (further r certified all turn old left (x, m) n.others cursor packets new some (subst (λ (ps : Pairs). Walks r certified all turn old left ps cursor packets) whole h) g)
 
-    by_order : (length c ≡ 16) ⊎ ((length c < 16) ⊎ (16 < length c)) → take done c ≡ take 16 c
-    by_order (inl h) = all (omega arith)
-    by_order (inr (inl h)) = all (omega arith)
-    by_order (inr (inr h)) = let sixteen : done ≡ 16 = omega arith in ap (λ k. take k c) sixteen
+pub no_name : (ps : Pairs) → first_name ps ≡ None → ps ≡ []
+no_name [] e = refl
+no_name (p ∷ ps) e = absurd cc
 
--- when sixteen names are done, or all, the tick is
-pub ended : (r : Resending) (pairs : List (Label × Content)) (done : ℕ) (cursor : Option Label) (packets : List Carried) → done ≡ min (length pairs) 16 → Sends r pairs done cursor packets
-    → (packets ≡ tick_packets r pairs) × (record r { cursor = cursor } ≡ ticked r pairs)
-ended r pairs done cursor packets e h =
-    let same : take done (cyclic r.cursor pairs) ≡ resent r.cursor pairs = take_fewer done (cyclic r.cursor pairs) (omega (arith, e, length-cyclic r.cursor pairs)) in
-    (h.sent ∙ ap (flat_map (to_others r.limits.n r.node)) same, ap (λ c. record r { cursor = c }) (h.last ∙ ap (last_name r.cursor) same))
+-- ---- the whole tick
+
+take_joined : (n : ℕ) (xs ys : Pairs) → take n (xs ++ ys) ≡ take n xs ++ take (n - length (take n xs)) ys
+take_joined zero xs ys = refl
+take_joined (suc n) [] ys = let whole : suc n ≡ suc n - 0 = omega arith in ap (λ (k : ℕ). take k ys) whole
+take_joined (suc n) (x ∷ xs) ys =
+    let less : n - length (take n xs) ≡ suc n - suc (length (take n xs)) = omega arith in
+    ap (λ ps. x ∷ ps) (take_joined n xs ys ∙ ap (λ (k : ℕ). take n xs ++ take k ys) less)
+
+flat_map_joined : (f : Label × Content → List Carried) (xs ys : Pairs) → flat_map f (xs ++ ys) ≡ flat_map f xs ++ flat_map f ys
+flat_map_joined f [] ys = refl
+flat_map_joined f (x ∷ xs) ys = ap (λ ps. f x ++ ps) (flat_map_joined f xs ys) ∙ sym (append_assoc (f x) (flat_map f xs) (flat_map f ys))
+
+last_name_joined : (cursor : Option Label) (xs ys : Pairs) → last_name cursor (xs ++ ys) ≡ last_name (last_name cursor xs) ys
+last_name_joined cursor [] ys = refl
+last_name_joined cursor (x ∷ xs) ys = last_name_joined (Some x.0) xs ys
+
+all_true : (ps : Pairs) → list_all (λ p. true) ps ≡ true
+all_true [] = refl
+all_true (p ∷ ps) = all_true ps
+
+pub to_the_end : (cursor : Option Label) (ps : Pairs) → between cursor None ps ≡ behind cursor ps
+to_the_end cursor ps = all_pass (λ p. true) (behind cursor ps) (all_true (behind cursor ps))
+
+pub to_the_cursor : (cursor : Label) (ps : Pairs) → between None (Some cursor) ps ≡ filter (λ p. not (is_after (Some cursor) p.0)) ps
+to_the_cursor cursor ps = ap (filter (λ p. not (name_lt cursor p.0))) (all_pass (λ p. true) ps (all_true ps))
+
+none_left : (ps : Pairs) → filter (λ p. false) ps ≡ []
+none_left [] = refl
+none_left (p ∷ ps) = none_left ps
+
+-- a walk to the end, and where there was a cursor one from the first name to it, are the tick
+pub tick_around : (r : Resending) (pairs : Pairs) (certified : List Label) (c : Label) (first second : Turn) (sent packets : List Carried) → r.cursor ≡ Some c
+    → IsWalked r certified (take 16 (between r.cursor None (due_pairs r pairs))) (record { left = 16; cursor = r.cursor }) [] first sent
+    → IsWalked r certified (take first.left (between None r.cursor (due_pairs r pairs))) first sent second packets
+    → IsTick r pairs certified second packets
+tick_around r pairs certified c first second sent packets e one two =
+    let f : Label × Content → List Carried = sends r certified in
+    let front : Pairs = behind r.cursor (due_pairs r pairs) in
+    let back : Pairs = filter (λ p. not (is_after r.cursor p.0)) (due_pairs r pairs) in
+    let ahead : between r.cursor None (due_pairs r pairs) ≡ front = to_the_end r.cursor (due_pairs r pairs) in
+    let rest : between None r.cursor (due_pairs r pairs) ≡ back =
+    subst (λ (o : Option Label). between None o (due_pairs r pairs) ≡ filter (λ p. not (is_after o p.0)) (due_pairs r pairs)) (sym e) (to_the_cursor c (due_pairs r pairs)) in
+    let left : first.left ≡ 16 - length (take 16 front) = one.left ∙ ap (λ (ps : Pairs). 16 - length (take 16 ps)) ahead in
+    let second_part : take first.left (between None r.cursor (due_pairs r pairs)) ≡ take (16 - length (take 16 front)) back = ap₂ (λ (k : ℕ) (ps : Pairs). take k ps) left rest in
+    let whole : take 16 front ++ take (16 - length (take 16 front)) back ≡ resent r.cursor (due_pairs r pairs) = sym (take_joined 16 front back) in
+    record {
+      packets =
+          two.packets
+          ∙ (ap₂ (λ (ps : List Carried) (qs : Pairs). ps ++ flat_map f qs) (one.packets ∙ ap (λ (ps : Pairs). flat_map f (take 16 ps)) ahead) second_part
+          ∙ (sym (flat_map_joined f (take 16 front) (take (16 - length (take 16 front)) back)) ∙ ap (flat_map f) whole));
+      cursor =
+          two.cursor
+          ∙ (ap₂ (λ (o : Option Label) (qs : Pairs). last_name o qs) (one.cursor ∙ ap (λ (ps : Pairs). last_name r.cursor (take 16 ps)) ahead) second_part
+          ∙ (sym (last_name_joined r.cursor (take 16 front) (take (16 - length (take 16 front)) back)) ∙ ap (last_name r.cursor) whole));
+    }
+
+pub tick_straight : (r : Resending) (pairs : Pairs) (certified : List Label) (first : Turn) (sent : List Carried) → r.cursor ≡ None
+    → IsWalked r certified (take 16 (between r.cursor None (due_pairs r pairs))) (record { left = 16; cursor = r.cursor }) [] first sent
+    → IsTick r pairs certified first sent
+tick_straight r pairs certified first sent e one =
+    let f : Label × Content → List Carried = sends r certified in
+    let front : Pairs = behind r.cursor (due_pairs r pairs) in
+    let back : filter (λ p. not (is_after r.cursor p.0)) (due_pairs r pairs) ≡ [] =
+    subst (λ (o : Option Label). filter (λ p. not (is_after o p.0)) (due_pairs r pairs) ≡ []) (sym e) (none_left (due_pairs r pairs)) in
+    let whole : take 16 (between r.cursor None (due_pairs r pairs)) ≡ resent r.cursor (due_pairs r pairs) =
+    ap (take 16) (to_the_end r.cursor (due_pairs r pairs) ∙ (sym (append-nil front) ∙ ap (λ (ps : Pairs). front ++ ps) (sym back))) in
+    record { packets = one.packets ∙ ap (flat_map f) whole; cursor = one.cursor ∙ ap (last_name r.cursor) whole }
 
 -- a tick has at most 96 packets
-pub few_sent : (r : Resending) (pairs : List (Label × Content)) (done : ℕ) (cursor : Option Label) (packets : List Carried) → Sends r pairs done cursor packets
-    → 1 ≤ r.node → r.node ≤ r.limits.n → r.limits.n ≤ 7 → done ≤ 16 → length packets ≤ 96
-few_sent r pairs done cursor packets h low high most short =
-    let some : Pairs = take done (cyclic r.cursor pairs) in
-    omega (arith, ap length h.sent, few_packets r.limits.n r.node some low high most, length-take done (cyclic r.cursor pairs), short)
+pub few_sent : (r : Resending) (pairs : Pairs) (certified : List Label) → 1 ≤ r.node → r.node ≤ r.limits.n → r.limits.n ≤ 7 → length (tick_packets r pairs certified) ≤ 96
+few_sent r pairs certified low high most =
+    let some : Pairs = resent r.cursor (due_pairs r pairs) in
+    omega (arith, few_packets r.limits.n r.node certified r.heard some low high most, length-take 16 (cyclic r.cursor (due_pairs r pairs)))
+
+-- what an answer without an error is, is what follows from it
+pub if_ok_more : {A E : Type 0} (P Q : A → Type 0) (result : Result A E) → ((a : A) → P a → Q a) → IfOk result P → IfOk result Q
+if_ok_more P Q (Ok a) more h = more a h
+if_ok_more P Q (Err e) more h = tt
+
+-- a cursor that is there, and one that is not
+pub some_cursor : (o : Option Label) → is_some o ≡ true → (c : Label) × (o ≡ Some c)
+some_cursor None e = absurd cc
+some_cursor (Some c) e = (c, refl)
+
+pub no_cursor : (o : Option Label) → is_some o ≡ false → o ≡ None
+no_cursor None e = refl
+no_cursor (Some c) e = absurd cc

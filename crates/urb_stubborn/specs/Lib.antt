@@ -1,1 +1,3 @@
 pub mod Resending
+pub mod Settled
+pub mod Walking

@@ -1,11 +1,14 @@
 //! The packets that a call of a node hands out.
 
-ghost use Rattle.std.specs.Prelude.{◌≡◌, ◌≤◌, ◌++◌, [], length, slice_get, option_map, vec_len, IfOk, OnOk};
-ghost use Rattle.urb_names.specs.Carried.{to_others};
+ghost use Rattle.std.specs.Prelude.{◌≡◌, ◌≤◌, ◌∷◌, ◌++◌, false, filter, not, [], length, slice_get, option_map, vec_len, IfOk, OnOk};
+ghost use Rattle.urb_names.specs.Acknowledged.{acked};
+ghost use Rattle.urb_names.specs.Carried.{is_heard_of, others, packets_to, to_others};
 
+use crate::due::is_unheard;
 use std::alloc::{Allocator, Global};
 use std::marker::Model;
-use urb_names::{Config, Message, Name, NoMemory, NodeId, Packet};
+use urb_names::{Config, Flags, Message, Name, NoMemory, NodeId, Packet};
+use urb_window::Marks;
 
 /// Packets for the other nodes, at most 96: sixteen names, each to six nodes.
 #[derive(Drop)]
@@ -16,6 +19,7 @@ pub struct Outbox<A: Allocator = Global> {
 
 impl<A: Allocator> Model for Outbox<A> {
     ghost use Rattle.std.specs.Prelude.{◌≤◌, List, vec_len};
+    ghost use Rattle.urb_names.specs.Acknowledged.{acked};
     ghost use Rattle.urb_names.specs.Carried.{Carried};
 
     ghost Value = { List Carried };
@@ -35,19 +39,40 @@ impl<A: Allocator + Copy> Outbox<A> {
         }
     }
 
+    /// This packet alone, as for an answer.
+    pub fn one(alloc: A, packet: Packet<A>) -> Result<Outbox<A>, NoMemory>
+        ensures { IfOk result (λ outbox. outbox ≡ packet ∷ []) }
+    {
+        let mut packets = Vec::new(alloc);
+        packets.push(packet)?;
+        Ok(Outbox { packets })
+    }
+
     /// One packet of a message to every other node of the group, as a best-effort broadcast sends it (section 3.2 of the
-    /// book, without the node itself).
+    /// book, without the node itself). Each says whether the node has stored a certificate of the name too, and that to the node
+    /// whose certificate of it was heard says that it was.
     pub fn of_pair(
         alloc: A,
         config: Config,
         node: NodeId,
         name: Name,
         message: &Message<A>,
+        certified: bool,
+        heard: Option<NodeId>,
     ) -> Result<Outbox<A>, NoMemory>
-        ensures { IfOk result (λ outbox. outbox ≡ to_others config.n node (name, message.now)) }
+        ensures { IfOk result (λ outbox. outbox ≡ to_others config.n node certified heard (name, message.now)) }
     {
         let mut packets = Vec::new(alloc);
-        push_to_others(&mut packets, alloc, config, node, name, message)?;
+        push_to_others(
+            &mut packets,
+            alloc,
+            config,
+            node,
+            name,
+            message,
+            certified,
+            heard,
+        )?;
         Ok(Outbox { packets })
     }
 
@@ -85,22 +110,65 @@ impl<A: Allocator> Outbox<A> {
     }
 }
 
-// Appends one packet of the message to every other node.
-pub(crate) fn push_to_others<A: Allocator + Copy>(
+// Appends one packet of the message to every other node whose certificate of the name was not heard.
+pub(crate) fn push_to_unheard<A: Allocator + Copy>(
+    packets: &mut Vec<Packet<A>, A>,
+    alloc: A,
+    config: Config,
+    node: NodeId,
+    heard: &Marks<A>,
+    name: Name,
+    message: &Message<A>,
+    certified: bool,
+) -> Result<(), NoMemory>
+    ensures { OnOk result (packets.new.items ≡ packets.old.items ++ packets_to node (λ q. record { certified = certified; heard = false }) (filter (λ q. not (acked heard.now.marks name q)) (others config.n node)) (name, message.now)) }
+{
+    for number in 1..config.n() + 1 {
+        let target = NodeId::new(number).unwrap();
+        if is_unheard(heard, node, name, target) {
+            let flags = Flags {
+                certified,
+                heard: false,
+            };
+            packets.push(Packet::new(node, target, name, message.copy(alloc)?, Some(flags)))?;
+        }
+    }
+    Ok(())
+}
+
+// Appends one packet of the message to every other node, which to the node that was heard says that it was.
+fn push_to_others<A: Allocator + Copy>(
     packets: &mut Vec<Packet<A>, A>,
     alloc: A,
     config: Config,
     node: NodeId,
     name: Name,
     message: &Message<A>,
+    certified: bool,
+    heard: Option<NodeId>,
 ) -> Result<(), NoMemory>
-    ensures { OnOk result (packets.new.items ≡ packets.old.items ++ to_others config.n node (name, message.now)) }
+    ensures { OnOk result (packets.new.items ≡ packets.old.items ++ to_others config.n node certified heard (name, message.now)) }
 {
-    for number in 1..config.n() + 1 {
+    let end = config.n() + 1;
+    for number in 1..end {
         let target = NodeId::new(number).unwrap();
         if target != node {
-            packets.push(Packet::new(node, target, name, message.copy(alloc)?))?;
+            let flags = Flags {
+                certified,
+                heard: is_heard_of(heard, target),
+            };
+            packets.push(Packet::new(node, target, name, message.copy(alloc)?, Some(flags)))?;
         }
     }
     Ok(())
+}
+
+// Whether this is the node that was heard, where one was.
+fn is_heard_of(heard: Option<NodeId>, target: NodeId) -> bool
+    ensures { result ≡ is_heard_of heard target }
+{
+    match heard {
+        Some(node) => target == node,
+        None => false,
+    }
 }

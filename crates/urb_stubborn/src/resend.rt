@@ -1,71 +1,287 @@
-//! The resends of a node, a part at each tick.
+//! The resends of a node, a part at each tick, and whose certificates it has heard.
 
-ghost use Rattle.std.specs.Prelude.{◌≡◌, ◌≤◌, None, IfOk, OnOk, OnErr};
-ghost use Rattle.urb_stubborn.specs.Resending.{Resending, tick_packets, ticked};
+ghost use Rattle.std.specs.Prelude.{◌≡◌, ◌≤◌, true, [], None, IfNone, IfOk, IfSome, OnOk, OnErr, take};
+ghost use Rattle.urb_certified.specs.Certificates.{with_name};
+ghost use Rattle.urb_names.specs.Acknowledged.{acked};
+ghost use Rattle.urb_names.specs.Names.{has_name};
+ghost use Rattle.urb_names.specs.Carried.{is_due};
+ghost use Rattle.urb_pending.specs.PendingSet.{first_name};
+ghost use Rattle.urb_stubborn.specs.Resending.{hearing, tick_packets, ticked};
+ghost use Rattle.urb_stubborn.specs.Walking.{IsPassed, IsTick, IsWalked, behind, between, due_pairs, is_within};
 
 use crate::Outbox;
-use crate::outbox::push_to_others;
-use std::alloc::Allocator;
+use crate::due::{is_due, settled_to};
+use crate::outbox::push_to_unheard;
+use std::alloc::{Allocator, Global};
 use std::marker::Model;
-use urb_names::{Config, Name, NoMemory, NodeId};
+use urb_certified::Certified;
+use urb_names::{Config, Name, NoMemory, NodeId, Packet};
 use urb_pending::Pending;
+use urb_window::Marks;
 
 /// The greatest number of names that a tick resends.
 const NAMES_A_TICK: u32 = 16;
 
-/// How far a node has come with its resends.
-#[derive(Debug, Drop)]
-pub struct Resend {
-    config: Config,
-    node: NodeId,
+/// The greatest number of senders that there may be.
+const MOST_SENDERS: usize = 7;
+
+// How many names a tick may resend yet, and the last that it resent.
+#[derive(Clone, Copy, Drop)]
+struct Turn {
+    left: u32,
     cursor: Option<Name>,
 }
 
-impl Model for Resend {
-    ghost use Rattle.std.specs.Prelude.{◌≤◌};
+/// How far a node has come with its resends, and which nodes' certificates of which names it has heard: to these it resends a
+/// name no more.
+#[derive(Drop)]
+#[derive_where(Debug)]
+pub struct Resend<A: Allocator = Global> {
+    config: Config,
+    node: NodeId,
+    cursor: Option<Name>,
+    heard: Marks<A>,
+    settled: [u32; MOST_SENDERS],
+}
+
+impl<A: Allocator> Model for Resend<A> {
     ghost use Rattle.urb_stubborn.specs.Resending.{Resending};
 
     ghost Value = { Resending };
 
-    ghost view = { λ a. record { limits = a.config; node = a.node; cursor = a.cursor } };
+    ghost use Rattle.urb_stubborn.specs.Settled.{view_of, IsKept};
 
-    ghost invariant = { λ a. a.node ≤ a.config.n };
+    ghost view = { view_of };
+
+    ghost invariant = { IsKept };
 }
 
-impl Resend {
-    /// The resends of a node of the group, which begin before its smallest name, as after a restart. Takes no memory.
-    pub fn new(config: Config, node: NodeId) -> Resend
+impl<A: Allocator + Copy> Resend<A> {
+    /// The resends of a node of the group, which begin before its smallest name; nothing was heard. Takes no memory; what grows
+    /// later is taken from `alloc`.
+    pub fn new(alloc: A, config: Config, node: NodeId) -> Resend<A>
         requires { node ≤ config.n }
-        ensures { result ≡ record { limits = config; node = node; cursor = None } }
+        ensures { result ≡ record { limits = config; node = node; cursor = None; heard = []; roomy = [] } }
     {
         Resend {
             config,
             node,
             cursor: None,
+            heard: Marks::new(alloc),
+            settled: [0; MOST_SENDERS],
         }
     }
 
-    /// Sends pending messages again, sixteen names at most, from where the last tick ended: what a stubborn link does on a
-    /// timeout (section 2.4 of the book).
-    pub fn tick<A: Allocator + Copy>(
+    /// Makes room for a name, so that each node's certificate of it can be heard without memory. The room stays. `NoMemory`
+    /// means that a growth was refused: the call may be made again.
+    pub fn reserve(&mut self, name: Name) -> Result<(), NoMemory>
+        ensures ok { OnOk result (self.new ≡ record self.old { roomy = with_name self.old.roomy name }) }
+        ensures err { OnErr result (self.new ≡ self.old) }
+    {
+        self.heard.make_room(name)
+    }
+
+    /// A packet has told that a node stored a certificate of a name: the name is resent to it no more. Takes no memory.
+    pub fn hear(&mut self, name: Name, node: NodeId)
+        requires { has_name self.old.roomy name ≡ true }
+        ensures { self.new ≡ hearing self.old name node }
+    {
+        if self.heard.has(name, node) {
+            return;
+        }
+        let _added = self.heard.add(name, node);
+        let index = name.sender.number() as usize - 1;
+        self.settled[index] = settled_to(
+            &self.heard,
+            self.config,
+            self.node,
+            name.sender,
+            self.settled[index],
+        );
+    }
+
+    /// Whether a node's certificate of a name was heard.
+    pub fn heard(&self, name: Name, node: NodeId) -> bool
+        ensures { result ≡ acked self.now.heard name node }
+    {
+        self.heard.has(name, node)
+    }
+
+    /// All that was heard is lost, as in a crash; each name that has room keeps it. Takes no memory.
+    pub fn forget(&mut self)
+        ensures { self.new ≡ record self.old { heard = [] } }
+    {
+        self.heard.forget();
+        self.settled = [0; MOST_SENDERS];
+    }
+
+    /// The next tick begins before the smallest name, as after a restart.
+    pub fn rewind(&mut self)
+        ensures { self.new ≡ record self.old { cursor = None } }
+    {
+        self.cursor = None;
+    }
+
+    /// Sends pending messages again to the nodes whose certificates of them were not heard, sixteen names at most, from where
+    /// the last tick ended: what a stubborn link does on a timeout (section 2.4 of the book), until there is nothing left to
+    /// say. Where no name is due it sends nothing. `NoMemory` means that a growth was refused: the call may be made again.
+    pub fn tick(
         &mut self,
         alloc: A,
         pending: &Pending<A>,
+        certified: &Certified<A>,
     ) -> Result<Outbox<A>, NoMemory>
-        ensures packets { IfOk result (λ outbox. outbox ≡ tick_packets self.old pending.now.pairs) }
+        ensures packets { IfOk result (λ outbox. outbox ≡ tick_packets self.old pending.now.pairs certified.now.names) }
         ensures ok { OnOk result (self.new ≡ ticked self.old pending.now.pairs) }
         ensures err { OnErr result (self.new ≡ self.old) }
     {
-        pending.limits();
-        let mut cursor = self.cursor;
-        let mut packets = Vec::new(alloc);
-        for _ in 0..pending.count().min(NAMES_A_TICK) {
-            let name = pending.after(cursor).unwrap();
-            let message = pending.message(name).unwrap();
-            push_to_others(&mut packets, alloc, self.config, self.node, name, message)?;
-            cursor = Some(name);
+        if self.config.n() == 1 {
+            return Ok(Outbox::empty(alloc));
         }
-        self.cursor = cursor;
+        let mut packets = Vec::new(alloc);
+        let turn = self.go_round(&mut packets, alloc, pending, certified)?;
+        self.cursor = turn.cursor;
         Ok(Outbox::of(packets))
+    }
+
+    // Makes the packets of a tick: from the cursor to the last name, and where there was a cursor from the first name to it.
+    fn go_round(
+        &self,
+        packets: &mut Vec<Packet<A>, A>,
+        alloc: A,
+        pending: &Pending<A>,
+        certified: &Certified<A>,
+    ) -> Result<Turn, NoMemory>
+        requires { packets.old.items ≡ [] }
+        ensures { IfOk result (λ after. IsTick self.now pending.now.pairs certified.now.names after packets.new.items) }
+    {
+        let begun = Turn {
+            left: NAMES_A_TICK,
+            cursor: self.cursor,
+        };
+        let turned = self.send(
+            packets,
+            alloc,
+            pending,
+            certified,
+            self.cursor,
+            &None,
+            begun,
+        )?;
+        if self.cursor.is_none() {
+            return Ok(turned);
+        }
+        self.send(
+            packets,
+            alloc,
+            pending,
+            certified,
+            None,
+            &self.cursor,
+            turned,
+        )
+    }
+
+    // The name after which the next due one of a sender may come, where this one isn't due.
+    fn passed(&self, name: Name) -> Option<Name>
+        ensures due { IfNone result (is_due self.now.limits.n self.now.node self.now.heard name ≡ true) }
+        ensures passed { IfSome result (IsPassed self.now name) }
+    {
+        let settled = self.settled[name.sender.number() as usize - 1];
+        if name.seq <= settled {
+            let sender = name.sender;
+            return Some(Name {
+                sender,
+                seq: settled,
+            });
+        }
+        if is_due(&self.heard, self.config, self.node, name) {
+            None
+        } else {
+            Some(name)
+        }
+    }
+
+    // The first due name behind a cursor, without going round.
+    fn next_due(&self, pending: &Pending<A>, cursor: Option<Name>) -> Option<Name>
+        ensures { result ≡ first_name (behind cursor (due_pairs self.now pending.now.pairs)) }
+    {
+        pending.limits();
+        let mut at = cursor;
+        while let Some(name) = pending.behind(at) {
+            match self.passed(name) {
+                None => return Some(name),
+                Some(end) => at = Some(end),
+            }
+        }
+        None
+    }
+
+    // The first due name behind a cursor that is not behind the last one, where there is one.
+    fn next_within(
+        &self,
+        pending: &Pending<A>,
+        from: Option<Name>,
+        last: &Option<Name>,
+    ) -> Option<Name>
+        ensures { result ≡ first_name (between from last.now (due_pairs self.now pending.now.pairs)) }
+    {
+        pending.limits();
+        let name = self.next_due(pending, from)?;
+        if is_within(last, name) {
+            Some(name)
+        } else {
+            None
+        }
+    }
+
+    // Appends the packets of the due names behind a cursor that are not behind the last one, as many names as the turn has left.
+    fn send(
+        &self,
+        packets: &mut Vec<Packet<A>, A>,
+        alloc: A,
+        pending: &Pending<A>,
+        certified: &Certified<A>,
+        from: Option<Name>,
+        last: &Option<Name>,
+        turn: Turn,
+    ) -> Result<Turn, NoMemory>
+        ensures { IfOk result (λ after. IsWalked self.now certified.now.names (take turn.left (between from last.now (due_pairs self.now pending.now.pairs))) turn packets.old.items after packets.new.items) }
+    {
+        pending.limits();
+        let mut at = from;
+        let mut left = turn.left;
+        let mut cursor = turn.cursor;
+        while 0 < left {
+            let Some(name) = self.next_within(pending, at, last) else {
+                return Ok(Turn { left, cursor });
+            };
+            let message = pending.message(name).unwrap();
+            let is_certified = certified.has(name);
+            push_to_unheard(
+                packets,
+                alloc,
+                self.config,
+                self.node,
+                &self.heard,
+                name,
+                message,
+                is_certified,
+            )?;
+            at = Some(name);
+            cursor = Some(name);
+            left -= 1;
+        }
+        Ok(Turn { left, cursor })
+    }
+}
+
+// Whether a name is not behind the last one, where there is one.
+fn is_within(last: &Option<Name>, name: Name) -> bool
+    ensures { result ≡ is_within last.now name }
+{
+    match last {
+        Some(last) => !last.is_before(name),
+        None => true,
     }
 }

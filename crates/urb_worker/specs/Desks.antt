@@ -38,6 +38,7 @@ abbrev pub said_of : Reply Global → Said
 said_of (reply.Same (answer.Accepted x)) = Accepted x.seq
 said_of (reply.Same (answer.Noted x)) = gone
 said_of (reply.Same (answer.Again x)) = gone
+said_of (reply.Same (answer.Answered x packets)) = gone
 said_of (reply.Stored done) = if done.accepted then Accepted done.name.seq else gone
 said_of (reply.Refused r) = Refused (number_of r) (detail_of r)
 said_of (reply.WentDown p) = IsDone

@@ -3,4 +3,5 @@ pub mod Counting
 pub mod Views
 pub mod Stages
 pub mod Turns
+pub mod Served
 pub mod Desks

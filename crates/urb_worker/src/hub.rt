@@ -3,6 +3,7 @@
 ghost use Rattle.std.specs.Prelude.{◌≡◌, ◌+◌, ◌<◌, ◌≤◌, ◌^◌, IfOk, IfErr, sum, vec_len};
 ghost use Rattle.urb_worker.specs.Counting.{count_after};
 ghost use Rattle.urb_worker.specs.Jobs.{runs_at};
+ghost use Rattle.urb_worker.specs.Served.{Turns};
 
 use crate::tallied::TalliedHouse;
 use crate::tally::{HubName, Tally};
@@ -73,6 +74,7 @@ impl<K: HouseName, L: HubName> Hub<K, L> {
         ensures job { result.0.job ≡ job }
         ensures ran { result.0.ran ≡ runs_at node job }
         ensures tally { result.1 ≡ tally + result.0.events }
+        ensures store { Turns S.Stable store.old store.new }
     {
         if !job.runs_at(node) {
             return (Finished::misrouted(job), tally);

@@ -1,7 +1,9 @@
 //! A group that runs: its workers and what goes on outside them, from the opened group to the closed house.
 
-ghost use Rattle.std.specs.Prelude.{◌≡◌, ◌<◌, ◌≤◌, ◌*◌, ◌+◌, IfOk, IfSome, length, vec_len, vec_capacity};
+ghost use Rattle.std.specs.Prelude.{◌≡◌, ◌<◌, ◌≤◌, ◌*◌, ◌+◌, IfOk, IfSome, length, reverse, sum, vec_len, vec_capacity};
 ghost use Rattle.urb_show.specs.Lists.{lists_in};
+ghost use Rattle.urb_worker.specs.Counting.{count_after};
+ghost use Rattle.urb_worker.specs.Served.{AreServed, each, numbers_from};
 
 use crate::outside::run_outside;
 use crate::staff::{Seat, Worker, gather, start};
@@ -73,6 +75,7 @@ fn make_rooms<K: HouseName, L: HubName, S: Stable<Alloc = Global> + Drop>(
 }
 
 // A seat for each store, that of the last node first.
+#[tactic(auto, using(crate::proofs::Served::takes_up, crate::proofs::Served::reverse_push))]
 fn seat_all<K: HouseName, L: HubName, S: Stable<Alloc = Global> + Drop>(
     seats: Vec<Seat<K, L, S>>,
     stores: Vec<S>,
@@ -82,7 +85,9 @@ fn seat_all<K: HouseName, L: HubName, S: Stable<Alloc = Global> + Drop>(
     requires room { (vec_len seats ≡ 0) × (vec_len stores ≤ vec_capacity seats) }
     requires one_each { (vec_len jobs ≡ vec_len stores) × (vec_len tallies ≡ vec_len stores) }
     requires nodes { vec_len stores ≤ 7 }
-    ensures { vec_len result ≡ vec_len stores }
+    ensures count { vec_len result ≡ vec_len stores }
+    ensures stores { reverse (each result.items (λ seat. seat.store)) ≡ stores.items }
+    ensures nodes { reverse (each result.items (λ seat. seat.node)) ≡ numbers_from 1 (vec_len stores) }
 {
     let mut seats = seats;
     let mut stores = stores;
@@ -174,6 +179,7 @@ where
     requires lines { vec_len lines ≡ length stations.now }
     ensures stores { vec_len result.0.0 ≡ vec_len crew.seats }
     ensures tallies { vec_len result.0.1 ≡ vec_len crew.seats }
+    ensures order { AreServed S.Stable (reverse (each crew.seats.items (λ seat. seat.store))) result.0.0.items }
 {
     let Crew {
         seats,
@@ -214,6 +220,7 @@ where
     requires lines { vec_len lines ≡ length stations.now }
     ensures stores { vec_len result.0.0 ≡ vec_len crew.seats }
     ensures tallies { vec_len result.0.1 ≡ vec_len crew.seats }
+    ensures order { AreServed S.Stable (reverse (each crew.seats.items (λ seat. seat.store))) result.0.0.items }
 {
     thread::scope(
         thread::scope_env(),
@@ -222,7 +229,9 @@ where
             requires { (length stations.now ≤ length K.base)
                 × (length K.base ≤ 7)
                 × (vec_len lines ≡ length stations.now) }
-            ensures { (vec_len result.0.0 ≡ vec_len crew.seats) × (vec_len result.0.1 ≡ vec_len crew.seats) }
+            ensures { (vec_len result.0.0 ≡ vec_len crew.seats)
+                × (vec_len result.0.1 ≡ vec_len crew.seats)
+                × AreServed S.Stable (reverse (each crew.seats.items (λ seat. seat.store))) result.0.0.items }
         {
             run_crew(
                 scope, rt, alloc, hub, link, crew, lines, readers, millis, stations, watch,
@@ -231,10 +240,26 @@ where
     )
 }
 
+// Closes the house, and gives the count of its events, which is that of all tallies.
+fn close_all<K: HouseName, L: HubName, R: Wait>(
+    rt: &R,
+    hub: Hub<K, L>,
+    tallies: Vec<Tally<L>>,
+) -> u64
+    requires { vec_len tallies ≡ L.parts }
+    ensures { result ≡ count_after (sum tallies.items) L.start }
+{
+    let house = hub.close(tallies);
+    let events = house.events();
+    drop(house.close(rt));
+    events
+}
+
 /// Runs a group that was opened, until the watch ends: a worker for each node, with its store; at each node's station its
 /// datagrams and its clients; and a tick at each node every so many milliseconds. The stores and the stations are those of
 /// the nodes 1, 2, ... It gives the stores back, and how many events there were. At the end it waits for sessions that have
 /// begun. None where memory or a thread was refused: then nothing runs any more, and the watch was not asked.
+#[tactic(auto, using(crate::proofs::Served::unserved))]
 pub fn run_group<
     K: HouseName + Send + Sync,
     L: HubName + Send + Sync,
@@ -260,7 +285,9 @@ where
     requires start { L.start ≡ 0 }
     requires stores { vec_len stores ≡ opened.group.size.n }
     requires stations { length stations.now ≡ opened.group.size.n }
-    ensures { vec_len result.0 ≡ vec_len stores }
+    ensures count { vec_len result.0 ≡ vec_len stores }
+    // Each store comes back at its place, as its own node's turns left it.
+    ensures order { AreServed S.Stable stores.items result.0.items }
 {
     let Ok(rooms) = make_rooms::<K, L, S>(alloc, stations.len()) else {
         drop(opened.close());
@@ -286,9 +313,6 @@ where
     let ((stores, tallies), whole) = run_workers(
         rt, alloc, &hub, link, crew, lines, readers, millis, stations, watch,
     );
-    let house = hub.close(tallies);
-    let events = house.events();
-    drop(house.close(rt));
-    let events = if whole { Some(events) } else { None };
-    (stores, events)
+    let events = close_all(rt, hub, tallies);
+    (stores, if whole { Some(events) } else { None })
 }

@@ -1,10 +1,15 @@
 //! A node's worker: its tickets, one after the other.
 
+ghost use Rattle.std.specs.Prelude.{◌≡◌, [], MatchOption};
+ghost use Rattle.urb_node.specs.Replies.{packets_in};
+ghost use Rattle.urb_group.specs.Commands.{reply_of};
+ghost use Rattle.urb_worker.specs.Served.{IsLeftOf};
+
 use crate::{Finished, Gate, Hub, HubName, Job, Link, Tally};
 use crossbeam_channel::{Receiver, Sender};
 use std::alloc::Global;
 use std::sync::Wait;
-use urb_group::{Outbox, Reply};
+use urb_group::{Answer, Outbox, Reply};
 use urb_names::{NodeId, encode};
 use urb_show::HouseName;
 use urb_stable::Stable;
@@ -28,12 +33,15 @@ fn send_all<N: Link>(alloc: Global, link: &N, packets: &Outbox) {
     }
 }
 
-// Sends what a reply hands out: the packets of a stored record, or of a tick.
-fn send_out<N: Link>(alloc: Global, link: &N, reply: &Reply) {
+// The packets that a reply hands out: those of a stored record, of a tick, or in answer to a packet.
+fn packets_in(reply: &Reply) -> Option<&Outbox>
+    ensures { MatchOption result (packets_in (reply_of reply.now) ≡ []) (λ packets. packets.now ≡ packets_in (reply_of reply.now)) }
+{
     match reply {
-        Reply::Stored(done) => send_all(alloc, link, &done.sent),
-        Reply::Sent(packets) => send_all(alloc, link, packets),
-        _ => {}
+        Reply::Stored(done) => Some(&done.sent),
+        Reply::Sent(packets) => Some(packets),
+        Reply::Same(Answer::Answered(_, packets)) => Some(packets),
+        _ => None,
     }
 }
 
@@ -55,6 +63,7 @@ pub fn serve<K: HouseName, L: HubName, S: Stable<Alloc = Global> + Drop, N: Link
 }
 
 /// The same with a store that is lent, for one who closes it afterwards.
+#[tactic(auto, using(crate::proofs::Served::not_yet, crate::proofs::Served::one_turn))]
 pub fn serve_from<K: HouseName, L: HubName, S: Stable<Alloc = Global>, N: Link, G: Gate, R: Wait>(
     rt: &R,
     alloc: Global,
@@ -65,7 +74,9 @@ pub fn serve_from<K: HouseName, L: HubName, S: Stable<Alloc = Global>, N: Link, 
     link: &N,
     gate: &G,
     tally: Tally<L>,
-) -> Tally<L> {
+) -> Tally<L>
+    ensures { IsLeftOf S.Stable store.old store.new }
+{
     let mut tally = tally;
     for _ in rt.forever() {
         let Ok(Ticket { job, answer }) = jobs.recv(rt) else {
@@ -73,7 +84,9 @@ pub fn serve_from<K: HouseName, L: HubName, S: Stable<Alloc = Global>, N: Link, 
         };
         let (finished, counted) = hub.work(rt, alloc, node, job, store, gate, tally);
         tally = counted;
-        send_out(alloc, link, finished.reply());
+        if let Some(packets) = packets_in(finished.reply()) {
+            send_all(alloc, link, packets);
+        }
         if let Some(answer) = answer {
             let _ = answer.send(rt, finished);
         }

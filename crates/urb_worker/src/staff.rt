@@ -1,13 +1,15 @@
 //! The workers of a group, each on a thread of its own: what they have, and what they leave.
 
-ghost use Rattle.std.specs.Prelude.{◌≡◌, ◌≤◌, IfSome, vec_len, vec_capacity};
+ghost use Rattle.std.specs.Prelude.{◌≡◌, ◌≤◌, IfSome, map, reverse, vec_len, vec_capacity};
+ghost use Rattle.urb_worker.specs.Served.{AreServed, IsLeftOf, each, in_either};
 
 use crate::serving::serve_from;
 use crate::{Hub, HubName, OpenGate, Tally, Ticket, UdpLink};
 use crossbeam_channel::{Receiver, Sender};
 use std::alloc::Global;
+use std::snapshot::Snapshot;
 use std::sync::Wait;
-use std::thread::{JoinHandle, Scope, Threads};
+use std::thread::{Promise, PromisedHandle, Scope, Threads};
 use urb_names::NodeId;
 use urb_show::HouseName;
 use urb_stable::Stable;
@@ -21,12 +23,27 @@ pub(crate) struct Seat<K: HouseName, L: HubName, S: Stable<Alloc = Global>> {
     pub(crate) tally: Tally<L>,
 }
 
-/// A worker: its thread, or what it has left where no thread could be made.
+/// What a worker with no thread has left: its store after its turns, and its tally.
 #[derive(Drop)]
-pub(crate) enum Worker<L: HubName, S: Stable<Alloc = Global>> {
-    Running(JoinHandle<(S, Tally<L>)>),
-    Ended(S, Tally<L>),
+pub(crate) struct Left<L: HubName, S: Stable<Alloc = Global>> {
+    store: S,
+    tally: Tally<L>,
+    came: Snapshot<S>,
+    ghost served: { IsLeftOf S.Stable came.value store },
 }
+
+/// The promise that the store of a seat is the one that is left.
+#[derive(Drop)]
+pub(crate) struct LeavesIt<S>(Snapshot<S>);
+
+impl<L: HubName, S: Stable<Alloc = Global>> Promise<(S, Tally<L>)> for LeavesIt<S> {
+    ghost use Rattle.urb_worker.specs.Served.{IsLeftOf};
+
+    ghost kept_by = { λ promise left. IsLeftOf S.Stable promise.0.value left.0 };
+}
+
+/// A worker: its thread, or what it has left where no thread could be made.
+pub(crate) type Worker<L, S> = Result<PromisedHandle<(S, Tally<L>), LeavesIt<S>>, Left<L, S>>;
 
 // Does a node's jobs until its channel closes, and leaves its store and its tally.
 fn work_at<K: HouseName, L: HubName, S: Stable<Alloc = Global> + Drop, R: Wait>(
@@ -35,7 +52,9 @@ fn work_at<K: HouseName, L: HubName, S: Stable<Alloc = Global> + Drop, R: Wait>(
     hub: &Hub<K, L>,
     link: &UdpLink,
     seat: Seat<K, L, S>,
-) -> (S, Tally<L>) {
+) -> (S, Tally<L>)
+    ensures { IsLeftOf S.Stable seat.store result.0 }
+{
     let Seat {
         node,
         mut store,
@@ -68,23 +87,48 @@ pub(crate) fn start<
 ) -> (Vec<Worker<L, S>>, Option<Vec<Sender<Ticket<K>>>>)
     requires { (vec_len workers ≡ 0) × (vec_len seats ≤ vec_capacity workers) }
     ensures workers { vec_len result.0 ≡ vec_len seats }
+    // The workers have the stores of the seats, in falling order.
+    ensures order { each result.0.items (λ worker. in_either worker (λ thread. thread.promise.0.value) (λ left. left.came.value)) ≡ reverse (each seats.items (λ seat. seat.store)) }
     ensures lines { IfSome result.1 (λ kept. vec_len kept ≡ vec_len lines) }
 {
     let mut lines = Some(lines);
     let mut workers = workers;
     let mut seats = seats;
     while let Some(seat) = seats.pop() {
-        let work = move || work_at(rt, alloc, hub, link, seat);
-        match scope.spawn(work) {
-            Ok(thread) => workers.push_reserved(Worker::Running(thread)),
+        let (came, kept) = (Snapshot::of(&seat.store), Snapshot::of(&seat.store));
+        let work = move || -> (S, Tally<L>)
+            ensures { IsLeftOf S.Stable seat.store result.0 }
+        { work_at(rt, alloc, hub, link, seat) };
+        match scope.spawn_with(LeavesIt(kept), work) {
+            Ok(thread) => workers.push_reserved(Ok(thread)),
             Err(refused) => {
                 lines = None;
                 let (store, tally) = (refused.value)();
-                workers.push_reserved(Worker::Ended(store, tally));
+                workers.push_reserved(Err(Left { store, tally, came }));
             }
         }
     }
     (workers, lines)
+}
+
+// Waits for a worker, and gives what it left.
+fn left_by<L: HubName, S: Stable<Alloc = Global> + Drop, R: Threads>(
+    rt: &R,
+    worker: Worker<L, S>,
+) -> (S, Tally<L>)
+    ensures { IsLeftOf S.Stable (in_either worker (λ thread. thread.promise.0.value) (λ left. left.came.value)) result.0 }
+{
+    match worker {
+        Ok(thread) => thread.join(rt),
+        Err(left) => {
+            let Left {
+                store,
+                tally,
+                came: _,
+            } = left;
+            (store, tally)
+        }
+    }
 }
 
 /// Waits for the workers, and gives their stores and tallies in their order.
@@ -98,14 +142,13 @@ pub(crate) fn gather<L: HubName, S: Stable<Alloc = Global> + Drop, R: Threads>(
     requires tallies { (vec_len tallies ≡ 0) × (vec_len workers ≤ vec_capacity tallies) }
     ensures stores { vec_len result.0 ≡ vec_len workers }
     ensures tallies { vec_len result.1 ≡ vec_len workers }
+    // Each store is that of its worker, after its turns.
+    ensures order { AreServed S.Stable (each workers.items (λ worker. in_either worker (λ thread. thread.promise.0.value) (λ left. left.came.value))) result.0.items }
 {
     let mut stores = stores;
     let mut tallies = tallies;
     for worker in workers {
-        let (store, tally) = match worker {
-            Worker::Running(thread) => thread.join(rt),
-            Worker::Ended(store, tally) => (store, tally),
-        };
+        let (store, tally) = left_by(rt, worker);
         stores.push_reserved(store);
         tallies.push_reserved(tally);
     }

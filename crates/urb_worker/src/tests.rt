@@ -13,6 +13,7 @@ use urb_show::{House, HouseName, LogReader, Opened};
 
 mod desks;
 mod gates;
+mod hearing;
 mod pacing;
 mod timers;
 mod turns;

@@ -25,11 +25,35 @@ pub fn first() -> Option<Name> {
     })
 }
 
-/// Whether this was answered, and nothing was drafted.
-pub fn is_answer(taken: &Taken, answer: Answer) -> bool {
+/// Whether a repeat was accepted under this name.
+pub fn is_accepted(taken: &Taken, name: Name) -> bool {
     match taken {
-        Taken::Same(told) => *told == answer,
-        Taken::Store(_) => false,
+        Taken::Same(Answer::Accepted(told)) => *told == name,
+        _ => false,
+    }
+}
+
+/// Whether an acknowledgement of this name was counted.
+pub fn is_noted(taken: &Taken, name: Name) -> bool {
+    match taken {
+        Taken::Same(Answer::Noted(told)) => *told == name,
+        _ => false,
+    }
+}
+
+/// The packets that answer a packet.
+pub fn answered(taken: Taken) -> Option<Outbox> {
+    match taken {
+        Taken::Same(Answer::Answered(_, packets)) => Some(packets),
+        _ => None,
+    }
+}
+
+/// Whether something was drafted.
+pub fn is_drafted(taken: &Taken) -> bool {
+    match taken {
+        Taken::Same(_) => false,
+        Taken::Store(_) => true,
     }
 }
 

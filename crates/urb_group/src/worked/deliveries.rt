@@ -1,5 +1,5 @@
 //! Scripts in which nothing fails: what is drafted, stored, sent, counted and delivered.
-ghost use Rattle.std.specs.Prelude.{[], ◌∷◌, None, Some};
+ghost use Rattle.std.specs.Prelude.{[], ◌∷◌, None, Some, false};
 ghost use Rattle.urb_names.specs.Names.{name};
 ghost use Rattle.urb_stable.specs.declared.record.Record.TheVariants.{Pend, PendCert, Cert};
 ghost use Rattle.urb_node.specs.Part.{Ready, Storing, packet_from};
@@ -119,12 +119,13 @@ pub fn larger_groups()
         ∷ []) }
     ensures a_node_counts_itself_only_once_stored { Plays 5 10 (
         submit 1 (message 7 1 "a") ⇒ Drafts (name 1 1) 1
-        ∷ look_at 1 ⇒ Is (record { records = []; state = Storing (Pend (name 1 1) (message 7 1 "a")) None; acks = []; cursor = None; broadcast = [] })
+        ∷ look_at 1 ⇒ Is (record { records = []; state = Storing (Pend (name 1 1) (message 7 1 "a")) None; acks = []; heard = []; cursor = None; broadcast = [] })
         ∷ store 1 ⇒ Accepts (name 1 1) 4 0
         ∷ look_at 1 ⇒ Is (record {
           records = Pend (name 1 1) (message 7 1 "a") ∷ [];
           state = Ready;
           acks = (name 1 1, 1) ∷ [];
+          heard = [];
           cursor = None;
           broadcast = message 7 1 "a" ∷ [];
         })
@@ -133,12 +134,13 @@ pub fn larger_groups()
         submit 1 (message 7 1 "a") ⇒ Drafts (name 1 1) 1
         ∷ store 1 ⇒ Accepts (name 1 1) 4 0
         ∷ arrive 1 2 1 1 ⇒ Drafts (name 1 1) 1
-        ∷ look_at 2 ⇒ Is (record { records = []; state = Storing (Pend (name 1 1) (message 7 1 "a")) (Some (packet_from 1)); acks = []; cursor = None; broadcast = [] })
+        ∷ look_at 2 ⇒ Is (record { records = []; state = Storing (Pend (name 1 1) (message 7 1 "a")) (Some (packet_from 1 false)); acks = []; heard = []; cursor = None; broadcast = [] })
         ∷ store 2 ⇒ Takes (name 1 1) 4 0
         ∷ look_at 2 ⇒ Is (record {
           records = Pend (name 1 1) (message 7 1 "a") ∷ [];
           state = Ready;
           acks = (name 1 1, 1) ∷ (name 1 1, 2) ∷ [];
+          heard = [];
           cursor = None;
           broadcast = [];
         })
@@ -151,8 +153,9 @@ pub fn larger_groups()
         ∷ arrive 2 1 1 1 ⇒ Drafts (name 1 1) 2
         ∷ look_at 1 ⇒ Is (record {
           records = Pend (name 1 1) (message 7 1 "a") ∷ [];
-          state = Storing (Cert (name 1 1)) (Some (packet_from 2));
+          state = Storing (Cert (name 1 1)) (Some (packet_from 2 false));
           acks = (name 1 1, 2) ∷ (name 1 1, 1) ∷ [];
+          heard = [];
           cursor = None;
           broadcast = message 7 1 "a" ∷ [];
         })

@@ -38,6 +38,7 @@ pub fn failed_stores()
           records = Pend (name 1 1) (message 7 1 "a") ∷ [];
           state = Down (Some (Cert (name 1 1)));
           acks = [];
+          heard = [];
           cursor = None;
           broadcast = message 7 1 "a" ∷ [];
         })
@@ -55,6 +56,7 @@ pub fn failed_stores()
           records = Pend (name 1 1) (message 7 1 "a") ∷ [];
           state = Ready;
           acks = (name 1 1, 2) ∷ [];
+          heard = [];
           cursor = None;
           broadcast = [];
         })
@@ -108,7 +110,7 @@ pub fn crashes()
         ∷ store 1 ⇒ Accepts (name 1 1) 1 0
         ∷ tick 1 ⇒ Sends ((2, name 1 1) ∷ [])
         ∷ crash 1 ⇒ down 1
-        ∷ look_at 1 ⇒ Is (record { records = pending 1 1 ∷ []; state = Down None; acks = []; cursor = Some (name 1 1); broadcast = message 7 1 "" ∷ [] })
+        ∷ look_at 1 ⇒ Is (record { records = pending 1 1 ∷ []; state = Down None; acks = []; heard = []; cursor = Some (name 1 1); broadcast = message 7 1 "" ∷ [] })
         ∷ arrive 1 2 1 1 ⇒ Drafts (name 1 1) 1
         ∷ []) }
 {}

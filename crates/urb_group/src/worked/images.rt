@@ -74,6 +74,7 @@ pub fn opening()
           records = certified 1 1 ∷ certified 1 2 ∷ [];
           state = Ready;
           acks = (name 1 1, 1) ∷ (name 1 2, 1) ∷ [];
+          heard = [];
           cursor = None;
           broadcast = message 7 1 "" ∷ message 7 2 "" ∷ [];
         } }
@@ -83,6 +84,7 @@ pub fn opening()
           records = certified 1 2 ∷ pending 2 1 ∷ [];
           state = Ready;
           acks = (name 1 2, 2) ∷ (name 2 1, 2) ∷ [];
+          heard = [];
           cursor = None;
           broadcast = message 7 1 "" ∷ [];
         } }

@@ -127,7 +127,7 @@ pub fn nodes()
         ∷ crash 4 ⇒ Refuses refusal.BadNode
         ∷ restart 4 ⇒ Refuses refusal.BadNode
         ∷ submit 0 (message 7 1 "a") ⇒ Refuses refusal.BadNode
-        ∷ look_at 1 ⇒ Is (record { records = []; state = Ready; acks = []; cursor = None; broadcast = [] })
+        ∷ look_at 1 ⇒ Is (record { records = []; state = Ready; acks = []; heard = []; cursor = None; broadcast = [] })
         ∷ []) }
     ensures each_event_asks_for_a_state { Plays 3 10 (
         fail_old 2 ⇒ Refuses refusal.Stale

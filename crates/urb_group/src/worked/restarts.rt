@@ -21,6 +21,7 @@ pub fn taken()
           records = pending 1 1 ∷ pending 1 2 ∷ [];
           state = Ready;
           acks = (name 1 1, 1) ∷ (name 1 2, 1) ∷ [];
+          heard = [];
           cursor = None;
           broadcast = message 7 1 "" ∷ message 7 2 "" ∷ [];
         })
@@ -43,6 +44,7 @@ pub fn taken()
           records = pending 1 1 ∷ pending 1 2 ∷ [];
           state = Ready;
           acks = (name 1 1, 1) ∷ (name 1 2, 1) ∷ [];
+          heard = [];
           cursor = None;
           broadcast = message 7 1 "" ∷ message 7 2 "" ∷ [];
         })
@@ -58,6 +60,7 @@ pub fn taken()
           records = pending 1 1 ∷ [];
           state = Ready;
           acks = (name 1 1, 1) ∷ [];
+          heard = [];
           cursor = None;
           broadcast = message 7 1 "" ∷ [];
         })

@@ -1,5 +1,5 @@
 //! What a stop of the process may leave of a node's storage.
-ghost use Rattle.std.specs.Prelude.{[], ◌∷◌, None, Some};
+ghost use Rattle.std.specs.Prelude.{[], ◌∷◌, None, Some, false};
 ghost use Rattle.urb_stable.specs.Memory.{after_failure, empty_memory, with_record};
 ghost use Rattle.urb_stable.specs.declared.record.Record.TheVariants.{Pend, PendCert};
 ghost use Rattle.urb_node.specs.Part.{Ready, Storing, Down, packet_from};
@@ -16,7 +16,7 @@ pub fn left()
     ensures without_the_doubtful_one { MayLeave (node_in (Down (Some (pending 1 2))) (pending 1 1 ∷ [])) (pending 1 1 ∷ []) }
     ensures with_the_doubtful_one { MayLeave (node_in (Down (Some (pending 1 2))) (pending 1 1 ∷ [])) (pending 1 1 ∷ pending 1 2 ∷ []) }
     ensures stored_by_a_node_that_is_down { MayLeave (node_in (Down None) (pending 1 1 ∷ [])) (pending 1 1 ∷ []) }
-    ensures taken_before_its_commit { HoldsOf (in_memory (Unit {0})) (node_in (Storing (pending 1 1) (Some (packet_from 2))) []) (with_record (pending 1 1) empty_memory) }
+    ensures taken_before_its_commit { HoldsOf (in_memory (Unit {0})) (node_in (Storing (pending 1 1) (Some (packet_from 2 false))) []) (with_record (pending 1 1) empty_memory) }
 {}
 
 /// Nothing else: no record is lost, none is made up, and none comes before another.

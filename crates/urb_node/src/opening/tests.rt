@@ -10,6 +10,7 @@ use std::test::Fail;
 use urb_names::{ClientId, Config, Message, Name, NoMemory, NodeId};
 use urb_refusing::Refusing;
 use urb_stable::Record;
+use urb_stubborn::Outbox;
 
 /// Refuses one growth.
 type Heap<'h> = &'h Refusing<Global>;
@@ -74,11 +75,19 @@ fn is_opened<A: Allocator + Copy>(ready: &Ready<A>, alloc: A) -> Result<bool, Fa
     Ok(log && own && held)
 }
 
-// The answer to a message that the image has.
-fn told_again<A: Allocator + Copy>(ready: Ready<A>, alloc: A) -> Result<Answer, Fail> {
+// The name under which a repeat is accepted.
+fn accepted<A: Allocator + Copy>(answer: Answer<Outbox<A>>) -> Result<Name, Fail> {
+    match answer {
+        Answer::Accepted(name) => Ok(name),
+        _ => Err(Fail::from("a repeat is accepted")),
+    }
+}
+
+// The name of a message that the image has, as its repeat is told.
+fn told_again<A: Allocator + Copy>(ready: Ready<A>, alloc: A) -> Result<Name, Fail> {
     let client = ClientId::new(7).ok_or("a client")?;
     match ready.submit(alloc, client, 2, b"d") {
-        Ok(Step::Same(_ready, answer)) => Ok(answer),
+        Ok(Step::Same(_ready, answer)) => accepted(answer),
         _ => Err(Fail::from("a repeat is no draft")),
     }
 }
@@ -97,12 +106,7 @@ fn an_opened_node_goes_on_from_its_image(rt: HostRuntime) -> Result<(), Fail> {
     let alloc = rt.alloc();
     let ready = opened(alloc, alloc)??;
     assert!(rt; is_opened(&ready, alloc)?);
-    let answer = told_again(ready, alloc)?;
-    assert_eq!(rt;
-        answer,
-        Answer::Accepted(name(1, 3)?),
-        "a repeat has its name"
-    );
+    assert_eq!(rt; told_again(ready, alloc)?, name(1, 3)?);
     let ready = opened(alloc, alloc)??;
     assert_eq!(rt; drafted_next(ready, alloc)?, (6, name(1, 4)?));
     Ok(())

@@ -1,8 +1,9 @@
 //! What a node tells of its stored records while it holds a draft.
 
 ghost use Rattle.std.specs.Prelude.{◌≡◌, length, option_map};
+ghost use Rattle.urb_names.specs.Names.{has_name};
 ghost use Rattle.urb_names.specs.Pairs.{has_pair, message_of, own};
-ghost use Rattle.urb_node.specs.Moves.{CountsOwn, FindsMessage, Holds, TellsLog};
+ghost use Rattle.urb_node.specs.Moves.{CountsOwn, FindsMessage, Holds, IsCertified, TellsLog};
 ghost use Rattle.urb_node.specs.Values.{ShowsStoring};
 
 use crate::Storing;
@@ -26,6 +27,15 @@ impl<A: Allocator + Copy> Storing<A> {
         ensures stored { FindsMessage (ShowsStoring self.now) name (option_map (λ m. m.now) result) }
     {
         self.held.pending.message(name)
+    }
+
+    #[tactic(auto, using(crate::proofs::Telling::certified_says))]
+    /// Whether the node has stored a certificate of a name: that of its held record doesn't count.
+    pub fn certified(&self, name: Name) -> bool
+        ensures memory { result ≡ has_name self.now.memory.certified name }
+        ensures stored { IsCertified (ShowsStoring self.now) name result }
+    {
+        self.held.acks.certified(name)
     }
 
     #[tactic(auto, using(crate::proofs::Telling::log_says))]

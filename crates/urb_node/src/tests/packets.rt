@@ -6,7 +6,7 @@ ghost use Rattle.urb_node.specs.Moves.{IsForNode};
 use crate::Ready;
 use std::alloc::Allocator;
 use std::test::Fail;
-use urb_names::{Config, Message, Name, NodeId, Packet, PacketView, encode, parse};
+use urb_names::{Config, Flags, Message, Name, NodeId, Packet, PacketView, encode, parse};
 
 // Which node of which group it is.
 pub(super) fn place<A: Allocator + Copy>(ready: &Ready<A>) -> (NodeId, Config)
@@ -53,18 +53,19 @@ pub(super) fn check<A: Allocator + Copy>(
     }
 }
 
-// The bytes of a packet of this message.
+// The bytes of a packet of this message, of version two where it has flags.
 pub(super) fn bytes_of<A: Allocator + Copy>(
     calm: A,
     source: NodeId,
     target: NodeId,
     named: Name,
     sent: &Message<A>,
+    flags: Option<Flags>,
 ) -> Result<Vec<u8, A>, Fail> {
     if source == target {
         return Err(Fail::from("a packet comes from another node"));
     }
-    let packet = Packet::new(source, target, named, sent.copy(calm)?);
+    let packet = Packet::new(source, target, named, sent.copy(calm)?, flags);
     Ok(encode(calm, &packet)?)
 }
 

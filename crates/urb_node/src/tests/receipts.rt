@@ -1,7 +1,6 @@
 //! What a node holds back until its store has taken a record, and what is left of it where the store has not.
 
 use super::*;
-use urb_names::Packet;
 
 // The receipt of a draft, of a store that holds as many records as come before it.
 fn receipt_of<A: Allocator + Copy>(draft: Draft<A>, calm: A) -> Result<Receipt<A>, Fail> {
@@ -102,7 +101,7 @@ fn packets_of_a_draft_come_all_with_its_receipt(rt: HostRuntime) -> Result<(), F
 fn relays<A: Allocator + Copy>(calm: A) -> Result<bool, Fail> {
     let (named, sent) = pair(calm, 1, 2, b"hi")?;
     let ready = Tested::new(4, 3, calm, calm)?.ready;
-    let (storing, draft) = arrived(ready, calm, 2, named, b"hi")?;
+    let (storing, draft) = arrived(ready, calm, (2, None), named, b"hi")?;
     let (_ready, done) = goes_on(storing, draft, calm)?;
     Ok(tells(&done, false, named, 0) && carry(&done.sent, 3, &[1, 2, 4], named, &sent))
 }
@@ -120,16 +119,18 @@ fn certificate_drafted<A: Allocator + Copy>(
     named: Name,
 ) -> Result<(Storing<A>, Draft<A>), Fail> {
     let (tested, _led) = Tested::new(3, 1, calm, calm)?.submit(1, b"m")?;
-    arrived(tested.ready, calm, 2, named, b"m")
+    arrived(tested.ready, calm, (2, None), named, b"m")
 }
 
 fn certifies<A: Allocator + Copy>(calm: A) -> Result<bool, Fail> {
     let named = name(1, 1)?;
     let (storing, draft) = certificate_drafted(calm, named)?;
-    let before = storing.log().len();
+    let before = (storing.log().len(), storing.certified(named));
     let (ready, done) = goes_on(storing, draft, calm)?;
-    let releases = before == 0 && ready.log() == [named].as_slice();
-    Ok(releases && done.sent.len() == 0 && tells(&done, false, named, 1))
+    let releases = before == (0, false) && ready.log() == [named].as_slice();
+    let is_certified = ready.certified(named);
+    let is_certified = is_certified && ready.crash().certified(named);
+    Ok(is_certified && releases && done.sent.len() == 0 && tells(&done, false, named, 1))
 }
 
 #[test]

@@ -63,7 +63,7 @@ static CALLS: [(Call, u8, What); 7] = [
 fn numbered(call: Call, number: u32) -> Call {
     match call {
         Call::Submit(_) => Call::Submit(number),
-        Call::Arrive(source) => Call::Arrive(source),
+        other => other,
     }
 }
 
@@ -189,7 +189,7 @@ fn drafted<A: Allocator + Copy>(
     source: u8,
     named: Name,
 ) -> Result<(Storing<A>, Draft<A>), Fail> {
-    match arrive(ready, heap, calm, source, named, b"m")? {
+    match arrive(ready, heap, calm, (source, None), named, b"m")? {
         Ok(step) => draft_of(step),
         Err((_ready, _refusal)) => Err(Fail::from("the packet is refused")),
     }

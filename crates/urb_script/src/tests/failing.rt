@@ -1,7 +1,7 @@
 //! Scripts in which memory is refused, or the reader or the writer fails.
 
 use super::{LONG_PAYLOADS, LONG_PAYLOADS_ANSWERS, ONE_NODE, ONE_NODE_ANSWERS, spelled};
-use crate::worked::{FORGOTTEN, HALF, MAJORITY, REOPENED, RESENT};
+use crate::worked::{FORGOTTEN, HALF, MAJORITY, REOPENED, RESENT, TOLD};
 use crate::*;
 use std::test::Fail;
 use urb_refusing::{FailingReader, FailingWriter, Refusing};
@@ -107,6 +107,7 @@ fn each_refused_growth_ends_the_run_or_fails_a_store(rt: HostRuntime) -> Result<
         (FORGOTTEN, b"log 1\nlog 2\nlog 3\nlog 4\nlog 5\n", MESSAGES),
         (RESENT, b"log 1\nlog 2\n", MESSAGES),
         (REOPENED, b"log 1\nlog 2\nlog 3\n", MESSAGES),
+        (TOLD, b"log 1\nlog 2\nlog 3\n", MESSAGES),
     ] {
         // The script, and then the logs that can still be shown.
         let mut script = spelled(rt.alloc(), script)?;

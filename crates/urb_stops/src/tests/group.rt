@@ -2,7 +2,7 @@
 
 use std::alloc::Global;
 use urb_group::{Answer, Cluster, Command, Reply};
-use urb_names::{ClientId, Config, Message, Name, NodeId, Packet, encode};
+use urb_names::{ClientId, Config, Flags, Message, Name, NodeId, Packet, encode};
 use urb_stable::Stable;
 
 // Three nodes, of which each may broadcast ten messages.
@@ -35,9 +35,14 @@ fn arrival(alloc: Global, source: u8, target: u8) -> Option<Command> {
         return None;
     }
     let message = Message::copied(alloc, ClientId::new(7)?, 1, b"a").ok()?;
+    let flags = Flags {
+        certified: false,
+        heard: false,
+    };
+    let packet = Packet::new(source, target, first()?, message, Some(flags));
     Some(Command::Arrive {
         node: target,
-        bytes: encode(alloc, &Packet::new(source, target, first()?, message)).ok()?,
+        bytes: encode(alloc, &packet).ok()?,
     })
 }
 

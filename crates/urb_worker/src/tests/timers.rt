@@ -1,6 +1,6 @@
 //! The timer, beside a thread that takes its ticks and sets the stop.
 
-use crate::{Stop, Ticket, timer};
+use crate::{Job, Stop, Ticket, timer};
 use crossbeam_channel::Receiver;
 use std::alloc::Global;
 use std::marker::Brand;
@@ -10,12 +10,12 @@ use std::thread;
 use std::thread::Threads;
 use std::time::{Clock, Duration};
 
-// Whether what comes next is a job of this node.
+// Whether what comes next is a tick of this node.
 fn is_next_at<R: Wait>(rt: &R, jobs: &Receiver<Ticket<Brand>>, number: u8) -> bool {
     let Ok(ticket) = jobs.recv(rt) else {
         return false;
     };
-    ticket.job.node().number() == number
+    matches!(ticket.job, Job::Tick(_)) && ticket.job.node().number() == number
 }
 
 // Whether each of two nodes gets two ticks of a timer, which ends once the stop is set.

@@ -1,4 +1,5 @@
-use Rattle.std.proofs.Common.{rules, ◌≡◌}
+use Rattle.std.proofs.Common.{ap, rules, sym, ◌∙◌, ◌≡◌}
+use Rattle.urb_stubborn.specs.Resending.{Resending}
 use Rattle.urb_pending.specs.PendingSet.{added}
 use Rattle.urb_node.proofs.JoinedLayers.{pair-kept}
 use Rattle.urb_node.proofs.storing.join_pair.Goals as goal
@@ -6,4 +7,5 @@ use Rattle.urb_node.proofs.storing.join_pair.Goals as goal
 pub returns-clause-kept : goal.returns-clause-kept
 returns-clause-kept g c =
     let joined : c.add.new.self ≡ added c.args.name c.args.message c.args.held.now.pending = search rules in
-    pair-kept c.args.held.now c.add.new.self c.count.new.acks c.args.name c.args.message c.requires.kept joined c.count.ensures.same
+    pair-kept c.args.held.now c.add.new.self c.count.new.acks c.hear.new.resend c.args.name c.args.message c.requires.kept joined c.count.ensures.same c.requires.room.2
+    (c.hear.ensures ∙ ap (λ heard. record c.args.held.now.resend { heard = heard }) (sym (ap (λ (r : Resending). r.heard) c.hear.ensures)))

@@ -1,8 +1,8 @@
-use Rattle.std.proofs.Common.{List, Some, slice_get, suc, vec_capacity, vec_len, ℕ, ◌≡◌, ◌≤◌}
+use Rattle.std.proofs.Common.{Some, slice_get, suc, vec_capacity, vec_len, ℕ, ◌≡◌, ◌≤◌}
 use Rattle.sqlite.specs.State.{HasCleanDisk}
 use Rattle.sqlite.specs.Files.{file_state}
 use Rattle.urb_sqlite.specs.Nodes.{held_by, IsFoundIn}
-use Rattle.urb_sqlite.specs.OpenJournal.{IsHonestJournal, OpenJournal}
+use Rattle.urb_sqlite.specs.OpenJournal.{IsHonestJournal}
 use Rattle.urb_sqlite.specs.Reading.{records_of}
 use Rattle.urb_sqlite.proofs.nodes.open_nodes.Given as goal
 

@@ -1,5 +1,4 @@
-use Rattle.std.proofs.Common.{List, [], ap, arith, length, refl, rules, subst, sym, ◌++◌, ◌∙◌, ◌∷◌, ◌≡◌}
-use Rattle.std.proofs.lemmas.Result.{IfOk-weaker}
+use Rattle.std.proofs.Common.{[], ap, arith, subst, sym, ◌++◌, ◌∙◌, ◌∷◌, ◌≡◌}
 use Rattle.sqlite.specs.Files.{file_state}
 use Rattle.urb_sqlite.specs.Stops.{AreReopened, IsReopened}
 use Rattle.urb_sqlite.proofs.StoppingLemmas.{append-none, moved, none_left, one_more_length, one_more_reopened}

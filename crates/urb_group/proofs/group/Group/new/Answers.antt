@@ -1,4 +1,5 @@
 use Rattle.std.proofs.Common.{add-one, arith, rules, ◌+◌, ◌≡◌, ◌≤◌}
+use Rattle.urb_stable.proofs.FirstMisfits.{node-is}
 use Rattle.urb_node.specs.Values.{new_memory}
 use Rattle.urb_group.proofs.NewPlaces.{first-group, first-shows, next-places, some_from}
 use Rattle.urb_group.proofs.group.Group.new.Goals as goal
@@ -8,6 +9,12 @@ pub unwrap-node-requires : goal.unwrap-node-requires
 unwrap-node-requires g c =
     let below : c.loop-at.at + 1 ≤ 7 = omega (arith, c.loop-at-test.true, c.n-n.ensures.value, c.n-n.ensures.range.1) in
     some_from c.new.result _ c.new.ensures (omega arith, below)
+
+-- each of these numbers is a node's of the group
+pub new-requires-in-loop-at : goal.new-requires-in-loop-at
+new-requires-in-loop-at g c =
+    let number : c.unwrap-node.result ≡ c.loop-at.at + 1 = node-is _ c.new.result c.unwrap-node.result (c.loop-at.at + 1) c.new.ensures c.unwrap-node.ensures in
+    omega (arith, number, c.loop-at-test.true, c.n-n.ensures.value)
 
 pub loop-at-preserved : goal.loop-at-preserved
 loop-at-preserved g c =

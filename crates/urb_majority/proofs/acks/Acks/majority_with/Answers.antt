@@ -4,13 +4,13 @@ use Rattle.urb_names.specs.Nodes.{is_majority, nodes}
 use Rattle.urb_majority.proofs.Majorities.{with_new, with_other}
 use Rattle.urb_majority.proofs.acks.Acks.majority_with.Goals as goal
 
-pub returns-else-is_counted : goal.returns-else-is_counted
-returns-else-is_counted g c =
+pub returns-else-has : goal.returns-else-has
+returns-else-has g c =
     let set = c.args.self.now in
     let none : acked set.counted c.args.name c.args.node ≡ false = search rules in
     let within : c.args.node ≤ set.limits.n = search rules in
     let counts : c.is_majority.result ≡ is_majority (count_by (acked set.counted c.args.name) (nodes set.limits.n) + 1) set.limits.n = search rules in
-    counts ∙ sym (with_new set c.args.name c.args.node c.number-number.ensures.range.0 within none)
+    counts ∙ sym (with_new set c.args.name c.args.node c.number.ensures.range.0 within none)
 
 pub returns-then-number-n : goal.returns-then-number-n
 returns-then-number-n g c =

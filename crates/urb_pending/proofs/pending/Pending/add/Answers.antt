@@ -1,26 +1,34 @@
-use Rattle.std.proofs.Common.{arith, sym, ◌∙◌, ◌≡◌, refl}
-use Rattle.std.proofs.lemmas.List.Sums.{prefix_len-le-length}
-use Rattle.urb_names.specs.Names.{name_lt}
-use Rattle.urb_names.specs.Cyclic.{inserted}
-use Rattle.urb_pending.specs.PendingSet.{PendingSet}
-use Rattle.urb_pending.proofs.Ordered.{inserted_at}
-use Rattle.urb_pending.proofs.Kept.{still_pending_set}
+use Rattle.std.proofs.Common.{rules, ap, ◌∙◌, ◌≡◌, ◌==◌, refl}
+use Rattle.urb_names.specs.Naming.{Label}
+use Rattle.urb_names.specs.Ordered.{placed}
+use Rattle.urb_window.specs.Entries.{entry_lt}
+use Rattle.urb_pending.proofs.Indexed.{IsGiven, kept_with, placed_pair, roomier, roomier_same}
+use Rattle.urb_pending.proofs.Looked.{value_is}
 use Rattle.urb_pending.proofs.pending.Pending.add.Goals as goal
+
+pub invariant_of-self : goal.invariant_of-self
+invariant_of-self g c = roomier c.self.inside c.make_room_where.new.self c.self.invariant c.make_room_where.ensures.given c.make_room_where.ensures.kept
 
 pub insert-requires : goal.insert-requires
 insert-requires g c =
-    rw (c.place_of-at.ensures, c.deref.ensures.value) (omega (arith, prefix_len-le-length (λ q. name_lt q.0 c.args.name) c.self.inside.pairs.items, c.self.inside.pairs.ok.0))
-
-pub invariant_of-self : goal.invariant_of-self
-invariant_of-self g c =
-    let put : c.insert.new.self.items ≡ inserted (c.args.name, c.args.message) c.self.inside.pairs.items =
-    rw (c.place_of-at.ensures, c.deref.ensures.value) at c.in-Ok.ensures.items ∙ sym (inserted_at (c.args.name, c.args.message) c.self.inside.pairs.items) in
-    let old : PendingSet = record { limits = c.self.inside.config; node = c.self.inside.node; pairs = c.self.inside.pairs.items; reserved = c.self.inside.reserved } in
     let asked = rw (← c.self.view_is) at c.requires in
-    rw put (still_pending_set old c.self.invariant.0 c.args.name c.args.message c.limits.ensures asked.absent asked.sender asked.cap asked.own, tt)
+    record { absent = value_is c.self.inside.windows.entries c.args.name ∙ asked.absent }
 
-pub returns-in-Ok-clause-ok : goal.returns-in-Ok-clause-ok
-returns-in-Ok-clause-ok g c =
-    let put : c.insert.new.self.items ≡ inserted (c.args.name, c.args.message) c.self.inside.pairs.items =
-    rw (c.place_of-at.ensures, c.deref.ensures.value) at c.in-Ok.ensures.items ∙ sym (inserted_at (c.args.name, c.args.message) c.self.inside.pairs.items) in
-    rw (← c.self.view_is, put) refl
+pub invariant_of-self-in_err-insert : goal.invariant_of-self-in_err-insert
+invariant_of-self-in_err-insert g c =
+    roomier_same c.self.inside c.make_room_where.new.self c.self.invariant c.make_room_where.ensures.given c.make_room_where.ensures.kept c.insert.new.self c.in_err-insert.ensures.err.1
+
+pub invariant_of-self-2 : goal.invariant_of-self-2
+invariant_of-self-2 g c =
+    let asked = rw (← c.self.view_is) at c.requires in
+    let entries : c.insert.new.self.entries ≡ placed entry_lt c.self.inside.windows.entries (c.args.name, c.args.message) = search rules in
+    let own : c.eq-own.result ≡ (c.args.name.sender == c.self.inside.node) = search rules in
+    let seq : c.name-2.inside.seq ≡ c.args.name.seq = ap (λ (y : Label). y.seq) c.name-2.view_is in
+    let given : IsGiven (c.args.name.sender == c.self.inside.node) c.args.message.client c.args.name.seq c.make_room_where.new.self c.add_where.new.self = rw (own, c.client-client.ensures, seq) at c.add_where.ensures in
+    kept_with c.self.inside c.args.name c.args.message c.insert.new.self c.make_room_where.new.self c.add_where.new.self c.self.invariant c.limits.ensures asked.absent asked.sender asked.cap asked.own entries
+    c.make_room_where.ensures.given given
+
+pub returns-clause-ok : goal.returns-clause-ok
+returns-clause-ok g c =
+    let entries : c.insert.new.self.entries ≡ placed entry_lt c.self.inside.windows.entries (c.args.name, c.args.message) = search rules in
+    rw (← c.self.view_is, entries ∙ placed_pair c.args.name c.args.message c.self.inside.windows.entries) refl

@@ -18,6 +18,9 @@ returns-in-Restart-clause-shown g c = rw c.in-Restart.is c.apply-in-Restart.ensu
 pub returns-in-Arrive-clause-shown : goal.returns-in-Arrive-clause-shown
 returns-in-Arrive-clause-shown g c = rw c.in-Arrive.is c.arrive.ensures.shown
 
+pub returns-in-ArriveFlagged-clause-shown : goal.returns-in-ArriveFlagged-clause-shown
+returns-in-ArriveFlagged-clause-shown g c = rw c.in-ArriveFlagged.is c.arrive-in-ArriveFlagged.ensures.shown
+
 pub returns-in-Raw-clause-shown : goal.returns-in-Raw-clause-shown
 returns-in-Raw-clause-shown g c = rw c.in-Raw.is c.bring.ensures.shown
 

@@ -1,47 +1,45 @@
-use Rattle.std.proofs.Common.{◌≡◌, ◌<◌, ◌≤◌, ◌++◌, Some, length, min, arith, rules, sym, ap, ◌∙◌}
-use Rattle.std.specs.Prelude.{option_map}
-use Rattle.urb_names.specs.Pairs.{message_of}
-use Rattle.urb_names.specs.Carried.{to_others}
-use Rattle.urb_names.specs.Cyclic.{cyclic}
-use Rattle.urb_pending.specs.PendingSet.{first_name}
-use Rattle.urb_stubborn.specs.Resending.{Resending}
-use Rattle.urb_stubborn.proofs.Round.{some_name, some_message, one_further, some_behind, ended, few_sent}
+use Rattle.std.proofs.Common.{◌≡◌, ◌∙◌, ◌≤◌, sym, ap, arith, rules, [], length}
+use Rattle.urb_stubborn.specs.Resending.{Resending, tick_packets, ticked}
+use Rattle.urb_stubborn.specs.Walking.{IsTick}
+use Rattle.urb_stubborn.proofs.Alone.{tick_alone}
+use Rattle.urb_stubborn.proofs.Round.{few_sent}
 use Rattle.urb_stubborn.proofs.resend.Resend.tick.Goals as goal
 
-pub unwrap-name-requires : goal.unwrap-name-requires
-unwrap-name-requires g c =
-    let less : c.loop.counter < length c.args.pending.now.pairs = omega arith in
-    rw c.after.ensures (some_name _ _ _ _ _ c.limits.ensures.rising less c.loop.invariant)
+pub returns-then-n-eq1-clause-packets : goal.returns-then-n-eq1-clause-packets
+returns-then-n-eq1-clause-packets g c =
+    let r : Resending = c.args.self.now in
+    let group : r.limits.n ≡ 1 = search rules in
+    let low : 1 ≤ r.node = search rules in
+    let high : r.node ≤ r.limits.n = search rules in
+    let node : r.node ≡ 1 = omega (arith, low, high, group) in
+    c.empty.ensures ∙ (tick_alone r c.args.pending.now.pairs c.args.certified.now.names group node).0
 
-pub unwrap-message-requires : goal.unwrap-message-requires
-unwrap-message-requires g c =
-    let less : c.loop.counter < length c.args.pending.now.pairs = omega arith in
-    let name : first_name (cyclic c.loop.cursor c.args.pending.now.pairs) ≡ Some c.unwrap-name.result = sym c.after.ensures ∙ c.unwrap-name.ensures in
-    some_behind (λ m. m.now) c.message.result (rw c.message.ensures (some_message _ _ _ _ _ c.unwrap-name.result c.limits.ensures.rising less c.loop.invariant name))
-
-pub loop-preserved : goal.loop-preserved
-loop-preserved g c =
-    let less : c.loop.counter < length c.args.pending.now.pairs = omega arith in
-    let name : first_name (cyclic c.loop.cursor c.args.pending.now.pairs) ≡ Some c.unwrap-name.result = sym c.after.ensures ∙ c.unwrap-name.ensures in
-    let message : message_of c.args.pending.now.pairs c.unwrap-name.result ≡ Some c.unwrap-message.result.now = sym c.message.ensures ∙ ap (option_map (λ m. m.now)) c.unwrap-message.ensures in
-    let pushed : c.push_to_others.new.packets.items ≡ c.loop.packets.items ++ to_others c.args.self.now.limits.n c.args.self.now.node (c.unwrap-name.result, c.unwrap-message.result.now) =
-    rw (← c.self.view_is) c.in_ok-push_to_others.ensures in
-    one_further _ _ _ _ _ _ _ _ c.limits.ensures.rising less c.loop.invariant name message pushed
+pub returns-then-n-eq1-clause-ok : goal.returns-then-n-eq1-clause-ok
+returns-then-n-eq1-clause-ok g c =
+    let r : Resending = c.args.self.now in
+    let group : r.limits.n ≡ 1 = search rules in
+    let low : 1 ≤ r.node = search rules in
+    let high : r.node ≤ r.limits.n = search rules in
+    let node : r.node ≡ 1 = omega (arith, low, high, group) in
+    (tick_alone r c.args.pending.now.pairs c.args.certified.now.names group node).1
 
 pub of-requires : goal.of-requires
 of-requires g c =
-    let low : 1 ≤ c.args.self.now.node = search rules in
-    let high : c.args.self.now.node ≤ c.args.self.now.limits.n = search rules in
-    let most : c.args.self.now.limits.n ≤ 7 = search rules in
-    let short : c.loop.counter ≤ 16 = omega arith in
-    omega (arith, c.loop.packets.ok.0, few_sent _ _ _ _ _ c.loop.invariant low high most short)
+    let r : Resending = c.args.self.now in
+    let low : 1 ≤ r.node = search rules in
+    let high : r.node ≤ r.limits.n = search rules in
+    let most : r.limits.n ≤ 7 = search rules in
+    let tick : IsTick r c.args.pending.now.pairs c.args.certified.now.names c.in_ok-turn.turn c.go_round.new.packets.items = c.in_ok-turn.ensures in
+    omega (arith, c.go_round.new.packets.ok.0, ap length tick.packets, few_sent r c.args.pending.now.pairs c.args.certified.now.names low high most)
 
 pub returns-clause-packets : goal.returns-clause-packets
 returns-clause-packets g c =
-    let all : c.loop.counter ≡ min (length c.args.pending.now.pairs) 16 = omega arith in
-    c.of.ensures ∙ (ended _ _ _ _ _ all c.loop.invariant).0
+    let r : Resending = c.args.self.now in
+    let tick : IsTick r c.args.pending.now.pairs c.args.certified.now.names c.in_ok-turn.turn c.go_round.new.packets.items = c.in_ok-turn.ensures in
+    c.of.ensures ∙ tick.packets
 
 pub returns-clause-ok : goal.returns-clause-ok
 returns-clause-ok g c =
-    let all : c.loop.counter ≡ min (length c.args.pending.now.pairs) 16 = omega arith in
-    ap (λ (r : Resending). record r { cursor = c.loop.cursor }) c.self.view_is ∙ (ended _ _ _ _ _ all c.loop.invariant).1
+    let r : Resending = c.args.self.now in
+    let tick : IsTick r c.args.pending.now.pairs c.args.certified.now.names c.in_ok-turn.turn c.go_round.new.packets.items = c.in_ok-turn.ensures in
+    ap (λ (s : Resending). record s { cursor = c.in_ok-turn.turn.cursor }) c.self.view_is ∙ ap (λ o. record r { cursor = o }) tick.cursor

@@ -1,0 +1,52 @@
+//! What a node hears of other nodes' certificates.
+
+ghost use Rattle.std.specs.Prelude.{◌≡◌, true, is_some};
+ghost use Rattle.urb_names.specs.Carried.{says_certified};
+ghost use Rattle.urb_names.specs.Names.{has_name};
+ghost use Rattle.urb_names.specs.Pairs.{message_of};
+ghost use Rattle.urb_node.specs.Held.{memory_of, IsHeld};
+ghost use Rattle.urb_node.specs.Layers.{heard_with};
+ghost use Rattle.urb_node.specs.Outcomes.{hearing};
+
+use crate::held::Held;
+use std::alloc::Allocator;
+use urb_names::{Flags, Name, NodeId};
+use urb_stubborn::Resend;
+
+/// Whether a packet's flags say that its source has stored a certificate.
+pub(crate) fn says_certified(flags: Option<Flags>) -> bool
+    ensures { result ≡ says_certified flags }
+{
+    match flags {
+        Some(flags) => flags.certified,
+        None => false,
+    }
+}
+
+/// The certificate of a node that told of one is heard, where there is such a node.
+pub(crate) fn hear<A: Allocator + Copy>(resend: &mut Resend<A>, name: Name, node: Option<NodeId>)
+    requires { has_name resend.old.roomy name ≡ true }
+    ensures { resend.new ≡ record resend.old { heard = heard_with resend.old.heard name node } }
+{
+    if let Some(node) = node {
+        resend.hear(name, node);
+    }
+}
+
+/// What a packet of a pending name tells of its source's certificate is heard.
+pub(crate) fn hear_packet<A: Allocator + Copy>(
+    held: &mut Held<A>,
+    source: NodeId,
+    name: Name,
+    flags: Option<Flags>,
+)
+    requires kept { IsHeld held.old }
+    requires pending { is_some (message_of held.old.pending.pairs name) ≡ true }
+    ensures kept { IsHeld held.new }
+    ensures memory { memory_of held.new ≡ hearing (memory_of held.old) source name flags }
+    ensures rest { held.new ≡ record held.old { resend = held.new.resend } }
+{
+    if says_certified(flags) {
+        held.resend.hear(name, source);
+    }
+}

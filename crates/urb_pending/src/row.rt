@@ -1,0 +1,72 @@
+//! A client's row: the numbers of the names that the node gave its messages, in order.
+
+ghost use Rattle.std.specs.Prelude.{◌≡◌, ◌++◌, ◌∷◌, [], nat_lt, true, IsOk, OnOk, OnErr, length};
+ghost use Rattle.urb_pending.specs.Rows.{Row};
+
+use std::alloc::{Allocator, Global};
+use std::marker::Model;
+use urb_names::{ClientId, NoMemory};
+
+/// A client with the numbers of the names that its messages were given, each in the place of the client's own number.
+#[derive(Drop)]
+#[derive_where(Debug)]
+pub(crate) struct ClientRow<A: Allocator = Global> {
+    client: ClientId,
+    given: Vec<u32, A>,
+}
+
+impl<A: Allocator> Model for ClientRow<A> {
+    ghost use Rattle.std.specs.Prelude.{vec_len, vec_capacity, nat_lt};
+    ghost use Rattle.urb_pending.specs.Rows.{Row};
+
+    ghost Value = { Row };
+
+    ghost view = { λ a. record { client = a.client; given = a.given.items; room = nat_lt (vec_len a.given) (vec_capacity a.given) } };
+}
+
+impl<A: Allocator + Copy> ClientRow<A> {
+    // No message of the client has a name yet. Takes no memory.
+    pub(crate) fn new(alloc: A, client: ClientId) -> ClientRow<A>
+        ensures client { result.client ≡ client }
+        ensures given { result.given ≡ [] }
+    {
+        ClientRow {
+            client,
+            given: Vec::new(alloc),
+        }
+    }
+
+    pub(crate) fn client(&self) -> ClientId
+        ensures { result ≡ self.now.client }
+    {
+        self.client
+    }
+
+    pub(crate) fn given(&self) -> &[u32]
+        ensures { result.now ≡ self.now.given }
+    {
+        &self.given
+    }
+
+    // Makes room for one number more.
+    pub(crate) fn make_room(&mut self) -> Result<(), NoMemory>
+        ensures client { self.new.client ≡ self.old.client }
+        ensures given { self.new.given ≡ self.old.given }
+        ensures ok { OnOk result (self.new.room ≡ true) }
+        ensures err { OnErr result (self.new ≡ self.old) }
+        ensures roomy { self.old.room ≡ true → IsOk result }
+    {
+        self.given.reserve(1)?;
+        Ok(())
+    }
+
+    // The client's next message has this number.
+    pub(crate) fn push(&mut self, seq: u32)
+        requires { self.old.room ≡ true }
+        ensures client { self.new.client ≡ self.old.client }
+        ensures given { self.new.given ≡ self.old.given ++ seq ∷ [] }
+    {
+        let pushed = self.given.push(seq);
+        prove!(pushed.is_ok());
+    }
+}

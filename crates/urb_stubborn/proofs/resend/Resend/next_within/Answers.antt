@@ -1,0 +1,14 @@
+use Rattle.std.proofs.Common.{◌≡◌, ◌∙◌, Some, false, sym}
+use Rattle.urb_names.specs.Cyclic.{are_rising}
+use Rattle.urb_pending.specs.PendingSet.{first_name}
+use Rattle.urb_stubborn.specs.Walking.{behind, due_pairs, is_within}
+use Rattle.urb_stubborn.proofs.Behind.{Pairs}
+use Rattle.urb_stubborn.proofs.Between.{rising_kept, within_over}
+use Rattle.urb_stubborn.proofs.resend.Resend.next_within.Goals as goal
+
+pub returns-else-is_within : goal.returns-else-is_within
+returns-else-is_within g c =
+    let due : Pairs = due_pairs c.args.self.now c.args.pending.now.pairs in
+    let first : first_name (behind c.args.from due) ≡ Some c.in_ok-name.name = sym c.next_due.ensures ∙ c.in_ok-name.was in
+    let over : is_within c.args.last.now c.in_ok-name.name ≡ false = sym c.is_within.ensures ∙ c.if-is_within.false in
+    sym (within_over c.args.last.now (behind c.args.from due) c.in_ok-name.name (rising_kept _ due (rising_kept _ c.args.pending.now.pairs c.limits.ensures.rising)) first over)

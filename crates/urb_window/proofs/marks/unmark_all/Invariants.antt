@@ -1,0 +1,13 @@
+use Rattle.std.proofs.Common.{◌≡◌, length}
+use Rattle.urb_window.specs.Entries.{names_of}
+use Rattle.urb_window.proofs.Roomy.{AreEmpty}
+use Rattle.urb_window.proofs.marks.unmark_all.Given as goal
+
+-- the masks before this place are empty, and no name has changed
+abbrev pub invariant-loop-index : goal.invariant-loop-index
+invariant-loop-index g l = record {
+  empty : AreEmpty l.index l.masks.entries;
+  long : length l.masks.entries ≡ l.index-end;
+  names : names_of l.masks.entries ≡ names_of l.fn.masks.entries;
+  reserved : l.masks.reserved ≡ l.fn.masks.reserved;
+}

@@ -1,0 +1,13 @@
+use Rattle.std.proofs.Common.{◌≡◌, ◌<◌, ◌≤◌, ◌+◌, ◌-◌, suc, count_by}
+use Rattle.urb_names.specs.Nodes.{nodes, numbers_from}
+use Rattle.urb_window.specs.Masks.{has_bit}
+use Rattle.urb_window.proofs.mask.bits_up_to.Given as goal
+
+-- those counted so far, and those among the nodes that are left
+abbrev pub invariant-loop-number : goal.invariant-loop-number
+invariant-loop-number l = record {
+  first : 1 ≤ l.number;
+  last : l.number ≤ suc l.n;
+  few : l.count < l.number;
+  all : l.count + count_by (has_bit l.mask) (numbers_from l.number (suc l.n - l.number)) ≡ count_by (has_bit l.mask) (nodes l.n);
+}

@@ -1,0 +1,11 @@
+use Rattle.std.proofs.Common.{◌≡◌, ◌≤◌, ◌*◌, ◌+◌, ◌^◌, length}
+use Rattle.urb_window.specs.Rows.{entries_from}
+use Rattle.urb_window.proofs.Walked.{entries_at}
+use Rattle.urb_window.proofs.rows.count_of.Given as goal
+
+-- those counted so far, and those of the rows that are left
+abbrev pub invariant-loop-row : goal.invariant-loop-row
+invariant-loop-row g l = record {
+  all : l.count + length (entries_at l.row-index l.rows) ≡ length (entries_from 1 l.rows);
+  few : l.count ≤ l.row-index * 2 ^ 33;
+}

@@ -1,0 +1,16 @@
+use Rattle.std.proofs.Common.{◌≡◌, ◌<◌, ◌≤◌, ◌+◌, ◌^◌, ◌++◌, length, vec_len, vec_capacity}
+use Rattle.std.specs.VecDeque.{deque_len}
+use Rattle.urb_window.specs.Row.{AreOver, counted_from}
+use Rattle.urb_window.proofs.window.close_gap.Given as goal
+
+-- the same pairs, those above over the lower part, and room for them all
+abbrev pub invariant-loop-value : goal.invariant-loop-value
+invariant-loop-value g l = record {
+  pairs : counted_from 1 l.low.items ++ l.above.items ≡ counted_from 1 l.initial.low.items ++ l.initial.above.items;
+  over : AreOver (length l.low.items) l.above.items;
+  few : length l.low.items < 2 ^ 32;
+  room : vec_len l.low + deque_len l.above ≤ vec_capacity l.low;
+}
+
+abbrev pub decreases-loop-value : goal.decreases-loop-value
+decreases-loop-value g l = deque_len l.above

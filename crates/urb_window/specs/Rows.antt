@@ -1,0 +1,23 @@
+-- The rows of the senders, as one list of entries.
+use Rattle.std.specs.Prelude.{ℕ, suc, ◌-◌, List, [], ◌∷◌, ◌++◌, map, None, slice_index_or}
+use Rattle.urb_names.specs.Naming.{Label}
+use Rattle.urb_names.specs.Names.{name}
+use Rattle.urb_window.specs.Row.{Row, pairs_of}
+
+module _ {V : Type 0} where
+  -- a sender's pairs of a number and a value, as entries
+  abbrev pub named : ℕ → List (ℕ × V) → List (Label × V)
+  named sender pairs = map (λ pair. (name sender pair.0, pair.1)) pairs
+
+  -- the entries of the senders from this one on
+  abbrev pub entries_from : ℕ → List (Row V) → List (Label × V)
+  entries_from sender [] = []
+  entries_from sender (row ∷ rows) = named sender (pairs_of row) ++ entries_from (suc sender) rows
+
+  -- a row with nothing in it
+  abbrev pub no_row : Row V
+  no_row = record { low = []; above = []; reserved = None }
+
+  -- the row of this sender
+  abbrev pub row_at : List (Row V) → ℕ → Row V
+  row_at rows sender = slice_index_or rows (sender - 1) no_row

@@ -1,0 +1,46 @@
+//! Which nodes are counted for a name: one byte, of which each node has a bit.
+
+ghost use Rattle.std.specs.Prelude.{◌≡◌, ◌<◌, ◌≤◌, ◌+◌, ◌-◌, ◌^◌, false, count_by};
+ghost use Rattle.urb_names.specs.Nodes.{nodes};
+ghost use Rattle.urb_window.specs.Masks.{has_bit};
+
+// The mask of this node alone.
+fn bit_of(number: u8) -> u8
+    requires { (0 < number) × (number ≤ 7) }
+    ensures { result ≡ 2 ^ (number - 1) }
+{
+    1 << (number - 1)
+}
+
+// Whether a node's bit is set.
+pub(crate) fn has_bit(mask: u8, number: u8) -> bool
+    requires { (0 < number) × (number ≤ 7) }
+    ensures { result ≡ has_bit mask number }
+{
+    (mask >> (number - 1)) % 2 == 1
+}
+
+// The mask with a bit set that was not.
+pub(crate) fn with_bit(mask: u8, number: u8) -> u8
+    requires range { (0 < number) × (number ≤ 7) }
+    requires new { has_bit mask number ≡ false }
+    ensures { result ≡ mask + 2 ^ (number - 1) }
+{
+    mask + bit_of(number)
+}
+
+#[tactic(auto, using(crate::proofs::Counts::count_of_next, crate::proofs::Counts::count_of_none))]
+// How many of the nodes up to n have their bits set.
+pub(crate) fn bits_up_to(mask: u8, n: u8) -> u8
+    requires { n ≤ 7 }
+    ensures count { result ≡ count_by (has_bit mask) (nodes n) }
+    ensures most { result ≤ n }
+{
+    let mut count = 0;
+    for number in 1..=n {
+        if has_bit(mask, number) {
+            count += 1;
+        }
+    }
+    count
+}

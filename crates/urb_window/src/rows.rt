@@ -1,0 +1,131 @@
+//! The rows of the senders, in order of their numbers.
+
+ghost use Rattle.std.specs.Prelude.{◌≡◌, ◌+◌, ◌-◌, ◌≤◌, ◌<◌, Some, IfSome, IfNone, OnOk, IsOk, length, find, option_map, slice_get, drop};
+ghost use Rattle.std.specs.List.{AllByRecursion};
+ghost use Rattle.urb_names.specs.Names.{name_lt};
+ghost use Rattle.urb_window.specs.Row.{IsRow};
+ghost use Rattle.urb_window.specs.Rows.{entries_from, no_row, row_at};
+
+use crate::window::Window;
+use std::alloc::Allocator;
+use urb_names::{Name, NoMemory, NodeId};
+
+// The greatest number of senders that there may be.
+const MOST_SENDERS: usize = 7;
+
+// Where the row of a sender stands.
+pub(crate) fn index_of(sender: NodeId) -> usize
+    ensures place { result + 1 ≡ sender }
+    ensures within { result < 7 }
+{
+    sender.number() as usize - 1
+}
+
+// The row of a sender, where there is one yet.
+pub(crate) fn row_of<T, A: Allocator>(
+    rows: &[Window<T, A>],
+    sender: NodeId,
+) -> Option<&Window<T, A>>
+    ensures some { IfSome result (λ row. row.now ≡ row_at rows.now sender) }
+    ensures none { IfNone result (row_at rows.now sender ≡ no_row) }
+{
+    rows.get(index_of(sender))
+}
+
+// The sender whose row stands at a place.
+fn sender_at(index: usize) -> Option<NodeId>
+    requires { index < 7 }
+    ensures { result ≡ Some (index + 1) }
+{
+    NodeId::new(index as u8 + 1)
+}
+
+// Rows without values come behind those that are there, until there is one for each sender.
+pub(crate) fn fill<T: Drop, A: Allocator + Copy>(
+    rows: &mut Vec<Window<T, A>, A>,
+) -> Result<(), NoMemory>
+    requires { length rows.old.items ≤ 7 }
+    ensures entries { entries_from 1 rows.new.items ≡ entries_from 1 rows.old.items }
+    ensures rows { AllByRecursion IsRow rows.old.items → AllByRecursion IsRow rows.new.items }
+    ensures most { length rows.new.items ≤ 7 }
+    ensures ok { OnOk result (length rows.new.items ≡ 7) }
+    ensures full { length rows.old.items ≡ 7 → (rows.new.items ≡ rows.old.items) × IsOk result }
+{
+    let alloc = *rows.allocator();
+    while rows.len() < MOST_SENDERS {
+        rows.push(Window::new(alloc))?;
+    }
+    Ok(())
+}
+
+// How many values the rows have.
+pub(crate) fn count_of<T, A: Allocator + Copy>(rows: &[Window<T, A>]) -> usize
+    requires { length rows.now ≤ 7 }
+    ensures { result ≡ length (entries_from 1 rows.now) }
+{
+    let mut count = 0;
+    for row in rows {
+        count += row.count();
+    }
+    count
+}
+
+// The entry at a place in the order of names.
+pub(crate) fn entry_of<T, A: Allocator + Copy>(
+    rows: &[Window<T, A>],
+    index: usize,
+) -> Option<(Name, &T)>
+    requires { length rows.now ≤ 7 }
+    ensures { option_map (λ entry. (entry.0, entry.1.now)) result ≡ slice_get (entries_from 1 rows.now) index }
+{
+    let mut left = index;
+    for i in 0..rows.len() {
+        let row = &rows[i];
+        let count = row.count();
+        if left < count {
+            row.limits();
+            let (seq, value) = row.pair(left)?;
+            let sender = sender_at(i)?;
+            return Some((Name { sender, seq }, value));
+        }
+        left -= count;
+    }
+    None
+}
+
+// The first name of the rows from a place on.
+pub(crate) fn first_from<T, A: Allocator + Copy>(
+    rows: &[Window<T, A>],
+    start: usize,
+) -> Option<Name>
+    requires { length rows.now ≤ 7 }
+    ensures { result ≡ option_map (λ entry. entry.0) (slice_get (entries_from (start + 1) (drop start rows.now)) 0) }
+{
+    for i in start..rows.len() {
+        let row = &rows[i];
+        row.limits();
+        if let Some((seq, _)) = row.pair(0) {
+            let sender = sender_at(i)?;
+            return Some(Name { sender, seq });
+        }
+    }
+    None
+}
+
+// The first name behind this one.
+pub(crate) fn after_in<T, A: Allocator + Copy>(rows: &[Window<T, A>], name: Name) -> Option<Name>
+    requires { length rows.now ≤ 7 }
+    ensures { result ≡ option_map (λ entry. entry.0) (find (λ entry. name_lt name entry.0) (entries_from 1 rows.now)) }
+{
+    let index = index_of(name.sender);
+    match rows.get(index) {
+        Some(row) => match row.after(name.seq) {
+            Some(seq) => {
+                let sender = name.sender;
+                Some(Name { sender, seq })
+            }
+            None => first_from(rows, index + 1),
+        },
+        None => None,
+    }
+}

@@ -1,0 +1,58 @@
+//! The upper part of a row: pairs of a number and its value, by rising number, looked up by halving.
+
+ghost use Rattle.std.specs.Prelude.{◌≡◌, ◌<◌, ◌≤◌, ◌+◌, ◌∷◌, IfSome, IfNone, IfErr, OnOk, OnErr, IsOk, IsTrue, length, nat_lt, false};
+ghost use Rattle.std.specs.VecDeque.{deque_len, deque_capacity};
+ghost use Rattle.std.specs.List.{prefix_len};
+ghost use Rattle.urb_window.specs.Row.{AreOver, holds_at, number_lt};
+ghost use Rattle.urb_names.specs.Ordered.{placed};
+
+use std::alloc::{AllocFailed, Allocator};
+use std::collections::VecDeque;
+
+fn is_below<T>(pair: &(u32, T), number: u32) -> bool
+    ensures { result ≡ nat_lt pair.now.0 number }
+{
+    pair.0 < number
+}
+
+// Where a number stands, or would stand.
+pub(crate) fn place_of<T, A: Allocator>(above: &VecDeque<(u32, T), A>, number: u32) -> usize
+    requires { AreOver 0 above.now.items }
+    ensures place { result ≡ prefix_len (λ pair. nat_lt pair.0 number) above.now.items }
+    ensures within { result ≤ length above.now.items }
+{
+    above.partition_point(|pair| is_below(pair, number))
+}
+
+// Whether this number stands at a place.
+pub(crate) fn is_at<T, A: Allocator>(
+    above: &VecDeque<(u32, T), A>,
+    place: usize,
+    number: u32,
+) -> bool
+    ensures { result ≡ holds_at above.now.items place number }
+{
+    match above.get(place) {
+        Some(pair) => pair.0 == number,
+        None => false,
+    }
+}
+
+// Takes out the first value, where it has this number.
+pub(crate) fn take_first<T, A: Allocator>(
+    above: &mut VecDeque<(u32, T), A>,
+    number: usize,
+) -> Option<T>
+    ensures some { IfSome result (λ v. above.old.items ≡ (number, v) ∷ above.new.items) }
+    ensures none { IfNone result ((above.new.items ≡ above.old.items) × (holds_at above.old.items 0 number ≡ false)) }
+    ensures len { IfSome result (λ _. deque_len above.new + 1 ≡ deque_len above.old) }
+    ensures rest { IfNone result (deque_len above.new ≡ deque_len above.old) }
+    ensures capacity { deque_capacity above.new ≡ deque_capacity above.old }
+{
+    let (first, _) = above.front()?;
+    if *first as usize != number {
+        return None;
+    }
+    let (_, value) = above.pop_front()?;
+    Some(value)
+}
