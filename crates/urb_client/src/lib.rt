@@ -23,6 +23,3 @@ pub use receiving::{ResponseFault, read_response};
 pub use request::{Request, encode_request, parse_request};
 pub use response::{Entries, NodeState, Response, encode_response};
 pub use sessions::{Desk, Ended, SessionFault, one_reading, session};
-
-#[cfg(test)]
-mod tests;

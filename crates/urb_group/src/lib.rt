@@ -50,6 +50,3 @@ pub use urb_names::{
 pub use urb_node::{Answer, Done};
 pub use urb_stable::{Doubt, Draft, Failure, MemStable, Receipt, Record, Stable, StoreFault};
 pub use urb_stubborn::Outbox;
-
-#[cfg(test)]
-mod tests;

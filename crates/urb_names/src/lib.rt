@@ -37,6 +37,3 @@ pub use packet::Packet;
 pub use refusal::{NoMemory, PacketFault, Refusal, Rule};
 pub use spelling::{decode, encode, parse};
 pub use view::PacketView;
-
-#[cfg(test)]
-mod tests;

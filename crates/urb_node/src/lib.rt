@@ -37,6 +37,3 @@ pub use down::Down;
 pub use ready::Ready;
 pub use step::{Done, Step};
 pub use storing::Storing;
-
-#[cfg(test)]
-mod tests;

@@ -15,9 +15,6 @@ use std::alloc::Allocator;
 use urb_names::{Config, Message, NoMemory, NodeId};
 use urb_stable::Record;
 
-#[cfg(test)]
-mod tests;
-
 // What a node holds once it has read one more record.
 fn joined<A: Allocator + Copy>(
     mut held: Held<A>,

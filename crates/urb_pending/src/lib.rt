@@ -16,7 +16,5 @@
 mod clients;
 mod pending;
 mod row;
-#[cfg(test)]
-mod tests;
 
 pub use pending::Pending;

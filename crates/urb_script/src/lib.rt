@@ -18,8 +18,3 @@ mod stage;
 mod words;
 
 pub use runs::{Ended, RunFault, run};
-
-#[cfg(test)]
-mod tests;
-#[cfg(test)]
-mod worked;

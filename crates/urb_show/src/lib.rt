@@ -45,6 +45,3 @@ pub use house::House;
 pub use opened::Opened;
 pub use reader::{LogReader, ReadFault, Told};
 pub use status::Status;
-
-#[cfg(test)]
-mod tests;

@@ -26,6 +26,3 @@ pub use journal::SqlStable;
 pub use node_file::{Contents, NodeFile, Unnamed};
 pub use nodes::{NodeJournal, close_node, close_nodes, open_node, open_nodes};
 pub use stopping::{apply_and_stop, stop_and_open_all, stop_and_reopen};
-
-#[cfg(test)]
-mod tests;

@@ -17,9 +17,6 @@ use std::alloc::Allocator;
 use std::marker::Model;
 use urb_names::{Config, Message, Name, NoMemory, NodeId, Rule, is_majority};
 
-#[cfg(test)]
-mod tests;
-
 /// A record of an image that breaks a rule, and the first rule that it breaks: images that fit together have none. It is
 /// named by the node whose image it stands in, and by the name that it is about.
 #[derive(Clone, Copy, Debug, PartialEq, Eq)]

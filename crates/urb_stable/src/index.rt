@@ -13,9 +13,6 @@ use std::collections::BTreeMap;
 use std::marker::Model;
 use urb_names::{Message, Name, NoMemory};
 
-#[cfg(test)]
-mod tests;
-
 // Where the pairs of the first records of an image stand: the place of the last record of each name that has a message, and
 // for each record the place of the last one of its name before it. A name may stand twice in an image that doesn't fit.
 #[derive(Drop)]

@@ -35,6 +35,3 @@ pub use memory::{Failure, MemStable};
 pub use receipt::Receipt;
 pub use record::{Record, limits_of};
 pub use stable::{Stable, StoreFault};
-
-#[cfg(test)]
-mod tests;

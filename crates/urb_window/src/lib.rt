@@ -14,8 +14,6 @@
 mod marks;
 mod mask;
 mod rows;
-#[cfg(test)]
-mod tests;
 mod upper;
 mod window;
 mod windows;

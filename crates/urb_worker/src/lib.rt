@@ -63,6 +63,3 @@ pub use stop::Stop;
 pub use tally::{HubName, Tally};
 pub use ticking::timer;
 pub use turn::{Finished, Turn};
-
-#[cfg(test)]
-mod tests;

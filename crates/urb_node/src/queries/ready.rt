@@ -8,9 +8,16 @@ ghost use Rattle.urb_node.specs.Values.{ShowsReady};
 
 use crate::Ready;
 use std::alloc::Allocator;
-use urb_names::{Message, Name};
+use urb_names::{Config, Message, Name, NodeId};
 
 impl<A: Allocator + Copy> Ready<A> {
+    /// Which node of which group this is: what it was made or opened as.
+    pub fn place(&self) -> (NodeId, Config)
+        ensures { result ≡ (self.now.node, self.now.limits) }
+    {
+        (self.held.node, self.held.config)
+    }
+
     #[tactic(auto, using(crate::proofs::Telling::holds_says))]
     /// Whether the node has stored this message under this name.
     pub fn holds(&self, name: &Name, message: &Message<A>) -> bool

@@ -1,0 +1,16 @@
+use Rattle.std.proofs.Common.{List, [], rules, ◌++◌, ◌∷◌, ◌≡◌}
+use Rattle.std.specs.List.{All}
+use Rattle.std.proofs.lemmas.List.Elements.{All-nil, All-push}
+use Rattle.urb_group.proofs.BlankStores.{all-blank}
+use Rattle.urb_stable.specs.Memory.{Memory, empty_memory}
+use Rattle.urb_group_tests.proofs.tests.clusters.cluster.Goals as goal
+
+pub new-requires-5-clause-blank : goal.new-requires-5-clause-blank
+new-requires-5-clause-blank g c =
+    let IsNew : Memory → Type 0 = λ m. m ≡ empty_memory in
+    let one : List Memory = [] ++ c.new-2.result ∷ [] in
+    let two : List Memory = one ++ c.new-3.result ∷ [] in
+    let three : List Memory = two ++ c.new-4.result ∷ [] in
+    let items : c.push-3.new.self.items ≡ three = search rules in
+    let new : All IsNew three = All-push IsNew two c.new-4.result (All-push IsNew one c.new-3.result (All-push IsNew [] c.new-2.result (All-nil IsNew) c.new-2.ensures) c.new-3.ensures) c.new-4.ensures in
+    rw items (all-blank {A = g.row.A.Denot} three new)

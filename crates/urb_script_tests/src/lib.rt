@@ -1,0 +1,7 @@
+//! Tests of `urb_script`, in a crate of their own: what they call is proved once, and they see what its users see.
+#![tactic(auto)]
+
+#[cfg(test)]
+mod tests;
+#[cfg(test)]
+mod worked;

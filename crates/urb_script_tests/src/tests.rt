@@ -1,0 +1,242 @@
+//! Whole scripts, bad lines, and the words of refusals.
+
+mod failing;
+
+use std::alloc::Global;
+use std::process::Abort;
+use std::test::Fail;
+use urb_names::{Config, Name, NodeId, PacketFault, Refusal, Rule};
+use urb_script::*;
+
+const ONE_NODE: &[u8] = b"group 1 10\nsubmit 1 7 1 hi\nstored 1\nlog 1\n";
+
+const ONE_NODE_ANSWERS: &[u8] =
+    b"group 1 10\ndraft 1.1 at 1\naccepted 1.1 sent 0 released 1\nlog 1: 1.1=hi\n";
+
+/// A text in which each `@` stands for 1,024 letters x.
+fn spelled(alloc: Global, text: &[u8]) -> Result<Vec<u8>, Fail> {
+    let mut whole = Vec::new(alloc);
+    for byte in text {
+        if *byte == b'@' {
+            whole.extend_from_slice([b'x'; 1024].as_slice())?;
+        } else {
+            whole.push(*byte)?;
+        }
+    }
+    Ok(whole)
+}
+
+const LONG_PAYLOADS: &[u8] =
+    b"group 1 3\nsubmit 1 7 1 -\nstored 1\nsubmit 1 7 2 @\nstored 1\nsubmit 1 7 3 @x\nlog 1\n";
+
+const LONG_PAYLOADS_ANSWERS: &[u8] =
+    b"group 1 3\ndraft 1.1 at 1\naccepted 1.1 sent 0 released 1\ndraft 1.2 at 2\naccepted 1.2 sent 0 released 1\nrefused toolong\nlog 1: 1.1=- 1.2=@\n";
+
+/// Runs a script into a new text, and compares; `@` is as in `spelled`.
+pub fn gives(
+    rt: &(impl Abort + AllocGlobal),
+    script: &[u8],
+    answers: &[u8],
+    wanted: Ended,
+) -> Result<(), Fail> {
+    let script = spelled(rt.alloc(), script)?;
+    let answers = spelled(rt.alloc(), answers)?;
+    let mut input = script.as_slice();
+    let mut output = Vec::new(rt.alloc());
+    let ended = run(rt.alloc(), &mut input, &mut output)?;
+    assert_eq!(rt; ended, wanted);
+    assert_eq!(rt; output.as_slice(), answers.as_slice());
+    Ok(())
+}
+
+#[test]
+fn whole_scripts_are_answered(rt: HostRuntime) -> Result<(), Fail> {
+    // A message is sent to each other node, and released by none before a majority has it.
+    gives(
+        &rt,
+        b"group 3 10\nsubmit 2 7 1 a\nstored 2\nlog 2\nlog 1",
+        b"group 3 10\ndraft 2.1 at 1\naccepted 2.1 sent 2 released 0\nlog 2:\nlog 1:\n",
+        Ended::Whole,
+    )?;
+    // Refusals, the first that holds.
+    gives(
+        &rt,
+        b"group 2 10\nstored 1\nstored 3\nsubmit 3 7 1 @x\nlog 3\nsubmit 1 7 1 a\nsubmit 1 7 9 @x\nstored 1\nsubmit 1 7 1 b\nsubmit 1 8 1 b\nstored 1\nsubmit 1 7 2 c\nstored 1\nsubmit 1 7 1 a\nsubmit 1 8 3 c\n",
+        b"group 2 10\nrefused stale\nrefused badnode\nrefused badnode\nrefused badnode\ndraft 1.1 at 1\nrefused busy\naccepted 1.1 sent 1 released 0\nrefused conflict\ndraft 1.2 at 2\naccepted 1.2 sent 1 released 0\ndraft 1.3 at 3\naccepted 1.3 sent 1 released 0\naccepted 1.1\nrefused gap 2\n",
+        Ended::Whole,
+    )?;
+    // A log, and who has a name, are shown in every state of a node; digits may be of either case.
+    gives(
+        &rt,
+        b"group 2 10\nsubmit 1 7 1 hi\nheld 1.1\nlog 1\nstored 1\nraw 2 5542010102010000000100070000000100026869\ncrash 2\nheld 1.1\nlog 2\nrestart 2\nraw 2 -\nraw 2 5542010102010000000100070000000100026A6b\nheld 3.1\nheld 2.7\nlog 3\ntick 2\n",
+        b"group 2 10\ndraft 1.1 at 1\nheld 1.1:\nlog 1:\naccepted 1.1 sent 1 released 0\ndraft 1.1 at 1\ndown 2\nheld 1.1: 1\nlog 2:\nup 2\nrefused packet short\nrefused forged\nrefused badnode\nheld 2.7:\nrefused badnode\nsent\n",
+        Ended::Whole,
+    )
+}
+
+/// A bad line after a first one that is answered.
+fn is_bad(rt: &(impl Abort + AllocGlobal), line: &[u8]) -> Result<(), Fail> {
+    let mut script = Vec::new(rt.alloc());
+    script.extend_from_slice(b"group 1 10\n")?;
+    script.extend_from_slice(line)?;
+    script.extend_from_slice(b"\nlog 1\n")?;
+    gives(
+        rt,
+        script.as_slice(),
+        b"group 1 10\nbad line 2\n",
+        Ended::BadLine(2),
+    )
+}
+
+#[test]
+fn bad_lines_end_the_run(rt: HostRuntime) -> Result<(), Fail> {
+    for script in [
+        b"".as_slice(),
+        b"\n",
+        b"log 1\n",
+        b"stored 1\ngroup 1 10\n",
+        b"group 0 10\n",
+        b"group 8 10\n",
+        b"group 1 0\n",
+        b"group 1 1000001\n",
+        b"group 1\n",
+        b"group 1 10 \n",
+        b" group 1 10\n",
+        b"Group 1 10\n",
+    ] {
+        gives(&rt, script, b"bad line 1\n", Ended::BadLine(1))?;
+    }
+    for line in [
+        b"".as_slice(),
+        b"group 1 10",
+        b"log  1",
+        b" log 1",
+        b"log 1 ",
+        b"log",
+        b"log 01",
+        b"log +1",
+        b"log -1",
+        b"log 0",
+        b"log 8",
+        b"log 1 1",
+        b"log 18446744073709551617",
+        b"stored",
+        b"stored x",
+        b"stored 1\r",
+        b"submit 1 7",
+        b"submit 1 7 1",
+        b"submit 1 7 1 ",
+        b"submit 1 7 1 a b",
+        b"submit 1 07 1 a",
+        b"submit 1 0 1 a",
+        b"submit 1 65536 1 a",
+        b"submit 1 7 4294967296 a",
+        b"submit 1 7 1 \x7f",
+        b"submit 1 7 1 \xc3\xa9",
+        b"submit 8 7 1 a",
+        b"reopen 1",
+        b"reopen ",
+        b"fail 1",
+        b"fail 1 Old",
+        b"fail 1 old new",
+        b"crash",
+        b"restart 0",
+        b"tick 1 1",
+        b"arrive 1 1 1 1",
+        b"arrive 1 2 1",
+        b"arrive 1 2 8 1",
+        b"arrive 1 2 1 0",
+        b"arrive 1 2 1 4294967296",
+        b"arrive 1 2 1.1",
+        b"arrive2 1 2 1 1",
+        b"arrive2 1 2 1 1 4",
+        b"arrive2 1 2 1 1 00",
+        b"arrive2 1 2 1 1 1 1",
+        b"arrive2 1 1 1 1 1",
+        b"arrive2 1 2 1.1 1",
+        b"arrive3 1 2 1 1 1",
+        b"raw 1",
+        b"raw 1 ",
+        b"raw 1 --",
+        b"raw 1 5",
+        b"raw 1 5g",
+        b"raw 1 55 42",
+        b"held 1",
+        b"held 1 1",
+        b"held 1.0",
+        b"held 1.01",
+        b"held 1.4294967296",
+        b"held 8.1",
+        b"held .1",
+        b"held 1.1.1",
+    ] {
+        is_bad(&rt, line)?;
+    }
+    Ok(())
+}
+
+#[test]
+fn a_line_has_at_most_its_greatest_length(rt: HostRuntime) -> Result<(), Fail> {
+    // 13 bytes, and 63 times 1,024 or 64 times: 64,525 bytes, 65,536 and 65,537.
+    for (times, more, ended, answers) in [
+        (
+            63,
+            0,
+            Ended::Whole,
+            b"group 1 10\nrefused toolong\n".as_slice(),
+        ),
+        (63, 1011, Ended::Whole, b"group 1 10\nrefused toolong\n"),
+        (63, 1012, Ended::BadLine(2), b"group 1 10\nbad line 2\n"),
+        (64, 1024, Ended::BadLine(2), b"group 1 10\nbad line 2\n"),
+    ] {
+        let mut script = Vec::new(rt.alloc());
+        script.extend_from_slice(b"group 1 10\nsubmit 1 7 1 ")?;
+        for _ in 0..times {
+            script.extend_from_slice([b'x'; 1024].as_slice())?;
+        }
+        for _ in 0..more {
+            script.push(b'x')?;
+        }
+        gives(&rt, script.as_slice(), answers, ended)?;
+    }
+    Ok(())
+}
+
+#[test]
+fn a_script_cut_within_its_last_line_has_a_shorter_line(rt: HostRuntime) -> Result<(), Fail> {
+    let script = b"group 1 10\nsubmit 1 7 1 hi".as_slice();
+    for (cut, byte) in script.iter().enumerate() {
+        // What stands before the cut of the last line.
+        let (answers, ended) = match cut {
+            0..=10 => continue,
+            11 => (b"group 1 10\n".as_slice(), Ended::Whole),
+            25 => (b"group 1 10\ndraft 1.1 at 1\n".as_slice(), Ended::Whole),
+            _ => (b"group 1 10\nbad line 2\n".as_slice(), Ended::BadLine(2)),
+        };
+        let Some(front) = script.get(..cut) else {
+            return Err("a cut behind the end".into());
+        };
+        gives(&rt, front, answers, ended)?;
+        assert!(rt; *byte != b'\n');
+    }
+    Ok(())
+}
+
+#[test]
+fn a_last_line_may_lack_its_end(rt: HostRuntime) -> Result<(), Fail> {
+    gives(&rt, b"group 1 10", b"group 1 10\n", Ended::Whole)?;
+    gives(
+        &rt,
+        b"group 1 10\nstored 1",
+        b"group 1 10\nrefused stale\n",
+        Ended::Whole,
+    )?;
+    for script in [
+        b"group 1 10\nstored".as_slice(),
+        b"group 1 10\nsubmit 1 7",
+        b"group 1 10\n\n",
+    ] {
+        gives(&rt, script, b"group 1 10\nbad line 2\n", Ended::BadLine(2))?;
+    }
+    Ok(())
+}

@@ -1,0 +1,231 @@
+//! A thread that submits, carries packets, stores and settles, and tells what it settled.
+ghost use Rattle.std.specs.Prelude.{◌≤◌, length};
+
+use std::alloc::Global;
+use std::sync::{Mutex, MutexGuard, Wait};
+use urb_group::{ClientId, Done, Draft, MemStable, NodeId, Outbox, Taken};
+use urb_names::encode;
+use urb_show::{House, HouseName, Told};
+
+/// How many messages each of two nodes broadcasts.
+pub const ROUNDS: u32 = 8;
+
+/// A settling, as it is told: the token, of which node, and how long its list was.
+#[derive(Drop)]
+pub struct News<K: HouseName> {
+    pub told: Told<K>,
+    pub node: NodeId,
+    pub total: u32,
+}
+
+/// What was settled and is not learnt yet, the latest last, and whether no more comes.
+#[derive(Drop)]
+pub struct Board<K: HouseName> {
+    news: Vec<News<K>>,
+    ended: bool,
+}
+
+impl<K: HouseName> Board<K> {
+    pub fn new(alloc: Global) -> Board<K> {
+        Board {
+            news: Vec::new(alloc),
+            ended: false,
+        }
+    }
+
+    pub fn take(&mut self) -> (Option<News<K>>, bool) {
+        let news = self.news.pop();
+        (news, self.ended)
+    }
+
+    fn post(&mut self, news: News<K>) -> bool {
+        self.news.push(news).is_ok()
+    }
+
+    fn end(&mut self) {
+        self.ended = true;
+    }
+}
+
+/// The stores of nodes 1, 2 and 3.
+pub fn three_stores(alloc: Global) -> Option<Vec<MemStable>> {
+    let mut stores = Vec::new(alloc);
+    for _ in 0..3u8 {
+        stores.push(MemStable::new(alloc)).ok()?;
+    }
+    Some(stores)
+}
+
+/// What was drafted.
+pub fn drafted(taken: Taken) -> Option<Draft> {
+    match taken {
+        Taken::Same(_) => None,
+        Taken::Store(draft) => Some(draft),
+    }
+}
+
+/// The store keeps what was drafted, and the house takes the receipt.
+pub fn keep<K: HouseName>(
+    house: &mut House<K>,
+    stores: &mut Vec<MemStable>,
+    taken: Taken,
+) -> Option<Done> {
+    let draft = drafted(taken)?;
+    let store = stores.get_mut(usize::from(draft.node().number()) - 1)?;
+    let receipt = draft.keep(store).ok()?;
+    house.commit(receipt).ok()
+}
+
+/// Client 7 sends a node its message of this number. Its payload is the node and the number.
+pub fn submit<K: HouseName>(
+    alloc: Global,
+    house: &mut House<K>,
+    node: NodeId,
+    number: u32,
+) -> Option<Taken> {
+    let client = ClientId::new(7)?;
+    let payload = [node.number(), (number % 256) as u8];
+    house.submit(alloc, node, client, number, &payload).ok()
+}
+
+/// The packet among these that is for this node arrives there.
+pub fn arrive<K: HouseName>(
+    alloc: Global,
+    house: &mut House<K>,
+    node: NodeId,
+    sent: &Outbox,
+) -> Option<Taken> {
+    for index in 0..sent.len() {
+        let packet = sent.get(index)?;
+        if packet.target() == node {
+            let bytes = encode(alloc, packet).ok()?;
+            return house.arrive(alloc, node, &bytes).ok();
+        }
+    }
+    None
+}
+
+// Tells a settling.
+fn tell<K: HouseName, R: Wait>(rt: &R, board: &Mutex<Board<K>>, news: News<K>) -> bool {
+    let mut guard = board.lock(rt);
+    let told = guard.post(news);
+    MutexGuard::unlock(guard);
+    told
+}
+
+// What a node delivered is settled and told.
+fn settle<K: HouseName, R: Wait>(
+    rt: &R,
+    house: &mut House<K>,
+    board: &Mutex<Board<K>>,
+    node: NodeId,
+) -> Option<()>
+    requires { node ≤ length K.base }
+{
+    let told = house.settle(rt, node).ok()?;
+    let total = house.status(node)?.logged;
+    if tell(rt, board, News { told, node, total }) {
+        Some(())
+    } else {
+        None
+    }
+}
+
+// A node's message is stored, and so is what it makes this other node draft; and then what that node's packet makes the
+// first one draft. Both have delivered it then, and the packets for the others are handed out.
+fn there_and_back<K: HouseName, R: Wait>(
+    rt: &R,
+    alloc: Global,
+    house: &mut House<K>,
+    stores: &mut Vec<MemStable>,
+    board: &Mutex<Board<K>>,
+    ends: (NodeId, NodeId),
+    number: u32,
+) -> Option<Outbox>
+    requires { (ends.0 ≤ length K.base) × (ends.1 ≤ length K.base) }
+{
+    let (from, to) = ends;
+    let taken = submit(alloc, house, from, number)?;
+    let sent = keep(house, stores, taken)?.sent;
+    let taken = arrive(alloc, house, to, &sent)?;
+    let there = keep(house, stores, taken)?.sent;
+    settle(rt, house, board, to)?;
+    let taken = arrive(alloc, house, from, &there)?;
+    keep(house, stores, taken)?;
+    settle(rt, house, board, from)?;
+    Some(sent)
+}
+
+// A third node delivers it too.
+fn deliver<K: HouseName, R: Wait>(
+    rt: &R,
+    alloc: Global,
+    house: &mut House<K>,
+    stores: &mut Vec<MemStable>,
+    board: &Mutex<Board<K>>,
+    node: NodeId,
+    sent: &Outbox,
+) -> Option<()>
+    requires { node ≤ length K.base }
+{
+    let taken = arrive(alloc, house, node, sent)?;
+    keep(house, stores, taken)?;
+    settle(rt, house, board, node)
+}
+
+// Nodes 1 and 2 broadcast, and every node delivers both, node 3 in another order.
+fn round<K: HouseName, R: Wait>(
+    rt: &R,
+    alloc: Global,
+    house: &mut House<K>,
+    stores: &mut Vec<MemStable>,
+    board: &Mutex<Board<K>>,
+    number: u32,
+) -> Option<()>
+    requires { 3 ≤ length K.base }
+{
+    let (one, two, three) = (NodeId::new(1)?, NodeId::new(2)?, NodeId::new(3)?);
+    let first = there_and_back(rt, alloc, house, stores, board, (one, two), number)?;
+    let second = there_and_back(rt, alloc, house, stores, board, (two, one), number)?;
+    deliver(rt, alloc, house, stores, board, three, &second)?;
+    deliver(rt, alloc, house, stores, board, three, &first)
+}
+
+// Writes all rounds, one turn of the lock each. Whether none was refused.
+fn write_rounds<K: HouseName, R: Wait>(
+    rt: &R,
+    alloc: Global,
+    house: &Mutex<House<K>>,
+    board: &Mutex<Board<K>>,
+) -> bool
+    requires { 3 ≤ length K.base }
+{
+    let Some(mut stores) = three_stores(alloc) else {
+        return false;
+    };
+    for number in 0..ROUNDS {
+        let mut guard = house.lock(rt);
+        let written = round(rt, alloc, &mut *guard, &mut stores, board, number + 1).is_some();
+        MutexGuard::unlock(guard);
+        if !written {
+            return false;
+        }
+    }
+    true
+}
+
+/// Writes all rounds, and tells that no more comes. Whether none was refused.
+pub fn write<K: HouseName, R: Wait>(
+    rt: &R,
+    alloc: Global,
+    house: &Mutex<House<K>>,
+    board: &Mutex<Board<K>>,
+) -> bool
+    requires { 3 ≤ length K.base }
+{
+    let written = write_rounds(rt, alloc, house, board);
+    let mut guard = board.lock(rt);
+    guard.end();
+    MutexGuard::unlock(guard);
+    written
+}

@@ -1,0 +1,86 @@
+//! What no contract says: which reply a turn gives, stores that overlap, and workers over channels and links.
+
+ghost use Rattle.std.specs.Prelude.{◌≡◌, ◌*◌, IfSome, length, vec_len};
+ghost use Rattle.urb_show.specs.Lists.{lists_in};
+
+use std::alloc::Global;
+use std::sync::Wait;
+use std::sync::ledger::Blank;
+use urb_group::{Group, Reply};
+use urb_names::{ClientId, Config, NodeId, Refusal};
+use urb_show::{House, HouseName, LogReader, Opened};
+use urb_worker::{Hub, HubName, Job, Tally};
+
+mod desks;
+mod gates;
+mod hearing;
+mod pacing;
+mod timers;
+mod turns;
+
+// A new group of this many nodes, opened.
+fn opened(alloc: Global, nodes: u8) -> Option<Opened>
+    ensures { IfSome result (λ it. it.group.size.n ≡ nodes) }
+{
+    let config = Config::new(nodes, 100)?;
+    let group = Group::new(alloc, config).ok()?;
+    House::open(group).ok()
+}
+
+// The Hub of what was opened, its tallies, and its readers.
+fn hub_of<K: HouseName, L: HubName, R: Wait>(
+    rt: &R,
+    alloc: Global,
+    opened: Opened,
+    blank: Blank,
+) -> Option<(Hub<K, L>, Vec<Tally<L>>, Vec<LogReader<K>>)>
+    requires names { (opened.book ≡ K.book) × (lists_in opened.group ≡ K.base) }
+    requires name { blank.name ≡ L.name }
+    requires parts { (blank.parts ≡ L.parts) × (L.parts ≡ opened.group.size.n) }
+    requires start { L.start ≡ 0 }
+    ensures tallies { IfSome result (λ it. vec_len it.1 ≡ L.parts) }
+    ensures readers { IfSome result (λ it. length it.2.items ≡ 4 * L.parts) }
+    ensures nodes { IfSome result (λ it. L.parts ≡ length K.base) }
+{
+    let (house, readers) = match opened.parts::<K, R>(rt, alloc) {
+        Ok(parts) => parts,
+        Err((opened, _)) => {
+            drop(opened.close());
+            return None;
+        }
+    };
+    house.promise();
+    match Hub::new(alloc, house, blank) {
+        Ok((hub, tallies)) => Some((hub, tallies, readers)),
+        Err((house, _)) => {
+            drop(house.close(rt));
+            None
+        }
+    }
+}
+
+// A submit of client 7 at a node, whose payload is empty.
+fn submit(alloc: Global, node: NodeId, number: u32) -> Option<Job> {
+    Some(Job::Submit {
+        node,
+        client: ClientId::new(7)?,
+        number,
+        payload: Vec::new(alloc),
+    })
+}
+
+// Whether a reply is that a submit's record was stored under this number.
+fn is_accepted(reply: &Reply, seq: u32) -> bool {
+    match reply {
+        Reply::Stored(done) => done.accepted && done.name.seq == seq,
+        _ => false,
+    }
+}
+
+// Whether a reply is this refusal.
+fn is_refused(reply: &Reply, refusal: Refusal) -> bool {
+    match reply {
+        Reply::Refused(told) => *told == refusal,
+        _ => false,
+    }
+}

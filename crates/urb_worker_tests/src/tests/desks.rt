@@ -1,0 +1,132 @@
+//! Sessions of clients at the desk of a running node.
+
+ghost use Rattle.std.specs.Prelude.{◌≡◌, ◌≤◌, length};
+ghost use Rattle.urb_show.specs.Lists.{lists_in};
+
+use super::{hub_of, opened};
+use crossbeam_channel::Sender;
+use std::alloc::Global;
+use std::marker::Brand;
+use std::sync::Wait;
+use std::sync::ledger::Blank;
+use std::test::Fail;
+use std::thread;
+use std::thread::Threads;
+use urb_client::{Ended, session};
+use urb_group::MemStable;
+use urb_names::NodeId;
+use urb_show::{HouseName, LogReader, Opened};
+use urb_worker::{HubName, MemoryLink, NodeDesk, OpenGate, Ticket, serve};
+
+// What a client sends to a group of one node: a submit, a read that shows it, a status, a submit whose number isn't the next,
+// an unknown opcode, a read of the place 0, and one behind the end; then a crash, a status, a submit, a restart, and a bad length.
+const SENT: &[u8] = b"\x00\x09\x01\x00\x07\x00\x00\x00\x01hi\
+\x00\x06\x02\x00\x00\x00\x01\x08\
+\x00\x01\x03\
+\x00\x07\x01\x00\x07\x00\x00\x00\x03\
+\x00\x01\x09\
+\x00\x06\x02\x00\x00\x00\x00\x08\
+\x00\x06\x02\x00\x00\x00\x09\x08\
+\x00\x01\x04\
+\x00\x01\x03\
+\x00\x07\x01\x00\x07\x00\x00\x00\x02\
+\x00\x01\x05\
+\x00\x00";
+
+const ANSWERED: &[u8] = b"\x00\x05\x81\x00\x00\x00\x01\
+\x00\x11\x82\x01\x01\x00\x00\x00\x01\x00\x07\x00\x00\x00\x01\x00\x02hi\
+\x00\x0a\x83\x01\x00\x00\x00\x01\x00\x00\x00\x01\
+\x00\x06\xee\x07\x00\x00\x00\x02\
+\x00\x06\xee\x13\x00\x00\x00\x02\
+\x00\x06\xee\x13\x00\x00\x00\x04\
+\x00\x02\x82\x00\
+\x00\x01\x84\
+\x00\x0a\x83\x00\x00\x00\x00\x01\x00\x00\x00\x01\
+\x00\x06\xee\x03\x00\x00\x00\x00\
+\x00\x01\x84\
+\x00\x06\xee\x13\x00\x00\x00\x01";
+
+// A session at the desk of a node, of a client that sends this. Whether it ended at a bad length, answered so.
+fn is_answered<K: HouseName, R: Wait>(
+    rt: &R,
+    alloc: Global,
+    line: &Sender<Ticket<K>>,
+    reader: LogReader<K>,
+    sent: &[u8],
+    answered: &[u8],
+) -> bool
+    requires { 1 ≤ length K.base }
+{
+    let node = NodeId::new(1).unwrap();
+    let mut desk = NodeDesk::new(rt, alloc, node, line, reader);
+    let mut input = sent;
+    let mut output = Vec::new(alloc);
+    let ended = session(alloc, &mut input, &mut output, &mut desk);
+    ended == Ok(Ended::BadFrame) && output.as_slice() == answered
+}
+
+// One worker, and a session at its node's desk; and a session there once the worker has ended. Whether both were answered as they
+// should be, and the House's events.
+fn served<K: HouseName + Send + Sync, L: HubName + Send + Sync, R: Threads + Wait + Sync>(
+    rt: &R,
+    alloc: Global,
+    opened: Opened,
+    blank: Blank,
+) -> Option<(bool, bool, u64)>
+    requires names { (opened.book ≡ K.book) × (lists_in opened.group ≡ K.base) }
+    requires name { blank.name ≡ L.name }
+    requires parts { (blank.parts ≡ L.parts) × (L.parts ≡ 1) × (opened.group.size.n ≡ 1) }
+    requires start { L.start ≡ 0 }
+{
+    let node = NodeId::new(1).unwrap();
+    let (Some(link), Ok((line, jobs))) = (
+        MemoryLink::new(rt, alloc),
+        crossbeam_channel::bounded(alloc, 64),
+    ) else {
+        drop(opened.close());
+        return None;
+    };
+    let (hub, mut tallies, mut readers) = hub_of::<K, L, R>(rt, alloc, opened, blank)?;
+    let tally = tallies.pop().unwrap();
+    let (reader, other) = (readers.pop().unwrap(), readers.pop().unwrap());
+    let (hub_of, link_of) = (&hub, &link);
+    let (tally, is_served) = thread::join(
+        rt,
+        move || {
+            let store = MemStable::new(alloc);
+            serve(
+                rt, alloc, hub_of, node, store, jobs, link_of, &OpenGate, tally,
+            )
+        },
+        move || -> bool
+            requires { 1 ≤ length K.base }
+        { is_answered(rt, alloc, &line, reader, SENT, ANSWERED) },
+    );
+    tallies.push_reserved(tally);
+    let house = hub.close(tallies);
+    let events = house.events();
+    drop(house.close(rt));
+    let is_alone = match crossbeam_channel::bounded(alloc, 64) {
+        Ok((line, jobs)) => {
+            drop(jobs);
+            is_answered(
+                rt,
+                alloc,
+                &line,
+                other,
+                b"\x00\x07\x01\x00\x07\x00\x00\x00\x02\x00\x06\x02\x00\x00\x00\x01\x08\x00\x00",
+                b"\x00\x06\xee\x03\x00\x00\x00\x00\x00\x06\xee\x03\x00\x00\x00\x00\x00\x06\xee\x13\x00\x00\x00\x01",
+            )
+        }
+        Err(_) => false,
+    };
+    Some((is_served, is_alone, events))
+}
+
+#[test]
+fn a_session_at_a_running_node(rt: HostRuntime) -> Result<(), Fail> {
+    let opened = opened(rt.alloc(), 1).ok_or("memory")?;
+    let served = served::<Brand, Brand, _>(&rt, rt.alloc(), opened, Blank::new(1));
+    assert_eq!(rt; served, Some((true, true, 4)));
+    Ok(())
+}

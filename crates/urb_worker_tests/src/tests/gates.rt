@@ -1,0 +1,220 @@
+//! Workers over channels and links in memory: stores of two nodes overlap.
+
+ghost use Rattle.std.specs.Prelude.{◌≡◌};
+ghost use Rattle.urb_show.specs.Lists.{lists_in};
+
+use super::{hub_of, is_accepted, opened, submit};
+use crossbeam_channel::{Receiver, Sender};
+use std::alloc::Global;
+use std::marker::Brand;
+use std::sync::Wait;
+use std::sync::atomic::{AtomicU64, Ordering};
+use std::sync::ledger::Blank;
+use std::test::Fail;
+use std::thread;
+use std::thread::Threads;
+use std::time::{Clock, Duration};
+use urb_group::{MemStable, Reply};
+use urb_names::NodeId;
+use urb_show::{HouseName, Opened};
+use urb_worker::{Finished, Gate, HubName, Job, MemoryLink, Ticket, serve};
+
+// What the gate and the client tell each other: how often the gate held node 1's store, whether node 2 was answered, and
+// whether the gate gave up waiting for that.
+#[derive(Drop)]
+struct Signs {
+    held: AtomicU64,
+    answered: AtomicU64,
+    late: AtomicU64,
+}
+
+// Waits for a sign, for at most 10,000 turns of a millisecond.
+fn comes<R: Clock>(rt: &R, sign: &AtomicU64) -> bool {
+    for _ in 0..10_000u32 {
+        if sign.load(Ordering::SeqCst) != 0 {
+            return true;
+        }
+        thread::sleep(rt, Duration::from_millis(1));
+    }
+    false
+}
+
+// Holds node 1's store until node 2's submit was answered.
+#[derive(Drop)]
+struct HoldsFirst<'a, R: Clock> {
+    rt: &'a R,
+    signs: &'a Signs,
+}
+
+impl<'a, R: Clock> Gate for HoldsFirst<'a, R> {
+    fn before_store(&self, node: NodeId) {
+        if node.number() == 1 {
+            self.signs.held.fetch_add(1, Ordering::SeqCst);
+            if !comes(self.rt, &self.signs.answered) {
+                self.signs.late.store(1, Ordering::SeqCst);
+            }
+        }
+    }
+}
+
+// Sends a worker a job. Its answer comes here.
+fn asked<K: HouseName, R: Wait>(
+    rt: &R,
+    alloc: Global,
+    line: &Sender<Ticket<K>>,
+    job: Job,
+) -> Option<Receiver<Finished<K>>> {
+    let (to, from) = crossbeam_channel::bounded(alloc, 1).ok()?;
+    let ticket = Ticket {
+        job,
+        answer: Some(to),
+    };
+    line.send(rt, ticket).ok()?;
+    Some(from)
+}
+
+// Has node 1 do a submit, and node 2 while node 1's store is held; then node 1 a tick, and a job of node 2. Whether both submits
+// were accepted, packets were sent, and the last job did not run.
+fn both_asked<K: HouseName, R: Wait + Clock>(
+    rt: &R,
+    alloc: Global,
+    signs: &Signs,
+    first: &Sender<Ticket<K>>,
+    second: &Sender<Ticket<K>>,
+) -> Option<bool> {
+    let one = NodeId::new(1)?;
+    let two = NodeId::new(2)?;
+    let slow = asked(rt, alloc, first, submit(alloc, one, 1)?)?;
+    let is_held = comes(rt, &signs.held);
+    let quick = asked(rt, alloc, second, submit(alloc, two, 1)?)?;
+    let quick = quick.recv(rt).ok()?;
+    signs.answered.store(1, Ordering::SeqCst);
+    let slow = slow.recv(rt).ok()?;
+    let tick = asked(rt, alloc, first, Job::Tick(one))?.recv(rt).ok()?;
+    let stray = asked(rt, alloc, first, Job::Tick(two))?.recv(rt).ok()?;
+    Some(
+        is_held
+            && is_accepted(quick.reply(), 1)
+            && is_accepted(slow.reply(), 1)
+            && matches!(tick.reply(), Reply::Sent(_))
+            && !stray.ran(),
+    )
+}
+
+// What came of two workers: whether all went as it should, how often node 1's store was held, whether the gate gave up, the
+// House's events, and how many packets each node was sent.
+#[derive(Clone, Copy, Debug, PartialEq, Eq)]
+struct Outcome {
+    went_well: bool,
+    held: u64,
+    late: u64,
+    events: u64,
+    sent: (usize, usize),
+}
+
+// A node's line, and its worker's end of it.
+type Line<K> = (Sender<Ticket<K>>, Receiver<Ticket<K>>);
+
+// A link, and a line for each of two nodes.
+fn lines<K: HouseName, R: Wait>(
+    rt: &R,
+    alloc: Global,
+) -> Option<(MemoryLink<'_, R>, Line<K>, Line<K>)> {
+    let link = MemoryLink::new(rt, alloc)?;
+    let first = crossbeam_channel::bounded(alloc, 64).ok()?;
+    let second = crossbeam_channel::bounded(alloc, 64).ok()?;
+    Some((link, first, second))
+}
+
+fn two_workers<
+    K: HouseName + Send + Sync,
+    L: HubName + Send + Sync,
+    R: Threads + Wait + Clock + Sync,
+>(rt: &R, alloc: Global, opened: Opened, blank: Blank) -> Option<Outcome>
+    requires names { (opened.book ≡ K.book) × (lists_in opened.group ≡ K.base) }
+    requires name { blank.name ≡ L.name }
+    requires parts { (blank.parts ≡ L.parts) × (L.parts ≡ 2) × (opened.group.size.n ≡ 2) }
+    requires start { L.start ≡ 0 }
+{
+    let one = NodeId::new(1).unwrap();
+    let two = NodeId::new(2).unwrap();
+    let Some((link, (first, first_jobs), (second, second_jobs))) = lines::<K, R>(rt, alloc) else {
+        drop(opened.close());
+        return None;
+    };
+    let (hub, mut tallies, readers) = hub_of::<K, L, R>(rt, alloc, opened, blank)?;
+    drop(readers);
+    let first_tally = tallies.pop().unwrap();
+    let second_tally = tallies.pop().unwrap();
+    let signs = Signs {
+        held: AtomicU64::new(0),
+        answered: AtomicU64::new(0),
+        late: AtomicU64::new(0),
+    };
+    let gate = HoldsFirst { rt, signs: &signs };
+    let (hub_of, link_of, gate_of, signs_of) = (&hub, &link, &gate, &signs);
+    let (first_tally, (second_tally, went_well)) = thread::join(
+        rt,
+        move || {
+            let store = MemStable::new(alloc);
+            serve(
+                rt,
+                alloc,
+                hub_of,
+                one,
+                store,
+                first_jobs,
+                link_of,
+                gate_of,
+                first_tally,
+            )
+        },
+        move || {
+            thread::join(
+                rt,
+                move || {
+                    let store = MemStable::new(alloc);
+                    serve(
+                        rt,
+                        alloc,
+                        hub_of,
+                        two,
+                        store,
+                        second_jobs,
+                        link_of,
+                        gate_of,
+                        second_tally,
+                    )
+                },
+                move || both_asked(rt, alloc, signs_of, &first, &second),
+            )
+        },
+    );
+    tallies.push_reserved(first_tally);
+    tallies.push_reserved(second_tally);
+    let house = hub.close(tallies);
+    let events = house.events();
+    drop(house.close(rt));
+    Some(Outcome {
+        went_well: went_well == Some(true),
+        held: signs.held.load(Ordering::SeqCst),
+        late: signs.late.load(Ordering::SeqCst),
+        events,
+        sent: (link.empty(one).len(), link.empty(two).len()),
+    })
+}
+
+#[test]
+fn stores_of_two_nodes_overlap(rt: HostRuntime) -> Result<(), Fail> {
+    let opened = opened(rt.alloc(), 2).ok_or("memory")?;
+    let outcome = two_workers::<Brand, Brand, _>(&rt, rt.alloc(), opened, Blank::new(2));
+    let expected = Outcome {
+        went_well: true,
+        held: 1,
+        late: 0,
+        events: 5,
+        sent: (1, 2),
+    };
+    assert_eq!(rt; outcome, Some(expected));
+    Ok(())
+}

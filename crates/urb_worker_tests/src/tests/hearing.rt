@@ -1,0 +1,156 @@
+//! Nodes that tell each other of their certificates: once each has heard of all, ticks send nothing.
+
+ghost use Rattle.std.specs.Prelude.{◌≡◌};
+ghost use Rattle.urb_show.specs.Lists.{lists_in};
+
+use super::{hub_of, opened, submit};
+use std::alloc::Global;
+use std::marker::Brand;
+use std::sync::Wait;
+use std::sync::ledger::Blank;
+use std::test::Fail;
+use urb_group::MemStable;
+use urb_names::NodeId;
+use urb_show::{House, HouseName, Opened};
+use urb_worker::{Hub, HubName, Job, MemoryLink, OpenGate, Tally, Ticket, serve_from};
+
+// Nodes with their stores, of which each does its jobs when it is asked.
+#[derive(Drop)]
+struct Nodes<'a, 'r, K: HouseName, L: HubName, R: Wait> {
+    rt: &'r R,
+    alloc: Global,
+    hub: &'a Hub<K, L>,
+    link: &'a MemoryLink<'r, R>,
+    stores: Vec<MemStable>,
+}
+
+impl<'a, 'r, K: HouseName, L: HubName, R: Wait> Nodes<'a, 'r, K, L, R> {
+    // Has a node's worker do a job. Without memory for that the job is lost.
+    fn work(&mut self, node: NodeId, job: Job, tally: Tally<L>) -> Tally<L> {
+        let Some(store) = self.stores.get_mut(usize::from(node.number()) - 1) else {
+            return tally;
+        };
+        let Ok((line, jobs)) = crossbeam_channel::bounded(self.alloc, 1) else {
+            return tally;
+        };
+        let ticket = Ticket { job, answer: None };
+        if line.send(self.rt, ticket).is_err() {
+            return tally;
+        }
+        drop(line);
+        serve_from(
+            self.rt, self.alloc, self.hub, node, store, jobs, self.link, &OpenGate, tally,
+        )
+    }
+
+    // Brings each node what was sent to it, twenty times over, and counts the packets.
+    fn deliver(&mut self, tally: Tally<L>) -> (usize, Tally<L>) {
+        let mut tally = tally;
+        let mut count: usize = 0;
+        for _ in 0..20u8 {
+            for number in 1..4u8 {
+                let node = NodeId::new(number).unwrap();
+                for bytes in self.link.empty(node) {
+                    count = count.saturating_add(1);
+                    tally = self.work(node, Job::Arrive { node, bytes }, tally);
+                }
+            }
+        }
+        (count, tally)
+    }
+
+    // A tick at each node. How many packets that leads to.
+    fn tick(&mut self, tally: Tally<L>) -> (usize, Tally<L>) {
+        let mut tally = tally;
+        for number in 1..4u8 {
+            let node = NodeId::new(number).unwrap();
+            tally = self.work(node, Job::Tick(node), tally);
+        }
+        self.deliver(tally)
+    }
+
+    // How many packets a submit at the first node leads to, and then two rounds of ticks.
+    fn play(&mut self, tally: Tally<L>) -> ((usize, usize, usize), Tally<L>) {
+        let node = NodeId::new(1).unwrap();
+        let tally = match submit(self.alloc, node, 1) {
+            Some(job) => self.work(node, job, tally),
+            None => tally,
+        };
+        let (broadcast, tally) = self.deliver(tally);
+        let (first, tally) = self.tick(tally);
+        let (second, tally) = self.tick(tally);
+        ((broadcast, first, second), tally)
+    }
+}
+
+// Whether each of three nodes has delivered one message.
+fn have_delivered<K: HouseName>(house: &House<K>) -> bool {
+    for number in 1..4u8 {
+        match house.log(NodeId::new(number).unwrap()) {
+            Some([_]) => {}
+            _ => return false,
+        }
+    }
+    true
+}
+
+// What nodes with these stores play at a hub.
+fn play_at<'a, 'r, K: HouseName, L: HubName, R: Wait>(
+    rt: &'r R,
+    alloc: Global,
+    hub: &'a Hub<K, L>,
+    link: &'a MemoryLink<'r, R>,
+    stores: Vec<MemStable>,
+    tally: Tally<L>,
+) -> ((usize, usize, usize), Tally<L>) {
+    let mut nodes = Nodes {
+        rt,
+        alloc,
+        hub,
+        link,
+        stores,
+    };
+    nodes.play(tally)
+}
+
+// The packets of a group of three that plays, and whether all have delivered the message.
+fn played<K: HouseName, L: HubName, R: Wait>(
+    rt: &R,
+    alloc: Global,
+    opened: Opened,
+    blank: Blank,
+    stores: Vec<MemStable>,
+) -> Option<((usize, usize, usize), bool)>
+    requires names { (opened.book ≡ K.book) × (lists_in opened.group ≡ K.base) }
+    requires name { blank.name ≡ L.name }
+    requires parts { (blank.parts ≡ L.parts) × (L.parts ≡ 3) × (opened.group.size.n ≡ 3) }
+    requires start { L.start ≡ 0 }
+{
+    let Some(link) = MemoryLink::new(rt, alloc) else {
+        drop(opened.close());
+        return None;
+    };
+    let (hub, mut tallies, readers) = hub_of::<K, L, R>(rt, alloc, opened, blank)?;
+    drop(readers);
+    let tally = tallies.pop().unwrap();
+    let (counts, tally) = play_at(rt, alloc, &hub, &link, stores, tally);
+    tallies.push_reserved(tally);
+    let house = hub.close(tallies);
+    let delivered = have_delivered(&house);
+    drop(house.close(rt));
+    Some((counts, delivered))
+}
+
+#[test]
+fn ticks_send_nothing_once_all_have_heard(rt: HostRuntime) -> Result<(), Fail> {
+    let alloc = rt.alloc();
+    let mut stores = Vec::new(alloc);
+    for _ in 0..3u8 {
+        stores.push(MemStable::new(alloc))?;
+    }
+    let opened = opened(alloc, 3).ok_or("memory")?;
+    let played = played::<Brand, Brand, _>(&rt, alloc, opened, Blank::new(3), stores);
+    // Node 2 alone has not heard of the first node's certificate: its first tick asks, and is answered.
+    assert_eq!(rt; played, Some(((9, 2, 0), true)));
+    Ok(())
+}
