@@ -72,10 +72,7 @@ impl<A: Allocator + Copy> Group<A> {
     pub fn arrive(&mut self, alloc: A, node: NodeId, bytes: &[u8]) -> Result<Taken<A>, Refusal>
         ensures { Takes self.old node (Arrive node (packet_of bytes.now)) result self.new }
     {
-        let packet = match parse(bytes) {
-            Ok(packet) => packet,
-            Err(fault) => return Err(Refusal::Packet(fault)),
-        };
+        let packet = parse(bytes)?;
         let Some((source, at)) = ends_of(self.config, node, &packet) else {
             return Err(Refusal::BadNode);
         };
