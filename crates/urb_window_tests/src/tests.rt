@@ -1,6 +1,8 @@
 //! Values under names in several orders, reads of them, and refused growth.
 
-use std::alloc::Allocator;
+ghost use Rattle.std.specs.Prelude.{◌≤◌};
+
+use std::alloc::{Allocator, Global};
 use std::test::Fail;
 use urb_names::{Name, NoMemory, NodeId};
 use urb_refusing::Refusing;
@@ -67,90 +69,159 @@ fn put_unreserved<A: Allocator + Copy>(
     Ok(())
 }
 
-#[test]
-fn a_gap_closes_in_any_order(rt: HostRuntime) -> Result<(), Fail> {
-    let mut rising = Windows::new(rt.alloc());
-    let mut falling = Windows::new(rt.alloc());
-    let mut odd_first = Windows::new(rt.alloc());
-    for seq in 1..41 {
-        put(&mut rising, name(2, seq)?)?;
-        assert_eq!(rt; rising.low(node(2)?), seq);
-        put(&mut falling, name(2, 41 - seq)?)?;
-        let odd = if seq <= 20 {
-            2 * seq - 1
-        } else {
-            2 * (seq - 20)
-        };
-        put(&mut odd_first, name(2, odd)?)?;
+// The numbers 1 to 40, each once.
+#[derive(Clone, Copy)]
+enum Order {
+    Rising,
+    Falling,
+    OddFirst,
+}
+
+// The number that comes at a step from 1 to 40.
+fn number_at(order: Order, step: u32) -> u32 {
+    match order {
+        Order::Rising => step,
+        Order::Falling => 41_u32.saturating_sub(step),
+        Order::OddFirst if step <= 20 => (2 * step).saturating_sub(1),
+        Order::OddFirst => step.saturating_sub(20).saturating_mul(2),
     }
-    for windows in [&rising, &falling, &odd_first] {
-        assert_eq!(rt; windows.low(node(2)?), 40);
-        assert_eq!(rt; windows.above(node(2)?), 0);
-        assert_eq!(rt; windows.low(node(1)?), 0);
-        assert_eq!(rt; windows.count(), 40);
-        let window = windows.window(node(2)?);
-        assert_eq!(rt; window.len(), 40);
-        for i in 0..window.len() {
-            assert_eq!(rt; window[i] as usize, i + 1);
+}
+
+// Whether node 2 has the numbers 1 to 40 as their own values without a gap, and no other node has any.
+fn is_full<A: Allocator + Copy>(windows: &Windows<u32, A>) -> Result<bool, Fail> {
+    let (first, second) = (node(1)?, node(2)?);
+    let window = windows.window(second);
+    for i in 0..window.len() {
+        if window[i] as usize != i + 1 {
+            return Ok(false);
         }
     }
+    Ok(
+        window.len() == 40
+            && windows.count() == 40
+            && windows.low(second) == 40
+            && windows.above(second) == 0
+            && windows.low(first) == 0,
+    )
+}
+
+fn fill<A: Allocator + Copy>(windows: &mut Windows<u32, A>, order: Order) -> Result<bool, Fail> {
+    for step in 1..41 {
+        put(windows, name(2, number_at(order, step))?)?;
+    }
+    is_full(windows)
+}
+
+fn fills(alloc: Global, order: Order) -> Result<bool, Fail> {
+    let mut windows = Windows::new(alloc);
+    fill(&mut windows, order)
+}
+
+#[test]
+fn a_gap_closes_in_any_order(rt: HostRuntime) -> Result<(), Fail> {
+    for order in [Order::Rising, Order::Falling, Order::OddFirst] {
+        assert!(rt; fills(rt.alloc(), order)?);
+    }
     Ok(())
+}
+
+// Whether a sender's numbers go so far without a gap, and so many stand above it.
+fn goes_to<A: Allocator + Copy>(
+    windows: &Windows<u32, A>,
+    sender: u8,
+    low: u32,
+    above: u32,
+) -> Result<bool, Fail> {
+    let sender = node(sender)?;
+    Ok(windows.low(sender) == low && windows.above(sender) == above)
+}
+
+// Whether the names that are there are these, in this order, whichever way they are read.
+fn reads<A: Allocator + Copy>(
+    windows: &Windows<u32, A>,
+    order: &[(u8, u32)],
+) -> Result<bool, Fail> {
+    let mut cursor = windows.first();
+    for i in 0..order.len() {
+        let (sender, seq) = order[i];
+        let here = name(sender, seq)?;
+        if cursor != Some(here)
+            || windows.get(here) != Some(&seq)
+            || windows.entry(i) != Some((here, &seq))
+        {
+            return Ok(false);
+        }
+        cursor = windows.after(here);
+    }
+    Ok(cursor.is_none() && windows.entry(order.len()).is_none())
+}
+
+fn put_each<A: Allocator + Copy>(
+    windows: &mut Windows<u32, A>,
+    names: &[(u8, u32)],
+) -> Result<(), Fail> {
+    for (sender, seq) in names {
+        put(windows, name(*sender, *seq)?)?;
+    }
+    Ok(())
+}
+
+fn puts_and_reads<A: Allocator + Copy>(windows: &mut Windows<u32, A>) -> Result<bool, Fail> {
+    let is_empty = windows.first().is_none() && windows.after(name(1, 1)?).is_none();
+    put_each(windows, &[(3, 7), (7, 4), (3, 1), (1, 2), (3, 2)])?;
+    let is_read = reads(windows, &[(1, 2), (3, 1), (3, 2), (3, 7), (7, 4)])?;
+    let over_a_gap = windows.after(name(3, 3)?) == Some(name(3, 7)?);
+    Ok(
+        is_empty
+            && is_read
+            && over_a_gap
+            && goes_to(windows, 3, 2, 1)?
+            && goes_to(windows, 1, 0, 1)?,
+    )
 }
 
 #[test]
 fn reads_follow_the_order_of_names(rt: HostRuntime) -> Result<(), Fail> {
     let mut windows = Windows::new(rt.alloc());
-    assert!(rt; windows.first().is_none());
-    let any = name(1, 1)?;
-    assert!(rt; windows.after(any).is_none());
-    let order = [(1, 2), (3, 1), (3, 2), (3, 7), (7, 4)];
-    for (sender, seq) in [(3, 7), (7, 4), (3, 1), (1, 2), (3, 2)] {
-        let here = name(sender, seq)?;
-        put(&mut windows, here)?;
-    }
-    assert_eq!(rt; windows.low(node(3)?), 2);
-    assert_eq!(rt; windows.above(node(3)?), 1);
-    assert_eq!(rt; windows.low(node(1)?), 0);
-    assert_eq!(rt; windows.above(node(1)?), 1);
-    let mut cursor = windows.first();
-    for i in 0..order.len() {
-        let (sender, seq) = order[i];
-        let here = name(sender, seq)?;
-        assert!(rt; cursor == Some(here));
-        cursor = windows.after(here);
-        match windows.entry(i) {
-            Some((there, value)) => assert!(rt; there == here && *value == seq),
-            None => return Err(Fail::from("an entry")),
-        }
-        assert!(rt; windows.get(here) == Some(&seq));
-    }
-    assert!(rt; cursor.is_none() && windows.entry(5).is_none());
-    assert!(rt; windows.after(name(3, 3)?) == Some(name(3, 7)?));
+    assert!(rt; puts_and_reads(&mut windows)?);
     Ok(())
+}
+
+// Whether the value of node 4's number is that number, and is another from then on.
+fn is_replaced<A: Allocator + Copy>(
+    windows: &mut Windows<u32, A>,
+    seq: u32,
+    value: u32,
+) -> Result<bool, Fail> {
+    let here = name(4, seq)?;
+    if windows.get(here).is_none() {
+        return Ok(false);
+    }
+    let was = windows.replace(here, value);
+    Ok(was == seq && windows.get(here) == Some(&value))
+}
+
+fn replaces_and_clears<A: Allocator + Copy>(windows: &mut Windows<u32, A>) -> Result<bool, Fail> {
+    put_each(windows, &[(4, 1), (4, 3)])?;
+    let is_replaced = is_replaced(windows, 1, 11)? && is_replaced(windows, 3, 13)?;
+    let had = windows.count();
+    windows.clear();
+    Ok(is_replaced && had == 2 && windows.count() == 0 && windows.get(name(4, 1)?).is_none())
 }
 
 #[test]
 fn a_value_is_replaced_in_either_part(rt: HostRuntime) -> Result<(), Fail> {
     let mut windows = Windows::new(rt.alloc());
-    put(&mut windows, name(4, 1)?)?;
-    put(&mut windows, name(4, 3)?)?;
-    for seq in [1, 3] {
-        let here = name(4, seq)?;
-        if windows.get(here).is_some() {
-            assert_eq!(rt; windows.replace(here, 10 + seq), seq);
-        }
-        assert!(rt; windows.get(here) == Some(&(10 + seq)));
-    }
-    assert_eq!(rt; windows.count(), 2);
-    windows.clear();
-    assert_eq!(rt; windows.count(), 0);
-    assert!(rt; windows.get(name(4, 1)?).is_none());
+    assert!(rt; replaces_and_clears(&mut windows)?);
     Ok(())
 }
 
-#[test]
-fn each_growth_may_be_refused(rt: HostRuntime) -> Result<(), Fail> {
-    let order = [
+// Puts names of two nodes in an order with gaps, each with a reservation or without one.
+fn put_with_gaps<A: Allocator + Copy>(
+    windows: &mut Windows<u32, A>,
+    reserved: bool,
+) -> Result<bool, Fail> {
+    for (sender, seq) in [
         (1, 7),
         (1, 3),
         (3, 2),
@@ -159,29 +230,60 @@ fn each_growth_may_be_refused(rt: HostRuntime) -> Result<(), Fail> {
         (1, 1),
         (1, 4),
         (3, 1),
-    ];
-    let mut met = 0;
+    ] {
+        let here = name(sender, seq)?;
+        if reserved {
+            put(windows, here)?;
+        } else {
+            put_unreserved(windows, here)?;
+        }
+    }
+    Ok(goes_to(windows, 1, 4, 2)? && goes_to(windows, 3, 2, 0)?)
+}
+
+// Whether all goes well where one growth is refused, and whether it was met.
+fn outlives(alloc: Global, refused: u64, reserved: bool) -> Result<(bool, bool), Fail> {
+    let heap = Refusing::new(alloc, refused);
+    let mut windows = Windows::new(&heap);
+    let is_well = put_with_gaps(&mut windows, reserved)?;
+    Ok((is_well, heap.met()))
+}
+
+#[test]
+fn each_growth_may_be_refused(rt: HostRuntime) -> Result<(), Fail> {
+    let mut last = 0;
     for refused in 1..12 {
         for reserved in [false, true] {
-            let heap = Refusing::new(rt.alloc(), refused);
-            let mut windows = Windows::new(&heap);
-            for (sender, seq) in order {
-                if reserved {
-                    put(&mut windows, name(sender, seq)?)?;
-                } else {
-                    put_unreserved(&mut windows, name(sender, seq)?)?;
-                }
-            }
-            assert_eq!(rt; windows.low(node(1)?), 4);
-            assert_eq!(rt; windows.above(node(1)?), 2);
-            assert_eq!(rt; windows.low(node(3)?), 2);
-            if heap.met() {
-                met = refused;
+            let (is_well, met) = outlives(rt.alloc(), refused, reserved)?;
+            assert!(rt; is_well);
+            if met {
+                last = refused;
             }
         }
     }
-    assert!(rt; 3 <= met, "growths were refused");
+    assert!(rt; 3 <= last, "growths were refused");
     Ok(())
+}
+
+// The number 1 of node 1, which closes a gap, is reserved; how often the heap was asked until then is told.
+fn reserve_first<'heap, A: Allocator>(
+    windows: &mut Windows<u32, &'heap Refusing<A>>,
+    heap: &'heap Refusing<A>,
+) -> Result<u64, Fail> {
+    put_each(windows, &[(1, 6), (1, 5), (1, 4), (1, 3), (1, 2)])?;
+    windows.limits();
+    windows.reserve(name(1, 1)?)?;
+    Ok(heap.asked())
+}
+
+// Whether the reserved value goes in, and closes the gap.
+fn insert_first<A: Allocator + Copy>(windows: &mut Windows<u32, A>) -> Result<bool, Fail> {
+    let first = name(1, 1)?;
+    if windows.get(first).is_some() {
+        return Ok(false);
+    }
+    let is_in = windows.insert(first, 1).is_ok();
+    Ok(is_in && goes_to(windows, 1, 6, 0)?)
 }
 
 #[test]
@@ -189,21 +291,9 @@ fn what_was_reserved_takes_no_memory(rt: HostRuntime) -> Result<(), Fail> {
     let heap = Refusing::new(rt.alloc(), 0);
     let mut windows = Windows::new(&heap);
     assert_eq!(rt; heap.asked(), 0);
-    for seq in [6, 5, 4, 3, 2] {
-        put(&mut windows, name(1, seq)?)?;
-    }
-    windows.limits();
-    let first = name(1, 1)?;
-    windows.reserve(first)?;
-    let asked = heap.asked();
-    if windows.get(first).is_some() {
-        return Err(Fail::from("nothing stands under the name"));
-    }
-    if windows.insert(first, 1).is_err() {
-        return Err(Fail::from("room was reserved"));
-    }
+    let asked = reserve_first(&mut windows, &heap)?;
+    assert!(rt; insert_first(&mut windows)?);
     assert_eq!(rt; heap.asked(), asked);
-    assert_eq!(rt; windows.low(node(1)?), 6);
     Ok(())
 }
 
@@ -225,45 +315,84 @@ fn mark<A: Allocator + Copy>(marks: &mut Marks<A>, name: Name, node: NodeId) -> 
     Ok(())
 }
 
+// How many of the first n nodes are marked for node 1's name 3.
+fn marked<A: Allocator + Copy>(marks: &Marks<A>, n: u8) -> Result<u8, Fail>
+    requires { n ≤ 7 }
+{
+    Ok(marks.count_of(name(1, 3)?, n))
+}
+
+// Makes room for node 1's name 3, and for no other.
+fn make_room<A: Allocator + Copy>(marks: &mut Marks<A>) -> Result<bool, Fail> {
+    let third = name(1, 3)?;
+    marks.make_room(third)?;
+    Ok(marks.is_roomy(third) && !marks.is_roomy(name(1, 2)?) && marked(marks, 7)? == 0)
+}
+
+// Marks nodes for the name, and forgets them.
+fn mark_and_forget<A: Allocator + Copy>(marks: &mut Marks<A>) -> Result<bool, Fail> {
+    let third = name(1, 3)?;
+    mark(marks, third, node(7)?)?;
+    mark(marks, third, node(2)?)?;
+    let are_counted = marked(marks, 7)? == 2 && marked(marks, 6)? == 1;
+    marks.forget();
+    let are_forgotten = marked(marks, 7)? == 0;
+    mark(marks, third, node(1)?)?;
+    Ok(are_counted && are_forgotten)
+}
+
+// Whether nothing is left of room that was made and reserved.
+fn clears<A: Allocator + Copy>(marks: &mut Marks<A>) -> Result<bool, Fail> {
+    marks.reserve(name(2, 1)?)?;
+    marks.clear();
+    Ok(!marks.is_roomy(name(1, 3)?))
+}
+
 #[test]
 fn marks_are_forgotten_and_their_room_stays(rt: HostRuntime) -> Result<(), Fail> {
     let heap = Refusing::new(rt.alloc(), 0);
     let mut marks = Marks::new(&heap);
-    marks.make_room(name(1, 3)?)?;
-    assert!(rt; marks.is_roomy(name(1, 3)?) && !marks.is_roomy(name(1, 2)?));
-    assert_eq!(rt; marks.count_of(name(1, 3)?, 7), 0);
+    assert!(rt; make_room(&mut marks)?);
     let asked = heap.asked();
-    mark(&mut marks, name(1, 3)?, node(7)?)?;
-    mark(&mut marks, name(1, 3)?, node(2)?)?;
-    assert_eq!(rt; marks.count_of(name(1, 3)?, 7), 2);
-    assert_eq!(rt; marks.count_of(name(1, 3)?, 6), 1);
-    marks.forget();
-    assert_eq!(rt; marks.count_of(name(1, 3)?, 7), 0);
-    mark(&mut marks, name(1, 3)?, node(1)?)?;
+    assert!(rt; mark_and_forget(&mut marks)?);
     assert_eq!(rt; heap.asked(), asked);
-    marks.reserve(name(2, 1)?)?;
-    marks.clear();
-    assert!(rt; !marks.is_roomy(name(1, 3)?));
+    assert!(rt; clears(&mut marks)?);
     Ok(())
+}
+
+// Marks node 3 for three names of node 2; room for the first is made before.
+fn mark_three<A: Allocator + Copy>(marks: &mut Marks<A>) -> Result<bool, Fail> {
+    let first = name(2, 1)?;
+    if marks.make_room(first).is_err() {
+        if marks.is_roomy(first) {
+            return Ok(false);
+        }
+        marks.make_room(first)?;
+    }
+    for seq in [1, 2, 9] {
+        mark(marks, name(2, seq)?, node(3)?)?;
+    }
+    Ok(true)
+}
+
+// Whether all goes well where one growth is refused, and whether it was met.
+fn marks_outlive(alloc: Global, refused: u64) -> Result<(bool, bool), Fail> {
+    let heap = Refusing::new(alloc, refused);
+    let mut marks = Marks::new(&heap);
+    let is_well = mark_three(&mut marks)?;
+    Ok((is_well, heap.met()))
 }
 
 #[test]
 fn a_refused_mark_changes_nothing(rt: HostRuntime) -> Result<(), Fail> {
-    let mut met = 0;
+    let mut last = 0;
     for refused in 1..9 {
-        let heap = Refusing::new(rt.alloc(), refused);
-        let mut marks = Marks::new(&heap);
-        if marks.make_room(name(2, 1)?).is_err() {
-            assert!(rt; !marks.is_roomy(name(2, 1)?));
-            marks.make_room(name(2, 1)?)?;
-        }
-        for seq in [1, 2, 9] {
-            mark(&mut marks, name(2, seq)?, node(3)?)?;
-        }
-        if heap.met() {
-            met = refused;
+        let (is_well, met) = marks_outlive(rt.alloc(), refused)?;
+        assert!(rt; is_well);
+        if met {
+            last = refused;
         }
     }
-    assert!(rt; 2 <= met, "growths were refused");
+    assert!(rt; 2 <= last, "growths were refused");
     Ok(())
 }
