@@ -9,17 +9,18 @@ const PENDING: What = What::Stored(Form::Pending);
 const CERTIFICATE: What = What::Stored(Form::Certificate);
 
 // Calls of node 1 of a group of so many, of its first message.
-fn plays<A: Allocator + Copy>(n: u8, rows: &[(Call, What)], calm: A) -> Result<Tested<A>, Fail> {
-    go_on(Tested::new(n, 1, calm, calm)?, rows)
+fn plays<A: Allocator + Copy>(n: u8, rows: &[(Call, What)], calm: A) -> Result<Owned<A>, Fail> {
+    let mut bench = Bench::new(n, 1, calm, calm)?;
+    go_on(&mut bench, rows)?;
+    Ok(bench)
 }
 
 // Further calls.
-fn go_on<A: Allocator + Copy>(tested: Tested<A>, rows: &[(Call, What)]) -> Result<Tested<A>, Fail> {
-    let mut tested = tested;
+fn go_on<A: Allocator + Copy>(bench: &mut Bench<A>, rows: &[(Call, What)]) -> Result<(), Fail> {
     for (call, what) in rows {
-        tested = tested.play(&[(*call, b"m", *what, (1, 1))])?;
+        bench.play(&[(*call, b"m", *what, (1, 1))])?;
     }
-    Ok(tested)
+    Ok(())
 }
 
 /// At node 1 of three, once its first message is certified: a packet of version one is never answered, one of version two is
@@ -43,7 +44,7 @@ static ANSWERS: [(Call, What); 14] = [
 
 #[test]
 fn a_certified_name_is_answered_to_who_did_not_hear_of_it(rt: HostRuntime) -> Result<(), Fail> {
-    let _tested = plays(3, &ANSWERS, rt.alloc())?;
+    let _bench = plays(3, &ANSWERS, rt.alloc())?;
     Ok(())
 }
 
@@ -76,7 +77,7 @@ static HEARS: [[(Call, What); 5]; 3] = [
 #[test]
 fn a_certificate_is_heard_whatever_its_packet_leads_to(rt: HostRuntime) -> Result<(), Fail> {
     for rows in &HEARS {
-        let _tested = plays(5, rows, rt.alloc())?;
+        let _bench = plays(5, rows, rt.alloc())?;
     }
     Ok(())
 }
@@ -101,28 +102,26 @@ fn say<A: Allocator + Copy>(sent: &Outbox<A>, expected: &[(u8, Flags)]) -> bool 
     sent.len() == expected.len()
 }
 
-// What node 3 of so many sends once it has stored a message that came from node 2, which has a certificate, and at the next tick.
-fn relays<A: Allocator + Copy>(n: u8, calm: A) -> Result<(Outbox<A>, Outbox<A>), Fail> {
-    let Tested {
-        ready,
-        mut store,
-        ..
-    } = Tested::new(n, 3, calm, calm)?;
-    let (storing, draft) = arrived(ready, calm, (2, Some(IS_CERTIFIED)), name(1, 1)?, b"m")?;
-    let (ready, done) = confirmed(storing, draft.keep(&mut store)?)?;
-    let (_ready, sent) = ticked(ready, calm)?;
-    Ok((done.sent, sent))
+// Whether a node that stores a message which came from node 2, which has a certificate, sends that, and that at the next tick.
+fn relays<A: Allocator + Copy>(
+    bench: &mut Bench<A>,
+    told: &[(u8, Flags)],
+    sent: &[(u8, Flags)],
+) -> Result<bool, Fail> {
+    let _drafted = bench.arrive((2, Some(IS_CERTIFIED)), name(1, 1)?, b"m")?;
+    let tells = say(&bench.store()?.sent, told);
+    Ok(tells && say(&bench.tick()?, sent))
 }
 
-// Whether it tells node 2 that the certificate was heard, and resends nothing to it.
+// Whether node 3 of so many tells node 2 that the certificate was heard, and resends nothing to it.
 fn tells_its_source<A: Allocator + Copy>(
     n: u8,
     calm: A,
     told: &[(u8, Flags)],
     sent: &[(u8, Flags)],
 ) -> Result<bool, Fail> {
-    let (relayed, resent) = relays(n, calm)?;
-    Ok(say(&relayed, told) && say(&resent, sent))
+    let mut bench = Bench::new(n, 3, calm, calm)?;
+    relays(&mut bench, told, sent)
 }
 
 #[test]
@@ -150,22 +149,10 @@ static TOLD: [(Call, What); 3] = [
 
 // Whether the ticks of node 1 of three end once the others were heard.
 fn ticks_end<A: Allocator + Copy>(calm: A) -> Result<bool, Fail> {
-    let Tested {
-        ready,
-        store,
-        heap,
-        calm,
-    } = plays(3, &TOLD, calm)?;
-    let (ready, to_three) = ticked(ready, calm)?;
-    let tested = Tested {
-        ready,
-        store,
-        heap,
-        calm,
-    };
-    let tested = go_on(tested, &[(Call::Tell(3, BOTH), What::Again)])?;
-    let (_ready, to_none) = ticked(tested.ready, calm)?;
-    Ok(say(&to_three, &[(3, IS_CERTIFIED)]) && to_none.len() == 0)
+    let mut bench = plays(3, &TOLD, calm)?;
+    let tells_three = say(&bench.tick()?, &[(3, IS_CERTIFIED)]);
+    go_on(&mut bench, &[(Call::Tell(3, BOTH), What::Again)])?;
+    Ok(tells_three && bench.tick()?.len() == 0)
 }
 
 #[test]
@@ -174,48 +161,45 @@ fn ticks_end_where_nothing_is_left_to_say(rt: HostRuntime) -> Result<(), Fail> {
     Ok(())
 }
 
+/// Nothing was heard of node 2, until its packet tells of its certificate.
+static HEARD_ANEW: [(Call, What); 2] = [
+    (Call::Tell(2, NEITHER), What::Answered(2, false)),
+    (Call::Tell(2, IS_CERTIFIED), What::Answered(2, true)),
+];
+
 #[test]
 fn what_was_heard_is_lost_with_a_crash(rt: HostRuntime) -> Result<(), Fail> {
-    let tested = plays(3, &TOLD, rt.alloc())?.restart()?;
-    let again = [
-        (Call::Tell(2, NEITHER), What::Answered(2, false)),
-        (Call::Tell(2, IS_CERTIFIED), What::Answered(2, true)),
-    ];
-    let _tested = go_on(tested, &again)?;
-    Ok(())
+    let mut bench = plays(3, &TOLD, rt.alloc())?;
+    bench.crash()?;
+    bench.rise()?;
+    go_on(&mut bench, &HEARD_ANEW)
 }
 
-/// A node with memory of its own.
-type Refused<'h> = Tested<&'h Refusing<Global>>;
+/// A heap that may refuse a growth.
+type Heap<'h> = &'h Refusing<Global>;
 
-// Node 1 of three, which has certified its first message and heard nothing.
-fn certified<'h>(
-    heap: &'h Refusing<Global>,
-    calm: &'h Refusing<Global>,
-) -> Result<Refused<'h>, Fail> {
-    let tested = Tested::new(3, 1, heap, calm)?;
-    go_on(
-        tested,
-        &[(Call::Submit(1), PENDING), (Call::Arrive(2), CERTIFICATE)],
-    )
+/// Node 1 of three certifies its first message, and hears nothing.
+static CERTIFIED: [(Call, What); 2] = [(Call::Submit(1), PENDING), (Call::Arrive(2), CERTIFICATE)];
+
+// A node after that.
+fn certified<'h>(heap: Heap<'h>, calm: Heap<'h>) -> Result<Owned<Heap<'h>>, Fail> {
+    let mut bench = Bench::new(3, 1, heap, calm)?;
+    go_on(&mut bench, &CERTIFIED)?;
+    Ok(bench)
 }
 
 // Whether an answer was refused for memory; then nothing was heard by it, and the same packet is answered the second time.
-fn answers_twice<'h>(heap: &'h Refusing<Global>, calm: &'h Refusing<Global>) -> Result<bool, Fail> {
+fn answers_twice<'h>(heap: Heap<'h>, calm: Heap<'h>) -> Result<bool, Fail> {
     let named = name(1, 1)?;
-    let (tested, led) = certified(heap, calm)?.make(Call::Tell(2, IS_CERTIFIED), b"m", named)?;
-    let answered = Led::Answered(named, 2, true);
-    if led == answered {
+    let mut bench = certified(heap, calm)?;
+    let led = bench.make(Call::Tell(2, IS_CERTIFIED), b"m", named)?;
+    if led == Led::Answered(named, 2, true) {
         return Ok(false);
     }
     if led != Led::Refused(Refusal::NoMemory) {
         return Err(Fail::new(format_args!("an answer led to {led:?}")));
     }
-    let again = [
-        (Call::Tell(2, NEITHER), What::Answered(2, false)),
-        (Call::Tell(2, IS_CERTIFIED), What::Answered(2, true)),
-    ];
-    let _tested = go_on(tested, &again)?;
+    go_on(&mut bench, &HEARD_ANEW)?;
     Ok(true)
 }
 
@@ -237,15 +221,15 @@ fn an_answer_that_is_refused_for_memory_hears_nothing(rt: HostRuntime) -> Result
 }
 
 // Whether a packet that wants no answer is heard, and takes no memory.
-fn hears_without_memory<'h>(
-    heap: &'h Refusing<Global>,
-    calm: &'h Refusing<Global>,
-) -> Result<bool, Fail> {
-    let tested = certified(heap, calm)?;
+fn hears_without_memory<'h>(heap: Heap<'h>, calm: Heap<'h>) -> Result<bool, Fail> {
+    let mut bench = certified(heap, calm)?;
     let before = heap.asked();
-    let tested = go_on(tested, &[(Call::Tell(2, BOTH), What::Again)])?;
+    go_on(&mut bench, &[(Call::Tell(2, BOTH), What::Again)])?;
     let is_calm = heap.asked() == before;
-    let _heard = go_on(tested, &[(Call::Tell(2, NEITHER), What::Answered(2, true))])?;
+    go_on(
+        &mut bench,
+        &[(Call::Tell(2, NEITHER), What::Answered(2, true))],
+    )?;
     Ok(is_calm)
 }
 

@@ -11,7 +11,7 @@ struct List {
 
 fn play_all<A: Allocator + Copy>(calm: A, lists: &[List]) -> Result<(), Fail> {
     for list in lists {
-        let _tested = Tested::new(list.n, list.number, calm, calm)?.play(list.rows)?;
+        Bench::new(list.n, list.number, calm, calm)?.play(list.rows)?;
     }
     Ok(())
 }
@@ -188,6 +188,5 @@ static FAULTS: [Row; 11] = [
 #[test]
 fn a_submit_is_refused_for_the_first_of_its_faults(rt: HostRuntime) -> Result<(), Fail> {
     let alloc = rt.alloc();
-    let _full = Tested::of((3, 2), 1, alloc, alloc)?.play(&FAULTS)?;
-    Ok(())
+    Bench::of((3, 2), 1, alloc, alloc)?.play(&FAULTS)
 }

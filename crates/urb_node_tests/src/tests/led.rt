@@ -24,7 +24,7 @@ pub(super) fn form_of<A: Allocator>(record: &Record<Message<A>>) -> Form {
 }
 
 /// What a call led to.
-#[derive(Debug, Drop, PartialEq, Eq)]
+#[derive(Clone, Copy, Debug, PartialEq, Eq)]
 pub(super) enum Led {
     Accepted(Name),
     Noted(Name),

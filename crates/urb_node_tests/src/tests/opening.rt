@@ -4,13 +4,14 @@ ghost use Rattle.std.specs.Prelude.{◌≡◌, [], ◌∷◌, IfOk, codes};
 ghost use Rattle.urb_names.specs.Names.{name};
 ghost use Rattle.urb_stable.specs.declared.record.Record.TheVariants.{Cert, Pend, PendCert};
 
+use crate::tests::bench::Bench;
+use crate::tests::led::Led;
 use std::alloc::{Allocator, Global};
 use std::test::Fail;
 use urb_names::{ClientId, Config, Message, Name, NoMemory, NodeId};
-use urb_node::{Answer, Ready, Step};
+use urb_node::Ready;
 use urb_refusing::Refusing;
 use urb_stable::Record;
-use urb_stubborn::Outbox;
 
 /// Refuses one growth.
 type Heap<'h> = &'h Refusing<Global>;
@@ -75,40 +76,25 @@ fn is_opened<A: Allocator + Copy>(ready: &Ready<A>, alloc: A) -> Result<bool, Fa
     Ok(log && own && held)
 }
 
-// The name under which a repeat is accepted.
-fn accepted<A: Allocator + Copy>(answer: Answer<Outbox<A>>) -> Result<Name, Fail> {
-    match answer {
-        Answer::Accepted(name) => Ok(name),
-        _ => Err(Fail::from("a repeat is accepted")),
-    }
-}
-
-// The name of a message that the image has, as its repeat is told.
-fn told_again<A: Allocator + Copy>(ready: Ready<A>, alloc: A) -> Result<Name, Fail> {
-    let client = ClientId::new(7).ok_or("a client")?;
-    match ready.submit(alloc, client, 2, b"d") {
-        Ok(Step::Same(_ready, answer)) => accepted(answer),
-        _ => Err(Fail::from("a repeat is no draft")),
-    }
-}
-
 // The position and the name of the draft of a new message.
-fn drafted_next<A: Allocator + Copy>(ready: Ready<A>, alloc: A) -> Result<(u32, Name), Fail> {
-    let client = ClientId::new(7).ok_or("a client")?;
-    match ready.submit(alloc, client, 3, b"e") {
-        Ok(Step::Store(_storing, draft)) => Ok((draft.pos(), draft.entry().name())),
-        _ => Err(Fail::from("a new message is drafted")),
-    }
+fn drafted_next<A: Allocator + Copy>(bench: &mut Bench<A>) -> Result<(u32, Name), Fail> {
+    let _led = bench.submit(3, b"e")?;
+    let draft = bench.draft()?;
+    Ok((draft.pos(), draft.entry().name()))
+}
+
+// Whether a repeat of a message that the image has is accepted under its name, and a new message is drafted under the next one.
+fn goes_on<A: Allocator + Copy>(bench: &mut Bench<A>) -> Result<bool, Fail> {
+    let accepts = bench.submit(2, b"d")? == Led::Accepted(name(1, 3)?);
+    Ok(accepts && drafted_next(bench)? == (6, name(1, 4)?))
 }
 
 #[test]
 fn an_opened_node_goes_on_from_its_image(rt: HostRuntime) -> Result<(), Fail> {
     let alloc = rt.alloc();
-    let ready = opened(alloc, alloc)??;
-    assert!(rt; is_opened(&ready, alloc)?);
-    assert_eq!(rt; told_again(ready, alloc)?, name(1, 3)?);
-    let ready = opened(alloc, alloc)??;
-    assert_eq!(rt; drafted_next(ready, alloc)?, (6, name(1, 4)?));
+    let mut bench = Bench::with(opened(alloc, alloc)??, alloc, alloc)?;
+    assert!(rt; is_opened(bench.ready()?, alloc)?);
+    assert!(rt; goes_on(&mut bench)?);
     Ok(())
 }
 
@@ -118,7 +104,9 @@ fn opened_at_last<'h>(heap: Heap<'h>, calm: Heap<'h>) -> Result<bool, Fail> {
         Ok(ready) => (ready, false),
         Err(NoMemory) => (opened(heap, calm)??, true),
     };
-    if !is_opened(&ready, calm)? {
+    let is_opened = is_opened(&ready, calm);
+    drop(ready);
+    if !is_opened? {
         return Err(Fail::from("the node is not what its image says"));
     }
     Ok(refused)

@@ -2,15 +2,6 @@
 
 use super::*;
 
-// The receipt of a draft, of a store that holds as many records as come before it.
-fn receipt_of<A: Allocator + Copy>(draft: Draft<A>, calm: A) -> Result<Receipt<A>, Fail> {
-    let mut store = MemStable::new(calm);
-    for before in 1..draft.pos() {
-        store.store(before, &Record::Cert(name(1, before)?))?;
-    }
-    Ok(draft.keep(&mut store)?)
-}
-
 // Whether a packet is of this message of client 7, from this node to that one.
 fn carries<A: Allocator + Copy>(
     packet: &Packet<A>,
@@ -45,20 +36,6 @@ fn carry<A: Allocator + Copy>(
     sent.len() == targets.len()
 }
 
-// The draft of the first message of this node of four.
-fn first_drafted<A: Allocator + Copy>(number: u8, calm: A) -> Result<(Storing<A>, Draft<A>), Fail> {
-    submitted(Tested::new(4, number, calm, calm)?.ready, calm, 1, b"m")
-}
-
-// The draft is stored, and the node goes on.
-fn goes_on<A: Allocator + Copy>(
-    storing: Storing<A>,
-    draft: Draft<A>,
-    calm: A,
-) -> Result<(Ready<A>, Done<A>), Fail> {
-    confirmed(storing, receipt_of(draft, calm)?)
-}
-
 // A name and its message, which has the number of the name.
 fn pair<A: Allocator + Copy>(
     calm: A,
@@ -75,34 +52,45 @@ fn tells<A: Allocator + Copy>(done: &Done<A>, accepted: bool, named: Name, relea
 }
 
 // Whether the draft is the first one of node 2, which doesn't tell of it yet.
-fn is_held_back<A: Allocator + Copy>(storing: &Storing<A>, draft: &Draft<A>, named: Name) -> bool {
+fn is_held_back<A: Allocator + Copy>(bench: &Bench<A>, named: Name) -> Result<bool, Fail> {
+    let draft = bench.draft()?;
     let is_first = draft.node().number() == 2 && draft.pos() == 1;
-    is_first && storing.message(named).is_none()
+    Ok(is_first && bench.storing()?.message(named).is_none())
 }
 
 // The packets of a node's own message, and what is told with them.
-fn sends_its_own<A: Allocator + Copy>(calm: A) -> Result<bool, Fail> {
+fn sends_its_own<A: Allocator + Copy>(
+    bench: &mut Bench<A>,
+    named: Name,
+    sent: &Message<A>,
+) -> Result<bool, Fail> {
+    let _drafted = bench.submit(1, b"m")?;
+    let is_held_back = is_held_back(bench, named)?;
+    let done = bench.store()?;
+    let is_sent = carry(&done.sent, 2, &[1, 3, 4], named, sent) && tells(&done, true, named, 0);
+    Ok(is_held_back && is_sent && bench.ready()?.holds(&named, sent))
+}
+
+// The same of node 2 of four.
+fn first_is_sent<A: Allocator + Copy>(calm: A) -> Result<bool, Fail> {
     let (named, sent) = pair(calm, 2, 1, b"m")?;
-    let (storing, draft) = first_drafted(2, calm)?;
-    let is_held_back = is_held_back(&storing, &draft, named);
-    let (ready, done) = goes_on(storing, draft, calm)?;
-    let is_held = ready.holds(&named, &sent) && carry(&done.sent, 2, &[1, 3, 4], named, &sent);
-    Ok(is_held_back && is_held && tells(&done, true, named, 0))
+    let mut bench = Bench::new(4, 2, calm, calm)?;
+    sends_its_own(&mut bench, named, &sent)
 }
 
 #[test]
 fn packets_of_a_draft_come_all_with_its_receipt(rt: HostRuntime) -> Result<(), Fail> {
     let alloc = rt.alloc();
-    assert!(rt; sends_its_own(alloc)?);
+    assert!(rt; first_is_sent(alloc)?);
     Ok(())
 }
 
-// The packets of a message of node 1 that came from node 2.
+// Whether node 3 of four sends a message of node 1 on that came from node 2.
 fn relays<A: Allocator + Copy>(calm: A) -> Result<bool, Fail> {
     let (named, sent) = pair(calm, 1, 2, b"hi")?;
-    let ready = Tested::new(4, 3, calm, calm)?.ready;
-    let (storing, draft) = arrived(ready, calm, (2, None), named, b"hi")?;
-    let (_ready, done) = goes_on(storing, draft, calm)?;
+    let mut bench = Bench::new(4, 3, calm, calm)?;
+    let _drafted = bench.arrive((2, None), named, b"hi")?;
+    let done = bench.store()?;
     Ok(tells(&done, false, named, 0) && carry(&done.sent, 3, &[1, 2, 4], named, &sent))
 }
 
@@ -113,24 +101,25 @@ fn a_relayed_packet_carries_the_very_payload(rt: HostRuntime) -> Result<(), Fail
     Ok(())
 }
 
-// The draft of the certificate of the first message of node 1 of three.
-fn certificate_drafted<A: Allocator + Copy>(
-    calm: A,
-    named: Name,
-) -> Result<(Storing<A>, Draft<A>), Fail> {
-    let (tested, _led) = Tested::new(3, 1, calm, calm)?.submit(1, b"m")?;
-    arrived(tested.ready, calm, (2, None), named, b"m")
+// Whether a node that holds the draft of a certificate delivers its name by the receipt.
+fn delivers<A: Allocator + Copy>(bench: &mut Bench<A>, named: Name) -> Result<bool, Fail> {
+    let storing = bench.storing()?;
+    let is_waiting = storing.log().len() == 0 && !storing.certified(named);
+    let done = bench.store()?;
+    let is_told = done.sent.len() == 0 && tells(&done, false, named, 1);
+    let ready = bench.ready()?;
+    Ok(is_waiting && is_told && ready.certified(named) && ready.log() == [named].as_slice())
 }
 
+// Whether node 1 of three certifies its first message, and knows that after a crash.
 fn certifies<A: Allocator + Copy>(calm: A) -> Result<bool, Fail> {
     let named = name(1, 1)?;
-    let (storing, draft) = certificate_drafted(calm, named)?;
-    let before = (storing.log().len(), storing.certified(named));
-    let (ready, done) = goes_on(storing, draft, calm)?;
-    let releases = before == (0, false) && ready.log() == [named].as_slice();
-    let is_certified = ready.certified(named);
-    let is_certified = is_certified && ready.crash().certified(named);
-    Ok(is_certified && releases && done.sent.len() == 0 && tells(&done, false, named, 1))
+    let mut bench = Bench::new(3, 1, calm, calm)?;
+    let _stored = bench.make(Call::Submit(1), b"m", named)?;
+    let _drafted = bench.arrive((2, None), named, b"m")?;
+    let is_delivered = delivers(&mut bench, named)?;
+    bench.crash()?;
+    Ok(is_delivered && bench.down()?.certified(named))
 }
 
 #[test]
@@ -152,46 +141,56 @@ static OTHERS: [Drafted; 5] = [
     (2, 1, Form::Certificate, b"m"),
 ];
 
-fn other_receipt<A: Allocator + Copy>(calm: A, drafted: &Drafted) -> Result<Receipt<A>, Fail> {
+// The store has so many records.
+fn fill<A: Allocator + Copy>(store: &mut MemStable<A>, count: u32) -> Result<(), Fail> {
+    for before in 0..count {
+        store.store(before + 1, &Record::Cert(name(1, before + 1)?))?;
+    }
+    Ok(())
+}
+
+fn drafted<A: Allocator + Copy>(calm: A, drafted: &Drafted) -> Result<Draft<A>, Fail> {
     let (of, pos, form, payload) = *drafted;
     if pos == 0 {
         return Err(Fail::from("positions begin at 1"));
     }
     let record = record_of(calm, form, name(2, 1)?, payload)?;
-    receipt_of(Draft::new(node(of)?, pos, record), calm)
+    Ok(Draft::new(node(of)?, pos, record))
 }
 
-// Another receipt comes back with the node that holds a draft.
-fn gives_back<A: Allocator + Copy>(
-    storing: Storing<A>,
-    other: Receipt<A>,
-) -> Result<Storing<A>, Fail> {
+// The receipt of a draft, of a store that holds as many records as come before it.
+fn receipt_of<A: Allocator + Copy>(calm: A, of: &Drafted) -> Result<Receipt<A>, Fail> {
+    let mut store = MemStable::new(calm);
+    let draft = drafted(calm, of)?;
+    fill(&mut store, draft.pos() - 1)?;
+    Ok(draft.keep(&mut store)?)
+}
+
+// Whether another receipt comes back from the node that holds a draft.
+fn gives_back<A: Allocator + Copy>(bench: &mut Bench<A>, other: Receipt<A>) -> Result<bool, Fail> {
     let (of, pos) = (other.node(), other.pos());
-    match storing.confirm(other) {
-        Ok(_taken) => Err(Fail::from("it is another draft's")),
-        Err((same, back)) => {
-            if back.node() != of || back.pos() != pos {
-                return Err(Fail::from("another receipt came back"));
-            }
-            Ok(same)
-        }
+    match bench.confirm(other)? {
+        Ok(_taken) => Ok(false),
+        Err(back) => Ok(back.node() == of && back.pos() == pos),
     }
 }
 
 // Every other receipt comes back.
-fn gives_all_back<A: Allocator + Copy>(storing: Storing<A>, calm: A) -> Result<Storing<A>, Fail> {
-    let mut storing = storing;
+fn gives_all_back<A: Allocator + Copy>(bench: &mut Bench<A>, calm: A) -> Result<(), Fail> {
     for drafted in &OTHERS {
-        storing = gives_back(storing, other_receipt(calm, drafted)?)?;
+        if !gives_back(bench, receipt_of(calm, drafted)?)? {
+            return Err(Fail::from("it is another draft's"));
+        }
     }
-    Ok(storing)
+    Ok(())
 }
 
 // Whether the node takes its own receipt after the others.
 fn takes_its_own<A: Allocator + Copy>(calm: A) -> Result<bool, Fail> {
-    let (storing, draft) = first_drafted(2, calm)?;
-    let storing = gives_all_back(storing, calm)?;
-    let (_ready, done) = goes_on(storing, draft, calm)?;
+    let mut bench = Bench::new(4, 2, calm, calm)?;
+    let _drafted = bench.submit(1, b"m")?;
+    gives_all_back(&mut bench, calm)?;
+    let done = bench.store()?;
     Ok(done.sent.len() == 3 && tells(&done, true, name(2, 1)?, 0))
 }
 
@@ -240,22 +239,23 @@ fn down_tells<A: Allocator + Copy>(down: &Down<A>, two: &Two<A>) -> bool {
 
 // Whether a node that drafts its second message tells of its first one alone, before and after it falls.
 fn forgets_its_draft<A: Allocator + Copy>(
-    ready: Ready<A>,
-    calm: A,
+    bench: &mut Bench<A>,
     two: &Two<A>,
     fails: bool,
 ) -> Result<bool, Fail> {
-    let told = ready_tells(&ready, two);
-    let (storing, _draft) = submitted(ready, calm, 2, b"b")?;
-    let told_then = storing_tells(&storing, two);
-    Ok(told && told_then && down_tells(&falls(storing, fails), two))
+    let told = ready_tells(bench.ready()?, two);
+    let _drafted = bench.submit(2, b"b")?;
+    let told_then = storing_tells(bench.storing()?, two);
+    bench.fall(fails)?;
+    Ok(told && told_then && down_tells(bench.down()?, two))
 }
 
 // The same of a node alone.
 fn forgets_the_second<A: Allocator + Copy>(calm: A, fails: bool) -> Result<bool, Fail> {
     let two = first_two(calm)?;
-    let (tested, _led) = Tested::new(1, 1, calm, calm)?.submit(1, b"a")?;
-    forgets_its_draft(tested.ready, calm, &two, fails)
+    let mut bench = Bench::new(1, 1, calm, calm)?;
+    let _stored = bench.make(Call::Submit(1), b"a", name(1, 1)?)?;
+    forgets_its_draft(&mut bench, &two, fails)
 }
 
 #[test]

@@ -2,46 +2,35 @@
 
 use super::*;
 use std::alloc::Global;
+use urb_names::NoMemory;
 use urb_refusing::Refusing;
 
+/// A heap that may refuse a growth.
+type Heap<'h> = &'h Refusing<Global>;
+
 // How many messages a node has broadcast and delivered, and whether it has one of this name.
-fn tells<A: Allocator + Copy>(tested: &Tested<A>, named: Name) -> (u32, usize, bool) {
-    let ready = &tested.ready;
-    (
-        ready.own_len(),
-        ready.log().len(),
-        ready.message(named).is_some(),
-    )
+fn tells<A: Allocator + Copy>(bench: &Bench<A>, named: Name) -> Result<(u32, usize, bool), Fail> {
+    let ready = bench.ready()?;
+    let is_there = ready.message(named).is_some();
+    Ok((ready.own_len(), ready.log().len(), is_there))
 }
 
-/// A node, and whether a call of it was refused for memory.
-#[derive(Drop)]
-struct Played<A: Allocator> {
-    tested: Tested<A>,
-    refused: bool,
-}
-
-// Makes a call; where it is refused for memory, nothing has changed, and the same call is made again.
+// Makes a call; where it is refused for memory, nothing has changed, and the same call is made again. What it led to, and
+// whether it was refused.
 fn make_twice<A: Allocator + Copy>(
-    played: Played<A>,
+    bench: &mut Bench<A>,
     call: Call,
     named: Name,
-) -> Result<(Played<A>, Led), Fail> {
-    let Played { tested, refused } = played;
-    let before = tells(&tested, named);
-    let (tested, led) = tested.make(call, b"m", named)?;
+) -> Result<(Led, bool), Fail> {
+    let before = tells(bench, named)?;
+    let led = bench.make(call, b"m", named)?;
     if led != Led::Refused(Refusal::NoMemory) {
-        return Ok((Played { tested, refused }, led));
+        return Ok((led, false));
     }
-    if tells(&tested, named) != before {
+    if tells(bench, named)? != before {
         return Err(Fail::from("a refused call changed the node"));
     }
-    let (tested, led) = tested.make(call, b"m", named)?;
-    let played = Played {
-        tested,
-        refused: true,
-    };
-    Ok((played, led))
+    Ok((bench.make(call, b"m", named)?, true))
 }
 
 /// How many messages node 1 and node 2 broadcast.
@@ -67,47 +56,44 @@ fn numbered(call: Call, number: u32) -> Call {
     }
 }
 
-// Makes the calls for the messages with this number.
-fn play_number<A: Allocator + Copy>(played: Played<A>, number: u32) -> Result<Played<A>, Fail> {
-    let mut played = played;
+// Makes the calls for the messages with this number. Whether one of them was refused.
+fn play_number<A: Allocator + Copy>(bench: &mut Bench<A>, number: u32) -> Result<bool, Fail> {
+    let mut refused = false;
     for (call, sender, what) in &CALLS {
         let named = name(*sender, number)?;
-        let (after, led) = make_twice(played, numbered(*call, number), named)?;
+        let (led, is_refused) = make_twice(bench, numbered(*call, number), named)?;
         if led != expected(*what, named) {
             return Err(Fail::new(format_args!("{call:?} led to {led:?}")));
         }
-        played = after;
+        refused = refused || is_refused;
     }
-    Ok(played)
+    Ok(refused)
 }
 
 // A tick; where it is refused for memory, the next one. How many packets it sends, and whether it was refused.
-fn tick_twice<A: Allocator + Copy>(
-    ready: Ready<A>,
-    heap: A,
-) -> Result<(Ready<A>, usize, bool), Fail> {
-    let (ready, sent) = ready.tick(heap);
-    match sent {
-        Ok(sent) => Ok((ready, sent.len(), false)),
-        Err(NoMemory) => {
-            let (ready, sent) = ticked(ready, heap)?;
-            Ok((ready, sent.len(), true))
-        }
+fn tick_twice<A: Allocator + Copy>(bench: &mut Bench<A>) -> Result<(usize, bool), Fail> {
+    match bench.try_tick()? {
+        Ok(sent) => Ok((sent.len(), false)),
+        Err(NoMemory) => Ok((bench.tick()?.len(), true)),
     }
+}
+
+// Whether a node is where its calls lead, and this many packets.
+fn is_there<A: Allocator + Copy>(bench: &Bench<A>, sent: usize) -> Result<bool, Fail> {
+    let ready = bench.ready()?;
+    Ok(sent == 48 && ready.own_len() == COUNT && ready.log().len() == 6)
 }
 
 // All calls, and a tick, at node 1 of five. Whether one of them was refused.
 fn plays_all<A: Allocator + Copy>(heap: A, calm: A) -> Result<bool, Fail> {
-    let mut played = Played {
-        tested: Tested::new(5, 1, heap, calm)?,
-        refused: false,
-    };
+    let mut bench = Bench::new(5, 1, heap, calm)?;
+    let mut refused = false;
     for before in 0..COUNT {
-        played = play_number(played, before + 1)?;
+        let is_refused = play_number(&mut bench, before + 1)?;
+        refused = refused || is_refused;
     }
-    let Played { tested, refused } = played;
-    let (ready, sent, is_tick_refused) = tick_twice(tested.ready, heap)?;
-    if sent != 48 || ready.own_len() != COUNT || ready.log().len() != 6 {
+    let (sent, is_tick_refused) = tick_twice(&mut bench)?;
+    if !is_there(&bench, sent)? {
         return Err(Fail::from("the node is not where its calls lead"));
     }
     Ok(refused || is_tick_refused)
@@ -150,11 +136,13 @@ static REPEATS: [Row; 3] = [
 ];
 
 // Whether repeats and a crash take no memory.
-fn repeats_without_memory(heap: &Refusing<Global>, calm: &Refusing<Global>) -> Result<bool, Fail> {
-    let tested = Tested::new(5, 1, heap, calm)?.play(&BEFORE)?;
+fn repeats_without_memory(heap: Heap<'_>, calm: Heap<'_>) -> Result<bool, Fail> {
+    let mut bench = Bench::new(5, 1, heap, calm)?;
+    bench.play(&BEFORE)?;
     let before = heap.asked();
-    let down = tested.play(&REPEATS)?.ready.crash();
-    Ok(heap.asked() == before && down.own_len() == 1)
+    bench.play(&REPEATS)?;
+    bench.crash()?;
+    Ok(heap.asked() == before && bench.down()?.own_len() == 1)
 }
 
 #[test]
@@ -165,51 +153,37 @@ fn a_repeat_takes_no_memory(rt: HostRuntime) -> Result<(), Fail> {
     Ok(())
 }
 
-// The node goes on with the receipt of its draft, and asks for no memory.
+// A call, whose draft the node confirms by its receipt; that asks for no memory.
 fn confirmed_without_memory<'h>(
-    heap: &'h Refusing<Global>,
-    store: &mut MemStable<&'h Refusing<Global>>,
-    storing: Storing<&'h Refusing<Global>>,
-    draft: Draft<&'h Refusing<Global>>,
-) -> Result<Ready<&'h Refusing<Global>>, Fail> {
-    let receipt = draft.keep(store)?;
+    bench: &mut Bench<Heap<'h>>,
+    heap: Heap<'h>,
+    call: Call,
+    named: Name,
+) -> Result<(), Fail> {
+    bench.begin(call, b"m", named)?;
+    let receipt = bench.keep()?;
     let before = heap.asked();
-    let (ready, _done) = confirmed(storing, receipt)?;
+    drop(bench.take(receipt)?);
     if heap.asked() != before {
         return Err(Fail::from("a receipt asks for memory"));
     }
-    Ok(ready)
+    Ok(())
 }
 
-// A draft that a packet leads to at a node which has this heap.
-fn drafted<A: Allocator + Copy>(
-    ready: Ready<A>,
-    heap: A,
-    calm: A,
-    source: u8,
-    named: Name,
-) -> Result<(Storing<A>, Draft<A>), Fail> {
-    match arrive(ready, heap, calm, (source, None), named, b"m")? {
-        Ok(step) => draft_of(step),
-        Err((_ready, _refusal)) => Err(Fail::from("the packet is refused")),
+/// Calls of node 1 of three: a message of its own, its certificate, and a message of node 2 that is certified at once.
+static DRAFTED: [(Call, u8); 3] = [
+    (Call::Submit(1), 1),
+    (Call::Arrive(2), 1),
+    (Call::Arrive(2), 2),
+];
+
+// How many names the node has delivered, which has confirmed them.
+fn delivered_without_memory<'h>(heap: Heap<'h>, calm: Heap<'h>) -> Result<usize, Fail> {
+    let mut bench = Bench::new(3, 1, heap, calm)?;
+    for (call, sender) in &DRAFTED {
+        confirmed_without_memory(&mut bench, heap, *call, name(*sender, 1)?)?;
     }
-}
-
-// How many names node 1 of three has delivered, which has confirmed a message of its own, its certificate, and a message
-// of node 2 that is certified at once.
-fn delivered_without_memory<'h>(
-    heap: &'h Refusing<Global>,
-    calm: &'h Refusing<Global>,
-) -> Result<usize, Fail> {
-    let mut store = MemStable::new(calm);
-    let ready = Tested::new(3, 1, heap, calm)?.ready;
-    let (storing, draft) = submitted(ready, heap, 1, b"m")?;
-    let ready = confirmed_without_memory(heap, &mut store, storing, draft)?;
-    let (storing, draft) = drafted(ready, heap, calm, 2, name(1, 1)?)?;
-    let ready = confirmed_without_memory(heap, &mut store, storing, draft)?;
-    let (storing, draft) = drafted(ready, heap, calm, 2, name(2, 1)?)?;
-    let ready = confirmed_without_memory(heap, &mut store, storing, draft)?;
-    Ok(ready.log().len())
+    Ok(bench.ready()?.log().len())
 }
 
 #[test]
@@ -222,16 +196,12 @@ fn a_receipt_takes_no_memory(rt: HostRuntime) -> Result<(), Fail> {
 }
 
 // Whether a node that holds a draft takes no memory when it falls.
-fn falls_without_memory(
-    heap: &Refusing<Global>,
-    calm: &Refusing<Global>,
-    fails: bool,
-) -> Result<bool, Fail> {
-    let ready = Tested::new(3, 1, heap, calm)?.ready;
-    let (storing, _draft) = submitted(ready, heap, 1, b"m")?;
+fn falls_without_memory(heap: Heap<'_>, calm: Heap<'_>, fails: bool) -> Result<bool, Fail> {
+    let mut bench = Bench::new(3, 1, heap, calm)?;
+    bench.begin(Call::Submit(1), b"m", name(1, 1)?)?;
     let before = heap.asked();
-    let down = falls(storing, fails);
-    Ok(heap.asked() == before && down.own_len() == 0)
+    bench.fall(fails)?;
+    Ok(heap.asked() == before && bench.down()?.own_len() == 0)
 }
 
 #[test]

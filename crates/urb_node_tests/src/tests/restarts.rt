@@ -16,8 +16,10 @@ fn image<A: Allocator + Copy>(calm: A, rows: &[Kept]) -> Result<Vec<Record<Messa
 }
 
 // Node 1 of five, which has stored that.
-fn of_five<A: Allocator + Copy>(heap: A, calm: A) -> Result<Tested<A>, Fail> {
-    Tested::new(5, 1, heap, calm)?.play(&CALLS)
+fn of_five<A: Allocator + Copy>(heap: A, calm: A) -> Result<Owned<A>, Fail> {
+    let mut bench = Bench::new(5, 1, heap, calm)?;
+    bench.play(&CALLS)?;
+    Ok(bench)
 }
 
 static CALLS: [Row; 7] = [
@@ -64,10 +66,11 @@ fn the_image_of_what_was_stored_is_taken_and_acknowledgements_are_lost(
     rt: HostRuntime,
 ) -> Result<(), Fail> {
     let alloc = rt.alloc();
-    let tested = of_five(alloc, alloc)?.restart()?;
-    assert!(rt; has_delivered(&tested.ready)?);
-    let _certified = tested.play(&COUNTED_ANEW)?;
-    Ok(())
+    let mut bench = of_five(alloc, alloc)?;
+    bench.crash()?;
+    bench.rise()?;
+    assert!(rt; has_delivered(bench.ready()?)?);
+    bench.play(&COUNTED_ANEW)
 }
 
 /// Images that are not what node 1 of five has stored: that lack a record, have another one twice in its place, have one
@@ -124,35 +127,37 @@ static OTHERS: [&[Kept]; 7] = [
     ],
 ];
 
-// Another image is refused, and the node is down as it was.
-fn refused_with<A: Allocator + Copy>(
-    down: Down<A>,
-    calm: A,
-    rows: &[Kept],
-) -> Result<Down<A>, Fail> {
-    match down.restart(calm, image(calm, rows)?) {
-        Ok(_ready) => Err(Fail::from("it is not what was stored")),
-        Err((same, refusal)) => {
-            if refusal != Refusal::BadImage || same.own_len() != 1 || same.log().len() != 2 {
-                return Err(Fail::from("a refused restart changed the node"));
-            }
-            Ok(same)
-        }
+// Whether a restart is refused for this, and the node is down as it was.
+fn is_refused<A: Allocator + Copy>(
+    bench: &Bench<A>,
+    refused: Option<Refusal>,
+    expected: Refusal,
+) -> Result<bool, Fail> {
+    let down = bench.down()?;
+    Ok(refused == Some(expected) && down.own_len() == 1 && down.log().len() == 2)
+}
+
+// Another image is refused.
+fn refuses<A: Allocator + Copy>(
+    bench: &mut Bench<A>,
+    image: Vec<Record<Message<A>>, A>,
+) -> Result<(), Fail> {
+    let refused = bench.restart_with(image)?;
+    if !is_refused(bench, refused, Refusal::BadImage)? {
+        return Err(Fail::from("a refused restart changed the node"));
     }
+    Ok(())
 }
 
 // Each other image is refused, and then the right one is taken.
 fn refuses_others<A: Allocator + Copy>(calm: A) -> Result<bool, Fail> {
-    let Tested {
-        ready,
-        mut store,
-        ..
-    } = of_five(calm, calm)?;
-    let mut down = ready.crash();
+    let mut bench = of_five(calm, calm)?;
+    bench.crash()?;
     for rows in &OTHERS {
-        down = refused_with(down, calm, rows)?;
+        refuses(&mut bench, image(calm, rows)?)?;
     }
-    has_delivered(&risen(down, calm, store.retrieve(calm)?)?)
+    bench.rise()?;
+    has_delivered(bench.ready()?)
 }
 
 #[test]
@@ -162,50 +167,35 @@ fn another_image_is_refused_and_the_right_one_is_taken_then(rt: HostRuntime) -> 
     Ok(())
 }
 
-// Node 1 of three, which has stored its first message; the store of its second one fails in this way.
-fn failed<A: Allocator + Copy>(calm: A, failure: Failure) -> Result<(Down<A>, MemStable<A>), Fail> {
-    let (tested, _led) = Tested::new(3, 1, calm, calm)?.submit(1, b"a")?;
-    let Tested {
-        ready,
-        mut store,
-        ..
-    } = tested;
-    let (storing, draft) = submitted(ready, calm, 2, b"b")?;
-    store.arm(failure);
-    match draft.keep(&mut store) {
-        Ok(_receipt) => Err(Fail::from("the store fails")),
-        Err(_doubt) => Ok((storing.fail(), store)),
-    }
+// Restarts a node that has stored its first message, and whose store fails in this way with its second one. How many messages
+// it had broadcast before and after that, and what a repeat leads to then.
+fn restarts_after<A: Allocator + Copy>(
+    bench: &mut Bench<A>,
+    failure: Failure,
+) -> Result<(u32, u32, Led), Fail> {
+    let _drafted = bench.submit(2, b"b")?;
+    bench.keep_failing(failure)?;
+    bench.fall(true)?;
+    let before = bench.down()?.own_len();
+    bench.rise()?;
+    let after = bench.ready()?.own_len();
+    let led = bench.make(Call::Submit(2), b"b", name(1, 2)?)?;
+    Ok((before, after, led))
 }
 
-// The node after its restart, and how many messages it had broadcast before.
+// The same of node 1 of three.
 fn restarted_after<A: Allocator + Copy>(
     calm: A,
     failure: Failure,
-) -> Result<(Tested<A>, u32), Fail> {
-    let (down, mut store) = failed(calm, failure)?;
-    let before = down.own_len();
-    let ready = risen(down, calm, store.retrieve(calm)?)?;
-    let tested = Tested {
-        ready,
-        store,
-        heap: calm,
-        calm,
-    };
-    Ok((tested, before))
-}
-
-// How many messages the node has broadcast before and after its restart, and what a repeat leads to then.
-fn restarts_after<A: Allocator + Copy>(calm: A, failure: Failure) -> Result<(u32, u32, Led), Fail> {
-    let (tested, before) = restarted_after(calm, failure)?;
-    let after = tested.ready.own_len();
-    let (_tested, led) = tested.submit(2, b"b")?;
-    Ok((before, after, led))
+) -> Result<(u32, u32, Led), Fail> {
+    let mut bench = Bench::new(3, 1, calm, calm)?;
+    let _stored = bench.make(Call::Submit(1), b"a", name(1, 1)?)?;
+    restarts_after(&mut bench, failure)
 }
 
 // Whether the node drafts the second message again after a restart without its doubtful record.
 fn drafts_again<A: Allocator + Copy>(calm: A) -> Result<bool, Fail> {
-    let (before, after, led) = restarts_after(calm, Failure::Old)?;
+    let (before, after, led) = restarted_after(calm, Failure::Old)?;
     let drafted = expected(What::Stored(Form::Pending), name(1, 2)?);
     Ok(before == 1 && after == 1 && led == drafted)
 }
@@ -218,7 +208,7 @@ fn a_doubtful_record_that_was_lost_is_drafted_again(rt: HostRuntime) -> Result<(
 
 // Whether the node accepts the second message under its name after a restart with its doubtful record.
 fn accepts_again<A: Allocator + Copy>(calm: A) -> Result<bool, Fail> {
-    let (before, after, led) = restarts_after(calm, Failure::New)?;
+    let (before, after, led) = restarted_after(calm, Failure::New)?;
     let accepted = expected(What::Accepted, name(1, 2)?);
     Ok(before == 1 && after == 2 && led == accepted)
 }
@@ -229,17 +219,13 @@ fn a_doubtful_record_that_the_image_has_counts_as_stored(rt: HostRuntime) -> Res
     Ok(())
 }
 
-// A node that crashed with its first draft, and restarted.
-fn without_its_draft<A: Allocator + Copy>(calm: A) -> Result<Ready<A>, Fail> {
-    let ready = Tested::new(3, 1, calm, calm)?.ready;
-    let (storing, _draft) = submitted(ready, calm, 1, b"m")?;
-    risen(storing.crash(), calm, Vec::new(calm))
-}
-
-// How many packets it sends.
+// How many packets a node sends that crashed with its first draft, and restarted.
 fn sent_of_a_lost_draft<A: Allocator + Copy>(calm: A) -> Result<usize, Fail> {
-    let (_ready, sent) = ticked(without_its_draft(calm)?, calm)?;
-    Ok(sent.len())
+    let mut bench = Bench::new(3, 1, calm, calm)?;
+    let _drafted = bench.submit(1, b"m")?;
+    bench.fall(false)?;
+    bench.rise()?;
+    Ok(bench.tick()?.len())
 }
 
 #[test]
@@ -249,30 +235,26 @@ fn a_draft_that_was_lost_is_never_sent(rt: HostRuntime) -> Result<(), Fail> {
     Ok(())
 }
 
-// The same restart again, where the first one was refused for memory.
-fn restarted_again<A: Allocator + Copy>(
-    (down, refusal): (Down<A>, Refusal),
-    heap: A,
-    image: Vec<Record<Message<A>>, A>,
-) -> Result<Ready<A>, Fail> {
-    if refusal != Refusal::NoMemory || down.own_len() != 1 {
+// A restart of a node that is down, made again where it is refused; whether it was.
+fn rises_twice<A: Allocator + Copy>(bench: &mut Bench<A>) -> Result<bool, Fail> {
+    let image = bench.image()?;
+    let refused = bench.restart_with(image)?;
+    if refused.is_none() {
+        return Ok(false);
+    }
+    if !is_refused(bench, refused, Refusal::NoMemory)? {
         return Err(Fail::from("a refused restart changed the node"));
     }
-    risen(down, heap, image)
+    bench.rise()?;
+    Ok(true)
 }
 
-// A restart, made again where it is refused; whether it was.
+// The same of node 1 of five, which is then as it was.
 fn restarts_twice<A: Allocator + Copy>(heap: A, calm: A) -> Result<bool, Fail> {
-    let Tested {
-        ready,
-        mut store,
-        ..
-    } = of_five(heap, calm)?;
-    let (ready, refused) = match ready.crash().restart(heap, store.retrieve(calm)?) {
-        Ok(ready) => (ready, false),
-        Err(again) => (restarted_again(again, heap, store.retrieve(calm)?)?, true),
-    };
-    if !has_delivered(&ready)? {
+    let mut bench = of_five(heap, calm)?;
+    bench.crash()?;
+    let refused = rises_twice(&mut bench)?;
+    if !has_delivered(bench.ready()?)? {
         return Err(Fail::from("a name is missing"));
     }
     Ok(refused)

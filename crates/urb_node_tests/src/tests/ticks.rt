@@ -10,13 +10,12 @@ static SENT: [[u32; 16]; 3] = [
 ];
 
 // Node 1 of two, which has broadcast seventeen messages.
-fn sender<A: Allocator + Copy>(calm: A) -> Result<Tested<A>, Fail> {
-    let mut tested = Tested::new(2, 1, calm, calm)?;
+fn sender<A: Allocator + Copy>(calm: A) -> Result<Owned<A>, Fail> {
+    let mut bench = Bench::new(2, 1, calm, calm)?;
     for number in 1..18 {
-        let (after, _led) = tested.submit(number, b"m")?;
-        tested = after;
+        let _led = bench.make(Call::Submit(number), b"m", name(1, number)?)?;
     }
-    Ok(tested)
+    Ok(bench)
 }
 
 // Whether the packets are of node 1's messages with these numbers in order, each to node 2.
@@ -36,32 +35,20 @@ fn are_to_two<A: Allocator + Copy>(sent: &Outbox<A>, numbers: &[u32]) -> bool {
 #[test]
 fn a_tick_sends_the_next_sixteen_names_and_goes_round(rt: HostRuntime) -> Result<(), Fail> {
     let alloc = rt.alloc();
-    let mut ready = sender(alloc)?.ready;
+    let mut bench = sender(alloc)?;
     for numbers in &SENT {
-        let (after, sent) = ticked(ready, alloc)?;
-        assert!(rt; are_to_two(&sent, numbers));
-        ready = after;
+        assert!(rt; are_to_two(&bench.tick()?, numbers));
     }
     Ok(())
 }
 
 // Whether a tick after a restart sends what the one before it sent.
 fn sends_the_same<A: Allocator + Copy>(calm: A) -> Result<bool, Fail> {
-    let Tested {
-        ready,
-        store,
-        heap,
-        calm,
-    } = sender(calm)?;
-    let (ready, first) = ticked(ready, calm)?;
-    let tested = Tested {
-        ready,
-        store,
-        heap,
-        calm,
-    };
-    let (_ready, second) = ticked(tested.restart()?.ready, calm)?;
-    Ok(are_to_two(&first, &SENT[0]) && are_to_two(&second, &SENT[0]))
+    let mut bench = sender(calm)?;
+    let is_first = are_to_two(&bench.tick()?, &SENT[0]);
+    bench.crash()?;
+    bench.rise()?;
+    Ok(is_first && are_to_two(&bench.tick()?, &SENT[0]))
 }
 
 #[test]
