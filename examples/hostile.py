@@ -62,11 +62,11 @@ def cut_frames(daemon):
 
 def bad_frames(daemon):
     session = daemon.session(1)
-    for body, code in ((b"\x09", 2), (b"\x00", 2), (b"\xff" * 1200, 2), (b"\x01\x00\x07", 3), (b"\x02", 3), (b"\x03x", 3), (b"\x02" + bytes(5), 4)):
+    for body, code in ((b"\x09", 2), (b"\x00", 2), (b"\xff" * 16600, 2), (b"\x01\x00\x07", 3), (b"\x02", 3), (b"\x03x", 3), (b"\x02" + bytes(5), 4)):
         assert session.ask(body) == struct.pack(">BBI", 0xEE, 19, code), body
-    assert session.ask(b"\x01" + struct.pack(">HI", 900, 1) + b"x" * 1100) == struct.pack(">BBI", 0xEE, 5, 0)
+    assert session.ask(b"\x01" + struct.pack(">HI", 900, 1) + b"x" * 16400) == struct.pack(">BBI", 0xEE, 5, 0)
     session.close()
-    for length in (0, 1201, 65535):
+    for length in (0, 16601, 65535):
         connection = connect(daemon.base + 11)
         connection.sendall(struct.pack(">H", length))
         assert until_closed(connection) == BAD_LENGTH

@@ -116,7 +116,7 @@ def over_a_group(port, other):
     assert [first.submit(7, number, text) for number, text in enumerate(texts, 1)] == seqs, "a repeat keeps its name"
     assert refusal(lambda: first.submit(7, 1, b"another")) == (6, 0)
     assert refusal(lambda: first.submit(7, 99, b"too far"))[0] == 7
-    assert refusal(lambda: first.submit(7, 31, b"x" * 1025)) == (5, 0)
+    assert refusal(lambda: first.submit(7, 31, b"x" * 16385)) == (5, 0)
     assert second.submit(7, 1, b"at another node"), "each node numbers on its own"
     for node in (first, second):
         seen = []
