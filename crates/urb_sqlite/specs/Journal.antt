@@ -7,6 +7,7 @@ use Rattle.sqlite.specs.Schema.{Schema}
 use Rattle.sqlite_schema.specs.declared.schema.Column.{Column}
 use Rattle.sqlite.specs.Kind.TheVariants.{Integer}
 use Rattle.sqlite.specs.Kind.TheVariants as kind
+use Rattle.urb_names.specs.declared.message.TheConstants.{MAX_PAYLOAD}
 
 -- the text that makes the table where it is absent
 abbrev pub create_text : List ℕ
@@ -49,7 +50,7 @@ journal_tree = 0
 
 -- the most bytes that a payload has in the table journal
 abbrev pub journal_limit : ℕ
-journal_limit = 1024
+journal_limit = MAX_PAYLOAD
 
 -- the table journal
 abbrev pub journal : Table

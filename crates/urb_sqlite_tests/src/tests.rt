@@ -245,7 +245,7 @@ fn set_payload(conn: &mut Connection<MemStore>, payload: &Vec<u8>) -> Result<usi
 #[test]
 fn a_payload_is_no_longer_than_its_limit(rt: HostRuntime) -> Result<(), Fail> {
     let alloc = rt.alloc();
-    for (bytes, fault) in [(1024, None), (1025, Some(StoreFault::BadRow(1)))] {
+    for (bytes, fault) in [(16384, None), (16385, Some(StoreFault::BadRow(1)))] {
         let mut conn = changed(alloc, "UPDATE journal SET seq = 2")?;
         let mut payload = Vec::new(alloc);
         payload.resize(bytes, 97)?;

@@ -15,6 +15,7 @@ mod desks;
 mod gates;
 mod hearing;
 mod pacing;
+mod receivers;
 mod timers;
 mod turns;
 

@@ -151,9 +151,9 @@ fn fault_of_payload(alloc: Global, bytes: usize) -> Option<Option<StoreFault>> {
 #[test]
 fn a_payload_of_a_byte_too_much_refuses_its_journal(rt: HostRuntime) -> Result<(), Fail> {
     let alloc = rt.alloc();
-    assert_eq!(rt; fault_of_payload(alloc, 1024), Some(None));
+    assert_eq!(rt; fault_of_payload(alloc, 16384), Some(None));
     assert_eq!(rt;
-        fault_of_payload(alloc, 1025),
+        fault_of_payload(alloc, 16385),
         Some(Some(StoreFault::BadRow(1)))
     );
     Ok(())
