@@ -4,10 +4,12 @@ pub mod InsertLemmas
 pub mod OrderLemmas
 pub mod SelectLemmas
 pub mod ReadLemmas
+pub mod AddLemmas
 pub mod AnyLemmas
 pub mod SpellLemmas
 pub mod StandLemmas
 pub mod KeepLemmas
+pub mod OpenLemmas
 pub mod CreateLemmas
 pub mod SchemaLemmas
 pub mod StopLemmas

@@ -10,8 +10,8 @@ use Rattle.sqlite_trees.specs.Objects.{catalog_tree}
 use Rattle.sqlite_catalog.specs.Listing.{IsSound, IsTableRow, IsIndexRow, IsViewRow, is_table_row, is_index_row, is_view_row}
 use Rattle.sqlite.specs.Effect.{Database}
 use Rattle.sqlite.specs.State.{State, IsLive, Opens}
-use Rattle.urb_sqlite.specs.Journal.{record_table, table_of, tree_of, journal_name, HasTable, HasJournal, no_schema}
-use Rattle.std.proofs.Common.{◌<◌, length, inl, inr}
+use Rattle.urb_sqlite.specs.Journal.{record_table, table_of, tree_of, journal_name, second_name, Lacks, HasTable, HasJournal, no_schema}
+use Rattle.std.proofs.Common.{◌<◌, ◌⊎◌, length, inl, inr}
 use Rattle.sqlite.specs.Files.{AreFoundIn}
 use Rattle.sqlite_wal.specs.Recovery.{Image}
 use Rattle.urb_sqlite.specs.Rows.{StandsFor}
@@ -63,7 +63,11 @@ pub finds_journal : (conn now : State) (db : Trees) → IsLive conn → Opens co
 finds_journal conn now db live opens is journal adopted =
     let trees : conn.now.trees ≡ db = ap (λ (d : Database). d.trees) opens.clean ∙ is in
     let tables = one_list conn.now.schema journal.schema db (subst (IsSound conn.now.schema) trees (live opens.is_open).0) journal.sound in
-    let got = adopted (same_has conn.now.schema journal.schema journal_name tables journal.has) in
+    let second : HasTable conn.now.schema second_name ⊎ Lacks conn.now.schema second_name = elim journal.has.1 [
+      | inl has ↦ inl (same_has conn.now.schema journal.schema second_name tables has)
+      | inr none ↦ inr (ap (λ ts. table_of (bare ts) second_name) tables ∙ none)
+    ] in
+    let got = adopted (same_has conn.now.schema journal.schema journal_name tables journal.has.0, second) in
     let here : StandsFor (record { schema = conn.now.schema; trees = db }) (records_of now.now) = subst (λ t. StandsFor (record { schema = conn.now.schema; trees = t }) (records_of now.now)) trees got.1 in
     (got.0, subst (λ ts. StandsFor (record { schema = bare ts; trees = db }) (records_of now.now)) tables here)
 

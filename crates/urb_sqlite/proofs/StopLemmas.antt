@@ -97,9 +97,16 @@ honest_again s clean h = record {
   clean = clean;
   is_open = ∥∥₁_elim h (Coded-set coded_bool _ _) (λ x. x.is_open);
   schema = record {
-    there = ∥∥₁_elim h (Coded-set (coded_option table.the_row.coded) _ _) (λ x. x.schema.there);
-    alone = ∥∥₁_elim h (Coded-set (coded_option table.the_row.coded) _ _) (λ x. x.schema.alone);
-    stored = ∥∥₁_elim h (Coded-set coded_bool _ _) (λ x. x.schema.stored);
+    first = record {
+      there = ∥∥₁_elim h (Coded-set (coded_option table.the_row.coded) _ _) (λ x. x.schema.first.there);
+      alone = ∥∥₁_elim h (Coded-set (coded_option table.the_row.coded) _ _) (λ x. x.schema.first.alone);
+      stored = ∥∥₁_elim h (Coded-set coded_bool _ _) (λ x. x.schema.first.stored);
+    };
+    second = record {
+      there = ∥∥₁_elim h (Coded-set (coded_option table.the_row.coded) _ _) (λ x. x.schema.second.there);
+      alone = ∥∥₁_elim h (Coded-set (coded_option table.the_row.coded) _ _) (λ x. x.schema.second.alone);
+      stored = ∥∥₁_elim h (Coded-set coded_bool _ _) (λ x. x.schema.second.stored);
+    };
   };
 }
 

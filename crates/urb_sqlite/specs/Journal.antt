@@ -1,5 +1,8 @@
--- The table of a journal: its texts, its limit, and where it stands in a schema.
-use Rattle.std.specs.Prelude.{◌≡◌, ◌^◌, ◌==◌, nat_le, ℕ, true, false, List, [], ◌∷◌, find, codes, Option, Some, option_map, option_and_then, slice_get, unwrap_or}
+-- The two tables of a journal: their texts, their limits, and where they stand in a schema.
+use Rattle.std.specs.Prelude.{◌≡◌, ◌^◌, ◌==◌, nat_le, ℕ, true, false, List, [], ◌∷◌, find, codes, Option, Some, option_map, option_and_then, slice_get, unwrap_or, None, ◌⊎◌}
+use Rattle.urb_names.specs.declared.message.TheConstants.{MAX_PAYLOAD}
+use Rattle.urb_sqlite.specs.declared.statements.Part.{Part}
+use Rattle.urb_sqlite.specs.declared.statements.Part.TheVariants.{First, Second}
 use Rattle.sqlite_schema.specs.Names.{table_named}
 use Rattle.sqlite.specs.Collation.TheVariants.{Binary}
 use Rattle.sqlite.specs.declared.types.Value.TheVariants.{Null}
@@ -9,17 +12,41 @@ use Rattle.sqlite_schema.specs.declared.schema.Column.{Column}
 use Rattle.sqlite.specs.Kind.TheVariants.{Integer}
 use Rattle.sqlite.specs.Kind.TheVariants as kind
 
--- the text that makes the table where it is absent
+-- the table that stood first, and the one that takes new records
+abbrev pub journal_name : List ℕ
+journal_name = codes "journal"
+
+abbrev pub second_name : List ℕ
+second_name = codes "journal2"
+
+abbrev pub name_of : Part → List ℕ
+name_of First = journal_name
+name_of Second = second_name
+
+-- the most bytes that a payload has in a table
+abbrev pub limit_of : Part → ℕ
+limit_of First = 1024
+limit_of Second = MAX_PAYLOAD
+
+-- the texts that make the tables where they are absent
 abbrev pub create_text : List ℕ
 create_text = codes "CREATE TABLE IF NOT EXISTS journal(pos INTEGER PRIMARY KEY, kind INTEGER NOT NULL, sender INTEGER NOT NULL, seq INTEGER NOT NULL, client INTEGER NOT NULL, number INTEGER NOT NULL, payload BLOB NOT NULL) STRICT"
 
+abbrev pub second_text : List ℕ
+second_text = codes "CREATE TABLE IF NOT EXISTS journal2(pos INTEGER PRIMARY KEY, kind INTEGER NOT NULL, sender INTEGER NOT NULL, seq INTEGER NOT NULL, client INTEGER NOT NULL, number INTEGER NOT NULL, payload BLOB NOT NULL) STRICT"
+
+abbrev pub create_of : Part → List ℕ
+create_of First = create_text
+create_of Second = second_text
+
 -- the text that stores a record
 abbrev pub insert_text : List ℕ
-insert_text = codes "INSERT INTO journal VALUES (?1, ?2, ?3, ?4, ?5, ?6, ?7)"
+insert_text = codes "INSERT INTO journal2 VALUES (?1, ?2, ?3, ?4, ?5, ?6, ?7)"
 
--- the text that reads all records
-abbrev pub select_text : List ℕ
-select_text = codes "SELECT pos, kind, sender, seq, client, number, payload FROM journal ORDER BY pos"
+-- the texts that read all records
+abbrev pub select_of : Part → List ℕ
+select_of First = codes "SELECT pos, kind, sender, seq, client, number, payload FROM journal ORDER BY pos"
+select_of Second = codes "SELECT pos, kind, sender, seq, client, number, payload FROM journal2 ORDER BY pos"
 
 -- a column of integers that is not null
 abbrev pub integer : List ℕ → Column
@@ -58,21 +85,18 @@ pub record HasTable (schema : Schema) (name : List ℕ) : Type 0 where
   pub alone : find (λ t. t.tree == tree_of schema name) schema.tables ≡ Some (record_table name (tree_of schema name))
   pub stored : nat_le (2 ^ 31) (tree_of schema name) ≡ false
 
--- the name of the table
-abbrev pub journal_name : List ℕ
-journal_name = codes "journal"
+-- the schema has no table of this name
+abbrev pub Lacks : Schema → List ℕ → Type 0
+Lacks schema name = table_of schema name ≡ None
 
--- the most bytes that a payload has in the table journal
-abbrev pub journal_limit : ℕ
-journal_limit = 1024
+-- Both tables are there. Other tables, indexes and views take nothing from them.
+pub record HasBoth (schema : Schema) : Type 0 where
+  pub first : HasTable schema journal_name
+  pub second : HasTable schema second_name
 
--- the tree that has the rows of the table journal
-abbrev pub journal_tree : Schema → ℕ
-journal_tree schema = tree_of schema journal_name
-
--- The table journal is there. Other tables, indexes and views take nothing from it.
+-- The table journal is there, and journal2 is there too or absent.
 abbrev pub HasJournal : Schema → Type 0
-HasJournal schema = HasTable schema journal_name
+HasJournal schema = HasTable schema journal_name × (HasTable schema second_name ⊎ Lacks schema second_name)
 
 -- a database with no table
 abbrev pub no_schema : Schema

@@ -1,14 +1,16 @@
 -- What contracts see of a journal that is open.
-use Rattle.std.specs.Prelude.{◌≡◌, ℕ, ◌+◌, Bool, false, List, [], ◌∷◌, ◌++◌, length, IsTrue, refl}
+use Rattle.std.specs.Prelude.{◌≡◌, ℕ, ◌+◌, Bool, false, List, [], ◌∷◌, ◌++◌, length, IsTrue, refl, ◌⊎◌}
 use Rattle.std.specs.Coded.{Coded, code_by, coded×, coded_ℕ, coded_bool}
 use Rattle.sqlite.specs.Held.{Held, held_code}
-use Rattle.sqlite.specs.State.{State, HasCleanDisk}
+use Rattle.sqlite.specs.State.{State, HasCleanDisk, KeepsCommit, CommitsBy}
+use Rattle.urb_stable.specs.Storing.{is_bad_row}
+use Rattle.urb_stable.specs.declared.stable.StoreFault.{StoreFault}
 use Rattle.sqlite.specs.Tree.{Trees}
 use Rattle.sqlite.specs.Effect.{Database}
 use Rattle.sqlite_catalog.specs.Listing.{IsSound}
 use Rattle.urb_stable.specs.Entries.{Entry}
 use Rattle.sqlite.specs.Schema.{Schema}
-use Rattle.urb_sqlite.specs.Journal.{HasJournal}
+use Rattle.urb_sqlite.specs.Journal.{create_text, journal_name, second_name, tree_of, HasTable, HasBoth, HasJournal}
 use Rattle.urb_sqlite.specs.Rows.{StandsFor}
 use Rattle.urb_sqlite.specs.Reading.{records_of}
 
@@ -32,21 +34,21 @@ pub record IsCounted (d : Database) (next : ℕ) : Type 0 where
   pub stands : StandsFor d (records_of d)
   pub place : next ≡ length (records_of d) + 1
 
--- No transaction is open, all rows are committed, and where the journal is there they are counted.
+-- No transaction is open, all rows are committed, and where both tables are there they are counted.
 pub record IsKept (s : State) (next : ℕ) : Type 0 where
   pub autocommit : s.in_transaction ≡ false
   pub settled : s.now ≡ s.committed
-  pub counted : HasJournal s.now.schema → IsCounted s.now next
+  pub counted : HasBoth s.now.schema → IsCounted s.now next
 
 -- While the disk is clean and the connection open, the next position is in step with the rows.
 abbrev pub IsInStep : State → ℕ → Type 0
 IsInStep s next = HasCleanDisk s → IsTrue s.is_open → IsKept s next
 
--- So far the disk has given back what was written, no fault has shut the database, and the journal is there.
+-- So far the disk has given back what was written, no fault has shut the database, and both of its tables are there.
 pub record IsHonestJournal (s : State) : Type 0 where
   pub clean : HasCleanDisk s
   pub is_open : IsTrue s.is_open
-  pub schema : HasJournal s.now.schema
+  pub schema : HasBoth s.now.schema
 
 -- These trees are a database that has the journal.
 pub record IsJournal (db : Trees) : Type 0 where
@@ -64,6 +66,18 @@ LeavesOnly s P = (db : Trees) → s.may_leave db → (journal : IsJournal db) ×
 
 -- ---- what a call does to a journal
 
+-- a database got the empty table of this name behind its others, which keep their rows
+pub record AddsTable (old new : Database) (name : List ℕ) : Type 0 where
+  pub has : HasTable new.schema name
+  pub empty : new.trees (tree_of new.schema name) ≡ []
+  pub keeps : (other : List ℕ) → HasTable old.schema other → HasTable new.schema other × (new.trees (tree_of new.schema other) ≡ old.trees (tree_of old.schema other))
+
+-- the connection was open and is, and the table of this name was added
+pub record IsMade (old new : State) (name : List ℕ) : Type 0 where
+  pub was_open : IsTrue old.is_open
+  pub is_open : IsTrue new.is_open
+  pub adds : AddsTable old.now new.now name
+
 -- the record was added, and the connection stays open
 pub record IsAppended (old new : State) (place : ℕ) (r : Entry) : Type 0 where
   pub kept : IsInStep new (place + 1)
@@ -80,3 +94,23 @@ pub record IsLeft (old new : State) (place : ℕ) : Type 0 where
 -- At rest a stop leaves the records that the journal shows.
 abbrev pub IsSafeAtRest : State → Type 0
 IsSafeAtRest s = IsHonestJournal s → LeavesOnly s (λ records. records ≡ records_of s.now)
+
+-- ---- what opening leaves
+
+-- these trees are the first database with the empty table of this name behind its others
+pub record AddsOne (old : Database) (name : List ℕ) (db : Trees) : Type 0 where
+  pub after : Database
+  pub adds : AddsTable old after name
+  pub sound : IsSound after.schema after.trees
+  pub is : db ≡ after.trees
+
+-- What a stop inside an opening may leave beside what was there: the database with the first table, or then with the second.
+abbrev pub CommitsEither : State → Trees → Type 0
+CommitsEither s db =
+    CommitsBy create_text [] s db
+    ⊎ ((mid : Database) × ((mid ≡ s.now) ⊎ AddsTable s.now mid journal_name) × AddsOne mid second_name db)
+
+-- A journal that is refused keeps its rows: nothing was committed, or the second table alone, which is empty; a bad row of the
+-- first table commits nothing.
+pub record KeepsRows (old new : State) (e : StoreFault) : Type 0 where
+  pub commit : KeepsCommit old new ⊎ ((IsTrue new.is_open → IsTrue old.is_open × AddsTable old.now new.committed second_name) × (is_bad_row e ≡ false))

@@ -8,7 +8,7 @@ use sqlite::{Alter, Connection, Error, MemStore, params};
 use std::alloc::Global;
 use std::fs;
 use std::test::Fail;
-use urb_names::{ClientId, Message, Name, NodeId};
+use urb_names::{ClientId, MAX_PAYLOAD, Message, Name, NodeId};
 use urb_sqlite::*;
 use urb_stable::{Record, Stable, StoreFault};
 
@@ -118,25 +118,6 @@ fn a_journal_gives_back_what_was_stored(rt: HostRuntime) -> Result<(), Fail> {
 }
 
 #[test]
-fn a_journal_behind_another_table_gives_back_what_was_stored(rt: HostRuntime) -> Result<(), Fail> {
-    let alloc = rt.alloc();
-    let mut conn = Connection::open_in_memory(alloc)?;
-    let _made = change(&mut conn, "CREATE TABLE other(pos INTEGER PRIMARY KEY)")?;
-    let _row = change(&mut conn, "INSERT INTO other VALUES (1)")?;
-    let Ok(mut journal) = adopted(alloc, conn) else {
-        panic!(rt; "not adopted");
-    };
-    let records = two(alloc)?;
-    assert_eq!(rt; stores(&mut journal, &records), 2);
-    let Ok(mut again) = adopted(alloc, journal.into_connection()) else {
-        panic!(rt; "not adopted again");
-    };
-    assert_eq!(rt; again.next(), 3);
-    assert!(rt; holds(alloc, &mut again, &records)?);
-    Ok(())
-}
-
-#[test]
 fn a_position_that_is_not_the_next_is_refused(rt: HostRuntime) -> Result<(), Fail> {
     let alloc = rt.alloc();
     let Ok(mut journal) = adopted(alloc, Connection::open_in_memory(alloc)?) else {
@@ -200,24 +181,24 @@ fn changed(alloc: Global, sql: &str) -> Result<Connection<MemStore>, Fail> {
 fn the_first_row_that_is_no_record_is_named(rt: HostRuntime) -> Result<(), Fail> {
     let alloc = rt.alloc();
     for (sql, place) in [
-        ("DELETE FROM journal WHERE pos = 1", 1),
-        ("UPDATE journal SET pos = 0 WHERE pos = 1", 1),
-        ("UPDATE journal SET pos = 3 WHERE pos = 2", 2),
-        ("UPDATE journal SET kind = 4 WHERE pos = 2", 2),
-        ("UPDATE journal SET kind = 0 WHERE pos = 1", 1),
-        ("UPDATE journal SET kind = 3 WHERE pos = 1", 1),
-        ("UPDATE journal SET kind = 1 WHERE pos = 2", 2),
-        ("UPDATE journal SET payload = x'61' WHERE pos = 2", 2),
-        ("UPDATE journal SET client = 7 WHERE pos = 2", 2),
-        ("UPDATE journal SET number = 1 WHERE pos = 2", 2),
-        ("UPDATE journal SET sender = 0", 1),
-        ("UPDATE journal SET sender = 8 WHERE pos = 2", 2),
-        ("UPDATE journal SET seq = 0 WHERE pos = 1", 1),
-        ("UPDATE journal SET seq = 4294967296 WHERE pos = 1", 1),
-        ("UPDATE journal SET client = 0 WHERE pos = 1", 1),
-        ("UPDATE journal SET client = -1 WHERE pos = 1", 1),
-        ("UPDATE journal SET client = 65536 WHERE pos = 1", 1),
-        ("UPDATE journal SET number = 0 WHERE pos = 1", 1),
+        ("DELETE FROM journal2 WHERE pos = 1", 1),
+        ("UPDATE journal2 SET pos = 0 WHERE pos = 1", 1),
+        ("UPDATE journal2 SET pos = 3 WHERE pos = 2", 2),
+        ("UPDATE journal2 SET kind = 4 WHERE pos = 2", 2),
+        ("UPDATE journal2 SET kind = 0 WHERE pos = 1", 1),
+        ("UPDATE journal2 SET kind = 3 WHERE pos = 1", 1),
+        ("UPDATE journal2 SET kind = 1 WHERE pos = 2", 2),
+        ("UPDATE journal2 SET payload = x'61' WHERE pos = 2", 2),
+        ("UPDATE journal2 SET client = 7 WHERE pos = 2", 2),
+        ("UPDATE journal2 SET number = 1 WHERE pos = 2", 2),
+        ("UPDATE journal2 SET sender = 0", 1),
+        ("UPDATE journal2 SET sender = 8 WHERE pos = 2", 2),
+        ("UPDATE journal2 SET seq = 0 WHERE pos = 1", 1),
+        ("UPDATE journal2 SET seq = 4294967296 WHERE pos = 1", 1),
+        ("UPDATE journal2 SET client = 0 WHERE pos = 1", 1),
+        ("UPDATE journal2 SET client = -1 WHERE pos = 1", 1),
+        ("UPDATE journal2 SET client = 65536 WHERE pos = 1", 1),
+        ("UPDATE journal2 SET number = 0 WHERE pos = 1", 1),
     ] {
         let conn = changed(alloc, sql)?;
         assert_eq!(rt;
@@ -233,15 +214,15 @@ fn the_first_row_that_is_no_record_is_named(rt: HostRuntime) -> Result<(), Fail>
 fn rows_within_their_limits_are_records(rt: HostRuntime) -> Result<(), Fail> {
     let alloc = rt.alloc();
     for (sql, next) in [
-        ("DELETE FROM journal WHERE pos = 2", 2),
-        ("DELETE FROM journal", 1),
-        ("UPDATE journal SET sender = 7, seq = 4294967295", 3),
+        ("DELETE FROM journal2 WHERE pos = 2", 2),
+        ("DELETE FROM journal2", 1),
+        ("UPDATE journal2 SET sender = 7, seq = 4294967295", 3),
         (
-            "UPDATE journal SET client = 65535, number = 4294967295 WHERE pos = 1",
+            "UPDATE journal2 SET client = 65535, number = 4294967295 WHERE pos = 1",
             3,
         ),
         (
-            "UPDATE journal SET kind = 2, payload = x'' WHERE pos = 1",
+            "UPDATE journal2 SET kind = 2, payload = x'' WHERE pos = 1",
             3,
         ),
     ] {
@@ -256,7 +237,7 @@ fn rows_within_their_limits_are_records(rt: HostRuntime) -> Result<(), Fail> {
 
 fn set_payload(conn: &mut Connection<MemStore>, payload: &Vec<u8>) -> Result<usize, Error> {
     conn.execute(
-        "UPDATE journal SET payload = ?1 WHERE pos = 1",
+        "UPDATE journal2 SET payload = ?1 WHERE pos = 1",
         params![payload],
     )
 }
@@ -264,8 +245,11 @@ fn set_payload(conn: &mut Connection<MemStore>, payload: &Vec<u8>) -> Result<usi
 #[test]
 fn a_payload_is_no_longer_than_its_limit(rt: HostRuntime) -> Result<(), Fail> {
     let alloc = rt.alloc();
-    for (bytes, fault) in [(1024, None), (1025, Some(StoreFault::BadRow(1)))] {
-        let mut conn = changed(alloc, "UPDATE journal SET seq = 2")?;
+    for (bytes, fault) in [
+        (MAX_PAYLOAD, None),
+        (MAX_PAYLOAD + 1, Some(StoreFault::BadRow(1))),
+    ] {
+        let mut conn = changed(alloc, "UPDATE journal2 SET seq = 2")?;
         let mut payload = Vec::new(alloc);
         payload.resize(bytes, 97)?;
         let _set = set_payload(&mut conn, &payload)?;
@@ -276,9 +260,86 @@ fn a_payload_is_no_longer_than_its_limit(rt: HostRuntime) -> Result<(), Fail> {
 
 #[test]
 fn another_table_of_that_name_is_a_fault_of_the_device(rt: HostRuntime) -> Result<(), Fail> {
-    let mut conn = Connection::open_in_memory(rt.alloc())?;
-    let _made = change(&mut conn, "CREATE TABLE journal(x INTEGER)")?;
-    assert_eq!(rt; adopted(rt.alloc(), conn).err(), Some(StoreFault::Device));
+    for sql in [
+        "CREATE TABLE journal(x INTEGER)",
+        "CREATE TABLE journal2(x INTEGER)",
+    ] {
+        let mut conn = Connection::open_in_memory(rt.alloc())?;
+        let _made = change(&mut conn, sql)?;
+        assert_eq!(rt; adopted(rt.alloc(), conn).err(), Some(StoreFault::Device), "after {sql}");
+    }
+    Ok(())
+}
+
+// ---- a file of one table, as it was written before there were two
+
+/// A database with the table `journal` alone, behind another table, with two rows; and then SQL has changed it.
+fn old(alloc: Global, sql: &str) -> Result<Connection<MemStore>, Fail> {
+    let mut conn = Connection::open_in_memory(alloc)?;
+    for text in [
+        "CREATE TABLE other(x INTEGER)",
+        "CREATE TABLE journal(pos INTEGER PRIMARY KEY, kind INTEGER NOT NULL, sender INTEGER NOT NULL, seq INTEGER NOT NULL, client INTEGER NOT NULL, number INTEGER NOT NULL, payload BLOB NOT NULL) STRICT",
+        "INSERT INTO journal VALUES (1, 1, 1, 1, 7, 1, x'6869')",
+        "INSERT INTO journal VALUES (2, 3, 1, 1, 0, 0, x'')",
+        sql,
+    ] {
+        let _done = change(&mut conn, text)?;
+    }
+    Ok(conn)
+}
+
+/// How many rows the query shows.
+fn count(conn: &mut Connection<MemStore>, sql: &str) -> Result<usize, Fail> {
+    match conn.query_all(sql, &[]) {
+        Ok(rows) => Ok(rows.len()),
+        Err(_) => Err("not read".into()),
+    }
+}
+
+#[test]
+fn a_new_record_of_an_old_file_goes_into_the_second_table(rt: HostRuntime) -> Result<(), Fail> {
+    let alloc = rt.alloc();
+    let Ok(mut journal) = adopted(alloc, old(alloc, "INSERT INTO other VALUES (1)")?) else {
+        panic!(rt; "not adopted");
+    };
+    assert_eq!(rt; journal.next(), 3);
+    let third = pend(alloc, 2, "third")?;
+    assert_eq!(rt; journal.store(3, &third), Ok(()));
+    let mut records = two(alloc)?;
+    records.push(pend(alloc, 2, "third")?)?;
+    assert!(rt; holds(alloc, &mut journal, &records)?);
+    let mut conn = journal.into_connection();
+    assert_eq!(rt; count(&mut conn, "SELECT pos FROM journal")?, 2);
+    assert_eq!(rt; count(&mut conn, "SELECT pos FROM journal2 WHERE pos = 3")?, 1);
+    let _moved = change(&mut conn, "UPDATE journal2 SET pos = 4")?;
+    assert_eq!(rt; adopted(alloc, conn).err(), Some(StoreFault::BadRow(3)));
+    Ok(())
+}
+
+#[test]
+fn an_old_file_that_is_refused_gets_no_second_table(rt: HostRuntime) -> Result<(), Fail> {
+    let alloc = rt.alloc();
+    let conn = old(alloc, "UPDATE journal SET kind = 4 WHERE pos = 2")?;
+    match SqlStable::adopt(alloc, conn) {
+        Ok(_) => panic!(rt; "a bad row was adopted"),
+        Err((mut back, fault)) => {
+            assert_eq!(rt; fault, StoreFault::BadRow(2));
+            assert_eq!(rt; count(&mut back, "SELECT name FROM sqlite_schema WHERE name = 'journal2'")?, 0);
+        }
+    }
+    Ok(())
+}
+
+#[test]
+fn a_payload_of_the_first_table_is_no_longer_than_its_limit(rt: HostRuntime) -> Result<(), Fail> {
+    let alloc = rt.alloc();
+    for (bytes, fault) in [(1024, None), (1025, Some(StoreFault::BadRow(1)))] {
+        let mut conn = old(alloc, "UPDATE journal SET seq = 2")?;
+        let mut payload = Vec::new(alloc);
+        payload.resize(bytes, 97)?;
+        let _set = conn.execute("UPDATE journal SET payload = ?1 WHERE pos = 1", params![payload])?;
+        assert_eq!(rt; adopted(alloc, conn).err(), fault);
+    }
     Ok(())
 }
 
@@ -304,8 +365,8 @@ fn a_connection_in_a_transaction_is_handed_back(rt: HostRuntime) -> Result<(), F
 #[test]
 fn a_store_that_failed_waits_for_a_retrieve(rt: HostRuntime) -> Result<(), Fail> {
     let alloc = rt.alloc();
-    let mut conn = changed(alloc, "UPDATE journal SET seq = 2")?;
-    let _limited = change(&mut conn, "CREATE UNIQUE INDEX once ON journal(seq, kind)")?;
+    let mut conn = changed(alloc, "UPDATE journal2 SET seq = 2")?;
+    let _limited = change(&mut conn, "CREATE UNIQUE INDEX once ON journal2(seq, kind)")?;
     let Ok(mut journal) = adopted(alloc, conn) else {
         panic!(rt; "not adopted");
     };

@@ -70,7 +70,7 @@ fn is_whole(alloc: Global, log: u64, db: u64) -> Result<bool, Fail> {
 #[test]
 fn a_stop_at_each_call_of_the_disks_loses_no_record(rt: HostRuntime) -> Result<(), Fail> {
     let alloc = rt.alloc();
-    for k in 0..400u64 {
+    for k in 0..100_000u64 {
         let by_log = is_whole(alloc, k, u64::MAX)?;
         let by_db = is_whole(alloc, u64::MAX, k)?;
         if by_log && by_db {
@@ -101,7 +101,7 @@ fn a_stop_behind_a_store_leaves_the_record_where_it_was_stored(
     rt: HostRuntime,
 ) -> Result<(), Fail> {
     let alloc = rt.alloc();
-    for k in 0..400u64 {
+    for k in 0..100_000u64 {
         match second(alloc, k)? {
             Some((true, next)) => {
                 assert_eq!(rt; next, 3);
