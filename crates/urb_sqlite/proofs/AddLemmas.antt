@@ -20,12 +20,12 @@ all_at P [] i x all got = absurd (let e = got in cc)
 all_at P (y ∷ xs) zero x all got = (let same : y ≡ x = cc in subst P same all.0)
 all_at P (y ∷ xs) (suc i) x all got = all_at P xs i x all.1 got
 
-slice_front : {X : Type 0} (xs ys : List X) (i : ℕ) (x : X) → slice_get xs i ≡ Some x → slice_get (xs ++ ys) i ≡ Some x
+pub slice_front : {X : Type 0} (xs ys : List X) (i : ℕ) (x : X) → slice_get xs i ≡ Some x → slice_get (xs ++ ys) i ≡ Some x
 slice_front [] ys i x got = absurd (let e = got in cc)
 slice_front (y ∷ xs) ys zero x got = got
 slice_front (y ∷ xs) ys (suc i) x got = slice_front xs ys i x got
 
-slice_last : {X : Type 0} (xs : List X) (x : X) → slice_get (xs ++ x ∷ []) (length xs) ≡ Some x
+pub slice_last : {X : Type 0} (xs : List X) (x : X) → slice_get (xs ++ x ∷ []) (length xs) ≡ Some x
 slice_last [] x = refl
 slice_last (y ∷ xs) x = slice_last xs x
 

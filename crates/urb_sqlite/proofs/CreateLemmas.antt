@@ -13,7 +13,7 @@ use Rattle.sqlite_catalog.specs.Change.{is_used}
 use Rattle.sqlite_catalog.specs.Listing.{IsSound}
 use Rattle.sqlite.specs.Does.{Tally, Does, lacks_sequence, sequence_text}
 use Rattle.sqlite.specs.Effect.{Database}
-use Rattle.sqlite_schema.specs.Names.{table_named}
+use Rattle.sqlite_schema.specs.Names.{table_named, index_named, view_named}
 use Rattle.sqlite.specs.State.{State, mode_of, text_of, IsUnchanged, Writes, Executes, ExecutesIn, CommitsBy}
 use Rattle.urb_sqlite.specs.Journal.{record_table, table_of, tree_of, Lacks, HasTable}
 use Rattle.urb_sqlite.specs.Shape.{is_journal, has_table}
@@ -23,9 +23,9 @@ use Rattle.urb_sqlite.proofs.TextLemmas.{Makes}
 use Rattle.urb_sqlite.proofs.AnyLemmas.{create_is}
 use Rattle.urb_sqlite.proofs.AddLemmas.{all_at, slice_front, slice_last, has_behind, has_new, kept_rows, low_trees}
 
-no_other : (o : Option ℕ) (b : Bool) → (is_some o || b) ≡ false → o ≡ None
-no_other None b h = refl
-no_other (Some x) b h = absurd (let n = h in cc)
+no_other : (o : Option ℕ) (b c : Bool) → ((is_some o || b) || c) ≡ false → o ≡ None
+no_other None b c h = refl
+no_other (Some x) b c h = absurd (let n = h in cc)
 
 -- the table that a CREATE adds
 abbrev added : Database → Table → Table
@@ -46,7 +46,7 @@ adds_one d after text name parsed made low =
     let both : Ok made.table ≡ Ok (record_table name 0) = sym made.defined ∙ parsed.defines in
     let same : made.table ≡ record_table name 0 = cc in
     let is : added d made.table ≡ record_table name (next_tree d.schema) = ap (added d) same in
-    let none : table_named d.schema name ≡ None = no_other (table_named d.schema name) _ (ap (λ (t : Table). is_used d.schema t.name) (sym same) ∙ made.free) in
+    let none : table_named d.schema name ≡ None = no_other (table_named d.schema name) (is_some (index_named d.schema name)) (is_some (view_named d.schema name)) (ap (λ (t : Table). is_used d.schema t.name) (sym same) ∙ made.free) in
     let it = has_new d.schema after.schema (added d made.table) (behind d after text made) name is none parsed.itself low in
     record { has = it.0; empty = ap after.trees it.1 ∙ made.empty; keeps = keeps_one d after text made }
 
@@ -104,8 +104,9 @@ module _ (text name : List ℕ) (parsed : Makes text name) where
             let same : IsUnchanged old new = (rw (none, is.returning_is) at h.2).0 in
             absurd (true≢false (sym ready ∙ ap (λ (d : Database). has_table name d.schema) same.0.now_is ∙ lacks_shape old.now.schema name lacks))
         | inr makes ↦
-            let w = rw (makes, is.returning_is, is.whole) at h.2 in
-            record { was_open = w.shown.was_open; is_open = w.shown.is_open; adds = does_create old text name _ w.tally new.now parsed w.changed w.sound }
+            let w = rw (makes, is.returning_is) at h.2 in
+            let changed = subst (λ t. Does old.step_limit (mode_of old) [] old.now t None CreateTable (Ok (w.tally, new.now))) is.whole w.changed in
+            record { was_open = w.shown.was_open; is_open = w.shown.is_open; adds = does_create old text name [] w.tally new.now parsed changed w.sound }
       ]
 
   pub creates_nothing : (old new : State) (count : ℕ) → HasTable old.now.schema name → Executes text [] old new (Ok count) → IsUnchanged old new
@@ -125,9 +126,11 @@ module _ (text name : List ℕ) (parsed : Makes text name) where
           | inl (inr released, same) ↦ absurd (let e = released.2 in cc)
           | inr wrote ↦ absurd (let e = wrote.3 in cc)
         ]
-        | inr makes ↦ elim (rw (makes, is.returning_is, is.whole) at h.2) [
+        | inr makes ↦ elim (rw (makes, is.returning_is) at h.2) [
           | inl (inl commit, same) ↦ absurd (let e = commit in cc)
           | inl (inr released, same) ↦ absurd (let e = released.2 in cc)
-          | inr wrote ↦ record { after = wrote.2; adds = does_create old text name _ wrote.1 wrote.2 parsed wrote.3 wrote.4; sound = wrote.4; is = wrote.5 }
+          | inr wrote ↦
+              let changed = subst (λ t. Does old.step_limit (mode_of old) [] old.now t None CreateTable (Ok (wrote.1, wrote.2))) is.whole wrote.3 in
+              record { after = wrote.2; adds = does_create old text name [] wrote.1 wrote.2 parsed changed wrote.4; sound = wrote.4; is = wrote.5 }
         ]
       ]
