@@ -181,7 +181,7 @@ abbrev IsJournalOf : Trees → List Entry → Type 0
 IsJournalOf db records = (journal : IsJournal db) × StandsFor (database_of journal) records
 
 -- a database that has both tables is a journal
-pub journal_of : (s : Schema) (db : Trees) → HasBoth s → IsSound s db → IsJournal db
+abbrev pub journal_of : (s : Schema) (db : Trees) → HasBoth s → IsSound s db → IsJournal db
 journal_of s db has sound = record { schema = s; has = (has.first, inl has.second); sound = sound }
 
 pub commits_record : (old : State) (place : ℕ) (r : Entry) (db : Trees) → HasBoth old.now.schema → IsCounted old.now place → place < 4294967295 → IsEntry r
