@@ -1,3 +1,4 @@
+pub mod ResolveLemmas
 pub mod TextLemmas
 pub mod InsertLemmas
 pub mod OrderLemmas

@@ -10,6 +10,8 @@ use Rattle.std.proofs.lemmas.List.Sorted.{All-permutation, IsPermutation-append_
 use Rattle.sqlite.specs.declared.types.Value.TheVariants.{Int}
 use Rattle.sqlite.specs.Order.{Row, column, value_cmp}
 use Rattle.sqlite.specs.Tree.{Trees, rowid, put_row, IsAscending}
+use Rattle.sqlite.specs.Effect.{Database}
+use Rattle.sqlite.specs.Schema.{Schema}
 use Rattle.sqlite_value.proofs.OrderLemmas.{value_cmp-Int, value_cmp_total}
 use Rattle.sqlite_keyed.proofs.KeyedLemmas.{Less-from_lt}
 use Rattle.sqlite_keyed.specs.Lists.{sort_by}
@@ -119,16 +121,18 @@ module _ (limit tree : ℕ) where
 
 -- ---- the table journal
 
-pub stands_if_read : (db : Trees) (rs : List Entry) → read_from journal_limit 1 (rows_in journal_tree db) ≡ Ok rs → StandsFor db rs
-stands_if_read db rs h = spells_if_read journal_limit (omega arith) 1 (rows_in journal_tree db) rs (omega arith) h
+pub stands_if_read : (d : Database) (rs : List Entry) → read_from journal_limit 1 (rows_in (journal_tree d.schema) d.trees) ≡ Ok rs → StandsFor d rs
+stands_if_read d rs h = spells_if_read journal_limit (omega arith) 1 (rows_in (journal_tree d.schema) d.trees) rs (omega arith) h
 
-pub reads_if_stands : (db : Trees) (rs : List Entry) → StandsFor db rs → read_from journal_limit 1 (rows_in journal_tree db) ≡ Ok rs
-reads_if_stands db rs h = read_if_spelled journal_limit 1 (rows_in journal_tree db) rs h
+pub reads_if_stands : (d : Database) (rs : List Entry) → StandsFor d rs → read_from journal_limit 1 (rows_in (journal_tree d.schema) d.trees) ≡ Ok rs
+reads_if_stands d rs h = read_if_spelled journal_limit 1 (rows_in (journal_tree d.schema) d.trees) rs h
 
-pub stands_more : (old new : Trees) (rs : List Entry) (place : ℕ) (r : Entry) → StandsFor old rs → place ≡ length rs + 1 → place < 4294967295 → IsWithin journal_limit r
-    → new journal_tree ≡ put_row (kept_of place r) (old journal_tree) → StandsFor new (rs ++ r ∷ [])
-stands_more old new rs place r stands next low valid put =
-    stands_if_read new (rs ++ r ∷ []) (reads_more journal_limit journal_tree old new rs 1 place r (reads_if_stands old rs stands) (omega (arith, next)) low valid put)
+pub stands_more : (old new : Database) (rs : List Entry) (place : ℕ) (r : Entry) → new.schema ≡ old.schema → StandsFor old rs → place ≡ length rs + 1 → place < 4294967295 → IsWithin journal_limit r
+    → new.trees (journal_tree old.schema) ≡ put_row (kept_of place r) (old.trees (journal_tree old.schema)) → StandsFor new (rs ++ r ∷ [])
+stands_more old new rs place r same stands next low valid put =
+    stands_if_read new (rs ++ r ∷ [])
+    (ap (λ (s : Schema). read_from journal_limit 1 (rows_in (journal_tree s) new.trees)) same
+    ∙ reads_more journal_limit (journal_tree old.schema) old.trees new.trees rs 1 place r (reads_if_stands old rs stands) (omega (arith, next)) low valid put)
 
-pub records_are : (db : Trees) (rs : List Entry) → StandsFor db rs → records_of db ≡ rs
-records_are db rs h = ap ok_or_none (reads_if_stands db rs h)
+pub records_are : (d : Database) (rs : List Entry) → StandsFor d rs → records_of d ≡ rs
+records_are d rs h = ap ok_or_none (reads_if_stands d rs h)

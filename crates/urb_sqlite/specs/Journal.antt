@@ -1,5 +1,6 @@
--- The table of a journal: its texts, its tree, its limit and its schema.
-use Rattle.std.specs.Prelude.{◌≡◌, ℕ, true, false, List, [], ◌∷◌, take, codes, Some}
+-- The table of a journal: its texts, its limit, and where it stands in a schema.
+use Rattle.std.specs.Prelude.{◌≡◌, ◌^◌, ◌==◌, nat_le, ℕ, true, false, List, [], ◌∷◌, find, codes, Option, Some, option_map, option_and_then, slice_get, unwrap_or}
+use Rattle.sqlite_schema.specs.Names.{table_named}
 use Rattle.sqlite.specs.Collation.TheVariants.{Binary}
 use Rattle.sqlite.specs.declared.types.Value.TheVariants.{Null}
 use Rattle.sqlite.specs.Table.{Table}
@@ -21,7 +22,7 @@ abbrev pub select_text : List ℕ
 select_text = codes "SELECT pos, kind, sender, seq, client, number, payload FROM journal ORDER BY pos"
 
 -- a column of integers that is not null
-abbrev integer : List ℕ → Column
+abbrev pub integer : List ℕ → Column
 integer name = record { name = name; kind = Integer; is_strict = true; not_null = true; default = Null; collation = Binary }
 
 -- the table of records with this name, whose rows stand in this tree
@@ -43,21 +44,35 @@ record_table name tree = record {
   is_counted = false;
 }
 
--- the tree that has the rows of the table journal
-abbrev pub journal_tree : ℕ
-journal_tree = 0
+-- the table of this name, wherever it stands in the schema
+abbrev pub table_of : Schema → List ℕ → Option Table
+table_of schema name = option_and_then (slice_get schema.tables) (table_named schema name)
+
+-- the tree that has the rows of the table of this name, and 0 where there is no such table
+abbrev pub tree_of : Schema → List ℕ → ℕ
+tree_of schema name = unwrap_or (option_map (λ t. t.tree) (table_of schema name)) 0
+
+-- The schema's table of this name is one of records; no table before it has its tree, and the tree is a stored one.
+pub record HasTable (schema : Schema) (name : List ℕ) : Type 0 where
+  pub there : table_of schema name ≡ Some (record_table name (tree_of schema name))
+  pub alone : find (λ t. t.tree == tree_of schema name) schema.tables ≡ Some (record_table name (tree_of schema name))
+  pub stored : nat_le (2 ^ 31) (tree_of schema name) ≡ false
+
+-- the name of the table
+abbrev pub journal_name : List ℕ
+journal_name = codes "journal"
 
 -- the most bytes that a payload has in the table journal
 abbrev pub journal_limit : ℕ
 journal_limit = 1024
 
--- the table journal
-abbrev pub journal : Table
-journal = record_table (codes "journal") journal_tree
+-- the tree that has the rows of the table journal
+abbrev pub journal_tree : Schema → ℕ
+journal_tree schema = tree_of schema journal_name
 
--- The table journal is the first of the schema. Further tables, indexes and views take nothing from it.
+-- The table journal is there. Other tables, indexes and views take nothing from it.
 abbrev pub HasJournal : Schema → Type 0
-HasJournal schema = take 1 schema.tables ≡ journal ∷ []
+HasJournal schema = HasTable schema journal_name
 
 -- a database with no table
 abbrev pub no_schema : Schema

@@ -4,6 +4,7 @@ use Rattle.std.specs.Coded.{Coded, code_by, coded×, coded_ℕ, coded_bool}
 use Rattle.sqlite.specs.Held.{Held, held_code}
 use Rattle.sqlite.specs.State.{State, HasCleanDisk}
 use Rattle.sqlite.specs.Tree.{Trees}
+use Rattle.sqlite.specs.Effect.{Database}
 use Rattle.sqlite_catalog.specs.Listing.{IsSound}
 use Rattle.urb_stable.specs.Entries.{Entry}
 use Rattle.sqlite.specs.Schema.{Schema}
@@ -27,35 +28,39 @@ open_code {S} store =
     (λ _. refl)
 
 -- each row of the journal is a record, and the next position follows the last
-pub record IsCounted (db : Trees) (next : ℕ) : Type 0 where
-  pub stands : StandsFor db (records_of db)
-  pub place : next ≡ length (records_of db) + 1
+pub record IsCounted (d : Database) (next : ℕ) : Type 0 where
+  pub stands : StandsFor d (records_of d)
+  pub place : next ≡ length (records_of d) + 1
 
--- No transaction is open, all rows are committed, and where the journal is the first table they are counted.
+-- No transaction is open, all rows are committed, and where the journal is there they are counted.
 pub record IsKept (s : State) (next : ℕ) : Type 0 where
   pub autocommit : s.in_transaction ≡ false
   pub settled : s.now ≡ s.committed
-  pub counted : HasJournal s.now.schema → IsCounted s.now.trees next
+  pub counted : HasJournal s.now.schema → IsCounted s.now next
 
 -- While the disk is clean and the connection open, the next position is in step with the rows.
 abbrev pub IsInStep : State → ℕ → Type 0
 IsInStep s next = HasCleanDisk s → IsTrue s.is_open → IsKept s next
 
--- So far the disk has given back what was written, no fault has shut the database, and the journal is its first table.
+-- So far the disk has given back what was written, no fault has shut the database, and the journal is there.
 pub record IsHonestJournal (s : State) : Type 0 where
   pub clean : HasCleanDisk s
   pub is_open : IsTrue s.is_open
   pub schema : HasJournal s.now.schema
 
--- These trees are a database whose first table is the journal.
+-- These trees are a database that has the journal.
 pub record IsJournal (db : Trees) : Type 0 where
   pub schema : Schema
   pub has : HasJournal schema
   pub sound : IsSound schema db
 
+-- the database that these trees are
+abbrev pub database_of : {db : Trees} → IsJournal db → Database
+database_of {db} journal = record { schema = journal.schema; trees = db }
+
 -- Whatever a stop leaves is a journal of records of which P holds.
 abbrev pub LeavesOnly : State → (List Entry → Type 0) → Type 0
-LeavesOnly s P = (db : Trees) → s.may_leave db → IsJournal db × (records : List Entry) × StandsFor db records × P records
+LeavesOnly s P = (db : Trees) → s.may_leave db → (journal : IsJournal db) × (records : List Entry) × StandsFor (database_of journal) records × P records
 
 -- ---- what a call does to a journal
 
@@ -64,14 +69,14 @@ pub record IsAppended (old new : State) (place : ℕ) (r : Entry) : Type 0 where
   pub kept : IsInStep new (place + 1)
   pub honest : IsHonestJournal new → IsHonestJournal old
   pub alive : IsHonestJournal old → HasCleanDisk new → IsHonestJournal new
-  pub records : IsHonestJournal new → records_of new.now.trees ≡ records_of old.now.trees ++ r ∷ []
+  pub records : IsHonestJournal new → records_of new.now ≡ records_of old.now ++ r ∷ []
 
 -- no row changed
 pub record IsLeft (old new : State) (place : ℕ) : Type 0 where
   pub kept : IsInStep new place
   pub honest : IsHonestJournal new → IsHonestJournal old
-  pub records : IsHonestJournal new → records_of new.now.trees ≡ records_of old.now.trees
+  pub records : IsHonestJournal new → records_of new.now ≡ records_of old.now
 
 -- At rest a stop leaves the records that the journal shows.
 abbrev pub IsSafeAtRest : State → Type 0
-IsSafeAtRest s = IsHonestJournal s → LeavesOnly s (λ records. records ≡ records_of s.now.trees)
+IsSafeAtRest s = IsHonestJournal s → LeavesOnly s (λ records. records ≡ records_of s.now)

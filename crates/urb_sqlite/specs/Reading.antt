@@ -3,7 +3,7 @@ use Rattle.std.specs.Prelude.{ℕ, ◌+◌, ◌^◌, ◌==◌, ◌&&◌, Bool, n
 use Rattle.sqlite.specs.declared.types.Value.{Value}
 use Rattle.sqlite.specs.declared.types.Value.TheVariants.{Null, Int, Real, Text, Blob}
 use Rattle.sqlite.specs.Order.{Row, column}
-use Rattle.sqlite.specs.Tree.{Trees}
+use Rattle.sqlite.specs.Effect.{Database}
 use Rattle.urb_names.specs.Naming.{Label, Content}
 use Rattle.urb_names.specs.Nodes.{is_node}
 use Rattle.urb_stable.specs.Entries.{Entry}
@@ -97,5 +97,5 @@ ok_or_none (Ok rs) = rs
 ok_or_none (Err bad) = []
 
 -- the records that a journal stands for, or none where some row is no record
-abbrev pub records_of : Trees → List Entry
-records_of db = ok_or_none (read_from journal_limit 1 (rows_in journal_tree db))
+abbrev pub records_of : Database → List Entry
+records_of d = ok_or_none (read_from journal_limit 1 (rows_in (journal_tree d.schema) d.trees))

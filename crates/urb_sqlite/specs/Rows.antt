@@ -3,6 +3,7 @@ use Rattle.std.specs.Prelude.{◌≡◌, IsPermutation, IsSorted, All, ℕ, ◌+
 use Rattle.sqlite.specs.declared.types.Value.TheVariants.{Null, Int, Blob}
 use Rattle.sqlite.specs.Order.{Row, column, value_cmp}
 use Rattle.sqlite.specs.Tree.{Trees}
+use Rattle.sqlite.specs.Effect.{Database}
 use Rattle.std.specs.declared.cmp.Ordering.{Ordering}
 use Rattle.sqlite_keyed.specs.Lists.{sort_by}
 use Rattle.urb_stable.specs.Entries.{Entry, IsEntry}
@@ -95,6 +96,6 @@ pub record IsFirstBad (limit first : ℕ) (rows : List Row) (place : ℕ) : Type
   pub here : place ≡ first + length records
   pub bad : IsNoRecord limit place row
 
--- the table journal stands for these records
-abbrev pub StandsFor : Trees → List Entry → Type 0
-StandsFor db = Spells journal_limit 1 (rows_in journal_tree db)
+-- the table journal of the database stands for these records
+abbrev pub StandsFor : Database → List Entry → Type 0
+StandsFor d = Spells journal_limit 1 (rows_in (journal_tree d.schema) d.trees)

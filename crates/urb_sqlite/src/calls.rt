@@ -52,7 +52,7 @@ pub fn append<S: Alter>(
     ensures ok { IsInStep (state S.Store conn.old) place → OnOk result (IsAppended (state S.Store conn.old) (state S.Store conn.new) place entry.now) }
     ensures err { IsInStep (state S.Store conn.old) place → OnErr result (IsLeft (state S.Store conn.old) (state S.Store conn.new) place) }
     ensures stop { IsInStep (state S.Store conn.old) place → IsHonestJournal (state S.Store conn.old) → HasCleanDisk (state S.Store conn.new)
-        → LeavesOnly (state S.Store conn.new) (λ records. (records ≡ records_of (state S.Store conn.old).now.trees) ⊎ (records ≡ records_of (state S.Store conn.old).now.trees ++ entry.now ∷ [])) }
+        → LeavesOnly (state S.Store conn.new) (λ records. (records ≡ records_of (state S.Store conn.old).now) ⊎ (records ≡ records_of (state S.Store conn.old).now ++ entry.now ∷ [])) }
     ensures rest { IsInStep (state S.Store conn.old) place → IsSafeAtRest (state S.Store conn.new) }
     ensures known { IfErr result (λ e. (e ≡ StoreFault.NoMemory) ⊎ (e ≡ StoreFault.Device)) }
     ensures device { result ≡ Err StoreFault.Device → failures.old < failures.new }
@@ -78,10 +78,10 @@ pub fn read<S: Alter>(
     ensures short { IfOk result (λ records. length records.items < 4294967295) }
     ensures same { HasCleanDisk (state S.Store conn.new) → OnOk result (IsUnchanged (state S.Store conn.old) (state S.Store conn.new)) }
     ensures left { HasCleanDisk (state S.Store conn.new) → IsUnchanged (state S.Store conn.old) (state S.Store conn.new) ⊎ IsRolledBack (state S.Store conn.old) (state S.Store conn.new) }
-    ensures found { HasCleanDisk (state S.Store conn.new) → HasJournal (state S.Store conn.old).now.schema → IfOk result (λ records. StandsFor (state S.Store conn.old).now.trees records.items) }
-    ensures sound { HasCleanDisk (state S.Store conn.new) → HasJournal (state S.Store conn.old).now.schema → (next : ℕ) → IsCounted (state S.Store conn.old).now.trees next → IfErr result (λ e. is_bad_row e ≡ false) }
+    ensures found { HasCleanDisk (state S.Store conn.new) → HasJournal (state S.Store conn.old).now.schema → IfOk result (λ records. StandsFor (state S.Store conn.old).now records.items) }
+    ensures sound { HasCleanDisk (state S.Store conn.new) → HasJournal (state S.Store conn.old).now.schema → (next : ℕ) → IsCounted (state S.Store conn.old).now next → IfErr result (λ e. is_bad_row e ≡ false) }
     ensures bad { HasCleanDisk (state S.Store conn.new) → HasJournal (state S.Store conn.old).now.schema
-        → IfErr result (λ e. (place : ℕ) → e ≡ StoreFault.BadRow place → (rows : _) × IsInOrder journal_tree (state S.Store conn.old).now.trees rows × IsFirstBad journal_limit 1 rows place) }
+        → IfErr result (λ e. (place : ℕ) → e ≡ StoreFault.BadRow place → (rows : _) × IsInOrder (journal_tree (state S.Store conn.old).now.schema) (state S.Store conn.old).now.trees rows × IsFirstBad journal_limit 1 rows place) }
     ensures stop { Survives (state S.Store conn.old) (state S.Store conn.new) (λ _. ⊥) }
     ensures rest { (next : ℕ) → IsInStep (state S.Store conn.old) next → IsSafeAtRest (state S.Store conn.new) }
     ensures live_before { IsLive (state S.Store conn.old) }
@@ -117,7 +117,7 @@ pub fn prepare<S: Alter>(conn: &mut Connection<S>, failures: &mut u64) -> Result
     ensures table { OnOk result (has_table (state S.Store conn.new).now.schema ≡ true) }
     ensures settled { OnOk result (IsTrue (state S.Store conn.new).is_open → (state S.Store conn.new).now ≡ (state S.Store conn.new).committed) }
     ensures fresh { HasCleanDisk (state S.Store conn.new) → (state S.Store conn.old).now.schema ≡ no_schema
-        → OnOk result (HasJournal (state S.Store conn.new).now.schema × ((state S.Store conn.new).now.trees journal_tree ≡ [])) }
+        → OnOk result (HasJournal (state S.Store conn.new).now.schema × ((state S.Store conn.new).now.trees (journal_tree (state S.Store conn.new).now.schema) ≡ [])) }
     ensures found { HasCleanDisk (state S.Store conn.new) → HasJournal (state S.Store conn.old).now.schema → OnOk result (IsUnchanged (state S.Store conn.old) (state S.Store conn.new)) }
     ensures kept { HasCleanDisk (state S.Store conn.new) → HasJournal (state S.Store conn.old).now.schema → KeepsCommit (state S.Store conn.old) (state S.Store conn.new) }
     ensures stop { Survives (state S.Store conn.old) (state S.Store conn.new) (CommitsBy create_text [] (state S.Store conn.old)) }

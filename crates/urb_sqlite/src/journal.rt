@@ -70,13 +70,13 @@ impl<S: Alter> SqlStable<S> {
         // No record is doubtful, and no failure is counted.
         ensures new { IfOk result (λ s. (s.doubtful ≡ false) × (s.failures ≡ 0)) }
         // A database with no table becomes a journal with no record.
-        ensures fresh { IfOk result (λ s. HasCleanDisk (state S.Store s.conn) → (state S.Store conn).now.schema ≡ no_schema → IsHonestJournal (state S.Store s.conn) × (records_of (state S.Store s.conn).now.trees ≡ [])) }
+        ensures fresh { IfOk result (λ s. HasCleanDisk (state S.Store s.conn) → (state S.Store conn).now.schema ≡ no_schema → IsHonestJournal (state S.Store s.conn) × (records_of (state S.Store s.conn).now ≡ [])) }
         // A journal that is there has its records.
         ensures found { IfOk result (λ s. HasCleanDisk (state S.Store s.conn) → HasJournal (state S.Store conn).now.schema
-            → IsHonestJournal (state S.Store s.conn) × StandsFor (state S.Store conn).now.trees (records_of (state S.Store s.conn).now.trees)) }
+            → IsHonestJournal (state S.Store s.conn) × StandsFor (state S.Store conn).now (records_of (state S.Store s.conn).now)) }
         // BadRow names the first row that is no record, and no refusal is Place.
         ensures bad { IfErr result (λ e. HasCleanDisk (state S.Store e.0) → HasJournal (state S.Store conn).now.schema
-            → (place : ℕ) → e.1 ≡ StoreFault.BadRow place → (rows : _) × IsInOrder journal_tree (state S.Store conn).now.trees rows × IsFirstBad journal_limit 1 rows place) }
+            → (place : ℕ) → e.1 ≡ StoreFault.BadRow place → (rows : _) × IsInOrder (journal_tree (state S.Store conn).now.schema) (state S.Store conn).now.trees rows × IsFirstBad journal_limit 1 rows place) }
         ensures rowless { IfErr result (λ e. HasCleanDisk (state S.Store e.0) → (state S.Store conn).now.schema ≡ no_schema → is_bad_row e.1 ≡ false) }
         ensures placed { IfErr result (λ e. is_place e.1 ≡ false) }
         // A journal that is refused keeps its rows.
@@ -127,7 +127,7 @@ impl<S: Alter> Stable for SqlStable<S> {
 
     type Alloc = Global;
 
-    ghost certain = { λ s. records_of (state S.Store s.conn).now.trees };
+    ghost certain = { λ s. records_of (state S.Store s.conn).now };
 
     ghost doubt = { λ _. None };
 

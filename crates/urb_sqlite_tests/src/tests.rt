@@ -118,6 +118,25 @@ fn a_journal_gives_back_what_was_stored(rt: HostRuntime) -> Result<(), Fail> {
 }
 
 #[test]
+fn a_journal_behind_another_table_gives_back_what_was_stored(rt: HostRuntime) -> Result<(), Fail> {
+    let alloc = rt.alloc();
+    let mut conn = Connection::open_in_memory(alloc)?;
+    let _made = change(&mut conn, "CREATE TABLE other(pos INTEGER PRIMARY KEY)")?;
+    let _row = change(&mut conn, "INSERT INTO other VALUES (1)")?;
+    let Ok(mut journal) = adopted(alloc, conn) else {
+        panic!(rt; "not adopted");
+    };
+    let records = two(alloc)?;
+    assert_eq!(rt; stores(&mut journal, &records), 2);
+    let Ok(mut again) = adopted(alloc, journal.into_connection()) else {
+        panic!(rt; "not adopted again");
+    };
+    assert_eq!(rt; again.next(), 3);
+    assert!(rt; holds(alloc, &mut again, &records)?);
+    Ok(())
+}
+
+#[test]
 fn a_position_that_is_not_the_next_is_refused(rt: HostRuntime) -> Result<(), Fail> {
     let alloc = rt.alloc();
     let Ok(mut journal) = adopted(alloc, Connection::open_in_memory(alloc)?) else {

@@ -40,7 +40,7 @@ returns-in-Err-read-clause-rowless g c clean has =
     let mid = state g.S.Store c.prepare.new.conn in
     let new = state g.S.Store c.read.new.conn in
     let made = c.in_default.ensures.fresh (earlier_clean mid new c.read.ensures.stop.clean clean) has in
-    c.in-Err-read.ensures.sound clean made.0 1 (counted_empty mid.now.trees made.1)
+    c.in-Err-read.ensures.sound clean made.0 1 (counted_empty mid.now made.1)
 
 pub returns-in-Ok-clause-table : goal.returns-in-Ok-clause-table
 returns-in-Ok-clause-table g c clean = ap (λ (d : Database). has_table d.schema) (c.in-Ok.ensures.same clean).0.now_is ∙ c.in_default.ensures.table
