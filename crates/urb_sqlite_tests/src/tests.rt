@@ -274,11 +274,26 @@ fn a_payload_is_no_longer_than_its_limit(rt: HostRuntime) -> Result<(), Fail> {
     Ok(())
 }
 
+/// What is no journal although it has the name: other columns, the journal's columns with values of any type, and a view that
+/// gives a record.
+const OTHERS: [&str; 3] = [
+    "CREATE TABLE journal(x INTEGER)",
+    "CREATE TABLE journal(pos INTEGER PRIMARY KEY, kind INTEGER NOT NULL, sender INTEGER NOT NULL, seq INTEGER NOT NULL, client INTEGER NOT NULL, number INTEGER NOT NULL, payload BLOB NOT NULL)",
+    "CREATE VIEW journal AS SELECT 1 AS pos, 1 AS kind, 1 AS sender, 1 AS seq, 7 AS client, 1 AS number, x'61' AS payload",
+];
+
+// What comes of adopting a connection in which SQL made something.
+fn fault_over(alloc: Global, sql: &str) -> Result<Option<StoreFault>, Error> {
+    let mut conn = Connection::open_in_memory(alloc)?;
+    let _made = change(&mut conn, sql)?;
+    Ok(adopted(alloc, conn).err())
+}
+
 #[test]
 fn another_table_of_that_name_is_a_fault_of_the_device(rt: HostRuntime) -> Result<(), Fail> {
-    let mut conn = Connection::open_in_memory(rt.alloc())?;
-    let _made = change(&mut conn, "CREATE TABLE journal(x INTEGER)")?;
-    assert_eq!(rt; adopted(rt.alloc(), conn).err(), Some(StoreFault::Device));
+    for sql in OTHERS {
+        assert_eq!(rt; fault_over(rt.alloc(), sql)?, Some(StoreFault::Device));
+    }
     Ok(())
 }
 

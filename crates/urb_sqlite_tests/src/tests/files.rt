@@ -151,6 +151,11 @@ fn a_damaged_file_is_refused_and_left_as_it_was(rt: HostRuntime) -> Result<(), F
         );
         let after = fs::read(&rt, "urb_sqlite_damaged/node-1.db")?;
         assert!(rt; before.as_slice() == after.as_slice(), "after {sql}");
+        assert_eq!(rt;
+            SqlStable::open(&rt, "urb_sqlite_damaged/node-1.db").err(),
+            Some(fault),
+            "again after {sql}"
+        );
     }
     fs::remove_dir_all(&rt, "urb_sqlite_damaged")?;
     Ok(())
