@@ -3,11 +3,12 @@
 //   load KIND PORT CLIENTS SECONDS [PAYLOAD] [CLIENT]
 //
 // KIND  submit   urbd's SUBMIT, each thread with a client number of its own, from CLIENT on
-//       read     urbd's READ of 8 entries from place 1
+//       read     urbd's READ of 8 entries from place 1 (fewer come where payloads are over 8,178 bytes)
 //       visible  SUBMIT at PORT, then READ at PORT .. PORT + CLIENTS - 1 until each shows the entry; one thread
 //       xadd     redis' XADD of one field
 //       xrange   redis' XRANGE of 8 entries from the beginning
 //
+// PAYLOAD is 0 to 16384 bytes (16), as many as a message may have, and CLIENT the first number of a client (1000).
 // Prints operations a second, the median and the 99th percentile in microseconds, and how many were refused.
 #define _GNU_SOURCE
 #include <arpa/inet.h>
@@ -21,7 +22,7 @@
 #include <time.h>
 #include <unistd.h>
 
-enum { MOST_CLIENTS = 256, MOST_TIMES = 4000000, ROOM = 70000 };
+enum { MOST_CLIENTS = 256, MOST_TIMES = 4000000, LONGEST = 16384, ROOM = 70000 };
 
 static const char *kind;
 static int port, clients, payload_length = 16, first_client = 1000;
@@ -216,7 +217,7 @@ int main(int count, char **words) {
   kind = words[1], port = atoi(words[2]), clients = atoi(words[3]), seconds = atof(words[4]);
   if (count > 5) payload_length = atoi(words[5]);
   if (count > 6) first_client = atoi(words[6]);
-  if (clients < 1 || clients > MOST_CLIENTS || payload_length < 0 || payload_length > 60000) return 2;
+  if (clients < 1 || clients > MOST_CLIENTS || payload_length < 0 || payload_length > LONGEST) return 2;
   memset(payload, 'x', payload_length);
   int is_visible = !strcmp(kind, "visible"), threads = is_visible ? 1 : clients;
   struct session *sessions = calloc(threads, sizeof *sessions);

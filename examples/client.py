@@ -13,6 +13,7 @@ from collections import namedtuple
 
 Entry = namedtuple("Entry", "sender seq client number payload")
 AGAIN = {1, 3, 4, 11, 15, 16}  # refusals after which the same submit may be accepted
+LONGEST = 16384  # bytes of a payload
 
 
 class Refused(Exception):
@@ -57,6 +58,8 @@ class Node:
 
     def submit(self, client, number, payload, pause=0.02, tries=500):
         """Submits until the message is accepted: what isn't answered is submitted again, under the same number."""
+        if len(payload) > LONGEST:
+            raise Refused(5, 0)  # as a node answers; it isn't sent
         for left in range(tries, 0, -1):
             try:
                 opcode, fields = self.ask(struct.pack(">BHI", 1, client, number) + payload)
@@ -68,7 +71,7 @@ class Node:
             time.sleep(pause)
 
     def read(self, place, most=8):
-        """The entries from this place on, at most so many."""
+        """The entries from this place on, at most so many, and fewer where a frame has no room for more."""
         opcode, fields = self.ask(struct.pack(">BIB", 2, place, most))
         assert opcode == 0x82, f"opcode {opcode:02x}"
         entries, at = [], 1
@@ -80,13 +83,10 @@ class Node:
 
     def log(self, place, follow=False, pause=0.05):
         """Each entry from this place on; to the end of today, or for ever."""
-        while True:
-            page = self.read(place)
+        while (page := self.read(place)) or follow:
             yield from page
             place += len(page)
             if not page:
-                if not follow:
-                    return
                 time.sleep(pause)
 
 

@@ -19,7 +19,9 @@ DONE, CRASH, RESTART = 0x84, b"\x04", b"\x05"
 
 
 def payload_of(node, number):
-    return b"%d of %d " % (number, node) * (1 + number % 50)
+    """Mostly some hundred bytes; each fiftieth has 16,384, the most that a payload may."""
+    text = b"%d of %d " % (number, node)
+    return (text * 16384)[:16384] if number % 50 == 0 else text * (1 + number % 50)
 
 
 def submit(daemon, node, accepted, end):

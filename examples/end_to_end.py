@@ -46,7 +46,9 @@ class Client(threading.Thread):
 
 
 def payload_of(client, message):
-    return b"%d:%d" % (client, message) * (1 + message % 5)
+    """Mostly a few bytes; each hundredth has 16,384, the most that a payload may."""
+    text = b"%d:%d" % (client, message)
+    return (text * 16384)[:16384] if message % 100 == 0 else text * (1 + message % 5)
 
 
 def same_again(daemon, accepted):

@@ -21,6 +21,10 @@ SUBMIT = bytes.fromhex("0009010007000000016869")
 CUT = bytes.fromhex("0006ee1300000005")
 BAD_LENGTH = bytes.fromhex("0006ee1300000001")
 PACKET = bytes.fromhex("55420101020100000001000700000001000161")
+LONGEST = 16384  # bytes of a payload
+LONG_PACKET = bytes.fromhex("5542020102000100000001000700000001") + struct.pack(">H", LONGEST)
+# every length to twice that of version 1, those round the longest packet and round what a node reads, and the greatest of a datagram
+LENGTHS = (*range(2101), *range(16_380, 16_660), 65_507)
 
 
 def connect(port):
@@ -62,11 +66,12 @@ def cut_frames(daemon):
 
 def bad_frames(daemon):
     session = daemon.session(1)
-    for body, code in ((b"\x09", 2), (b"\x00", 2), (b"\xff" * 1200, 2), (b"\x01\x00\x07", 3), (b"\x02", 3), (b"\x03x", 3), (b"\x02" + bytes(5), 4)):
+    for body, code in ((b"\x09", 2), (b"\x00", 2), (b"\xff" * 16600, 2), (b"\x01\x00\x07", 3), (b"\x02", 3), (b"\x03x", 3), (b"\x02" + bytes(5), 4)):
         assert session.ask(body) == struct.pack(">BBI", 0xEE, 19, code), body
-    assert session.ask(b"\x01" + struct.pack(">HI", 900, 1) + b"x" * 1100) == struct.pack(">BBI", 0xEE, 5, 0)
+    for length in (LONGEST + 1, 16593):
+        assert session.ask(b"\x01" + struct.pack(">HI", 900, 1) + b"x" * length) == struct.pack(">BBI", 0xEE, 5, 0)
     session.close()
-    for length in (0, 1201, 65535):
+    for length in (0, 16601, 65535):
         connection = connect(daemon.base + 11)
         connection.sendall(struct.pack(">H", length))
         assert until_closed(connection) == BAD_LENGTH
@@ -117,13 +122,14 @@ def resets(daemon):
 
 
 def datagrams(daemon):
-    """Datagrams of all lengths, random ones and ones that begin as packets."""
+    """Datagrams of many lengths, random ones and ones that begin as packets of either version."""
     sender = socket.socket(socket.AF_INET, socket.SOCK_DGRAM)
-    for length in range(2101):
+    for length in LENGTHS:
+        noise = os.urandom(length)
         for node in (1, 2, 3):
-            for payload in (os.urandom(length), (PACKET + os.urandom(2100))[:length]):
-                sender.sendto(payload, ("127.0.0.1", daemon.base + node))
-        if length % 50 == 0:
+            for bytes_of in (noise, (PACKET + noise)[:length], (LONG_PACKET + noise)[:length]):
+                sender.sendto(bytes_of, ("127.0.0.1", daemon.base + node))
+        if length % 50 == 0 or length > 16_000:
             time.sleep(0.01)
     for node in (1, 2, 3):
         serves(daemon, 904, 1, node)
@@ -203,8 +209,7 @@ def is_refused(program, folder, base, text, what):
 
 def change(path, statement):
     connection = sqlite3.connect(path)
-    connection.execute(statement)
-    connection.commit()
+    connection.executescript(statement)
     connection.close()
 
 
@@ -235,8 +240,11 @@ def refused_openings(program, folder, base):
     serves(daemon, 901, 1)
     daemon.stop()
     damages = (
-        ("UPDATE journal SET kind = 4 WHERE pos = 1", b"refused 17 1", "a row that is no record"),
-        ("DELETE FROM journal", b"refused 14 0", "a journal without its records"),
+        ("UPDATE journal2 SET kind = 4 WHERE pos = 1", b"refused 17 1", "a row that is no record"),
+        ("UPDATE journal2 SET payload = zeroblob(16385) WHERE pos = 1", b"refused 17 1", "a payload that is too long"),
+        ("INSERT INTO journal SELECT * FROM journal2 WHERE pos = 1", b"refused 17 2", "a place that stands in both tables"),
+        ("DROP TABLE journal2; CREATE TABLE journal2(x INTEGER)", b"refused 15 0", "another table of that name"),
+        ("DELETE FROM journal2", b"refused 14 0", "a journal without its records"),
         (None, b"refused 15 0", "a file that is no database"),
     )
     for statement, text, what in damages:

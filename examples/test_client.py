@@ -10,7 +10,9 @@ import sys
 import threading
 import time
 
-from client import Node, Refused
+from client import LONGEST, Node, Refused
+
+GREATEST_FRAME = 65535
 
 
 def frame(body):
@@ -71,11 +73,14 @@ class MadeUp(threading.Thread):
     def read(self, body):
         place, most = struct.unpack(">IB", body[1:])
         page = self.log[place - 1:place - 1 + most]
-        answer = struct.pack(">BB", 0x82, len(page))
+        count, entries = 0, b""
         for seq, (client, payload) in enumerate(page, place):
             number = sum(1 for c, _ in self.log[:seq] if c == client)
-            answer += struct.pack(">BIHIH", 1, seq, client, number, len(payload)) + payload
-        return answer
+            entry = struct.pack(">BIHIH", 1, seq, client, number, len(payload)) + payload
+            if 2 + len(entries) + len(entry) > GREATEST_FRAME:
+                break
+            count, entries = count + 1, entries + entry
+        return struct.pack(">BB", 0x82, count) + entries
 
 
 def refusal(call):
@@ -84,6 +89,17 @@ def refusal(call):
     except Refused as refused:
         return refused.number, refused.detail
     return None
+
+
+def long_ones(node, client, number, place):
+    """Five of the longest messages, the first of which comes to this place: a page has room for three of them."""
+    payloads = [bytes([each]) * LONGEST for each in range(number, number + 5)]
+    for each, payload in enumerate(payloads, number):
+        node.submit(client, each, payload)
+    whole = node.log(place, follow=True)
+    assert [next(whole).payload for _ in payloads] == payloads
+    assert [len(node.read(at)) for at in range(place, place + 6)] == [3, 3, 3, 2, 1, 0]
+    assert [entry.payload for entry in node.read(place, 2)] == payloads[:2]
 
 
 def over_trouble():
@@ -100,13 +116,15 @@ def over_trouble():
     assert [entry.seq for entry in log] == list(range(1, 21))
     assert log[0] == (1, 1, 7, 1, b"hi") and log[1].payload == b"" and log[19].payload == b"\x14" * 18
     assert list(node.log(20)) == log[19:] and list(node.log(21)) == []
+    assert refusal(lambda: node.submit(7, 21, bytes(LONGEST + 1))) == (5, 0)
+    long_ones(node, 7, 21, 21)
     made_up.troubles = [99]
     assert refusal(lambda: node.read(1)) == (99, 0)
     late = threading.Timer(0.2, lambda: Node(made_up.port).submit(8, 1, b"late"))
-    following = node.log(20, follow=True, pause=0.01)
+    following = node.log(25, follow=True, pause=0.01)
     node.close()
     late.start()
-    assert next(following) == log[19] and next(following).payload == b"late"
+    assert next(following).payload == b"\x19" * LONGEST and next(following).payload == b"late"
 
 
 def over_a_group(port, other):
@@ -116,7 +134,7 @@ def over_a_group(port, other):
     assert [first.submit(7, number, text) for number, text in enumerate(texts, 1)] == seqs, "a repeat keeps its name"
     assert refusal(lambda: first.submit(7, 1, b"another")) == (6, 0)
     assert refusal(lambda: first.submit(7, 99, b"too far"))[0] == 7
-    assert refusal(lambda: first.submit(7, 31, b"x" * 1025)) == (5, 0)
+    assert refusal(lambda: first.ask(struct.pack(">BHI", 1, 7, 31) + bytes(LONGEST + 1))) == (5, 0)
     assert second.submit(7, 1, b"at another node"), "each node numbers on its own"
     for node in (first, second):
         seen = []
@@ -127,6 +145,7 @@ def over_a_group(port, other):
         sent = [entry for entry in seen if entry.client == 7 and entry.payload.startswith(b"message")]
         assert [entry.payload for entry in sent] == texts and [entry.seq for entry in sent] == seqs
         assert list(node.log(3)) == seen[2:]
+    long_ones(first, 7, len(texts) + 1, len(texts) + 2)
 
 
 if __name__ == "__main__":

@@ -8,4 +8,5 @@ pub mod Progress
 pub mod RequestLaws
 pub mod ResponseLaws
 mod Limits
+pub mod Paging
 mod Received

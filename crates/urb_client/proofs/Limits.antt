@@ -5,22 +5,13 @@ use Rattle.std.proofs.lemmas.List.{take_all, take_more}
 use Rattle.std.proofs.lemmas.List.Elements.{All-push, recursion_from_All}
 use Rattle.urb_names.specs.Naming.{Label, Content}
 use Rattle.urb_client.specs.declared.format.TheConstants.{LONGEST_FRAME}
-use Rattle.urb_client.specs.Responses.{Said, Accepted, Listing, Status, Done, Refused, IsEntry, IsSaid, entry_bytes, entry_head, response_body}
-
--- entries take so many bytes at most: thirteen each before their payloads
-entries_fit : (entries : List (Label × Content)) → AllByRecursion IsEntry entries → length (flat_map entry_bytes entries) ≤ 1037 * length entries
-entries_fit [] are = omega arith
-entries_fit (entry ∷ entries) are =
-    let head : length (entry_head entry.0 entry.1) ≡ 13 = refl in
-    let first : length (entry_bytes entry) ≡ length (entry_head entry.0 entry.1) + length entry.1.payload = length-append (entry_head entry.0 entry.1) entry.1.payload in
-    let whole : length (flat_map entry_bytes (entry ∷ entries)) ≡ length (entry_bytes entry) + length (flat_map entry_bytes entries) = length-append (entry_bytes entry) (flat_map entry_bytes entries) in
-    let others : length (flat_map entry_bytes entries) ≤ 1037 * length entries = entries_fit entries are.1 in
-    omega (arith, whole, first, head, others, are.0.1.payload)
+use Rattle.urb_client.specs.Listings.{IsEntry, entry_bytes, entry_head}
+use Rattle.urb_client.specs.Responses.{Said, Accepted, Listing, Status, Done, Refused, IsSaid, response_body}
 
 -- a response fits in a frame
 pub said_fits : (said : Said) → IsSaid said → length (response_body said) ≤ LONGEST_FRAME
 said_fits (Accepted seq) is = omega arith
-said_fits (Listing entries) is = omega (arith, entries_fit entries is.1, is.0)
+said_fits (Listing entries) is = is.2
 said_fits (Status state own logged) is = omega arith
 said_fits Done is = omega arith
 said_fits (Refused number detail) is = omega arith

@@ -2,6 +2,7 @@
 use Rattle.std.proofs.Common.{◌≡◌, ℕ, ◌^◌, ◌<◌, ◌≤◌, List, [], ◌∷◌, ◌++◌, length, take, drop, Ok, Err, refl, sym, ap, subst, ◌∙◌, arith, inl, inr, length-append, take_at, drop_at}
 use Rattle.std.proofs.lemmas.Option.{same_Some}
 use Rattle.byteorder.specs.Endian.{big_bytes}
+use Rattle.urb_client.specs.declared.format.TheConstants.{LONGEST_REQUEST}
 use Rattle.urb_client.specs.declared.sessions.Ended.{Ended}
 use Rattle.urb_client.specs.declared.sessions.Ended.TheVariants.{Closed, BadFrame}
 use Rattle.urb_client.specs.Responses.{frame}
@@ -16,7 +17,7 @@ one_length m n x y bytes m_fits n_fits p q =
     (ap (λ (r : ℕ × List ℕ). r.0) same, ap (λ (r : ℕ × List ℕ). r.1) same)
 
 -- bytes begin with one frame
-one_frame : (a b x y bytes : List ℕ) → length a ≤ 1200 → length b ≤ 1200 → bytes ≡ frame a ++ x → bytes ≡ frame b ++ y → (a ≡ b) × (x ≡ y)
+one_frame : (a b x y bytes : List ℕ) → length a ≤ LONGEST_REQUEST → length b ≤ LONGEST_REQUEST → bytes ≡ frame a ++ x → bytes ≡ frame b ++ y → (a ≡ b) × (x ≡ y)
 one_frame a b x y bytes a_short b_short p q =
     let same = one_length (length a) (length b) (a ++ x) (b ++ y) bytes (omega (arith, a_short)) (omega (arith, b_short)) p q in (
       sym (take_at a x (length a) refl) ∙ ap (take (length a)) same.1 ∙ take_at b y (length a) (sym same.0),
@@ -38,7 +39,7 @@ not_both bytes rest bad (inr cut) =
     elim bad.3 [ inl none ↦ omega (arith, same.0, none, cut.3) | inr long ↦ omega (arith, same.0, long, cut.4) ]
 
 -- bytes that end a session begin with no frame
-no_more : (bytes : List ℕ) (ended : Ended) (last : List Event) (left body mid : List ℕ) → Ends bytes ended last left → 0 < length body → length body ≤ 1200 → bytes ≡ frame body ++ mid → ⊥
+no_more : (bytes : List ℕ) (ended : Ended) (last : List Event) (left body mid : List ℕ) → Ends bytes ended last left → 0 < length body → length body ≤ LONGEST_REQUEST → bytes ≡ frame body ++ mid → ⊥
 no_more bytes Closed last left body mid e some small p = absurd (omega (arith, ap length (sym e.0 ∙ p)))
 no_more bytes BadFrame last left body mid (code, inl bad, is) some small p =
     let same = one_length (length body) bad.0.0 (body ++ mid) left bytes (omega (arith, small)) bad.0.2 p bad.0.1 in

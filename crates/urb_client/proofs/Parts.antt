@@ -9,7 +9,8 @@ use Rattle.byteorder.specs.Endian.{big_number, big_bytes}
 use Rattle.byteorder.specs.Numbers.{big_number-reads_back, big_from-lt}
 use Rattle.urb_names.specs.Naming.{Label, Content, IsLabel, IsContent}
 use Rattle.urb_names.specs.Nodes.{is_node}
-use Rattle.urb_client.specs.Responses.{entry_bytes, IsEntry}
+use Rattle.urb_names.specs.declared.message.TheConstants.{MAX_PAYLOAD}
+use Rattle.urb_client.specs.Listings.{entry_bytes, IsEntry}
 use Rattle.urb_client.specs.Reading.{◌>>=◌, byte_at, number_at, name_at, message_at, entry_at}
 
 -- a list of bytes
@@ -137,7 +138,7 @@ message_bytes m = big_bytes 2 m.client ++ (big_bytes 4 m.number ++ (big_bytes 2 
 message_takes : (bytes : List ℕ) (x : Content × List ℕ) → IsBytes bytes → message_at bytes ≡ Some x → Takes bytes (message_bytes x.0) x.1 × IsContent x.0
 unfolding message_at
 message_takes bytes x fits e =
-    let test : ℕ → ℕ → ℕ → List ℕ → Bool = λ client number size rest. (nat_lt 0 client && nat_lt 0 number) && (nat_le size 1024 && nat_le size (length rest)) in
+    let test : ℕ → ℕ → ℕ → List ℕ → Bool = λ client number size rest. (nat_lt 0 client && nat_lt 0 number) && (nat_le size MAX_PAYLOAD && nat_le size (length rest)) in
     let made : ℕ → ℕ → ℕ → List ℕ → Content × List ℕ = λ client number size rest. (record { client = client; number = number; payload = take size rest }, drop size rest) in
     let a = bind_some (number_at 2 bytes) (λ client. number_at 4 client.1 >>= λ number. number_at 2 number.1 >>= λ size. cond (test client.0 number.0 size.0 size.1) (Some (made client.0 number.0 size.0 size.1)) None) x e in
     let b = bind_some (number_at 4 a.0.1) (λ number. number_at 2 number.1 >>= λ size. cond (test a.0.0 number.0 size.0 size.1) (Some (made a.0.0 number.0 size.0 size.1)) None) x a.2 in
@@ -167,7 +168,7 @@ message_again m rest is =
     let client = number_again 2 (2 ^ 16) two m.client (big_bytes 4 m.number ++ (big_bytes 2 (length m.payload) ++ (m.payload ++ rest))) is.client.1 in
     let number = number_again 4 (2 ^ 32) four m.number (big_bytes 2 (length m.payload) ++ (m.payload ++ rest)) is.number.1 in
     let size = number_again 2 (2 ^ 16) two (length m.payload) (m.payload ++ rest) (omega (arith, is.payload)) in
-    let tests : ((nat_lt 0 m.client && nat_lt 0 m.number) && (nat_le (length m.payload) 1024 && nat_le (length m.payload) (length (m.payload ++ rest)))) ≡ true =
+    let tests : ((nat_lt 0 m.client && nat_lt 0 m.number) && (nat_le (length m.payload) MAX_PAYLOAD && nat_le (length m.payload) (length (m.payload ++ rest)))) ≡ true =
     and_from _ _ (and_from _ _ (lt-ltb _ _ is.client.0) (lt-ltb _ _ is.number.0)) (and_from _ _ (le-leb _ _ is.payload) (le-leb _ _ (omega (arith, length-append m.payload rest)))) in
     rw (client, number, size, tests, take_at m.payload rest (length m.payload) refl, drop_at m.payload rest (length m.payload) refl) refl
 

@@ -8,6 +8,7 @@ use Rattle.byteorder.specs.Endian.{big_number, big_bytes}
 use Rattle.urb_client.specs.Responses.{frame}
 use Rattle.urb_client.specs.Sessions.{IsBroken, PartRead, ReadsUnder}
 use Rattle.urb_client.proofs.Parts.{IsBytes, two}
+use Rattle.urb_client.specs.declared.format.TheConstants.{LONGEST_REQUEST}
 
 -- two bytes are the length that they say
 pub two_bytes : (bytes : List ℕ) → IsBytes bytes → length bytes ≡ 2 → bytes ≡ big_bytes 2 (big_number 2 bytes)
@@ -27,13 +28,13 @@ pub record Length (bytes : List ℕ) (got n : ℕ) : Type 0 where
 spelled : (bytes : List ℕ) (got n : ℕ) → Length bytes got n → take got bytes ≡ big_bytes 2 n
 spelled bytes got n t = take_all got bytes (omega (arith, t.two, t.within, t.some, t.more)) ∙ t.says
 
-pub bad_length : (known left : Option (List ℕ)) (bytes : List ℕ) (got n : ℕ) → Length bytes got n → Consumes known left (take got bytes) → (n ≡ 0) ⊎ (1200 < n)
+pub bad_length : (known left : Option (List ℕ)) (bytes : List ℕ) (got n : ℕ) → Length bytes got n → Consumes known left (take got bytes) → (n ≡ 0) ⊎ (LONGEST_REQUEST < n)
     → IfSome known (λ all. IsSomeAnd left (IsBroken all 1))
 bad_length None left bytes got n t c bad = tt
 bad_length (Some all) (Some rest) bytes got n t c bad = inl ((n, c ∙ ap (λ (front : List ℕ). front ++ rest) (spelled bytes got n t), t.below, bad), refl)
 bad_length (Some all) None bytes got n t c bad = absurd c
 
-pub cut_inside : (known mid left : Option (List ℕ)) (bytes body : List ℕ) (got n part : ℕ) → Length bytes got n → Consumes known mid (take got bytes) → Consumes mid left (take part body) → IsAtEnd left → n ≢ 0 → n ≤ 1200 → part < n
+pub cut_inside : (known mid left : Option (List ℕ)) (bytes body : List ℕ) (got n part : ℕ) → Length bytes got n → Consumes known mid (take got bytes) → Consumes mid left (take part body) → IsAtEnd left → n ≢ 0 → n ≤ LONGEST_REQUEST → part < n
     → IfSome known (λ all. IsSomeAnd left (IsBroken all 5))
 cut_inside None mid left bytes body got n part t c d e some small short = tt
 cut_inside (Some all) None left bytes body got n part t c d e some small short = absurd c
@@ -49,7 +50,7 @@ whole_frame known mid left bytes body got n part after t c d all len =
     rw same (rw len (subst (λ (front : List ℕ). Consumes known left (front ++ body)) (spelled bytes got n t) (Consumes-trans _ _ _ _ _ c read)))
 
 -- the reader fails behind a length
-pub part_inside : (known mid left : Option (List ℕ)) (bytes : List ℕ) (got n : ℕ) → Length bytes got n → Consumes known mid (take got bytes) → n ≢ 0 → n ≤ 1200 → ReadsUnder n mid left → PartRead known left
+pub part_inside : (known mid left : Option (List ℕ)) (bytes : List ℕ) (got n : ℕ) → Length bytes got n → Consumes known mid (take got bytes) → n ≢ 0 → n ≤ LONGEST_REQUEST → ReadsUnder n mid left → PartRead known left
 part_inside None mid left bytes got n t c some small under = tt
 part_inside (Some all) None left bytes got n t c some small under = absurd c
 part_inside (Some all) (Some rest) None bytes got n t c some small under = absurd under.1

@@ -3,6 +3,7 @@ use Rattle.std.proofs.Common.{◌≡◌, ◌≢◌, ℕ, ◌<◌, ◌≤◌, Lis
 use Rattle.std.specs.Prelude.{IfSome, IsSomeAnd}
 use Rattle.std.specs.Io.KnownBytes.{Consumes, Appends, IsAtEnd}
 use Rattle.std.proofs.KnownBytes.{Appends-trans}
+use Rattle.urb_client.specs.declared.format.TheConstants.{LONGEST_REQUEST}
 use Rattle.urb_client.specs.declared.sessions.Ended.TheVariants.{Closed, BadFrame}
 use Rattle.urb_client.specs.declared.sessions.SessionFault.{SessionFault}
 use Rattle.urb_client.specs.declared.sessions.SessionFault.TheVariants as fault
@@ -15,7 +16,7 @@ module _ {S : Type 0} (answers : S → Asked → Said → S → Type 0) where
   abbrev pub Going : Option (List ℕ) → Option (List ℕ) → S → S → Option (List ℕ) → Option (List ℕ) → Type 0
   Going from known old new before after = IfSome from (λ input. IsSomeAnd known (λ rest. Served answers input rest old new before after))
 
-  Begins_more : (bytes : List ℕ) (events : List Event) (rest body mid : List ℕ) (event : Event) → Begins bytes events rest → 0 < length body → length body ≤ 1200 → rest ≡ frame body ++ mid → Says body event
+  Begins_more : (bytes : List ℕ) (events : List Event) (rest body mid : List ℕ) (event : Event) → Begins bytes events rest → 0 < length body → length body ≤ LONGEST_REQUEST → rest ≡ frame body ++ mid → Says body event
       → Begins bytes (events ++ event ∷ []) mid
   Begins_more bytes [] rest body mid event b some small e s = (body, mid, some, small, b ∙ e, s, refl)
   Begins_more bytes (first ∷ events) rest body mid event b some small e s =
@@ -40,7 +41,7 @@ module _ {S : Type 0} (answers : S → Asked → Said → S → Type 0) where
       (r.0 ++ encoding (Refused 19 code), ap (λ (out : List ℕ). out ++ encoding (Refused 19 code)) r.1 ∙ append_assoc (encoding (Refused 19 first)) r.0 (encoding (Refused 19 code)), Replies_fault old new events r.0 code r.2)
 
   more : (input bytes rest : List ℕ) (old mid new : S) (before after later : Option (List ℕ)) (body : List ℕ) (said : Said) (read : Result Asked ℕ) → request_of body ≡ read
-      → Served answers input bytes old mid before after → bytes ≡ frame body ++ rest → 0 < length body → length body ≤ 1200 → Answers answers mid read said new → Appends after later (encoding said)
+      → Served answers input bytes old mid before after → bytes ≡ frame body ++ rest → 0 < length body → length body ≤ LONGEST_REQUEST → Answers answers mid read said new → Appends after later (encoding said)
       → Served answers input rest old new before later
   more input bytes rest old mid new before after later body said (Ok asked) is p c some small a w = record {
     events = p.events ++ Asks asked ∷ [];
@@ -59,7 +60,7 @@ module _ {S : Type 0} (answers : S → Asked → Said → S → Type 0) where
 
   -- one more frame is answered
   pub one_more : (from : Option (List ℕ)) (old mid new : S) (before after later known left : Option (List ℕ)) (body : List ℕ) (said : Said)
-      → Going from known old mid before after → Consumes known left (frame body) → 0 < length body → length body ≤ 1200 → Answers answers mid (request_of body) said new → Appends after later (encoding said)
+      → Going from known old mid before after → Consumes known left (frame body) → 0 < length body → length body ≤ LONGEST_REQUEST → Answers answers mid (request_of body) said new → Appends after later (encoding said)
       → Going from left old new before later
   one_more None old mid new before after later known left body said p c some small a w = tt
   one_more (Some input) old mid new before after later None left body said p c some small a w = absurd p
@@ -126,7 +127,7 @@ is_event body (Ok asked) e = (Asks asked, e)
 is_event body (Err code) e = (Fault code, e)
 
 -- a whole frame is taken
-pub whole_taken : (known left : Option (List ℕ)) (body : List ℕ) → Consumes known left (frame body) → 0 < length body → length body ≤ 1200 → IfSome known (λ bytes. IsSomeAnd left (TakesFrame bytes))
+pub whole_taken : (known left : Option (List ℕ)) (body : List ℕ) → Consumes known left (frame body) → 0 < length body → length body ≤ LONGEST_REQUEST → IfSome known (λ bytes. IsSomeAnd left (TakesFrame bytes))
 whole_taken None left body c some small = tt
 whole_taken (Some bytes) None body c some small = absurd c
 whole_taken (Some bytes) (Some rest) body c some small =

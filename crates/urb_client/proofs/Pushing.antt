@@ -3,7 +3,7 @@ use Rattle.std.proofs.Common.{◌≡◌, ℕ, suc, ◌+◌, ◌<◌, List, ◌�
 use Rattle.std.specs.List.{flat_map}
 use Rattle.std.proofs.lemmas.List.Concat.{flat_map-cons}
 use Rattle.urb_names.specs.Naming.{Label, Content}
-use Rattle.urb_client.specs.Responses.{entry_bytes}
+use Rattle.urb_client.specs.Listings.{entry_bytes}
 
 -- one more entry is pushed
 pub one_more : (old new whole : List ℕ) (entries : List (Label × Content)) (i : ℕ) (entry : Label × Content) → i < length entries → entry ≡ get_or entries i entry → new ≡ old ++ entry_bytes entry

@@ -9,9 +9,11 @@ use Rattle.std.proofs.lemmas.List.Concat.{flat_map-cons}
 use Rattle.std.proofs.lemmas.Option.{cond_some, same_Some}
 use Rattle.byteorder.specs.Endian.{big_bytes}
 use Rattle.urb_names.specs.Naming.{Label, Content}
+use Rattle.urb_client.specs.declared.format.TheConstants.{LONGEST_FRAME}
 use Rattle.urb_client.specs.declared.response.NodeState.{NodeState}
 use Rattle.urb_client.specs.declared.response.NodeState.TheVariants as state
-use Rattle.urb_client.specs.Responses.{Said, Accepted, Listing, Status, Done, Refused, IsSaid, IsEntry, entry_bytes, state_byte, response_body}
+use Rattle.urb_client.specs.Listings.{IsEntry, entry_bytes}
+use Rattle.urb_client.specs.Responses.{Said, Accepted, Listing, Status, Done, Refused, IsSaid, state_byte, response_body}
 use Rattle.urb_client.specs.Reading.{◌>>=◌, byte_at, number_at, entry_at, entries_at, state_of, at_end, accepted_of, entries_of, status_of, refused_of, said_of}
 use Rattle.urb_client.proofs.Parts.{IsBytes, IsBytes-rest, Takes, Takes-then, bind_some, by_test, four, number_takes, number_again, byte_takes, entry_takes, entry_again}
 
@@ -39,6 +41,10 @@ entries_again (entry ∷ entries) rest fits =
     ap (λ (x : List ℕ). x ++ rest) (flat_map-cons entry_bytes entry entries) ∙ append_assoc (entry_bytes entry) (flat_map entry_bytes entries) rest in
     ap (entries_at (suc (length entries))) regrouped ∙ rw (entry_again entry (flat_map entry_bytes entries ++ rest) fits.0, entries_again entries rest fits.1) refl
 
+-- entries that nothing is behind are as long as they are spelled
+pub entries_length : (n : ℕ) (bytes : List ℕ) (x : List (Label × Content) × List ℕ) → IsBytes bytes → entries_at n bytes ≡ Some x → length x.1 ≡ 0 → length (flat_map entry_bytes x.0) ≤ length bytes
+entries_length n bytes x fits e none = let parts = (entries_take n bytes x fits e).0.parts in rw (parts, nil_from_length x.1 none) (rw (append-nil (flat_map entry_bytes x.0)) (omega arith))
+
 -- nothing is left behind a response
 ended : (said other : Said) (rest : List ℕ) → at_end said rest ≡ Some other → (rest ≡ []) × (said ≡ other)
 ended said other rest e =
@@ -61,9 +67,9 @@ accepted_takes fields said fits e =
     let end = ended (Accepted a.0.0) said a.0.1 a.2 in
     subst (Spells fields 129) end.1 (record { is = t.1; bytes = ap (λ (r : List ℕ). 129 ∷ r) (number_ends fields a.0 t.0 end.0) })
 
-entries_takes : (fields : List ℕ) (said : Said) → IsBytes fields → entries_of fields ≡ Some said → Spells fields 130 said
+entries_takes : (fields : List ℕ) (said : Said) → length fields < LONGEST_FRAME → IsBytes fields → entries_of fields ≡ Some said → Spells fields 130 said
 unfolding entries_of
-entries_takes fields said fits e =
+entries_takes fields said short fits e =
     let a = bind_some (byte_at fields) (λ count. cond (nat_lt 8 count.0) None (entries_at count.0 count.1) >>= λ entries. at_end (Listing entries.0) entries.1) said e in
     let b = bind_some (cond (nat_lt 8 a.0.0) None (entries_at a.0.0 a.0.1)) (λ entries. at_end (Listing entries.0) entries.1) said a.2 in
     let count = byte_takes fields a.0 fits a.1 in
@@ -72,7 +78,7 @@ entries_takes fields said fits e =
     let end = ended (Listing b.0.0) said b.0.1 b.2 in
     let left : a.0.1 ≡ flat_map entry_bytes b.0.0 = t.0.parts ∙ ap (λ (r : List ℕ). flat_map entry_bytes b.0.0 ++ r) end.0 ∙ append-nil (flat_map entry_bytes b.0.0) in
     let all : fields ≡ length b.0.0 ∷ flat_map entry_bytes b.0.0 = count.0.parts ∙ ap (λ (r : List ℕ). a.0.0 ∷ r) left ∙ ap (λ (n : ℕ). n ∷ flat_map entry_bytes b.0.0) (sym t.1) in
-    subst (Spells fields 130) end.1 (record { is = (omega (arith, t.1, ltb-false _ _ few.0), t.2); bytes = ap (λ (r : List ℕ). 130 ∷ r) all })
+    subst (Spells fields 130) end.1 (record { is = (omega (arith, t.1, ltb-false _ _ few.0), t.2, omega (arith, short, ap length all)); bytes = ap (λ (r : List ℕ). 130 ∷ r) all })
   where
     not_over : {A : Type 0} (b : Bool) (r : Option A) (y : A) → cond b None r ≡ Some y → (b ≡ false) × (r ≡ Some y)
     not_over true r y e = absurd cc
@@ -122,14 +128,14 @@ refused_takes fields said fits e =
     let all : fields ≡ a.0.0 ∷ big_bytes 4 b.0.0 = number.0.parts ∙ ap (λ (r : List ℕ). a.0.0 ∷ r) (number_ends a.0.1 b.0 detail.0 end.0) in
     subst (Spells fields 238) end.1 (record { is = (number.1, detail.1); bytes = ap (λ (r : List ℕ). 238 ∷ r) all })
 
-pub said_takes : (bytes : List ℕ) (said : Said) → IsBytes bytes → said_of bytes ≡ Some said → IsSaid said × (bytes ≡ response_body said)
-said_takes [] said fits e = absurd cc
-said_takes (opcode ∷ fields) said fits e =
+pub said_takes : (bytes : List ℕ) (said : Said) → length bytes ≤ LONGEST_FRAME → IsBytes bytes → said_of bytes ≡ Some said → IsSaid said × (bytes ≡ response_body said)
+said_takes [] said short fits e = absurd cc
+said_takes (opcode ∷ fields) said short fits e =
     let rest = IsBytes-rest opcode fields fits in
     let P : Type 0 = IsSaid said × (opcode ∷ fields ≡ response_body said) in
     let from : (n : ℕ) → (opcode == n) ≡ true → Spells fields n said → P = λ n same s. (s.is, ap (λ (b : ℕ). b ∷ fields) (eqb-true opcode n same) ∙ s.bytes) in
     by_test (opcode == 129) _ _ (Some said) P e (λ same h. from 129 same (accepted_takes fields said rest h))
-    (λ e. by_test (opcode == 130) _ _ (Some said) P e (λ same h. from 130 same (entries_takes fields said rest h))
+    (λ e. by_test (opcode == 130) _ _ (Some said) P e (λ same h. from 130 same (entries_takes fields said (omega (arith, short)) rest h))
     (λ e. by_test (opcode == 131) _ _ (Some said) P e (λ same h. from 131 same (status_takes fields said rest h))
     (λ e. by_test (opcode == 132) _ _ (Some said) P e (λ same h. from 132 same (done_takes fields said h))
     (λ e. by_test (opcode == 238) _ _ (Some said) P e (λ same h. from 238 same (refused_takes fields said rest h))
@@ -169,11 +175,11 @@ said_again (Status state own logged) is = status_again state own logged is.0 is.
 said_again Done is = refl
 said_again (Refused number detail) is = refused_again number detail is.1
 
-pub is_found : {A E : Type 0} (view : A → Said) (bytes : List ℕ) (read : Result (Option A) E) → IsBytes bytes → IfOk read (λ r. option_map view r ≡ said_of bytes)
+pub is_found : {A E : Type 0} (view : A → Said) (bytes : List ℕ) (read : Result (Option A) E) → length bytes ≤ LONGEST_FRAME → IsBytes bytes → IfOk read (λ r. option_map view r ≡ said_of bytes)
     → IfOk read (λ r. IfSome r (λ response. IsSaid (view response) × (bytes ≡ response_body (view response))))
-is_found view bytes (Ok None) fits e = tt
-is_found view bytes (Ok (Some response)) fits e = said_takes bytes (view response) fits (sym e)
-is_found view bytes (Err fault) fits e = tt
+is_found view bytes (Ok None) short fits e = tt
+is_found view bytes (Ok (Some response)) short fits e = said_takes bytes (view response) short fits (sym e)
+is_found view bytes (Err fault) short fits e = tt
 
 pub is_only : {A E : Type 0} (view : A → Said) (bytes : List ℕ) (read : Result (Option A) E) → IfOk read (λ r. option_map view r ≡ said_of bytes)
     → IfOk read (λ r. (said : Said) → IsSaid said → bytes ≡ response_body said → option_map view r ≡ Some said)

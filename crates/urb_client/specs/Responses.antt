@@ -1,13 +1,14 @@
 -- The bytes of a response frame.
 use Rattle.std.specs.Prelude.{◌≡◌, ℕ, ◌<◌, ◌≤◌, ◌^◌, List, [], ◌∷◌, ◌++◌, length}
-use Rattle.std.specs.List.{flat_map, AllByRecursion}
+use Rattle.std.specs.List.{AllByRecursion}
 use Rattle.byteorder.specs.Endian.{big_bytes}
-use Rattle.urb_names.specs.Naming.{Label, Content, IsLabel, IsContent}
+use Rattle.urb_names.specs.Naming.{Label, Content}
+use Rattle.urb_client.specs.Listings.{IsEntry, listing_body}
 use Rattle.urb_client.specs.declared.response.NodeState.{NodeState}
 use Rattle.urb_client.specs.declared.response.NodeState.TheVariants.{Down, Ready, Storing}
 use Rattle.urb_client.specs.declared.response.Response.{Response}
 use Rattle.urb_client.specs.declared.response.Response.TheVariants as code
-use Rattle.urb_client.specs.declared.format.TheConstants.{MOST_ENTRIES, SAY_ACCEPTED, SAY_ENTRIES, SAY_STATUS, SAY_DONE, SAY_REFUSED}
+use Rattle.urb_client.specs.declared.format.TheConstants.{LONGEST_FRAME, MOST_ENTRIES, SAY_ACCEPTED, SAY_ENTRIES, SAY_STATUS, SAY_DONE, SAY_REFUSED}
 
 -- what a client is answered, wherever it lies in memory: the number that its message got, entries of the log, the node's state with how many messages it has sent and logged, that it is done, or a refusal's number and detail
 pub data Said : Type 0 where
@@ -25,39 +26,27 @@ said_by (code.Status state own logged) = Status state own logged
 said_by code.Done = Done
 said_by (code.Refused number detail) = Refused number detail
 
--- an entry of a log: a name and its message
-abbrev pub IsEntry : Label × Content → Type 0
-IsEntry entry = IsLabel entry.0 × IsContent entry.1
-
--- a response's values: numbers that their fields hold, and at most eight entries
-abbrev pub IsSaid : Said → Type 0
-IsSaid (Accepted seq) = seq < 2 ^ 32
-IsSaid (Listing entries) = (length entries ≤ MOST_ENTRIES) × AllByRecursion IsEntry entries
-IsSaid (Status state own logged) = (own < 2 ^ 32) × (logged < 2 ^ 32)
-IsSaid Done = Unit {0}
-IsSaid (Refused number detail) = (number < 2 ^ 8) × (detail < 2 ^ 32)
-
 -- the byte of a state
 abbrev pub state_byte : NodeState → ℕ
 state_byte Down = 0
 state_byte Ready = 1
 state_byte Storing = 2
 
--- an entry before its payload: its name, the client, the number, and how long the payload is
-abbrev pub entry_head : Label → Content → List ℕ
-entry_head name m = name.sender ∷ (big_bytes 4 name.seq ++ (big_bytes 2 m.client ++ (big_bytes 4 m.number ++ big_bytes 2 (length m.payload))))
-
--- the bytes of an entry
-abbrev pub entry_bytes : Label × Content → List ℕ
-entry_bytes entry = entry_head entry.0 entry.1 ++ entry.1.payload
-
 -- the one spelling of a response, after its length: the opcode, and the fields in order
 abbrev pub response_body : Said → List ℕ
 response_body (Accepted seq) = SAY_ACCEPTED ∷ big_bytes 4 seq
-response_body (Listing entries) = SAY_ENTRIES ∷ length entries ∷ flat_map entry_bytes entries
+response_body (Listing entries) = listing_body entries
 response_body (Status state own logged) = SAY_STATUS ∷ state_byte state ∷ (big_bytes 4 own ++ big_bytes 4 logged)
 response_body Done = SAY_DONE ∷ []
 response_body (Refused number detail) = SAY_REFUSED ∷ number ∷ big_bytes 4 detail
+
+-- a response's values: numbers that their fields hold, and at most eight entries, which a frame has room for
+abbrev pub IsSaid : Said → Type 0
+IsSaid (Accepted seq) = seq < 2 ^ 32
+IsSaid (Listing entries) = (length entries ≤ MOST_ENTRIES) × AllByRecursion IsEntry entries × (length (listing_body entries) ≤ LONGEST_FRAME)
+IsSaid (Status state own logged) = (own < 2 ^ 32) × (logged < 2 ^ 32)
+IsSaid Done = Unit {0}
+IsSaid (Refused number detail) = (number < 2 ^ 8) × (detail < 2 ^ 32)
 
 -- the bytes begin with the opcode of entries
 abbrev pub IsListing : List ℕ → Type 0

@@ -1,7 +1,7 @@
 //! The numbers of the format: lengths, opcodes, and the codes of faults.
 
 /// The greatest length that a request's frame may have.
-pub const LONGEST_REQUEST: usize = 1200;
+pub const LONGEST_REQUEST: usize = 16_600;
 
 /// The greatest length that a frame can have: its two bytes say no more.
 pub const LONGEST_FRAME: usize = 65_535;
@@ -14,6 +14,9 @@ pub const SUBMIT_HEAD: usize = 6;
 
 /// The bytes of a read after its opcode: a place, and how many entries at most.
 pub const READ_FIELDS: usize = 5;
+
+/// The bytes of entries before the first of them: the opcode, and their count.
+pub const LISTING_HEAD: usize = 2;
 
 /// The bytes of an entry before its payload.
 pub const ENTRY_HEAD: usize = 13;

@@ -12,12 +12,14 @@
 
 mod format;
 mod input;
+mod pages;
 mod reading;
 mod receiving;
 mod request;
 mod response;
 mod sessions;
 
+pub use pages::one_page_after_another;
 pub use reading::parse_response;
 pub use receiving::{ResponseFault, read_response};
 pub use request::{Request, encode_request, parse_request};

@@ -5,7 +5,9 @@ ghost use Rattle.std.specs.Option.{option_map};
 ghost use Rattle.urb_client.specs.Responses.{Said, IsSaid, IsListing, response_body, said_by};
 ghost use Rattle.urb_client.specs.Reading.{byte_at, number_at, name_at, message_at, entry_at, entries_at, state_of, accepted_of, entries_of, status_of, refused_of, said_of, at_end};
 
-use crate::format::{MOST_ENTRIES, SAY_ACCEPTED, SAY_DONE, SAY_ENTRIES, SAY_REFUSED, SAY_STATUS};
+use crate::format::{
+    LONGEST_FRAME, MOST_ENTRIES, SAY_ACCEPTED, SAY_DONE, SAY_ENTRIES, SAY_REFUSED, SAY_STATUS,
+};
 use crate::{Entries, NodeState, Response};
 use byteorder::{BigEndian, ByteOrder};
 use std::alloc::Allocator;
@@ -121,6 +123,7 @@ fn list_of<A: Allocator + Copy>(
 
 #[tactic(auto, unfolding(crate::specs::Reading::entries_of))]
 fn page_of<A: Allocator + Copy>(alloc: A, fields: &[u8]) -> Result<Option<Response<A>>, NoMemory>
+    requires { length fields.now < LONGEST_FRAME }
     ensures { IfOk result (λ read. option_map said_by read ≡ entries_of fields.now) }
 {
     let Some((count, rest)) = u8_at(fields) else {
@@ -135,7 +138,7 @@ fn page_of<A: Allocator + Copy>(alloc: A, fields: &[u8]) -> Result<Option<Respon
     if !rest.is_empty() {
         return Ok(None);
     }
-    Ok(Some(Response::entries(entries)?))
+    Ok(Some(Response::Entries(Entries::of(entries))))
 }
 
 fn state_of(byte: u8) -> Option<NodeState>
@@ -187,6 +190,7 @@ fn at_end<A: Allocator>(response: Response<A>, left: &[u8]) -> Option<Response<A
 }
 
 fn response_of<A: Allocator + Copy>(alloc: A, bytes: &[u8]) -> Result<Option<Response<A>>, NoMemory>
+    requires { length bytes.now ≤ LONGEST_FRAME }
     ensures read { IfOk result (λ read. option_map said_by read ≡ said_of bytes.now) }
     ensures memory { OnErr result (IsListing bytes.now) }
 {
@@ -213,5 +217,8 @@ pub fn parse_response<A: Allocator + Copy>(
     // Entries alone take memory.
     ensures memory { OnErr result (IsListing bytes.now) }
 {
+    if LONGEST_FRAME < bytes.len() {
+        return Ok(None);
+    }
     response_of(alloc, bytes)
 }

@@ -110,7 +110,7 @@ fn alone<A: Allocator>(request: Request<A>, fields: &[u8]) -> Result<Request<A>,
 }
 
 /// The whole frame of a request, for a client to send. Its place is from 1, its `max` 1 to 8, and its payload
-/// has at most 1,024 bytes.
+/// has at most 16,384 bytes.
 pub fn encode_request<A: Allocator>(alloc: A, request: &Request<A>) -> Result<Vec<u8, A>, NoMemory>
     requires values { IsAsked (asked_by request.now) }
     requires short { IsShort (asked_by request.now) }

@@ -2,18 +2,21 @@
 
 ghost use Rattle.std.specs.Prelude.{◌≡◌, ◌≤◌, ◌++◌, length, IfOk, OnOk};
 ghost use Rattle.std.specs.List.{All, flat_map};
-ghost use Rattle.urb_client.specs.Responses.{IsEntry, IsSaid, Listing, encoding, response_body, entry_bytes, entry_head, state_byte, said_by};
+ghost use Rattle.urb_client.specs.Pages.{SaysPage};
+ghost use Rattle.urb_client.specs.Listings.{IsEntry, entry_bytes, entry_head, listing_body};
+ghost use Rattle.urb_client.specs.Responses.{IsSaid, Listing, encoding, response_body, state_byte, said_by};
 
 use crate::format::{
     ENTRY_HEAD, LONGEST_FRAME, MOST_ENTRIES, SAY_ACCEPTED, SAY_DONE, SAY_ENTRIES, SAY_REFUSED,
     SAY_STATUS,
 };
+use crate::pages::longest_beginning;
 use byteorder::{BigEndian, ByteOrder};
 use std::alloc::{Allocator, Global};
 use std::marker::Model;
 use urb_names::{Message, Name, NoMemory, Refusal};
 
-/// At most 8 entries of a log, in its order: each a name and its message.
+/// At most 8 entries of a log, in its order, as many as a frame has room for: each a name and its message.
 #[derive(Drop)]
 #[derive_where(Debug)]
 pub struct Entries<A: Allocator = Global> {
@@ -21,22 +24,33 @@ pub struct Entries<A: Allocator = Global> {
 }
 
 impl<A: Allocator> Model for Entries<A> {
-    ghost use Rattle.std.specs.Prelude.{◌≤◌, List, vec_len};
+    ghost use Rattle.std.specs.Prelude.{◌≤◌, List, length, vec_len};
     ghost use Rattle.urb_names.specs.Naming.{Label, Content};
-    ghost use Rattle.urb_client.specs.declared.format.TheConstants.{MOST_ENTRIES};
+    ghost use Rattle.urb_client.specs.Listings.{listing_body};
+    ghost use Rattle.urb_client.specs.declared.format.TheConstants.{LONGEST_FRAME, MOST_ENTRIES};
 
     ghost Value = { List (Label × Content) };
 
     ghost view = { λ a. a.entries.items };
 
-    ghost invariant = { λ a. vec_len a.entries ≤ MOST_ENTRIES };
+    ghost invariant = { λ a. (vec_len a.entries ≤ MOST_ENTRIES) × (length (listing_body a.entries.items) ≤ LONGEST_FRAME) };
 }
 
 impl<A: Allocator> Entries<A> {
+    // These entries.
+    pub(crate) fn of(entries: Vec<(Name, Message<A>), A>) -> Entries<A>
+        requires limit { length entries.items ≤ MOST_ENTRIES }
+        requires room { length (listing_body entries.items) ≤ LONGEST_FRAME }
+        ensures { result ≡ entries.items }
+    {
+        Entries { entries }
+    }
+
     /// The entries, in the order of the log.
     pub fn as_slice(&self) -> &[(Name, Message<A>)]
         ensures value { result.now ≡ self.now }
         ensures limit { length self.now ≤ MOST_ENTRIES }
+        ensures room { length (listing_body self.now) ≤ LONGEST_FRAME }
     {
         self.entries.as_slice()
     }
@@ -97,12 +111,17 @@ impl<A: Allocator> Response<A> {
     ghost use Rattle.urb_names.specs.Refusing.{number_of, detail_of};
     ghost use Rattle.urb_client.specs.Responses.{Refused};
 
-    /// The response with these entries. It moves them and takes no memory.
-    pub fn entries(entries: Vec<(Name, Message<A>), A>) -> Result<Response<A>, NoMemory>
-        requires { vec_len entries ≤ MOST_ENTRIES }
-        ensures { IsOkAnd result (λ response. said_by response ≡ Listing entries.items) }
+    /// The response to a read, of a page of at most 8 entries: it lists as many of them, from the first on, as a frame
+    /// has room for. It moves these and takes no memory. A page that isn't empty has at least one: a client that reads on
+    /// behind them gets every entry once (`one_page_after_another`).
+    pub fn entries(page: Vec<(Name, Message<A>), A>) -> Result<Response<A>, NoMemory>
+        requires { vec_len page ≤ MOST_ENTRIES }
+        ensures { IsOkAnd result (λ response. SaysPage page.items (said_by response)) }
     {
-        Ok(Response::Entries(Entries { entries }))
+        let count = longest_beginning(&page);
+        let mut entries = page;
+        entries.truncate(count);
+        Ok(Response::Entries(Entries::of(entries)))
     }
 
     /// The response to a request that was refused.

@@ -203,7 +203,7 @@ fn an_input_that_ends_inside_a_frame_is_refused(rt: HostRuntime) -> Result<(), F
 fn each_fault_of_a_frame_has_its_code(rt: HostRuntime) -> Result<(), Fail> {
     let faults: [(&[u8], u8); 15] = [
         (b"\x00\x00", 1),
-        (b"\x04\xb1", 1),
+        (b"\x40\xd9", 1),
         (b"\xff\xff\x03", 1),
         (b"\x00\x01\x00", 2),
         (b"\x00\x01\x06", 2),
@@ -236,11 +236,37 @@ fn each_fault_of_a_frame_has_its_code(rt: HostRuntime) -> Result<(), Fail> {
     Ok(())
 }
 
+/// How many entries the desk answers to a read from a place on.
+fn count_from(desk: &mut OneNode<Global>, place: u32) -> Result<usize, Fail> {
+    if place == 0 {
+        Err("places are counted from 1")?;
+    }
+    match desk.answer(&Request::Read { place, max: 8 })? {
+        Response::Entries(entries) => Ok(entries.as_slice().len()),
+        _ => Err("entries")?,
+    }
+}
+
+#[test]
+fn a_reader_goes_on_behind_what_a_frame_had_room_for(rt: HostRuntime) -> Result<(), Fail> {
+    let mut desk = OneNode::new(rt.alloc()).ok_or("node 1")?;
+    let client = ClientId::new(7).ok_or("client 7")?;
+    let payload = Vec::from_elem(rt.alloc(), b'x', 16384)?;
+    for number in 1..9 {
+        let told = desk.submit(client, number, &payload)?;
+        assert!(rt; matches!(told, Response::Accepted(_)), "number {number}");
+    }
+    for (place, count) in [(1, 3), (4, 3), (7, 2), (9, 0)] {
+        assert_eq!(rt; count_from(&mut desk, place)?, count, "place {place}");
+    }
+    Ok(())
+}
+
 #[test]
 fn a_long_payload_and_number_zero_are_passed_on(rt: HostRuntime) -> Result<(), Fail> {
     let mut frame = Vec::new(rt.alloc());
-    frame.extend_from_slice(b"\x04\xb0\x01\x00\x07\x00\x00\x00\x01")?;
-    frame.extend_from_slice(&[b'x'; 1193])?;
+    frame.extend_from_slice(b"\x40\xd8\x01\x00\x07\x00\x00\x00\x01")?;
+    frame.extend_from_slice(Vec::from_elem(rt.alloc(), b'x', 16593)?.as_slice())?;
     frame.extend_from_slice(b"\x00\x07\x01\x00\x07\x00\x00\x00\x00")?;
     let mut input = frame.as_slice();
     let mut output = Vec::new(rt.alloc());

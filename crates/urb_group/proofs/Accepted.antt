@@ -15,6 +15,7 @@ use Rattle.urb_names.specs.Names.{name, same_message, same_name}
 use Rattle.urb_names.specs.Naming.{Content, Label}
 use Rattle.urb_names.specs.Nodes.{is_node}
 use Rattle.urb_names.specs.Pairs.{has_pair, is_numbered, message_of, next_number}
+use Rattle.urb_names.specs.declared.message.TheConstants.{MAX_PAYLOAD}
 use Rattle.urb_node.specs.Part.{Down, Node, Ready, State, Storing}
 use Rattle.urb_node.specs.Replies.{Done, Refused, Reply, Same, Stored}
 use Rattle.urb_node.specs.Steps.{commits, done, is_accepted, is_down, is_storing, keeps_record, next_position, same_record, submits, submits_by_number}
@@ -75,7 +76,7 @@ module _ (w : World) (kept : NodesKept w) (p : ℕ) (m : Content) (x : Label) wh
       cond_both (is_node w.size.n p) (world_after w p (submits w.size p m node)) (Refused refusal.BadNode, w) (λ o. o.0 ≡ Same (Accepted x) → HasStored w p x m)
       (λ _. cond_both (is_down node.state) _ _ OnlyStored (λ _ f. cc)
       (λ _. cond_both (is_storing node.state) _ _ OnlyStored (λ _ f. cc)
-      (λ _. cond_both (nat_lt 1024 (length m.payload)) _ _ OnlyStored (λ _ f. cc)
+      (λ _. cond_both (nat_lt MAX_PAYLOAD (length m.payload)) _ _ OnlyStored (λ _ f. cc)
       (λ _. by_number (find test node.broadcast) refl))))
       (λ _ f. cc)
 

@@ -11,6 +11,7 @@ use Rattle.urb_names.specs.Naming.{Content, Label, Limits}
 use Rattle.urb_names.specs.Nodes.{is_node}
 use Rattle.urb_names.specs.Pairs.{is_numbered, next_number}
 use Rattle.urb_names.specs.declared.flags.Flags.{Flags}
+use Rattle.urb_names.specs.declared.message.TheConstants.{MAX_PAYLOAD}
 use Rattle.urb_names.specs.declared.refusal.PacketFault.{PacketFault}
 use Rattle.urb_names.specs.declared.refusal.Refusal.{Refusal}
 use Rattle.urb_names.specs.declared.refusal.Refusal.TheVariants as refusal
@@ -101,7 +102,7 @@ submit-calm : (size : Limits) (p : ℕ) (m : Content) (node : Node) → Calm nod
 submit-calm size p m node =
     cond_both (is_down node.state) _ _ (Calm node) (λ _. tt)
     (λ _. cond_both (is_storing node.state) _ _ (Calm node) (λ _. tt)
-    (λ e. cond_both (nat_lt 1024 (length m.payload)) _ _ (Calm node) (λ _. tt)
+    (λ e. cond_both (nat_lt MAX_PAYLOAD (length m.payload)) _ _ (Calm node) (λ _. tt)
     (λ _. submits-calm size p m (find (is_numbered m.client m.number) node.broadcast) node e)))
 
 arrive-calm : (size : Limits) (p q : ℕ) (x : Label) (m : Content) (flags : Option Flags) (node : Node) → is_storing node.state ≡ false → Calm node (arrives size p q x m flags node)

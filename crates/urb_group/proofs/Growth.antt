@@ -17,6 +17,7 @@ use Rattle.urb_names.specs.Nodes.{is_node}
 use Rattle.urb_names.specs.Pairs.{has_pair, is_numbered, next_number}
 use Rattle.urb_names.specs.Release.{beginning, released}
 use Rattle.urb_names.specs.declared.flags.Flags.{Flags}
+use Rattle.urb_names.specs.declared.message.TheConstants.{MAX_PAYLOAD}
 use Rattle.urb_names.specs.declared.refusal.PacketFault.{PacketFault}
 use Rattle.urb_node.specs.Part.{Down, Node, Ready, State, Storing}
 use Rattle.urb_node.specs.Replies.{Refused, Reply}
@@ -87,7 +88,7 @@ submit-extends : (size : Limits) (p : ℕ) (m : Content) (node : Node) → Goes 
 submit-extends size p m node =
     cond_both (is_down node.state) _ _ (Goes node) (λ _. stays node node refl refl)
     (λ _. cond_both (is_storing node.state) _ _ (Goes node) (λ _. stays node node refl refl)
-    (λ _. cond_both (nat_lt 1024 (length m.payload)) _ _ (Goes node) (λ _. stays node node refl refl)
+    (λ _. cond_both (nat_lt MAX_PAYLOAD (length m.payload)) _ _ (Goes node) (λ _. stays node node refl refl)
     (λ _. submits-extends size p m (find (is_numbered m.client m.number) node.broadcast) node)))
 
 arrive-extends : (size : Limits) (p q : ℕ) (x : Label) (m : Content) (flags : Option Flags) (node : Node) → Goes node (arrives size p q x m flags node)

@@ -10,6 +10,7 @@ use Rattle.urb_names.specs.Naming.{Content, Label, Limits}
 use Rattle.urb_names.specs.Nodes.{majority_passes}
 use Rattle.urb_names.specs.Pairs.{has_pair, is_numbered, message_of, next_number}
 use Rattle.urb_names.specs.declared.flags.Flags.{Flags}
+use Rattle.urb_names.specs.declared.message.TheConstants.{MAX_PAYLOAD}
 use Rattle.urb_node.specs.Part.{Down, Node, Ready, State, Storing, opened_node, packet_from}
 use Rattle.urb_node.specs.Replies.{Reply}
 use Rattle.urb_node.specs.Steps.{acks_after, answers, arrives, broadcast_after, commits, counts, crashes, doubt, drafts, fails, heard_after, heard_of, hears, is_down, is_storing, keeps_record, next_position, restarts, same_record, says, submits, submits_by_number, ticks, with_cause, with_heard}
@@ -76,7 +77,7 @@ module _ (size : Limits) (images : ℕ → List Entry) (p : ℕ) where
   live-submits m node h =
       cond_both (is_down node.state) _ _ (LeadsLive size.n images p) (λ _. h)
       (λ up. cond_both (is_storing node.state) _ _ (LeadsLive size.n images p) (λ _. h)
-      (λ _. cond_both (nat_lt 1024 (length m.payload)) _ _ (LeadsLive size.n images p) (λ _. h)
+      (λ _. cond_both (nat_lt MAX_PAYLOAD (length m.payload)) _ _ (LeadsLive size.n images p) (λ _. h)
       (λ _. by_number up (find (is_numbered m.client m.number) node.broadcast))))
     where
       alone : (size.n == 1) ≡ false → size.n ≡ 1 → ⊥

@@ -10,6 +10,7 @@ use Rattle.urb_names.specs.Naming.{Content, Label, Limits}
 use Rattle.urb_names.specs.Nodes.{is_node}
 use Rattle.urb_names.specs.Pairs.{is_numbered, next_number}
 use Rattle.urb_names.specs.declared.flags.Flags.{Flags}
+use Rattle.urb_names.specs.declared.message.TheConstants.{MAX_PAYLOAD}
 use Rattle.urb_names.specs.declared.refusal.PacketFault.{PacketFault}
 use Rattle.urb_names.specs.declared.refusal.Refusal.{Refusal}
 use Rattle.urb_node.specs.Part.{Down, Node, Ready, State, Storing}
@@ -38,7 +39,7 @@ submit-quiet : (size : Limits) (p : ℕ) (m : Content) (node : Node) → Quiet n
 submit-quiet size p m node =
     cond_both (is_down node.state) _ _ (Quiet node) (λ _ r e. refl)
     (λ _. cond_both (is_storing node.state) _ _ (Quiet node) (λ _ r e. refl)
-    (λ _. cond_both (nat_lt 1024 (length m.payload)) _ _ (Quiet node) (λ _ r e. refl)
+    (λ _. cond_both (nat_lt MAX_PAYLOAD (length m.payload)) _ _ (Quiet node) (λ _ r e. refl)
     (λ _. submits-new size p m (find (is_numbered m.client m.number) node.broadcast) node)))
 
 arrive-quiet : (size : Limits) (p q : ℕ) (x : Label) (m : Content) (flags : Option Flags) (node : Node) → Quiet node (arrives size p q x m flags node)

@@ -16,6 +16,7 @@ use Rattle.urb_names.specs.Naming.{Content, Label, Limits}
 use Rattle.urb_names.specs.Nodes.{is_node}
 use Rattle.urb_names.specs.Pairs.{has_pair, is_numbered, next_number}
 use Rattle.urb_names.specs.declared.flags.Flags.{Flags}
+use Rattle.urb_names.specs.declared.message.TheConstants.{MAX_PAYLOAD}
 use Rattle.urb_names.specs.declared.refusal.PacketFault.{PacketFault}
 use Rattle.urb_node.specs.Part.{Down, Node, Ready, State, Storing}
 use Rattle.urb_node.specs.Replies.{Refused, Reply}
@@ -35,13 +36,13 @@ short-append xs ys h k x m e =
     ⊎_elim (λ f. h x m f) (λ f. k x m f) (has_pair-cases (pend xs) (pend ys) x m (subst (λ (ps : List (Label × Content)). has_pair ps x m ≡ true) (pend-append xs ys) e))
 
 -- one pair
-short-pair : (x : Label) (m : Content) → length m.payload ≤ 1024 → AreShort ((x, m) ∷ [])
-short-pair x m h y o e = ⊎_elim (λ f. subst (λ (v : Content). length v.payload ≤ 1024) f.1 h) (λ f. absurd (false≢true f)) (has_pair-first (x, m) [] y o e)
+short-pair : (x : Label) (m : Content) → length m.payload ≤ MAX_PAYLOAD → AreShort ((x, m) ∷ [])
+short-pair x m h y o e = ⊎_elim (λ f. subst (λ (v : Content). length v.payload ≤ MAX_PAYLOAD) f.1 h) (λ f. absurd (false≢true f)) (has_pair-first (x, m) [] y o e)
 
-short-pend : (x : Label) (m : Content) → length m.payload ≤ 1024 → DoubtShort (Some (Pend x m))
+short-pend : (x : Label) (m : Content) → length m.payload ≤ MAX_PAYLOAD → DoubtShort (Some (Pend x m))
 short-pend x m h = short-pair x m h
 
-short-certified : (x : Label) (m : Content) → length m.payload ≤ 1024 → DoubtShort (Some (PendCert x m))
+short-certified : (x : Label) (m : Content) → length m.payload ≤ MAX_PAYLOAD → DoubtShort (Some (PendCert x m))
 short-certified x m h = short-pair x m h
 
 short-cert : (x : Label) → DoubtShort (Some (Cert x))
@@ -75,7 +76,7 @@ joins node new r e f g h =
       doubtful = subst (λ (d : Option Entry). DoubtShort d) (sym g) tt;
     }
 
-number-short : (size : Limits) (p : ℕ) (m : Content) (o : Option Content) (node : Node) → length m.payload ≤ 1024 → Keeps node (submits_by_number size p m o node)
+number-short : (size : Limits) (p : ℕ) (m : Content) (o : Option Content) (node : Node) → length m.payload ≤ MAX_PAYLOAD → Keeps node (submits_by_number size p m o node)
 number-short size p m None node l =
     cond_both (not (m.number == next_number m.client node.broadcast)) _ _ (Keeps node) (λ _ h. h)
     (λ _. cond_both (not (nat_lt (length node.broadcast) size.cap)) _ _ (Keeps node) (λ _ h. h)
@@ -88,10 +89,10 @@ submit-short : (size : Limits) (p : ℕ) (m : Content) (node : Node) → Keeps n
 submit-short size p m node =
     cond_both (is_down node.state) _ _ (Keeps node) (λ _ h. h)
     (λ _. cond_both (is_storing node.state) _ _ (Keeps node) (λ _ h. h)
-    (λ _. cond_both (nat_lt 1024 (length m.payload)) _ _ (Keeps node) (λ _ h. h)
-    (λ l. number-short size p m (find (is_numbered m.client m.number) node.broadcast) node (ltb-false 1024 (length m.payload) l))))
+    (λ _. cond_both (nat_lt MAX_PAYLOAD (length m.payload)) _ _ (Keeps node) (λ _ h. h)
+    (λ l. number-short size p m (find (is_numbered m.client m.number) node.broadcast) node (ltb-false MAX_PAYLOAD (length m.payload) l))))
 
-arrive-short : (size : Limits) (p q : ℕ) (x : Label) (m : Content) (flags : Option Flags) (node : Node) → length m.payload ≤ 1024 → Keeps node (arrives size p q x m flags node)
+arrive-short : (size : Limits) (p q : ℕ) (x : Label) (m : Content) (flags : Option Flags) (node : Node) → length m.payload ≤ MAX_PAYLOAD → Keeps node (arrives size p q x m flags node)
 arrive-short size p q x m flags node l =
     arrive-cases (Keeps node) size p q x m flags node (λ cause. holds node (Pend x m) cause (short-pend x m l)) (λ cause. holds node (PendCert x m) cause (short-certified x m l))
     (λ acks heard cause h. record { stored = h.stored; doubtful = short-cert x }) (λ acks heard told h. stays node (told_node node acks heard) refl refl h)

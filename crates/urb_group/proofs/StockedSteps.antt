@@ -11,6 +11,7 @@ use Rattle.urb_names.specs.Naming.{Content, Label, Limits}
 use Rattle.urb_names.specs.Nodes.{is_node}
 use Rattle.urb_names.specs.Pairs.{is_numbered, next_number}
 use Rattle.urb_names.specs.declared.flags.Flags.{Flags}
+use Rattle.urb_names.specs.declared.message.TheConstants.{MAX_PAYLOAD}
 use Rattle.urb_names.specs.declared.refusal.PacketFault.{PacketFault}
 use Rattle.urb_names.specs.declared.refusal.Refusal.TheVariants as refusal
 use Rattle.urb_node.specs.Part.{Down, Node, Ready, State, Storing}
@@ -53,7 +54,7 @@ submit-stays : (size : Limits) (p : ℕ) (m : Content) (node : Node) → Leaves 
 submit-stays size p m node =
     cond_both (is_down node.state) _ _ (Leaves node) (λ _. same node)
     (λ d. cond_both (is_storing node.state) _ _ (Leaves node) (λ _. same node)
-    (λ e. cond_both (nat_lt 1024 (length m.payload)) _ _ (Leaves node) (λ _. same node)
+    (λ e. cond_both (nat_lt MAX_PAYLOAD (length m.payload)) _ _ (Leaves node) (λ _. same node)
     (λ _. submits-stay size p m (find (is_numbered m.client m.number) node.broadcast) node d e)))
 
 arrive-stays : (size : Limits) (p q : ℕ) (x : Label) (m : Content) (flags : Option Flags) (node : Node) → is_down node.state ≡ false → is_storing node.state ≡ false → Leaves node (arrives size p q x m flags node)

@@ -19,6 +19,7 @@ use Rattle.urb_names.specs.Names.{name}
 use Rattle.urb_names.specs.Naming.{Content, Label, Limits}
 use Rattle.urb_names.specs.Nodes.{is_node}
 use Rattle.urb_names.specs.Pairs.{has_pair, is_numbered, message_of, own}
+use Rattle.urb_names.specs.declared.message.TheConstants.{MAX_PAYLOAD}
 use Rattle.urb_node.specs.Part.{Down, Node, Ready, State, Storing, opened_node}
 use Rattle.urb_node.specs.Replies.{Reply, Same}
 use Rattle.urb_node.specs.Steps.{doubt, submits_by_number}
@@ -73,12 +74,12 @@ own_place ms i m e n p size node b =
     ∙ (ap (λ (o : Reply × Node). o.0) (cond-true (bytes_eq m.payload m.payload) _ _ ((bytes_eq-Decides m.payload m.payload).1 refl))
     ∙ ap (λ (k : ℕ). Same (Accepted (name p (suc k)))) (ap (position_or_len (is_numbered m.client m.number)) b ∙ f.1))
 
-pub accepted-again : (size : Limits) (images : ℕ → List Entry) → AllKept size images → (p : ℕ) (x : Label) (m : Content) → is_node size.n p ≡ true → x.sender ≡ p → length m.payload ≤ 1024
+pub accepted-again : (size : Limits) (images : ℕ → List Entry) → AllKept size images → (p : ℕ) (x : Label) (m : Content) → is_node size.n p ≡ true → x.sender ≡ p → length m.payload ≤ MAX_PAYLOAD
     → has_pair (pend (images p)) x m ≡ true → (step (opened size images) (Submit p m)).0 ≡ Same (Accepted x)
 unfolding step
 accepted-again size images all p x m is e short h =
     ap (λ (o : Reply × World). o.0) (cond-true (is_node size.n p) _ _ is)
-    ∙ (ap (λ (o : Reply × Node). o.0) (cond-false (nat_lt 1024 (length m.payload)) _ _ (le-ltb 1024 (length m.payload) short))
+    ∙ (ap (λ (o : Reply × Node). o.0) (cond-false (nat_lt MAX_PAYLOAD (length m.payload)) _ _ (le-ltb MAX_PAYLOAD (length m.payload) short))
     ∙ (own_place (own p (pend (images p))) at.0 m found (kept-numbers size images p (images p) (all p)) p size (opened_node p (images p)) refl
     ∙ ap (λ y. Same (Accepted y)) (sym same)))
   where

@@ -12,6 +12,7 @@ use Rattle.urb_names.specs.Naming.{Content, Label, Limits}
 use Rattle.urb_names.specs.Nodes.{is_node}
 use Rattle.urb_names.specs.Pairs.{is_numbered, next_number}
 use Rattle.urb_names.specs.declared.flags.Flags.{Flags}
+use Rattle.urb_names.specs.declared.message.TheConstants.{MAX_PAYLOAD}
 use Rattle.urb_names.specs.declared.refusal.PacketFault.{PacketFault}
 use Rattle.urb_names.specs.declared.refusal.Refusal.TheVariants as refusal
 use Rattle.urb_node.specs.Part.{Down, Node, Ready, State, Storing}
@@ -36,7 +37,7 @@ submit-stays : (size : Limits) (p : ℕ) (m : Content) (node : Node) → Stays n
 submit-stays size p m node =
     cond_both (is_down node.state) _ _ (Stays node) (λ _. refl)
     (λ _. cond_both (is_storing node.state) _ _ (Stays node) (λ _. refl)
-    (λ _. cond_both (nat_lt 1024 (length m.payload)) _ _ (Stays node) (λ _. refl) (λ _. submits-stays size p m (find (is_numbered m.client m.number) node.broadcast) node)))
+    (λ _. cond_both (nat_lt MAX_PAYLOAD (length m.payload)) _ _ (Stays node) (λ _. refl) (λ _. submits-stays size p m (find (is_numbered m.client m.number) node.broadcast) node)))
 
 arrive-stays : (size : Limits) (p q : ℕ) (x : Label) (m : Content) (flags : Option Flags) (node : Node) → Stays node (arrives size p q x m flags node)
 arrive-stays size p q x m flags node = arrive-cases (Stays node) size p q x m flags node (λ cause. refl) (λ cause. refl) (λ acks heard cause. refl) (λ acks heard told. refl)

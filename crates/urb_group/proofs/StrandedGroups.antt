@@ -18,6 +18,7 @@ use Rattle.urb_names.specs.Names.{has_name}
 use Rattle.urb_names.specs.Naming.{Content, Label, Limits}
 use Rattle.urb_names.specs.Nodes.{is_node}
 use Rattle.urb_names.specs.Pairs.{has_pair, is_numbered, message_of, next_number}
+use Rattle.urb_names.specs.declared.message.TheConstants.{MAX_PAYLOAD}
 use Rattle.urb_names.specs.declared.refusal.PacketFault.{PacketFault}
 use Rattle.urb_names.specs.declared.refusal.Refusal.TheVariants as refusal
 use Rattle.urb_node.specs.Part.{Down, Node, Ready, State, Storing}
@@ -79,7 +80,7 @@ submit-quiet : (size : Limits) (p : ℕ) (m : Content) (node : Node) → Quiet n
 submit-quiet size p m node =
     cond_both (is_down node.state) _ _ (Quiet node) (λ _. same node _ refl)
     (λ _. cond_both (is_storing node.state) _ _ (Quiet node) (λ _. same node _ refl)
-    (λ _. cond_both (nat_lt 1024 (length m.payload)) _ _ (Quiet node) (λ _. same node _ refl)
+    (λ _. cond_both (nat_lt MAX_PAYLOAD (length m.payload)) _ _ (Quiet node) (λ _. same node _ refl)
     (λ _. by_number (find (is_numbered m.client m.number) node.broadcast))))
   where
     by_number : (first : Option Content) → Quiet node (submits_by_number size p m first node)

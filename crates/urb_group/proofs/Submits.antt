@@ -11,6 +11,7 @@ use Rattle.urb_names.specs.Names.{name}
 use Rattle.urb_names.specs.Naming.{Content, Label, Limits}
 use Rattle.urb_names.specs.Nodes.{is_node, majority_passes}
 use Rattle.urb_names.specs.Pairs.{has_pair, is_numbered, message_of, next_number, own}
+use Rattle.urb_names.specs.declared.message.TheConstants.{MAX_PAYLOAD}
 use Rattle.urb_node.specs.Part.{Node}
 use Rattle.urb_node.specs.Replies.{Same}
 use Rattle.urb_node.specs.declared.answer.Answer.TheVariants.{Accepted}
@@ -103,5 +104,5 @@ pub leads-submits : (size : Limits) (images : ℕ → List Entry) (p : ℕ) (m :
 leads-submits size images p m node e is k =
     cond_both (is_down node.state) _ _ (Leads size images p) (λ _. leads-refuses size images p node refusal.Down e k)
     (λ _. cond_both (is_storing node.state) _ _ (Leads size images p) (λ _. leads-refuses size images p node refusal.Busy e k)
-    (λ _. cond_both (nat_lt 1024 (length m.payload)) _ _ (Leads size images p) (λ _. leads-refuses size images p node refusal.TooLong e k)
+    (λ _. cond_both (nat_lt MAX_PAYLOAD (length m.payload)) _ _ (Leads size images p) (λ _. leads-refuses size images p node refusal.TooLong e k)
     (λ _. leads-by_number size images p m (find (is_numbered m.client m.number) node.broadcast) node e is k)))

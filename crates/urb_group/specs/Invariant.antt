@@ -5,6 +5,7 @@ use Rattle.urb_names.specs.Acknowledged.{acked}
 use Rattle.urb_names.specs.Names.{has_name}
 use Rattle.urb_names.specs.Naming.{Content, Label, Limits}
 use Rattle.urb_names.specs.Pairs.{has_pair, message_of, own}
+use Rattle.urb_names.specs.declared.message.TheConstants.{MAX_PAYLOAD}
 use Rattle.urb_node.specs.Part.{Down, Node, Ready, State, Storing}
 use Rattle.urb_node.specs.Steps.{doubt}
 use Rattle.urb_stable.specs.Entries.{Entry}
@@ -50,9 +51,9 @@ pub record NodeKept (size : Limits) (images : ℕ → List Entry) (p : ℕ) (nod
 abbrev pub NodesKept : World → Type 0
 NodesKept w = (p : ℕ) → NodeKept w.size (stored w) p (w.node p)
 
--- each of these pairs has a payload of at most 1,024 bytes
+-- each of these pairs has a payload of at most 16,384 bytes
 abbrev pub AreShort : List (Label × Content) → Type 0
-AreShort pairs = (x : Label) (m : Content) → has_pair pairs x m ≡ true → length m.payload ≤ 1024
+AreShort pairs = (x : Label) (m : Content) → has_pair pairs x m ≡ true → length m.payload ≤ MAX_PAYLOAD
 
 -- the doubtful record, where there is one, has one
 abbrev pub DoubtShort : Option Entry → Type 0

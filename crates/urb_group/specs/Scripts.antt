@@ -1,6 +1,6 @@
 -- Scripts: lines that a group is run by, each beside its answer.
 use Prim.Native.String.{String}
-use Rattle.std.specs.Prelude.{Bool, Err, List, None, Ok, Option, Some, [], codes, false, filter, is_some, length, map, true, ℕ, ◌++◌, ◌==◌, ◌||◌, ◌∷◌, ◌≡◌}
+use Rattle.std.specs.Prelude.{Bool, Err, List, None, Ok, Option, Some, [], codes, false, filter, if◌then◌else◌, is_some, length, map, nat_lt, true, ℕ, ◌++◌, ◌==◌, ◌||◌, ◌∷◌, ◌≡◌}
 use Rattle.urb_group.specs.Step.{Arrive, Commit, Crash, Event, Fail, Restart, Submit, Tick, step}
 use Rattle.urb_group.specs.World.{World, opened, started, stored, updated}
 use Rattle.urb_names.specs.Carried.{Carried}
@@ -9,6 +9,7 @@ use Rattle.urb_names.specs.Naming.{Content, Label, Limits}
 use Rattle.urb_names.specs.Nodes.{nodes}
 use Rattle.urb_names.specs.Pairs.{message_of}
 use Rattle.urb_names.specs.declared.flags.Flags.{Flags}
+use Rattle.urb_names.specs.declared.message.TheConstants.{MAX_PLAIN_PAYLOAD}
 use Rattle.urb_names.specs.declared.refusal.PacketFault.{PacketFault}
 use Rattle.urb_names.specs.declared.refusal.Refusal.{Refusal}
 use Rattle.urb_names.specs.declared.refusal.Refusal.TheVariants as refusal
@@ -168,13 +169,18 @@ abbrev pub or_nothing : Option Content → Content
 or_nothing None = record { client = 1; number = 1; payload = [] }
 or_nothing (Some m) = m
 
+-- the flags of a packet of a message: these, or none; but 0 where there are none and the payload is too long for version one
+abbrev pub flags_with : Option Flags → Content → Option Flags
+flags_with None m = if nat_lt MAX_PLAIN_PAYLOAD (length m.payload) then Some (flags_of 0) else None
+flags_with (Some flags) m = Some flags
+
 -- what q has stored under the name comes to p, with these flags; where there is none, a message that q doesn't hold
 abbrev pub arrive_with : Option Flags → ℕ → ℕ → ℕ → ℕ → Line
 arrive_with flags q p sender number scene =
-    let stored_by_q = message_of (pend (stored scene.world q)) (name sender number) in
-    happens (Arrive p (Ok (record { source = q; target = p; name = name sender number; message = or_nothing stored_by_q; flags = flags }))) scene
+    let m = or_nothing (message_of (pend (stored scene.world q)) (name sender number)) in
+    happens (Arrive p (Ok (record { source = q; target = p; name = name sender number; message = m; flags = flags_with flags m }))) scene
 
--- in a packet of version one
+-- in a packet of version one, or of version two with flags 0 where the payload is too long for that
 abbrev pub arrive : ℕ → ℕ → ℕ → ℕ → Line
 arrive q p sender number = arrive_with None q p sender number
 

@@ -55,7 +55,7 @@ impl<A: Allocator + Copy> Group<A> {
 
     /// A client gives a node a message to broadcast, with the next of its numbers at this node.
     ///
-    /// `BadNode`: there is no such node. `Down`, `Busy`: ask again when it is up, or has stored. `TooLong`: over 1,024
+    /// `BadNode`: there is no such node. `Down`, `Busy`: ask again when it is up, or has stored. `TooLong`: over 16,384
     /// bytes. `Conflict`: the number was used with another payload. `Gap`: it is not the next one, which is told. `Full`:
     /// the node has broadcast as many messages as it may. `NoMemory`: ask again.
     pub fn submit(

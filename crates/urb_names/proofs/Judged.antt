@@ -1,12 +1,13 @@
 -- What a judgement of fields says of them.
-use Rattle.std.proofs.Common.{◌≡◌, ◌∙◌, sym, ℕ, ◌≤◌, ◌==◌, ◌||◌, not, nat_lt, ltb-true, lt-ltb, Bool, true, false, length, Option, Some, None, is_some, Result, Ok, Err, refl, ap, arith, if◌then◌else◌}
+use Rattle.std.proofs.Common.{◌≡◌, ◌∙◌, sym, ℕ, ◌≤◌, ◌==◌, ◌||◌, not, nat_lt, ltb-true, lt-ltb, Bool, true, false, length, Option, Some, None, is_some, List, Result, Ok, Err, refl, ap, arith, if◌then◌else◌}
 use Rattle.std.proofs.lemmas.Bool.Decides.{nat_tests}
 use Rattle.urb_names.specs.Carried.{Carried}
 use Rattle.urb_names.specs.declared.flags.Flags.{Flags}
+use Rattle.urb_names.specs.declared.message.TheConstants.{MAX_PAYLOAD}
 use Rattle.urb_names.specs.declared.refusal.PacketFault.{PacketFault}
 use Rattle.urb_names.specs.declared.refusal.PacketFault.TheVariants as fault
 use Rattle.urb_names.proofs.FlagNumbers.{number_again, number_below, said_again}
-use Rattle.urb_names.specs.Packets.{Fields, IsFields, IsPacket, are_flags, carried_of, fields_of, flags_byte, flags_number, flags_of, has_flags, is_in_range, judged, version_of}
+use Rattle.urb_names.specs.Packets.{Fields, FitsVersion, IsFields, IsPacket, are_flags, carried_of, fields_of, flags_byte, flags_number, flags_of, has_flags, is_in_range, judged, longest_payload, version_of}
 
 -- a test that didn't end in its fault
 passed : {X E : Type 0} (b : Bool) (e : E) (y : Result X E) (p : X) → (if b then Err e else y) ≡ Ok p → (b ≡ false) × (y ≡ Ok p)
@@ -17,12 +18,27 @@ last_passed : {X E : Type 0} (b : Bool) (x : X) (e : E) (p : X) → (if b then O
 last_passed true x e p h = (refl, cc)
 last_passed false x e p h = absurd (cc)
 
+-- no payload is longer than the longest
+longest_below : (flags : Option ℕ) → longest_payload flags ≤ MAX_PAYLOAD
+longest_below None = omega arith
+longest_below (Some byte) = omega arith
+
+-- what is within its greatest length fits its version
+fits_version : (flags : Option ℕ) (payload : List ℕ) → length payload ≤ longest_payload flags → FitsVersion (flags_of flags) payload
+fits_version None payload h = h
+fits_version (Some byte) payload h = tt
+
+-- and the other way round
+within_version : (flags : Option Flags) (payload : List ℕ) → FitsVersion flags payload → length payload ≤ MAX_PAYLOAD → length payload ≤ longest_payload (flags_byte flags)
+within_version None payload fits h = fits
+within_version (Some flags) payload fits h = h
+
 -- what passes each test
 pub record Sound (f : Fields) : Type 0 where
   pub magic : f.magic ≡ 0x5542
   pub version : ((f.version == 1) || (f.version == 2)) ≡ true
   pub size : f.size ≡ length f.payload
-  pub short : f.size ≤ 1024
+  pub short : f.size ≤ longest_payload f.flags
   pub range : is_in_range f ≡ true
 
 -- what is judged after each test
@@ -30,7 +46,7 @@ abbrev in_range : Fields → Result Carried PacketFault
 in_range f = if is_in_range f then Ok (carried_of f) else Err fault.Range
 
 abbrev sized : Fields → Result Carried PacketFault
-sized f = if nat_lt 1024 f.size || not (f.size == length f.payload) then Err fault.Length else in_range f
+sized f = if nat_lt (longest_payload f.flags) f.size || not (f.size == length f.payload) then Err fault.Length else in_range f
 
 abbrev versioned : Fields → Result Carried PacketFault
 versioned f = if not ((f.version == 1) || (f.version == 2)) then Err fault.Version else sized f
@@ -40,7 +56,7 @@ unfolding judged
 sound f p h =
     let magic = passed (not (f.magic == 0x5542)) fault.Magic (versioned f) p h in
     let version = passed (not ((f.version == 1) || (f.version == 2))) fault.Version (sized f) p magic.1 in
-    let size = passed (nat_lt 1024 f.size || not (f.size == length f.payload)) fault.Length (in_range f) p version.1 in
+    let size = passed (nat_lt (longest_payload f.flags) f.size || not (f.size == length f.payload)) fault.Length (in_range f) p version.1 in
     let range = last_passed (is_in_range f) (carried_of f) fault.Range p size.1 in (
       record {
         magic = grind (arith, nat_tests, magic.0);
@@ -77,7 +93,8 @@ is_packet f fit s =
       target = grind (arith, nat_tests, s.range);
       apart = λ e. absurd (grind (arith, nat_tests, s.range, e));
       name = record { sender = grind (arith, nat_tests, s.range); seq = (grind (arith, nat_tests, s.range), fit.seq) };
-      message = record { client = (grind (arith, nat_tests, s.range), fit.client); number = (grind (arith, nat_tests, s.range), fit.number); payload = omega (arith, s.size, s.short) };
+      message = record { client = (grind (arith, nat_tests, s.range), fit.client); number = (grind (arith, nat_tests, s.range), fit.number); payload = omega (arith, s.size, s.short, longest_below f.flags) };
+      version = fits_version f.flags f.payload (omega (arith, s.size, s.short));
     }
 
 -- the version and the flags of a packet pass, and say its flags again
@@ -100,7 +117,7 @@ accepted p h =
     let flags : are_flags (flags_byte p.flags) ≡ true = flags_pass p.flags in
     let range : is_in_range (fields_of p) ≡ true = grind (arith, nat_tests, flags, h.source.0, h.source.1, h.target.0, h.target.1, h.apart, h.name.sender.0, h.name.sender.1, h.name.seq.0, h.message.client.0, h.message.number.0) in
     let version : ((version_of p.flags == 1) || (version_of p.flags == 2)) ≡ true = version_passes p.flags in
-    let short : nat_lt 1024 (length p.message.payload) ≡ false = grind (arith, nat_tests, h.message.payload) in
+    let short : nat_lt (longest_payload (flags_byte p.flags)) (length p.message.payload) ≡ false = grind (arith, nat_tests, within_version p.flags p.message.payload h.version h.message.payload) in
     let same : (length p.message.payload == length p.message.payload) ≡ true = grind (arith, nat_tests) in
     let said : carried_of (fields_of p) ≡ p = λ i. record { source = p.source; target = p.target; name = p.name; message = p.message; flags = flags_say p.flags i } in
     rw (version, short, same, range) (ap (λ (q : Carried). Ok q) said)
@@ -126,6 +143,6 @@ last false x = refl
 pub never_short : (f : Fields) → judged f ≡ Err fault.Short → ⊥
 unfolding judged
 never_short f h =
-    let told = others (not (f.magic == 0x5542)) fault.Magic (versioned f) refl (others (not ((f.version == 1) || (f.version == 2))) fault.Version (sized f) refl (others (nat_lt 1024 f.size || not (f.size == length f.payload)) fault.Length (in_range f) refl (last (is_in_range f) (carried_of f)))) in
+    let told = others (not (f.magic == 0x5542)) fault.Magic (versioned f) refl (others (not ((f.version == 1) || (f.version == 2))) fault.Version (sized f) refl (others (nat_lt (longest_payload f.flags) f.size || not (f.size == length f.payload)) fault.Length (in_range f) refl (last (is_in_range f) (carried_of f)))) in
     let is : true ≡ false = ap tells_short (sym h) ∙ told in
     absurd cc

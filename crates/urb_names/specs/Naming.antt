@@ -1,5 +1,6 @@
 -- What contracts see of a configuration, a name and a message, wherever they lie in memory.
 use Rattle.std.specs.Prelude.{◌<◌, ◌≤◌, ◌^◌, ℕ, List, length}
+use Rattle.urb_names.specs.declared.message.TheConstants.{MAX_PAYLOAD}
 
 -- how many nodes there are, and how many messages each may broadcast
 pub record Limits : Type 0 where
@@ -26,8 +27,8 @@ pub record IsLabel (x : Label) : Type 0 where
   pub sender : (0 < x.sender) × (x.sender ≤ 7)
   pub seq : (0 < x.seq) × (x.seq < 2 ^ 32)
 
--- a message has a client and a number that are not 0, and a payload of at most 1,024 bytes
+-- a message has a client and a number that are not 0, and a payload of at most 16,384 bytes
 pub record IsContent (m : Content) : Type 0 where
   pub client : (0 < m.client) × (m.client < 2 ^ 16)
   pub number : (0 < m.number) × (m.number < 2 ^ 32)
-  pub payload : length m.payload ≤ 1024
+  pub payload : length m.payload ≤ MAX_PAYLOAD

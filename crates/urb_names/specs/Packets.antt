@@ -1,20 +1,26 @@
 -- The packet grammar, of two versions: what a packet spells, and the first fault of bytes that spell none.
-use Rattle.std.specs.Prelude.{◌≡◌, ◌≢◌, ◌<◌, ◌≤◌, ◌^◌, ◌+◌, ◌/◌, ◌%◌, ◌==◌, ◌&&◌, ◌||◌, not, nat_lt, ℕ, Bool, true, List, [], ◌∷◌, ◌++◌, length, drop, slice_index, Option, Some, None, is_some, IfSome, Result, Ok, Err, if◌then◌else◌}
+use Rattle.std.specs.Prelude.{◌≡◌, ◌≢◌, ◌<◌, ◌≤◌, ◌^◌, ◌+◌, ◌/◌, ◌%◌, ◌==◌, ◌&&◌, ◌||◌, not, nat_lt, ℕ, Bool, true, List, [], ◌∷◌, ◌++◌, length, drop, slice_index, Option, Some, None, is_some, IfNone, IfSome, Result, Ok, Err, if◌then◌else◌}
 use Rattle.byteorder.specs.Endian.{big_bytes, big_number}
 use Rattle.urb_names.specs.Naming.{IsLabel, IsContent}
 use Rattle.urb_names.specs.declared.flags.Flags.{Flags}
+use Rattle.urb_names.specs.declared.message.TheConstants.{MAX_PAYLOAD, MAX_PLAIN_PAYLOAD}
 use Rattle.urb_names.specs.declared.refusal.PacketFault.{PacketFault}
 use Rattle.urb_names.specs.declared.refusal.PacketFault.TheVariants as fault
 use Rattle.urb_names.specs.Carried.{Carried}
 use Rattle.urb_names.specs.Nodes.{is_node}
 
--- a packet joins two different nodes, of one to seven, and its name and message are within their limits
+-- without flags, in version one, a payload has at most 1,024 bytes
+abbrev pub FitsVersion : Option Flags → List ℕ → Type 0
+FitsVersion flags payload = IfNone flags (length payload ≤ MAX_PLAIN_PAYLOAD)
+
+-- a packet joins two different nodes, of one to seven, and its name and message are within their limits, the payload within its version's
 pub record IsPacket (p : Carried) : Type 0 where
   pub source : (0 < p.source) × (p.source ≤ 7)
   pub target : (0 < p.target) × (p.target ≤ 7)
   pub apart : p.source ≢ p.target
   pub name : IsLabel p.name
   pub message : IsContent p.message
+  pub version : FitsVersion p.flags p.message.payload
 
 -- What stands in the fields of a header, and the bytes behind it. A byte of flags stands in packets of version two alone, behind the
 -- target.
@@ -125,12 +131,17 @@ is_in_range f =
     ((is_node 7 f.source && is_node 7 f.target) && (is_node 7 f.sender && not (f.source == f.target)))
     && ((nat_lt 0 f.seq && nat_lt 0 f.client) && (nat_lt 0 f.number && are_flags f.flags))
 
+-- the greatest length of a payload: 16,384 behind a byte of flags, in version two, and 1,024 without one, in version one
+abbrev pub longest_payload : Option ℕ → ℕ
+longest_payload None = MAX_PLAIN_PAYLOAD
+longest_payload (Some flags) = MAX_PAYLOAD
+
 -- the packet that fields say, or their first fault: in the magic bytes, the version, the size, or the range of a field
 unfoldable pub judged : Fields → Result Carried PacketFault
 judged f =
     if not (f.magic == 0x5542) then Err fault.Magic
     else if not ((f.version == 1) || (f.version == 2)) then Err fault.Version
-    else if nat_lt 1024 f.size || not (f.size == length f.payload) then Err fault.Length
+    else if nat_lt (longest_payload f.flags) f.size || not (f.size == length f.payload) then Err fault.Length
     else if is_in_range f then Ok (carried_of f)
     else Err fault.Range
 

@@ -6,7 +6,7 @@
 //! ```text
 //! let config = Config::new(3, 1000)?;                    // three nodes, each with up to a thousand messages
 //! let message = Message::copied(alloc, client, 1, b"hi")?;
-//! let flags = Flags { certified: true, heard: false };  // with no flags it is a packet of version one
+//! let flags = Flags { certified: true, heard: false };  // with no flags it is a packet of version one, of at most 1,024 bytes
 //! let packet = Packet::new(source, target, name, message, Some(flags));
 //! let bytes = encode(alloc, &packet)?;                   // its one spelling
 //! let view = parse(&bytes)?;                             // read without a copy; the first fault is told
@@ -30,7 +30,7 @@ mod view;
 pub use client::ClientId;
 pub use config::{Config, is_majority};
 pub use flags::Flags;
-pub use message::{MAX_PAYLOAD, Message};
+pub use message::{MAX_PAYLOAD, MAX_PLAIN_PAYLOAD, Message};
 pub use name::Name;
 pub use node::NodeId;
 pub use packet::Packet;

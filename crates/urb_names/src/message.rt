@@ -8,7 +8,10 @@ use std::alloc::{Allocator, Global};
 use std::marker::Model;
 
 /// The greatest length of a payload, in bytes.
-pub const MAX_PAYLOAD: usize = 1024;
+pub const MAX_PAYLOAD: usize = 16384;
+
+/// The greatest length of a payload in a packet without flags, which is of version one, in bytes.
+pub const MAX_PLAIN_PAYLOAD: usize = 1024;
 
 /// What a client broadcasts: the client, the number that it gave the message, 1 to 4,294,967,295, and the payload, at
 /// most `MAX_PAYLOAD` bytes.
@@ -23,19 +26,20 @@ pub struct Message<A: Allocator = Global> {
 impl<A: Allocator> Model for Message<A> {
     ghost use Rattle.std.specs.Prelude.{◌<◌, ◌≤◌, vec_len};
     ghost use Rattle.urb_names.specs.Naming.{Content};
+    ghost use Rattle.urb_names.specs.declared.message.TheConstants.{MAX_PAYLOAD};
 
     ghost Value = { Content };
 
     ghost view = { λ a. record { client = a.client; number = a.number; payload = a.payload.items } };
 
-    ghost invariant = { λ a. (0 < a.number) × (vec_len a.payload ≤ 1024) };
+    ghost invariant = { λ a. (0 < a.number) × (vec_len a.payload ≤ MAX_PAYLOAD) };
 }
 
 impl<A: Allocator> Message<A> {
     /// The message of these parts, with the payload as it lies in memory. Takes no memory.
     pub fn new(client: ClientId, number: u32, payload: Vec<u8, A>) -> Message<A>
         requires number { 0 < number }
-        requires payload { vec_len payload ≤ 1024 }
+        requires payload { vec_len payload ≤ MAX_PAYLOAD }
         ensures { result ≡ record { client = client; number = number; payload = payload.items } }
     {
         Message {
@@ -53,7 +57,7 @@ impl<A: Allocator> Message<A> {
         payload: &[u8],
     ) -> Result<Message<A>, NoMemory>
         requires number { 0 < number }
-        requires payload { length payload.now ≤ 1024 }
+        requires payload { length payload.now ≤ MAX_PAYLOAD }
         ensures { IfOk result (λ m. m ≡ record { client = client; number = number; payload = payload.now }) }
     {
         Ok(Message {
@@ -81,7 +85,7 @@ impl<A: Allocator> Message<A> {
     /// The bytes that the client sent.
     pub fn payload(&self) -> &[u8]
         ensures value { result.now ≡ self.now.payload }
-        ensures limit { length self.now.payload ≤ 1024 }
+        ensures limit { length self.now.payload ≤ MAX_PAYLOAD }
     {
         &self.payload
     }

@@ -1,6 +1,6 @@
 //! Packets: what one node sends to another.
 ghost use Rattle.std.specs.Prelude.{◌≡◌, ◌≢◌};
-ghost use Rattle.urb_names.specs.Packets.{IsPacket};
+ghost use Rattle.urb_names.specs.Packets.{IsPacket, FitsVersion};
 
 use crate::{Flags, Message, Name, NodeId};
 use std::alloc::{Allocator, Global};
@@ -21,16 +21,18 @@ pub struct Packet<A: Allocator = Global> {
 impl<A: Allocator> Model for Packet<A> {
     ghost use Rattle.std.specs.Prelude.{◌≢◌};
     ghost use Rattle.urb_names.specs.Carried.{Carried};
+    ghost use Rattle.urb_names.specs.Packets.{FitsVersion};
 
     ghost Value = { Carried };
 
     ghost view = { λ a. record { source = a.source; target = a.target; name = a.name; message = a.message; flags = a.flags } };
 
-    ghost invariant = { λ a. a.source ≢ a.target };
+    ghost invariant = { λ a. (a.source ≢ a.target) × FitsVersion a.flags a.message.payload };
 }
 
 impl<A: Allocator> Packet<A> {
-    /// The packet of these parts: of version two where it has flags, else of version one. Takes no memory.
+    /// The packet of these parts: of version two where it has flags, else of version one, whose payload has at most
+    /// `MAX_PLAIN_PAYLOAD` bytes. Takes no memory.
     pub fn new(
         source: NodeId,
         target: NodeId,
@@ -38,7 +40,8 @@ impl<A: Allocator> Packet<A> {
         message: Message<A>,
         flags: Option<Flags>,
     ) -> Packet<A>
-        requires { source ≢ target }
+        requires apart { source ≢ target }
+        requires version { FitsVersion flags message.payload }
         ensures { result ≡ record { source = source; target = target; name = name; message = message; flags = flags } }
     {
         Packet {

@@ -35,7 +35,7 @@ pub enum PacketFault {
     /// The third byte is neither 01 nor 02: it is a packet of another version.
     #[error("the packet has another version")]
     Version,
-    /// The length of the payload is over 1,024, or not the number of the bytes behind the header.
+    /// The length of the payload is over the greatest of its version, or not the number of the bytes behind the header.
     #[error("the packet has another length")]
     Length,
     /// A node is not 1 to 7, a number is 0, source and target are the same, or the flags are over 3.
@@ -71,7 +71,7 @@ pub enum Refusal {
     /// The node waits for its storage: finish that record first.
     #[error("the node holds a draft")]
     Busy,
-    /// The payload has more than 1,024 bytes.
+    /// The payload has more than `MAX_PAYLOAD` bytes.
     #[error("the payload is too long")]
     TooLong,
     /// The client gave this number to another payload before.

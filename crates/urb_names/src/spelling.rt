@@ -1,11 +1,12 @@
 //! Packets as bytes: reading them, and writing them.
-ghost use Rattle.std.specs.Prelude.{◌≡◌, ◌≤◌, ◌⊎◌, length, Ok, Err, Some, None, IfOk, IfErr, MatchResult, if◌then◌else◌, [], ◌∷◌, ◌++◌};
+ghost use Rattle.std.specs.Prelude.{◌≡◌, ◌≤◌, ◌⊎◌, length, Ok, Err, Some, None, IfNone, IfOk, IfErr, MatchResult, if◌then◌else◌, [], ◌∷◌, ◌++◌};
 ghost use Rattle.byteorder.specs.Endian.{big_bytes};
 ghost use Rattle.urb_names.specs.Carried.{Carried};
-ghost use Rattle.urb_names.specs.Packets.{IsPacket, IsFirstFault, are_flags, begins_with_flags, carried_of, fields_at, fields_with, flags_of, header_length, is_in_range, judged, packet_of, spelling, version_of};
+ghost use Rattle.urb_names.specs.Packets.{IsPacket, IsFirstFault, are_flags, begins_with_flags, carried_of, fields_at, fields_with, flags_of, header_length, is_in_range, judged, longest_payload, packet_of, spelling, version_of};
 
 use crate::{
-    ClientId, Flags, MAX_PAYLOAD, Name, NoMemory, NodeId, Packet, PacketFault, PacketView, Refusal,
+    ClientId, Flags, MAX_PAYLOAD, MAX_PLAIN_PAYLOAD, Name, NoMemory, NodeId, Packet, PacketFault,
+    PacketView, Refusal,
 };
 use byteorder::{BigEndian, ByteOrder};
 use std::alloc::Allocator;
@@ -110,7 +111,8 @@ fn flags_in(byte: Option<u8>) -> Option<Option<Flags>>
 
 // The packet that the fields say, where each is within its values.
 fn in_range<'a>(fields: &Fields<'a>) -> Option<PacketView<'a>>
-    requires { length fields.now.payload ≤ 1024 }
+    requires payload { length fields.now.payload ≤ MAX_PAYLOAD }
+    requires version { IfNone fields.now.flags (length fields.now.payload ≤ MAX_PLAIN_PAYLOAD) }
     ensures { result ≡ (if is_in_range fields.now then Some (carried_of fields.now) else None) }
 {
     let source = NodeId::new(fields.source)?;
@@ -136,6 +138,16 @@ fn in_range<'a>(fields: &Fields<'a>) -> Option<PacketView<'a>>
     ))
 }
 
+// The greatest length of a payload behind these flags.
+fn longest_payload(flags: Option<u8>) -> usize
+    ensures { result ≡ longest_payload flags }
+{
+    match flags {
+        Some(_) => MAX_PAYLOAD,
+        None => MAX_PLAIN_PAYLOAD,
+    }
+}
+
 #[tactic(auto, unfolding(crate::specs::Packets::judged))]
 // The packet that the fields say, or their first fault.
 fn judged<'a>(fields: &Fields<'a>) -> Result<PacketView<'a>, PacketFault>
@@ -147,7 +159,8 @@ fn judged<'a>(fields: &Fields<'a>) -> Result<PacketView<'a>, PacketFault>
     if fields.version != WITHOUT_FLAGS && fields.version != WITH_FLAGS {
         return Err(PacketFault::Version);
     }
-    if usize::from(fields.size) > MAX_PAYLOAD || usize::from(fields.size) != fields.payload.len() {
+    let size = usize::from(fields.size);
+    if size > longest_payload(fields.flags) || size != fields.payload.len() {
         return Err(PacketFault::Length);
     }
     in_range(fields).ok_or(PacketFault::Range)
@@ -211,7 +224,7 @@ fn back(name: Name, client: u16, number: u32, size: u16) -> [u8; BACK]
     bytes
 }
 
-/// The one spelling of a packet, for a datagram: at most 1,043 bytes.
+/// The one spelling of a packet, for a datagram: at most 16,403 bytes.
 pub fn encode<A: Allocator>(alloc: A, packet: &Packet<A>) -> Result<Vec<u8, A>, NoMemory>
     ensures { IfOk result (λ v. v.items ≡ spelling packet.now) }
 {

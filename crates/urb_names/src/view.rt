@@ -1,8 +1,8 @@
 //! Packets whose payload is lent.
 ghost use Rattle.std.specs.Prelude.{◌≡◌, ◌≢◌, ◌<◌, ◌≤◌, length, IfOk};
-ghost use Rattle.urb_names.specs.Packets.{IsPacket};
+ghost use Rattle.urb_names.specs.Packets.{IsPacket, FitsVersion};
 
-use crate::{ClientId, Flags, Message, Name, NoMemory, NodeId, Packet};
+use crate::{ClientId, Flags, MAX_PAYLOAD, Message, Name, NoMemory, NodeId, Packet};
 use std::alloc::Allocator;
 use std::marker::Model;
 
@@ -21,12 +21,14 @@ pub struct PacketView<'a> {
 impl<'a> Model for PacketView<'a> {
     ghost use Rattle.std.specs.Prelude.{◌≢◌, ◌<◌, ◌≤◌, length};
     ghost use Rattle.urb_names.specs.Carried.{Carried};
+    ghost use Rattle.urb_names.specs.Packets.{FitsVersion};
+    ghost use Rattle.urb_names.specs.declared.message.TheConstants.{MAX_PAYLOAD};
 
     ghost Value = { Carried };
 
     ghost view = { λ a. record { source = a.source; target = a.target; name = a.name; message = record { client = a.client; number = a.number; payload = a.payload.now }; flags = a.flags } };
 
-    ghost invariant = { λ a. (a.source ≢ a.target) × (0 < a.number) × (length a.payload.now ≤ 1024) };
+    ghost invariant = { λ a. (a.source ≢ a.target) × (0 < a.number) × (length a.payload.now ≤ MAX_PAYLOAD) × FitsVersion a.flags a.payload.now };
 }
 
 impl<'a> PacketView<'a> {
@@ -42,7 +44,8 @@ impl<'a> PacketView<'a> {
     ) -> PacketView<'a>
         requires apart { source ≢ target }
         requires number { 0 < number }
-        requires payload { length payload.now ≤ 1024 }
+        requires payload { length payload.now ≤ MAX_PAYLOAD }
+        requires version { FitsVersion flags payload.now }
         ensures { result ≡ record { source = source; target = target; name = name; message = record { client = client; number = number; payload = payload.now }; flags = flags } }
     {
         PacketView {
@@ -96,7 +99,7 @@ impl<'a> PacketView<'a> {
     /// The bytes that the client sent.
     pub fn payload(&self) -> &[u8]
         ensures value { result.now ≡ self.now.message.payload }
-        ensures limit { length self.now.message.payload ≤ 1024 }
+        ensures limit { length self.now.message.payload ≤ MAX_PAYLOAD }
     {
         self.payload
     }

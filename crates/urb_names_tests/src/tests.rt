@@ -1,5 +1,6 @@
 //! Outside vectors of the packet grammar, and memory that is refused.
 ghost use Rattle.std.specs.Prelude.{◌≡◌, ◌≢◌, ◌≤◌, length, IfOk};
+ghost use Rattle.urb_names.specs.Packets.{FitsVersion};
 
 use std::alloc::Global;
 use std::test::Fail;
@@ -33,7 +34,8 @@ fn first(
     flags: Option<Flags>,
 ) -> Result<Packet, Fail>
     requires apart { source ≢ target }
-    requires payload { length payload.now ≤ 1024 }
+    requires payload { length payload.now ≤ MAX_PAYLOAD }
+    requires version { FitsVersion flags payload.now }
 {
     let source = node(source)?;
     let target = node(target)?;
@@ -191,6 +193,30 @@ fn a_packet_that_is_cut_or_has_more_is_refused(rt: HostRuntime) -> Result<(), Fa
         let mut more = Vec::from_slice(rt.alloc(), packet)?;
         more.push(0)?;
         assert_eq!(rt; parse(&more).err(), Some(PacketFault::Length));
+    }
+    Ok(())
+}
+
+/// These bytes, a length, and so many letters.
+fn with_letters(alloc: Global, front: &[u8], size: u16) -> Result<Vec<u8>, Fail> {
+    let mut bytes = Vec::from_slice(alloc, front)?;
+    bytes.extend_from_slice(&size.to_be_bytes())?;
+    for _ in 0..size {
+        bytes.push(b'x')?;
+    }
+    Ok(bytes)
+}
+
+#[test]
+fn the_greatest_length_of_a_payload_goes_by_the_version(rt: HostRuntime) -> Result<(), Fail> {
+    for (front, longest, longer) in [
+        (&WITH_PAYLOAD[..16], 1024, 1025),
+        (&WITH_FLAGS[..17], 16384, 16385),
+    ] {
+        let bytes = with_letters(rt.alloc(), front, longest)?;
+        assert_eq!(rt; parse(&bytes)?.payload().len(), usize::from(longest));
+        let bytes = with_letters(rt.alloc(), front, longer)?;
+        assert_eq!(rt; parse(&bytes).err(), Some(PacketFault::Length));
     }
     Ok(())
 }

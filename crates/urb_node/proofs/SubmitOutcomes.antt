@@ -7,6 +7,7 @@ use Rattle.urb_names.specs.Names.{name}
 use Rattle.urb_names.specs.Nodes.{is_majority}
 use Rattle.urb_names.specs.Pairs.{message_of, is_numbered, next_number}
 use Rattle.urb_names.specs.Cyclic.{are_rising}
+use Rattle.urb_names.specs.declared.message.TheConstants.{MAX_PAYLOAD}
 use Rattle.urb_names.specs.declared.refusal.Refusal.TheVariants as refusal
 use Rattle.urb_stable.specs.Entries.{Entry, name_of}
 use Rattle.urb_pending.specs.PendingSet.{name_given}
@@ -102,9 +103,9 @@ submit-says a m node s rise some =
     subst (λ (state : State). Says (
     if is_down state then refuses node refusal.Down
     else (if is_storing state then refuses node refusal.Busy
-    else (if nat_lt 1024 (length m.payload) then refuses node refusal.TooLong
+    else (if nat_lt MAX_PAYLOAD (length m.payload) then refuses node refusal.TooLong
     else submits_by_number a.limits a.node m (find (is_numbered m.client m.number) node.broadcast) node))
-    ) (submit_outcome a m)) s.state (long (nat_lt 1024 (length m.payload)))
+    ) (submit_outcome a m)) s.state (long (nat_lt MAX_PAYLOAD (length m.payload)))
   where
     b : node.broadcast ≡ own_of a
     b = shown-broadcast a.limits a.node (ready_view a) node s rise

@@ -15,6 +15,7 @@ use Rattle.urb_names.specs.Ordered.{is_rising}
 use Rattle.urb_names.specs.Release.{part_of}
 use Rattle.urb_names.specs.Pairs.{message_of, next_number, own}
 use Rattle.urb_names.proofs.SameNames.{same_name-same}
+use Rattle.urb_names.specs.declared.message.TheConstants.{MAX_PAYLOAD}
 use Rattle.urb_pending.specs.PendingSet.{PendingSet, IsPendingSet, is_within, name_given}
 use Rattle.urb_pending.proofs.Bounded.{bounded, length_bounded}
 use Rattle.urb_fifo.specs.Delivery.{Delivery, IsDelivery, IsNameOf}
@@ -75,17 +76,17 @@ submitted-next set limits p certified x m b kept l is within room named number =
         one n = omega arith
 
 -- what a submit wants stored
-pub submit-wants : (a : Memory) (m : Content) (entry : Entry) (b : Bool) → length m.payload ≤ 1024 → name_given a.node m.client m.number (own_of a) ≡ None → m.number ≡ next_number m.client (own_of a)
+pub submit-wants : (a : Memory) (m : Content) (entry : Entry) (b : Bool) → length m.payload ≤ MAX_PAYLOAD → name_given a.node m.client m.number (own_of a) ≡ None → m.number ≡ next_number m.client (own_of a)
     → length (own_of a) < a.limits.cap → b ≡ is_majority 1 a.limits.n → entry ≡ pending_entry b (name a.node (suc (length (own_of a)))) m → submit_outcome a m ≡ Wants entry None a
 submit-wants a m entry b short new number room alone is =
-    cond-false (nat_lt 1024 (length m.payload)) _ _ (le-ltb 1024 (length m.payload) short)
+    cond-false (nat_lt MAX_PAYLOAD (length m.payload)) _ _ (le-ltb MAX_PAYLOAD (length m.payload) short)
     ∙ (ap (numbered_outcome a m) new
     ∙ (cond-false (not (m.number == next_number m.client (own_of a))) _ _ (ap not (eq-eqb m.number _ number))
     ∙ (cond-false (not (nat_lt (length (own_of a)) a.limits.cap)) _ _ (ap not (lt-ltb _ _ room))
     ∙ ap (λ entry. Wants entry None a) (sym (is ∙ ap (λ b. pending_entry b (name a.node (suc (length (own_of a)))) m) alone)))))
 
 -- what a submit found that wants a record stored: q is the node's number, as the pending set has it
-pub submit-told : (a : Memory) (q : ℕ) (m : Content) (entry : Entry) (cause : Option Cause) (b : Bool) (after : Memory) → q ≡ a.node → length m.payload ≤ 1024 → name_given q m.client m.number (own q a.pairs) ≡ None
+pub submit-told : (a : Memory) (q : ℕ) (m : Content) (entry : Entry) (cause : Option Cause) (b : Bool) (after : Memory) → q ≡ a.node → length m.payload ≤ MAX_PAYLOAD → name_given q m.client m.number (own q a.pairs) ≡ None
     → m.number ≡ next_number m.client (own q a.pairs) → length (own q a.pairs) < a.limits.cap → b ≡ is_majority 1 a.limits.n → entry ≡ pending_entry b (name a.node (length (own q a.pairs) + 1)) m → cause ≡ None → after ≡ a
     → submit_outcome a m ≡ Wants entry cause after
 submit-told a q m entry cause b after is short new number room alone entry_is none same =

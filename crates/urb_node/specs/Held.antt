@@ -67,7 +67,12 @@ pub record IsDrafted {A : Type 0} (h : Held A) (entry : Entry) (cause : Option C
   pub caused : ForSome cause (λ c. (1 ≤ c.source) × (c.source ≤ h.config.n))
   pub sends : packets ≡ packets_of h.config.n h.node entry cause
 
--- nothing is counted and nothing heard, and a doubtful record is next
+-- a node that is down holds this, and a doubtful record is next
+pub record IsDown {A : Type 0} (h : Held A) (doubt : Option Entry) : Type 0 where
+  pub held : IsHeld h
+  pub doubtful : ForSome doubt (IsNextHeld h)
+
+-- .. once what it counted and heard is forgotten
 pub record IsFallen {A : Type 0} (h : Held A) (doubt : Option Entry) : Type 0 where
   pub held : IsHeld h
   pub uncounted : h.acks.counted ≡ []

@@ -7,6 +7,7 @@ use Rattle.urb_names.specs.Pairs.{message_of, own, next_number}
 use Rattle.urb_names.specs.Acknowledged.{acked, with_ack}
 use Rattle.urb_names.specs.Carried.{Carried, says_certified}
 use Rattle.urb_names.specs.declared.flags.Flags.{Flags}
+use Rattle.urb_names.specs.declared.message.TheConstants.{MAX_PAYLOAD}
 use Rattle.urb_names.specs.declared.refusal.Refusal.{Refusal}
 use Rattle.urb_names.specs.declared.refusal.Refusal.TheVariants as refusal
 use Rattle.urb_stable.specs.Entries.{Entry}
@@ -57,7 +58,7 @@ numbered_outcome a m (Some x) = repeat_outcome a m x (message_of a.pairs x)
 -- a submit of this message
 abbrev pub submit_outcome : Memory → Content → Outcome
 submit_outcome a m =
-    if nat_lt 1024 (length m.payload) then Refuses refusal.TooLong
+    if nat_lt MAX_PAYLOAD (length m.payload) then Refuses refusal.TooLong
     else numbered_outcome a m (name_given a.node m.client m.number (own_of a))
 
 -- ---- arrival

@@ -9,6 +9,7 @@ use Rattle.urb_names.specs.Naming.{Content, Label, Limits}
 use Rattle.urb_names.specs.Nodes.{majority_passes}
 use Rattle.urb_names.specs.Pairs.{has_pair, is_numbered, message_of, next_number}
 use Rattle.urb_names.specs.declared.flags.Flags.{Flags}
+use Rattle.urb_names.specs.declared.message.TheConstants.{MAX_PAYLOAD}
 use Rattle.urb_names.specs.declared.refusal.Refusal.{Refusal}
 use Rattle.urb_node.specs.Part.{Down, Node, Ready, State, Storing, own_acks, packet_from}
 use Rattle.urb_node.specs.Replies.{Done, Drafted, Refused, Reply, Same, Sent, Stored, Up, WentDown, packets_in}
@@ -70,7 +71,7 @@ abbrev pub submits : Limits → ℕ → Content → Node → Reply × Node
 submits size p m node =
     if is_down node.state then refuses node refusal.Down
     else (if is_storing node.state then refuses node refusal.Busy
-    else (if nat_lt 1024 (length m.payload) then refuses node refusal.TooLong
+    else (if nat_lt MAX_PAYLOAD (length m.payload) then refuses node refusal.TooLong
     else submits_by_number size p m (find (is_numbered m.client m.number) node.broadcast) node))
 
 -- An arrival from q of a name that is not pending: the pair is drafted, certified at once where p and q are a majority.

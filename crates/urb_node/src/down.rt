@@ -2,7 +2,7 @@
 
 ghost use Rattle.std.specs.Prelude.{◌≡◌, [], None, Option};
 ghost use Rattle.std.specs.Option.{ForSome};
-ghost use Rattle.urb_node.specs.Held.{memory_of, HasRoom, IsHeld, IsNextHeld};
+ghost use Rattle.urb_node.specs.Held.{memory_of, HasRoom, IsFallen, IsHeld, IsNextHeld};
 ghost use Rattle.urb_node.specs.Layers.{with_doubtful};
 ghost use Rattle.urb_node.specs.Moves.{Restarts};
 
@@ -15,7 +15,8 @@ use std::marker::Model;
 use urb_names::{Message, NoMemory, Refusal};
 use urb_stable::Record;
 
-/// A node that is down: it takes nothing until it is restarted with what its storage holds.
+/// A node that is down: it takes nothing until it is restarted with what its storage holds. What it had counted and heard
+/// counts for nothing any more; the room of that is handed back when it restarts, so a crash takes no time in its history.
 #[derive(Drop)]
 #[derive_where(Debug)]
 pub struct Down<A: Allocator = Global> {
@@ -24,28 +25,39 @@ pub struct Down<A: Allocator = Global> {
 }
 
 impl<A: Allocator> Model for Down<A> {
-    ghost use Rattle.urb_node.specs.Held.{memory_of, IsFallen};
+    ghost use Rattle.std.specs.Prelude.{[]};
+    ghost use Rattle.urb_node.specs.Held.{memory_of, IsDown};
     ghost use Rattle.urb_node.specs.Values.{Fallen};
 
     ghost Value = { Fallen };
 
-    ghost view = { λ a. record { memory = memory_of a.held; doubt = a.doubt } };
+    ghost view = { λ a. record { memory = record (memory_of a.held) { acks = []; heard = [] }; doubt = a.doubt } };
 
-    ghost invariant = { λ a. IsFallen a.held a.doubt };
+    ghost invariant = { λ a. IsDown a.held a.doubt };
 }
 
 // A node goes down: what it has counted and heard is lost, and a record may be in doubt.
 pub(crate) fn fallen<A: Allocator + Copy>(
-    mut held: Held<A>,
+    held: Held<A>,
     doubt: Option<Record<Message<A>>>,
 ) -> Down<A>
     requires kept { IsHeld held }
     requires next { ForSome doubt (IsNextHeld held) }
     ensures { result ≡ record { memory = record (memory_of held) { acks = []; heard = [] }; doubt = doubt } }
 {
+    Down { held, doubt }
+}
+
+// It forgets what it had counted and heard.
+fn unheard<A: Allocator + Copy>(mut held: Held<A>, doubt: &Option<Record<Message<A>>>) -> Held<A>
+    requires kept { IsHeld held }
+    requires next { ForSome doubt.now (IsNextHeld held) }
+    ensures fallen { IsFallen result doubt.now }
+    ensures memory { memory_of result ≡ record (memory_of held) { acks = []; heard = [] } }
+{
     held.acks.forget();
     held.resend.forget();
-    Down { held, doubt }
+    held
 }
 
 // It comes up with what it holds: its resends begin anew.
@@ -71,6 +83,29 @@ fn with_doubtful<A: Allocator + Copy>(held: Held<A>, doubt: Option<Record<Messag
     }
 }
 
+// It comes up with its image, or stays down as it was.
+fn recover<A: Allocator + Copy>(
+    mut held: Held<A>,
+    doubt: Option<Record<Message<A>>>,
+    alloc: A,
+    image: Vec<Record<Message<A>>, A>,
+) -> Result<Ready<A>, (Down<A>, Refusal)>
+    requires { IsFallen held doubt }
+    ensures { Restarts (record { memory = memory_of held; doubt = doubt }) image.items result }
+{
+    // These do nothing: they give the proof what the layers always keep.
+    held.pending.limits();
+    held.fifo.limits();
+    match judge(&mut held, alloc, &doubt, &image) {
+        Ok(verdict) => match verdict {
+            Verdict::Stored => Ok(risen(held)),
+            Verdict::WithDoubtful => Ok(risen(with_doubtful(held, doubt))),
+            Verdict::Neither => Err((fallen(held, doubt), Refusal::BadImage)),
+        },
+        Err(NoMemory) => Err((fallen(held, doubt), Refusal::NoMemory)),
+    }
+}
+
 impl<A: Allocator + Copy> Down<A> {
     /// The node comes up again with its image: the recovery of the book's algorithm (section 3.7), which retrieves
     /// `pending` and `delivered`. The image has to say what the node had stored, or that with the record in doubt, which
@@ -83,17 +118,7 @@ impl<A: Allocator + Copy> Down<A> {
     ) -> Result<Ready<A>, (Down<A>, Refusal)>
         ensures { Restarts self image.items result }
     {
-        let Down { mut held, doubt } = self;
-        // These do nothing: they give the proof what the layers always keep.
-        held.pending.limits();
-        held.fifo.limits();
-        match judge(&mut held, alloc, &doubt, &image) {
-            Ok(verdict) => match verdict {
-                Verdict::Stored => Ok(risen(held)),
-                Verdict::WithDoubtful => Ok(risen(with_doubtful(held, doubt))),
-                Verdict::Neither => Err((fallen(held, doubt), Refusal::BadImage)),
-            },
-            Err(NoMemory) => Err((fallen(held, doubt), Refusal::NoMemory)),
-        }
+        let Down { held, doubt } = self;
+        recover(unheard(held, &doubt), doubt, alloc, image)
     }
 }

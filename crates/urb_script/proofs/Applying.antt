@@ -32,7 +32,7 @@ use Rattle.std.proofs.lemmas.Option.{slice_get_within}
 use Rattle.urb_node.specs.Part.{opened_node}
 use Rattle.urb_group.specs.Shown.{Shows}
 use Rattle.urb_group.specs.World.{started}
-use Rattle.urb_script.specs.declared.replies.Told.TheVariants as told
+use Rattle.urb_script.specs.declared.answer_words.Told.TheVariants as told
 use Rattle.urb_names.specs.Naming.{Content, Label}
 use Rattle.urb_names.specs.Carried.{Carried}
 use Rattle.urb_names.specs.declared.refusal.PacketFault.{PacketFault}
@@ -40,7 +40,7 @@ use Rattle.urb_names.specs.Packets.{IsPacket, packet_of, spelling}
 use Rattle.urb_names.specs.declared.flags.Flags.{Flags}
 use Rattle.urb_names.proofs.Parsed.{packet_spelled}
 use Rattle.urb_group.specs.Calls.{FindsMessage}
-use Rattle.urb_group.specs.Scripts.{or_nothing}
+use Rattle.urb_group.specs.Scripts.{flags_with, or_nothing}
 use Rattle.urb_script.specs.Commands as lines
 use Rattle.urb_script.specs.Commands.{line_of}
 use Rattle.urb_script.specs.Steps.{carried}
@@ -213,11 +213,11 @@ arrives_as scene after q p x (Some flags) bytes text e (inl t) = inl (t ∙ ap (
 arrives_as scene after q p x flags bytes text e (inr t) = absurd t.1
 
 pub arrives_from : {E : Type 0} (size limits : Limits) (old new : Clustered Memory) (q p : ℕ) (x : Label) (flags : Option Flags) (found : Option Content) (bytes text : List ℕ) (result : Result (Unit {0}) E)
-    → FindsMessage old.group q x found → packet_of bytes ≡ Ok (record { source = q; target = p; name = x; message = or_nothing found; flags = flags })
+    → FindsMessage old.group q x found → packet_of bytes ≡ Ok (record { source = q; target = p; name = x; message = or_nothing found; flags = flags_with flags (or_nothing found) })
     → OnOk result ((scene : Scene) → ShowsScene size old scene → TakesTo limits new scene (lines.Raw p bytes) text) → OnOk result ((scene : Scene) → ShowsScene size old scene → TakesTo limits new scene (lines.arrival q p x flags) text)
 arrives_from size limits old new q p x flags found bytes text (Ok done) finds e t = λ scene s.
     let next = t scene s in
-    let is : packet_of bytes ≡ Ok (carried scene.world q p x flags) = e ∙ ap (λ (m : Option Content). let packet : Carried = record { source = q; target = p; name = x; message = or_nothing m; flags = flags } in Ok packet) (finds scene.world s.group) in
+    let is : packet_of bytes ≡ Ok (carried scene.world q p x flags) = e ∙ ap (λ (m : Option Content). let packet : Carried = record { source = q; target = p; name = x; message = or_nothing m; flags = flags_with flags (or_nothing m) } in Ok packet) (finds scene.world s.group) in
     (next.0, next.1, arrives_as scene next.0 q p x flags bytes text is next.2)
 arrives_from size limits old new q p x flags found bytes text (Err fault) finds e t = tt
 

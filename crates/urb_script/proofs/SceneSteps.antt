@@ -9,6 +9,7 @@ use Rattle.urb_names.specs.Naming.{Content, Label, Limits}
 use Rattle.urb_names.specs.Nodes.{is_node, majority_passes}
 use Rattle.urb_names.specs.Pairs.{is_numbered, message_of, next_number}
 use Rattle.urb_names.specs.declared.flags.Flags.{Flags}
+use Rattle.urb_names.specs.declared.message.TheConstants.{MAX_PAYLOAD}
 use Rattle.urb_names.specs.declared.refusal.PacketFault.{PacketFault}
 use Rattle.urb_names.specs.declared.refusal.Refusal.TheVariants as refusal
 use Rattle.urb_stable.specs.Entries.{Entry}
@@ -62,7 +63,7 @@ submit-quiet : (size : Limits) (p : ℕ) (m : Content) (node : Node) → Leaves 
 submit-quiet size p m node =
     cond_both (is_down node.state) _ _ (Leaves node) (λ _. inl refl)
     (λ up. cond_both (is_storing node.state) _ _ (Leaves node) (λ _. inl refl)
-    (λ _. cond_both (nat_lt 1024 (length m.payload)) _ _ (Leaves node) (λ _. inl refl)
+    (λ _. cond_both (nat_lt MAX_PAYLOAD (length m.payload)) _ _ (Leaves node) (λ _. inl refl)
     (λ _. number-quiet size p m (find (is_numbered m.client m.number) node.broadcast) node up)))
 
 takes-quiet : (size : Limits) (p q : ℕ) (x : Label) (m : Content) (flags : Option Flags) (node : Node) → is_down node.state ≡ false → Leaves node (takes size p q x m flags node)

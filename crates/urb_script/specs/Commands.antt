@@ -16,8 +16,7 @@ use Rattle.urb_script.specs.declared.commands.CommandLine.TheVariants as line
 
 -- A command: make the group; submit a client's message at a node; store what a node holds, or have its store fail; crash
 -- or restart a node; stop all nodes at once and open them again; bring a node what another one has stored under a name, in a
--- packet of version one or with flags in one of version two, or any bytes; have it resend; show a node's log; show who has a name
--- stored.
+-- packet without flags or with these, or any bytes; have it resend; show a node's log; show who has a name stored.
 pub data Command : Type 0 where
   Group : (limits : Limits) → Command
   Submit : (node client number : ℕ) (payload : List ℕ) → Command
@@ -49,7 +48,7 @@ command (line.Tick node) = Tick node
 command (line.Log node) = Log node
 command (line.Held name) = Held name
 
--- the line that brings a packet of what a node has stored: of version one, or with flags of version two
+-- the line that brings a packet of what a node has stored: without flags, or with these
 abbrev pub arrival : ℕ → ℕ → Label → Option Flags → Command
 arrival source node name None = Arrive source node name
 arrival source node name (Some flags) = ArriveFlagged source node name flags

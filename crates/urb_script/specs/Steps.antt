@@ -15,10 +15,10 @@ use Rattle.urb_stable.specs.declared.memory.Failure.TheVariants.{Old, New}
 use Rattle.urb_group.specs.World.{World, opened, started, stored}
 use Rattle.urb_group.specs.Step.{Event, step}
 use Rattle.urb_group.specs.Step as event
-use Rattle.urb_group.specs.Scripts.{Scene, keeping, or_nothing, receipt}
+use Rattle.urb_group.specs.Scripts.{Scene, flags_with, keeping, or_nothing, receipt}
 use Rattle.urb_script.specs.Commands.{Command, Group, Submit, Stored, Fail, Crash, Restart, Arrive, ArriveFlagged, Raw, Tick, Log, Held, Reopen}
 use Rattle.urb_script.specs.Texts.{told_text, reply_text, log_text, held_text}
-use Rattle.urb_script.specs.declared.replies.Told.TheVariants as told
+use Rattle.urb_script.specs.declared.answer_words.Told.TheVariants as told
 
 -- the scene of a new group
 abbrev pub new_scene : Limits → Scene
@@ -36,10 +36,12 @@ happens what scene = happens_with scene.storage what scene
 abbrev pub found_at : World → ℕ → Label → Option Content
 found_at w q x = if is_node w.size.n q then message_of (pend (stored w q)) x else None
 
--- The packet from q to p of what q has stored under the name, with these flags or none; where it has nothing, of a message that
--- nobody sent.
+-- The packet from q to p of what q has stored under the name, with these flags or none, or with flags 0 where that is too long for
+-- a packet without flags; where it has nothing, of a message that nobody sent.
 abbrev pub carried : World → ℕ → ℕ → Label → Option Flags → Carried
-carried w q p x flags = record { source = q; target = p; name = x; message = or_nothing (found_at w q x); flags = flags }
+carried w q p x flags =
+    let m = or_nothing (found_at w q x) in
+    record { source = q; target = p; name = x; message = m; flags = flags_with flags m }
 
 -- the answer where a number is no node's
 abbrev pub bad_node : List ℕ

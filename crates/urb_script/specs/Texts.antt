@@ -17,8 +17,8 @@ use Rattle.urb_node.specs.Replies as reply
 use Rattle.urb_stable.specs.Entries.{Entry}
 use Rattle.urb_stable.specs.Log.{entries}
 use Rattle.urb_script.specs.Wording.{payload_word, name_text}
-use Rattle.urb_script.specs.declared.replies.Told.{Told}
-use Rattle.urb_script.specs.declared.replies.Told.TheVariants as told
+use Rattle.urb_script.specs.declared.answer_words.Told.{Told}
+use Rattle.urb_script.specs.declared.answer_words.Told.TheVariants as told
 
 -- a fault of a packet's bytes, as a word
 abbrev pub fault_word : PacketFault → List ℕ

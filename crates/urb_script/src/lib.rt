@@ -8,11 +8,11 @@
 //! answer is written whole and flushed before the next line is read. It opens no file and knows no socket.
 #![tactic(auto)]
 
+mod answer_words;
 mod commands;
 mod hex;
 mod input;
-mod lines;
-mod replies;
+mod reply_lines;
 mod runs;
 mod stage;
 mod words;

@@ -1,12 +1,12 @@
 //! The cluster that a script plays on.
 
 ghost use Rattle.std.specs.Prelude.{◌≡◌, ◌≢◌, [], ◌∷◌, ◌++◌, All, IfOk, Ok, OnOk, flat_map, if◌then◌else◌, is_some, length, map, option_map};
-ghost use Rattle.urb_names.specs.Packets.{packet_of};
+ghost use Rattle.urb_names.specs.Packets.{FitsVersion, packet_of};
 ghost use Rattle.urb_names.specs.Pairs.{message_of};
 ghost use Rattle.urb_stable.specs.Memory.{empty_memory};
 ghost use Rattle.urb_stable.specs.Records.{pend};
 ghost use Rattle.urb_group.specs.InMemory.{in_memory};
-ghost use Rattle.urb_group.specs.Scripts.{or_nothing};
+ghost use Rattle.urb_group.specs.Scripts.{flags_with, or_nothing};
 ghost use Rattle.urb_group.specs.Stocked.{IsStocked};
 ghost use Rattle.urb_group.specs.World.{World, stored};
 ghost use Rattle.urb_group.specs.Shown.{Shows};
@@ -17,15 +17,16 @@ ghost use Rattle.urb_script.specs.Staged.{Shown, ShowsScene, StoresAsAsked, Tell
 ghost use Rattle.urb_script.specs.Steps.{IsLater, holders, shown_holders, shown_log};
 ghost use Rattle.urb_script.specs.Texts.{entry_text};
 
+use crate::answer_words::{Told, push_told};
 use crate::commands::CommandLine;
 use crate::hex::HexBytes;
-use crate::lines::{push_entry, push_held_head, push_holder, push_log_head, push_told_reply};
-use crate::replies::{Told, push_told};
+use crate::reply_lines::{push_entry, push_held_head, push_holder, push_log_head, push_told_reply};
 use crate::runs::Play;
 use std::alloc::{Allocator, Global};
 use urb_group::{Cluster, Command};
 use urb_names::{
-    ClientId, Config, Flags, Message, Name, NoMemory, NodeId, Packet, Refusal, encode,
+    ClientId, Config, Flags, MAX_PLAIN_PAYLOAD, Message, Name, NoMemory, NodeId, Packet, Refusal,
+    encode,
 };
 use urb_stable::{Failure, MemStable};
 
@@ -61,7 +62,25 @@ fn message_or_nothing<A: Allocator + Copy>(
     }
 }
 
-// The bytes of a packet of a message.
+// The flags of a packet of a message: these, or none; but 0 where there are none and the payload is too long for a packet
+// without flags.
+fn flags_with<A: Allocator>(flags: Option<Flags>, message: &Message<A>) -> Option<Flags>
+    ensures value { result ≡ flags_with flags message.now }
+    ensures version { FitsVersion result message.now.payload }
+{
+    if let Some(flags) = flags {
+        return Some(flags);
+    }
+    if MAX_PLAIN_PAYLOAD < message.payload().len() {
+        return Some(Flags {
+            certified: false,
+            heard: false,
+        });
+    }
+    None
+}
+
+// The bytes of a packet of a message, with these flags, with none, or with flags 0.
 fn packet_bytes<A: Allocator + Copy>(
     alloc: A,
     source: NodeId,
@@ -71,8 +90,9 @@ fn packet_bytes<A: Allocator + Copy>(
     flags: Option<Flags>,
 ) -> Result<Vec<u8, A>, NoMemory>
     requires { source ≢ node }
-    ensures { IfOk result (λ bytes. packet_of bytes.items ≡ Ok (record { source = source; target = node; name = name; message = message; flags = flags })) }
+    ensures { IfOk result (λ bytes. packet_of bytes.items ≡ Ok (record { source = source; target = node; name = name; message = message; flags = flags_with flags message })) }
 {
+    let flags = flags_with(flags, &message);
     let packet = Packet::new(source, node, name, message, flags);
     packet.limits();
     encode(alloc, &packet)

@@ -13,12 +13,12 @@ const ONE_NODE: &[u8] = b"group 1 10\nsubmit 1 7 1 hi\nstored 1\nlog 1\n";
 const ONE_NODE_ANSWERS: &[u8] =
     b"group 1 10\ndraft 1.1 at 1\naccepted 1.1 sent 0 released 1\nlog 1: 1.1=hi\n";
 
-/// A text in which each `@` stands for 1,024 letters x.
+/// A text in which each `@` stands for 16,384 letters x.
 fn spelled(alloc: Global, text: &[u8]) -> Result<Vec<u8>, Fail> {
     let mut whole = Vec::new(alloc);
     for byte in text {
         if *byte == b'@' {
-            whole.extend_from_slice([b'x'; 1024].as_slice())?;
+            whole.extend_from_slice(Vec::from_elem(alloc, b'x', 16384)?.as_slice())?;
         } else {
             whole.push(*byte)?;
         }

@@ -57,6 +57,12 @@ fn worked_scripts_are_answered(rt: HostRuntime) -> Result<(), Fail> {
             b"group 3 10\ndraft 1.1 at 1\naccepted 1.1 sent 2 released 0\ndraft 1.2 at 2\naccepted 1.2 sent 2 released 0\ndraft 1.2 at 1\ntaken 1.2 sent 2 released 0\ndraft 1.1 at 2\ntaken 1.1 sent 2 released 2\nlog 2: 1.1=a 1.2=b\n",
             Ended::Whole,
         ),
+        // A message that is too long for a packet without flags comes in one with flags 0, which is answered.
+        (
+            b"group 3 10\nsubmit 1 7 1 @\nstored 1\narrive 1 2 1 1\nstored 2\narrive 1 2 1 1\nlog 2\n",
+            b"group 3 10\ndraft 1.1 at 1\naccepted 1.1 sent 2 released 0\ndraft 1.1 at 1\ntaken 1.1 sent 2 released 1\nanswered 1.1 to 1 flags 1\nlog 2: 1.1=@\n",
+            Ended::Whole,
+        ),
         // A packet of a message that its source hasn't stored is forged.
         (
             b"group 3 10\nsubmit 1 7 1 a\narrive 1 2 1 1\n",

@@ -1,98 +1,211 @@
--- What CREATE TABLE IF NOT EXISTS does to a file with no table, and to one that has the journal.
-use Rattle.std.proofs.Common.{◌≡◌, ℕ, ◌+◌, List, [], length, false, None, Ok, IsTrue, refl, sym, ap, subst, ◌∙◌}
-use Rattle.sqlite.specs.Command.TheVariants.{CreateTable}
-use Rattle.sqlite.specs.Change.{created, next_tree}
-use Rattle.sqlite.specs.Does.{Tally, Does, lacks_sequence}
+-- What CREATE TABLE IF NOT EXISTS does to a database that lacks the table, and to one that has it.
+use Rattle.std.proofs.Common.{◌≡◌, ◌⊎◌, inl, inr, ℕ, ◌+◌, ◌<◌, ◌||◌, Bool, true, false, cond, List, [], ◌∷◌, ◌++◌, length, slice_get, option_map, Option, None, Some, is_some, Ok, Err, IsTrue, refl, sym, ap, subst, ◌∙◌, append-nil, append_assoc}
+use Rattle.std.specs.List.{AllByRecursion}
+use Rattle.std.proofs.lemmas.Bool.{cases_Bool, true≢false}
+use Rattle.sqlite.specs.Order.{Row}
 use Rattle.sqlite.specs.Tree.{Trees}
+use Rattle.sqlite.specs.Table.{Table}
+use Rattle.sqlite.specs.Schema.{Schema}
+use Rattle.sqlite.specs.Command.TheVariants.{CreateTable, Nothing}
+use Rattle.sqlite.specs.Change.{created, next_tree}
+use Rattle.sqlite_catalog.specs.Calls.{CreatesTable}
+use Rattle.sqlite_catalog.specs.Change.{is_used}
+use Rattle.sqlite_catalog.specs.Listing.{IsSound}
+use Rattle.sqlite.specs.Does.{Tally, Does, lacks_sequence, sequence_text}
 use Rattle.sqlite.specs.Effect.{Database}
-use Rattle.sqlite.specs.State.{State, mode_of, HasCleanDisk, IsUnchanged, Writes, Executes, ExecutesIn}
-use Rattle.sqlite.proofs.Callers.{runs_as}
-use Rattle.urb_stable.specs.Entries.{Entry}
-use Rattle.urb_sqlite.specs.Journal.{create_text, journal, no_schema, HasJournal}
-use Rattle.urb_sqlite.specs.Rows.{StandsFor}
-use Rattle.urb_sqlite.specs.Reading.{read_from, records_of}
-use Rattle.urb_sqlite.specs.OpenJournal.{IsCounted, IsKept, IsHonestJournal}
+use Rattle.sqlite_schema.specs.Names.{table_named, index_named, view_named}
+use Rattle.sqlite.specs.State.{State, mode_of, text_of, IsUnchanged, Writes, Executes, ExecutesIn, CommitsBy}
+use Rattle.urb_sqlite.specs.Journal.{create_text, journal_name, second_name, no_schema, record_table, table_of, tree_of, Lacks, HasTable}
+use Rattle.urb_sqlite.specs.Shape.{is_journal, has_table}
+use Rattle.urb_sqlite.specs.OpenJournal.{AddsTable, AddsOne, IsLonger, IsMade}
 use Rattle.urb_sqlite.proofs.InsertLemmas.{went, same_value}
-use Rattle.urb_sqlite.proofs.StandLemmas.{records_are, stands_if_read}
-use Rattle.urb_sqlite.proofs.TextLemmas.{create_is, create_whole, create_plain}
-use Rattle.urb_sqlite.proofs.AnyLemmas.{leaves_the_table}
-use Rattle.urb_sqlite.proofs.KeepLemmas.{same_first, same_journal}
+use Rattle.urb_sqlite.proofs.TextLemmas.{Makes}
+use Rattle.sqlite_tied.specs.Compute.{everything}
+use Rattle.urb_sqlite.proofs.AnyLemmas.{create_is}
+use Rattle.urb_sqlite.proofs.AddLemmas.{all_at, slice_front, slice_last, has_behind, has_new, kept_rows, low_trees}
 
--- the database with an empty journal
-does_create : (old : State) (tally : Tally) (after : Database) → old.now.schema ≡ no_schema
-    → Does old.step_limit (mode_of old) [] old.now create_text None CreateTable (Ok (tally, after)) → HasJournal after.schema × (after.trees 0 ≡ [])
-does_create old tally after has changed =
-    let all = went changed in
-    let first = went all.1 in
-    let made = first.1 in
-    let both : Ok made.table ≡ Ok journal = sym made.defined ∙ create_is.1 in
-    let same : made.table ≡ journal = cc in
-    let schema : first.0.schema ≡ created no_schema journal = made.is ∙ ap (λ s. created s made.table) has ∙ ap (created no_schema) same in
-    let plain : lacks_sequence first.0.schema ≡ false = ap lacks_sequence schema in
-    let now : after ≡ first.0 = ap (λ (p : Tally × Database). p.1) (same_value all.2) ∙ same_value (rw plain at first.2) in
-    (same_first (ap (λ (d : Database). d.schema) now ∙ schema) refl, ap (λ (d : Database). d.trees 0) now ∙ subst (λ s. first.0.trees (next_tree s) ≡ []) has made.empty)
+no_other : (o : Option ℕ) (b c : Bool) → ((is_some o || b) || c) ≡ false → o ≡ None
+no_other None b c h = refl
+no_other (Some x) b c h = absurd (let n = h in cc)
 
-pub creates : (old new : State) (count : ℕ) → old.now.schema ≡ no_schema → Executes create_text [] old new (Ok count) → HasJournal new.now.schema × (new.now.trees 0 ≡ [])
-creates old new count has h =
-    let w = subst (λ t. Writes old new None CreateTable t [] count) create_whole (runs_as create_text [] old new no_schema has CreateTable create_is.0 create_plain count h) in
-    does_create old w.tally new.now has w.changed
+-- the table that a CREATE adds
+abbrev added : Database → Table → Table
+added d table = record table { tree = next_tree d.schema }
 
-pub creates_nothing : (old new : State) (count : ℕ) → HasJournal old.now.schema → Executes create_text [] old new (Ok count) → IsUnchanged old new
-unfolding ExecutesIn
-creates_nothing old new count has h =
-    let is = leaves_the_table old.now.schema has h.0 h.1.is in
-    (rw (is.0, is.1) at h.2).0
+behind : (d after : Database) (text : List ℕ) (made : CreatesTable d.schema text d.trees after.schema after.trees) → after.schema.tables ≡ d.schema.tables ++ added d made.table ∷ []
+behind d after text made = ap (λ (s : Schema). s.tables) made.is
 
--- a journal with no row stands for no record
-pub stands_empty : (db : Trees) → db 0 ≡ [] → StandsFor db []
-unfolding read_from
-stands_empty db none = stands_if_read db [] (rw none refl)
+-- tables that are there stay, with their rows
+keeps_one : (d after : Database) (text : List ℕ) → CreatesTable d.schema text d.trees after.schema after.trees → (other : List ℕ) → HasTable d.schema other
+    → HasTable after.schema other × (after.trees (tree_of after.schema other) ≡ d.trees (tree_of d.schema other))
+keeps_one d after text made other has =
+    let it = has_behind d.schema after.schema (added d made.table) (behind d after text made) other has in
+    (it.0, ap after.trees it.1 ∙ kept_rows d.schema d.trees after.trees other has made.others)
 
--- ---- what was found is counted
+-- each of these keeps its rows twice
+rows_twice : (a b c : Trees) (ts more : List Table) → AllByRecursion (λ (t : Table). b t.tree ≡ a t.tree) ts → AllByRecursion (λ (t : Table). c t.tree ≡ b t.tree) (ts ++ more)
+    → AllByRecursion (λ (t : Table). c t.tree ≡ a t.tree) ts
+rows_twice a b c [] more one two = tt
+rows_twice a b c (t ∷ ts) more one two = (two.0 ∙ one.0, rows_twice a b c ts more one.1 two.1)
 
-pub kept_after_read : (mid new : State) (records : List Entry) → mid.in_transaction ≡ false → (IsTrue mid.is_open → mid.now ≡ mid.committed) → IsUnchanged mid new
-    → (HasJournal mid.now.schema → StandsFor mid.now.trees records) → IsKept new (length records + 1)
-kept_after_read mid new records auto settled same stands =
-    let now = same.0.now_is in
+longer_one : (d after : Database) (text : List ℕ) → CreatesTable d.schema text d.trees after.schema after.trees → IsLonger d after
+longer_one d after text made = record { more = added d made.table ∷ []; tables = behind d after text made; rows = made.others }
+
+longer_then : (a b c : Database) → IsLonger a b → IsLonger b c → IsLonger a c
+longer_then a b c one two = record {
+  more = one.more ++ two.more;
+  tables = two.tables ∙ ap (λ (ts : List Table). ts ++ two.more) one.tables ∙ append_assoc a.schema.tables one.more two.more;
+  rows = rows_twice a.trees b.trees c.trees a.schema.tables one.more one.rows (subst (AllByRecursion (λ (t : Table). c.trees t.tree ≡ b.trees t.tree)) one.tables two.rows);
+}
+
+adds_one : (d after : Database) (text name : List ℕ) → Makes text name → CreatesTable d.schema text d.trees after.schema after.trees → next_tree d.schema < 65536 → AddsTable d after name
+adds_one d after text name parsed made low =
+    let both : Ok made.table ≡ Ok (record_table name 0) = sym made.defined ∙ parsed.defines in
+    let same : made.table ≡ record_table name 0 = cc in
+    let is : added d made.table ≡ record_table name (next_tree d.schema) = ap (added d) same in
+    let none : table_named d.schema name ≡ None = no_other (table_named d.schema name) (is_some (index_named d.schema name)) (is_some (view_named d.schema name)) (ap (λ (t : Table). is_used d.schema t.name) (sym same) ∙ made.free) in
+    let it = has_new d.schema after.schema (added d made.table) (behind d after text made) name is none parsed.itself low in
+    record { has = it.0; empty = ap after.trees it.1 ∙ made.empty; longer = longer_one d after text made; keeps = keeps_one d after text made }
+
+adds_then : (d mid after : Database) (text name : List ℕ) → AddsTable d mid name → CreatesTable mid.schema text mid.trees after.schema after.trees → AddsTable d after name
+adds_then d mid after text name first made =
+    let kept = keeps_one mid after text made name first.has in
     record {
-      autocommit = same.0.mode ∙ auto;
-      settled = now ∙ settled same.0.was_open ∙ sym same.0.committed_is;
-      counted = λ has.
-          let found = stands (same_journal (sym now) has) in
-          subst (λ (d : Database). IsCounted d.trees (length records + 1)) (sym now) (record { stands = rw (records_are mid.now.trees records found) found; place = rw (records_are mid.now.trees records found) refl });
+      has = kept.0;
+      empty = kept.1 ∙ first.empty;
+      longer = longer_then d mid after first.longer (longer_one mid after text made);
+      keeps = λ other has.
+          let one = first.keeps other has in
+          let two = keeps_one mid after text made other one.0 in
+          (two.0, two.1 ∙ one.1);
     }
 
--- an empty journal is counted
-pub counted_empty : (db : Trees) → db 0 ≡ [] → IsCounted db 1
-counted_empty db none =
-    let stands = stands_empty db none in
-    let is = records_are db [] stands in
-    record { stands = subst (StandsFor db) (sym is) stands; place = rw is refl }
+-- the new table's tree is low, as each of a sound database
+low_new : (d mid after : Database) (table : Table) (rest : List Table) → mid.schema.tables ≡ d.schema.tables ++ added d table ∷ [] → after.schema.tables ≡ mid.schema.tables ++ rest → IsSound after.schema after.trees → next_tree d.schema < 65536
+low_new d mid after table rest first second sound =
+    let there : slice_get mid.schema.tables (length d.schema.tables) ≡ Some (added d table) = ap (λ ts. slice_get ts (length d.schema.tables)) first ∙ slice_last d.schema.tables (added d table) in
+    let here : slice_get after.schema.tables (length d.schema.tables) ≡ Some (added d table) = ap (λ ts. slice_get ts (length d.schema.tables)) second ∙ slice_front mid.schema.tables rest _ _ there in
+    all_at (λ (t : Table). t.tree < 65536) after.schema.tables _ (added d table) (low_trees after.schema after.trees sound) here
 
--- a file that had no table is an honest journal with no record
-pub honest_and_empty : (mid new : State) → HasCleanDisk new → HasJournal mid.now.schema → mid.now.trees 0 ≡ [] → IsUnchanged mid new
-    → IsHonestJournal new × (records_of new.now.trees ≡ [])
-honest_and_empty mid new clean has none same = (
-  record { clean = clean; is_open = same.0.is_open; schema = same_journal same.0.now_is has },
-  records_are new.now.trees [] (stands_empty new.now.trees (ap (λ (d : Database). d.trees 0) same.0.now_is ∙ none)),
-)
+does_create : (old : State) (text name : List ℕ) (params : Row) (tally : Tally) (after : Database) → Makes text name
+    → Does old.step_limit (mode_of old) params old.now text None CreateTable (Ok (tally, after)) → IsSound after.schema after.trees → AddsTable old.now after name
+does_create old text name params tally after parsed changed sound =
+    let all = went changed in
+    let first = went all.1 in
+    let mid = first.0 in
+    let made = first.1 in
+    let now : after ≡ all.0 = ap (λ (p : Tally × Database). p.1) (same_value all.2) in
+    elim (cases_Bool (lacks_sequence mid.schema)) [
+      | inl lacks ↦
+          let more : CreatesTable mid.schema sequence_text mid.trees all.0.schema all.0.trees = rw lacks at first.2 in
+          let more_after : CreatesTable mid.schema sequence_text mid.trees after.schema after.trees = subst (λ (d : Database). CreatesTable mid.schema sequence_text mid.trees d.schema d.trees) (sym now) more in
+          let low = low_new old.now mid after made.table _ (behind old.now mid text made) (behind mid after sequence_text more_after) sound in
+          adds_then old.now mid after sequence_text name (adds_one old.now mid text name parsed made low) more_after
+      | inr plain ↦
+          let is : after ≡ mid = now ∙ same_value (rw plain at first.2) in
+          let made_after : CreatesTable old.now.schema text old.now.trees after.schema after.trees = subst (λ (d : Database). CreatesTable old.now.schema text old.now.trees d.schema d.trees) (sym is) made in
+          let low = low_new old.now after after made_after.table [] (behind old.now after text made_after) (sym (append-nil after.schema.tables)) sound in
+          adds_one old.now after text name parsed made_after low
+    ]
 
--- a file that had the journal is honest, and its rows are the records that were read
-pub honest_and_read : (old mid new : State) (records : List Entry) → HasCleanDisk new → HasJournal old.now.schema → IsUnchanged old mid → IsUnchanged mid new → (HasJournal mid.now.schema → StandsFor mid.now.trees records)
-    → IsHonestJournal new × StandsFor old.now.trees (records_of new.now.trees)
-honest_and_read old mid new records clean has first second read =
-    let has_mid = same_journal first.0.now_is has in
-    let stands = read has_mid in
-    let trees = ap (λ (d : Database). d.trees) first.0.now_is in
-    let is : records_of new.now.trees ≡ records = ap (λ (d : Database). records_of d.trees) second.0.now_is ∙ records_are mid.now.trees records stands in (
-      record { clean = clean; is_open = second.0.is_open; schema = same_journal second.0.now_is has_mid },
-      subst (StandsFor old.now.trees) (sym is) (subst (λ t. StandsFor t records) trees stands),
-    )
+lacks_shape : (s : Schema) (name : List ℕ) → Lacks s name → has_table name s ≡ false
+lacks_shape s name none = ap (λ (o : Option Table). Rattle.std.specs.Prelude.unwrap_or (option_map (is_journal name) o) false) none
 
--- What was read is what the journal showed, and shows.
-pub given_by_read : (old new : State) (records : List Entry) → IsHonestJournal new → IsUnchanged old new → (HasJournal old.now.schema → StandsFor old.now.trees records)
-    → (records_of new.now.trees ≡ records) × (records ≡ records_of old.now.trees)
-given_by_read old new records honest same read =
-    let has = same_journal (sym same.0.now_is) honest.schema in
-    let is = records_are old.now.trees records (read has) in
-    (ap (λ (d : Database). records_of d.trees) same.0.now_is ∙ is, sym is)
+-- ---- the first table of an empty database
+
+-- the schema that has the first table alone
+abbrev first_alone : Schema
+first_alone = created no_schema (record_table journal_name 0)
+
+first_lacks_second : Lacks first_alone second_name
+unfolding everything Rattle.sqlite_schema.specs.Names.same_name
+first_lacks_second = refl
+
+first_needs_no_sequence : lacks_sequence first_alone ≡ false
+first_needs_no_sequence = refl
+
+does_first : (old : State) (params : Row) (tally : Tally) (after : Database) → Makes create_text journal_name → old.now.schema ≡ no_schema
+    → Does old.step_limit (mode_of old) params old.now create_text None CreateTable (Ok (tally, after)) → Lacks after.schema second_name
+does_first old params tally after parsed empty changed =
+    let all = went changed in
+    let first = went all.1 in
+    let mid = first.0 in
+    let made = first.1 in
+    let both : Ok made.table ≡ Ok (record_table journal_name 0) = sym made.defined ∙ parsed.defines in
+    let same : made.table ≡ record_table journal_name 0 = cc in
+    let is : mid.schema ≡ first_alone = made.is ∙ ap (λ (t : Table). created old.now.schema t) same ∙ ap (λ (s : Schema). created s (record_table journal_name 0)) empty in
+    let plain : lacks_sequence mid.schema ≡ false = ap lacks_sequence is ∙ first_needs_no_sequence in
+    let now : after ≡ mid = ap (λ (p : Tally × Database). p.1) (same_value all.2) ∙ same_value (rw plain at first.2) in
+    ap (λ (s : Schema). table_of s second_name) (ap (λ (d : Database). d.schema) now ∙ is) ∙ first_lacks_second
+
+-- Made in an empty database, the first table is alone.
+pub creates_first : (old new : State) (count : ℕ) → Makes create_text journal_name → old.now.schema ≡ no_schema → has_table journal_name new.now.schema ≡ true → Executes create_text [] old new (Ok count)
+    → Lacks new.now.schema second_name
+unfolding ExecutesIn
+creates_first old new count parsed empty ready h =
+    let is = create_is create_text journal_name parsed old.now.schema h.0 h.1.is in
+    let lacks : Lacks old.now.schema journal_name = ap (λ (s : Schema). table_of s journal_name) empty in
+    elim is.comes_to [
+      | inl none ↦
+          let same : IsUnchanged old new = (rw (none, is.returning_is) at h.2).0 in
+          absurd (true≢false (sym ready ∙ ap (λ (d : Database). has_table journal_name d.schema) same.0.now_is ∙ lacks_shape old.now.schema journal_name lacks))
+      | inr makes ↦
+          let w = rw (makes, is.returning_is) at h.2 in
+          does_first old [] w.tally new.now parsed empty (subst (λ t. Does old.step_limit (mode_of old) [] old.now t None CreateTable (Ok (w.tally, new.now))) is.whole w.changed)
+    ]
+
+module _ (text name : List ℕ) (parsed : Makes text name) where
+  -- Where the table is absent and is there then, it was made.
+  pub creates : (old new : State) (count : ℕ) → Lacks old.now.schema name → has_table name new.now.schema ≡ true → Executes text [] old new (Ok count) → IsMade old new name
+  unfolding ExecutesIn
+  creates old new count lacks ready h =
+      let is = create_is text name parsed old.now.schema h.0 h.1.is in
+      elim is.comes_to [
+        | inl none ↦
+            let same : IsUnchanged old new = (rw (none, is.returning_is) at h.2).0 in
+            absurd (true≢false (sym ready ∙ ap (λ (d : Database). has_table name d.schema) same.0.now_is ∙ lacks_shape old.now.schema name lacks))
+        | inr makes ↦
+            let w = rw (makes, is.returning_is) at h.2 in
+            let changed = subst (λ t. Does old.step_limit (mode_of old) [] old.now t None CreateTable (Ok (w.tally, new.now))) is.whole w.changed in
+            record { was_open = w.shown.was_open; is_open = w.shown.is_open; adds = does_create old text name [] w.tally new.now parsed changed w.sound }
+      ]
+
+  -- Whatever the schema: nothing changes, or the table is made, and outside a transaction it is committed.
+  pub creates_at_most : (old new : State) (count : ℕ) → Executes text [] old new (Ok count) → IsUnchanged old new ⊎ (IsMade old new name × (old.in_transaction ≡ false → new.committed ≡ new.now))
+  unfolding ExecutesIn
+  creates_at_most old new count h =
+      let is = create_is text name parsed old.now.schema h.0 h.1.is in
+      elim is.comes_to [
+        | inl none ↦ (let same : IsUnchanged old new = (rw (none, is.returning_is) at h.2).0 in inl same)
+        | inr makes ↦
+            let w = rw (makes, is.returning_is) at h.2 in
+            let changed = subst (λ t. Does old.step_limit (mode_of old) [] old.now t None CreateTable (Ok (w.tally, new.now))) is.whole w.changed in
+            let made : IsMade old new name = record { was_open = w.shown.was_open; is_open = w.shown.is_open; adds = does_create old text name [] w.tally new.now parsed changed w.sound } in
+            inr (made, λ auto. rw auto at w.shown.committed_is)
+      ]
+
+  pub creates_nothing : (old new : State) (count : ℕ) → HasTable old.now.schema name → Executes text [] old new (Ok count) → IsUnchanged old new
+  unfolding ExecutesIn
+  creates_nothing old new count has h =
+      let is = create_is text name parsed old.now.schema h.0 h.1.is in
+      (rw (is.leaves has, is.returning_is) at h.2).0
+
+  -- what a CREATE commits is the database with the table
+  pub commits_one : (old : State) (db : Trees) → CommitsBy text [] old db → AddsOne old.now name db
+  unfolding CommitsBy
+  commits_one old db h =
+      let is = create_is text name parsed old.now.schema h.0 h.1.is in
+      elim is.comes_to [
+        | inl none ↦ elim (rw (none, is.returning_is) at h.2) [
+          | inl (inl commit, same) ↦ absurd (let e = commit in cc)
+          | inl (inr released, same) ↦ absurd (let e = released.2 in cc)
+          | inr wrote ↦ absurd (let e = wrote.3 in cc)
+        ]
+        | inr makes ↦ elim (rw (makes, is.returning_is) at h.2) [
+          | inl (inl commit, same) ↦ absurd (let e = commit in cc)
+          | inl (inr released, same) ↦ absurd (let e = released.2 in cc)
+          | inr wrote ↦
+              let changed = subst (λ t. Does old.step_limit (mode_of old) [] old.now t None CreateTable (Ok (wrote.1, wrote.2))) is.whole wrote.3 in
+              record { after = wrote.2; adds = does_create old text name [] wrote.1 wrote.2 parsed changed wrote.4; sound = wrote.4; is = wrote.5 }
+        ]
+      ]

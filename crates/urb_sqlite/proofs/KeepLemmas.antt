@@ -1,8 +1,8 @@
 -- What each statement of a journal does to the records that it stands for.
-use Rattle.std.proofs.Common.{◌≡◌, ◌⊎◌, inl, inr, ℕ, ◌+◌, ◌<◌, ◌≤◌, false, List, [], ◌∷◌, ◌++◌, map, length-append, slice_get, take, Option, Some, None, Ok, Err, IsTrue, refl, sym, ap, subst, ◌∙◌, arith}
+use Rattle.std.proofs.Common.{◌≡◌, ◌≢◌, ◌⊎◌, inl, inr, ℕ, ◌+◌, ◌<◌, ◌≤◌, false, List, [], ◌∷◌, ◌++◌, map, length-append, slice_get, Option, Some, None, Ok, Err, IsTrue, refl, sym, ap, subst, ◌∙◌, arith}
 use Rattle.std.proofs.lemmas.Bool.{cases_Bool}
 use Rattle.sqlite.specs.Order.{Row}
-use Rattle.sqlite.specs.Tree.{Trees, put_row}
+use Rattle.sqlite.specs.Tree.{Trees}
 use Rattle.sqlite.specs.View.{doubt}
 use Rattle.std.proofs.lemmas.List.Sorted.{IsPermutation-sym, IsPermutation-trans}
 use Rattle.sqlite_keyed.proofs.SortLemmas.{sorted_unique, IsPermutation-sort_by}
@@ -17,24 +17,36 @@ use Rattle.sqlite.specs.Table.{Table}
 use Rattle.sqlite.specs.Command.TheVariants.{Insert}
 use Rattle.sqlite.specs.State.{State, IsLive, mode_of, text_of, Runs, Writes, HasCleanDisk, Executes, ExecutesIn, IsNotRun, IsUnchanged, IsRolledBack, KeepsCommit, shows_rows, Shown, Survives, CommitsBy, CommitsShowing, FailsToQuery}
 use Rattle.urb_stable.specs.Entries.{Entry, IsEntry}
+use Rattle.urb_stable.specs.Storing.{is_bad_row}
+use Rattle.urb_stable.specs.declared.stable.StoreFault.{StoreFault}
 use Rattle.urb_stable.specs.declared.record.Record.TheVariants.{Pend, PendCert, Cert}
-use Rattle.urb_sqlite.specs.Journal.{insert_text, select_text, HasJournal, journal_tree, journal_limit}
-use Rattle.urb_sqlite.specs.OpenJournal.{IsJournal}
-use Rattle.urb_sqlite.specs.Rows.{row_of, kept_of, rows_in, by_pos, shown, IsWithin, IsInOrder, StandsFor}
+use Rattle.urb_sqlite.specs.Journal.{insert_text, select_of, name_of, limit_of, tree_of, HasTable, HasBoth, journal_name, second_name}
+use Rattle.urb_sqlite.specs.declared.statements.Part.{Part}
+use Rattle.urb_sqlite.specs.declared.statements.Part.TheVariants.{First, Second}
+use Rattle.std.specs.List.{AllByRecursion}
+use Rattle.urb_sqlite.proofs.AddLemmas.{all_at, trees_differ}
+use Rattle.urb_sqlite.specs.OpenJournal.{IsJournal, database_of}
+use Rattle.sqlite_catalog.specs.Listing.{IsSound}
+use Rattle.urb_sqlite.proofs.TextLemmas.{insert_parsed, select_parsed, found_at}
+use Rattle.urb_sqlite.specs.Rows.{row_of, kept_of, rows_in, by_pos, shown, IsWithin, IsInOrder, table_rows, StandsFor}
 use Rattle.urb_sqlite.specs.Reading.{read_from, records_of}
 use Rattle.urb_sqlite.specs.OpenJournal.{IsCounted, IsKept, IsInStep, IsHonestJournal, IsAppended, IsLeft, IsSafeAtRest, LeavesOnly}
-use Rattle.urb_sqlite.proofs.InsertLemmas.{IsPut, inserts, commits_put, went, same_value}
+use Rattle.urb_sqlite.proofs.InsertLemmas.{IsPut, HasPut, inserts, commits_put, went, same_value}
 use Rattle.urb_sqlite.proofs.AnyLemmas.{inserts_in_any, reads_in_any}
 use Rattle.urb_sqlite.proofs.OrderLemmas.{sort_is}
 use Rattle.urb_sqlite.proofs.SelectLemmas.{selects}
-use Rattle.urb_sqlite.proofs.StandLemmas.{stands_more, stands_if_read, reads_if_stands, records_are, placed, by_pos_total}
+use Rattle.urb_sqlite.proofs.StandLemmas.{stands_more, rows_there, records_are, placed, by_pos_total}
 
--- the same schema, or the same database, has the same first table
-pub same_first : {new old : Schema} → new ≡ old → HasJournal old → HasJournal new
-same_first same has = ap (λ (s : Schema). take 1 s.tables) same ∙ has
+-- the same schema, or the same database, has the same tables
+pub same_first : {new old : Schema} → new ≡ old → HasBoth old → HasBoth new
+same_first same has = subst HasBoth (sym same) has
 
-pub same_journal : {new old : Database} → new ≡ old → HasJournal old.schema → HasJournal new.schema
-same_journal same has = ap (λ (d : Database). take 1 d.schema.tables) same ∙ has
+pub same_journal : {new old : Database} → new ≡ old → HasBoth old.schema → HasBoth new.schema
+same_journal same has = subst (λ (d : Database). HasBoth d.schema) (sym same) has
+
+-- the two names differ
+pub names_differ : journal_name ≡ second_name → ⊥
+names_differ e = absurd (let n = e in cc)
 
 -- A statement that is refused changed nothing, or went back to the last commit.
 pub left_by_err : (sql : List ℕ) (params : Row) (old new : State) (e : Error) → Executes sql params old new (Err e) → IsUnchanged old new ⊎ IsRolledBack old new
@@ -81,13 +93,13 @@ kept_same old new next is_open same h =
     record {
       autocommit = same.autocommit h.autocommit;
       settled = now ∙ h.settled ∙ sym (same.committed_is is_open);
-      counted = λ has. subst (λ (d : Database). IsCounted d.trees next) (sym now) (h.counted (same_journal (sym now) has));
+      counted = λ has. subst (λ (d : Database). IsCounted d next) (sym now) (h.counted (same_journal (sym now) has));
     }
 
-pub puts_record : (old new : State) (place : ℕ) (r : Entry) (count : ℕ) → HasJournal old.now.schema → Executes insert_text (row_of place r) old new (Ok count) → IsPut old new (kept_of place r)
-puts_record old new place (Pend name m) count has h = inserts old new place 1 name.sender name.seq m.client m.number m.payload count has h
-puts_record old new place (PendCert name m) count has h = inserts old new place 2 name.sender name.seq m.client m.number m.payload count has h
-puts_record old new place (Cert name) count has h = inserts old new place 3 name.sender name.seq 0 0 [] count has h
+pub puts_record : (old new : State) (place : ℕ) (r : Entry) (count : ℕ) → HasTable old.now.schema second_name → Executes insert_text (row_of place r) old new (Ok count) → IsPut old new (tree_of old.now.schema second_name) (kept_of place r)
+puts_record old new place (Pend name m) count has h = inserts insert_text second_name insert_parsed old new place 1 name.sender name.seq m.client m.number m.payload count has h
+puts_record old new place (PendCert name m) count has h = inserts insert_text second_name insert_parsed old new place 2 name.sender name.seq m.client m.number m.payload count has h
+puts_record old new place (Cert name) count has h = inserts insert_text second_name insert_parsed old new place 3 name.sender name.seq 0 0 [] count has h
 
 -- Whatever the schema, an INSERT that succeeds leaves it, and outside a transaction it is committed.
 pub record IsOwnWrite (old new : State) : Type 0 where
@@ -102,7 +114,7 @@ unfolding ExecutesIn
 writes_in_any params old new count h =
     let c = h.0 in
     let full = timed params c.formats h.1.now in
-    let is = inserts_in_any old.now.schema c h.1.is in
+    let is = inserts_in_any insert_text second_name insert_parsed old.now.schema c h.1.is in
     let ran : Runs old new c.returning c.command (text_of insert_text c) full count = elim (cases_Bool (shows_rows false c)) [
       | inl shows ↦ absurd (let e = (rw shows at h.2).0 in cc)
       | inr runs ↦ rw runs at h.2
@@ -122,28 +134,34 @@ writes_in_any params old new count h =
     same_schema at from full None tally done = absurd (let e = done in cc)
     same_schema at from full (Some table) tally done = ap (λ (p : Tally × Database). p.1.schema) (same_value (went (went (went done).2).2).2)
 
--- a record's payload is within the journal's limit
-within : (r : Entry) → IsEntry r → IsWithin journal_limit r
+-- a record's payload is within the limit of the table of new records
+within : (r : Entry) → IsEntry r → IsWithin (limit_of Second) r
 within (Pend name m) h = record { entry = h; payload = h.1.payload }
 within (PendCert name m) h = record { entry = h; payload = h.1.payload }
 within (Cert name) h = record { entry = h; payload = omega arith }
 
 -- The record is added.
 pub record IsAdded (old new : State) (place : ℕ) (r : Entry) : Type 0 where
-  pub records : records_of new.now.trees ≡ records_of old.now.trees ++ r ∷ []
-  pub counted : IsCounted new.now.trees (place + 1)
+  pub records : records_of new.now ≡ records_of old.now ++ r ∷ []
+  pub counted : IsCounted new.now (place + 1)
 
-pub adds_record : (old new : State) (place : ℕ) (r : Entry) (count : ℕ) → HasJournal old.now.schema → IsCounted old.now.trees place → place < 4294967295 → IsEntry r
+-- the rows of the table that stood first are kept where a row is put into the other
+first_kept : (s : Schema) (old new : Trees) → HasBoth s → AllByRecursion (λ (t : Table). t.tree ≢ tree_of s second_name → new t.tree ≡ old t.tree) s.tables → new (tree_of s journal_name) ≡ old (tree_of s journal_name)
+first_kept s old new has others =
+    let it = found_at s journal_name has.first in
+    all_at (λ (t : Table). t.tree ≢ tree_of s second_name → new t.tree ≡ old t.tree) s.tables it.at _ others it.there (trees_differ s journal_name second_name has.first has.second names_differ)
+
+pub adds_record : (old new : State) (place : ℕ) (r : Entry) (count : ℕ) → HasBoth old.now.schema → IsCounted old.now place → place < 4294967295 → IsEntry r
     → Executes insert_text (row_of place r) old new (Ok count) → IsAdded old new place r
 adds_record old new place r count has h low valid ran =
-    let put = puts_record old new place r count has ran in
-    let stands = stands_more old.now.trees new.now.trees (records_of old.now.trees) place r h.stands h.place low (within r valid) put.rows in
-    let records = records_are new.now.trees _ stands in
+    let put = puts_record old new place r count has.second ran in
+    let stands = stands_more old.now new.now (records_of old.now) place r has put.schema h.stands h.place low (within r valid) put.rows (first_kept old.now.schema old.now.trees new.now.trees has put.others) in
+    let records = records_are new.now _ stands in
     record {
       records = records;
       counted = record {
-        stands = subst (StandsFor new.now.trees) (sym records) stands;
-        place = rw records (omega (arith, h.place, length-append (records_of old.now.trees) (r ∷ [])));
+        stands = subst (StandsFor new.now) (sym records) stands;
+        place = rw records (omega (arith, h.place, length-append (records_of old.now) (r ∷ [])));
       };
     }
 
@@ -160,77 +178,85 @@ kept_more old new place r count h low valid ran =
 
 -- a journal that stands for these records
 abbrev IsJournalOf : Trees → List Entry → Type 0
-IsJournalOf db records = IsJournal db × StandsFor db records
+IsJournalOf db records = (journal : IsJournal db) × StandsFor (database_of journal) records
 
-pub commits_record : (old : State) (place : ℕ) (r : Entry) (db : Trees) → HasJournal old.now.schema → IsCounted old.now.trees place → place < 4294967295 → IsEntry r
-    → CommitsBy insert_text (row_of place r) old db → IsJournalOf db (records_of old.now.trees ++ r ∷ [])
+-- a database that has both tables is a journal
+abbrev pub journal_of : (s : Schema) (db : Trees) → HasBoth s → IsSound s db → IsJournal db
+journal_of s db has sound = record { schema = s; has = (has.first, inl has.second); sound = sound }
+
+pub commits_record : (old : State) (place : ℕ) (r : Entry) (db : Trees) → HasBoth old.now.schema → IsCounted old.now place → place < 4294967295 → IsEntry r
+    → CommitsBy insert_text (row_of place r) old db → IsJournalOf db (records_of old.now ++ r ∷ [])
 commits_record old place r db has h low valid commits =
-    let it = put r commits in (it.0, stands_more old.now.trees db (records_of old.now.trees) place r h.stands h.place low (within r valid) it.1)
+    let it = put r commits in
+    let journal = journal_of old.now.schema db has it.0 in
+    (journal, stands_more old.now (database_of journal) (records_of old.now) place r has refl h.stands h.place low (within r valid) it.1.rows (first_kept old.now.schema old.now.trees db has it.1.others))
   where
-    put : (r : Entry) → CommitsBy insert_text (row_of place r) old db → IsJournal db × (db 0 ≡ put_row (kept_of place r) (old.now.trees 0))
-    put (Pend name m) c = commits_put old place 1 name.sender name.seq m.client m.number m.payload db has c
-    put (PendCert name m) c = commits_put old place 2 name.sender name.seq m.client m.number m.payload db has c
-    put (Cert name) c = commits_put old place 3 name.sender name.seq 0 0 [] db has c
+    put : (r : Entry) → CommitsBy insert_text (row_of place r) old db → IsSound old.now.schema db × HasPut old.now (record { schema = old.now.schema; trees = db }) (tree_of old.now.schema second_name) (kept_of place r)
+    put (Pend name m) c = commits_put insert_text second_name insert_parsed old place 1 name.sender name.seq m.client m.number m.payload db has.second c
+    put (PendCert name m) c = commits_put insert_text second_name insert_parsed old place 2 name.sender name.seq m.client m.number m.payload db has.second c
+    put (Cert name) c = commits_put insert_text second_name insert_parsed old place 3 name.sender name.seq 0 0 [] db has.second c
 
 -- While the connection is open, a stop leaves the last commit.
 abbrev pub IsSettled : State → Type 0
 IsSettled s = (db : Trees) → s.may_leave db → db ≡ s.committed.trees
 
-last_commit : (s : State) (next : ℕ) (db : Trees) → IsSettled s → IsLive s → IsHonestJournal s → IsKept s next → s.may_leave db → IsJournalOf db (records_of s.now.trees)
+last_commit : (s : State) (next : ℕ) (db : Trees) → IsSettled s → IsLive s → IsHonestJournal s → IsKept s next → s.may_leave db → IsJournalOf db (records_of s.now)
 last_commit s next db settled live honest kept left =
     let is : db ≡ s.now.trees = settled db left ∙ ap (λ (d : Database). d.trees) (sym kept.settled) in
-    let sound : IsJournal s.now.trees = record { schema = s.now.schema; has = honest.schema; sound = (live honest.is_open).0 } in
-    subst (λ d. IsJournalOf d (records_of s.now.trees)) (sym is) (sound, (kept.counted honest.schema).stands)
+    let sound : IsJournal s.now.trees = journal_of s.now.schema s.now.trees honest.schema (live honest.is_open).0 in
+    subst (λ d. IsJournalOf d (records_of s.now)) (sym is) (sound, (kept.counted honest.schema).stands)
 
 pub stops_at_insert : (old new : State) (place : ℕ) (r : Entry) → IsInStep old place → place < 4294967295 → IsEntry r → IsSettled old → IsLive old
     → Survives old new (CommitsBy insert_text (row_of place r) old) → IsHonestJournal old → HasCleanDisk new
-    → LeavesOnly new (λ records. (records ≡ records_of old.now.trees) ⊎ (records ≡ records_of old.now.trees ++ r ∷ []))
+    → LeavesOnly new (λ records. (records ≡ records_of old.now) ⊎ (records ≡ records_of old.now ++ r ∷ []))
 stops_at_insert old new place r step low valid settled live survives honest clean db left =
     let kept = step honest.clean honest.is_open in
     elim (survives.crash clean db left) [
-      | inl before ↦ let it = last_commit old place db settled live honest kept before in (it.0, records_of old.now.trees, it.1, inl refl)
-      | inr after ↦ let it = commits_record old place r db honest.schema (kept.counted honest.schema) low valid after in (it.0, records_of old.now.trees ++ r ∷ [], it.1, inr refl)
+      | inl before ↦ let it = last_commit old place db settled live honest kept before in (it.0, records_of old.now, it.1, inl refl)
+      | inr after ↦ let it = commits_record old place r db honest.schema (kept.counted honest.schema) low valid after in (it.0, records_of old.now ++ r ∷ [], it.1, inr refl)
     ]
 
 pub stops_at_select : (old new : State) (place : ℕ) → IsInStep old place → IsSettled old → IsLive old → Survives old new (λ _. ⊥) → IsHonestJournal old → HasCleanDisk new
-    → LeavesOnly new (λ records. records ≡ records_of old.now.trees)
+    → LeavesOnly new (λ records. records ≡ records_of old.now)
 stops_at_select old new place step settled live survives honest clean db left =
     elim (survives.crash clean db left) [
-      | inl before ↦ let it = last_commit old place db settled live honest (step honest.clean honest.is_open) before in (it.0, records_of old.now.trees, it.1, refl)
+      | inl before ↦ let it = last_commit old place db settled live honest (step honest.clean honest.is_open) before in (it.0, records_of old.now, it.1, refl)
       | inr none ↦ absurd none
     ]
 
 -- ---- reading
 
-pub unchanged_by_select : (old new : State) (rows : List Row) → Shown select_text [] old new rows → IsUnchanged old new
+pub unchanged_by_select : (part : Part) (old new : State) (rows : List Row) → Shown (select_of part) [] old new rows → IsUnchanged old new
 unfolding Shown
-unchanged_by_select old new rows h = (rw (reads_in_any old.now.schema h.0 h.1.is) at h.2).3
+unchanged_by_select part old new rows h = (rw (reads_in_any (select_of part) (name_of part) (select_parsed part) old.now.schema h.0 h.1.is) at h.2).3
 
-pub left_by_query : (old new : State) (e : Error) → FailsToQuery select_text [] old new e → IsUnchanged old new ⊎ IsRolledBack old new
+pub left_by_query : (part : Part) (old new : State) (e : Error) → FailsToQuery (select_of part) [] old new e → IsUnchanged old new ⊎ IsRolledBack old new
 unfolding FailsToQuery IsNotRun
-left_by_query old new e (inl (inl none)) = inl none.1
-left_by_query old new e (inl (inr failed)) = inr failed.3
-left_by_query old new e (inr ran) = inl (rw (reads_in_any old.now.schema ran.0 ran.1.is) at ran.2).3
+left_by_query part old new e (inl (inl none)) = inl none.1
+left_by_query part old new e (inl (inr failed)) = inr failed.3
+left_by_query part old new e (inr ran) = inl (rw (reads_in_any (select_of part) (name_of part) (select_parsed part) old.now.schema ran.0 ran.1.is) at ran.2).3
 
-pub select_commits_nothing : (s : State) (db : Trees) → ¬ CommitsShowing select_text [] s db
+pub select_commits_nothing : (part : Part) (s : State) (db : Trees) → ¬ CommitsShowing (select_of part) [] s db
 unfolding CommitsShowing
-select_commits_nothing s db h = absurd (let e = rw (reads_in_any s.now.schema h.0 h.1.is) at h.2 in cc)
+select_commits_nothing part s db h = absurd (let e = rw (reads_in_any (select_of part) (name_of part) (select_parsed part) s.now.schema h.0 h.1.is) at h.2 in cc)
 
--- What the SELECT shows is the journal, once each row is a record.
-pub stands_if_shown : (old new : State) (rows : List Row) (rs : List Entry) → HasJournal old.now.schema → Shown select_text [] old new rows → read_from journal_limit 1 rows ≡ Ok rs → StandsFor old.now.trees rs
-stands_if_shown old new rows rs has h read =
-    let same = (selects old new rows has h).0 in
-    let rising = (placed journal_limit 1 rows rs read).rising in
-    stands_if_read old.now.trees rs (ap (read_from journal_limit 1) (sort_is by_pos by_pos_total _ rows rising (IsPermutation-sym _ _ same)) ∙ read)
+module _ (part : Part) (old new : State) (rows : List Row) (has : HasTable old.now.schema (name_of part)) (h : Shown (select_of part) [] old new rows) where
+  -- What the SELECT shows are the rows of the table, once each is a record.
+  pub reads_if_shown : (first : ℕ) (rs : List Entry) → read_from (limit_of part) first rows ≡ Ok rs → read_from (limit_of part) first (table_rows old.now (name_of part)) ≡ Ok rs
+  reads_if_shown first rs read =
+      let same = (selects (select_of part) (name_of part) (select_parsed part) old new rows has h).0 in
+      let rising = (placed (limit_of part) first rows rs read).rising in
+      ap (read_from (limit_of part) first) (rows_there old.now (name_of part) has ∙ sort_is by_pos by_pos_total _ rows rising (IsPermutation-sym _ _ same)) ∙ read
 
--- Of a journal that stands for records, the SELECT shows these rows.
-pub reads_records : (old new : State) (rows : List Row) (next : ℕ) → HasJournal old.now.schema → IsCounted old.now.trees next → Shown select_text [] old new rows → read_from journal_limit 1 rows ≡ Ok (records_of old.now.trees)
-reads_records old new rows next has h shows =
-    let got = selects old new rows has shows in
-    let read = reads_if_stands old.now.trees _ h.stands in
-    let at = placed journal_limit 1 (rows_in journal_tree old.now.trees) _ read in
-    let same = IsPermutation-trans _ _ _ (IsPermutation-sort_by by_pos by_pos_total (map shown (old.now.trees journal_tree))) got.0 in
-    ap (read_from journal_limit 1) (sorted_unique by_pos by_pos_total (rows_in journal_tree old.now.trees) rows at.rising same got.1) ∙ read
+  -- Where the rows of the table are records, the SELECT shows these rows.
+  pub shown_if_read : (first : ℕ) (rs : List Entry) → read_from (limit_of part) first (table_rows old.now (name_of part)) ≡ Ok rs → read_from (limit_of part) first rows ≡ Ok rs
+  shown_if_read first rs all =
+      let tree = tree_of old.now.schema (name_of part) in
+      let got = selects (select_of part) (name_of part) (select_parsed part) old new rows has h in
+      let read = ap (read_from (limit_of part) first) (sym (rows_there old.now (name_of part) has)) ∙ all in
+      let at = placed (limit_of part) first (rows_in tree old.now.trees) rs read in
+      let same = IsPermutation-trans _ _ _ (IsPermutation-sort_by by_pos by_pos_total (map shown (old.now.trees tree))) got.0 in
+      ap (read_from (limit_of part) first) (sorted_unique by_pos by_pos_total (rows_in tree old.now.trees) rows at.rising same got.1) ∙ read
 
 -- ---- the calls
 
@@ -268,16 +294,23 @@ left old new place step below how =
         is_open = was_open old new (how h.clean) h.is_open;
         schema = same_journal (sym ((same h.clean h.is_open).now_is h.is_open)) h.schema;
       };
-      records = λ h. ap (λ (d : Database). records_of d.trees) ((same h.clean h.is_open).now_is h.is_open);
+      records = λ h. ap (λ (d : Database). records_of d) ((same h.clean h.is_open).now_is h.is_open);
     }
 
-pub in_order : (old new : State) (rows : List Row) → HasJournal old.now.schema → Shown select_text [] old new rows → IsInOrder journal_tree old.now.trees rows
-in_order old new rows has h = let got = selects old new rows has h in record { same = got.0; sorted = got.1 }
+-- Of an honest journal no refusal to read is a bad row.
+pub not_bad : (old new : State) (place : ℕ) (e : StoreFault) → IsInStep old place → doubt old.is_clean ≤ doubt new.is_clean → (HasCleanDisk new → IsUnchanged old new ⊎ IsRolledBack old new)
+    → (HasCleanDisk new → HasBoth old.now.schema → (next : ℕ) → IsCounted old.now next → is_bad_row e ≡ false) → IsHonestJournal new → is_bad_row e ≡ false
+not_bad old new place e step below how sound honest =
+    let was = (left old new place step below how).honest honest in
+    sound honest.clean was.schema place ((step was.clean was.is_open).counted was.schema)
+
+pub in_order : (part : Part) (old new : State) (rows : List Row) → HasTable old.now.schema (name_of part) → Shown (select_of part) [] old new rows → IsInOrder (tree_of old.now.schema (name_of part)) old.now.trees rows
+in_order part old new rows has h = let got = selects (select_of part) (name_of part) (select_parsed part) old new rows has h in record { same = got.0; sorted = got.1 }
 
 -- While nothing was called, a stop leaves the records.
 pub stops_now : (s : State) (next : ℕ) → IsInStep s next → (IsTrue s.is_open → IsSettled s) → IsLive s → IsSafeAtRest s
 stops_now s next step settled live honest db left =
-    let it = last_commit s next db (settled honest.is_open) live honest (step honest.clean honest.is_open) left in (it.0, records_of s.now.trees, it.1, refl)
+    let it = last_commit s next db (settled honest.is_open) live honest (step honest.clean honest.is_open) left in (it.0, records_of s.now, it.1, refl)
 
 -- ---- what stays committed
 

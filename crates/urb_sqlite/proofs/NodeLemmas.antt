@@ -6,12 +6,12 @@ use Rattle.sqlite_wal.specs.Recovery.{Image}
 use Rattle.sqlite.specs.Files.{HoldsDatabase}
 use Rattle.urb_stable.specs.Entries.{Entry}
 use Rattle.urb_sqlite.specs.Nodes.{IsFoundIn}
-use Rattle.urb_sqlite.specs.OpenJournal.{IsJournal}
+use Rattle.urb_sqlite.specs.OpenJournal.{IsJournal, database_of}
 use Rattle.urb_sqlite.specs.Rows.{StandsFor}
 
 pub found_in : {A E : Type 0} (opened : Result A E) (seen held : Image) (is_clean is_honest : A → Type 0) (records : A → List Entry) → seen ≡ held
     → IfOk opened (λ j. is_clean j → seen.db ≡ [] → is_honest j × (records j ≡ []))
-    → IfOk opened (λ j. is_clean j → (db : Trees) → HoldsDatabase seen db → IsJournal db → is_honest j × StandsFor db (records j))
+    → IfOk opened (λ j. is_clean j → (db : Trees) → HoldsDatabase seen db → (journal : IsJournal db) → is_honest j × StandsFor (database_of journal) (records j))
     → IfOk opened (λ j. IsFoundIn held (is_clean j) (is_honest j) (records j))
 found_in (Ok j) seen held is_clean is_honest records same fresh found =
     record {

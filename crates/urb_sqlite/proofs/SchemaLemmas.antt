@@ -1,5 +1,5 @@
 -- A file whose tables are those of a journal opens with the journal's schema.
-use Rattle.std.proofs.Common.{◌≡◌, ℕ, ◌+◌, pos, List, [], ◌∷◌, filter, take, Ok, refl, sym, ap, ap₂, subst, ◌∙◌, arith}
+use Rattle.std.proofs.Common.{◌≡◌, ℕ, ◌+◌, pos, List, [], ◌∷◌, filter, find, false, nat_le, ◌==◌, ◌^◌, Some, Ok, refl, sym, ap, ap₂, subst, ◌∙◌, arith}
 use Rattle.std.specs.List.{AllZip}
 use Rattle.sqlite.specs.declared.types.Value.TheVariants.{Int, Text}
 use Rattle.sqlite.specs.Order.{Row, column}
@@ -10,13 +10,14 @@ use Rattle.sqlite_trees.specs.Objects.{catalog_tree}
 use Rattle.sqlite_catalog.specs.Listing.{IsSound, IsTableRow, IsIndexRow, IsViewRow, is_table_row, is_index_row, is_view_row}
 use Rattle.sqlite.specs.Effect.{Database}
 use Rattle.sqlite.specs.State.{State, IsLive, Opens}
-use Rattle.urb_sqlite.specs.Journal.{HasJournal, no_schema}
-use Rattle.std.proofs.Common.{◌<◌, length, inl, inr}
+use Rattle.urb_sqlite.specs.Journal.{record_table, table_of, tree_of, journal_name, second_name, Lacks, HasTable, HasJournal, no_schema}
+use Rattle.std.proofs.Common.{◌<◌, ◌⊎◌, length, inl, inr}
 use Rattle.sqlite.specs.Files.{AreFoundIn}
 use Rattle.sqlite_wal.specs.Recovery.{Image}
-use Rattle.urb_sqlite.specs.Rows.{StandsFor}
+use Rattle.urb_sqlite.specs.Rows.{table_rows, StandsFor}
 use Rattle.urb_sqlite.specs.Reading.{records_of}
-use Rattle.urb_sqlite.specs.OpenJournal.{IsHonestJournal, IsJournal}
+use Rattle.urb_sqlite.specs.OpenJournal.{IsHonestJournal, IsJournal, database_of}
+use Rattle.urb_sqlite.proofs.StandLemmas.{stands_same}
 
 same_text : (row : Row) (a b : List ℕ) → column row 4 ≡ Text a → column row 4 ≡ Text b → a ≡ b
 same_text row a b p q = let e : Text a ≡ Text b = sym p ∙ q in cc
@@ -45,15 +46,34 @@ same_tables (r ∷ rows) (s ∷ ss) (t ∷ ts) h k = ap₂ ◌∷◌ (one_table 
 pub one_list : (schema other : Schema) (db : Trees) → IsSound schema db → IsSound other db → schema.tables ≡ other.tables
 one_list schema other db h k = same_tables (filter is_table_row (db catalog_tree)) schema.tables other.tables h.lists.listed.tables k.lists.listed.tables
 
+-- a schema of these tables alone
+abbrev bare : List Table → Schema
+bare tables = record { tables = tables; indexes = []; views = [] }
+
+-- the tables alone say whether one of a name is there, and in which tree
+pub same_has : (s k : Schema) (name : List ℕ) → s.tables ≡ k.tables → HasTable k name → HasTable s name
+same_has s k name same has = record {
+  there = subst (λ ts. table_of (bare ts) name ≡ Some (record_table name (tree_of (bare ts) name))) (sym same) has.there;
+  alone = subst (λ ts. find (λ (t : Table). t.tree == tree_of (bare ts) name) ts ≡ Some (record_table name (tree_of (bare ts) name))) (sym same) has.alone;
+  stored = subst (λ ts. nat_le (2 ^ 31) (tree_of (bare ts) name) ≡ false) (sym same) has.stored;
+}
+
 -- A connection that found a journal is adopted with the records for which it stands.
-pub finds_journal : (conn now : State) (db : Trees) → IsLive conn → Opens conn → conn.committed.trees ≡ db → IsJournal db
-    → (HasJournal conn.now.schema → IsHonestJournal now × StandsFor conn.now.trees (records_of now.now.trees)) → IsHonestJournal now × StandsFor db (records_of now.now.trees)
+pub finds_journal : (conn now : State) (db : Trees) → IsLive conn → Opens conn → conn.committed.trees ≡ db → (journal : IsJournal db)
+    → (HasJournal conn.now.schema → IsHonestJournal now × StandsFor conn.now (records_of now.now)) → IsHonestJournal now × StandsFor (database_of journal) (records_of now.now)
 finds_journal conn now db live opens is journal adopted =
     let trees : conn.now.trees ≡ db = ap (λ (d : Database). d.trees) opens.clean ∙ is in
     let tables = one_list conn.now.schema journal.schema db (subst (IsSound conn.now.schema) trees (live opens.is_open).0) journal.sound in
-    let has : HasJournal conn.now.schema = ap (take 1) tables ∙ journal.has in
-    let got = adopted has in
-    (got.0, subst (λ t. StandsFor t (records_of now.now.trees)) trees got.1)
+    let second : HasTable conn.now.schema second_name ⊎ Lacks conn.now.schema second_name = elim journal.has.1 [
+      | inl has ↦ inl (same_has conn.now.schema journal.schema second_name tables has)
+      | inr none ↦ inr (ap (λ ts. table_of (bare ts) second_name) tables ∙ none)
+    ] in
+    let got = adopted (same_has conn.now.schema journal.schema journal_name tables journal.has.0, second) in
+    let here : StandsFor (record { schema = conn.now.schema; trees = db }) (records_of now.now) = subst (λ t. StandsFor (record { schema = conn.now.schema; trees = t }) (records_of now.now)) trees got.1 in
+    (got.0, stands_same (record { schema = conn.now.schema; trees = db }) (database_of journal) (records_of now.now) (same_rows journal_name tables) (same_rows second_name tables) here)
+  where
+    same_rows : (name : List ℕ) → conn.now.schema.tables ≡ journal.schema.tables → table_rows (database_of journal) name ≡ table_rows (record { schema = conn.now.schema; trees = db }) name
+    same_rows name tables = ap (λ ts. table_rows (record { schema = bare ts; trees = db }) name) (sym tables)
 
 empty_zip : {A B : Type 0} (R : A → B → Type 0) (xs : List B) → AllZip R [] xs → xs ≡ []
 empty_zip R [] h = refl

@@ -1,5 +1,5 @@
--- What the SELECT shows of a journal.
-use Rattle.std.proofs.Common.{◌≡◌, ◌+◌, ◌<◌, List, [], ◌∷◌, length, map, refl, sym, ap, ◌∙◌, subst, arith, All, is_lt, IsPermutation, IsSorted, flat_map}
+-- What a SELECT shows of the table of its name.
+use Rattle.std.proofs.Common.{◌≡◌, ◌+◌, ◌<◌, ◌^◌, ℕ, nat_le, false, List, [], ◌∷◌, length, map, refl, sym, ap, ◌∙◌, subst, arith, All, is_lt, IsPermutation, IsSorted, flat_map}
 use Rattle.sqlite.specs.declared.types.Value.TheVariants.{Null}
 use Rattle.std.specs.List.{AllByRecursion}
 use Rattle.std.proofs.lemmas.List.{get_or-map, length-map}
@@ -7,14 +7,15 @@ use Rattle.std.proofs.lemmas.List.Elements.{All-from_recursion}
 use Rattle.std.proofs.lemmas.List.Sorted.{All-permutation, IsPermutation-map}
 use Rattle.sqlite_keyed.proofs.ListLemmas.{map-map}
 use Rattle.sqlite.specs.Order.{Row, column}
+use Rattle.sqlite.specs.Tree.{Trees}
 use Rattle.sqlite_value.proofs.OrderLemmas.{then-Equal}
 use Rattle.sqlite.specs.Query.{IsAnswer, Output, output, output_cmp}
 use Rattle.sqlite.specs.Program.{overlay}
 use Rattle.sqlite.specs.State.{State, Shown}
 use Rattle.sqlite.proofs.Callers.{reads_as}
-use Rattle.urb_sqlite.specs.Journal.{select_text, HasJournal}
+use Rattle.urb_sqlite.specs.Journal.{tree_of, HasTable}
 use Rattle.urb_sqlite.specs.Rows.{shown, by_pos}
-use Rattle.urb_sqlite.proofs.TextLemmas.{with_journal, others_of, query, select_is, select_plain}
+use Rattle.urb_sqlite.proofs.TextLemmas.{Selects, query, select_is}
 
 -- what a row is sorted by, and what it shows
 abbrev out : Row → Output
@@ -33,8 +34,8 @@ keyed_rows [] = tt
 keyed_rows (r ∷ rows) = (refl, keyed_rows rows)
 
 -- rows that are sorted by their keys are sorted by their first column
-sorted_rows : (os : List Output) → All IsKeyed os → IsSorted (output_cmp query) os → IsSorted by_pos (map (λ (o : Output). o.1) os)
-sorted_rows os keyed sorted k d low high =
+sorted_rows : (tree : ℕ) (os : List Output) → All IsKeyed os → IsSorted (output_cmp (query tree)) os → IsSorted by_pos (map (λ (o : Output). o.1) os)
+sorted_rows tree os keyed sorted k d low high =
     let len = length-map os (λ (o : Output). o.1) in
     let inside : k + 1 < length os = omega (arith, len) in
     let e : Output = ([], d) in
@@ -44,18 +45,23 @@ sorted_rows os keyed sorted k d low high =
     let there = keyed (k + 1) e inside in
     rw (now, next, ← here, ← there) (ap is_lt (sym (then-Equal _)) ∙ sorted k e low inside)
 
--- The SELECT shows the journal's rows, in order of pos.
-pub selects : (old new : State) (rows : List Row) → HasJournal old.now.schema → Shown select_text [] old new rows
-    → IsPermutation (map shown (old.now.trees 0)) rows × IsSorted by_pos rows
-selects old new rows has h =
-    let o = others_of old.now.schema has in
-    let got = reads_as select_text [] old new (with_journal o.0) o.1 _ (select_is o.0).0 (select_plain o.0) (select_is o.0).1 rows h in
-    let a : IsAnswer query (overlay old.now.trees []) [] rows = got.answer Null in
-    let table = old.now.trees 0 in
-    let staged : a.staged ≡ map (λ r. [] ∷ r ∷ []) table = a.grouped ∙ flat_map_single (λ r. [] ∷ r ∷ []) table in
-    let kept : a.kept ≡ map out table = a.distinct ∙ ap (map (output query)) staged ∙ map-map (output query) (λ r. [] ∷ r ∷ []) table in
+overlaid : (db : Trees) (tree : ℕ) → nat_le (2 ^ 31) tree ≡ false → overlay db [] tree ≡ db tree
+overlaid db tree stored = rw stored refl
+
+-- The SELECT shows the rows of the table of its name, in order of pos.
+pub selects : (text name : List ℕ) → Selects text name → (old new : State) (rows : List Row) → HasTable old.now.schema name → Shown text [] old new rows
+    → IsPermutation (map shown (old.now.trees (tree_of old.now.schema name))) rows × IsSorted by_pos rows
+selects text name parsed old new rows has h =
+    let tree = tree_of old.now.schema name in
+    let it = select_is old.now.schema text name has parsed in
+    let got = reads_as text [] old new old.now.schema refl _ it.command_is it.plain it.unlisted rows h in
+    let a : IsAnswer (query tree) (overlay old.now.trees []) [] rows = got.answer Null in
+    let table = old.now.trees tree in
+    let over : a.staged ≡ flat_map (λ r. ([] ∷ r ∷ []) ∷ []) table = subst (λ (rs : List Row). a.staged ≡ flat_map (λ r. ([] ∷ r ∷ []) ∷ []) rs) (overlaid old.now.trees tree has.stored) a.grouped in
+    let staged : a.staged ≡ map (λ r. [] ∷ r ∷ []) table = over ∙ flat_map_single (λ r. [] ∷ r ∷ []) table in
+    let kept : a.kept ≡ map out table = a.distinct ∙ ap (map (output (query tree))) staged ∙ map-map (output (query tree)) (λ r. [] ∷ r ∷ []) table in
     let same : IsPermutation (map out table) a.ordered = subst (λ k. IsPermutation k a.ordered) kept a.same in
     let keyed = All-permutation IsKeyed _ _ same (All-from_recursion IsKeyed _ (keyed_rows table)) in
     let all : rows ≡ map (λ (o : Output). o.1) a.ordered = a.shown in
     let moved = subst (λ k. IsPermutation k (map (λ (o : Output). o.1) a.ordered)) (map-map (λ (o : Output). o.1) out table) (IsPermutation-map (λ (o : Output). o.1) _ _ same) in
-    rw all (moved, sorted_rows a.ordered keyed a.sorted)
+    rw all (moved, sorted_rows tree a.ordered keyed a.sorted)

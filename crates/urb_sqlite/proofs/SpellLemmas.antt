@@ -12,6 +12,7 @@ use Rattle.urb_stable.specs.declared.record.Record.TheVariants.{Pend, PendCert, 
 use Rattle.urb_sqlite.specs.declared.rows.Columns.{Columns}
 use Rattle.urb_sqlite.specs.Rows.{columns_of, row_of, rows_of, columns_in, IsWithin, Spells, IsFirstBad}
 use Rattle.urb_sqlite.specs.Reading.{word_in, number_in, bytes_in, numbers_in, is_name, is_message, is_bare, name_in, message_in, record_by, record_in, record_at, joined, read_from}
+use Rattle.urb_names.specs.declared.message.TheConstants.{MAX_PAYLOAD}
 
 -- ---- the columns of a row
 
@@ -136,7 +137,7 @@ named c low h =
 le-true : (m n : ℕ) → nat_le m n ≡ true → m ≤ n
 le-true m n h = omega (arith, h, Rattle.std.proofs.lemmas.Bool.leb-true)
 
-contained : (limit : ℕ) (c : Columns) (payload : List ℕ) → limit ≤ 1024 → c.number < 2 ^ 32 → is_message limit c.client c.number payload ≡ true → IsContent (message_in c payload) × (length payload ≤ limit)
+contained : (limit : ℕ) (c : Columns) (payload : List ℕ) → limit ≤ MAX_PAYLOAD → c.number < 2 ^ 32 → is_message limit c.client c.number payload ≡ true → IsContent (message_in c payload) × (length payload ≤ limit)
 contained limit c payload most low h =
     let last = both_true _ _ h in
     let third = both_true _ _ last.0 in
@@ -159,7 +160,7 @@ bare_columns place kind sender seq client number payload p q r s =
 abbrev IsReadAs : ℕ → ℕ → Columns → List ℕ → Entry → Type 0
 IsReadAs limit place c payload r = (columns_of place c.kind c.sender c.seq c.client c.number payload ≡ row_of place r) × IsWithin limit r
 
-by_kind : (limit place : ℕ) (c : Columns) (payload : List ℕ) (r : Entry) → limit ≤ 1024 → c.seq < 2 ^ 32 → c.number < 2 ^ 32 → is_name c.sender c.seq ≡ true → record_by limit c payload ≡ Some r → IsReadAs limit place c payload r
+by_kind : (limit place : ℕ) (c : Columns) (payload : List ℕ) (r : Entry) → limit ≤ MAX_PAYLOAD → c.seq < 2 ^ 32 → c.number < 2 ^ 32 → is_name c.sender c.seq ≡ true → record_by limit c payload ≡ Some r → IsReadAs limit place c payload r
 by_kind limit place c payload r most low_seq low name h =
     go (c.kind == 1) (c.kind == 2) (c.kind == 3) (is_message limit c.client c.number payload) (is_bare c payload) refl refl refl refl refl h
   where
@@ -189,7 +190,7 @@ same_columns : (a b d e f g h a' b' d' e' f' g' h' : Value) → a ≡ a' → b �
 same_columns a b d e f g h a' b' d' e' f' g' h' p q r s t u v = cc
 
 -- A row that is read as a record is the row of that record.
-pub is_row_of : (limit place : ℕ) (row : Row) (r : Entry) → limit ≤ 1024 → record_at limit place row ≡ Some r → (columns_in row ≡ row_of place r) × IsWithin limit r
+pub is_row_of : (limit place : ℕ) (row : Row) (r : Entry) → limit ≤ MAX_PAYLOAD → record_at limit place row ≡ Some r → (columns_in row ≡ row_of place r) × IsWithin limit r
 is_row_of limit place row r most h =
     let it = found_in limit place row r h in
     let n = it.numbers in
@@ -239,7 +240,7 @@ went_on place None rest rs h = absurd (let e = h in cc)
 went_on place (Some r) (Ok more) rs h = (r, refl, more, refl, let e : rs ≡ r ∷ more = cc in e)
 went_on place (Some r) (Err bad) rs h = absurd (let e = h in cc)
 
-module _ (limit : ℕ) (most : limit ≤ 1024) where
+module _ (limit : ℕ) (most : limit ≤ MAX_PAYLOAD) where
   -- the three facts of a spelling
   abbrev Spelling : ℕ → List Row → List Entry → Type 0
   Spelling first rows records = (map columns_in rows ≡ rows_of first records) × AllByRecursion (IsWithin limit) records × (first + length records ≤ 4294967295)

@@ -1,5 +1,5 @@
 -- A table that stands for records stands for these and one more where their next row is put.
-use Rattle.std.proofs.Common.{◌≡◌, ℕ, suc, ◌+◌, ◌<◌, ◌≤◌, pos, List, [], ◌∷◌, ◌++◌, length, map, add-zero, Some, Ok, refl, sym, ap, ◌∙◌, arith, Less}
+use Rattle.std.proofs.Common.{◌≡◌, ℕ, suc, ◌+◌, ◌<◌, ◌≤◌, pos, List, [], ◌∷◌, ◌++◌, length, length-append, append_assoc, map, option_map, unwrap_or, Option, subst, add-zero, Some, Ok, refl, sym, ap, ◌∙◌, arith, Less}
 use Rattle.std.specs.Prelude.{⊤}
 use Rattle.std.specs.List.{AllByRecursion}
 use Rattle.std.specs.Cmp.{IsTotalOrder}
@@ -10,6 +10,8 @@ use Rattle.std.proofs.lemmas.List.Sorted.{All-permutation, IsPermutation-append_
 use Rattle.sqlite.specs.declared.types.Value.TheVariants.{Int}
 use Rattle.sqlite.specs.Order.{Row, column, value_cmp}
 use Rattle.sqlite.specs.Tree.{Trees, rowid, put_row, IsAscending}
+use Rattle.sqlite.specs.Effect.{Database}
+use Rattle.sqlite.specs.Schema.{Schema}
 use Rattle.sqlite_value.proofs.OrderLemmas.{value_cmp-Int, value_cmp_total}
 use Rattle.sqlite_keyed.proofs.KeyedLemmas.{Less-from_lt}
 use Rattle.sqlite_keyed.specs.Lists.{sort_by}
@@ -17,9 +19,11 @@ use Rattle.sqlite_keyed.proofs.ListLemmas.{all_weaker, all_unmap, ascending-appe
 use Rattle.sqlite_keyed.proofs.SortLemmas.{IsPermutation-sort_by}
 use Rattle.urb_stable.specs.Entries.{Entry}
 use Rattle.urb_stable.specs.declared.record.Record.TheVariants.{Pend, PendCert, Cert}
-use Rattle.urb_sqlite.specs.Journal.{journal_limit, journal_tree}
-use Rattle.urb_sqlite.specs.Rows.{shown, by_pos, rows_in, row_of, kept_of, IsWithin, Spells, StandsFor}
-use Rattle.urb_sqlite.specs.Reading.{record_at, joined, read_from, ok_or_none, records_of}
+use Rattle.sqlite.specs.Table.{Table}
+use Rattle.urb_sqlite.specs.declared.statements.Part.TheVariants.{First, Second}
+use Rattle.urb_sqlite.specs.Journal.{journal_name, second_name, limit_of, table_of, tree_of, Lacks, HasTable, HasBoth}
+use Rattle.urb_sqlite.specs.Rows.{shown, by_pos, rows_in, row_of, kept_of, IsWithin, Spells, table_rows, StandsFor}
+use Rattle.urb_sqlite.specs.Reading.{record_at, joined, extended, read_from, followed, read_both, ok_or_none, records_of}
 use Rattle.urb_sqlite.proofs.OrderLemmas.{sort_is}
 use Rattle.urb_sqlite.proofs.SpellLemmas.{at_place, went_on, is_read_as, spells_if_read, read_if_spelled}
 
@@ -117,18 +121,61 @@ module _ (limit tree : ℕ) where
       columns_same place (PendCert name m) = refl
       columns_same place (Cert name) = refl
 
--- ---- the table journal
+-- ---- both tables
 
-pub stands_if_read : (db : Trees) (rs : List Entry) → read_from journal_limit 1 (rows_in journal_tree db) ≡ Ok rs → StandsFor db rs
-stands_if_read db rs h = spells_if_read journal_limit (omega arith) 1 (rows_in journal_tree db) rs (omega arith) h
+-- the rows of a table that is there
+pub rows_there : (d : Database) (name : List ℕ) → HasTable d.schema name → table_rows d name ≡ rows_in (tree_of d.schema name) d.trees
+rows_there d name has = ap (λ (o : Option Table). unwrap_or (option_map (λ t. rows_in t.tree d.trees) o) []) has.there
 
-pub reads_if_stands : (db : Trees) (rs : List Entry) → StandsFor db rs → read_from journal_limit 1 (rows_in journal_tree db) ≡ Ok rs
-reads_if_stands db rs h = read_if_spelled journal_limit 1 (rows_in journal_tree db) rs h
+pub rows_absent : (d : Database) (name : List ℕ) → Lacks d.schema name → table_rows d name ≡ []
+rows_absent d name none = ap (λ (o : Option Table). unwrap_or (option_map (λ t. rows_in t.tree d.trees) o) []) none
 
-pub stands_more : (old new : Trees) (rs : List Entry) (place : ℕ) (r : Entry) → StandsFor old rs → place ≡ length rs + 1 → place < 4294967295 → IsWithin journal_limit r
-    → new journal_tree ≡ put_row (kept_of place r) (old journal_tree) → StandsFor new (rs ++ r ∷ [])
-stands_more old new rs place r stands next low valid put =
-    stands_if_read new (rs ++ r ∷ []) (reads_more journal_limit journal_tree old new rs 1 place r (reads_if_stands old rs stands) (omega (arith, next)) low valid put)
+-- what two tables stand for, by what is read of their rows
+pub stands_by : (d : Database) (first second : List Entry) → read_from (limit_of First) 1 (table_rows d journal_name) ≡ Ok first → read_from (limit_of Second) (1 + length first) (table_rows d second_name) ≡ Ok second → StandsFor d (first ++ second)
+stands_by d first second read more =
+    let before = spells_if_read (limit_of First) (omega arith) 1 (table_rows d journal_name) first (omega arith) read in
+    record { first = first; second = second; whole = refl; in_first = before; in_second = spells_if_read (limit_of Second) (omega arith) (1 + length first) (table_rows d second_name) second before.places more }
 
-pub records_are : (db : Trees) (rs : List Entry) → StandsFor db rs → records_of db ≡ rs
-records_are db rs h = ap ok_or_none (reads_if_stands db rs h)
+pub first_read : (d : Database) (rs : List Entry) (h : StandsFor d rs) → read_from (limit_of First) 1 (table_rows d journal_name) ≡ Ok h.first
+first_read d rs h = read_if_spelled (limit_of First) 1 (table_rows d journal_name) h.first h.in_first
+
+pub second_read : (d : Database) (rs : List Entry) (h : StandsFor d rs) → read_from (limit_of Second) (1 + length h.first) (table_rows d second_name) ≡ Ok h.second
+second_read d rs h = read_if_spelled (limit_of Second) (1 + length h.first) (table_rows d second_name) h.second h.in_second
+
+pub reads_if_stands : (d : Database) (rs : List Entry) → StandsFor d rs → read_both (table_rows d journal_name) (table_rows d second_name) ≡ Ok rs
+reads_if_stands d rs h =
+    ap (λ r. followed r (λ done. read_from (limit_of Second) (1 + length done) (table_rows d second_name))) (first_read d rs h)
+    ∙ ap (extended h.first) (second_read d rs h) ∙ ap Ok (sym h.whole)
+
+pub records_are : (d : Database) (rs : List Entry) → StandsFor d rs → records_of d ≡ rs
+records_are d rs h = ap ok_or_none (reads_if_stands d rs h)
+
+pub stands_more : (old new : Database) (rs : List Entry) (place : ℕ) (r : Entry) → HasBoth old.schema → new.schema ≡ old.schema → StandsFor old rs → place ≡ length rs + 1 → place < 4294967295 → IsWithin (limit_of Second) r
+    → new.trees (tree_of old.schema second_name) ≡ put_row (kept_of place r) (old.trees (tree_of old.schema second_name)) → new.trees (tree_of old.schema journal_name) ≡ old.trees (tree_of old.schema journal_name)
+    → StandsFor new (rs ++ r ∷ [])
+stands_more old new rs place r has same stands next low valid put kept =
+    let one = tree_of old.schema journal_name in
+    let two = tree_of old.schema second_name in
+    let tables : (name : List ℕ) → table_of new.schema name ≡ table_of old.schema name = λ name. ap (λ (s : Schema). table_of s name) same in
+    let first_rows : table_rows new journal_name ≡ table_rows old journal_name =
+    ap (λ (o : Option Table). unwrap_or (option_map (λ t. rows_in t.tree new.trees) o) []) (tables journal_name ∙ has.first.there)
+    ∙ ap (λ (kept : List Row). sort_by by_pos (map shown kept)) kept ∙ sym (rows_there old journal_name has.first) in
+    let second_rows : table_rows new second_name ≡ rows_in two new.trees =
+    ap (λ (o : Option Table). unwrap_or (option_map (λ t. rows_in t.tree new.trees) o) []) (tables second_name ∙ has.second.there) in
+    let count : length rs ≡ length stands.first + length stands.second = ap length stands.whole ∙ length-append stands.first stands.second in
+    let before : read_from (limit_of Second) (1 + length stands.first) (rows_in two old.trees) ≡ Ok stands.second =
+    ap (read_from (limit_of Second) (1 + length stands.first)) (sym (rows_there old second_name has.second)) ∙ second_read old rs stands in
+    let more = reads_more (limit_of Second) two old.trees new.trees stands.second (1 + length stands.first) place r before (omega (arith, next, count)) low valid put in
+    let whole : rs ++ r ∷ [] ≡ stands.first ++ (stands.second ++ r ∷ []) = ap (λ (xs : List Entry). xs ++ r ∷ []) stands.whole ∙ append_assoc stands.first stands.second (r ∷ []) in
+    subst (StandsFor new) (sym whole)
+    (stands_by new stands.first (stands.second ++ r ∷ []) (ap (read_from (limit_of First) 1) first_rows ∙ first_read old rs stands) (ap (read_from (limit_of Second) (1 + length stands.first)) second_rows ∙ more))
+
+-- two databases whose tables have the same rows stand for the same records
+pub stands_same : (a b : Database) (rs : List Entry) → table_rows b journal_name ≡ table_rows a journal_name → table_rows b second_name ≡ table_rows a second_name → StandsFor a rs → StandsFor b rs
+stands_same a b rs first second h = record {
+  first = h.first;
+  second = h.second;
+  whole = h.whole;
+  in_first = subst (λ rows. Spells (limit_of First) 1 rows h.first) (sym first) h.in_first;
+  in_second = subst (λ rows. Spells (limit_of Second) (1 + length h.first) rows h.second) (sym second) h.in_second;
+}

@@ -1,7 +1,7 @@
 -- What the next opening finds, by what a stop leaves.
 use Rattle.std.proofs.Common.{◌≡◌, ◌⊎◌, inl, inr, ℕ, zero, suc, ◌+◌, ◌≤◌, Bool, true, false, ◌==◌, List, [], ◌∷◌, ◌++◌, length, length-append, Option, None, Some, Result, Ok, Err, IfOk, OnOk, IsTrue, refl, sym, ap, subst, ◌∙◌, arith}
 use Rattle.std.proofs.Math.Logic.{∥∥₁_elim, ∥∥₁_map}
-use Rattle.std.specs.Coded.{Coded, Coded-set, code_by, coded×, coded_ℕ, coded_list, coded_bool}
+use Rattle.std.specs.Coded.{Coded, Coded-set, code_by, coded×, coded_ℕ, coded_list, coded_option, coded_bool}
 use Rattle.std.proofs.lemmas.Bool.{eqb-true, eq-eqb, true≢false, and_parts, and_from}
 use Rattle.sqlite_disk.specs.declared.Disk.{Ghosts}
 use Rattle.sqlite_wal.specs.Recovery.{Image}
@@ -26,7 +26,7 @@ use Rattle.urb_stable.specs.declared.record.Record.TheVariants.{Pend, PendCert, 
 use Rattle.sqlite_schema.specs.contracts.schema.Table as table
 use Rattle.urb_sqlite.specs.Rows.{StandsFor}
 use Rattle.urb_sqlite.specs.Reading.{records_of}
-use Rattle.urb_sqlite.specs.OpenJournal.{IsHonestJournal, IsJournal, IsSafeAtRest, LeavesOnly}
+use Rattle.urb_sqlite.specs.OpenJournal.{IsHonestJournal, IsJournal, IsSafeAtRest, LeavesOnly, database_of}
 use Rattle.urb_sqlite.specs.Stops.{IsFoundAfter}
 use Rattle.urb_sqlite.proofs.StandLemmas.{records_are}
 
@@ -82,21 +82,32 @@ pub found_again : {D : Type 0} {g : Ghosts D} (conn : Held (FileStore D g)) (sto
     → AreClean g (files store).0 (files store).1 → outcomes g (files store).0 (files store).1 left
     → (IsClean (view store) → IsTrue (view store).is_numbered) → (IsClean (view store) → AreDatabases (recovers store))
     → ((db : Trees) → recovers store db → recovers conn.store db)
-    → ((db : Trees) → HoldsDatabase left db → IsJournal db → IsHonestJournal again × StandsFor db (records_of again.now.trees))
-    → (P : List Entry → Type 0) → LeavesOnly (file_state conn) P → ∥ IsHonestJournal again × P (records_of again.now.trees) ∥₁
+    → ((db : Trees) → HoldsDatabase left db → (journal : IsJournal db) → IsHonestJournal again × StandsFor (database_of journal) (records_of again.now))
+    → (P : List Entry → Type 0) → LeavesOnly (file_state conn) P → ∥ IsHonestJournal again × P (records_of again.now) ∥₁
 found_again conn store left again clean may numbered sound fewer opened P leaves =
     let is_clean : IsClean (view store) = no_doubt _ (store_clean store.pool clean) in
     ∥∥₁_map (opens_again store (numbered is_clean) (sound is_clean) left (may_leave_is store.pool left clean may)) (λ db.
     let rest = leaves db.0 (fewer db.0 db.1) in
     let got = opened db.0 db.2 rest.0 in
-    let same : rest.1 ≡ records_of again.now.trees = sym (records_are db.0 rest.1 rest.2) ∙ records_are db.0 (records_of again.now.trees) got.1 in
+    let same : rest.1 ≡ records_of again.now = sym (records_are (database_of rest.0) rest.1 rest.2) ∙ records_are (database_of rest.0) (records_of again.now) got.1 in
     (got.0, subst P same rest.3))
 
 pub honest_again : (s : State) → HasCleanDisk s → ∥ IsHonestJournal s ∥₁ → IsHonestJournal s
 honest_again s clean h = record {
   clean = clean;
   is_open = ∥∥₁_elim h (Coded-set coded_bool _ _) (λ x. x.is_open);
-  schema = ∥∥₁_elim h (Coded-set (coded_list table.the_row.coded) _ _) (λ x. x.schema);
+  schema = record {
+    first = record {
+      there = ∥∥₁_elim h (Coded-set (coded_option table.the_row.coded) _ _) (λ x. x.schema.first.there);
+      alone = ∥∥₁_elim h (Coded-set (coded_option table.the_row.coded) _ _) (λ x. x.schema.first.alone);
+      stored = ∥∥₁_elim h (Coded-set coded_bool _ _) (λ x. x.schema.first.stored);
+    };
+    second = record {
+      there = ∥∥₁_elim h (Coded-set (coded_option table.the_row.coded) _ _) (λ x. x.schema.second.there);
+      alone = ∥∥₁_elim h (Coded-set (coded_option table.the_row.coded) _ _) (λ x. x.schema.second.alone);
+      stored = ∥∥₁_elim h (Coded-set coded_bool _ _) (λ x. x.schema.second.stored);
+    };
+  };
 }
 
 pub same_again : (found before : List Entry) → ∥ found ≡ before ∥₁ → found ≡ before
@@ -133,21 +144,21 @@ crashed {D} g store log db log' db' is log_clean db_clean log_left db_left clean
 
 -- A store, and a stop behind it.
 pub found_after : {A E : Type 0} (r : Result A E) (old new again : State) (entry : Entry) → OnOk r (IsHonestJournal old → HasCleanDisk new → IsHonestJournal new)
-    → (IsHonestJournal new → OnOk r (records_of new.now.trees ≡ records_of old.now.trees ++ entry ∷ [])) → IsSafeAtRest new
-    → (IsHonestJournal old → HasCleanDisk new → LeavesOnly new (λ left. (left ≡ records_of old.now.trees) ⊎ (left ≡ records_of old.now.trees ++ entry ∷ [])))
-    → ((records : List Entry) → LeavesOnly new (λ left. left ≡ records) → IsHonestJournal again × (records_of again.now.trees ≡ records))
-    → ((records : List Entry) (r : Entry) → LeavesOnly new (λ left. (left ≡ records) ⊎ (left ≡ records ++ r ∷ [])) → IsHonestJournal again × ((records_of again.now.trees ≡ records) ⊎ (records_of again.now.trees ≡ records ++ r ∷ [])))
-    → HasCleanDisk new → IsHonestJournal old → IsHonestJournal again × IsFoundAfter r (records_of old.now.trees) entry (records_of again.now.trees)
+    → (IsHonestJournal new → OnOk r (records_of new.now ≡ records_of old.now ++ entry ∷ [])) → IsSafeAtRest new
+    → (IsHonestJournal old → HasCleanDisk new → LeavesOnly new (λ left. (left ≡ records_of old.now) ⊎ (left ≡ records_of old.now ++ entry ∷ [])))
+    → ((records : List Entry) → LeavesOnly new (λ left. left ≡ records) → IsHonestJournal again × (records_of again.now ≡ records))
+    → ((records : List Entry) (r : Entry) → LeavesOnly new (λ left. (left ≡ records) ⊎ (left ≡ records ++ r ∷ [])) → IsHonestJournal again × ((records_of again.now ≡ records) ⊎ (records_of again.now ≡ records ++ r ∷ [])))
+    → HasCleanDisk new → IsHonestJournal old → IsHonestJournal again × IsFoundAfter r (records_of old.now) entry (records_of again.now)
 found_after (Ok x) old new again entry alive stored rest stop kept found clean honest =
     let still = alive honest clean in
-    let got = kept (records_of new.now.trees) (rest still) in
+    let got = kept (records_of new.now) (rest still) in
     (got.0, got.1 ∙ stored still)
-found_after (Err e) old new again entry alive stored rest stop kept found clean honest = found (records_of old.now.trees) entry (stop honest clean)
+found_after (Err e) old new again entry alive stored rest stop kept found clean honest = found (records_of old.now) entry (stop honest clean)
 
 -- What storage may turn out to hold is found again, with a doubtful record or with none.
 pub contents_again : (self again : State) (certain : List Entry) (doubtful : Option Entry)
-    → ((records : List Entry) → LeavesOnly self (λ left. left ≡ records) → IsHonestJournal again × (records_of again.now.trees ≡ records))
-    → ((records : List Entry) (r : Entry) → LeavesOnly self (λ left. (left ≡ records) ⊎ (left ≡ records ++ r ∷ [])) → IsHonestJournal again × ((records_of again.now.trees ≡ records) ⊎ (records_of again.now.trees ≡ records ++ r ∷ [])))
-    → LeavesOnly self (IsContents certain doubtful) → IsHonestJournal again × IsContents certain doubtful (records_of again.now.trees)
+    → ((records : List Entry) → LeavesOnly self (λ left. left ≡ records) → IsHonestJournal again × (records_of again.now ≡ records))
+    → ((records : List Entry) (r : Entry) → LeavesOnly self (λ left. (left ≡ records) ⊎ (left ≡ records ++ r ∷ [])) → IsHonestJournal again × ((records_of again.now ≡ records) ⊎ (records_of again.now ≡ records ++ r ∷ [])))
+    → LeavesOnly self (IsContents certain doubtful) → IsHonestJournal again × IsContents certain doubtful (records_of again.now)
 contents_again self again certain None kept found leaves = kept certain leaves
 contents_again self again certain (Some r) kept found leaves = found certain r leaves

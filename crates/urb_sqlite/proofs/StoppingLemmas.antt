@@ -36,20 +36,20 @@ abbrev pub LeavesAt : Node → State → Type 0
 LeavesAt node s = (certain : List Entry) × (doubtful : Option Entry) × LeavesOnly s (IsContents certain doubtful) × ((records : List Entry) → IsContents certain doubtful records → MayLeave node records)
 
 -- what a journal holds that was opened again is what the stop left of the old one
-holds_again : (node : Node) (old new : State) → IsReopened old new → (HasCleanDisk old → LeavesAt node old) → IsHonestJournal new → (records : List Entry) → records ≡ records_of new.now.trees → MayLeave node records
+holds_again : (node : Node) (old new : State) → IsReopened old new → (HasCleanDisk old → LeavesAt node old) → IsHonestJournal new → (records : List Entry) → records ≡ records_of new.now → MayLeave node records
 holds_again node old new is leaves honest records holds =
     let of = leaves (is.clean honest.clean) in
     let found = is.left honest.clean of.0 of.1 of.2 in
-    subst (MayLeave node) (sym holds) (of.3 (records_of new.now.trees) found.1)
+    subst (MayLeave node) (sym holds) (of.3 (records_of new.now) found.1)
 
 pub all_hold : {S : Type 0} (before after : List S) (at : S → State) (nodes : ℕ → Node) → AreReopened before after at
     → ((i : ℕ) (store : S) → slice_get before i ≡ Some store → HasCleanDisk (at store) → LeavesAt (nodes i) (at store))
-    → (i : ℕ) (store : S) → slice_get after i ≡ Some store → IsHonestJournal (at store) → (records : List Entry) → records ≡ records_of (at store).now.trees → MayLeave (nodes i) records
+    → (i : ℕ) (store : S) → slice_get after i ≡ Some store → IsHonestJournal (at store) → (records : List Entry) → records ≡ records_of (at store).now → MayLeave (nodes i) records
 all_hold [] [] at nodes are leaves i store got = absurd (cc)
 all_hold [] (y ∷ after) at nodes are leaves i store got = absurd are
 all_hold (x ∷ before) [] at nodes are leaves i store got = absurd are
 all_hold (x ∷ before) (y ∷ after) at nodes are leaves zero store got =
-    (let same : y ≡ store = cc in subst (λ s. IsHonestJournal (at s) → (records : List Entry) → records ≡ records_of (at s).now.trees → MayLeave (nodes zero) records) same (holds_again (nodes zero) (at x) (at y) are.0 (leaves zero x refl)))
+    (let same : y ≡ store = cc in subst (λ s. IsHonestJournal (at s) → (records : List Entry) → records ≡ records_of (at s).now → MayLeave (nodes zero) records) same (holds_again (nodes zero) (at x) (at y) are.0 (leaves zero x refl)))
 all_hold (x ∷ before) (y ∷ after) at nodes are leaves (suc i) store got = all_hold before after at (λ k. nodes (suc k)) are.1 (λ k s h. leaves (suc k) s h) i store got
 
 -- the journals that were opened again are honest, as far as their disks are clean

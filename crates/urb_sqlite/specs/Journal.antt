@@ -1,5 +1,9 @@
--- The table of a journal: its texts, its tree, its limit and its schema.
-use Rattle.std.specs.Prelude.{◌≡◌, ℕ, true, false, List, [], ◌∷◌, take, codes, Some}
+-- The two tables of a journal: their texts, their limits, and where they stand in a schema.
+use Rattle.std.specs.Prelude.{◌≡◌, ◌^◌, ◌==◌, nat_le, ℕ, true, false, List, [], ◌∷◌, find, codes, Option, Some, option_map, option_and_then, slice_get, unwrap_or, None, ◌⊎◌}
+use Rattle.urb_names.specs.declared.message.TheConstants.{MAX_PAYLOAD}
+use Rattle.urb_sqlite.specs.declared.statements.Part.{Part}
+use Rattle.urb_sqlite.specs.declared.statements.Part.TheVariants.{First, Second}
+use Rattle.sqlite_schema.specs.Names.{table_named}
 use Rattle.sqlite.specs.Collation.TheVariants.{Binary}
 use Rattle.sqlite.specs.declared.types.Value.TheVariants.{Null}
 use Rattle.sqlite.specs.Table.{Table}
@@ -8,20 +12,48 @@ use Rattle.sqlite_schema.specs.declared.schema.Column.{Column}
 use Rattle.sqlite.specs.Kind.TheVariants.{Integer}
 use Rattle.sqlite.specs.Kind.TheVariants as kind
 
--- the text that makes the table where it is absent
+-- the name of the table that stood first
+abbrev pub journal_name : List ℕ
+journal_name = codes "journal"
+
+-- the name of the table that takes new records
+abbrev pub second_name : List ℕ
+second_name = codes "journal2"
+
+-- the name of each
+abbrev pub name_of : Part → List ℕ
+name_of First = journal_name
+name_of Second = second_name
+
+-- the most bytes that a payload has in a table
+abbrev pub limit_of : Part → ℕ
+limit_of First = 1024
+limit_of Second = MAX_PAYLOAD
+
+-- the text that makes the first table where it is absent
 abbrev pub create_text : List ℕ
 create_text = codes "CREATE TABLE IF NOT EXISTS journal(pos INTEGER PRIMARY KEY, kind INTEGER NOT NULL, sender INTEGER NOT NULL, seq INTEGER NOT NULL, client INTEGER NOT NULL, number INTEGER NOT NULL, payload BLOB NOT NULL) STRICT"
 
+-- the text that makes the second one where it is absent
+abbrev pub second_text : List ℕ
+second_text = codes "CREATE TABLE IF NOT EXISTS journal2(pos INTEGER PRIMARY KEY, kind INTEGER NOT NULL, sender INTEGER NOT NULL, seq INTEGER NOT NULL, client INTEGER NOT NULL, number INTEGER NOT NULL, payload BLOB NOT NULL) STRICT"
+
+-- the text that makes each
+abbrev pub create_of : Part → List ℕ
+create_of First = create_text
+create_of Second = second_text
+
 -- the text that stores a record
 abbrev pub insert_text : List ℕ
-insert_text = codes "INSERT INTO journal VALUES (?1, ?2, ?3, ?4, ?5, ?6, ?7)"
+insert_text = codes "INSERT INTO journal2 VALUES (?1, ?2, ?3, ?4, ?5, ?6, ?7)"
 
--- the text that reads all records
-abbrev pub select_text : List ℕ
-select_text = codes "SELECT pos, kind, sender, seq, client, number, payload FROM journal ORDER BY pos"
+-- the texts that read all records
+abbrev pub select_of : Part → List ℕ
+select_of First = codes "SELECT pos, kind, sender, seq, client, number, payload FROM journal ORDER BY pos"
+select_of Second = codes "SELECT pos, kind, sender, seq, client, number, payload FROM journal2 ORDER BY pos"
 
 -- a column of integers that is not null
-abbrev integer : List ℕ → Column
+abbrev pub integer : List ℕ → Column
 integer name = record { name = name; kind = Integer; is_strict = true; not_null = true; default = Null; collation = Binary }
 
 -- the table of records with this name, whose rows stand in this tree
@@ -43,21 +75,32 @@ record_table name tree = record {
   is_counted = false;
 }
 
--- the tree that has the rows of the table journal
-abbrev pub journal_tree : ℕ
-journal_tree = 0
+-- the table of this name, wherever it stands in the schema
+abbrev pub table_of : Schema → List ℕ → Option Table
+table_of schema name = option_and_then (slice_get schema.tables) (table_named schema name)
 
--- the most bytes that a payload has in the table journal
-abbrev pub journal_limit : ℕ
-journal_limit = 1024
+-- the tree that has the rows of the table of this name, and 0 where there is no such table
+abbrev pub tree_of : Schema → List ℕ → ℕ
+tree_of schema name = unwrap_or (option_map (λ t. t.tree) (table_of schema name)) 0
 
--- the table journal
-abbrev pub journal : Table
-journal = record_table (codes "journal") journal_tree
+-- The schema's table of this name is one of records; no table before it has its tree, and the tree is a stored one.
+pub record HasTable (schema : Schema) (name : List ℕ) : Type 0 where
+  pub there : table_of schema name ≡ Some (record_table name (tree_of schema name))
+  pub alone : find (λ t. t.tree == tree_of schema name) schema.tables ≡ Some (record_table name (tree_of schema name))
+  pub stored : nat_le (2 ^ 31) (tree_of schema name) ≡ false
 
--- The table journal is the first of the schema. Further tables, indexes and views take nothing from it.
+-- the schema has no table of this name
+abbrev pub Lacks : Schema → List ℕ → Type 0
+Lacks schema name = table_of schema name ≡ None
+
+-- Both tables are there. Other tables, indexes and views take nothing from them.
+pub record HasBoth (schema : Schema) : Type 0 where
+  pub first : HasTable schema journal_name
+  pub second : HasTable schema second_name
+
+-- The table journal is there, and journal2 is there too or absent.
 abbrev pub HasJournal : Schema → Type 0
-HasJournal schema = take 1 schema.tables ≡ journal ∷ []
+HasJournal schema = HasTable schema journal_name × (HasTable schema second_name ⊎ Lacks schema second_name)
 
 -- a database with no table
 abbrev pub no_schema : Schema

@@ -2,6 +2,7 @@ pub mod Journal
 pub mod Rows
 pub mod Reading
 pub mod OpenJournal
+pub mod PartOpening
 pub mod Blame
 pub mod Stops
 pub mod Shape

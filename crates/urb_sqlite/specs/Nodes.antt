@@ -8,7 +8,7 @@ use Rattle.sqlite.specs.Files.{HoldsDatabase}
 use Rattle.urb_stable.specs.Entries.{Entry}
 use Rattle.urb_stable.specs.declared.stable.Stable.{Ghosts}
 use Rattle.urb_sqlite.specs.Rows.{StandsFor}
-use Rattle.urb_sqlite.specs.OpenJournal.{IsJournal}
+use Rattle.urb_sqlite.specs.OpenJournal.{IsJournal, database_of}
 
 -- what the log and the database file of a node held, for nodes 1 to 7
 abbrev pub held_by : {A B C D E F G : Type 0} → start.Ghosts A → start.Ghosts B → start.Ghosts C → start.Ghosts D → start.Ghosts E → start.Ghosts F → start.Ghosts G → ℕ → Image
@@ -23,7 +23,7 @@ held_by a b c d e f g _ = image_at g
 -- While the storage gives back what was written: a journal that stood in the files is honest and has its records, and where
 -- the database file was empty the journal is honest and has none.
 pub record IsFoundIn (image : Image) (is_clean is_honest : Type 0) (records : List Entry) : Type 0 where
-  pub stood : is_clean → (db : Trees) → HoldsDatabase image db → IsJournal db → is_honest × StandsFor db records
+  pub stood : is_clean → (db : Trees) → HoldsDatabase image db → (journal : IsJournal db) → is_honest × StandsFor (database_of journal) records
   pub fresh : is_clean → image.db ≡ [] → is_honest × (records ≡ [])
 
 module _ {S A : Type 0} (g : Ghosts S A) where

@@ -1,13 +1,18 @@
 -- What contracts see of a journal that is open.
-use Rattle.std.specs.Prelude.{◌≡◌, ℕ, ◌+◌, Bool, false, List, [], ◌∷◌, ◌++◌, length, IsTrue, refl}
+use Rattle.std.specs.Prelude.{◌≡◌, ℕ, ◌+◌, Bool, false, List, [], ◌∷◌, ◌++◌, length, IsTrue, refl, ◌⊎◌}
 use Rattle.std.specs.Coded.{Coded, code_by, coded×, coded_ℕ, coded_bool}
 use Rattle.sqlite.specs.Held.{Held, held_code}
-use Rattle.sqlite.specs.State.{State, HasCleanDisk}
+use Rattle.std.specs.List.{AllByRecursion}
+use Rattle.sqlite.specs.State.{State, HasCleanDisk, IsUnchanged, KeepsCommit, CommitsBy}
+use Rattle.sqlite.specs.Table.{Table}
+use Rattle.urb_stable.specs.Storing.{is_bad_row}
+use Rattle.urb_stable.specs.declared.stable.StoreFault.{StoreFault}
 use Rattle.sqlite.specs.Tree.{Trees}
+use Rattle.sqlite.specs.Effect.{Database}
 use Rattle.sqlite_catalog.specs.Listing.{IsSound}
 use Rattle.urb_stable.specs.Entries.{Entry}
 use Rattle.sqlite.specs.Schema.{Schema}
-use Rattle.urb_sqlite.specs.Journal.{HasJournal}
+use Rattle.urb_sqlite.specs.Journal.{create_text, journal_name, second_name, tree_of, HasTable, HasBoth, HasJournal}
 use Rattle.urb_sqlite.specs.Rows.{StandsFor}
 use Rattle.urb_sqlite.specs.Reading.{records_of}
 
@@ -27,51 +32,106 @@ open_code {S} store =
     (λ _. refl)
 
 -- each row of the journal is a record, and the next position follows the last
-pub record IsCounted (db : Trees) (next : ℕ) : Type 0 where
-  pub stands : StandsFor db (records_of db)
-  pub place : next ≡ length (records_of db) + 1
+pub record IsCounted (d : Database) (next : ℕ) : Type 0 where
+  pub stands : StandsFor d (records_of d)
+  pub place : next ≡ length (records_of d) + 1
 
--- No transaction is open, all rows are committed, and where the journal is the first table they are counted.
+-- No transaction is open, all rows are committed, and where both tables are there they are counted.
 pub record IsKept (s : State) (next : ℕ) : Type 0 where
   pub autocommit : s.in_transaction ≡ false
   pub settled : s.now ≡ s.committed
-  pub counted : HasJournal s.now.schema → IsCounted s.now.trees next
+  pub counted : HasBoth s.now.schema → IsCounted s.now next
 
 -- While the disk is clean and the connection open, the next position is in step with the rows.
 abbrev pub IsInStep : State → ℕ → Type 0
 IsInStep s next = HasCleanDisk s → IsTrue s.is_open → IsKept s next
 
--- So far the disk has given back what was written, no fault has shut the database, and the journal is its first table.
+-- So far the disk has given back what was written, no fault has shut the database, and both of its tables are there.
 pub record IsHonestJournal (s : State) : Type 0 where
   pub clean : HasCleanDisk s
   pub is_open : IsTrue s.is_open
-  pub schema : HasJournal s.now.schema
+  pub schema : HasBoth s.now.schema
 
--- These trees are a database whose first table is the journal.
+-- These trees are a database that has the journal.
 pub record IsJournal (db : Trees) : Type 0 where
   pub schema : Schema
   pub has : HasJournal schema
   pub sound : IsSound schema db
 
+-- the database that these trees are
+abbrev pub database_of : {db : Trees} → IsJournal db → Database
+database_of {db} journal = record { schema = journal.schema; trees = db }
+
 -- Whatever a stop leaves is a journal of records of which P holds.
 abbrev pub LeavesOnly : State → (List Entry → Type 0) → Type 0
-LeavesOnly s P = (db : Trees) → s.may_leave db → IsJournal db × (records : List Entry) × StandsFor db records × P records
+LeavesOnly s P = (db : Trees) → s.may_leave db → (journal : IsJournal db) × (records : List Entry) × StandsFor (database_of journal) records × P records
 
 -- ---- what a call does to a journal
+
+-- a database got tables behind its others, which keep their rows
+pub record IsLonger (old new : Database) : Type 0 where
+  pub more : List Table
+  pub tables : new.schema.tables ≡ old.schema.tables ++ more
+  pub rows : AllByRecursion (λ (t : Table). new.trees t.tree ≡ old.trees t.tree) old.schema.tables
+
+-- a database got the empty table of this name behind its others, which keep their rows
+pub record AddsTable (old new : Database) (name : List ℕ) : Type 0 where
+  pub has : HasTable new.schema name
+  pub empty : new.trees (tree_of new.schema name) ≡ []
+  pub longer : IsLonger old new
+  pub keeps : (other : List ℕ) → HasTable old.schema other → HasTable new.schema other × (new.trees (tree_of new.schema other) ≡ old.trees (tree_of old.schema other))
+
+-- the connection was open and is, and the table of this name was added
+pub record IsMade (old new : State) (name : List ℕ) : Type 0 where
+  pub was_open : IsTrue old.is_open
+  pub is_open : IsTrue new.is_open
+  pub adds : AddsTable old.now new.now name
+
+-- nothing changed, or the table of this name was added
+abbrev pub MakesAtMost : State → State → List ℕ → Type 0
+MakesAtMost old new name = IsUnchanged old new ⊎ IsMade old new name
+
+-- what was committed has the table of this name behind what was there
+abbrev pub CommitsTable : State → State → List ℕ → Type 0
+CommitsTable old new name = IsTrue new.is_open → IsTrue old.is_open × AddsTable old.now new.committed name
+
+-- nothing was committed, or the table of this name was
+abbrev pub CommitsAtMost : State → State → List ℕ → Type 0
+CommitsAtMost old new name = KeepsCommit old new ⊎ CommitsTable old new name
 
 -- the record was added, and the connection stays open
 pub record IsAppended (old new : State) (place : ℕ) (r : Entry) : Type 0 where
   pub kept : IsInStep new (place + 1)
   pub honest : IsHonestJournal new → IsHonestJournal old
   pub alive : IsHonestJournal old → HasCleanDisk new → IsHonestJournal new
-  pub records : IsHonestJournal new → records_of new.now.trees ≡ records_of old.now.trees ++ r ∷ []
+  pub records : IsHonestJournal new → records_of new.now ≡ records_of old.now ++ r ∷ []
 
 -- no row changed
 pub record IsLeft (old new : State) (place : ℕ) : Type 0 where
   pub kept : IsInStep new place
   pub honest : IsHonestJournal new → IsHonestJournal old
-  pub records : IsHonestJournal new → records_of new.now.trees ≡ records_of old.now.trees
+  pub records : IsHonestJournal new → records_of new.now ≡ records_of old.now
 
 -- At rest a stop leaves the records that the journal shows.
 abbrev pub IsSafeAtRest : State → Type 0
-IsSafeAtRest s = IsHonestJournal s → LeavesOnly s (λ records. records ≡ records_of s.now.trees)
+IsSafeAtRest s = IsHonestJournal s → LeavesOnly s (λ records. records ≡ records_of s.now)
+
+-- ---- what opening leaves
+
+-- these trees are the first database with the empty table of this name behind its others
+pub record AddsOne (old : Database) (name : List ℕ) (db : Trees) : Type 0 where
+  pub after : Database
+  pub adds : AddsTable old after name
+  pub sound : IsSound after.schema after.trees
+  pub is : db ≡ after.trees
+
+-- What a stop inside an opening may leave beside what was there: the database with the first table, or then with the second.
+abbrev pub CommitsEither : State → Trees → Type 0
+CommitsEither s db =
+    CommitsBy create_text [] s db
+    ⊎ ((mid : Database) × ((mid ≡ s.now) ⊎ AddsTable s.now mid journal_name) × AddsOne mid second_name db)
+
+-- A journal that is refused keeps its rows: nothing was committed, or the second table alone, which is empty; a bad row of the
+-- first table commits nothing.
+pub record KeepsRows (old new : State) (e : StoreFault) : Type 0 where
+  pub commit : KeepsCommit old new ⊎ (CommitsTable old new second_name × (is_bad_row e ≡ false))

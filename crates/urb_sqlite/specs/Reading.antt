@@ -3,14 +3,15 @@ use Rattle.std.specs.Prelude.{ℕ, ◌+◌, ◌^◌, ◌==◌, ◌&&◌, Bool, n
 use Rattle.sqlite.specs.declared.types.Value.{Value}
 use Rattle.sqlite.specs.declared.types.Value.TheVariants.{Null, Int, Real, Text, Blob}
 use Rattle.sqlite.specs.Order.{Row, column}
-use Rattle.sqlite.specs.Tree.{Trees}
+use Rattle.sqlite.specs.Effect.{Database}
 use Rattle.urb_names.specs.Naming.{Label, Content}
 use Rattle.urb_names.specs.Nodes.{is_node}
 use Rattle.urb_stable.specs.Entries.{Entry}
 use Rattle.urb_stable.specs.declared.record.Record.TheVariants.{Pend, PendCert, Cert}
 use Rattle.urb_sqlite.specs.declared.rows.Columns.{Columns}
-use Rattle.urb_sqlite.specs.Journal.{journal_tree, journal_limit}
-use Rattle.urb_sqlite.specs.Rows.{rows_in}
+use Rattle.urb_sqlite.specs.Journal.{journal_name, second_name, limit_of}
+use Rattle.urb_sqlite.specs.declared.statements.Part.TheVariants.{First, Second}
+use Rattle.urb_sqlite.specs.Rows.{table_rows}
 
 -- an integer that is a number of 32 bits
 abbrev pub word_in : ℤ → Option ℕ
@@ -96,6 +97,15 @@ abbrev pub ok_or_none : Result (List Entry) ℕ → List Entry
 ok_or_none (Ok rs) = rs
 ok_or_none (Err bad) = []
 
+-- what is read behind records that were read, whose number the reading may know
+abbrev pub followed : Result (List Entry) ℕ → (List Entry → Result (List Entry) ℕ) → Result (List Entry) ℕ
+followed (Ok rs) next = extended rs (next rs)
+followed (Err bad) next = Err bad
+
+-- the rows of both tables, whose places run on
+abbrev pub read_both : List Row → List Row → Result (List Entry) ℕ
+read_both first second = followed (read_from (limit_of First) 1 first) (λ rs. read_from (limit_of Second) (1 + length rs) second)
+
 -- the records that a journal stands for, or none where some row is no record
-abbrev pub records_of : Trees → List Entry
-records_of db = ok_or_none (read_from journal_limit 1 (rows_in journal_tree db))
+abbrev pub records_of : Database → List Entry
+records_of d = ok_or_none (read_both (table_rows d journal_name) (table_rows d second_name))

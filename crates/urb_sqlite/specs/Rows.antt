@@ -1,13 +1,15 @@
 -- The row of a record, the rows of a table, and the records that they stand for.
-use Rattle.std.specs.Prelude.{◌≡◌, IsPermutation, IsSorted, All, ℕ, ◌+◌, ◌<◌, ◌≤◌, pos, List, [], ◌∷◌, ◌++◌, length, map}
+use Rattle.std.specs.Prelude.{◌≡◌, IsPermutation, IsSorted, All, ℕ, ◌+◌, ◌<◌, ◌≤◌, pos, List, [], ◌∷◌, ◌++◌, length, map, ◌⊎◌, option_map, unwrap_or}
 use Rattle.sqlite.specs.declared.types.Value.TheVariants.{Null, Int, Blob}
 use Rattle.sqlite.specs.Order.{Row, column, value_cmp}
 use Rattle.sqlite.specs.Tree.{Trees}
+use Rattle.sqlite.specs.Effect.{Database}
 use Rattle.std.specs.declared.cmp.Ordering.{Ordering}
 use Rattle.sqlite_keyed.specs.Lists.{sort_by}
 use Rattle.urb_stable.specs.Entries.{Entry, IsEntry}
 use Rattle.urb_stable.specs.declared.record.Record.TheVariants.{Pend, PendCert, Cert}
-use Rattle.urb_sqlite.specs.Journal.{journal_tree, journal_limit}
+use Rattle.urb_sqlite.specs.Journal.{journal_name, second_name, limit_of, table_of, tree_of}
+use Rattle.urb_sqlite.specs.declared.statements.Part.TheVariants.{First, Second}
 
 -- ---- a record as a row
 
@@ -95,6 +97,21 @@ pub record IsFirstBad (limit first : ℕ) (rows : List Row) (place : ℕ) : Type
   pub here : place ≡ first + length records
   pub bad : IsNoRecord limit place row
 
--- the table journal stands for these records
-abbrev pub StandsFor : Trees → List Entry → Type 0
-StandsFor db = Spells journal_limit 1 (rows_in journal_tree db)
+-- the rows of the table of this name, in order of pos; none where there is no such table
+abbrev pub table_rows : Database → List ℕ → List Row
+table_rows d name = unwrap_or (option_map (λ t. rows_in t.tree d.trees) (table_of d.schema name)) []
+
+-- The two tables stand for these records, one behind the other: their places run on over both.
+pub record StandsFor (d : Database) (records : List Entry) : Type 0 where
+  pub first : List Entry
+  pub second : List Entry
+  pub whole : records ≡ first ++ second
+  pub in_first : Spells (limit_of First) 1 (table_rows d journal_name) first
+  pub in_second : Spells (limit_of Second) (1 + length first) (table_rows d second_name) second
+
+-- The first row that is no record, over both tables, is the one at this place.
+abbrev pub IsFirstBadOf : Database → ℕ → Type 0
+IsFirstBadOf d place =
+    ((rows : List Row) × IsInOrder (tree_of d.schema journal_name) d.trees rows × IsFirstBad (limit_of First) 1 rows place)
+    ⊎ ((first : List Entry) × Spells (limit_of First) 1 (table_rows d journal_name) first
+    × (rows : List Row) × IsInOrder (tree_of d.schema second_name) d.trees rows × IsFirstBad (limit_of Second) (1 + length first) rows place)

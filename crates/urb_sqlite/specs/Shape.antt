@@ -74,10 +74,10 @@ abbrev pub is_written : Table → Bool
 is_written t =
     length t.computed == 0 && length t.stamps.places == 0 && length t.stamps.terms == 0 && length t.stamps.formats == 0 && not t.is_counted
 
--- whether the table is that of a journal, in whatever tree
-abbrev pub is_journal : Table → Bool
-is_journal t = bytes_eq t.name (codes "journal") && are_columns t.columns && is_keyed t && is_free t && is_written t
+-- whether the table has this name and is one of records, in whatever tree
+abbrev pub is_journal : List ℕ → Table → Bool
+is_journal name t = bytes_eq t.name name && are_columns t.columns && is_keyed t && is_free t && is_written t
 
--- whether the table that has the name is that of a journal
-abbrev pub has_table : Schema → Bool
-has_table schema = unwrap_or (option_map is_journal (option_and_then (slice_get schema.tables) (table_named schema (codes "journal")))) false
+-- whether the table that has the name is one of records
+abbrev pub has_table : List ℕ → Schema → Bool
+has_table name schema = unwrap_or (option_map (is_journal name) (option_and_then (slice_get schema.tables) (table_named schema name))) false

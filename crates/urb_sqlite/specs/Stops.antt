@@ -22,7 +22,7 @@ IsFoundAfter (Err e) before r found = (found ≡ before) ⊎ (found ≡ before +
 -- holds what the stop left, whatever that is.
 pub record IsReopened (old new : State) : Type 0 where
   pub clean : HasCleanDisk new → HasCleanDisk old
-  pub left : HasCleanDisk new → (certain : List Entry) (doubtful : Option Entry) → LeavesOnly old (IsContents certain doubtful) → IsHonestJournal new × IsContents certain doubtful (records_of new.now.trees)
+  pub left : HasCleanDisk new → (certain : List Entry) (doubtful : Option Entry) → LeavesOnly old (IsContents certain doubtful) → IsHonestJournal new × IsContents certain doubtful (records_of new.now)
 
 -- the same for several, one after the other
 abbrev pub AreReopened : {S : Type 0} → List S → List S → (S → State) → Type 0

@@ -1,16 +1,22 @@
 //! What each statement does to the records of a journal.
 
-ghost use Rattle.std.specs.Prelude.{ℕ, ◌≡◌, ◌⊎◌, ◌<◌, ◌≤◌, ◌∷◌, ◌++◌, [], length, true, false, IfOk, IfErr, OnOk, OnErr, IsTrue, Err};
+ghost use Rattle.std.specs.Prelude.{ℕ, List, ◌≡◌, ◌⊎◌, ◌<◌, ◌≤◌, ◌∷◌, ◌++◌, [], ◌+◌, length, true, false, IfOk, IfErr, OnOk, OnErr, IsTrue, Ok, Err};
 ghost use Rattle.sqlite.specs.State.{HasCleanDisk, IsLive, IsUnchanged, IsRolledBack, KeepsCommit, Survives, CommitsBy};
 ghost use Rattle.sqlite.specs.Held.{state};
 ghost use Rattle.urb_stable.specs.Storing.{is_place, is_bad_row};
 ghost use Rattle.urb_sqlite.specs.Blame.{is_memory, blamed};
-ghost use Rattle.urb_sqlite.specs.Journal.{create_text, no_schema, HasJournal, journal_tree, journal_limit};
-ghost use Rattle.urb_sqlite.specs.Rows.{IsInOrder, IsFirstBad, StandsFor};
-ghost use Rattle.urb_sqlite.specs.Reading.{records_of};
+ghost use Rattle.urb_stable.specs.Entries.{Entry};
+ghost use Rattle.urb_names.specs.declared.message.TheConstants.{MAX_PAYLOAD};
+ghost use Rattle.urb_sqlite.specs.Journal as journal;
+ghost use Rattle.urb_sqlite.specs.Journal.{create_of, name_of, second_name, limit_of, tree_of, no_schema, Lacks, HasTable, HasBoth, HasJournal};
+ghost use Rattle.urb_sqlite.specs.declared.statements.Part.TheVariants.{First, Second};
+ghost use Rattle.urb_sqlite.specs.Rows.{table_rows, IsInOrder, IsFirstBad, IsFirstBadOf, StandsFor};
+ghost use Rattle.urb_sqlite.specs.Reading.{read_from, records_of};
 ghost use Rattle.urb_sqlite.specs.Shape.{has_table};
-ghost use Rattle.urb_sqlite.specs.OpenJournal.{IsCounted, IsInStep, IsHonestJournal, IsAppended, IsLeft, IsSafeAtRest, LeavesOnly};
+ghost use Rattle.urb_sqlite.specs.OpenJournal.{IsCounted, IsInStep, IsHonestJournal, IsMade, MakesAtMost, CommitsAtMost, KeepsRows, CommitsEither, IsAppended, IsLeft, IsSafeAtRest, LeavesOnly};
+ghost use Rattle.urb_sqlite.specs.PartOpening.{IsPartOpened, IsPartRefused};
 
+use crate::statements::Part;
 use crate::{rows, shape, statements};
 use sqlite::{Alter, Connection, Error, ErrorCode};
 use std::alloc::Global;
@@ -52,7 +58,7 @@ pub fn append<S: Alter>(
     ensures ok { IsInStep (state S.Store conn.old) place → OnOk result (IsAppended (state S.Store conn.old) (state S.Store conn.new) place entry.now) }
     ensures err { IsInStep (state S.Store conn.old) place → OnErr result (IsLeft (state S.Store conn.old) (state S.Store conn.new) place) }
     ensures stop { IsInStep (state S.Store conn.old) place → IsHonestJournal (state S.Store conn.old) → HasCleanDisk (state S.Store conn.new)
-        → LeavesOnly (state S.Store conn.new) (λ records. (records ≡ records_of (state S.Store conn.old).now.trees) ⊎ (records ≡ records_of (state S.Store conn.old).now.trees ++ entry.now ∷ [])) }
+        → LeavesOnly (state S.Store conn.new) (λ records. (records ≡ records_of (state S.Store conn.old).now) ⊎ (records ≡ records_of (state S.Store conn.old).now ++ entry.now ∷ [])) }
     ensures rest { IsInStep (state S.Store conn.old) place → IsSafeAtRest (state S.Store conn.new) }
     ensures known { IfErr result (λ e. (e ≡ StoreFault.NoMemory) ⊎ (e ≡ StoreFault.Device)) }
     ensures device { result ≡ Err StoreFault.Device → failures.old < failures.new }
@@ -69,19 +75,75 @@ pub fn append<S: Alter>(
     }
 }
 
-/// Reads all records, by one SELECT.
+/// The most bytes that a payload has in this table.
+fn limit_of(part: Part) -> usize
+    ensures is { result ≡ journal.limit_of part }
+    ensures low { result ≤ MAX_PAYLOAD }
+{
+    match part {
+        Part::First => 1024,
+        Part::Second => MAX_PAYLOAD,
+    }
+}
+
+/// Reads the records of one table, the first of which is at the place `first`, by one SELECT.
+fn read_part<S: Alter>(
+    alloc: Global,
+    conn: &mut Connection<S>,
+    failures: &mut u64,
+    part: Part,
+    first: u32,
+) -> Result<Vec<Record>, StoreFault>
+    requires { first ≤ 4294967295 }
+    ensures short { IfOk result (λ records. first + length records.items ≤ 4294967295) }
+    ensures same { HasCleanDisk (state S.Store conn.new) → OnOk result (IsUnchanged (state S.Store conn.old) (state S.Store conn.new)) }
+    ensures left { HasCleanDisk (state S.Store conn.new) → IsUnchanged (state S.Store conn.old) (state S.Store conn.new) ⊎ IsRolledBack (state S.Store conn.old) (state S.Store conn.new) }
+    ensures unchanged { HasCleanDisk (state S.Store conn.new) → IfErr result (λ e. (place : ℕ) → e ≡ StoreFault.BadRow place → IsUnchanged (state S.Store conn.old) (state S.Store conn.new)) }
+    ensures found { HasCleanDisk (state S.Store conn.new) → HasTable (state S.Store conn.old).now.schema (name_of part)
+        → IfOk result (λ records. read_from (limit_of part) first (table_rows (state S.Store conn.old).now (name_of part)) ≡ Ok records.items) }
+    ensures sound { HasCleanDisk (state S.Store conn.new) → HasTable (state S.Store conn.old).now.schema (name_of part)
+        → (records : List Entry) → read_from (limit_of part) first (table_rows (state S.Store conn.old).now (name_of part)) ≡ Ok records → IfErr result (λ e. is_bad_row e ≡ false) }
+    ensures bad { HasCleanDisk (state S.Store conn.new) → HasTable (state S.Store conn.old).now.schema (name_of part)
+        → IfErr result (λ e. (place : ℕ) → e ≡ StoreFault.BadRow place
+        → (rows : _) × IsInOrder (tree_of (state S.Store conn.old).now.schema (name_of part)) (state S.Store conn.old).now.trees rows × IsFirstBad (limit_of part) first rows place) }
+    ensures stop { Survives (state S.Store conn.old) (state S.Store conn.new) (λ _. ⊥) }
+    ensures live_before { IsLive (state S.Store conn.old) }
+    ensures live { IsLive (state S.Store conn.new) }
+    ensures placed { IfErr result (λ e. is_place e ≡ false) }
+    ensures device { result ≡ Err StoreFault.Device → failures.old < failures.new }
+    ensures counts { failures.old ≤ failures.new }
+    ensures calm { OnOk result (failures.new ≡ failures.old) }
+{
+    let _before = conn.schema();
+    let selected = statements::select(conn, part);
+    let _after = conn.schema();
+    match selected {
+        Ok(rows) => rows::records_in(alloc, limit_of(part), first, &rows),
+        Err(error) => Err(blame(failures, error)),
+    }
+}
+
+/// Records, and more behind them.
+fn joined(mut records: Vec<Record>, more: Vec<Record>) -> Result<Vec<Record>, StoreFault>
+    ensures all { IfOk result (λ all. all.items ≡ records.items ++ more.items) }
+    ensures fault { IfErr result (λ e. e ≡ StoreFault.NoMemory) }
+{
+    for record in more {
+        records.push(record)?;
+    }
+    Ok(records)
+}
+
+/// Reads all records, by one SELECT a table: those of the first, and then those of the second, whose places run on.
 pub fn read<S: Alter>(
     alloc: Global,
     conn: &mut Connection<S>,
     failures: &mut u64,
 ) -> Result<Vec<Record>, StoreFault>
-    ensures short { IfOk result (λ records. length records.items < 4294967295) }
     ensures same { HasCleanDisk (state S.Store conn.new) → OnOk result (IsUnchanged (state S.Store conn.old) (state S.Store conn.new)) }
     ensures left { HasCleanDisk (state S.Store conn.new) → IsUnchanged (state S.Store conn.old) (state S.Store conn.new) ⊎ IsRolledBack (state S.Store conn.old) (state S.Store conn.new) }
-    ensures found { HasCleanDisk (state S.Store conn.new) → HasJournal (state S.Store conn.old).now.schema → IfOk result (λ records. StandsFor (state S.Store conn.old).now.trees records.items) }
-    ensures sound { HasCleanDisk (state S.Store conn.new) → HasJournal (state S.Store conn.old).now.schema → (next : ℕ) → IsCounted (state S.Store conn.old).now.trees next → IfErr result (λ e. is_bad_row e ≡ false) }
-    ensures bad { HasCleanDisk (state S.Store conn.new) → HasJournal (state S.Store conn.old).now.schema
-        → IfErr result (λ e. (place : ℕ) → e ≡ StoreFault.BadRow place → (rows : _) × IsInOrder journal_tree (state S.Store conn.old).now.trees rows × IsFirstBad journal_limit 1 rows place) }
+    ensures found { HasCleanDisk (state S.Store conn.new) → HasBoth (state S.Store conn.old).now.schema → IfOk result (λ records. StandsFor (state S.Store conn.old).now records.items) }
+    ensures sound { HasCleanDisk (state S.Store conn.new) → HasBoth (state S.Store conn.old).now.schema → (next : ℕ) → IsCounted (state S.Store conn.old).now next → IfErr result (λ e. is_bad_row e ≡ false) }
     ensures stop { Survives (state S.Store conn.old) (state S.Store conn.new) (λ _. ⊥) }
     ensures rest { (next : ℕ) → IsInStep (state S.Store conn.old) next → IsSafeAtRest (state S.Store conn.new) }
     ensures live_before { IsLive (state S.Store conn.old) }
@@ -91,45 +153,110 @@ pub fn read<S: Alter>(
     ensures counts { failures.old ≤ failures.new }
     ensures calm { OnOk result (failures.new ≡ failures.old) }
 {
-    let _before = conn.schema();
-    let selected = statements::select(conn);
-    let _after = conn.schema();
-    match selected {
-        Ok(rows) => rows::records_in(alloc, MAX_PAYLOAD, 1, &rows),
-        Err(error) => Err(blame(failures, error)),
+    let records = read_part(alloc, conn, failures, Part::First, 1)?;
+    let first = records.len() as u32 + 1;
+    let more = read_part(alloc, conn, failures, Part::Second, first)?;
+    joined(records, more)
+}
+
+/// The name of this table.
+fn name_of(part: Part) -> &'static [u8]
+    ensures { result.now ≡ journal.name_of part }
+{
+    match part {
+        Part::First => b"journal",
+        Part::Second => b"journal2",
     }
 }
 
-/// Whether no transaction is open and the table journal is there.
-fn is_ready<S: Alter>(conn: &Connection<S>) -> bool
+/// Whether no transaction is open and the table is there.
+fn is_ready<S: Alter>(conn: &Connection<S>, part: Part) -> bool
     ensures auto { IsTrue result → (state S.Store conn.now).in_transaction ≡ false }
     ensures settled { IsTrue result → IsTrue (state S.Store conn.now).is_open → (state S.Store conn.now).now ≡ (state S.Store conn.now).committed }
-    ensures table { IsTrue result → has_table (state S.Store conn.now).now.schema ≡ true }
+    ensures table { IsTrue result → has_table (name_of part) (state S.Store conn.now).now.schema ≡ true }
 {
-    conn.is_autocommit() && shape::has_table(conn.schema())
+    conn.is_autocommit() && shape::has_table(conn.schema(), name_of(part))
 }
 
 /// Makes the table where it is absent. It refuses a connection with an open transaction, and then changes nothing; and one
 /// where another table, or a view, has the table's name.
-pub fn prepare<S: Alter>(conn: &mut Connection<S>, failures: &mut u64) -> Result<(), StoreFault>
+pub fn prepare<S: Alter>(
+    conn: &mut Connection<S>,
+    failures: &mut u64,
+    part: Part,
+) -> Result<(), StoreFault>
     ensures busy { IsTrue (state S.Store conn.old).in_transaction → (conn.new ≡ conn.old) × (result ≡ Err StoreFault.Device) }
     ensures auto { OnOk result ((state S.Store conn.new).in_transaction ≡ false) }
-    ensures table { OnOk result (has_table (state S.Store conn.new).now.schema ≡ true) }
+    ensures table { OnOk result (has_table (name_of part) (state S.Store conn.new).now.schema ≡ true) }
     ensures settled { OnOk result (IsTrue (state S.Store conn.new).is_open → (state S.Store conn.new).now ≡ (state S.Store conn.new).committed) }
-    ensures fresh { HasCleanDisk (state S.Store conn.new) → (state S.Store conn.old).now.schema ≡ no_schema
-        → OnOk result (HasJournal (state S.Store conn.new).now.schema × ((state S.Store conn.new).now.trees journal_tree ≡ [])) }
-    ensures found { HasCleanDisk (state S.Store conn.new) → HasJournal (state S.Store conn.old).now.schema → OnOk result (IsUnchanged (state S.Store conn.old) (state S.Store conn.new)) }
-    ensures kept { HasCleanDisk (state S.Store conn.new) → HasJournal (state S.Store conn.old).now.schema → KeepsCommit (state S.Store conn.old) (state S.Store conn.new) }
-    ensures stop { Survives (state S.Store conn.old) (state S.Store conn.new) (CommitsBy create_text [] (state S.Store conn.old)) }
+    ensures made { HasCleanDisk (state S.Store conn.new) → Lacks (state S.Store conn.old).now.schema (name_of part)
+        → OnOk result (IsMade (state S.Store conn.old) (state S.Store conn.new) (name_of part)) }
+    ensures found { HasCleanDisk (state S.Store conn.new) → HasTable (state S.Store conn.old).now.schema (name_of part) → OnOk result (IsUnchanged (state S.Store conn.old) (state S.Store conn.new)) }
+    ensures kept { HasCleanDisk (state S.Store conn.new) → HasTable (state S.Store conn.old).now.schema (name_of part) → KeepsCommit (state S.Store conn.old) (state S.Store conn.new) }
+    ensures most { HasCleanDisk (state S.Store conn.new) → OnOk result (MakesAtMost (state S.Store conn.old) (state S.Store conn.new) (name_of part)) }
+    ensures err { HasCleanDisk (state S.Store conn.new) → OnErr result (CommitsAtMost (state S.Store conn.old) (state S.Store conn.new) (name_of part)) }
+    ensures fresh { HasCleanDisk (state S.Store conn.new) → part ≡ First → (state S.Store conn.old).now.schema ≡ no_schema → OnOk result (Lacks (state S.Store conn.new).now.schema second_name) }
+    ensures stop { Survives (state S.Store conn.old) (state S.Store conn.new) (CommitsBy (create_of part) [] (state S.Store conn.old)) }
     ensures known { IfErr result (λ e. (e ≡ StoreFault.NoMemory) ⊎ (e ≡ StoreFault.Device)) }
     ensures calm { OnOk result (failures.new ≡ failures.old) }
 {
     if !conn.is_autocommit() {
         return Err(StoreFault::Device);
     }
-    match statements::create(conn) {
-        Ok(_) if is_ready(conn) => Ok(()),
+    match statements::create(conn, part) {
+        Ok(_) if is_ready(conn, part) => Ok(()),
         Ok(_) => Err(StoreFault::Device),
         Err(error) => Err(blame(failures, error)),
     }
+}
+
+/// Makes one table where it is absent, and reads its rows once, the first of which is at the place `first`: the place behind
+/// the last.
+fn open_part<S: Alter>(
+    alloc: Global,
+    conn: &mut Connection<S>,
+    failures: &mut u64,
+    part: Part,
+    first: u32,
+) -> Result<u32, StoreFault>
+    ensures busy { IsTrue (state S.Store conn.old).in_transaction → (conn.new ≡ conn.old) × (result ≡ Err StoreFault.Device) }
+    ensures opened { IfOk result (λ next. HasCleanDisk (state S.Store conn.new) → IsPartOpened (state S.Store conn.old) (state S.Store conn.new) part first next) }
+    ensures refused { IfErr result (λ e. HasCleanDisk (state S.Store conn.new) → IsPartRefused (state S.Store conn.old) (state S.Store conn.new) part first e) }
+    ensures fresh { HasCleanDisk (state S.Store conn.new) → part ≡ First → (state S.Store conn.old).now.schema ≡ no_schema → OnOk result (Lacks (state S.Store conn.new).now.schema second_name) }
+    ensures placed { IfErr result (λ e. is_place e ≡ false) }
+    ensures stop { Survives (state S.Store conn.old) (state S.Store conn.new) (CommitsBy (create_of part) [] (state S.Store conn.old)) }
+    ensures live { OnOk result (IsLive (state S.Store conn.new)) }
+    ensures calm { OnOk result (failures.new ≡ failures.old) }
+{
+    prepare(conn, failures, part)?;
+    let records = read_part(alloc, conn, failures, part, first)?;
+    Ok(first + records.len() as u32)
+}
+
+/// Makes both tables where they are absent, and reads their rows once: the next position. The first table is looked at and
+/// read before the second is made, so that a file which is refused for the first is left as it was.
+pub fn take_over<S: Alter>(
+    alloc: Global,
+    conn: &mut Connection<S>,
+    failures: &mut u64,
+) -> Result<u32, StoreFault>
+    ensures busy { IsTrue (state S.Store conn.old).in_transaction → (conn.new ≡ conn.old) × (result ≡ Err StoreFault.Device) }
+    ensures first { OnOk result (HasCleanDisk (state S.Store conn.new) → has_table (name_of First) (state S.Store conn.new).now.schema ≡ true) }
+    ensures second { OnOk result (HasCleanDisk (state S.Store conn.new) → has_table (name_of Second) (state S.Store conn.new).now.schema ≡ true) }
+    ensures kept { IfOk result (λ next. IsInStep (state S.Store conn.new) next) }
+    ensures fresh { HasCleanDisk (state S.Store conn.new) → (state S.Store conn.old).now.schema ≡ no_schema
+        → OnOk result (IsHonestJournal (state S.Store conn.new) × (records_of (state S.Store conn.new).now ≡ [])) }
+    ensures found { HasCleanDisk (state S.Store conn.new) → HasJournal (state S.Store conn.old).now.schema
+        → OnOk result (IsHonestJournal (state S.Store conn.new) × StandsFor (state S.Store conn.old).now (records_of (state S.Store conn.new).now)) }
+    ensures bad { HasCleanDisk (state S.Store conn.new) → HasJournal (state S.Store conn.old).now.schema
+        → IfErr result (λ e. (place : ℕ) → e ≡ StoreFault.BadRow place → IsFirstBadOf (state S.Store conn.old).now place) }
+    ensures rowless { HasCleanDisk (state S.Store conn.new) → (state S.Store conn.old).now.schema ≡ no_schema → IfErr result (λ e. is_bad_row e ≡ false) }
+    ensures placed { IfErr result (λ e. is_place e ≡ false) }
+    ensures refused { HasCleanDisk (state S.Store conn.new) → HasJournal (state S.Store conn.old).now.schema → IfErr result (λ e. KeepsRows (state S.Store conn.old) (state S.Store conn.new) e) }
+    ensures stop { Survives (state S.Store conn.old) (state S.Store conn.new) (CommitsEither (state S.Store conn.old)) }
+    ensures live { OnOk result (IsLive (state S.Store conn.new)) }
+    ensures calm { OnOk result (failures.new ≡ failures.old) }
+{
+    let place = open_part(alloc, conn, failures, Part::First, 1)?;
+    open_part(alloc, conn, failures, Part::Second, place)
 }

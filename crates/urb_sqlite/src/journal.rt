@@ -1,14 +1,14 @@
 //! A journal as stable storage.
 
 ghost use Rattle.std.specs.Prelude.{ℕ, ◌≡◌, ◌⊎◌, ◌<◌, ◌≤◌, ◌+◌, ◌∷◌, ◌++◌, [], length, None, Some, true, false, IfOk, IfErr, IsErrAnd, OnOk, OnErr, IsTrue, Ok, Err};
-ghost use Rattle.sqlite.specs.State.{HasCleanDisk, KeepsCommit, Survives, CommitsBy};
+ghost use Rattle.sqlite.specs.State.{HasCleanDisk, Survives};
 ghost use Rattle.sqlite.specs.Held.{state};
 ghost use Rattle.urb_stable.specs.Storing.{is_place, is_bad_row, is_out_of_place, IsPlaced, IsContents};
-ghost use Rattle.urb_sqlite.specs.Journal.{create_text, no_schema, HasJournal, journal_tree, journal_limit};
-ghost use Rattle.urb_sqlite.specs.Rows.{IsInOrder, IsFirstBad, StandsFor};
+ghost use Rattle.urb_sqlite.specs.Journal.{no_schema, journal_name, second_name, HasJournal};
+ghost use Rattle.urb_sqlite.specs.Rows.{IsFirstBadOf, StandsFor};
 ghost use Rattle.urb_sqlite.specs.Reading.{records_of};
 ghost use Rattle.urb_sqlite.specs.Shape.{has_table};
-ghost use Rattle.urb_sqlite.specs.OpenJournal.{OpenJournal, IsInStep, IsHonestJournal, IsSafeAtRest, LeavesOnly};
+ghost use Rattle.urb_sqlite.specs.OpenJournal.{OpenJournal, IsInStep, IsHonestJournal, KeepsRows, CommitsEither, IsSafeAtRest, LeavesOnly};
 
 use crate::calls;
 use sqlite::{Alter, Connection};
@@ -16,8 +16,8 @@ use std::alloc::Global;
 use std::marker::Model;
 use urb_stable::{Record, Stable, StoreFault};
 
-/// A node's journal: stable storage in the table `journal` of a database. A record is one row, stored by one INSERT outside
-/// any transaction. Nothing else may write the database while this holds it.
+/// A node's journal: stable storage in the tables `journal` and `journal2` of a database. New records go into `journal2` alone;
+/// those of `journal`, which stood first, come before them. A record is one row, stored by one INSERT outside any transaction. Nothing else may write the database while this holds it.
 ///
 /// `Device` stands for any refusal of the database but for memory, and each one raises the count of failures by one; where
 /// that count is at its greatest value, 2^64 - 1, the next failure answers `NoMemory`.
@@ -54,52 +54,48 @@ impl<S: Alter + Drop> Drop for SqlStable<S> {
 }
 
 impl<S: Alter> SqlStable<S> {
-    /// Takes over an open connection: makes the table where it is absent, and reads the rows once, so that the next position
-    /// is known. A refusal hands the connection back with the fault:
+    /// Takes over an open connection: makes both tables where they are absent, and reads their rows once, so that the next
+    /// position is known. The table `journal` is looked at and read before `journal2` is made. A refusal hands the connection
+    /// back with the fault:
     /// - `NoMemory`: a growth was refused.
-    /// - `Device`: the database refused, or something else has the name `journal`, or a transaction is open, which stays as it is.
-    /// - `BadRow(place)`: the row at this place, from 1 in order of `pos`, is no record.
+    /// - `Device`: the database refused, or something else has the name of a table, or a transaction is open, which stays as it is.
+    /// - `BadRow(place)`: the row at this place is no record. Places are counted from 1 over both tables, each in order of `pos`.
     pub fn adopt(
         alloc: Global,
         mut conn: Connection<S>,
     ) -> Result<SqlStable<S>, (Connection<S>, StoreFault)>
         // In a transaction nothing is done.
         ensures busy { IsTrue (state S.Store conn).in_transaction → IsErrAnd result (λ e. (e.0 ≡ conn) × (e.1 ≡ StoreFault.Device)) }
-        // What is taken over has the table of a journal under that name: neither another table nor a view.
-        ensures table { IfOk result (λ s. HasCleanDisk (state S.Store s.conn) → has_table (state S.Store s.conn).now.schema ≡ true) }
+        // What is taken over has the two tables under their names: neither other tables nor views.
+        ensures table { IfOk result (λ s. HasCleanDisk (state S.Store s.conn) → has_table journal_name (state S.Store s.conn).now.schema ≡ true) }
+        ensures second { IfOk result (λ s. HasCleanDisk (state S.Store s.conn) → has_table second_name (state S.Store s.conn).now.schema ≡ true) }
         // No record is doubtful, and no failure is counted.
         ensures new { IfOk result (λ s. (s.doubtful ≡ false) × (s.failures ≡ 0)) }
         // A database with no table becomes a journal with no record.
-        ensures fresh { IfOk result (λ s. HasCleanDisk (state S.Store s.conn) → (state S.Store conn).now.schema ≡ no_schema → IsHonestJournal (state S.Store s.conn) × (records_of (state S.Store s.conn).now.trees ≡ [])) }
-        // A journal that is there has its records.
+        ensures fresh { IfOk result (λ s. HasCleanDisk (state S.Store s.conn) → (state S.Store conn).now.schema ≡ no_schema → IsHonestJournal (state S.Store s.conn) × (records_of (state S.Store s.conn).now ≡ [])) }
+        // A journal that is there, of one table or of both, has its records.
         ensures found { IfOk result (λ s. HasCleanDisk (state S.Store s.conn) → HasJournal (state S.Store conn).now.schema
-            → IsHonestJournal (state S.Store s.conn) × StandsFor (state S.Store conn).now.trees (records_of (state S.Store s.conn).now.trees)) }
-        // BadRow names the first row that is no record, and no refusal is Place.
+            → IsHonestJournal (state S.Store s.conn) × StandsFor (state S.Store conn).now (records_of (state S.Store s.conn).now)) }
+        // BadRow names the first row that is no record, over both tables, and no refusal is Place.
         ensures bad { IfErr result (λ e. HasCleanDisk (state S.Store e.0) → HasJournal (state S.Store conn).now.schema
-            → (place : ℕ) → e.1 ≡ StoreFault.BadRow place → (rows : _) × IsInOrder journal_tree (state S.Store conn).now.trees rows × IsFirstBad journal_limit 1 rows place) }
+            → (place : ℕ) → e.1 ≡ StoreFault.BadRow place → IsFirstBadOf (state S.Store conn).now place) }
         ensures rowless { IfErr result (λ e. HasCleanDisk (state S.Store e.0) → (state S.Store conn).now.schema ≡ no_schema → is_bad_row e.1 ≡ false) }
         ensures placed { IfErr result (λ e. is_place e.1 ≡ false) }
         // A journal that is refused keeps its rows.
-        ensures kept { IfErr result (λ e. HasCleanDisk (state S.Store e.0) → HasJournal (state S.Store conn).now.schema → KeepsCommit (state S.Store conn) (state S.Store e.0)) }
-        // A stop inside this call leaves what was there before, or what the CREATE commits; one after it, the records.
-        ensures stop { IfOk result (λ s. Survives (state S.Store conn) (state S.Store s.conn) (CommitsBy create_text [] (state S.Store conn))) }
-        ensures stop_refused { IfErr result (λ e. Survives (state S.Store conn) (state S.Store e.0) (CommitsBy create_text [] (state S.Store conn))) }
+        ensures kept { IfErr result (λ e. HasCleanDisk (state S.Store e.0) → HasJournal (state S.Store conn).now.schema → KeepsRows (state S.Store conn) (state S.Store e.0) e.1) }
+        // A stop inside this call leaves what was there before, or what a CREATE commits; one after it, the records.
+        ensures stop { IfOk result (λ s. Survives (state S.Store conn) (state S.Store s.conn) (CommitsEither (state S.Store conn))) }
+        ensures stop_refused { IfErr result (λ e. Survives (state S.Store conn) (state S.Store e.0) (CommitsEither (state S.Store conn))) }
         ensures rest { IfOk result (λ s. IsSafeAtRest (state S.Store s.conn)) }
     {
         let mut failures = 0;
-        if let Err(fault) = calls::prepare(&mut conn, &mut failures) {
-            return Err((conn, fault));
-        }
-        match calls::read(alloc, &mut conn, &mut failures) {
-            Ok(found) => {
-                let next = found.len() as u32 + 1;
-                Ok(SqlStable {
-                    conn,
-                    next,
-                    doubtful: false,
-                    failures,
-                })
-            }
+        match calls::take_over(alloc, &mut conn, &mut failures) {
+            Ok(next) => Ok(SqlStable {
+                conn,
+                next,
+                doubtful: false,
+                failures,
+            }),
             Err(fault) => Err((conn, fault)),
         }
     }
@@ -127,7 +123,7 @@ impl<S: Alter> Stable for SqlStable<S> {
 
     type Alloc = Global;
 
-    ghost certain = { λ s. records_of (state S.Store s.conn).now.trees };
+    ghost certain = { λ s. records_of (state S.Store s.conn).now };
 
     ghost doubt = { λ _. None };
 

@@ -4,11 +4,12 @@ ghost use Rattle.std.specs.Prelude.{◌≡◌, ◌⊎◌, ◌<◌, ◌≤◌, �
 ghost use Rattle.sqlite.specs.Order.{column};
 ghost use Rattle.urb_sqlite.specs.Reading as reading;
 ghost use Rattle.urb_sqlite.specs.Reading.{read_from};
+ghost use Rattle.urb_names.specs.declared.message.TheConstants.{MAX_PAYLOAD};
 
 use sqlite::Row;
 use sqlite::types::ValueRef;
 use std::alloc::Global;
-use urb_names::{ClientId, Message, Name, NoMemory, NodeId};
+use urb_names::{ClientId, MAX_PAYLOAD, Message, Name, NoMemory, NodeId};
 use urb_stable::{Record, StoreFault};
 
 /// The numbers of a row.
@@ -83,7 +84,7 @@ fn name_in(columns: Columns) -> Name
 }
 
 fn message_in(alloc: Global, columns: Columns, payload: &[u8]) -> Result<Message, NoMemory>
-    requires { IsTrue (reading.is_message 1024 columns.client columns.number payload.now) }
+    requires { IsTrue (reading.is_message MAX_PAYLOAD columns.client columns.number payload.now) }
     ensures { IfOk result (λ m. m ≡ reading.message_in columns payload.now) }
 {
     let client = ClientId::new(columns.client as u16).unwrap();
@@ -97,7 +98,7 @@ fn record_in(
     columns: Columns,
     payload: &[u8],
 ) -> Result<Option<Record>, NoMemory>
-    requires { limit ≤ 1024 }
+    requires { limit ≤ MAX_PAYLOAD }
     ensures { IfOk result (λ found. found ≡ reading.record_in limit place columns payload.now) }
 {
     if columns.pos != place || place == u32::MAX || !is_name(columns) {
@@ -118,7 +119,7 @@ fn record_in(
 
 /// The record of the row at this place, where it is one.
 fn record_at(alloc: Global, limit: usize, place: u32, row: &Row) -> Result<Option<Record>, NoMemory>
-    requires { limit ≤ 1024 }
+    requires { limit ≤ MAX_PAYLOAD }
     ensures { IfOk result (λ found. found ≡ reading.record_at limit place row.now) }
 {
     let Some(columns) = numbers_in(row) else {
@@ -138,7 +139,7 @@ pub fn records_in(
     first: u32,
     rows: &[Row],
 ) -> Result<Vec<Record>, StoreFault>
-    requires { limit ≤ 1024 }
+    requires { limit ≤ MAX_PAYLOAD }
     ensures records { IfOk result (λ records. read_from limit first rows.now ≡ Ok records.items) }
     ensures short { IfOk result (λ records. first + length records.items ≤ 4294967295) }
     ensures fault { IfErr result (λ e. (e ≡ StoreFault.NoMemory) ⊎ ((bad : ℕ) × (e ≡ StoreFault.BadRow bad) × (read_from limit first rows.now ≡ Err bad))) }

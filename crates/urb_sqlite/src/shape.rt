@@ -1,4 +1,4 @@
-//! Whether a database has the table of a journal under that name: another table, or a view, is none.
+//! Whether a database has a table of records under a name: another table, or a view, is none.
 
 ghost use Rattle.std.specs.Prelude.{ℕ, Bool, ◌≡◌, ◌==◌, length, codes};
 ghost use Rattle.sqlite_schema.specs.Names.{is_key};
@@ -127,23 +127,23 @@ fn is_written(table: &Table) -> bool
         && !table.is_counted
 }
 
-fn is_journal(table: &Table) -> bool
-    ensures { result ≡ shape.is_journal table.now }
+fn is_journal(table: &Table, name: &[u8]) -> bool
+    ensures { result ≡ shape.is_journal name.now table.now }
 {
-    table.name.as_slice() == b"journal".as_slice()
+    table.name.as_slice() == name
         && are_columns(table.columns.as_slice())
         && is_keyed(table)
         && is_free(table)
         && is_written(table)
 }
 
-/// Whether the table that has the name is that of a journal.
-pub fn has_table(schema: &Schema) -> bool
-    ensures { result ≡ shape.has_table schema.now }
+/// Whether the table that has the name is one of records.
+pub fn has_table(schema: &Schema, name: &[u8]) -> bool
+    ensures { result ≡ shape.has_table name.now schema.now }
 {
-    match schema.table_named(b"journal") {
+    match schema.table_named(name) {
         Some(at) => match schema.tables.get(at) {
-            Some(table) => is_journal(table),
+            Some(table) => is_journal(table, name),
             None => false,
         },
         None => false,

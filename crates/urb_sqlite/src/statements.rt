@@ -1,24 +1,37 @@
-//! The three statements of a journal, a call each.
+//! The statements of a journal, a call each.
 
 ghost use Rattle.std.specs.Prelude.{◌≡◌, [], IfOk, IfErr};
 ghost use Rattle.sqlite.specs.State.{HasCleanDisk, Executes, Survives, CommitsBy, Shown, CommitsShowing, FailsToQuery};
 ghost use Rattle.sqlite.specs.Held.{state};
-ghost use Rattle.urb_sqlite.specs.Journal.{create_text, insert_text, select_text};
+ghost use Rattle.urb_sqlite.specs.Journal.{create_of, insert_text, select_of};
 ghost use Rattle.urb_sqlite.specs.Rows.{columns_of, row_of};
 
 use sqlite::{Alter, Connection, Error, Row, params};
 use urb_names::Name;
 use urb_stable::Record;
 
+/// A table of a journal: the one that stood first, and the one that takes new records.
+#[derive(Clone, Copy, Drop)]
+pub enum Part {
+    First,
+    Second,
+}
+
 /// Makes the table where it is absent.
-pub fn create<S: Alter>(conn: &mut Connection<S>) -> Result<usize, Error>
-    ensures runs { HasCleanDisk (state S.Store conn.new) → Executes create_text [] (state S.Store conn.old) (state S.Store conn.new) result }
-    ensures survives { Survives (state S.Store conn.old) (state S.Store conn.new) (CommitsBy create_text [] (state S.Store conn.old)) }
+pub fn create<S: Alter>(conn: &mut Connection<S>, part: Part) -> Result<usize, Error>
+    ensures runs { HasCleanDisk (state S.Store conn.new) → Executes (create_of part) [] (state S.Store conn.old) (state S.Store conn.new) result }
+    ensures survives { Survives (state S.Store conn.old) (state S.Store conn.new) (CommitsBy (create_of part) [] (state S.Store conn.old)) }
 {
-    conn.execute(
-        "CREATE TABLE IF NOT EXISTS journal(pos INTEGER PRIMARY KEY, kind INTEGER NOT NULL, sender INTEGER NOT NULL, seq INTEGER NOT NULL, client INTEGER NOT NULL, number INTEGER NOT NULL, payload BLOB NOT NULL) STRICT",
-        &[],
-    )
+    match part {
+        Part::First => conn.execute(
+            "CREATE TABLE IF NOT EXISTS journal(pos INTEGER PRIMARY KEY, kind INTEGER NOT NULL, sender INTEGER NOT NULL, seq INTEGER NOT NULL, client INTEGER NOT NULL, number INTEGER NOT NULL, payload BLOB NOT NULL) STRICT",
+            &[],
+        ),
+        Part::Second => conn.execute(
+            "CREATE TABLE IF NOT EXISTS journal2(pos INTEGER PRIMARY KEY, kind INTEGER NOT NULL, sender INTEGER NOT NULL, seq INTEGER NOT NULL, client INTEGER NOT NULL, number INTEGER NOT NULL, payload BLOB NOT NULL) STRICT",
+            &[],
+        ),
+    }
 }
 
 fn put<S: Alter>(
@@ -36,7 +49,7 @@ fn put<S: Alter>(
     let sender = u32::from(name.sender.number());
     let seq = name.seq;
     conn.execute(
-        "INSERT INTO journal VALUES (?1, ?2, ?3, ?4, ?5, ?6, ?7)",
+        "INSERT INTO journal2 VALUES (?1, ?2, ?3, ?4, ?5, ?6, ?7)",
         params![place, kind, sender, seq, client, number, payload],
     )
 }
@@ -63,14 +76,20 @@ pub fn insert<S: Alter>(
     }
 }
 
-/// The rows, in order of pos.
-pub fn select<S: Alter>(conn: &mut Connection<S>) -> Result<Vec<Row>, Error>
-    ensures rows { HasCleanDisk (state S.Store conn.new) → IfOk result (λ rows. Shown select_text [] (state S.Store conn.old) (state S.Store conn.new) rows.items) }
-    ensures fault { HasCleanDisk (state S.Store conn.new) → IfErr result (FailsToQuery select_text [] (state S.Store conn.old) (state S.Store conn.new)) }
-    ensures survives { Survives (state S.Store conn.old) (state S.Store conn.new) (CommitsShowing select_text [] (state S.Store conn.old)) }
+/// The rows of a table, in order of pos.
+pub fn select<S: Alter>(conn: &mut Connection<S>, part: Part) -> Result<Vec<Row>, Error>
+    ensures rows { HasCleanDisk (state S.Store conn.new) → IfOk result (λ rows. Shown (select_of part) [] (state S.Store conn.old) (state S.Store conn.new) rows.items) }
+    ensures fault { HasCleanDisk (state S.Store conn.new) → IfErr result (FailsToQuery (select_of part) [] (state S.Store conn.old) (state S.Store conn.new)) }
+    ensures survives { Survives (state S.Store conn.old) (state S.Store conn.new) (CommitsShowing (select_of part) [] (state S.Store conn.old)) }
 {
-    conn.query_all(
-        "SELECT pos, kind, sender, seq, client, number, payload FROM journal ORDER BY pos",
-        &[],
-    )
+    match part {
+        Part::First => conn.query_all(
+            "SELECT pos, kind, sender, seq, client, number, payload FROM journal ORDER BY pos",
+            &[],
+        ),
+        Part::Second => conn.query_all(
+            "SELECT pos, kind, sender, seq, client, number, payload FROM journal2 ORDER BY pos",
+            &[],
+        ),
+    }
 }

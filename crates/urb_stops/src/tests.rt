@@ -1,6 +1,4 @@
-//! A group of three over journals that are stopped, damaged or closed.
+//! A group of three over journals in files that are closed or damaged.
 
-mod damaged;
 mod files;
 mod group;
-mod stops;

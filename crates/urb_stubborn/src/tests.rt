@@ -1,6 +1,6 @@
 //! Ticks by example, what was heard between them, and each growth refused in turn.
 
-ghost use Rattle.std.specs.Prelude.{◌≡◌};
+ghost use Rattle.std.specs.Prelude.{◌≡◌, ◌≤◌, IfOk, length};
 
 mod growth;
 mod heard;
@@ -11,7 +11,9 @@ use super::*;
 use std::alloc::{Allocator, Global};
 use std::test::Fail;
 use urb_certified::Certified;
-use urb_names::{ClientId, Config, Flags, Message, Name, NoMemory, NodeId, Packet};
+use urb_names::{
+    ClientId, Config, Flags, MAX_PLAIN_PAYLOAD, Message, Name, NoMemory, NodeId, Packet,
+};
 use urb_pending::Pending;
 use urb_refusing::Refusing;
 
@@ -38,7 +40,9 @@ fn name(sender: u8, seq: u32) -> Result<Name, Fail> {
 }
 
 // A message of a client.
-fn message<A: Allocator + Copy>(alloc: A, number: u32) -> Result<Message<A>, Fail> {
+fn message<A: Allocator + Copy>(alloc: A, number: u32) -> Result<Message<A>, Fail>
+    ensures { IfOk result (λ m. length m.payload ≤ MAX_PLAIN_PAYLOAD) }
+{
     let client = ClientId::new(7).ok_or("a client")?;
     if number == 0 {
         return Err(Fail::from("numbers begin at 1"));

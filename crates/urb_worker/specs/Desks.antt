@@ -4,7 +4,8 @@ use Rattle.std.specs.declared.alloc.Global.{Global}
 use Rattle.urb_names.specs.Naming.{Content, Label}
 use Rattle.urb_names.specs.Refusing.{detail_of, number_of}
 use Rattle.urb_client.specs.Requests.{Asked, Read}
-use Rattle.urb_client.specs.Responses.{Accepted, Done as IsDone, Listing, Refused, Said, Status as HasStatus}
+use Rattle.urb_client.specs.Pages.{SaysPage}
+use Rattle.urb_client.specs.Responses.{Accepted, Done as IsDone, Refused, Said, Status as HasStatus}
 use Rattle.urb_client.specs.declared.response.NodeState.{NodeState}
 use Rattle.urb_client.specs.declared.response.NodeState.TheVariants as told
 use Rattle.urb_node.specs.declared.answer.Answer.TheVariants as answer
@@ -59,10 +60,11 @@ pair_of entry = (entry.name, entry.message)
 abbrev pub part_of : List Entry → ℕ → ℕ → List (Label × Content)
 part_of list place max = map pair_of (take max (drop (place - 1) list))
 
--- A read was answered: the lists of one moment were taken, and the desk's node's entries in them are told; or the House is gone.
+-- A read was answered: the lists of one moment were taken, and of the desk's node's entries in them as many are told as a frame has
+-- room for; or the House is gone.
 abbrev pub Reads : DeskView → ℕ → ℕ → Said → DeskView → Type 0
 Reads before place max said after =
-    (Takes before.known after.known × (said ≡ Listing (part_of (list_at after.known.seen (before.node - 1)) place max)))
+    (Takes before.known after.known × SaysPage (part_of (list_at after.known.seen (before.node - 1)) place max) said)
     ⊎ ((after.known ≡ before.known) × (said ≡ gone))
 
 -- what a turn told, if anything, was learnt

@@ -1,5 +1,7 @@
 //! Links: what carries packets to nodes.
 
+ghost use Rattle.std.specs.Prelude.{◌≡◌};
+
 use std::alloc::Global;
 use std::net::{Ipv4Addr, UdpSocket};
 use std::sync::{Mutex, Wait};
@@ -20,7 +22,10 @@ pub struct UdpLink {
 
 impl UdpLink {
     /// A link from this socket. The ports are those at which the nodes 1, 2, .. receive.
-    pub fn new(socket: UdpSocket, ports: Vec<u16>) -> UdpLink {
+    pub fn new(socket: UdpSocket, ports: Vec<u16>) -> UdpLink
+        ensures socket { result.socket ≡ socket }
+        ensures ports { result.ports ≡ ports }
+    {
         UdpLink { socket, ports }
     }
 }

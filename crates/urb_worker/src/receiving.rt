@@ -9,7 +9,7 @@ use urb_names::NodeId;
 use urb_show::HouseName;
 
 // The room for a datagram: more than the longest packet, so that what is cut off was no packet.
-const ROOM: usize = 2048;
+const ROOM: usize = 16_640;
 
 // The arrival of these bytes at a node; none where memory was refused.
 fn arrival<K: HouseName>(alloc: Global, node: NodeId, bytes: &[u8]) -> Option<Ticket<K>> {

@@ -1,7 +1,8 @@
 //! What clients are told of what came of their requests.
 
 ghost use Rattle.std.specs.Prelude.{◌≡◌, ◌≤◌, ◌++◌, IfOk, length, map};
-ghost use Rattle.urb_client.specs.Responses.{Listing, said_by};
+ghost use Rattle.urb_client.specs.Pages.{SaysPage};
+ghost use Rattle.urb_client.specs.Responses.{said_by};
 ghost use Rattle.urb_worker.specs.Desks.{gone, pair_of, said_of, told_of, told_state};
 
 use std::alloc::Global;
@@ -58,7 +59,7 @@ pub(crate) fn told(reply: &Reply, status: Option<Status>) -> Response
 // What is told of a page.
 pub(crate) fn page_told(alloc: Global, entries: Vec<Entry>) -> Result<Response, NoMemory>
     requires { length entries.items ≤ 8 }
-    ensures { IfOk result (λ response. said_by response ≡ Listing (map pair_of entries.items)) }
+    ensures { IfOk result (λ response. SaysPage (map pair_of entries.items) (said_by response)) }
 {
     let mut pairs = Vec::with_capacity(alloc, entries.len())?;
     for entry in entries {

@@ -15,6 +15,8 @@ mod desks;
 mod gates;
 mod hearing;
 mod pacing;
+mod receivers;
+mod stations;
 mod timers;
 mod turns;
 

@@ -1,4 +1,5 @@
 pub mod CommandLine
+pub mod Runs
 pub mod Served
 pub mod Shown
 pub mod Statuses

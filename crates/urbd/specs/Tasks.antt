@@ -9,6 +9,8 @@ use Rattle.urb_client.specs.Reading.{◌>>=◌}
 use Rattle.urbd.specs.declared.serving.Serving.{Serving}
 use Rattle.urbd.specs.declared.lines.Submitting.{Submitting}
 use Rattle.urbd.specs.declared.lines.Reading.{Reading}
+use Rattle.urbd.specs.declared.lines.Errand.{Errand}
+use Rattle.urbd.specs.declared.lines.Errand.TheVariants as errand
 use Rattle.urbd.specs.declared.lines.Line.{Line}
 use Rattle.urbd.specs.declared.lines.Line.TheVariants as line
 
@@ -31,12 +33,16 @@ task_of_submitting s = Submit s.port s.client s.number s.text.now
 abbrev pub task_of_reading : Reading → Task
 task_of_reading r = Read r.port r.from r.max
 
+-- the task of an errand
+abbrev pub task_of_errand : Errand → Task
+task_of_errand errand.Replay = Replay
+task_of_errand (errand.Submit s) = task_of_submitting s
+task_of_errand (errand.Read r) = task_of_reading r
+
 -- the task of a command line
 abbrev pub task_of : Line → Task
-task_of line.Replay = Replay
 task_of (line.Serve s) = task_of_serving s
-task_of (line.Submit s) = task_of_submitting s
-task_of (line.Read r) = task_of_reading r
+task_of (line.Errand e) = task_of_errand e
 
 -- the digits are a number in decimal
 abbrev pub is_decimal : Text → Bool

@@ -4,8 +4,7 @@ use std::sync::Wait;
 use std::thread::Threads;
 use std::time::Clock;
 
-/// Threads, waiting, the clock, and standard input and output. Sockets are asked for beside it, since their types are named
-/// where they are used.
-pub trait Host: Threads + Wait + Clock + Input + Print + Eprint + Sync {}
+/// Threads, waiting and the clock. Sockets are asked for beside it, since their types are named where they are used.
+pub trait Host: Threads + Wait + Clock + Sync {}
 
-impl<R: Threads + Wait + Clock + Input + Print + Eprint + Sync> Host for R {}
+impl<R: Threads + Wait + Clock + Sync> Host for R {}

@@ -1,19 +1,23 @@
-//! A run of a group over journals in files.
+//! Journals under a name of their own, and a run of a group over them.
 
-ghost use Rattle.std.specs.Prelude.{◌≡◌, ◌≤◌, IfOk, vec_len};
+ghost use Rattle.std.specs.Prelude.{◌≡◌, IfErr, IfOk, IfSome, map, vec_len};
+ghost use Rattle.urbd.specs.Runs.{ComeBack, EndsFrom, limits_of};
 
+use crate::console::Console;
 use crate::daemon::run_over;
 use crate::faults::Fault;
 use crate::host::Host;
+use crate::serving::Serving;
 use sqlite::FileStore;
 use sqlite_disk::Disk;
 use std::alloc::Global;
+use std::io::Read;
 use std::net::{Net, TcpListener, TcpStream};
-use urb_names::Config;
 use urb_sqlite::SqlStable;
 use urb_stable::{Record, Stable, StoreFault};
 
-/// A node's journal, under a name of its own: so that who passes it on to a thread proves nothing of a database.
+/// A node's journal in files of this kind, under a name of its own: so that who passes it on to a thread proves nothing of a
+/// database.
 pub struct Journal<D: Disk> {
     journal: SqlStable<FileStore<D>>,
 }
@@ -26,7 +30,9 @@ impl<D: Disk + Drop> Drop for Journal<D> {
 
 impl<D: Disk> Journal<D> {
     // Without the name.
-    fn plain(self) -> SqlStable<FileStore<D>> {
+    fn plain(self) -> SqlStable<FileStore<D>>
+        ensures { result ≡ self.journal }
+    {
         let Journal { journal } = self;
         journal
     }
@@ -77,7 +83,8 @@ pub fn named<D: Disk + Drop>(
     alloc: Global,
     journals: Vec<SqlStable<FileStore<D>>>,
 ) -> Result<Vec<Journal<D>>, Vec<SqlStable<FileStore<D>>>>
-    ensures { IfOk result (λ named. vec_len named ≡ vec_len journals) }
+    ensures named { IfOk result (λ named. map (λ j. j.journal) named.items ≡ journals.items) }
+    ensures back { IfErr result (λ back. back ≡ journals) }
 {
     let Ok(mut named) = Vec::with_capacity(alloc, journals.len()) else {
         return Err(journals);
@@ -92,7 +99,9 @@ pub fn named<D: Disk + Drop>(
 pub fn plain<D: Disk + Drop>(
     alloc: Global,
     journals: Vec<Journal<D>>,
-) -> Option<Vec<SqlStable<FileStore<D>>>> {
+) -> Option<Vec<SqlStable<FileStore<D>>>>
+    ensures { IfSome result (λ plain. plain.items ≡ map (λ j. j.journal) journals.items) }
+{
     let Ok(mut plain) = Vec::with_capacity(alloc, journals.len()) else {
         return None;
     };
@@ -102,21 +111,23 @@ pub fn plain<D: Disk + Drop>(
     Some(plain)
 }
 
-/// Runs a group over its nodes' journals, whatever kind of file they are in. That a journal may go to a thread is proved here,
-/// from the one fact that its file may.
-pub fn run_journals<D: Disk + Send + Drop, R>(
+/// Runs a group over its nodes' journals, whatever kind of file they are in, as of `run_over`. That a journal may go to a thread
+/// is proved here, from the one fact that its file may.
+pub fn run_journals<D: Disk + Send + Drop, R, P: Print, I: Read + Drop>(
     rt: &R,
     alloc: Global,
-    config: Config,
-    base: u16,
-    every: u32,
+    serving: Serving<'_>,
     journals: Vec<Journal<D>>,
+    console: &mut Console<'_, P, I>,
 ) -> (Vec<Journal<D>>, Result<u64, Fault>)
 where
     R: Host + Net<Listener = TcpListener, Stream = TcpStream>,
-    requires journals { vec_len journals ≡ config.n }
-    requires base { base ≤ 65000 }
-    ensures { vec_len result.0 ≡ vec_len journals }
+    requires { vec_len journals ≡ serving.nodes }
+    ensures count { vec_len result.0 ≡ vec_len journals }
+    // The journals that come back stand in their nodes' order, each that node's own.
+    ensures order { ComeBack ⟦<Journal<D> as Stable>⟧ journals.items result.0.items }
+    // A count of events comes only of a run whose opening was told, and a fault is the first that there was.
+    ensures ends { EndsFrom ⟦<Journal<D> as Stable>⟧ (limits_of serving.entry) journals.items console.new.is_told result.1 result.0.items }
 {
-    run_over(rt, alloc, config, base, every, journals)
+    run_over(rt, alloc, serving, journals, console)
 }

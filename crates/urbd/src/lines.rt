@@ -30,15 +30,22 @@ pub struct Reading {
     ghost within: { (0 < port) × (0 < from) × (0 < max) × (max ≤ 8) },
 }
 
-/// What the program is asked to do.
+/// What the program is asked to do by itself, once.
 #[derive(Clone, Copy, Debug)]
-pub enum Line<'a> {
+pub enum Errand<'a> {
     /// Run a script from standard input to standard output.
     Replay,
-    /// Run a group of nodes until standard input ends.
-    Serve(Serving<'a>),
     /// Send one message to a node.
     Submit(Submitting<'a>),
     /// Show entries of a node's log.
     Read(Reading),
+}
+
+/// What the program is asked to do.
+#[derive(Clone, Copy, Debug)]
+pub enum Line<'a> {
+    /// Run a group of nodes until standard input ends.
+    Serve(Serving<'a>),
+    /// Do one thing, and end.
+    Errand(Errand<'a>),
 }

@@ -7,29 +7,33 @@ ghost use Rattle.urbd.specs.Statuses.{status_of};
 mod arguments;
 mod clients;
 mod commands;
+mod console;
 mod daemon;
 mod faults;
+mod files;
 mod host;
 mod journals;
 mod lines;
+mod opening;
 mod printed;
 mod printing;
 mod replaying;
 mod serving;
+mod sockets;
 mod values;
 
 use crate::arguments::{line, words};
 use crate::clients::{read, submit};
+use crate::console::Console;
 use crate::daemon::tell_end;
 use crate::faults::{Fault, tell};
-use crate::journals::{named, plain, run_journals};
-use crate::lines::Line;
+use crate::files::{close_journals, open_journals};
+use crate::journals::run_journals;
+use crate::lines::{Errand, Line};
 use crate::replaying::replay;
-use std::marker::Brand;
 use std::net::{Net, TcpListener, TcpStream};
 use std::process::ExitCode;
 use urb_script::{Ended, RunFault};
-use urb_sqlite::{close_nodes, open_nodes};
 
 /// The status of a script with a bad line.
 const BAD_LINE: u8 = 2;
@@ -45,17 +49,16 @@ fn finish<R: Eprint>(rt: &R, outcome: Result<Ended, RunFault>) -> u8
     }
 }
 
-// Does what the command line asks for, where that is no group, and gives the status.
-fn answer<R>(rt: &R, line: Line<'_>) -> u8
+// Does an errand, and gives the status.
+fn run_errand<R>(rt: &R, errand: Errand<'_>) -> u8
 where
     R: AllocGlobal + Print + Eprint + Input + Net<Listener = TcpListener, Stream = TcpStream>,
     ensures { result ≤ 4 }
 {
-    match line {
-        Line::Replay => finish(rt, replay(rt)),
-        Line::Submit(submitting) => submit(rt, submitting),
-        Line::Read(reading) => read(rt, reading),
-        Line::Serve(_) => tell(rt, Fault::Network),
+    match errand {
+        Errand::Replay => finish(rt, replay(rt)),
+        Errand::Submit(submitting) => submit(rt, submitting),
+        Errand::Read(reading) => read(rt, reading),
     }
 }
 
@@ -66,32 +69,16 @@ fn main(rt: HostRuntime) -> ExitCode {
     };
     let serving = match line(&rt, rt.alloc(), words.as_slice()) {
         Ok(Line::Serve(serving)) => serving,
-        Ok(line) => return ExitCode::from(answer(&rt, line)),
+        Ok(Line::Errand(errand)) => return ExitCode::from(run_errand(&rt, errand)),
         Err(status) => return ExitCode::from(status),
     };
-    let journals = match open_nodes::<Brand>(&rt, serving.dir, serving.config()) {
+    let journals = match open_journals(&rt, serving) {
         Ok(journals) => journals,
-        Err((_, fault)) => return ExitCode::from(tell(&rt, Fault::from(fault.refusal()))),
+        Err(fault) => return ExitCode::from(tell(&rt, fault)),
     };
-    let journals = match named(rt.alloc(), journals) {
-        Ok(journals) => journals,
-        Err(journals) => {
-            let _ = close_nodes(&rt, serving.dir, journals);
-            return ExitCode::from(tell(&rt, Fault::NoMemory));
-        }
-    };
-    let (journals, ended) = run_journals(
-        &rt,
-        rt.alloc(),
-        serving.config(),
-        serving.base,
-        serving.every,
-        journals,
-    );
-    // One that can't be closed has lost nothing: its next opening reads what is in its log.
-    if let Some(journals) = plain(rt.alloc(), journals) {
-        let _ = close_nodes(&rt, serving.dir, journals);
-    }
+    let mut console = Console::new(&rt, rt.reader());
+    let (journals, ended) = run_journals(&rt, rt.alloc(), serving, journals, &mut console);
+    close_journals(&rt, serving, journals);
     ExitCode::from(tell_end(&rt, ended))
 }
 

@@ -1,13 +1,15 @@
 //! The program over a terminal of the tests' own: command lines, scripts, and ends that fail.
 
 mod clients;
+mod consoles;
 mod groups;
 mod lines;
+mod runs;
 mod scripts;
 
 use crate::arguments::{line, words};
 use crate::finish;
-use crate::lines::Line;
+use crate::lines::{Errand, Line};
 use crate::replaying::replay;
 use std::alloc::{Allocator, Global};
 use std::cell::RefCell;
@@ -167,7 +169,7 @@ fn program(terminal: &Terminal<'_>) -> u8 {
         Err(status) => return status,
     };
     match line(terminal, terminal.alloc, words.as_slice()) {
-        Ok(Line::Replay) => finish(terminal, replay(terminal)),
+        Ok(Line::Errand(Errand::Replay)) => finish(terminal, replay(terminal)),
         Ok(_) => WANTS_A_NETWORK,
         Err(status) => status,
     }

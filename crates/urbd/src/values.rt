@@ -4,7 +4,7 @@ ghost use Rattle.std.specs.Prelude.{◌≡◌, ◌≤◌, ◌&&◌, nat_le, IfSo
 ghost use Rattle.clap.specs.Words.{first_of, found_of, rows_of, subcommand_rows_of};
 ghost use Rattle.urbd.specs.Tasks.{Serve, number_of, serve_task, submit_task, read_task, task_named, task_of, task_of_serving, task_of_submitting, task_of_reading};
 
-use crate::lines::{Line, Reading, Submitting};
+use crate::lines::{Errand, Line, Reading, Submitting};
 use crate::serving::Serving;
 use clap::ArgMatches;
 
@@ -80,10 +80,10 @@ fn named<'a>(name: &str, found: &ArgMatches<'a>) -> Option<Line<'a>>
     ensures { option_map task_of result ≡ task_named (Some (name.now, rows_of (found_of found.now))) }
 {
     match name {
-        "replay" => Some(Line::Replay),
+        "replay" => Some(Line::Errand(Errand::Replay)),
         "serve" => Some(Line::Serve(serving_of(found)?)),
-        "submit" => Some(Line::Submit(submitting_of(found)?)),
-        "read" => Some(Line::Read(reading_of(found)?)),
+        "submit" => Some(Line::Errand(Errand::Submit(submitting_of(found)?))),
+        "read" => Some(Line::Errand(Errand::Read(reading_of(found)?))),
         _ => None,
     }
 }

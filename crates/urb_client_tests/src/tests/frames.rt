@@ -6,7 +6,7 @@ use super::WORKED;
 use std::alloc::Allocator;
 use std::test::Fail;
 use urb_client::*;
-use urb_names::{ClientId, Message, Name, NoMemory, NodeId, Refusal};
+use urb_names::{ClientId, MAX_PAYLOAD, Message, Name, NoMemory, NodeId, Refusal};
 use urb_refusing::Refusing;
 
 #[test]
@@ -159,8 +159,8 @@ fn other_bytes_are_no_response(rt: HostRuntime) -> Result<(), Fail> {
     Ok(())
 }
 
-/// Whether eight entries with the longest payload are read from their frame again.
-fn eight_long_entries<A: Allocator + Copy>(
+/// Whether eight entries with a thousand letters each are read from their frame again.
+fn eight_entries<A: Allocator + Copy>(
     alloc: A,
     name: Name,
     client: ClientId,
@@ -183,12 +183,30 @@ fn eight_long_entries<A: Allocator + Copy>(
 }
 
 #[test]
+fn a_frame_has_room_for_three_of_the_longest_entries(rt: HostRuntime) -> Result<(), Fail> {
+    let (name, client) = first().ok_or("the first entry")?;
+    let payload = Vec::from_elem(rt.alloc(), b'x', MAX_PAYLOAD)?;
+    let mut page = Vec::new(rt.alloc());
+    for _ in 0..8u8 {
+        page.push((name, Message::copied(rt.alloc(), client, 1, &payload)?))?;
+    }
+    page.truncate(8);
+    let frame = encode_response(rt.alloc(), &Response::entries(page)?)?;
+    // A length of 49,193, the opcode, and a count of 3.
+    assert!(rt; frame.starts_with(b"\xc0\x29\x82\x03"));
+    assert_eq!(rt; frame.len(), 49195);
+    let again = parse_response(rt.alloc(), &frame[2..])?.ok_or("a response")?;
+    assert_eq!(rt; encode_response(rt.alloc(), &again)?, frame);
+    Ok(())
+}
+
+#[test]
 fn each_growth_of_a_frame_may_be_refused(rt: HostRuntime) -> Result<(), Fail> {
     let (name, client) = first().ok_or("the first entry")?;
     let mut ran = false;
     for refused in 1..200u64 {
         let heap = Refusing::new(rt.alloc(), refused);
-        let read = eight_long_entries(&heap, name, client);
+        let read = eight_entries(&heap, name, client);
         if !heap.met() {
             assert!(rt; matches!(read, Ok(true)));
             assert!(rt; 20 < heap.asked());

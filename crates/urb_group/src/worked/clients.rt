@@ -55,27 +55,27 @@ pub fn cap()
         ∷ []) }
 {}
 
-/// A payload has at most 1,024 bytes, and may have none.
+/// A payload has at most 16,384 bytes, and may have none.
 pub fn payloads()
     ensures from_none_to_the_longest { Plays 1 3 (
         submit 1 (filled 7 1 0) ⇒ Drafts (name 1 1) 1
         ∷ store 1 ⇒ Accepts (name 1 1) 0 1
-        ∷ submit 1 (filled 7 2 1024) ⇒ Drafts (name 1 2) 2
+        ∷ submit 1 (filled 7 2 16384) ⇒ Drafts (name 1 2) 2
         ∷ store 1 ⇒ Accepts (name 1 2) 0 1
-        ∷ submit 1 (filled 7 3 1025) ⇒ Refuses refusal.TooLong
-        ∷ log_of 1 ⇒ Logs ((name 1 1, Some (message 7 1 "")) ∷ (name 1 2, Some (filled 7 2 1024)) ∷ [])
+        ∷ submit 1 (filled 7 3 16385) ⇒ Refuses refusal.TooLong
+        ∷ log_of 1 ⇒ Logs ((name 1 1, Some (message 7 1 "")) ∷ (name 1 2, Some (filled 7 2 16384)) ∷ [])
         ∷ []) }
     ensures asked_before_the_number { Plays 1 3 (
         submit 1 (message 7 1 "a") ⇒ Drafts (name 1 1) 1
         ∷ store 1 ⇒ Accepts (name 1 1) 0 1
-        ∷ submit 1 (filled 7 1 1025) ⇒ Refuses refusal.TooLong
-        ∷ submit 1 (filled 7 9 1025) ⇒ Refuses refusal.TooLong
-        ∷ submit 2 (filled 7 2 1025) ⇒ Refuses refusal.BadNode
+        ∷ submit 1 (filled 7 1 16385) ⇒ Refuses refusal.TooLong
+        ∷ submit 1 (filled 7 9 16385) ⇒ Refuses refusal.TooLong
+        ∷ submit 2 (filled 7 2 16385) ⇒ Refuses refusal.BadNode
         ∷ []) }
     ensures asked_after_the_state { Plays 1 3 (
         submit 1 (message 7 1 "a") ⇒ Drafts (name 1 1) 1
-        ∷ submit 1 (filled 8 1 1025) ⇒ Refuses refusal.Busy
+        ∷ submit 1 (filled 8 1 16385) ⇒ Refuses refusal.Busy
         ∷ crash 1 ⇒ down 1
-        ∷ submit 1 (filled 8 1 1025) ⇒ Refuses refusal.Down
+        ∷ submit 1 (filled 8 1 16385) ⇒ Refuses refusal.Down
         ∷ []) }
 {}

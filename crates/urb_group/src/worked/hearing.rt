@@ -6,7 +6,7 @@ ghost use Rattle.urb_stable.specs.declared.record.Record.TheVariants.{Cert};
 ghost use Rattle.urb_node.specs.Part.{Down, Ready, Storing, packet_from};
 ghost use Rattle.urb_group.specs.World.{image_of};
 ghost use Rattle.urb_group.specs.Scripts.{◌⇒◌, Plays, PlaysOpened, Drafts, Accepts, Takes, Is, Opens, Sends, Refuses, noted, again, answered, down, up, message, submit, store, crash, restart, restart_with, reopen, bring, tick, arrive, arrive2, look_at};
-ghost use Rattle.urb_group.specs.Examples.{pending, certified, limits, flagged, to_two};
+ghost use Rattle.urb_group.specs.Examples.{pending, certified, filled, limits, flagged, to_two};
 
 /// Three nodes that tell one another of their certificates, until the ticks have nothing left to send but to the one that has
 /// told of none; and a crash, after which nothing was heard.
@@ -30,6 +30,24 @@ pub fn until_all_is_told()
         ∷ crash 1 ⇒ down 1
         ∷ restart 1 ⇒ up 1
         ∷ tick 1 ⇒ Sends ((2, name 1 1) ∷ (3, name 1 1) ∷ [])
+        ∷ []) }
+{}
+
+/// A message that is too long for a packet without flags comes in one with flags 0, and so it is answered.
+pub fn long_messages()
+    ensures not_of_1024_bytes { Plays 3 10 (
+        submit 1 (filled 7 1 1024) ⇒ Drafts (name 1 1) 1
+        ∷ store 1 ⇒ Accepts (name 1 1) 2 0
+        ∷ arrive 1 2 1 1 ⇒ Drafts (name 1 1) 1
+        ∷ store 2 ⇒ Takes (name 1 1) 2 1
+        ∷ arrive 1 2 1 1 ⇒ again 1 1
+        ∷ []) }
+    ensures of_1025_bytes { Plays 3 10 (
+        submit 1 (filled 7 1 1025) ⇒ Drafts (name 1 1) 1
+        ∷ store 1 ⇒ Accepts (name 1 1) 2 0
+        ∷ arrive 1 2 1 1 ⇒ Drafts (name 1 1) 1
+        ∷ store 2 ⇒ Takes (name 1 1) 2 1
+        ∷ arrive 1 2 1 1 ⇒ answered 1 1 1 1
         ∷ []) }
 {}
 

@@ -166,9 +166,9 @@ fn a_repeat_is_accepted_under_its_name_and_another_payload_is_a_conflict(
 }
 
 /// As long as a payload may be, and one byte more.
-const LONGEST: &[u8] = &[b'x'; 1024];
+const LONGEST: &[u8] = &[b'x'; 16384];
 
-const TOO_LONG: &[u8] = &[b'x'; 1025];
+const TOO_LONG: &[u8] = &[b'x'; 16385];
 
 // At a node that may broadcast two messages, and then has.
 static FAULTS: [Row; 11] = [

@@ -5,7 +5,9 @@ ghost use Rattle.urb_node.specs.Moves.{IsForNode};
 
 use std::alloc::Allocator;
 use std::test::Fail;
-use urb_names::{Config, Flags, Message, Name, NodeId, Packet, PacketView, encode, parse};
+use urb_names::{
+    Config, Flags, MAX_PLAIN_PAYLOAD, Message, Name, NodeId, Packet, PacketView, encode, parse,
+};
 use urb_node::Ready;
 
 // Fails where the packet, of this message, may not come to the node.
@@ -57,6 +59,9 @@ pub(super) fn bytes_of<A: Allocator + Copy>(
 ) -> Result<Vec<u8, A>, Fail> {
     if source == target {
         return Err(Fail::from("a packet comes from another node"));
+    }
+    if flags.is_none() && MAX_PLAIN_PAYLOAD < sent.payload().len() {
+        return Err(Fail::from("a packet without flags is short"));
     }
     let packet = Packet::new(source, target, named, sent.copy(calm)?, flags);
     Ok(encode(calm, &packet)?)

@@ -122,7 +122,7 @@ fn each_refused_growth_ends_the_run_or_fails_a_store(rt: HostRuntime) -> Result<
         let mut ran = false;
         for refused in 1..2000u64 {
             let heap = Refusing::new(rt.alloc(), refused);
-            let mut room = [0u8; 2000];
+            let mut room = [0u8; 20_000];
             let mut writer = FailingWriter::new(&mut room, 700, 0);
             let mut input = script.as_slice();
             let ended = run(&heap, &mut input, &mut writer);

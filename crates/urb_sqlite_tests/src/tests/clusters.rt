@@ -9,10 +9,8 @@ use urb_names::{ClientId, Config, Flags, Message, Name, NodeId, Packet, encode};
 use urb_sqlite::SqlStable;
 use urb_stable::Stable;
 
-type Journal = SqlStable<FileStore<Memory>>;
-
 // A journal over files in memory.
-fn journal(alloc: Global) -> Option<Journal> {
+fn journal(alloc: Global) -> Option<SqlStable<FileStore<Memory>>> {
     let files = Files {
         log: Memory::new(alloc),
         db: Memory::new(alloc),
@@ -23,14 +21,13 @@ fn journal(alloc: Global) -> Option<Journal> {
     SqlStable::open_files(alloc, files, Options::new(1)).ok()
 }
 
-// A cluster over a new journal for each node.
-fn cluster(alloc: Global) -> Option<Cluster<Journal>> {
-    let config = Config::new(3, 10)?;
+// A new journal for each node.
+fn journals(alloc: Global) -> Option<Vec<SqlStable<FileStore<Memory>>>> {
     let mut journals = Vec::new(alloc);
-    journals.push(journal(alloc)?).ok()?;
-    journals.push(journal(alloc)?).ok()?;
-    journals.push(journal(alloc)?).ok()?;
-    Cluster::open(alloc, config, journals).ok()
+    for _ in 0..3 {
+        journals.push(journal(alloc)?).ok()?;
+    }
+    Some(journals)
 }
 
 // The first name of node 1.
@@ -95,17 +92,59 @@ fn is_accepted(reply: &Reply) -> Option<bool> {
     }
 }
 
-// Whether nodes 1 and 2 still deliver the message after a stop of all nodes, and a repeat is accepted.
-fn reopened(alloc: Global) -> Option<bool> {
-    let mut cluster = cluster(alloc)?;
-    play(alloc, &mut cluster, &delivery(alloc)?).ok()?;
-    let mut cluster = cluster.reopen(alloc).ok()?;
+// Whether the delivery is played.
+fn is_played<S: Stable<Alloc = Global>>(alloc: Global, cluster: &mut Cluster<S>) -> Option<bool> {
+    let commands = delivery(alloc)?;
+    Some(play(alloc, cluster, &commands).is_ok())
+}
+
+// Whether a submit of the message again is accepted.
+fn is_repeated<S: Stable<Alloc = Global>>(alloc: Global, cluster: &mut Cluster<S>) -> Option<bool> {
     let again = cluster.apply(alloc, &submit(alloc)?);
-    Some(delivers(&cluster, 1)? && delivers(&cluster, 2)? && is_accepted(&again)?)
+    is_accepted(&again)
+}
+
+// Whether nodes 1 and 2 deliver the message, and a repeat is accepted.
+fn stands<S: Stable<Alloc = Global>>(
+    alloc: Global,
+    cluster: &mut Cluster<S>,
+) -> Option<(bool, bool, bool)> {
+    let logs = (delivers(cluster, 1)?, delivers(cluster, 2)?);
+    Some((logs.0, logs.1, is_repeated(alloc, cluster)?))
+}
+
+// A cluster over these stores, which has played the delivery.
+fn delivered<S: Stable<Alloc = Global> + Drop>(
+    alloc: Global,
+    stores: Vec<S>,
+) -> Option<Cluster<S>> {
+    if stores.len() != 3 {
+        return None;
+    }
+    let mut cluster = Cluster::open(alloc, Config::new(3, 10)?, stores).ok()?;
+    if is_played(alloc, &mut cluster)? {
+        Some(cluster)
+    } else {
+        None
+    }
+}
+
+// What stands after a stop of all nodes.
+fn reopened<S: Stable<Alloc = Global> + Drop>(
+    alloc: Global,
+    stores: Vec<S>,
+) -> Option<(bool, bool, bool)> {
+    let mut cluster = delivered(alloc, stores)?.reopen(alloc).ok()?;
+    stands(alloc, &mut cluster)
+}
+
+// The same over new journals.
+fn journals_reopened(alloc: Global) -> Option<(bool, bool, bool)> {
+    reopened(alloc, journals(alloc)?)
 }
 
 #[test]
 fn journals_bring_a_cluster_back(rt: HostRuntime) -> Result<(), Fail> {
-    assert_eq!(rt; reopened(rt.alloc()), Some(true));
+    assert_eq!(rt; journals_reopened(rt.alloc()), Some((true, true, true)));
     Ok(())
 }

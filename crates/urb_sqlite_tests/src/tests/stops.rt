@@ -1,115 +1,133 @@
 //! A journal over disks that stop at one of their calls.
 
-use super::*;
-use sqlite::{FileStore, Files, Options};
-use sqlite_disk::{Crash, Disk, Fuse, Memory};
+use crate::tests::machine::Machine;
+use crate::tests::steps::{TWO, are_kept, record_of};
+use sqlite::Files;
+use sqlite_disk::{Crash, Fuse, Memory};
+use std::alloc::Global;
+use std::test::Fail;
 
-fn fused(alloc: Global, log: u64, db: u64) -> Files<Fuse<Memory>> {
-    Files {
+// A machine with new files, of which each takes so many calls.
+fn fused(alloc: Global, (log, db): (u64, u64)) -> Option<Box<Machine<Fuse<Memory>>>> {
+    let files = Files {
         log: Fuse::new(Memory::new(alloc), log),
         db: Fuse::new(Memory::new(alloc), db),
-    }
+    };
+    Machine::with(alloc, files)
 }
 
-/// The journal over these files, or what a refusal leaves of them.
-fn opened<D: Disk + Drop>(
-    alloc: Global,
-    files: Files<D>,
-) -> Result<SqlStable<FileStore<D>>, Files<D>> {
-    if !files.may_be_used() {
-        return Err(files);
+// Opens the journal and stores both records: how many are stored before the first refusal.
+fn stored<D: Crash + Drop>(alloc: Global, machine: &mut Machine<D>) -> Option<usize> {
+    if !machine.open()? {
+        return Some(0);
     }
-    match Connection::open_files(alloc, files, Options::new(1)) {
-        Ok(conn) => match SqlStable::adopt(alloc, conn) {
-            Ok(journal) => Ok(journal),
-            Err((conn, _)) => Err(conn.into_store().close()),
-        },
-        Err((_, left)) => Err(left.into_files()),
-    }
-}
-
-/// Both stores over disks that stop after so many calls, and then what stands in the files after a crash: how many stores
-/// succeeded, and how many records are found.
-fn stopped(alloc: Global, log: u64, db: u64) -> Result<Option<(usize, usize)>, Fail> {
-    let records = two(alloc)?;
-    let (done, mut files) = match opened(alloc, fused(alloc, log, db)) {
-        Ok(mut journal) => {
-            let done = stores(&mut journal, &records);
-            (done, journal.into_connection().into_store().close())
+    let mut done = 0;
+    for row in TWO {
+        if !machine.stores(&record_of(alloc, *row)?)? {
+            break;
         }
-        Err(files) => (0, files),
-    };
-    files.log.crash();
-    files.db.crash();
-    let Ok(mut again) = opened(alloc, files) else {
-        return Ok(None);
-    };
-    let Ok(found) = again.retrieve(alloc) else {
-        return Ok(None);
-    };
-    for i in 0..found.len() {
-        if i >= records.len() || !found[i].is_same(&records[i]) {
-            return Err("another record was found".into());
-        }
+        done = usize::saturating_add(done, 1);
     }
-    Ok(Some((done, found.len())))
+    Some(done)
 }
 
-/// Whether both records were stored though the files stop after so many calls. What was stored is found again, and at
-/// most one record more.
-fn is_whole(alloc: Global, log: u64, db: u64) -> Result<bool, Fail> {
-    let Some((done, found)) = stopped(alloc, log, db)? else {
-        return Err("not opened after a stop".into());
-    };
-    if found < done || found > 2 {
-        return Err("a record was lost".into());
+// How many records are found after the stop, where they are the first of both.
+fn found<D: Crash + Drop>(alloc: Global, machine: &mut Machine<D>) -> Option<usize> {
+    machine.stop()?;
+    if !machine.open()? {
+        return None;
     }
-    Ok(done == 2)
+    let found = machine.found()?;
+    let first = TWO.get(..found.len())?;
+    if are_kept(alloc, &found, first)? {
+        Some(found.len())
+    } else {
+        None
+    }
+}
+
+// How many stores succeed over files that take so many calls, and how many records are found after the stop.
+fn run(alloc: Global, calls: (u64, u64)) -> Option<(usize, usize)> {
+    let mut machine = fused(alloc, calls)?;
+    let done = stored(alloc, &mut machine)?;
+    let found = found(alloc, &mut machine)?;
+    Some((done, found))
+}
+
+// The number of the first call, from 0, before which no stop refuses a record: so many stops are met. What was stored is
+// found each time, and no other record.
+fn met(alloc: Global, is_log: bool) -> Option<u64> {
+    for k in 0..1000 {
+        let calls = if is_log { (k, u64::MAX) } else { (u64::MAX, k) };
+        let (done, found) = run(alloc, calls)?;
+        if found < done {
+            return None;
+        }
+        if done == 2 {
+            return Some(k);
+        }
+    }
+    None
 }
 
 #[test]
-fn a_stop_at_each_call_of_the_disks_loses_no_record(rt: HostRuntime) -> Result<(), Fail> {
-    let alloc = rt.alloc();
-    for k in 0..400u64 {
-        let by_log = is_whole(alloc, k, u64::MAX)?;
-        let by_db = is_whole(alloc, u64::MAX, k)?;
-        if by_log && by_db {
-            return Ok(());
-        }
-    }
-    panic!(rt; "each run was stopped")
+fn a_stop_at_each_call_of_the_log_loses_no_record(rt: HostRuntime) -> Result<(), Fail> {
+    let met = met(rt.alloc(), true).unwrap_or(0);
+    assert!(rt; 20 <= met, "{met} stops");
+    Ok(())
 }
 
-/// Whether the store of a second record succeeds over a log that stops after so many calls, and what is found then.
-fn second(alloc: Global, log: u64) -> Result<Option<(bool, u32)>, Fail> {
-    let Ok(mut journal) = opened(alloc, fused(alloc, log, u64::MAX)) else {
-        return Ok(None);
-    };
-    let first = pend(alloc, 1, "hi")?;
-    if journal.store(1, &first).is_err() {
-        return Ok(None);
+#[test]
+fn a_stop_at_each_call_of_the_database_loses_no_record(rt: HostRuntime) -> Result<(), Fail> {
+    let met = met(rt.alloc(), false).unwrap_or(0);
+    assert!(rt; 1 <= met, "{met} stops");
+    Ok(())
+}
+
+// Whether the journal is opened and its first record stored.
+fn is_begun<D: Crash + Drop>(alloc: Global, machine: &mut Machine<D>) -> Option<bool> {
+    if !machine.open()? {
+        return Some(false);
     }
-    let (stored, again) = journal.store_and_stop(alloc, Options::new(1), 2, &cert(1)?);
-    match again {
-        Ok(again) => Ok(Some((stored.is_ok(), again.next()))),
-        Err(_) => Err("not opened after a stop".into()),
+    machine.stores(&record_of(alloc, *TWO.first()?)?)
+}
+
+// Whether the second record is stored before the machine stops, and the next position afterwards.
+fn second<D: Crash + Drop>(alloc: Global, machine: &mut Machine<D>) -> Option<(bool, u32)> {
+    let second = record_of(alloc, *TWO.get(1)?)?;
+    let is_stored = machine.store_and_stop(2, &second)?;
+    Some((is_stored, machine.next()?))
+}
+
+// The same over a log that takes so many calls, where the first record is stored.
+fn second_over(alloc: Global, log: u64) -> Option<Option<(bool, u32)>> {
+    let mut machine = fused(alloc, (log, u64::MAX))?;
+    if !is_begun(alloc, &mut machine)? {
+        return Some(None);
     }
+    Some(Some(second(alloc, &mut machine)?))
+}
+
+// How many stops refuse the second record, before the first one that comes behind its store. What is found is the first
+// record, or both.
+fn refused_seconds(alloc: Global) -> Option<u64> {
+    let mut met = 0;
+    for k in 0..1000 {
+        match second_over(alloc, k)? {
+            Some((true, next)) => return if next == 3 { Some(met) } else { None },
+            Some((false, 2 | 3)) => met = u64::saturating_add(met, 1),
+            Some(_) => return None,
+            None => {}
+        }
+    }
+    None
 }
 
 #[test]
 fn a_stop_behind_a_store_leaves_the_record_where_it_was_stored(
     rt: HostRuntime,
 ) -> Result<(), Fail> {
-    let alloc = rt.alloc();
-    for k in 0..400u64 {
-        match second(alloc, k)? {
-            Some((true, next)) => {
-                assert_eq!(rt; next, 3);
-                return Ok(());
-            }
-            Some((false, next)) => assert!(rt; next == 2 || next == 3),
-            None => {}
-        }
-    }
-    panic!(rt; "each run was stopped")
+    let met = refused_seconds(rt.alloc()).unwrap_or(0);
+    assert!(rt; 2 <= met, "{met} stops");
+    Ok(())
 }

@@ -1,7 +1,7 @@
 //! The group of three nodes whose first two deliver one message.
 
 use std::alloc::Global;
-use urb_group::{Answer, Cluster, Command, Reply};
+use urb_group::{Answer, Cluster, Command, Reply, play};
 use urb_names::{ClientId, Config, Flags, Message, Name, NodeId, Packet, encode};
 use urb_stable::Stable;
 
@@ -62,6 +62,15 @@ pub fn delivery(alloc: Global) -> Option<Vec<Command>> {
 // Whether the node has delivered this message and no other.
 pub fn delivers<S: Stable<Alloc = Global>>(cluster: &Cluster<S>, number: u8) -> Option<bool> {
     Some(cluster.group().log(NodeId::new(number)?)? == &[first()?][..])
+}
+
+// Whether the delivery is played.
+pub fn is_played<S: Stable<Alloc = Global>>(
+    alloc: Global,
+    cluster: &mut Cluster<S>,
+) -> Option<bool> {
+    let commands = delivery(alloc)?;
+    Some(play(alloc, cluster, &commands).is_ok())
 }
 
 // Whether the message was accepted before under its first name, so that nothing is to be stored.

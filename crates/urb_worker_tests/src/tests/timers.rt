@@ -7,39 +7,66 @@ use std::sync::Wait;
 use std::test::Fail;
 use std::thread;
 use std::thread::Threads;
-use std::time::{Clock, Duration};
+use std::time::{Clock, Duration, Instant};
 use urb_worker::{Job, Stop, Ticket, timer};
+
+// How many milliseconds the timer waits from one tick to the next.
+const PAUSE: u32 = 20;
+
+// Whether a ticket is a tick of this node, which nobody waits for.
+fn is_tick_at(ticket: &Ticket<Brand>, number: u8) -> bool {
+    matches!(ticket.job, Job::Tick(_))
+        && ticket.job.node().number() == number
+        && ticket.answer.is_none()
+}
 
 // Whether what comes next is a tick of this node.
 fn is_next_at<R: Wait>(rt: &R, jobs: &Receiver<Ticket<Brand>>, number: u8) -> bool {
-    let Ok(ticket) = jobs.recv(rt) else {
-        return false;
-    };
-    matches!(ticket.job, Job::Tick(_)) && ticket.job.node().number() == number
+    match jobs.recv(rt) {
+        Ok(ticket) => is_tick_at(&ticket, number),
+        Err(_) => false,
+    }
 }
 
-// Whether each of two nodes gets two ticks of a timer, which ends once the stop is set.
-fn ticks<R: Threads + Wait + Clock + Sync>(rt: &R, alloc: Global) -> Option<bool> {
+// Whether all that is left are ticks of this node.
+fn are_ticks_at<R: Wait>(rt: &R, jobs: &Receiver<Ticket<Brand>>, number: u8) -> bool {
+    let mut are_ticks = true;
+    for _i in 0..64u8 {
+        let Ok(ticket) = jobs.try_recv(rt) else {
+            break;
+        };
+        are_ticks = are_ticks && is_tick_at(&ticket, number);
+    }
+    are_ticks
+}
+
+// Whether each of two nodes gets two ticks of a timer and nothing else, and the timer ends once the stop is set; and how long
+// it took.
+fn ticks<R: Threads + Wait + Clock + Sync>(rt: &R, alloc: Global) -> Option<(bool, Duration)> {
     let (first, first_jobs) = crossbeam_channel::bounded(alloc, 64).ok()?;
     let (second, second_jobs) = crossbeam_channel::bounded(alloc, 64).ok()?;
     let lines = vec![in alloc; first, second].ok()?;
     let stop = Stop::new();
     let (stop, lines) = (&stop, lines.as_slice());
+    let (first_jobs, second_jobs) = (&first_jobs, &second_jobs);
+    let began = Instant::now(rt).ok()?;
     let ((), have_come) = thread::join(
         rt,
-        move || timer(rt, stop, 1, lines),
+        move || timer(rt, stop, PAUSE, lines),
         move || {
             let mut have_come = true;
             for _i in 0..2u8 {
                 have_come = have_come
-                    && is_next_at(rt, &first_jobs, 1)
-                    && is_next_at(rt, &second_jobs, 2);
+                    && is_next_at(rt, first_jobs, 1)
+                    && is_next_at(rt, second_jobs, 2);
             }
             stop.set();
             have_come
         },
     );
-    Some(have_come)
+    let took = began.elapsed(rt).ok()?;
+    let are_ticks = are_ticks_at(rt, first_jobs, 1) && are_ticks_at(rt, second_jobs, 2);
+    Some((have_come && are_ticks, took))
 }
 
 // A timer whose tick is ten minutes off, and a stop that is set soon.
@@ -60,8 +87,11 @@ fn is_stopped<R: Threads + Wait + Clock + Sync>(rt: &R) -> bool {
 }
 
 #[test]
-fn a_timer_ticks_at_each_node(rt: HostRuntime) -> Result<(), Fail> {
-    assert_eq!(rt; ticks(&rt, rt.alloc()), Some(true));
+fn a_timer_ticks_at_each_node_in_its_time(rt: HostRuntime) -> Result<(), Fail> {
+    let (are_ticks, took) = ticks(&rt, rt.alloc()).ok_or("memory")?;
+    assert!(rt; are_ticks);
+    // The second tick is two pauses off.
+    assert!(rt; took >= Duration::from_millis(40));
     Ok(())
 }
 

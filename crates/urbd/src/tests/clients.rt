@@ -13,11 +13,12 @@ use std::net::{Ipv4Addr, Net, TcpListener, TcpStream};
 use std::test::Fail;
 use std::thread;
 use std::thread::Threads;
+use urb_names::MAX_PAYLOAD;
 
 /// What client 7 submits as its first message.
 fn hi(port: u16) -> Submitting<'static>
     requires { 0 < port }
-    ensures { length result.text.now ≤ 1024 }
+    ensures { length result.text.now ≤ MAX_PAYLOAD }
 {
     Submitting {
         port,
@@ -233,8 +234,8 @@ fn a_submit_goes_over_a_socket(rt: HostRuntime) -> Result<(), Fail> {
         let (_, outcome) = submit_beside(&rt, rt.alloc(), &listener, answer, submitting);
         assert!(rt; fails(&outcome, Fault::BadReply));
     }
-    // A text over 1,024 bytes isn't sent.
-    let long = Vec::from_elem(rt.alloc(), b'x', 1025)?;
+    // A text over 16,384 bytes isn't sent.
+    let long = Vec::from_elem(rt.alloc(), b'x', MAX_PAYLOAD + 1)?;
     let text = str::from_utf8(long.as_slice()).or(Err("a text"))?;
     let submitting = Submitting {
         port,

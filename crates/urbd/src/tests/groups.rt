@@ -2,11 +2,14 @@
 
 ghost use Rattle.std.specs.Prelude.{◌≡◌, ◌<◌, ◌≤◌, IfSome, vec_len, vec_capacity};
 
-use crate::daemon::{link_to, run_opened};
+use crate::daemon::run_opened;
+use crate::faults::Fault;
 use crate::host::Host;
+use crate::serving::Serving;
+use crate::sockets::{link_to, open_sockets};
 use std::alloc::Global;
 use std::io::{Read, Write};
-use std::net::{Ipv4Addr, Net, TcpListener, TcpStream};
+use std::net::{Ipv4Addr, Net, TcpListener, TcpStream, UdpSocket};
 use std::test::Fail;
 use std::thread;
 use std::time::{Clock, Duration};
@@ -108,6 +111,99 @@ impl<'a, R: Net<Listener = TcpListener, Stream = TcpStream>> Watch for OneClient
             self.is_answered = answered.as_slice() == ANSWERED;
         }
     }
+}
+
+// Asks at so many sessions of a node, all of which stay open, for its status, and says whether the one that came last is
+// answered.
+fn is_answered_at_once<R: Net<Listener = TcpListener, Stream = TcpStream>>(
+    rt: &R,
+    alloc: Global,
+    station: &Station,
+    count: u8,
+) -> Option<bool> {
+    let mut sessions = Vec::new(alloc);
+    for _i in 0..count {
+        let mut stream = TcpStream::connect(rt, (Ipv4Addr::LOCALHOST, station.tcp_port)).ok()?;
+        stream
+            .set_read_timeout(Some(Duration::from_millis(10_000)))
+            .ok()?;
+        stream.write_all(&[0, 1, 3]).ok()?;
+        sessions.push(stream).ok()?;
+    }
+    let mut answer = [0u8; 12];
+    let last = sessions.last_mut()?;
+    last.read_exact(&mut answer).ok()?;
+    Some(answer.starts_with(&[0, 10, 0x83, 1]))
+}
+
+// As many clients of the first node as it takes at once.
+#[derive(Drop)]
+struct FourClients<'a, R: Net<Listener = TcpListener, Stream = TcpStream>> {
+    rt: &'a R,
+    alloc: Global,
+    are_answered: bool,
+}
+
+impl<'a, R: Net<Listener = TcpListener, Stream = TcpStream>> Watch for FourClients<'a, R> {
+    fn watch(&mut self, stations: &[Station]) {
+        if let [station, ..] = stations {
+            let is_answered = is_answered_at_once(self.rt, self.alloc, station, 4);
+            self.are_answered = is_answered == Some(true);
+        }
+    }
+}
+
+#[test]
+fn four_sessions_of_a_node_are_answered_at_once(rt: HostRuntime) -> Result<(), Fail> {
+    let mut clients = FourClients {
+        rt: &rt,
+        alloc: rt.alloc(),
+        are_answered: false,
+    };
+    let events = events_of(&rt, rt.alloc(), 1, &mut clients);
+    assert!(rt; clients.are_answered);
+    assert!(rt; events.is_some());
+    Ok(())
+}
+
+// Whether both ports of a station are free at another address of this machine.
+fn is_alone<R: Net<Listener = TcpListener, Stream = TcpStream>>(rt: &R, station: &Station) -> bool {
+    let other = Ipv4Addr::new(127, 0, 0, 2);
+    UdpSocket::bind(rt, (other, station.udp_port)).is_ok()
+        && TcpListener::bind(rt, (other, station.tcp_port)).is_ok()
+}
+
+// Whether the stations above this base are those of their nodes, and can't be had twice; none where a port is in use.
+fn are_of_their_nodes<R: Net<Listener = TcpListener, Stream = TcpStream>>(
+    rt: &R,
+    alloc: Global,
+    base: u16,
+) -> Option<bool> {
+    let serving = Serving::new(2, 1, ".", base, 1)?;
+    let base = serving.base;
+    let (stations, _link) = open_sockets(rt, alloc, serving.nodes, base).ok()?;
+    let [first, second] = stations.as_slice() else {
+        return None;
+    };
+    let again = open_sockets(rt, alloc, serving.nodes, base);
+    Some(
+        (first.udp_port, first.tcp_port) == (base + 1, base + 11)
+            && (second.udp_port, second.tcp_port) == (base + 2, base + 12)
+            && is_alone(rt, first)
+            && is_alone(rt, second)
+            && again.err() == Some(Fault::Network),
+    )
+}
+
+#[test]
+fn sockets_are_those_of_their_nodes_at_loopback_alone(rt: HostRuntime) -> Result<(), Fail> {
+    for base in [22_350u16, 25_910, 29_470, 31_230] {
+        if let Some(are) = are_of_their_nodes(&rt, rt.alloc(), base) {
+            assert!(rt; are);
+            return Ok(());
+        }
+    }
+    Err("no port is free".into())
 }
 
 #[test]

@@ -2,7 +2,7 @@
 
 use super::{WANTS_A_NETWORK, is, new_terminal, shown_by, what_it_shows};
 use crate::arguments::line;
-use crate::lines::Line;
+use crate::lines::{Errand, Line};
 use std::alloc::Global;
 use std::test::Fail;
 
@@ -264,7 +264,7 @@ fn a_line_has_its_values(rt: HostRuntime) -> Result<(), Fail> {
         "+11",
     ];
     match line(&terminal, rt.alloc(), words.as_slice()) {
-        Ok(Line::Submit(submitting)) => {
+        Ok(Line::Errand(Errand::Submit(submitting))) => {
             assert_eq!(rt; (submitting.port, submitting.client), (11, 7));
             assert_eq!(rt; (submitting.number, submitting.text), (2, "hi"));
         }
@@ -272,7 +272,7 @@ fn a_line_has_its_values(rt: HostRuntime) -> Result<(), Fail> {
     }
     let words = ["urbd", "read", "--port", "12", "--from", "3", "--max", "4"];
     match line(&terminal, rt.alloc(), words.as_slice()) {
-        Ok(Line::Read(reading)) => {
+        Ok(Line::Errand(Errand::Read(reading))) => {
             assert_eq!(rt; (reading.port, reading.from, reading.max), (12, 3, 4));
         }
         _ => return Err("entries to read")?,

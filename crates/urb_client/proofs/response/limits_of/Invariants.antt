@@ -1,6 +1,6 @@
 use Rattle.std.proofs.Common.{take}
 use Rattle.std.specs.List.{All}
-use Rattle.urb_client.specs.Responses.{IsEntry}
+use Rattle.urb_client.specs.Listings.{IsEntry}
 use Rattle.urb_client.proofs.response.limits_of.Given as goal
 
 -- all so far are

@@ -1,5 +1,5 @@
 use Rattle.std.proofs.Common.{append_assoc}
-use Rattle.urb_client.specs.Responses.{entry_head}
+use Rattle.urb_client.specs.Listings.{entry_head}
 use Rattle.urb_client.proofs.response.push_entry.Goals as goal
 
 pub returns : goal.returns

@@ -3,6 +3,7 @@ use Rattle.urb_names.specs.Naming.{Content}
 use Rattle.urb_names.specs.Names.{name}
 use Rattle.urb_names.specs.Nodes.{is_majority}
 use Rattle.urb_names.specs.Pairs.{own}
+use Rattle.urb_names.specs.declared.message.TheConstants.{MAX_PAYLOAD}
 use Rattle.urb_node.specs.Held.{memory_of}
 use Rattle.urb_node.specs.Next.{IsNext}
 use Rattle.urb_node.proofs.Wanted.{pending_entry, submitted-next, submit-told}
@@ -24,7 +25,7 @@ returns-clause-outcome g c =
     let m : Content = record { client = c.args.client; number = c.args.number; payload = c.args.payload.now } in
     let own_len = c.own_len-own.ensures.value in
     let room : length (own held.pending.node held.pending.pairs) < held.config.cap = (let cap = c.cap.ensures.value in let below = c.if-own-cap.false in omega arith) in
-    let short : length c.args.payload.now ≤ 1024 = (let below = c.if-payload-gt-MAX_PAYLOAD.false in omega arith) in
+    let short : length c.args.payload.now ≤ MAX_PAYLOAD = (let below = c.if-payload-gt-MAX_PAYLOAD.false in omega arith) in
     submit-told (memory_of held) held.pending.node m c.in_ok-make_wanted.field-0.entry c.in_ok-make_wanted.field-0.cause c.is_majority-is_certified.result (memory_of c.make_wanted.new.held) c.requires.kept.pending_node short
     (sym c.find.ensures ∙ c.in_default.is) (c.if-number-next.false ∙ c.client_next-next.ensures) room (c.is_majority-is_certified.ensures ∙ ap (λ n. is_majority 1 n) c.n.ensures.value)
     (c.in_ok-make_wanted.ensures.wanted.1 ∙ (ap (λ (m : Content). pending_entry c.is_majority-is_certified.result (name held.node (c.own_len-own.result + 1)) m) c.in_ok-message.ensures ∙ ap (λ k. pending_entry c.is_majority-is_certified.result (name held.node (k + 1)) m) own_len))

@@ -1,74 +1,58 @@
-use Rattle.std.proofs.Common.{◌≡◌, ◌⊎◌, inl, inr, ℕ, List, false, Result, Ok, Err, OnOk, refl, sym, ap, ◌∙◌, arith}
-use Rattle.std.proofs.lemmas.Result.{IfOk-weaker, IfErr-weaker}
-use Rattle.sqlite.specs.State.{IsUnchanged}
+use Rattle.std.proofs.Common.{◌≡◌, ◌+◌, length, arith}
+use Rattle.std.proofs.lemmas.Result.{IfOk-weaker, err_from_is_err_and}
 use Rattle.sqlite.specs.Held.{state}
-use Rattle.sqlite.proofs.StateLemmas.{survives_weaker}
-use Rattle.urb_stable.specs.declared.stable.StoreFault.{StoreFault}
-use Rattle.urb_stable.specs.declared.stable.StoreFault.TheVariants.{NoMemory, BadRow}
-use Rattle.urb_stable.specs.Storing.{is_bad_row}
-use Rattle.urb_stable.specs.Entries.{Entry}
-use Rattle.urb_sqlite.proofs.KeepLemmas.{left, stops_now, unchanged_by_select, left_by_query, select_commits_nothing, stands_if_shown, reads_records, in_order}
-use Rattle.urb_sqlite.specs.Journal.{journal_limit}
-use Rattle.urb_sqlite.specs.Reading.{read_from}
-use Rattle.urb_sqlite.proofs.SpellLemmas.{first_bad}
+use Rattle.urb_sqlite.proofs.StandLemmas.{first_read}
+use Rattle.urb_sqlite.proofs.BothLemmas.{left_then, survives_both, still_there, earlier, stands_when_read, second_is_read, safe_after}
 use Rattle.urb_sqlite.proofs.calls.read.Goals as goal
 
--- why reading stops
-abbrev Why : Result (List Entry) ℕ → StoreFault → Type 0
-Why read e = (e ≡ NoMemory) ⊎ ((bad : ℕ) × (e ≡ BadRow bad) × (read ≡ Err bad))
+pub returns-in_err-records-clause-sound : goal.returns-in_err-records-clause-sound
+returns-in_err-records-clause-sound g c clean has next counted =
+    let p = err_from_is_err_and c.from_residual.result c.from_residual.ensures.1 in
+    rw (p.1, p.2) (c.in_err-records.ensures.sound clean has.first counted.stands.first (first_read (state g.S.Store c.args.conn.now).now _ counted.stands))
 
-no_row : (read : Result (List Entry) ℕ) (rs : List Entry) (e : StoreFault) → read ≡ Ok rs → Why read e → is_bad_row e ≡ false
-no_row read rs e all (inl none) = rw none refl
-no_row read rs e all (inr it) = absurd (let n : Ok rs ≡ Err it.0 = sym all ∙ it.2 in cc)
+pub returns-in_err-records-clause-rest : goal.returns-in_err-records-clause-rest
+returns-in_err-records-clause-rest g c next step =
+    let new = state g.S.Store c.read_part.new.conn in
+    safe_after (state g.S.Store c.args.conn.now) new next c.read_part.ensures.stop c.read_part.ensures.left (λ is_open db. g.met.S.Store.settled c.read_part.new.conn.store db is_open) c.read_part.ensures.live step
 
-bad_at : (read : Result (List Entry) ℕ) (e : StoreFault) (place : ℕ) → e ≡ BadRow place → Why read e → read ≡ Err place
-bad_at read e place is (inl none) = absurd (let n : NoMemory ≡ BadRow place = sym none ∙ is in cc)
-bad_at read e place is (inr it) = let same : it.0 ≡ place = let n : BadRow it.0 ≡ BadRow place = sym it.1 ∙ is in cc in it.2 ∙ ap Err same
-
-pub returns-in-Ok-clause-same : goal.returns-in-Ok-clause-same
-returns-in-Ok-clause-same g c clean =
-    let same = unchanged_by_select (state g.S.Store c.args.conn.now) (state g.S.Store c.select-selected.new.conn) c.in-Ok.rows.items (c.in-Ok.ensures.rows clean) in
-    elim c.records_in.result as (λ r. OnOk r (IsUnchanged (state g.S.Store c.args.conn.now) (state g.S.Store c.select-selected.new.conn))) [ Ok _ ↦ same | Err _ ↦ tt ]
-
-pub returns-in-Ok-clause-left : goal.returns-in-Ok-clause-left
-returns-in-Ok-clause-left g c clean = inl (unchanged_by_select (state g.S.Store c.args.conn.now) (state g.S.Store c.select-selected.new.conn) c.in-Ok.rows.items (c.in-Ok.ensures.rows clean))
-
-pub returns-in-Ok-clause-found : goal.returns-in-Ok-clause-found
-returns-in-Ok-clause-found g c clean has =
-    IfOk-weaker c.records_in.result _ _ (λ records read. stands_if_shown (state g.S.Store c.args.conn.now) (state g.S.Store c.select-selected.new.conn) c.in-Ok.rows.items records.items has (c.in-Ok.ensures.rows clean) (rw c.deref.ensures.value at read))
-    c.records_in.ensures.records
-
-pub returns-in-Ok-clause-sound : goal.returns-in-Ok-clause-sound
-returns-in-Ok-clause-sound g c clean has next counted =
-    let read = reads_records (state g.S.Store c.args.conn.now) (state g.S.Store c.select-selected.new.conn) c.in-Ok.rows.items next has counted (c.in-Ok.ensures.rows clean) in
-    IfErr-weaker c.records_in.result _ _ (λ e why. no_row _ _ e (rw (← c.deref.ensures.value) at read) why) c.records_in.ensures.fault
-
-pub returns-in-Ok-clause-bad : goal.returns-in-Ok-clause-bad
-returns-in-Ok-clause-bad g c clean has =
-    let order = in_order (state g.S.Store c.args.conn.now) (state g.S.Store c.select-selected.new.conn) c.in-Ok.rows.items has (c.in-Ok.ensures.rows clean) in
-    IfErr-weaker c.records_in.result _ _ (λ e why place is.
-    let read : read_from journal_limit 1 c.in-Ok.rows.items ≡ Err place = rw (← c.deref.ensures.value) (bad_at _ e place is why) in
-    (c.in-Ok.rows.items, order, first_bad journal_limit (omega arith) 1 c.in-Ok.rows.items place (omega arith) read)) c.records_in.ensures.fault
-
-pub returns-in-Ok-clause-stop : goal.returns-in-Ok-clause-stop
-returns-in-Ok-clause-stop g c = survives_weaker _ _ _ _ (λ _ db. select_commits_nothing (state g.S.Store c.args.conn.now) db) c.select-selected.ensures.survives
-
-pub returns-in-Err-clause-left : goal.returns-in-Err-clause-left
-returns-in-Err-clause-left g c clean = left_by_query (state g.S.Store c.args.conn.now) (state g.S.Store c.select-selected.new.conn) c.in-Err.error (c.in-Err.ensures.fault clean)
-
-pub returns-in-Err-clause-stop : goal.returns-in-Err-clause-stop
-returns-in-Err-clause-stop g c = survives_weaker _ _ _ _ (λ _ db. select_commits_nothing (state g.S.Store c.args.conn.now) db) c.select-selected.ensures.survives
-
-pub returns-in-Ok-clause-rest : goal.returns-in-Ok-clause-rest
-returns-in-Ok-clause-rest g c next step =
+pub returns-in_err-more-clause-sound : goal.returns-in_err-more-clause-sound
+returns-in_err-more-clause-sound g c clean has next counted =
     let old = state g.S.Store c.args.conn.now in
-    let new = state g.S.Store c.select-selected.new.conn in
-    let kept = left old new next step c.select-selected.ensures.survives.clean (λ clean. inl (unchanged_by_select old new c.in-Ok.rows.items (c.in-Ok.ensures.rows clean))) in
-    stops_now new next kept.kept (λ is_open db. g.met.S.Store.settled c.select-selected.new.conn.store db is_open) c.schema-after.ensures.live
+    let mid = state g.S.Store c.read_part.new.conn in
+    let new = state g.S.Store c.read_part-2.new.conn in
+    let before = earlier mid new c.read_part-2.ensures.stop clean in
+    let same = c.in_ok-records.ensures.same before in
+    let read = c.in_ok-records.ensures.found before has.first in
+    let at : c.len.result + 1 ≡ 1 + length c.in_ok-records.records.items = omega (arith, c.len.ensures) in
+    let p = err_from_is_err_and c.from_residual-in_err-more.result c.from_residual-in_err-more.ensures.1 in
+    rw (p.1, p.2) (c.in_err-more.ensures.sound clean (still_there old mid _ same has.second) counted.stands.second (second_is_read old mid _ c.in_ok-records.records.items _ same at read counted.stands))
 
-pub returns-in-Err-clause-rest : goal.returns-in-Err-clause-rest
-returns-in-Err-clause-rest g c next step =
+pub returns-in_err-more-clause-rest : goal.returns-in_err-more-clause-rest
+returns-in_err-more-clause-rest g c next step =
     let old = state g.S.Store c.args.conn.now in
-    let new = state g.S.Store c.select-selected.new.conn in
-    let kept = left old new next step c.select-selected.ensures.survives.clean (λ clean. left_by_query old new c.in-Err.error (c.in-Err.ensures.fault clean)) in
-    stops_now new next kept.kept (λ is_open db. g.met.S.Store.settled c.select-selected.new.conn.store db is_open) c.schema-after.ensures.live
+    let mid = state g.S.Store c.read_part.new.conn in
+    let new = state g.S.Store c.read_part-2.new.conn in
+    safe_after old new next (survives_both old mid new c.read_part.ensures.stop c.read_part-2.ensures.stop)
+    (λ clean. left_then old mid new (c.in_ok-records.ensures.same (earlier mid new c.read_part-2.ensures.stop clean)) (c.read_part-2.ensures.left clean))
+    (λ is_open db. g.met.S.Store.settled c.read_part-2.new.conn.store db is_open) c.read_part-2.ensures.live step
+
+pub returns-clause-found : goal.returns-clause-found
+returns-clause-found g c clean has =
+    let old = state g.S.Store c.args.conn.now in
+    let mid = state g.S.Store c.read_part.new.conn in
+    let new = state g.S.Store c.read_part-2.new.conn in
+    let before = earlier mid new c.read_part-2.ensures.stop clean in
+    let same = c.in_ok-records.ensures.same before in
+    let read = c.in_ok-records.ensures.found before has.first in
+    let at : c.len.result + 1 ≡ 1 + length c.in_ok-records.records.items = omega (arith, c.len.ensures) in
+    let more = c.in_ok-more.ensures.found clean (still_there old mid _ same has.second) in
+    IfOk-weaker c.joined.result _ _ (λ all whole. stands_when_read old mid _ c.in_ok-records.records.items c.in_ok-more.more.items all.items same at read more whole) c.joined.ensures.all
+
+pub returns-clause-rest : goal.returns-clause-rest
+returns-clause-rest g c next step =
+    let old = state g.S.Store c.args.conn.now in
+    let mid = state g.S.Store c.read_part.new.conn in
+    let new = state g.S.Store c.read_part-2.new.conn in
+    safe_after old new next (survives_both old mid new c.read_part.ensures.stop c.read_part-2.ensures.stop)
+    (λ clean. left_then old mid new (c.in_ok-records.ensures.same (earlier mid new c.read_part-2.ensures.stop clean)) (c.read_part-2.ensures.left clean))
+    (λ is_open db. g.met.S.Store.settled c.read_part-2.new.conn.store db is_open) c.read_part-2.ensures.live step

@@ -7,5 +7,5 @@ use Rattle.urb_sqlite.proofs.nodes.open_node.Goals as goal
 
 pub returns-clause-found : goal.returns-clause-found
 returns-clause-found g c =
-    found_in c.open_files.result _ _ (λ j. HasCleanDisk (file_state j.conn)) (λ j. IsHonestJournal (file_state j.conn)) (λ j. records_of (file_state j.conn).now.trees) c.in_ok-files.ensures.held
+    found_in c.open_files.result _ _ (λ j. HasCleanDisk (file_state j.conn)) (λ j. IsHonestJournal (file_state j.conn)) (λ j. records_of (file_state j.conn).now) c.in_ok-files.ensures.held
     c.open_files.ensures.fresh c.open_files.ensures.found

@@ -11,5 +11,5 @@ abbrev pub invariant-loop-at : goal.invariant-loop-at
 invariant-loop-at g l = record {
   count : vec_len l.journals ≡ l.at;
   room : l.n ≤ vec_capacity l.journals;
-  found : (i : ℕ) (journal : _) → slice_get l.journals.items i ≡ Some journal → IsFoundIn (held_by g.K.First.Start g.K.Second.Start g.K.Third.Start g.K.Fourth.Start g.K.Fifth.Start g.K.Sixth.Start g.K.Seventh.Start (suc i)) (HasCleanDisk (file_state journal.conn)) (IsHonestJournal (file_state journal.conn)) (records_of (file_state journal.conn).now.trees);
+  found : (i : ℕ) (journal : _) → slice_get l.journals.items i ≡ Some journal → IsFoundIn (held_by g.K.First.Start g.K.Second.Start g.K.Third.Start g.K.Fourth.Start g.K.Fifth.Start g.K.Sixth.Start g.K.Seventh.Start (suc i)) (HasCleanDisk (file_state journal.conn)) (IsHonestJournal (file_state journal.conn)) (records_of (file_state journal.conn).now);
 }

@@ -8,7 +8,7 @@ use Rattle.urb_sqlite.proofs.journal.SqlStableStable.store.Goals as goal
 
 pub returns-then-self-clause-stop : goal.returns-then-self-clause-stop
 returns-then-self-clause-stop g c =
-    subst (λ (s : OpenJournal _). IsHonestJournal (state g.S.Store s.conn) → HasCleanDisk (state g.S.Store s.conn) → LeavesOnly (state g.S.Store s.conn) (λ records. (records ≡ records_of (state g.S.Store s.conn).now.trees) ⊎ (records ≡ records_of (state g.S.Store s.conn).now.trees ++ c.args.entry.now ∷ []))) c.self.view_is
+    subst (λ (s : OpenJournal _). IsHonestJournal (state g.S.Store s.conn) → HasCleanDisk (state g.S.Store s.conn) → LeavesOnly (state g.S.Store s.conn) (λ records. (records ≡ records_of (state g.S.Store s.conn).now) ⊎ (records ≡ records_of (state g.S.Store s.conn).now ++ c.args.entry.now ∷ []))) c.self.view_is
     (λ honest clean db left.
     let it = stops_now (state g.S.Store c.self.inside.conn) c.self.inside.next c.self.invariant (λ is_open db. g.met.S.Store.settled c.self.inside.conn.store db is_open) c.schema-schema.ensures.live honest db left in
     (it.0, it.1, it.2, inl it.3))
@@ -16,13 +16,13 @@ returns-then-self-clause-stop g c =
 pub returns-in-Ok-clause-stop : goal.returns-in-Ok-clause-stop
 returns-in-Ok-clause-stop g c =
     let new = state g.S.Store c.append.new.conn in
-    subst (λ (s : OpenJournal _). IsHonestJournal (state g.S.Store s.conn) → HasCleanDisk new → LeavesOnly new (λ records. (records ≡ records_of (state g.S.Store s.conn).now.trees) ⊎ (records ≡ records_of (state g.S.Store s.conn).now.trees ++ c.args.entry.now ∷ []))) c.self.view_is
+    subst (λ (s : OpenJournal _). IsHonestJournal (state g.S.Store s.conn) → HasCleanDisk new → LeavesOnly new (λ records. (records ≡ records_of (state g.S.Store s.conn).now) ⊎ (records ≡ records_of (state g.S.Store s.conn).now ++ c.args.entry.now ∷ []))) c.self.view_is
     (c.append.ensures.stop (subst (IsInStep (state g.S.Store c.self.inside.conn)) (sym c.if-pos-self.false) c.self.invariant))
 
 pub returns-in-Err-clause-stop : goal.returns-in-Err-clause-stop
 returns-in-Err-clause-stop g c =
     let new = state g.S.Store c.append.new.conn in
-    subst (λ (s : OpenJournal _). IsHonestJournal (state g.S.Store s.conn) → HasCleanDisk new → LeavesOnly new (λ records. (records ≡ records_of (state g.S.Store s.conn).now.trees) ⊎ (records ≡ records_of (state g.S.Store s.conn).now.trees ++ c.args.entry.now ∷ []))) c.self.view_is
+    subst (λ (s : OpenJournal _). IsHonestJournal (state g.S.Store s.conn) → HasCleanDisk new → LeavesOnly new (λ records. (records ≡ records_of (state g.S.Store s.conn).now) ⊎ (records ≡ records_of (state g.S.Store s.conn).now ++ c.args.entry.now ∷ []))) c.self.view_is
     (c.append.ensures.stop (subst (IsInStep (state g.S.Store c.self.inside.conn)) (sym c.if-pos-self.false) c.self.invariant))
 
 pub returns-then-self-clause-rest : goal.returns-then-self-clause-rest
@@ -40,3 +40,8 @@ returns-in-Ok-clause-rest g c = c.append.ensures.rest (subst (IsInStep (state g.
 
 pub returns-in-Err-clause-rest : goal.returns-in-Err-clause-rest
 returns-in-Err-clause-rest g c = c.append.ensures.rest (subst (IsInStep (state g.S.Store c.self.inside.conn)) (sym c.if-pos-self.false) c.self.invariant)
+
+pub returns-in-Err-clause-honest : goal.returns-in-Err-clause-honest
+returns-in-Err-clause-honest g c honest =
+    subst (λ (s : OpenJournal _). IsHonestJournal (state g.S.Store s.conn)) c.self.view_is
+    ((c.in-Err.ensures.err (subst (IsInStep (state g.S.Store c.self.inside.conn)) (sym c.if-pos-self.false) c.self.invariant)).honest honest)

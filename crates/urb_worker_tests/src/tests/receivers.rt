@@ -1,0 +1,56 @@
+//! The receiver, at a socket of loopback beside a thread that sends to it.
+
+use crossbeam_channel::Receiver;
+use std::alloc::Global;
+use std::marker::Brand;
+use std::net::{Ipv4Addr, Net, TcpListener, TcpStream, UdpSocket};
+use std::sync::Wait;
+use std::test::Fail;
+use std::thread;
+use std::thread::Threads;
+use urb_names::NodeId;
+use urb_worker::{Job, Stop, Ticket, receive};
+
+// How many bytes the longest packet has.
+const LONGEST: usize = 16_403;
+
+// How many bytes have arrived.
+fn arrived<R: Wait>(rt: &R, jobs: &Receiver<Ticket<Brand>>) -> Option<usize> {
+    let ticket = jobs.recv(rt).ok()?;
+    match &ticket.job {
+        Job::Arrive { bytes, .. } => Some(bytes.len()),
+        _ => None,
+    }
+}
+
+// How many bytes of the longest packet arrive, at a receiver that is stopped then.
+fn received<R: Threads + Wait + Net<Listener = TcpListener, Stream = TcpStream> + Sync>(
+    rt: &R,
+    alloc: Global,
+) -> Option<usize> {
+    let node = NodeId::new(1)?;
+    let socket = UdpSocket::bind(rt, (Ipv4Addr::LOCALHOST, 0)).ok()?;
+    let port = socket.local_addr().ok()?.port();
+    let bytes = Vec::from_elem(alloc, b'x', LONGEST).ok()?;
+    let (line, jobs) = crossbeam_channel::bounded(alloc, 4).ok()?;
+    let stop = Stop::new();
+    let (stop, socket, bytes) = (&stop, &socket, bytes.as_slice());
+    let ((), count) = thread::join(
+        rt,
+        move || receive(rt, alloc, stop, node, socket, &line),
+        move || {
+            let _ = socket.send_to(bytes, (Ipv4Addr::LOCALHOST, port));
+            let count = arrived(rt, &jobs);
+            stop.set();
+            let _ = socket.send_to(&[], (Ipv4Addr::LOCALHOST, port));
+            count
+        },
+    );
+    count
+}
+
+#[test]
+fn the_longest_packet_arrives_whole(rt: HostRuntime) -> Result<(), Fail> {
+    assert_eq!(rt; received(&rt, rt.alloc()), Some(LONGEST));
+    Ok(())
+}

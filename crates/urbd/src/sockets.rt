@@ -1,0 +1,69 @@
+//! The sockets of a group: a station for each node, and the link to all of them.
+
+ghost use Rattle.std.specs.Prelude.{◌≡◌, ◌≤◌, IfErr, IfOk, map, vec_capacity, vec_len};
+ghost use Rattle.urbd.specs.Runs.{IsOfSockets};
+
+use crate::faults::Fault;
+use std::alloc::Global;
+use std::net::{Ipv4Addr, Net, TcpListener, TcpStream, UdpSocket};
+use urb_worker::{Station, UdpLink};
+
+// The stations of so many nodes, in their order.
+fn open_stations<R: Net<Listener = TcpListener, Stream = TcpStream>>(
+    rt: &R,
+    alloc: Global,
+    nodes: u8,
+    base: u16,
+) -> Result<Vec<Station>, Fault>
+    requires { (nodes ≤ 7) × (base ≤ 65000) }
+    ensures count { IfOk result (λ stations. vec_len stations ≡ nodes) }
+    ensures fault { IfErr result IsOfSockets }
+{
+    let mut stations = Vec::with_capacity(alloc, usize::from(nodes))?;
+    for place in 0..nodes {
+        let first = base + u16::from(place);
+        let Ok(station) = Station::open(rt, first + 1, first + 11) else {
+            return Err(Fault::Network);
+        };
+        stations.push_reserved(station);
+    }
+    Ok(stations)
+}
+
+/// A link to these stations, in their order.
+pub fn link_to<R: Net<Listener = TcpListener, Stream = TcpStream>>(
+    rt: &R,
+    alloc: Global,
+    stations: &[Station],
+) -> Result<UdpLink, Fault>
+    ensures ports { IfOk result (λ link. link.ports.items ≡ map (λ s. s.udp_port) stations.now) }
+    ensures fault { IfErr result IsOfSockets }
+{
+    let mut ports = Vec::with_capacity(alloc, stations.len())?;
+    for station in stations {
+        ports.push_reserved(station.udp_port);
+    }
+    match UdpSocket::bind(rt, (Ipv4Addr::LOCALHOST, 0)) {
+        Ok(socket) => Ok(UdpLink::new(socket, ports)),
+        Err(_) => Err(Fault::Network),
+    }
+}
+
+/// The stations of so many nodes, node P's at the ports base + P and base + 10 + P, and the link to them. The first port that
+/// can't be had ends it, and nothing stays open.
+pub fn open_sockets<R: Net<Listener = TcpListener, Stream = TcpStream>>(
+    rt: &R,
+    alloc: Global,
+    nodes: u8,
+    base: u16,
+) -> Result<(Vec<Station>, UdpLink), Fault>
+    requires { (nodes ≤ 7) × (base ≤ 65000) }
+    ensures count { IfOk result (λ it. vec_len it.0 ≡ nodes) }
+    // The link's ports are those of the stations, in their order.
+    ensures ports { IfOk result (λ it. it.1.ports.items ≡ map (λ s. s.udp_port) it.0.items) }
+    ensures fault { IfErr result IsOfSockets }
+{
+    let stations = open_stations(rt, alloc, nodes, base)?;
+    let link = link_to(rt, alloc, stations.as_slice())?;
+    Ok((stations, link))
+}
