@@ -1,4 +1,6 @@
-//! A group of three over journals in files that are closed or damaged.
+//! A group of three over journals that are stopped, damaged or closed.
 
 mod files;
 mod group;
+mod places;
+mod stops;
