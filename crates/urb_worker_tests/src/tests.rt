@@ -6,8 +6,8 @@ ghost use Rattle.urb_show.specs.Lists.{lists_in};
 use std::alloc::Global;
 use std::sync::Wait;
 use std::sync::ledger::Blank;
-use urb_group::{Group, Reply};
-use urb_names::{ClientId, Config, NodeId, Refusal};
+use urb_group::Group;
+use urb_names::{ClientId, Config, NodeId};
 use urb_show::{House, HouseName, LogReader, Opened};
 use urb_worker::{Hub, HubName, Job, Tally};
 
@@ -16,6 +16,7 @@ mod gates;
 mod hearing;
 mod pacing;
 mod receivers;
+mod shorts;
 mod stations;
 mod timers;
 mod turns;
@@ -69,20 +70,4 @@ fn submit(alloc: Global, node: NodeId, number: u32) -> Option<Job> {
         number,
         payload: Vec::new(alloc),
     })
-}
-
-// Whether a reply is that a submit's record was stored under this number.
-fn is_accepted(reply: &Reply, seq: u32) -> bool {
-    match reply {
-        Reply::Stored(done) => done.accepted && done.name.seq == seq,
-        _ => false,
-    }
-}
-
-// Whether a reply is this refusal.
-fn is_refused(reply: &Reply, refusal: Refusal) -> bool {
-    match reply {
-        Reply::Refused(told) => *told == refusal,
-        _ => false,
-    }
 }

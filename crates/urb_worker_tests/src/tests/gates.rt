@@ -3,7 +3,8 @@
 ghost use Rattle.std.specs.Prelude.{◌≡◌};
 ghost use Rattle.urb_show.specs.Lists.{lists_in};
 
-use super::{hub_of, is_accepted, opened, submit};
+use super::shorts::{Said, Short, short_of};
+use super::{hub_of, opened, submit};
 use crossbeam_channel::{Receiver, Sender};
 use std::alloc::Global;
 use std::marker::Brand;
@@ -14,7 +15,7 @@ use std::test::Fail;
 use std::thread;
 use std::thread::Threads;
 use std::time::{Clock, Duration};
-use urb_group::{MemStable, Reply};
+use urb_group::MemStable;
 use urb_names::NodeId;
 use urb_show::{HouseName, Opened};
 use urb_worker::{Finished, Gate, HubName, Job, MemoryLink, Ticket, serve};
@@ -73,6 +74,50 @@ fn asked<K: HouseName, R: Wait>(
     Some(from)
 }
 
+// What came of the job whose answer comes here.
+fn received<K: HouseName, R: Wait>(rt: &R, from: Receiver<Finished<K>>) -> Option<Short> {
+    Some(short_of(from.recv(rt).ok()?))
+}
+
+// What comes of a job that a worker is sent.
+fn came_of<K: HouseName, R: Wait>(
+    rt: &R,
+    alloc: Global,
+    line: &Sender<Ticket<K>>,
+    job: Job,
+) -> Option<Short> {
+    received(rt, asked(rt, alloc, line, job)?)
+}
+
+// What comes of a submit at node 2 while node 1's store is held, which is let go then.
+fn came_meanwhile<K: HouseName, R: Wait + Clock>(
+    rt: &R,
+    alloc: Global,
+    signs: &Signs,
+    line: &Sender<Ticket<K>>,
+) -> Option<Short> {
+    let two = NodeId::new(2)?;
+    let is_held = comes(rt, &signs.held);
+    let quick = came_of(rt, alloc, line, submit(alloc, two, 1)?);
+    signs.answered.store(1, Ordering::SeqCst);
+    if is_held { quick } else { None }
+}
+
+// Has node 1 do a submit, and node 2 while node 1's store is held: whether both were accepted.
+fn are_accepted<K: HouseName, R: Wait + Clock>(
+    rt: &R,
+    alloc: Global,
+    signs: &Signs,
+    first: &Sender<Ticket<K>>,
+    second: &Sender<Ticket<K>>,
+) -> Option<bool> {
+    let one = NodeId::new(1)?;
+    let slow = asked(rt, alloc, first, submit(alloc, one, 1)?)?;
+    let quick = came_meanwhile(rt, alloc, signs, second);
+    let slow = received(rt, slow)?;
+    Some(slow.said == Said::Accepted(1) && quick?.said == Said::Accepted(1))
+}
+
 // Has node 1 do a submit, and node 2 while node 1's store is held; then node 1 a tick, and a job of node 2. Whether both submits
 // were accepted, packets were sent, and the last job did not run.
 fn both_asked<K: HouseName, R: Wait + Clock>(
@@ -82,23 +127,10 @@ fn both_asked<K: HouseName, R: Wait + Clock>(
     first: &Sender<Ticket<K>>,
     second: &Sender<Ticket<K>>,
 ) -> Option<bool> {
-    let one = NodeId::new(1)?;
-    let two = NodeId::new(2)?;
-    let slow = asked(rt, alloc, first, submit(alloc, one, 1)?)?;
-    let is_held = comes(rt, &signs.held);
-    let quick = asked(rt, alloc, second, submit(alloc, two, 1)?)?;
-    let quick = quick.recv(rt).ok()?;
-    signs.answered.store(1, Ordering::SeqCst);
-    let slow = slow.recv(rt).ok()?;
-    let tick = asked(rt, alloc, first, Job::Tick(one))?.recv(rt).ok()?;
-    let stray = asked(rt, alloc, first, Job::Tick(two))?.recv(rt).ok()?;
-    Some(
-        is_held
-            && is_accepted(quick.reply(), 1)
-            && is_accepted(slow.reply(), 1)
-            && matches!(tick.reply(), Reply::Sent(_))
-            && !stray.ran(),
-    )
+    let are_accepted = are_accepted(rt, alloc, signs, first, second)?;
+    let tick = came_of(rt, alloc, first, Job::Tick(NodeId::new(1)?))?;
+    let stray = came_of(rt, alloc, first, Job::Tick(NodeId::new(2)?))?;
+    Some(are_accepted && tick.said == Said::Sent && !stray.ran)
 }
 
 // What came of two workers: whether all went as it should, how often node 1's store was held, whether the gate gave up, the

@@ -3,37 +3,50 @@
 ghost use Rattle.std.specs.Prelude.{◌≡◌};
 ghost use Rattle.urb_show.specs.Lists.{lists_in};
 
-use super::{hub_of, is_accepted, is_refused, opened, submit};
+use super::shorts::{Said, Short, short_of};
+use super::{hub_of, opened, submit};
 use std::alloc::Global;
 use std::marker::Brand;
 use std::sync::Wait;
 use std::sync::ledger::Blank;
 use std::test::Fail;
-use urb_group::{Failure, MemStable, Reply};
-use urb_names::{NodeId, Refusal};
+use urb_group::{Failure, MemStable};
+use urb_names::NodeId;
 use urb_show::{House, HouseName, Opened};
-use urb_worker::{Finished, HubName, Job, OpenGate, Turn};
+use urb_worker::{HubName, Job, OpenGate, Turn};
 
-// Does a job on a House, with its store.
-fn done<K: HouseName, R: Wait>(
+// What comes of a job on a House, with its store.
+fn came_of<K: HouseName, R: Wait>(
     rt: &R,
     alloc: Global,
     house: &mut House<K>,
     store: &mut MemStable,
     job: Job,
-) -> Finished<K> {
-    Turn::begin(alloc, house, job)
-        .store(alloc, store)
-        .finish(rt, alloc, house)
+) -> Short {
+    let turn = Turn::begin(alloc, house, job).store(alloc, store);
+    short_of(turn.finish(rt, alloc, house))
 }
 
-// Whether a reply is that the node is down, or up.
-fn is_down(reply: &Reply) -> bool {
-    matches!(reply, Reply::WentDown(_))
-}
-
-fn is_up(reply: &Reply) -> bool {
-    matches!(reply, Reply::Up(_))
+// Of a submit whose node is crashed between its store and its end.
+fn is_stale<K: HouseName, R: Wait>(
+    rt: &R,
+    alloc: Global,
+    house: &mut House<K>,
+    store: &mut MemStable,
+    node: NodeId,
+) -> Option<bool> {
+    let job = submit(alloc, node, 1)?;
+    let turn = Turn::begin(alloc, house, job).store(alloc, store);
+    let crash = came_of(rt, alloc, house, store, Job::Crash(node));
+    let before = (house.status(node), house.events());
+    let stale = short_of(turn.finish(rt, alloc, house));
+    let after = (house.status(node), house.events());
+    Some(
+        crash.said == Said::Down
+            && stale.said == Said::Stale
+            && stale.events == 1
+            && before == after,
+    )
 }
 
 // Of a submit whose node is crashed between its store and its end, and then is done again after a restart.
@@ -44,22 +57,52 @@ fn crashed_between<K: HouseName, R: Wait>(
     store: &mut MemStable,
 ) -> Option<bool> {
     let node = NodeId::new(1)?;
-    let turn = Turn::begin(alloc, house, submit(alloc, node, 1)?).store(alloc, store);
-    let crash = done(rt, alloc, house, store, Job::Crash(node));
-    let before = (house.status(node), house.events());
-    let stale = turn.finish(rt, alloc, house);
-    let after = (house.status(node), house.events());
-    let restart = done(rt, alloc, house, store, Job::Restart(node));
-    let again = done(rt, alloc, house, store, submit(alloc, node, 1)?);
-    let (restart, _, told) = restart.into_parts();
+    let is_stale = is_stale(rt, alloc, house, store, node)?;
+    let restart = came_of(rt, alloc, house, store, Job::Restart(node));
+    let again = came_of(rt, alloc, house, store, submit(alloc, node, 1)?);
+    Some(is_stale && restart.said == Said::Up && restart.has_told && again.said == Said::Same)
+}
+
+// Of jobs at a node that is ready.
+fn ready_replies<K: HouseName, R: Wait>(
+    rt: &R,
+    alloc: Global,
+    house: &mut House<K>,
+    store: &mut MemStable,
+    node: NodeId,
+) -> Option<bool> {
+    let status = came_of(rt, alloc, house, store, Job::Status(node));
+    let accepted = came_of(rt, alloc, house, store, submit(alloc, node, 1)?);
+    let twice = came_of(rt, alloc, house, store, Job::Restart(node));
     Some(
-        is_down(crash.reply())
-            && is_refused(stale.reply(), Refusal::Stale)
-            && stale.events() == 1
-            && before == after
-            && is_up(&restart)
-            && told.is_some()
-            && matches!(again.reply(), Reply::Same(_)),
+        status.has_status
+            && accepted.said == Said::Accepted(1)
+            && accepted.has_told
+            && twice.said == Said::NotDown,
+    )
+}
+
+// Of jobs at a node whose store fails, and of a node that is not there.
+fn down_replies<K: HouseName, R: Wait>(
+    rt: &R,
+    alloc: Global,
+    house: &mut House<K>,
+    store: &mut MemStable,
+    node: NodeId,
+) -> Option<bool> {
+    let nobody = NodeId::new(2)?;
+    let failed = came_of(rt, alloc, house, store, submit(alloc, node, 2)?);
+    let status = came_of(rt, alloc, house, store, Job::Status(node));
+    let unknown = came_of(rt, alloc, house, store, Job::Status(nobody));
+    let restart = came_of(rt, alloc, house, store, Job::Restart(node));
+    Some(
+        failed.said == Said::Device
+            && failed.events == 2
+            && status.said == Said::Down
+            && status.events == 0
+            && unknown.said == Said::BadNode
+            && !unknown.has_status
+            && restart.said == Said::Up,
     )
 }
 
@@ -71,31 +114,10 @@ fn other_replies<K: HouseName, R: Wait>(
     store: &mut MemStable,
 ) -> Option<bool> {
     let node = NodeId::new(1)?;
-    let nobody = NodeId::new(2)?;
-    let up = done(rt, alloc, house, store, Job::Status(node));
-    let accepted = done(rt, alloc, house, store, submit(alloc, node, 1)?);
-    let twice = done(rt, alloc, house, store, Job::Restart(node));
+    let ready = ready_replies(rt, alloc, house, store, node)?;
     store.arm(Failure::Old);
-    let failed = done(rt, alloc, house, store, submit(alloc, node, 2)?);
-    let down = done(rt, alloc, house, store, Job::Status(node));
-    let unknown = done(rt, alloc, house, store, Job::Status(nobody));
-    let restart = done(rt, alloc, house, store, Job::Restart(node));
-    let (_, status, _) = up.into_parts();
-    let (accepted, _, told) = accepted.into_parts();
-    let (unknown, none, _) = unknown.into_parts();
-    Some(
-        status.is_some()
-            && is_accepted(&accepted, 1)
-            && told.is_some()
-            && is_refused(twice.reply(), Refusal::NotDown)
-            && is_refused(failed.reply(), Refusal::Device)
-            && failed.events() == 2
-            && is_down(down.reply())
-            && down.events() == 0
-            && is_refused(&unknown, Refusal::BadNode)
-            && none.is_none()
-            && is_up(restart.reply()),
-    )
+    let down = down_replies(rt, alloc, house, store, node)?;
+    Some(ready && down)
 }
 
 // Plays both on a House of its own, and gives its events too.
@@ -169,6 +191,7 @@ fn misrouted<K: HouseName, L: HubName, R: Wait>(
     drop(readers);
     let tally = tallies.pop().unwrap();
     let (tick, tally) = hub.work(rt, alloc, one, Job::Tick(two), &mut store, &OpenGate, tally);
+    let tick = short_of(tick);
     let (crash, tally) = hub.work(
         rt,
         alloc,
@@ -178,16 +201,12 @@ fn misrouted<K: HouseName, L: HubName, R: Wait>(
         &OpenGate,
         tally,
     );
+    let crash = short_of(crash);
     tallies.push_reserved(tally);
     let house = hub.close(tallies);
     let events = house.events();
     drop(house.close(rt));
-    Some((
-        tick.ran(),
-        is_refused(tick.reply(), Refusal::BadNode),
-        crash.ran(),
-        events,
-    ))
+    Some((tick.ran, tick.said == Said::BadNode, crash.ran, events))
 }
 
 #[test]

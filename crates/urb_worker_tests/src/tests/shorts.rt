@@ -1,0 +1,74 @@
+//! What came of a job in short, so that a test compares what it expects and lets each job's outcome go at once.
+
+use urb_group::Reply;
+use urb_names::Refusal;
+use urb_show::HouseName;
+use urb_worker::Finished;
+
+/// What a reply says; a submit that was stored has its number.
+#[derive(Clone, Copy, PartialEq, Eq)]
+pub(super) enum Said {
+    Accepted(u32),
+    Same,
+    Sent,
+    Down,
+    Up,
+    Stale,
+    NotDown,
+    Device,
+    BadNode,
+    Other,
+}
+
+/// What came of a job: the reply, whether it ran and by how many events, and whether a status and the readers' news are there.
+#[derive(Clone, Copy, PartialEq, Eq)]
+pub(super) struct Short {
+    pub(super) said: Said,
+    pub(super) ran: bool,
+    pub(super) events: u8,
+    pub(super) has_status: bool,
+    pub(super) has_told: bool,
+}
+
+// What a refusal says.
+fn refused(refusal: &Refusal) -> Said {
+    match refusal {
+        Refusal::Stale => Said::Stale,
+        Refusal::NotDown => Said::NotDown,
+        Refusal::Device => Said::Device,
+        Refusal::BadNode => Said::BadNode,
+        _ => Said::Other,
+    }
+}
+
+// What a reply says.
+fn said_by(reply: &Reply) -> Said {
+    match reply {
+        Reply::Stored(done) => {
+            if done.accepted {
+                Said::Accepted(done.name.seq)
+            } else {
+                Said::Other
+            }
+        }
+        Reply::Same(_) => Said::Same,
+        Reply::Sent(_) => Said::Sent,
+        Reply::WentDown(_) => Said::Down,
+        Reply::Up(_) => Said::Up,
+        Reply::Refused(refusal) => refused(refusal),
+        _ => Said::Other,
+    }
+}
+
+/// What came of a job in short.
+pub(super) fn short_of<K: HouseName>(finished: Finished<K>) -> Short {
+    let (ran, events) = (finished.ran(), finished.events());
+    let (reply, status, told) = finished.into_parts();
+    Short {
+        said: said_by(&reply),
+        ran,
+        events,
+        has_status: status.is_some(),
+        has_told: told.is_some(),
+    }
+}
