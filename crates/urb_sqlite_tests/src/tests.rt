@@ -1,7 +1,6 @@
 //! Journals over memory, in a file, and with changed rows.
 
 mod bench;
-mod clusters;
 mod files;
 mod machine;
 mod nodes;

@@ -3,4 +3,5 @@
 mod files;
 mod group;
 mod places;
+mod reopened;
 mod stops;

@@ -1,6 +1,6 @@
 //! A group over three real files, which are closed and opened again, damaged, or exchanged.
 
-use super::group::{config, delivers, first, is_played, is_repeated};
+use super::group::{config, delivers, first, is_played, stands};
 use sqlite::Connection;
 use std::alloc::Global;
 use std::fs;
@@ -33,15 +33,6 @@ fn delivered<K: Contents>(rt: &HostRuntime, directory: &str) -> Option<bool> {
     let mut cluster = opened::<K>(rt, directory)?;
     let is_played = is_played(rt.alloc(), &mut cluster)?;
     Some(is_closed(rt, directory, cluster) && is_played)
-}
-
-// Whether each of the first two nodes has the message, and whether it is repeated.
-fn stands<S: Stable<Alloc = Global>>(
-    alloc: Global,
-    cluster: &mut Cluster<S>,
-) -> Option<(bool, bool, bool)> {
-    let logs = (delivers(cluster, 1)?, delivers(cluster, 2)?);
-    Some((logs.0, logs.1, is_repeated(alloc, cluster)?))
 }
 
 // What stands in the group that is opened again, and closed.

@@ -89,3 +89,12 @@ pub fn is_repeated<S: Stable<Alloc = Global>>(
     let again = cluster.apply(alloc, &submit(alloc)?);
     is_accepted(&again)
 }
+
+// Whether each of the first two nodes has the message, and whether it is repeated.
+pub fn stands<S: Stable<Alloc = Global>>(
+    alloc: Global,
+    cluster: &mut Cluster<S>,
+) -> Option<(bool, bool, bool)> {
+    let logs = (delivers(cluster, 1)?, delivers(cluster, 2)?);
+    Some((logs.0, logs.1, is_repeated(alloc, cluster)?))
+}

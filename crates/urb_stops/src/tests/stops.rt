@@ -45,8 +45,19 @@ fn places(alloc: Global, case: Case) -> Option<Vec<Place<Fuse<Memory>>>> {
     Some(places)
 }
 
+// The places of the nodes, with new files that never stop.
+pub fn new_places(alloc: Global) -> Option<Vec<Place<Fuse<Memory>>>> {
+    let case = Case {
+        node: 0,
+        log: u64::MAX,
+        db: u64::MAX,
+        is_old: false,
+    };
+    places(alloc, case)
+}
+
 // Whether each node's files become its journal. Behind one that doesn't, no other does.
-fn are_open<D: Crash + Drop>(places: &mut [Place<D>]) -> bool {
+pub fn are_open<D: Crash + Drop>(places: &mut [Place<D>]) -> bool {
     let mut are_open = true;
     for place in places {
         are_open = are_open && place.is_open();
@@ -76,7 +87,7 @@ fn give_back<D: Crash + Drop>(
 }
 
 // The group over the journals that stand at these places; else they are back.
-fn opened<D: Crash + Drop>(
+pub fn opened<D: Crash + Drop>(
     alloc: Global,
     places: &mut [Place<D>],
 ) -> Option<Option<Cluster<Journal<D>>>> {
@@ -130,8 +141,15 @@ fn is_accepted(reply: &Reply) -> Option<bool> {
     }
 }
 
-// Plays until a store fails.
-fn played<S: Stable<Alloc = Global>>(alloc: Global, cluster: &mut Cluster<S>) -> Option<Told> {
+// Plays until a store fails. Over an old file the message is accepted already, as the one that it holds.
+fn played<S: Stable<Alloc = Global>>(
+    alloc: Global,
+    cluster: &mut Cluster<S>,
+    is_old: bool,
+) -> Option<Told> {
+    if is_old && !is_repeated(alloc, cluster)? {
+        return None;
+    }
     let (mut accepted, mut failed) = (false, false);
     for command in &delivery(alloc)? {
         if !failed {
@@ -159,7 +177,7 @@ fn told_until_stop<D: Crash + Drop>(
     let Some(mut cluster) = opened(alloc, places)? else {
         return Some(None);
     };
-    let told = played(alloc, &mut cluster)?;
+    let told = played(alloc, &mut cluster, is_old)?;
     give_back(places, cluster.into_stores())?;
     Some(Some(told))
 }
