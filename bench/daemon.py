@@ -1,7 +1,8 @@
 #!/usr/bin/env python3
 """daemon.py PROGRAM [--rounds R] [--seconds S] [--messages M] [--dir D]     the daemon beside redis and etcd, in one run on one disk
 
-PROGRAM is the built urbd. Needs a C compiler; measures redis (Debian's redis-server, with appendonly yes and appendfsync always)
+PROGRAM is the built urbd. Needs a C compiler, for its clients and for the floor: a program that stores and sends what the daemon
+does for a message, and nothing else (floor.c). Measures redis (Debian's redis-server, with appendonly yes and appendfsync always)
 and a group of three of etcd on loopback (etcd-server, golang-go, golang-etcd-server-dev) where they are installed. Each figure is the
 median of R rounds (5; with 0 of them there is the last line alone), in which all servers take turns, S seconds (2) a measurement. The
 last line is of M messages (100,000). Every server listens on 127.0.0.1 and is
@@ -156,6 +157,21 @@ def built_etcd_load(room):
     return None if made.returncode else str(path)
 
 
+class Floor:
+    """The program that stores and sends what the daemon does, and nothing else."""
+
+    def __init__(self, room):
+        self.path = room / "floor"
+        subprocess.run(["cc", "-O2", "-o", self.path, HERE / "floor.c", "-lpthread"], check=True)
+
+    def run(self, room, *words):
+        """Submits a second, median and 99th percentile in microseconds, 0."""
+        folder = Path(tempfile.mkdtemp(dir=room))
+        figures = answer(subprocess.Popen([self.path, *map(str, words)], cwd=folder, stdout=subprocess.PIPE, text=True))
+        shutil.rmtree(folder)
+        return figures
+
+
 def syncs(folder, seconds):
     """Microseconds of one append of 100 bytes with its fdatasync: median."""
     file = os.open(folder / "append", os.O_CREAT | os.O_WRONLY | os.O_APPEND)
@@ -237,6 +253,15 @@ def measure_daemon(table, load, program, room, nodes, seconds):
         table.add("at rest", 100 * (daemon.busy() - before) / seconds)
     daemon.stop()
     shutil.rmtree(folder)
+
+
+def measure_floor(table, floor, room, seconds):
+    for nodes in (1, 3):
+        table.add(f"floor {nodes}", floor.run(room, nodes, 1, seconds)[1])
+    _, median, late, _ = floor.run(room, 3, 1, seconds, "visible")
+    table.add("floor visible p50", median)
+    table.add("floor visible p99", late)
+    table.add("floor twelve", floor.run(room, 3, 12, seconds)[0])
 
 
 def measure_redis(table, load, room, seconds):
@@ -327,6 +352,15 @@ def show(table, rounds):
     table.line("reads of 8 entries, four clients; redis XRANGE", "read", "xrange", "/s", 1.0, turned=True)
     table.line("a reader's 99th percentile beside writers; without", "reader p99 beside", "reader p99 alone", "us", 1.3)
     table.line("accepted, twelve clients; records of three journals", "twelve", "journals", "/s", 0.8, turned=True)
+    table.line("accepted, one client, one node; the floor", "submit 1", "floor 1", "us", 1.0)
+    table.line("accepted, one client, three nodes; the floor", "submit 3", "floor 3", "us", 1.0)
+    table.line("shown at three nodes; the floor, median", "visible p50", "floor visible p50", "us", 1.0)
+    table.line("shown at three nodes; the floor, 99th percentile", "visible p99", "floor visible p99", "us", 1.0)
+    table.line("accepted, twelve clients, three nodes; the floor", "twelve", "floor twelve", "/s", 1.0, turned=True)
+    table.line("the floor, one node; redis XADD", "floor 1", "xadd", "us", 1.0)
+    table.line("the floor, three nodes; redis XADD", "floor 3", "xadd", "us", 1.0)
+    table.line("the floor, shown at three nodes; etcd's put, median", "floor visible p50", "put p50", "us", 0.5)
+    table.line("the floor, twelve clients; records of three journals", "floor twelve", "journals", "/s", 0.8, turned=True)
     print(f"{'at rest: of one processor':58} {table.of('at rest'):10.2f} %")
 
 
@@ -342,12 +376,13 @@ def main():
     room = Path(tempfile.mkdtemp(dir=options.dir))
     table = Table()
     try:
-        load, bench = Load(room), built_etcd_load(room)
+        load, floor, bench = Load(room), Floor(room), built_etcd_load(room)
         for _ in range(options.rounds):
             table.add("fdatasync", syncs(room, options.seconds / 2))
             table.add("journals", journals(Path(tempfile.mkdtemp(dir=room)), options.seconds / 2))
             for nodes in (1, 3):
                 measure_daemon(table, load, program, room, nodes, options.seconds)
+            measure_floor(table, floor, room, options.seconds)
             measure_redis(table, load, room, options.seconds)
             measure_etcd(table, bench, room, options.seconds)
         if options.rounds:

@@ -38,7 +38,10 @@ pub mod Breaking
 pub mod PlayedRuns
 pub mod StockedSteps
 pub mod StockedNodes
+pub mod Beside
 pub mod StockedClusters
+pub mod SecuredClusters
+pub mod SecuredOpenings
 pub mod StockedPlays
 pub mod StockedFailures
 pub mod StoppedCalls

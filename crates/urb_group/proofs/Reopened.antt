@@ -17,7 +17,8 @@ use Rattle.urb_stable.specs.declared.stable.Stable.{Ghosts}
 use Rattle.urb_stable.specs.declared.stable.StoreFault.{StoreFault}
 use Rattle.urb_stable.specs.declared.stable.StoreFault.TheVariants as fault
 use Rattle.urb_group.proofs.Opened.{misfit-unfit}
-use Rattle.urb_group.proofs.StockedClusters.{asked-left, leaves-held, one-store}
+use Rattle.urb_group.proofs.Beside.{one-store}
+use Rattle.urb_group.proofs.StockedClusters.{asked-left, leaves-held}
 use Rattle.urb_group.proofs.StockedPlays.{held-fits}
 use Rattle.urb_group.specs.Asked.{Gives}
 use Rattle.urb_group.specs.Calls.{Opens}
@@ -53,14 +54,14 @@ given-opens g size stores asked images (Ok group) given opens = record { images 
 given-opens g size stores asked images (Err why) given opens = inr (record { images = images; given = given; opens = opens })
 
 -- the store in a place gave the list in that place
-given-at : {S A : Type 0} (g : Ghosts S A) (stores : List S) (images : List (List Entry)) (asked : List S) → AllGive g stores images asked → (i : ℕ) (store : S) → slice_get asked i ≡ Some store
-    → (before : S) × Gives g before (Ok (slice_index_or images i [])) store
+pub given-at : {S A : Type 0} (g : Ghosts S A) (stores : List S) (images : List (List Entry)) (asked : List S) → AllGive g stores images asked → (i : ℕ) (store : S) → slice_get asked i ≡ Some store
+    → (before : S) × (slice_get stores i ≡ Some before) × Gives g before (Ok (slice_index_or images i [])) store
 given-at g [] [] [] h i store e = absurd (cc)
 given-at g [] [] (a ∷ asked) h i store e = absurd h
 given-at g [] (im ∷ images) asked h i store e = absurd h
 given-at g (s ∷ stores) [] asked h i store e = absurd h
 given-at g (s ∷ stores) (im ∷ images) [] h i store e = absurd h
-given-at g (s ∷ stores) (im ∷ images) (a ∷ asked) h zero store e = (let f : a ≡ store = cc in (s, subst (λ (t : _). Gives g s (Ok im) t) f h.0))
+given-at g (s ∷ stores) (im ∷ images) (a ∷ asked) h zero store e = (let f : a ≡ store = cc in (s, refl, subst (λ (t : _). Gives g s (Ok im) t) f h.0))
 given-at g (s ∷ stores) (im ∷ images) (a ∷ asked) h (suc i) store e = given-at g stores images asked h.1 i store e
 
 -- where all are honest then, each list is one that its store may have held
@@ -80,7 +81,7 @@ given-chosen g (s ∷ stores) (im ∷ images) (a ∷ asked) h honest (suc i) sto
 -- ---- the opened cluster is stocked
 
 -- a store that gave this list is that of the node that is opened from it
-given-store : {S A : Type 0} (g : Ghosts S A) (p : ℕ) (image : List Entry) (before after : S) → Gives g before (Ok image) after → IsStoreOf g (opened_node p image) after
+pub given-store : {S A : Type 0} (g : Ghosts S A) (p : ℕ) (image : List Entry) (before after : S) → Gives g before (Ok image) after → IsStoreOf g (opened_node p image) after
 given-store g p image before after gives =
     record {
       contents = holds;
@@ -96,7 +97,7 @@ opens-stocked g size stores (Ok cluster) h =
     record {
       world = opened size (image_of h.images);
       shows = h.opens.1;
-      stores = λ i store got. (let one = given-at g stores h.images cluster.stores h.given i store got in given-store g (suc i) (slice_index_or h.images i []) one.0 store one.1);
+      stores = λ i store got. (let one = given-at g stores h.images cluster.stores h.given i store got in given-store g (suc i) (slice_index_or h.images i []) one.0 store one.2);
     }
 opens-stocked g size stores (Err e) h = tt
 

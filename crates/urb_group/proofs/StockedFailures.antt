@@ -1,6 +1,7 @@
 -- What a store in memory that fails as it was told makes of a stocked cluster.
 use Rattle.std.proofs.Common.{Bool, None, Option, Some, false, inl, inr, length, refl, true, ℕ, ◌+◌, ◌∙◌, ◌≡◌, ◌⊎◌, ⊎_elim, ap}
-use Rattle.urb_group.proofs.StockedClusters.{fallen, fell-stocked, quiet-stocked}
+use Rattle.urb_group.proofs.Beside.{fell-beside, quiet-beside}
+use Rattle.urb_group.proofs.StockedClusters.{beside-stocked, fallen, stock-lasts, stocked-beside}
 use Rattle.urb_group.specs.Clustered.{Clustered, held_draft}
 use Rattle.urb_group.specs.Clusters.{Breaks, BreaksArmed, FailsDraft, FailsHeld}
 use Rattle.urb_group.specs.InMemory.{in_memory}
@@ -39,12 +40,14 @@ broke {A} node new before after draft failure breaks store up records down =
 fails-draft : {A : Type 0} (old new : Clustered Memory) (p : ℕ) (draft : Placed) (failure : Failure) (reply : Reply) → held_draft old.group p ≡ Some draft → FailsDraft old draft failure reply new
     → IsStocked (in_memory A) old → IsStocked (in_memory A) new
 fails-draft {A} old new p draft failure reply there fails h =
-    fell-stocked (in_memory A) old new p draft reply fails.before fails.after there fails.moves fails.event (λ node fell store up records down. broke {A = A} node fell fails.before fails.after draft failure fails.breaks store up records down) h
+    stocked-beside (in_memory A) new
+    (fell-beside (IsStoreOf (in_memory A)) old new p draft reply fails.before fails.after there fails.moves fails.event (λ node fell store up records down. broke {A = A} node fell fails.before fails.after draft failure fails.breaks store up records down)
+    (beside-stocked (in_memory A) old h))
 
 pub fails-stocked : {A : Type 0} (old new : Clustered Memory) (p : ℕ) (failure : Failure) (reply : Reply) → FailsHeld old p (held_draft old.group p) failure reply new
     → IsStocked (in_memory A) old → IsStocked (in_memory A) new
 fails-stocked {A} old new p failure reply fails h = at (held_draft old.group p) refl fails
   where
     at : (d : Option Placed) → held_draft old.group p ≡ d → FailsHeld old p d failure reply new → IsStocked (in_memory A) new
-    at None e alone = quiet-stocked (in_memory A) old new (Fail p) reply tt alone h
+    at None e alone = stocked-beside (in_memory A) new (quiet-beside (in_memory A) (IsStoreOf (in_memory A)) (stock-lasts (in_memory A)) old new (Fail p) reply tt alone (beside-stocked (in_memory A) old h))
     at (Some draft) e held = fails-draft {A = A} old new p draft failure reply e held h

@@ -18,10 +18,9 @@ use Rattle.urb_node.specs.Steps.{doubt}
 use Rattle.urb_stable.specs.Entries.{Entry}
 use Rattle.urb_stable.specs.Storing.{IsContents}
 use Rattle.urb_stable.specs.declared.stable.Stable.{Ghosts}
-use Rattle.urb_group.proofs.StockedClusters.{applies-stocked}
 use Rattle.urb_group.specs.Asked.{IsBlank}
 use Rattle.urb_group.specs.Clustered.{Clustered}
-use Rattle.urb_group.specs.Clusters.{Starts}
+use Rattle.urb_group.specs.Clusters.{Applies, Starts}
 use Rattle.urb_group.specs.Commands.{reply_of}
 use Rattle.urb_group.specs.Plays.{Follows, Plays}
 use Rattle.urb_group.specs.Shown.{GroupView, IsSound, Shows, view_of}
@@ -35,13 +34,13 @@ use Rattle.urb_group.proofs.Stops.{survives}
 
 -- ---- a new cluster
 
-blank-at : {S A : Type 0} (g : Ghosts S A) (stores : List S) → AllByRecursion (IsBlank g) stores → (i : ℕ) (store : S) → slice_get stores i ≡ Some store → IsBlank g store
-blank-at g [] h i store e = cc
-blank-at g (s ∷ stores) h zero store e = (let f : s ≡ store = cc in subst (λ t. IsBlank g t) f h.0)
-blank-at g (s ∷ stores) h (suc i) store e = blank-at g stores h.1 i store e
+pub all-at : {S : Type 0} (P : S → Type 0) (stores : List S) → AllByRecursion P stores → (i : ℕ) (store : S) → slice_get stores i ≡ Some store → P store
+all-at P [] h i store e = absurd (cc)
+all-at P (s ∷ stores) h zero store e = (let f : s ≡ store = cc in subst P f h.0)
+all-at P (s ∷ stores) h (suc i) store e = all-at P stores h.1 i store e
 
 -- a store in which nothing was stored is that of a node that has stored nothing
-blank-store : {S A : Type 0} (g : Ghosts S A) (size : Limits) (p : ℕ) (store : S) → IsBlank g store → IsStoreOf g ((started size).node p) store
+pub blank-store : {S A : Type 0} (g : Ghosts S A) (size : Limits) (p : ℕ) (store : S) → IsBlank g store → IsStoreOf g ((started size).node p) store
 blank-store g size p store blank =
     record {
       contents = λ honest records c. subst (λ (o : Option Entry). IsContents (g.certain store) o records) blank.doubt c ∙ blank.certain honest;
@@ -54,7 +53,7 @@ new-stocked g size stores cluster blank shows same =
     record {
       world = started size;
       shows = shows;
-      stores = λ i store got. blank-store g size (suc i) store (blank-at g stores (recursion_from_All (IsBlank g) stores blank) i store (subst (λ xs. slice_get xs i ≡ Some store) same got));
+      stores = λ i store got. blank-store g size (suc i) store (all-at (IsBlank g) stores (recursion_from_All (IsBlank g) stores blank) i store (subst (λ xs. slice_get xs i ≡ Some store) same got));
     }
 
 pub starts-stocked : {S A T : Type 0} (g : Ghosts S A) (size : Limits) (stores : List S) (passed : T) (result : Result (Clustered S) (T × NoMemory)) → All (IsBlank g) stores → Starts size stores passed result → IfOk result (λ cluster. IsStocked g cluster)
@@ -63,16 +62,18 @@ starts-stocked g size stores passed (Err e) blank h = tt
 
 -- ---- commands that were played
 
-follows-stocked : {S A : Type 0} (g : Ghosts S A) (old new : Clustered S) (commands : List (Command A)) (replies : List (Reply A)) → Follows g old commands replies new → IsStocked g old → IsStocked g new
-follows-stocked g old new commands [] h stocked = subst (λ c. IsStocked g c) (sym h) stocked
-follows-stocked g old new [] (reply ∷ replies) h stocked = absurd h
-follows-stocked g old new (command ∷ commands) (reply ∷ replies) h stocked = follows-stocked g h.0 new commands replies h.3 (applies-stocked g old h.0 command (reply_of reply) h.1 stocked)
+module _ {S A : Type 0} (g : Ghosts S A) (Q : Clustered S → Type 0) (keeps : (old new : Clustered S) (command : Command A) (reply : told.Reply) → Applies g old command reply new → Q old → Q new) where
+  follows-kept : (old new : Clustered S) (commands : List (Command A)) (replies : List (Reply A)) → Follows g old commands replies new → Q old → Q new
+  follows-kept old new commands [] h was = subst Q (sym h) was
+  follows-kept old new [] (reply ∷ replies) h was = absurd h
+  follows-kept old new (command ∷ commands) (reply ∷ replies) h was = follows-kept h.0 new commands replies h.3 (keeps old h.0 command (reply_of reply) h.1 was)
 
-pub plays-stocked : {S A : Type 0} (g : Ghosts S A) (old new : Clustered S) (commands : List (Command A)) (result : Result (Vec (Reply A) A) (Vec (Reply A) A × NoMemory)) → Plays g old commands result new → IsStocked g old → IsStocked g new
-plays-stocked g old new commands (Ok replies) h stocked = follows-stocked g old new commands replies.items h.0 stocked
-plays-stocked g old new commands (Err e) h stocked =
-    let last = follows-stocked g old h.last commands e.0.items h.follows stocked in
-    ⊎_elim (λ same. subst (λ c. IsStocked g c) (sym same) last) (λ applied. applies-stocked g h.last new h.command (told.Refused refusal.NoMemory) applied last) h.refused
+  -- what each command keeps is kept
+  pub plays-kept : (old new : Clustered S) (commands : List (Command A)) (result : Result (Vec (Reply A) A) (Vec (Reply A) A × NoMemory)) → Plays g old commands result new → Q old → Q new
+  plays-kept old new commands (Ok replies) h was = follows-kept old new commands replies.items h.0 was
+  plays-kept old new commands (Err e) h was =
+      let last = follows-kept old h.last commands e.0.items h.follows was in
+      ⊎_elim (λ same. subst Q (sym same) last) (λ applied. keeps h.last new h.command (told.Refused refusal.NoMemory) applied last) h.refused
 
 -- ---- all that the stores may turn out to hold
 

@@ -127,13 +127,13 @@ leaves-more old new s records may = ⊎_elim (λ none. grown (doubt new.state) (
     grown None e = e ∙ sym s.records
     grown (Some r) e = inl (e ∙ sym s.records)
 
+pub leaves-stay : {S A : Type 0} (g : Ghosts S A) (old new : Node) (store : S) → Stays old new → LeavesOf g old store → LeavesOf g new store
+leaves-stay g old new store s l = record { certain = l.certain; doubtful = l.doubtful; only = l.only; may = λ records c. leaves-more old new s records (l.may records c) }
+
 pub store-stays : {S A : Type 0} (g : Ghosts S A) (old new : Node) (store : S) → Stays old new → IsStoreOf g old store → IsStoreOf g new store
 store-stays g old new store s h =
     record {
       contents = λ honest records c. leaves-more old new s records (h.contents honest records c);
-      left = λ honest. leaves (h.left honest);
+      left = λ honest. leaves-stay g old new store s (h.left honest);
       up = λ honest e. (let was = h.up honest (s.up e) in (was.0 ∙ sym s.records, was.1));
     }
-  where
-    leaves : LeavesOf g old store → LeavesOf g new store
-    leaves l = record { certain = l.certain; doubtful = l.doubtful; only = l.only; may = λ records c. leaves-more old new s records (l.may records c) }

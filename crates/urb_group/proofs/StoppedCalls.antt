@@ -12,7 +12,8 @@ use Rattle.urb_stable.specs.Storing.{IsContents, is_out_of_place}
 use Rattle.urb_stable.specs.declared.memory.Failure.{Failure}
 use Rattle.urb_stable.specs.declared.stable.Stable.{Ghosts}
 use Rattle.urb_group.proofs.ClusterSteps.{node-bounds}
-use Rattle.urb_group.proofs.StockedClusters.{HoldsIn, asked-left, holds-in, one-store, set-cases, store-before}
+use Rattle.urb_group.proofs.Beside.{HoldsIn, holds-in, one-store, set-cases, store-before}
+use Rattle.urb_group.proofs.StockedClusters.{asked-left, beside-stocked, left-by-draft}
 use Rattle.urb_group.proofs.StockedFailures.{breaks-leaves, Leaves}
 use Rattle.urb_group.specs.Asked.{Gives, Keeps}
 use Rattle.urb_group.specs.Clustered.{Clustered, held_draft}
@@ -47,7 +48,7 @@ moved-leaves {S} g old new p asked answered positive moves h leaves i before aft
 -- ---- a draft was to be kept
 
 -- of a node that holds it: its records, or these with the draft's
-leaves-draft : {S A : Type 0} (g : Ghosts S A) (node : Node) (after : S) (entry : Entry) → doubt node.state ≡ Some entry → g.leaves_only after (IsContents node.records (Some entry)) → LeavesOf g node after
+pub leaves-draft : {S A : Type 0} (g : Ghosts S A) (node : Node) (after : S) (entry : Entry) → doubt node.state ≡ Some entry → g.leaves_only after (IsContents node.records (Some entry)) → LeavesOf g node after
 leaves-draft g node after entry held only =
     record { certain = node.records; doubtful = Some entry; only = only; may = λ records c. subst (λ (o : Option Entry). IsContents node.records o records) (sym held) c }
 
@@ -58,15 +59,12 @@ stored-leaves g old new p draft reply there stores h = moved-leaves g old new dr
     held = holds-in old.group h.world p draft h.shows there
 
     store : IsStoreOf g (h.world.node draft.node) stores.before
-    store = store-before g old draft.node stores.before h held.positive stores.moves.was
+    store = store-before (IsStoreOf g) old draft.node stores.before (beside-stocked g old h) held.positive stores.moves.was
 
     leaves : g.is_honest stores.before → g.is_clean stores.after → LeavesOf g (h.world.node draft.node) stores.after
     leaves honest clean =
-        let up = store.up honest (ap is_down held.storing) in
         leaves-draft g (h.world.node draft.node) stores.after draft.entry (ap doubt held.storing)
-        (subst (λ (certain : List Entry). g.leaves_only stores.after (λ records. (records ≡ certain) ⊎ (records ≡ certain ++ draft.entry ∷ []))) up.0
-        (subst (λ (o : Option Entry). g.leaves_only stores.after (λ records. IsContents (g.certain stores.before) o records ⊎ (records ≡ g.certain stores.before ++ draft.entry ∷ []))) up.1
-        (stores.stored.keeps.stop honest clean)))
+        (left-by-draft g (h.world.node draft.node) stores.before stores.after draft stores.stored.answer stores.stored.keeps store (ap is_down held.storing) honest clean)
 
 held-leaves : {S A : Type 0} (g : Ghosts S A) (old new : Clustered S) (p : ℕ) (reply : Reply) (d : Option Placed) → held_draft old.group p ≡ d → StoresHeld g old p d reply new → (h : IsStocked g old) → StopLeaves g h.world old.stores new.stores
 held-leaves g old new p reply None e alone h = alone-leaves g old new alone.1 h
@@ -77,7 +75,7 @@ held-leaves g old new p reply (Some draft) e stores h = stored-leaves g old new 
 asked-leaves : {S A : Type 0} (g : Ghosts S A) (old new : Clustered S) (p : ℕ) (reply : Reply) → is_fallen old.group p ≡ true → AsksStore g old p reply new → (h : IsStocked g old) → StopLeaves g h.world old.stores new.stores
 asked-leaves g old new p reply fallen asks h =
     moved-leaves g old new p asks.before asks.after positive asks.moves h
-    (asked-left g (h.world.node p) asks.before asks.after asks.reads.gives.stop (store-before g old p asks.before h positive asks.moves.was).contents)
+    (asked-left g (h.world.node p) asks.before asks.after asks.reads.gives.stop (store-before (IsStoreOf g) old p asks.before (beside-stocked g old h) positive asks.moves.was).contents)
   where
     positive : 0 < p
     positive = (node-bounds old.group.size.n p (and_parts _ (is_down (view_of old.group p).state) fallen).0).0
@@ -123,4 +121,4 @@ fails-leaves {A} old new p failure reply fails h = at (held_draft old.group p) r
         let holds = holds-in old.group h.world p draft h.shows e in
         moved-leaves (in_memory A) old new draft.node held.before held.after holds.positive held.moves h
         (λ honest clean. broke-leaves {A = A} (h.world.node draft.node) held.before held.after draft failure held.breaks
-        (store-before (in_memory A) old draft.node held.before h holds.positive held.moves.was) (ap is_down holds.storing) (ap doubt holds.storing))
+        (store-before (IsStoreOf (in_memory A)) old draft.node held.before (beside-stocked (in_memory A) old h) holds.positive held.moves.was) (ap is_down holds.storing) (ap doubt holds.storing))

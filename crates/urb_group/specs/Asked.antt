@@ -1,5 +1,5 @@
 -- What a store was asked, what it answered, and what it holds then.
-use Rattle.std.specs.Prelude.{Err, IfErr, IfOk, IsTrue, List, None, OnErr, OnOk, Result, Some, [], false, true, ◌++◌, ◌<◌, ◌∷◌, ◌≡◌, ◌≤◌, ◌⊎◌}
+use Rattle.std.specs.Prelude.{Err, IfErr, IfOk, IsTrue, List, None, OnErr, OnOk, Option, Result, Some, [], false, true, ◌++◌, ◌<◌, ◌∷◌, ◌≡◌, ◌≤◌, ◌⊎◌}
 use Rattle.urb_stable.specs.Entries.{Entry}
 use Rattle.urb_stable.specs.Placed.{Placed}
 use Rattle.urb_stable.specs.Storing.{IsContents, IsPlaced, is_bad_row, is_out_of_place, is_place}
@@ -30,6 +30,8 @@ module _ {S A : Type 0} (g : Ghosts S A) where
     pub counts : g.failures before ≤ g.failures after
     pub honest : g.is_honest after → g.is_honest before
     pub alive : OnOk answer (g.is_honest before → g.is_clean after → g.is_honest after)
+    pub clean : g.is_clean after → g.is_clean before
+    pub shut : g.is_honest before → g.is_clean after → g.is_honest after ⊎ g.is_shut after
 
   -- The store was to give its records, and gave this answer: as a store promises.
   pub record Gives (before : S) (answer : Result (List Entry) StoreFault) (after : S) : Type 0 where
@@ -45,3 +47,7 @@ module _ {S A : Type 0} (g : Ghosts S A) where
     pub counts : g.failures before ≤ g.failures after
     pub honest : g.is_honest after → g.is_honest before
     pub alive : OnOk answer (g.is_honest before → g.is_clean after → g.is_honest after)
+    pub clean : g.is_clean after → g.is_clean before
+    pub shut : g.is_honest before → g.is_clean after → g.is_honest after ⊎ g.is_shut after
+    pub refuses : g.is_shut before → g.is_clean after → OnOk answer ⊥ × OnErr answer (g.is_shut after)
+    pub lasts : g.is_clean after → (certain : List Entry) (doubtful : Option Entry) → g.leaves_only before (IsContents certain doubtful) → g.leaves_only after (IsContents certain doubtful)

@@ -1,5 +1,5 @@
 -- Words of the worked examples: records, images and packets.
-use Rattle.std.specs.Prelude.{List, None, Option, Some, false, replicate, ℕ, ◌∷◌, [], ◌≡◌, zero, suc, map}
+use Rattle.std.specs.Prelude.{List, None, Option, Some, false, true, replicate, ℕ, ◌∷◌, [], ◌≡◌, zero, suc, map}
 use Rattle.urb_group.specs.InMemory.{in_memory}
 use Rattle.urb_group.specs.World.{World, image_of, started}
 use Rattle.urb_group.specs.Scripts.{Accepts, Drafts, Line, Told, flags_of, message, store, submit, ◌⇒◌}
@@ -46,7 +46,7 @@ world_of node = record (started (limits 1 10)) { node = λ p. node }
 
 -- what a store in memory would say of itself that a failure shuts
 abbrev pub shut_by_failures : Ghosts Memory (Unit {0})
-shut_by_failures = record (in_memory (Unit {0})) { is_honest = λ s. s.doubtful ≡ false }
+shut_by_failures = record (in_memory (Unit {0})) { is_honest = λ s. s.doubtful ≡ false; is_shut = λ s. s.doubtful ≡ true }
 
 -- a message with a payload of this many letters x
 abbrev pub filled : ℕ → ℕ → ℕ → Content

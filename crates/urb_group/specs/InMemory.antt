@@ -15,6 +15,7 @@ in_memory A = record {
   failures = λ s. s.failures;
   is_clean = λ s. Unit {0};
   is_honest = λ s. Unit {0};
+  is_shut = λ s. ⊥;
   leaves_only = λ s P. (records : List Entry) → IsContents s.certain s.doubt records → P records;
   stores = λ s pos entry. Stores s pos;
   answers = Retrieves;

@@ -1,5 +1,5 @@
 -- What the stores of a cluster may hold, beside a world that its group shows.
-use Rattle.std.specs.Prelude.{List, None, Option, Some, false, length, slice_get, suc, ℕ, ◌≡◌}
+use Rattle.std.specs.Prelude.{List, None, Option, Some, false, length, slice_get, suc, true, ℕ, ◌≡◌, ◌⊎◌}
 use Rattle.urb_stable.specs.Entries.{Entry}
 use Rattle.urb_stable.specs.Storing.{IsContents}
 use Rattle.urb_stable.specs.declared.stable.Stable.{Ghosts}
@@ -52,6 +52,29 @@ module _ {S A : Type 0} (g : Ghosts S A) where
     pub world : World
     pub shows : Shows cluster.group world
     pub stores : AreStoresOf world cluster.stores
+
+  -- A store of this node while no call is made, also after a failure shut it. Where its storage has given back what was written,
+  -- a stop leaves of it what it may leave of the node; and it is honest, or it is shut and its node down.
+  pub record IsLasting (node : Node) (store : S) : Type 0 where
+    pub left : g.is_clean store → LeavesOf node store
+    pub known : g.is_clean store → g.is_honest store ⊎ (g.is_shut store × (is_down node.state ≡ true))
+
+  -- a stocked cluster each of whose stores lasts
+  pub record IsSecured (cluster : Clustered S) : Type 0 where
+    pub stocked : IsStocked cluster
+    pub lasting : (i : ℕ) (store : S) → slice_get cluster.stores i ≡ Some store → IsLasting (stocked.world.node (suc i)) store
+
+  -- a stop leaves of each store, where its storage has given back what was written, what it may leave of the world's node
+  abbrev pub WouldLeave : World → List S → Type 0
+  WouldLeave w stores = (i : ℕ) (store : S) → slice_get stores i ≡ Some store → g.is_clean store → LeavesOf (w.node (suc i)) store
+
+  -- the store is honest, where its storage has given back what was written
+  abbrev pub IsGenuine : S → Type 0
+  IsGenuine store = g.is_clean store → g.is_honest store
+
+  -- .. it is honest, or a failure has shut it
+  abbrev pub IsKnown : S → Type 0
+  IsKnown store = g.is_clean store → g.is_honest store ⊎ g.is_shut store
 
   -- images of all nodes, each of which its honest store may turn out to hold
   pub record AreChosen (stores : List S) (images : List (List Entry)) : Type 0 where

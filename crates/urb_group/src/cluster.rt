@@ -9,7 +9,7 @@ ghost use Rattle.urb_group.specs.Clusters.{Alone, Applies, FailsHeld, RestartsBy
 ghost use Rattle.urb_group.specs.Commands.{reply_of};
 ghost use Rattle.urb_group.specs.InMemory.{in_memory};
 ghost use Rattle.urb_group.specs.Shown.{IsSound};
-ghost use Rattle.urb_group.specs.Stocked.{ContentsFit, IsStocked, StopLeaves};
+ghost use Rattle.urb_group.specs.Stocked.{ContentsFit, IsGenuine, IsSecured, IsStocked, StopLeaves, WouldLeave};
 ghost use Rattle.urb_group.specs.Step.{Arrive, Crash, Submit, Tick};
 
 use crate::drafts::{dropped, no_drafts, noted, taken_out};
@@ -50,6 +50,7 @@ impl<S: Stable> Cluster<S> {
         requires blank { All (IsBlank S.Stable) stores.items }
         ensures started { Starts config stores.items stores result }
         ensures stocked { IfOk result (λ cluster. IsStocked S.Stable cluster) }
+        ensures secured { All (IsGenuine S.Stable) stores.items → IfOk result (λ cluster. IsSecured S.Stable cluster) }
     {
         Cluster::started(alloc, config, stores)
     }
@@ -169,6 +170,10 @@ impl<S: Stable> Cluster<S> {
         ensures stocked { IsStocked S.Stable self.old → IsStocked S.Stable self.new }
         ensures stop { (stocked : IsStocked S.Stable self.old)
             → StopLeaves S.Stable stocked.world self.old.stores self.new.stores }
+        // The same also while failures have shut some stores, before the call or inside it.
+        ensures secured { IsSecured S.Stable self.old → IsSecured S.Stable self.new }
+        ensures leaves { (secured : IsSecured S.Stable self.old)
+            → WouldLeave S.Stable secured.stocked.world self.new.stores }
     {
         self.applied(alloc, command)
     }

@@ -4,7 +4,7 @@ ghost use Rattle.std.specs.Prelude.{◌≡◌};
 ghost use Rattle.urb_group.specs.Commands.{is_no_memory};
 ghost use Rattle.urb_group.specs.Plays.{IsPromised, Plays, Runs, told_in};
 ghost use Rattle.urb_group.specs.Shown.{Shows};
-ghost use Rattle.urb_group.specs.Stocked.{IsStocked};
+ghost use Rattle.urb_group.specs.Stocked.{IsSecured, IsStocked};
 ghost use Rattle.urb_group.specs.World.{World};
 
 use crate::{Cluster, Command, Reply};
@@ -54,6 +54,7 @@ pub fn play<S: Stable>(
 ) -> Result<Vec<Reply<S::Alloc>, S::Alloc>, (Vec<Reply<S::Alloc>, S::Alloc>, NoMemory)>
     ensures played { Plays S.Stable cluster.old commands.now result cluster.new }
     ensures stocked { IsStocked S.Stable cluster.old → IsStocked S.Stable cluster.new }
+    ensures secured { IsSecured S.Stable cluster.old → IsSecured S.Stable cluster.new }
     ensures runs { (w : World) → Shows cluster.old.group w → Runs w commands.now (told_in result) cluster.new.group }
     ensures headline { (w : World) → Shows cluster.new.group w → IsPromised w }
 {

@@ -1,9 +1,10 @@
 //! A cluster over stores that hold records: after a stop of the whole process.
 
 ghost use Rattle.std.specs.Prelude.{◌≡◌, IfOk, length};
+ghost use Rattle.std.specs.List.{All};
 ghost use Rattle.urb_group.specs.Reopening.{Continues, HasStopped, OpensFrom, OpensStores, RetrievesAll, stores_in};
 ghost use Rattle.urb_group.specs.Shown.{GroupView};
-ghost use Rattle.urb_group.specs.Stocked.{AllHold, IsStocked, RestLeaves, StopLeaves};
+ghost use Rattle.urb_group.specs.Stocked.{AllHold, IsKnown, IsSecured, IsStocked, RestLeaves, StopLeaves};
 ghost use Rattle.urb_group.specs.World.{World};
 
 use crate::drafts::no_drafts;
@@ -62,6 +63,8 @@ impl<S: Stable> Cluster<S> {
         ensures stop { (w : World) → AllHold S.Stable w stores.items → RestLeaves S.Stable w stores.items
             → StopLeaves S.Stable w stores.items (stores_in result) }
         ensures stocked { IfOk result (λ cluster. IsStocked S.Stable cluster) }
+        // A failure may have shut some stores; where they opened, none had.
+        ensures secured { All (IsKnown S.Stable) stores.items → IfOk result (λ cluster. IsSecured S.Stable cluster) }
     {
         Cluster::opened(alloc, config, stores)
     }
@@ -101,6 +104,7 @@ impl<S: Stable> Cluster<S> {
         ensures stop { (stocked : IsStocked S.Stable self)
             → StopLeaves S.Stable stocked.world self.stores (stores_in result) }
         ensures stocked { IfOk result (λ cluster. IsStocked S.Stable cluster) }
+        ensures secured { IsSecured S.Stable self → IfOk result (λ cluster. IsSecured S.Stable cluster) }
     {
         let Cluster { group, stores, .. } = self;
         group.promise();

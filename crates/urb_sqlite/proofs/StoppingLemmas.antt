@@ -1,23 +1,17 @@
 -- Journals that were opened again after a stop, one after the other.
 use Rattle.std.proofs.Common.{List, Option, Some, [], ap, arith, length, refl, slice_get, subst, suc, sym, zero, ℕ, ◌++◌, ◌∷◌, ◌≡◌}
-use Rattle.std.proofs.lemmas.Bool.{and_from}
 use Rattle.std.specs.List.{AllByRecursion}
-use Rattle.sqlite_disk.specs.declared.Disk as disk
-use Rattle.sqlite_store.specs.declared.store.FileStore.{FileStore}
-use Rattle.sqlite_trees.proofs.Doubt.{no_doubt}
-use Rattle.sqlite.specs.Files.{file_state}
-use Rattle.sqlite.specs.Held.{Held}
 use Rattle.sqlite.specs.State.{State, HasCleanDisk}
 use Rattle.urb_stable.specs.declared.stable.Stable.{Ghosts}
 use Rattle.urb_group.specs.Reopening.{AllGive}
 use Rattle.urb_stable.specs.Entries.{Entry}
 use Rattle.urb_stable.specs.Storing.{IsContents}
+use Rattle.urb_group.specs.Stocked.{IsGenuine}
 use Rattle.urb_group.specs.Stopping.{MayLeave}
 use Rattle.urb_node.specs.Part.{Node}
 use Rattle.urb_sqlite.specs.OpenJournal.{IsHonestJournal, LeavesOnly}
 use Rattle.urb_sqlite.specs.Reading.{records_of}
-use Rattle.urb_sqlite.specs.Stops.{AreFaithful, AreReopened, IsReopened}
-use Rattle.urb_sqlite.proofs.StopLemmas.{store_clean}
+use Rattle.urb_sqlite.specs.Stops.{AreReopened, IsReopened}
 
 pub one_more_reopened : {S : Type 0} (before after : List S) (old new : S) (at : S → State) → AreReopened before after at → IsReopened (at old) (at new) → AreReopened (before ++ old ∷ []) (after ++ new ∷ []) at
 one_more_reopened [] [] old new at are is = (is, tt)
@@ -52,30 +46,27 @@ all_hold (x ∷ before) (y ∷ after) at nodes are leaves zero store got =
     (let same : y ≡ store = cc in subst (λ s. IsHonestJournal (at s) → (records : List Entry) → records ≡ records_of (at s).now → MayLeave (nodes zero) records) same (holds_again (nodes zero) (at x) (at y) are.0 (leaves zero x refl)))
 all_hold (x ∷ before) (y ∷ after) at nodes are leaves (suc i) store got = all_hold before after at (λ k. nodes (suc k)) are.1 (λ k s h. leaves (suc k) s h) i store got
 
--- the journals that were opened again are honest, as far as their disks are clean
-pub all_honest : {S : Type 0} (before after : List S) (at : S → State) (nodes : ℕ → Node) → AreReopened before after at
+-- the journals that were opened again are honest, each as far as its disk is clean
+pub all_genuine : {S : Type 0} (before after : List S) (at : S → State) (nodes : ℕ → Node) → AreReopened before after at
     → ((i : ℕ) (store : S) → slice_get before i ≡ Some store → HasCleanDisk (at store) → LeavesAt (nodes i) (at store))
-    → ((store : S) → HasCleanDisk (at store)) → AllByRecursion (λ store. IsHonestJournal (at store)) after
-all_honest [] [] at nodes are leaves clean = tt
-all_honest [] (y ∷ after) at nodes are leaves clean = absurd are
-all_honest (x ∷ before) [] at nodes are leaves clean = absurd are
-all_honest (x ∷ before) (y ∷ after) at nodes are leaves clean =
-    let of = leaves zero x refl (clean x) in
-    ((are.0.left (clean y) of.0 of.1 of.2).0, all_honest before after at (λ k. nodes (suc k)) are.1 (λ k s h. leaves (suc k) s h) clean)
+    → AllByRecursion (λ store. HasCleanDisk (at store) → IsHonestJournal (at store)) after
+all_genuine [] [] at nodes are leaves = tt
+all_genuine [] (y ∷ after) at nodes are leaves = absurd are
+all_genuine (x ∷ before) [] at nodes are leaves = absurd are
+all_genuine (x ∷ before) (y ∷ after) at nodes are leaves = (
+  λ clean. (let of = leaves zero x refl (are.0.clean clean) in (are.0.left clean of.0 of.1 of.2).0),
+  all_genuine before after at (λ k. nodes (suc k)) are.1 (λ k s h. leaves (suc k) s h),
+)
 
--- stores that gave their records are honest still, where their storage is clean
-pub honest-still : {S A : Type 0} (g : Ghosts S A) (before : List S) (images : List (List Entry)) (after : List S) → AllGive g before images after
-    → AllByRecursion g.is_honest before → AllByRecursion g.is_clean after → AllByRecursion g.is_honest after
-honest-still g [] [] [] gave were clean = tt
-honest-still g (x ∷ before) (image ∷ images) (y ∷ after) gave were clean = (gave.0.alive were.0 clean.0, honest-still g before images after gave.1 were.1 clean.1)
-honest-still g [] [] (y ∷ after) gave were clean = absurd gave
-honest-still g [] (image ∷ images) after gave were clean = absurd gave
-honest-still g (x ∷ before) [] after gave were clean = absurd gave
-honest-still g (x ∷ before) (image ∷ images) [] gave were clean = absurd gave
-
--- over disks that give back what was written, each connection has a clean disk
-pub faithful_clean : {D : Type 0} (g : disk.Ghosts D) → AreFaithful g → (conn : Held (FileStore D g)) → HasCleanDisk (file_state conn)
-faithful_clean g faithful conn = no_doubt _ (store_clean conn.store.pool (and_from _ _ (faithful _) (faithful _)))
+-- stores that gave their records are honest, where their storage is clean
+pub honest-again : {S A : Type 0} (g : Ghosts S A) (before : List S) (images : List (List Entry)) (after : List S) → AllGive g before images after
+    → AllByRecursion (IsGenuine g) before → AllByRecursion g.is_clean after → AllByRecursion g.is_honest after
+honest-again g [] [] [] gave were clean = tt
+honest-again g (x ∷ before) (image ∷ images) (y ∷ after) gave were clean = (gave.0.alive (were.0 (gave.0.clean clean.0)) clean.0, honest-again g before images after gave.1 were.1 clean.1)
+honest-again g [] [] (y ∷ after) gave were clean = absurd gave
+honest-again g [] (image ∷ images) after gave were clean = absurd gave
+honest-again g (x ∷ before) [] after gave were clean = absurd gave
+honest-again g (x ∷ before) (image ∷ images) [] gave were clean = absurd gave
 
 -- ---- lists that a loop has come through
 

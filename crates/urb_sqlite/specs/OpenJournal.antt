@@ -62,6 +62,10 @@ pub record IsJournal (db : Trees) : Type 0 where
 abbrev pub database_of : {db : Trees} → IsJournal db → Database
 database_of {db} journal = record { schema = journal.schema; trees = db }
 
+-- a fault has shut the database
+abbrev pub IsShutJournal : State → Type 0
+IsShutJournal s = IsTrue s.is_open → ⊥
+
 -- Whatever a stop leaves is a journal of records of which P holds.
 abbrev pub LeavesOnly : State → (List Entry → Type 0) → Type 0
 LeavesOnly s P = (db : Trees) → s.may_leave db → (journal : IsJournal db) × (records : List Entry) × StandsFor (database_of journal) records × P records
@@ -110,6 +114,7 @@ pub record IsAppended (old new : State) (place : ℕ) (r : Entry) : Type 0 where
 pub record IsLeft (old new : State) (place : ℕ) : Type 0 where
   pub kept : IsInStep new place
   pub honest : IsHonestJournal new → IsHonestJournal old
+  pub alive : IsHonestJournal old → HasCleanDisk new → IsTrue new.is_open → IsHonestJournal new
   pub records : IsHonestJournal new → records_of new.now ≡ records_of old.now
 
 -- At rest a stop leaves the records that the journal shows.

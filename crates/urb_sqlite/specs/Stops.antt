@@ -30,19 +30,7 @@ AreReopened [] [] at = Unit {0}
 AreReopened (old ∷ before) (new ∷ after) at = IsReopened (at old) (at new) × AreReopened before after at
 AreReopened before after at = ⊥
 
--- every disk of this kind gives back what was written
-abbrev pub AreFaithful : {D : Type 0} → disk.Ghosts D → Type 0
-AreFaithful {D} g = (d : D) → IsTrue (g.is_clean d)
-
 module _ {S A : Type 0} (g : Ghosts S A) where
-  -- The disks have given back what was written: those of this kind always do, or these stores over them are still honest.
-  abbrev pub HaveGivenBack : {D : Type 0} → disk.Ghosts D → List S → Type 0
-  HaveGivenBack disks stores = AreFaithful disks ⊎ All g.is_honest stores
-
   -- the group was opened over some stores, and continues from this world
   abbrev pub IsContinuation : World → GroupView → Type 0
   IsContinuation w group = (passed : List S) × ContinuesFrom g w passed group
-
-  -- what a stop leaves of each store whose storage is clean, it may leave of the world's node
-  abbrev pub WouldLeave : World → List S → Type 0
-  WouldLeave w stores = (i : ℕ) (store : S) → slice_get stores i ≡ Some store → g.is_clean store → LeavesOf g (w.node (suc i)) store

@@ -60,6 +60,7 @@ pub fn append<S: Alter>(
     ensures stop { IsInStep (state S.Store conn.old) place → IsHonestJournal (state S.Store conn.old) → HasCleanDisk (state S.Store conn.new)
         → LeavesOnly (state S.Store conn.new) (λ records. (records ≡ records_of (state S.Store conn.old).now) ⊎ (records ≡ records_of (state S.Store conn.old).now ++ entry.now ∷ [])) }
     ensures rest { IsInStep (state S.Store conn.old) place → IsSafeAtRest (state S.Store conn.new) }
+    ensures clean { HasCleanDisk (state S.Store conn.new) → HasCleanDisk (state S.Store conn.old) }
     ensures known { IfErr result (λ e. (e ≡ StoreFault.NoMemory) ⊎ (e ≡ StoreFault.Device)) }
     ensures device { result ≡ Err StoreFault.Device → failures.old < failures.new }
     ensures counts { failures.old ≤ failures.new }

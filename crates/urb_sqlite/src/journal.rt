@@ -119,7 +119,7 @@ impl<S: Alter> Stable for SqlStable<S> {
     ghost use Rattle.sqlite.specs.Held.{state};
     ghost use Rattle.sqlite.specs.State.{HasCleanDisk};
     ghost use Rattle.urb_sqlite.specs.Reading.{records_of};
-    ghost use Rattle.urb_sqlite.specs.OpenJournal.{IsHonestJournal, LeavesOnly};
+    ghost use Rattle.urb_sqlite.specs.OpenJournal.{IsHonestJournal, IsShutJournal, LeavesOnly};
 
     type Alloc = Global;
 
@@ -136,6 +136,8 @@ impl<S: Alter> Stable for SqlStable<S> {
     ghost is_clean = { λ s. HasCleanDisk (state S.Store s.conn) };
 
     ghost is_honest = { λ s. IsHonestJournal (state S.Store s.conn) };
+
+    ghost is_shut = { λ s. IsShutJournal (state S.Store s.conn) };
 
     ghost leaves_only = { λ s P. LeavesOnly (state S.Store s.conn) P };
 

@@ -5,9 +5,9 @@ ghost use Rattle.std.specs.Prelude.{◌≡◌, List, length, IfOk};
 ghost use Rattle.sqlite.specs.Files.{file_state};
 ghost use Rattle.urb_group.specs.Reopening.{ContinuesFrom, HasStopped};
 ghost use Rattle.urb_group.specs.Shown.{GroupView, IsSound, Shows};
-ghost use Rattle.urb_group.specs.Stocked.{IsStocked};
+ghost use Rattle.urb_group.specs.Stocked.{IsGenuine, IsKnown, IsSecured, WouldLeave};
 ghost use Rattle.urb_group.specs.World.{World};
-ghost use Rattle.urb_sqlite.specs.Stops.{AreReopened, IsContinuation, HaveGivenBack, WouldLeave};
+ghost use Rattle.urb_sqlite.specs.Stops.{AreReopened, IsContinuation};
 
 use crate::SqlStable;
 use sqlite::{FileStore, Options};
@@ -42,8 +42,9 @@ pub(crate) fn over<S: Stable<Alloc = Global> + Drop>(
     ensures goes_on { IfOk result (λ new. (old : GroupView) (w : World) → HasStopped S.Stable old w config stores.items
         → All S.Stable.is_honest new.stores → ContinuesFrom S.Stable w stores.items new.group) }
     ensures sized { IfOk result (λ new. new.group.size ≡ config) }
-    ensures alive { IfOk result (λ new. All S.Stable.is_honest stores.items → All S.Stable.is_clean new.stores
+    ensures alive { IfOk result (λ new. All (IsGenuine S.Stable) stores.items → All S.Stable.is_clean new.stores
         → All S.Stable.is_honest new.stores) }
+    ensures secured { IfOk result (λ new. All (IsKnown S.Stable) stores.items → IsSecured S.Stable new) }
 {
     match Cluster::open(alloc, config, stores) {
         Ok(cluster) => Ok(cluster),
@@ -69,8 +70,10 @@ pub fn stop_and_open_all<D: Crash + Drop>(
     // Where a stop leaves of each journal what it may leave of the nodes of a world that a group showed, the new cluster goes
     // on from that world, as far as the disks have given back what was written.
     ensures goes_on { IfOk result (λ new. (old : GroupView) (w : World) → IsSound old → length old.nodes ≡ config.n → old.size ≡ config → Shows old w
-        → WouldLeave ⟦<SqlStable<FileStore<D>> as Stable>⟧ w journals.items → HaveGivenBack ⟦<SqlStable<FileStore<D>> as Stable>⟧ D.Disk new.stores
+        → WouldLeave ⟦<SqlStable<FileStore<D>> as Stable>⟧ w journals.items → All ⟦<SqlStable<FileStore<D>> as Stable>⟧.is_clean new.stores
         → IsContinuation ⟦<SqlStable<FileStore<D>> as Stable>⟧ w new.group) }
+    ensures secured { IfOk result (λ new. (w : World) → WouldLeave ⟦<SqlStable<FileStore<D>> as Stable>⟧ w journals.items
+        → IsSecured ⟦<SqlStable<FileStore<D>> as Stable>⟧ new) }
 {
     match opened_again(alloc, journals, options) {
         Ok(again) => over(alloc, config, again),
@@ -78,25 +81,25 @@ pub fn stop_and_open_all<D: Crash + Drop>(
     }
 }
 
-/// That a stop leaves of the honest stores of a cluster at rest what it may leave of its nodes: for proofs alone.
+/// That a stop leaves of the stores of a secured cluster at rest what it may leave of its nodes: for proofs alone.
 fn rests<S: Stable<Alloc = Global>>(cluster: &Cluster<S>)
     ensures counted { length cluster.now.group.nodes ≡ cluster.now.group.size.n }
     ensures sound { IsSound cluster.now.group }
-    ensures leaves { (stores : List S) → stores ≡ cluster.now.stores → (stocked : IsStocked S.Stable cluster.now)
-        → All S.Stable.is_honest cluster.now.stores → WouldLeave S.Stable stocked.world stores }
+    ensures leaves { (stores : List S) → stores ≡ cluster.now.stores → (secured : IsSecured S.Stable cluster.now)
+        → WouldLeave S.Stable secured.stocked.world stores }
 {
     cluster.group().promise();
 }
 
-/// Does what a command says: a stop behind it leaves of stores that were honest what a stop inside it leaves.
+/// Does what a command says: a stop behind it leaves of the stores what a stop inside it leaves.
 pub(crate) fn applied<S: Stable<Alloc = Global>>(
     alloc: Global,
     cluster: &mut Cluster<S>,
     command: &Command,
 )
     ensures sized { cluster.new.group.size ≡ cluster.old.group.size }
-    ensures leaves { (stores : List S) → stores ≡ cluster.new.stores → (stocked : IsStocked S.Stable cluster.old)
-        → All S.Stable.is_honest cluster.old.stores → WouldLeave S.Stable stocked.world stores }
+    ensures leaves { (stores : List S) → stores ≡ cluster.new.stores → (secured : IsSecured S.Stable cluster.old)
+        → WouldLeave S.Stable secured.stocked.world stores }
 {
     rests(cluster);
     let _reply = cluster.apply(alloc, command);
@@ -112,10 +115,13 @@ pub fn stop_and_reopen<D: Crash + Drop>(
 ) -> Result<Cluster<SqlStable<FileStore<D>>>, Refusal>
     requires same { cluster.group.size ≡ config }
     ensures sized { IfOk result (λ new. new.group.size ≡ config) }
-    // The new cluster goes on from the world that the old one showed, where no fault had shut one of its journals.
-    ensures goes_on { IfOk result (λ new. (stocked : IsStocked ⟦<SqlStable<FileStore<D>> as Stable>⟧ cluster)
-        → All ⟦<SqlStable<FileStore<D>> as Stable>⟧.is_honest cluster.stores → HaveGivenBack ⟦<SqlStable<FileStore<D>> as Stable>⟧ D.Disk new.stores
-        → IsContinuation ⟦<SqlStable<FileStore<D>> as Stable>⟧ stocked.world new.group) }
+    // The new cluster goes on from the world that the old one showed, also where faults had shut some of its journals, as far as
+    // the disks have given back what was written; and it may be stopped in turn.
+    ensures goes_on { IfOk result (λ new. (secured : IsSecured ⟦<SqlStable<FileStore<D>> as Stable>⟧ cluster)
+        → All ⟦<SqlStable<FileStore<D>> as Stable>⟧.is_clean new.stores
+        → IsContinuation ⟦<SqlStable<FileStore<D>> as Stable>⟧ secured.stocked.world new.group) }
+    ensures secured { IfOk result (λ new. IsSecured ⟦<SqlStable<FileStore<D>> as Stable>⟧ cluster
+        → IsSecured ⟦<SqlStable<FileStore<D>> as Stable>⟧ new) }
 {
     rests(&cluster);
     stop_and_open_all(alloc, config, cluster.into_stores(), options)
@@ -133,11 +139,13 @@ pub fn apply_and_stop<D: Crash + Drop>(
 ) -> Result<Cluster<SqlStable<FileStore<D>>>, Refusal>
     requires same { cluster.group.size ≡ config }
     ensures sized { IfOk result (λ new. new.group.size ≡ config) }
-    // The new cluster goes on from the world that the old one showed before the command, where no fault had shut one of its
-    // journals by then.
-    ensures goes_on { IfOk result (λ new. (stocked : IsStocked ⟦<SqlStable<FileStore<D>> as Stable>⟧ cluster)
-        → All ⟦<SqlStable<FileStore<D>> as Stable>⟧.is_honest cluster.stores → HaveGivenBack ⟦<SqlStable<FileStore<D>> as Stable>⟧ D.Disk new.stores
-        → IsContinuation ⟦<SqlStable<FileStore<D>> as Stable>⟧ stocked.world new.group) }
+    // The new cluster goes on from the world that the old one showed before the command, also where faults had shut some of
+    // its journals by then, as far as the disks have given back what was written; and it may be stopped in turn.
+    ensures goes_on { IfOk result (λ new. (secured : IsSecured ⟦<SqlStable<FileStore<D>> as Stable>⟧ cluster)
+        → All ⟦<SqlStable<FileStore<D>> as Stable>⟧.is_clean new.stores
+        → IsContinuation ⟦<SqlStable<FileStore<D>> as Stable>⟧ secured.stocked.world new.group) }
+    ensures secured { IfOk result (λ new. IsSecured ⟦<SqlStable<FileStore<D>> as Stable>⟧ cluster
+        → IsSecured ⟦<SqlStable<FileStore<D>> as Stable>⟧ new) }
 {
     rests(&cluster);
     let mut cluster = cluster;

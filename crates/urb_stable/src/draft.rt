@@ -90,6 +90,10 @@ impl<A: Allocator> Draft<A> {
         ensures counts { S.failures store.old ≤ S.failures store.new }
         ensures honest { S.is_honest store.new → S.is_honest store.old }
         ensures alive { OnOk (answer_of result) (S.is_honest store.old → S.is_clean store.new → S.is_honest store.new) }
+
+        // What was not given back as it was written is never forgotten, and an honest storage stays so, or is shut.
+        ensures clean { S.is_clean store.new → S.is_clean store.old }
+        ensures shut { S.is_honest store.old → S.is_clean store.new → S.is_honest store.new ⊎ S.is_shut store.new }
     {
         let Draft { node, pos, entry } = self;
         match store.store(pos, &entry) {

@@ -113,6 +113,8 @@ impl<A: Allocator + Copy> Stable for MemStable<A> {
 
     ghost is_honest = { λ s. Unit {0} };
 
+    ghost is_shut = { λ s. ⊥ };
+
     ghost leaves_only = { λ s P. (records : List Entry) → IsContents s.certain s.doubt records → P records };
 
     ghost stores = { λ s pos _. Stores s pos };

@@ -101,6 +101,9 @@ pub trait Stable {
     /// The same, and no failure has shut it.
     ghost is_honest: { Self → Type 0 };
 
+    /// A failure has shut it: it gives no records any more.
+    ghost is_shut: { Self → Type 0 };
+
     /// Whatever a stop at this moment leaves is records of which this holds.
     ghost leaves_only: { Self → (List Entry → Type 0) → Type 0 };
 
@@ -144,7 +147,11 @@ pub trait Stable {
         ensures device { result ≡ Err StoreFault.Device → failures self.old < failures self.new }
         ensures counts { failures self.old ≤ failures self.new }
         ensures honest { is_honest self.new → is_honest self.old }
-        ensures alive { OnOk result (is_honest self.old → is_clean self.new → is_honest self.new) };
+        ensures alive { OnOk result (is_honest self.old → is_clean self.new → is_honest self.new) }
+
+        // What was not given back as it was written is never forgotten, and an honest storage stays so, or is shut.
+        ensures clean { is_clean self.new → is_clean self.old }
+        ensures shut { is_honest self.old → is_clean self.new → is_honest self.new ⊎ is_shut self.new };
 
     /// All records; what it gives is certain from then on. One that fails changes nothing but the count of failures.
     fn retrieve(
@@ -171,5 +178,13 @@ pub trait Stable {
         ensures device { result ≡ Err StoreFault.Device → failures self.old < failures self.new }
         ensures counts { failures self.old ≤ failures self.new }
         ensures honest { is_honest self.new → is_honest self.old }
-        ensures alive { OnOk result (is_honest self.old → is_clean self.new → is_honest self.new) };
+        ensures alive { OnOk result (is_honest self.old → is_clean self.new → is_honest self.new) }
+
+        // What was not given back as it was written is never forgotten, and an honest storage stays so, or is shut.
+        ensures clean { is_clean self.new → is_clean self.old }
+        ensures shut { is_honest self.old → is_clean self.new → is_honest self.new ⊎ is_shut self.new }
+
+        // One that is shut gives nothing, and stays so; and of any storage a stop leaves no more than before the call.
+        ensures refuses { is_shut self.old → is_clean self.new → OnOk result ⊥ × OnErr result (is_shut self.new) }
+        ensures lasts { is_clean self.new → (certain : List Entry) (doubtful : Option Entry) → leaves_only self.old (IsContents certain doubtful) → leaves_only self.new (IsContents certain doubtful) };
 }

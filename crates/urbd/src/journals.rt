@@ -55,6 +55,8 @@ impl<D: Disk> Stable for Journal<D> {
 
     ghost is_honest = { λ j. ⟦<SqlStable<FileStore<D>> as Stable>⟧.is_honest j.journal };
 
+    ghost is_shut = { λ j. ⟦<SqlStable<FileStore<D>> as Stable>⟧.is_shut j.journal };
+
     ghost leaves_only = { λ j. ⟦<SqlStable<FileStore<D>> as Stable>⟧.leaves_only j.journal };
 
     ghost stores = { λ j. ⟦<SqlStable<FileStore<D>> as Stable>⟧.stores j.journal };

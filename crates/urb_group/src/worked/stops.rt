@@ -4,7 +4,7 @@ ghost use Rattle.urb_stable.specs.Memory.{after_failure, empty_memory, with_reco
 ghost use Rattle.urb_stable.specs.declared.record.Record.TheVariants.{Pend, PendCert};
 ghost use Rattle.urb_node.specs.Part.{Ready, Storing, Down, packet_from};
 ghost use Rattle.urb_group.specs.InMemory.{in_memory};
-ghost use Rattle.urb_group.specs.Stocked.{HoldsOf, IsStoreOf, LeavesOf, StopLeaves};
+ghost use Rattle.urb_group.specs.Stocked.{HoldsOf, IsLasting, IsStoreOf, LeavesOf, StopLeaves};
 ghost use Rattle.urb_group.specs.Stopping.{MayLeave};
 ghost use Rattle.urb_group.specs.Examples.{pending, certified, node_in, shut_by_failures, world_of};
 
@@ -30,13 +30,15 @@ pub fn never_left()
     ensures more_where_none_is_in_doubt { MayLeave (node_in (Down None) (pending 1 1 ∷ [])) (pending 1 1 ∷ pending 1 2 ∷ []) → ⊥ }
 {}
 
-/// What stores leave: of one that a failure shut in a call, and of one at rest, what its node may leave; and no store leaves
-/// what is none of its node's.
+/// What stores leave: of one that a failure shut in a call or before, and of one at rest, what its node may leave; and no store
+/// leaves what is none of its node's. One that is shut is no store of a node that is up.
 pub fn stores()
     ensures shut_inside_a_call { StopLeaves shut_by_failures (world_of (node_in (Storing (pending 1 1) None) [])) (empty_memory ∷ []) (after_failure (Some (pending 1 1)) empty_memory ∷ [])
         → LeavesOf shut_by_failures (node_in (Storing (pending 1 1) None) []) (after_failure (Some (pending 1 1)) empty_memory) }
     ensures at_rest { IsStoreOf shut_by_failures (node_in Ready (pending 1 1 ∷ [])) (with_record (pending 1 1) empty_memory)
         → LeavesOf shut_by_failures (node_in Ready (pending 1 1 ∷ [])) (with_record (pending 1 1) empty_memory) }
+    ensures shut_and_its_node_down { IsLasting shut_by_failures (node_in (Down (Some (pending 1 1))) []) (after_failure (Some (pending 1 1)) empty_memory) }
+    ensures shut_while_its_node_is_up { IsLasting shut_by_failures (node_in Ready []) (after_failure None empty_memory) → ⊥ }
     ensures a_record_that_the_node_lacks { LeavesOf shut_by_failures (node_in Ready []) (with_record (pending 1 1) empty_memory) → ⊥ }
     ensures no_record_where_the_node_has_one { LeavesOf shut_by_failures (node_in Ready (pending 1 1 ∷ [])) empty_memory → ⊥ }
 {}

@@ -35,6 +35,8 @@ impl Stable for Refusing {
 
     ghost is_honest = { λ s. ⟦<MemStable as Stable>⟧.is_honest s.store };
 
+    ghost is_shut = { λ s. ⟦<MemStable as Stable>⟧.is_shut s.store };
+
     ghost leaves_only = { λ s. ⟦<MemStable as Stable>⟧.leaves_only s.store };
 
     ghost stores = { λ s. ⟦<MemStable as Stable>⟧.stores s.store };

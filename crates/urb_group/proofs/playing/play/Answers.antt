@@ -1,5 +1,8 @@
 use Rattle.urb_group.proofs.PlayedRuns.{plays-runs, plays-sound, sound-holds}
-use Rattle.urb_group.proofs.StockedPlays.{plays-stocked}
+use Rattle.urb_group.proofs.SecuredClusters.{applies-secured}
+use Rattle.urb_group.proofs.StockedClusters.{applies-stocked}
+use Rattle.urb_group.proofs.StockedPlays.{plays-kept}
+use Rattle.urb_group.specs.Stocked.{IsSecured, IsStocked}
 use Rattle.urb_group.proofs.playing.play.Goals as goal
 
 pub returns-clause-runs : goal.returns-clause-runs
@@ -9,4 +12,7 @@ pub returns-clause-headline : goal.returns-clause-headline
 returns-clause-headline g c = λ w s. sound-holds _ w (plays-sound g.S.Stable _ _ _ _ c.played.ensures c.group-sound.ensures.sound) s
 
 pub returns-clause-stocked : goal.returns-clause-stocked
-returns-clause-stocked g c = plays-stocked g.S.Stable _ _ _ _ c.played.ensures
+returns-clause-stocked g c = plays-kept g.S.Stable (IsStocked g.S.Stable) (applies-stocked g.S.Stable) _ _ _ _ c.played.ensures
+
+pub returns-clause-secured : goal.returns-clause-secured
+returns-clause-secured g c = plays-kept g.S.Stable (IsSecured g.S.Stable) (applies-secured g.S.Stable) _ _ _ _ c.played.ensures

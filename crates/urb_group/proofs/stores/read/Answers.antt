@@ -19,6 +19,10 @@ returns-in-Ok-clause-reads g c =
             counts = c.in-Ok.ensures.counts;
             honest = c.in-Ok.ensures.honest;
             alive = c.in-Ok.ensures.alive;
+            clean = c.in-Ok.ensures.clean;
+            shut = c.in-Ok.ensures.shut;
+            refuses = c.in-Ok.ensures.refuses;
+            lasts = c.in-Ok.ensures.lasts;
           };
       returns = c.restarted.ensures.event;
     }
@@ -41,6 +45,10 @@ returns-in-Err-clause-reads g c =
             counts = c.in-Err.ensures.counts;
             honest = c.in-Err.ensures.honest;
             alive = c.in-Err.ensures.alive;
+            clean = c.in-Err.ensures.clean;
+            shut = c.in-Err.ensures.shut;
+            refuses = c.in-Err.ensures.refuses;
+            lasts = c.in-Err.ensures.lasts;
           };
       returns = (rw c.refusal.ensures refl, refl);
     }

@@ -1,5 +1,6 @@
-use Rattle.urb_sqlite.proofs.AppliedLemmas.{rest-leaves}
+use Rattle.std.proofs.Common.{Some, subst, ◌≡◌}
+use Rattle.std.specs.Prelude.{slice_get}
 use Rattle.urb_sqlite.proofs.stopping.rests.Goals as goal
 
 pub returns-clause-leaves : goal.returns-clause-leaves
-returns-clause-leaves g c = rest-leaves g.S.Stable c.args.cluster.now
+returns-clause-leaves g c stores same secured i store got = (secured.lasting i store (subst (λ xs. slice_get xs i ≡ Some store) same got)).left

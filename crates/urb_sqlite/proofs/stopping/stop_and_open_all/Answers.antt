@@ -1,9 +1,9 @@
-use Rattle.std.proofs.Common.{get_or, inl, inr, suc, ◌∙◌}
+use Rattle.std.proofs.Common.{inl, suc, ◌∙◌}
 use Rattle.std.proofs.lemmas.List.Elements.{All-from_recursion}
 use Rattle.std.proofs.lemmas.Result.{IfOk-weaker}
 use Rattle.sqlite.specs.Files.{file_state}
 use Rattle.urb_sqlite.proofs.StopLemmas.{both_ok}
-use Rattle.urb_sqlite.proofs.StoppingLemmas.{all_hold, all_honest, faithful_clean, same_count}
+use Rattle.urb_sqlite.proofs.StoppingLemmas.{all_genuine, all_hold, same_count}
 use Rattle.urb_sqlite.proofs.stopping.stop_and_open_all.Goals as goal
 
 pub over-requires : goal.over-requires
@@ -13,7 +13,7 @@ over-requires g c = record {
 
 pub returns-in-Ok-clause-goes_on : goal.returns-in-Ok-clause-goes_on
 returns-in-Ok-clause-goes_on g c =
-    IfOk-weaker c.over.result _ _ (λ new it old w sound counted size shows would back. (
+    IfOk-weaker c.over.result _ _ (λ new it old w sound counted size shows would clean. (
       c.in-Ok.again.items,
       it.0 old w (record {
         sound = sound;
@@ -23,14 +23,14 @@ returns-in-Ok-clause-goes_on g c =
         holds = all_hold c.args.journals.items c.in-Ok.again.items (λ j. file_state j.conn) (λ i. w.node (suc i)) c.in-Ok.ensures
             (λ i store got clean. let of = would i store got clean in (of.certain, of.doubtful, of.only, of.may));
       })
-          (elim back [
-            | inl faithful ↦
-                it.1
-                (All-from_recursion _ _ (all_honest c.args.journals.items c.in-Ok.again.items (λ j. file_state j.conn) (λ i. w.node (suc i)) c.in-Ok.ensures
-                (λ i store got clean. let of = would i store got clean in (of.certain, of.doubtful, of.only, of.may))
-                (λ store. faithful_clean g.D.Disk faithful store.conn)))
-                (λ k d low. faithful_clean g.D.Disk faithful (get_or new.stores k d).conn)
-            | inr honest ↦ honest
-          ]),
+          (it.1 (All-from_recursion _ _ (all_genuine c.args.journals.items c.in-Ok.again.items (λ j. file_state j.conn) (λ i. w.node (suc i)) c.in-Ok.ensures
+          (λ i store got clean. let of = would i store got clean in (of.certain, of.doubtful, of.only, of.may)))) clean),
     ))
     (both_ok c.over.result _ _ c.over.ensures.goes_on c.over.ensures.alive)
+
+pub returns-in-Ok-clause-secured : goal.returns-in-Ok-clause-secured
+returns-in-Ok-clause-secured g c =
+    IfOk-weaker c.over.result _ _ (λ new it w would.
+    let genuine = all_genuine c.args.journals.items c.in-Ok.again.items (λ j. file_state j.conn) (λ i. w.node (suc i)) c.in-Ok.ensures
+    (λ i store got clean. let of = would i store got clean in (of.certain, of.doubtful, of.only, of.may)) in
+    it (λ k d low clean. inl (All-from_recursion _ _ genuine k d low clean))) c.over.ensures.secured

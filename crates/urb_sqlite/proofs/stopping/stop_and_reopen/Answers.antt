@@ -8,6 +8,9 @@ stop_and_open_all-requires g c = record { counted = c.into_stores.ensures.counte
 
 pub returns-clause-goes_on : goal.returns-clause-goes_on
 returns-clause-goes_on g c =
-    IfOk-weaker c.stop_and_open_all.result _ _ (λ new goes_on stocked honest back.
-    goes_on c.args.cluster.group stocked.world c.rests.ensures.sound (c.rests.ensures.counted ∙ ap (λ (size : Limits). size.n) c.requires.same) c.requires.same stocked.shows
-    (c.rests.ensures.leaves c.into_stores.result.items c.into_stores.ensures.value stocked honest) back) c.stop_and_open_all.ensures.goes_on
+    IfOk-weaker c.stop_and_open_all.result _ _ (λ new goes_on secured clean.
+    goes_on c.args.cluster.group secured.stocked.world c.rests.ensures.sound (c.rests.ensures.counted ∙ ap (λ (size : Limits). size.n) c.requires.same) c.requires.same secured.stocked.shows
+    (c.rests.ensures.leaves c.into_stores.result.items c.into_stores.ensures.value secured) clean) c.stop_and_open_all.ensures.goes_on
+
+pub returns-clause-secured : goal.returns-clause-secured
+returns-clause-secured g c = IfOk-weaker c.stop_and_open_all.result _ _ (λ new secures secured. secures secured.stocked.world (c.rests.ensures.leaves c.into_stores.result.items c.into_stores.ensures.value secured)) c.stop_and_open_all.ensures.secured

@@ -30,6 +30,10 @@ returns-in-Err g c =
       counts = c.in-Err.ensures.counts;
       honest = c.in-Err.ensures.honest;
       alive = c.in-Err.ensures.alive;
+      clean = c.in-Err.ensures.clean;
+      shut = c.in-Err.ensures.shut;
+      refuses = c.in-Err.ensures.refuses;
+      lasts = c.in-Err.ensures.lasts;
     } in
     inl (
       c.in-Err.fault,
@@ -54,6 +58,10 @@ loop-store-preserved g c =
       counts = c.in-Ok.ensures.counts;
       honest = c.in-Ok.ensures.honest;
       alive = c.in-Ok.ensures.alive;
+      clean = c.in-Ok.ensures.clean;
+      shut = c.in-Ok.ensures.shut;
+      refuses = c.in-Ok.ensures.refuses;
+      lasts = c.in-Ok.ensures.lasts;
     } in
     let more = c.push_reserved.ensures.items in
     let lists = ap (map (λ image. image.items)) more ∙ map-more (λ image. image.items) c.loop-store.images.items c.in-Ok.image in

@@ -1,4 +1,5 @@
 use Rattle.urb_group.proofs.Reopened.{opens-goes_on, opens-leaves, opens-stocked}
+use Rattle.urb_group.proofs.SecuredOpenings.{opens-secured}
 use Rattle.urb_group.proofs.cluster.Cluster.open.Goals as goal
 
 pub returns-clause-goes_on : goal.returns-clause-goes_on
@@ -9,3 +10,6 @@ returns-clause-stocked g c = opens-stocked g.S.Stable c.args.config c.args.store
 
 pub returns-clause-stop : goal.returns-clause-stop
 returns-clause-stop g c = opens-leaves g.S.Stable c.args.config c.args.stores.items c.opened.result c.opened.ensures
+
+pub returns-clause-secured : goal.returns-clause-secured
+returns-clause-secured g c = opens-secured g.S.Stable c.args.config c.args.stores.items c.opened.result c.opened.ensures

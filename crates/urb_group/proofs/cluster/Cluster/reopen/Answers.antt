@@ -1,7 +1,9 @@
 use Rattle.std.proofs.Common.{ap, length, rules, subst, sym, ◌∙◌, ◌≡◌}
+use Rattle.std.specs.List.{All}
+use Rattle.urb_group.proofs.SecuredOpenings.{secured-known}
 use Rattle.urb_group.specs.Reopening.{Continues, OpensStores, stores_in}
 use Rattle.urb_group.specs.Shown.{GroupView, IsSound}
-use Rattle.urb_group.specs.Stocked.{AllHold, RestLeaves, StopLeaves}
+use Rattle.urb_group.specs.Stocked.{AllHold, IsKnown, RestLeaves, StopLeaves}
 use Rattle.urb_group.proofs.cluster.Cluster.reopen.Goals as goal
 
 pub returns-clause-opened : goal.returns-clause-opened
@@ -38,3 +40,8 @@ returns-clause-stop g c =
     (c.open.ensures.stop stocked.world
     (subst (λ passed. AllHold g.S.Stable stocked.world passed) stores (λ i store got. (stocked.stores i store got).contents))
     (subst (λ passed. RestLeaves g.S.Stable stocked.world passed) stores (λ i store got. (stocked.stores i store got).left)))
+
+pub returns-clause-secured : goal.returns-clause-secured
+returns-clause-secured g c =
+    let stores : c.args.self.stores ≡ c.self.inside.stores.items = search rules in
+    λ secured. c.open.ensures.secured (subst (λ passed. All (IsKnown g.S.Stable) passed) stores (secured-known g.S.Stable c.args.self secured))

@@ -1,4 +1,5 @@
-use Rattle.std.proofs.Common.{List, Some, [], ◌∷◌, ◌≡◌, refl}
+use Rattle.std.proofs.Common.{List, Some, [], inr, ◌∷◌, ◌≡◌, refl, ⊎_elim}
+use Rattle.std.proofs.lemmas.Bool.{false≢true, true≢false}
 use Rattle.urb_stable.specs.Entries.{Entry}
 use Rattle.urb_stable.specs.Memory.{after_failure, empty_memory}
 use Rattle.urb_group.specs.Examples.{pending}
@@ -18,3 +19,13 @@ returns-clause-a_record_that_the_node_lacks c left = let lost : one ≡ [] = lef
 pub returns-clause-no_record_where_the_node_has_one : goal.returns-clause-no_record_where_the_node_has_one
 unfolding one
 returns-clause-no_record_where_the_node_has_one c left = let lost : [] ≡ one = left.may [] (left.only [] refl) in cc
+
+pub returns-clause-shut_and_its_node_down : goal.returns-clause-shut_and_its_node_down
+returns-clause-shut_and_its_node_down c =
+    record {
+      left = λ clean. record { certain = []; doubtful = Some (pending 1 1); only = λ records contents. contents; may = λ records contents. contents };
+      known = λ clean. inr (refl, refl);
+    }
+
+pub returns-clause-shut_while_its_node_is_up : goal.returns-clause-shut_while_its_node_is_up
+returns-clause-shut_while_its_node_is_up c h = ⊎_elim (λ honest. true≢false honest) (λ shut. false≢true shut.1) (h.known tt)
