@@ -1,68 +1,134 @@
 //! Certified names in several orders, and refused growth.
 
+ghost use Rattle.std.specs.Prelude.{◌≤◌, ◌<◌};
+
 use super::*;
 use std::alloc::Allocator;
 use std::test::Fail;
 use urb_names::{Name, NoMemory, NodeId};
 use urb_refusing::Refusing;
 
-fn node(number: u8) -> Result<NodeId, Fail> {
-    Ok(NodeId::new(number).ok_or("a node")?)
-}
-
-fn name(sender: u8, seq: u32) -> Result<Name, Fail> {
+// A name; none where there is no such sender or number.
+fn name(sender: u8, seq: u32) -> Option<Name> {
     if seq == 0 {
-        return Err(Fail::from("a number from 1"));
+        return None;
     }
-    let sender = node(sender)?;
-    Ok(Name { sender, seq })
+    let sender = NodeId::new(sender)?;
+    Some(Name { sender, seq })
 }
 
 // Adds a name that is new. Where the growth was refused, nothing has changed, and the same call goes through the second time.
-fn add<A: Allocator + Copy>(names: &mut Certified<A>, name: Name) -> Result<(), Fail> {
+// Whether all is so.
+fn adds<A: Allocator + Copy>(names: &mut Certified<A>, name: Name) -> bool {
     if names.has(name) {
-        return Err(Fail::from("the name is new"));
+        return false;
     }
     let reach = names.reach(name.sender);
     let foretold = names.reach_with(name);
     if let Err(NoMemory) = names.add(name) {
-        if names.has(name) || names.reach(name.sender) != reach {
-            return Err(Fail::from("a refused name changed something"));
+        if names.has(name) || names.reach(name.sender) != reach || names.add(name).is_err() {
+            return false;
         }
-        names.add(name)?;
     }
-    if !names.has(name) || names.reach(name.sender) != foretold {
-        return Err(Fail::from("the name is there"));
+    names.has(name) && names.reach(name.sender) == foretold
+}
+
+// Adds names so, one after the other.
+fn adds_all<A: Allocator + Copy>(names: &mut Certified<A>, added: &[(u8, u32)]) -> bool {
+    for (sender, seq) in added {
+        match name(*sender, *seq) {
+            Some(name) if adds(names, name) => {}
+            _ => return false,
+        }
     }
-    Ok(())
+    true
+}
+
+// The k-th of the numbers 1 to 40 in some order.
+#[derive(Clone, Copy)]
+enum Order {
+    Rising,
+    Falling,
+    OddFirst,
+}
+
+fn number_in(order: Order, k: u32) -> u32
+    requires least { 1 ≤ k }
+    requires most { k ≤ 40 }
+{
+    match order {
+        Order::Rising => k,
+        Order::Falling => 41 - k,
+        Order::OddFirst if k <= 20 => 2 * k - 1,
+        Order::OddFirst => 2 * (k - 20),
+    }
+}
+
+// Adds the names of node 2 with the numbers 1 to 40 in this order.
+fn adds_forty<A: Allocator + Copy>(names: &mut Certified<A>, order: Order) -> bool {
+    for k in 1..41 {
+        match name(2, number_in(order, k)) {
+            Some(name) if adds(names, name) => {}
+            _ => return false,
+        }
+    }
+    true
+}
+
+// Whether the names of a sender go so far without a gap.
+fn reaches<A: Allocator + Copy>(names: &Certified<A>, sender: u8, reach: u32) -> bool {
+    match NodeId::new(sender) {
+        Some(sender) => names.reach(sender) == reach,
+        None => false,
+    }
+}
+
+// Whether a name is there.
+fn has<A: Allocator + Copy>(names: &Certified<A>, sender: u8, seq: u32) -> bool {
+    match name(sender, seq) {
+        Some(name) => names.has(name),
+        None => false,
+    }
+}
+
+// Whether there are the forty names, and no others near them.
+fn has_forty<A: Allocator + Copy>(names: &Certified<A>) -> bool {
+    reaches(names, 2, 40)
+        && reaches(names, 1, 0)
+        && has(names, 2, 40)
+        && !has(names, 2, 41)
+        && !has(names, 1, 1)
+}
+
+// Whether the names are the same as the forty, once they were added in this order, and so is a copy, until it is cleared.
+fn is_the_same_in<A: Allocator + Copy>(alloc: A, rising: &Certified<A>, order: Order) -> bool {
+    let mut names = Certified::new(alloc);
+    let is_added = adds_forty(&mut names, order) && has_forty(&names);
+    let is_same = names.is_same(rising);
+    drop(names);
+    is_added && is_same
+}
+
+fn copies_and_clears<A: Allocator + Copy>(alloc: A, names: &Certified<A>) -> bool {
+    let Ok(mut copy) = names.copy(alloc) else {
+        return false;
+    };
+    let is_same = copy.is_same(names);
+    copy.clear();
+    let is_clear = !copy.is_same(names) && !has(&copy, 2, 1);
+    drop(copy);
+    is_same && is_clear
 }
 
 #[test]
 fn a_gap_closes_in_any_order(rt: HostRuntime) -> Result<(), Fail> {
     let mut rising = Certified::new(rt.alloc());
-    let mut falling = Certified::new(rt.alloc());
-    let mut odd_first = Certified::new(rt.alloc());
-    for seq in 1..41 {
-        add(&mut rising, name(2, seq)?)?;
-        assert_eq!(rt; rising.reach(node(2)?), seq);
-        add(&mut falling, name(2, 41 - seq)?)?;
-        let odd = if seq <= 20 {
-            2 * seq - 1
-        } else {
-            2 * (seq - 20)
-        };
-        add(&mut odd_first, name(2, odd)?)?;
-    }
-    for names in [&rising, &falling, &odd_first] {
-        assert_eq!(rt; names.reach(node(2)?), 40);
-        assert_eq!(rt; names.reach(node(1)?), 0);
-        assert!(rt; names.has(name(2, 40)?) && !names.has(name(2, 41)?) && !names.has(name(1, 1)?));
-    }
-    assert!(rt; rising.is_same(&falling) && falling.is_same(&odd_first));
-    let copy = odd_first.copy(rt.alloc())?;
-    assert!(rt; copy.is_same(&rising));
-    odd_first.clear();
-    assert!(rt; !odd_first.is_same(&rising) && !odd_first.has(name(2, 1)?));
+    let is_added = adds_forty(&mut rising, Order::Rising) && has_forty(&rising);
+    let is_falling = is_the_same_in(rt.alloc(), &rising, Order::Falling);
+    let is_odd_first = is_the_same_in(rt.alloc(), &rising, Order::OddFirst);
+    let is_copied = copies_and_clears(rt.alloc(), &rising);
+    drop(rising);
+    assert!(rt; is_added && is_falling && is_odd_first && is_copied);
     Ok(())
 }
 
@@ -72,20 +138,22 @@ fn each_growth_may_be_refused(rt: HostRuntime) -> Result<(), Fail> {
     for refused in 1..6 {
         let heap = Refusing::new(rt.alloc(), refused);
         let mut names = Certified::new(&heap);
-        for (sender, seq) in [
-            (1, 7),
-            (1, 3),
-            (3, 2),
-            (1, 2),
-            (1, 9),
-            (1, 1),
-            (1, 4),
-            (3, 1),
-        ] {
-            add(&mut names, name(sender, seq)?)?;
-        }
-        assert_eq!(rt; names.reach(node(1)?), 4);
-        assert_eq!(rt; names.reach(node(3)?), 2);
+        let is_added = adds_all(
+            &mut names,
+            &[
+                (1, 7),
+                (1, 3),
+                (3, 2),
+                (1, 2),
+                (1, 9),
+                (1, 1),
+                (1, 4),
+                (3, 1),
+            ],
+        );
+        let is_reached = reaches(&names, 1, 4) && reaches(&names, 3, 2);
+        drop(names);
+        assert!(rt; is_added && is_reached);
         if heap.met() {
             met = refused;
         }
@@ -94,15 +162,25 @@ fn each_growth_may_be_refused(rt: HostRuntime) -> Result<(), Fail> {
     Ok(())
 }
 
+// Whether two names are added without asking for memory, once there is room.
+fn asks_for_nothing<'a, A: Allocator>(
+    names: &mut Certified<&'a Refusing<A>>,
+    heap: &'a Refusing<A>,
+) -> bool {
+    if names.make_room().is_err() {
+        return false;
+    }
+    names.limits();
+    let asked = heap.asked();
+    adds_all(names, &[(1, 5), (1, 1)]) && heap.asked() == asked
+}
+
 #[test]
 fn where_there_is_room_no_memory_is_asked_for(rt: HostRuntime) -> Result<(), Fail> {
     let heap = Refusing::new(rt.alloc(), 0);
     let mut names = Certified::new(&heap);
-    names.make_room()?;
-    names.limits();
-    let asked = heap.asked();
-    names.add(name(1, 5)?)?;
-    names.add(name(1, 1)?)?;
-    assert_eq!(rt; heap.asked(), asked);
+    let asks_for_nothing = asks_for_nothing(&mut names, &heap);
+    drop(names);
+    assert!(rt; asks_for_nothing);
     Ok(())
 }

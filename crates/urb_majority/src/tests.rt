@@ -6,52 +6,49 @@ use std::test::Fail;
 use urb_names::{Config, Name, NoMemory, NodeId};
 use urb_refusing::Refusing;
 
-fn node(number: u8) -> Result<NodeId, Fail> {
-    Ok(NodeId::new(number).ok_or("a node")?)
-}
-
 // The name of node 1 with this number.
-fn name(seq: u32) -> Result<Name, Fail> {
+fn name(seq: u32) -> Option<Name> {
     if seq == 0 {
-        return Err(Fail::from("a number from 1"));
+        return None;
     }
-    Ok(Name {
-        sender: node(1)?,
-        seq,
-    })
+    let sender = NodeId::new(1)?;
+    Some(Name { sender, seq })
 }
 
-// Counts nodes for names, and compares the answers. Where a growth was refused, nothing has changed, and the same call goes
-// through the second time. Whether a call was refused.
-fn note_all<A: Allocator + Copy>(
+// Counts a node for a name. Where the growth was refused, nothing has changed, and the same call goes through the second time.
+// Whether the first was refused; none where the answer is another.
+fn note<A: Allocator + Copy>(
     acks: &mut Acks<A>,
-    steps: &[(u32, u8, Noted)],
-) -> Result<bool, Fail> {
+    name: Name,
+    node: NodeId,
+    want: Noted,
+) -> Option<bool> {
+    let known = acks.noted(name, node);
+    let foretold = acks.answer(name, node);
+    let (noted, refused) = match acks.note(name, node) {
+        Ok(noted) => (noted, false),
+        Err(NoMemory) if acks.noted(name, node) != known => return None,
+        Err(NoMemory) => (acks.note(name, node).ok()?, true),
+    };
+    if noted != want || noted != foretold || !acks.noted(name, node) {
+        return None;
+    }
+    Some(refused)
+}
+
+// Counts nodes for names so, one after the other. Whether a call was refused.
+fn note_all<A: Allocator + Copy>(acks: &mut Acks<A>, steps: &[(u32, u8, Noted)]) -> Option<bool> {
     let mut refused = false;
     for (seq, number, want) in steps {
         let name = name(*seq)?;
-        let node = node(*number)?;
-        let known = acks.noted(name, node);
-        let foretold = acks.answer(name, node);
-        let noted = match acks.note(name, node) {
-            Ok(noted) => noted,
-            Err(NoMemory) => {
-                refused = true;
-                if acks.noted(name, node) != known {
-                    return Err(Fail::from("a refused acknowledgement was counted"));
-                }
-                acks.note(name, node)?
-            }
-        };
-        if noted != *want || noted != foretold || !acks.noted(name, node) {
-            return Err(Fail::from("another answer"));
-        }
+        let node = NodeId::new(*number)?;
+        refused |= note(acks, name, node, *want)?;
     }
-    Ok(refused)
+    Some(refused)
 }
 
 // Certifies names, in the same way.
-fn certify_all<A: Allocator + Copy>(acks: &mut Acks<A>, numbers: &[u32]) -> Result<bool, Fail> {
+fn certify_all<A: Allocator + Copy>(acks: &mut Acks<A>, numbers: &[u32]) -> Option<bool> {
     let mut refused = false;
     for seq in numbers {
         let name = name(*seq)?;
@@ -59,21 +56,42 @@ fn certify_all<A: Allocator + Copy>(acks: &mut Acks<A>, numbers: &[u32]) -> Resu
         if acks.certify(name).is_err() {
             refused = true;
             if acks.certified(name) != known {
-                return Err(Fail::from("a refused certificate changed something"));
+                return None;
             }
-            acks.certify(name)?;
+            acks.certify(name).ok()?;
         }
         if !acks.certified(name) {
-            return Err(Fail::from("the name is certified"));
+            return None;
         }
     }
-    Ok(refused)
+    Some(refused)
+}
+
+// Whether a name is certified.
+fn is_certified<A: Allocator + Copy>(acks: &Acks<A>, seq: u32) -> bool {
+    match name(seq) {
+        Some(name) => acks.certified(name),
+        None => false,
+    }
+}
+
+// Whether a node was counted for a name.
+fn is_noted<A: Allocator + Copy>(acks: &Acks<A>, seq: u32, number: u8) -> bool {
+    match (name(seq), NodeId::new(number)) {
+        (Some(name), Some(node)) => acks.noted(name, node),
+        _ => false,
+    }
+}
+
+fn config(n: u8) -> Result<Config, Fail> {
+    Ok(Config::new(n, 10).ok_or("a config")?)
 }
 
 #[test]
 fn the_third_of_five_nodes_makes_a_majority(rt: HostRuntime) -> Result<(), Fail> {
-    let mut acks = Acks::new(rt.alloc(), Config::new(5, 10).ok_or("a config")?);
-    note_all(
+    let config = config(5)?;
+    let mut acks = Acks::new(rt.alloc(), config);
+    let noted = note_all(
         &mut acks,
         &[
             (1, 1, Noted::Counted),
@@ -82,70 +100,112 @@ fn the_third_of_five_nodes_makes_a_majority(rt: HostRuntime) -> Result<(), Fail>
             (1, 3, Noted::Reached),
             (1, 4, Noted::Counted),
         ],
-    )?;
-    assert!(rt; !acks.certified(name(1)?));
-    assert!(rt; !certify_all(&mut acks, &[1])?);
+    );
+    let is_early = is_certified(&acks, 1);
+    let certified = certify_all(&mut acks, &[1]);
+    drop(acks);
+    assert_eq!(rt; noted, Some(false));
+    assert_eq!(rt; certified, Some(false));
+    assert!(rt; !is_early);
     Ok(())
+}
+
+// Whether each node, counted from 1 on, makes a majority exactly where it comes behind this half.
+fn is_enough_behind<A: Allocator + Copy>(acks: &mut Acks<A>, half: u8) -> Option<bool> {
+    let name = name(1)?;
+    let mut is_so = true;
+    for number in 1..8 {
+        let node = NodeId::new(number)?;
+        is_so &= acks.majority_with(name, node) == (half < number);
+        acks.note(name, node).ok()?;
+    }
+    Some(is_so)
 }
 
 #[test]
 fn half_of_the_nodes_are_no_majority(rt: HostRuntime) -> Result<(), Fail> {
     for (n, half) in [(1, 0), (2, 1), (3, 1), (4, 2), (5, 2), (6, 3), (7, 3)] {
-        let mut acks = Acks::new(rt.alloc(), Config::new(n, 10).ok_or("a config")?);
-        for number in 1..8 {
-            let enough = acks.majority_with(name(1)?, node(number)?);
-            assert_eq!(rt; enough, half < number, "node {number} of {n}");
-            acks.note(name(1)?, node(number)?)?;
-        }
+        let config = config(n)?;
+        let mut acks = Acks::new(rt.alloc(), config);
+        let is_enough = is_enough_behind(&mut acks, half);
+        drop(acks);
+        assert_eq!(rt; is_enough, Some(true), "of {n}");
     }
     Ok(())
 }
 
 #[test]
 fn acknowledgements_are_lost_and_certificates_stay(rt: HostRuntime) -> Result<(), Fail> {
-    let mut acks = Acks::new(rt.alloc(), Config::new(3, 10).ok_or("a config")?);
-    note_all(&mut acks, &[(2, 1, Noted::Counted), (2, 2, Noted::Reached)])?;
-    certify_all(&mut acks, &[2])?;
+    let config = config(3)?;
+    let mut acks = Acks::new(rt.alloc(), config);
+    let before = note_all(&mut acks, &[(2, 1, Noted::Counted), (2, 2, Noted::Reached)]);
+    let certified = certify_all(&mut acks, &[2]);
     acks.forget();
-    assert!(rt; acks.certified(name(2)?));
-    assert!(rt; !acks.certified(name(1)?));
-    assert!(rt; !acks.noted(name(2)?, node(2)?));
-    note_all(&mut acks, &[(2, 2, Noted::Counted), (2, 1, Noted::Reached)])?;
+    let is_kept = is_certified(&acks, 2) && !is_certified(&acks, 1) && !is_noted(&acks, 2, 2);
+    let after = note_all(&mut acks, &[(2, 2, Noted::Counted), (2, 1, Noted::Reached)]);
+    drop(acks);
+    assert_eq!(rt;
+        (before, certified, after),
+        (Some(false), Some(false), Some(false))
+    );
+    assert!(rt; is_kept);
     Ok(())
+}
+
+// Whether all nodes are counted for the first name, and it is certified before and after, without asking for memory, once room
+// is reserved for it.
+fn asks_for_nothing<'a, A: Allocator>(
+    acks: &mut Acks<&'a Refusing<A>>,
+    heap: &'a Refusing<A>,
+) -> Option<bool> {
+    note_all(acks, &[(3, 1, Noted::Counted), (1, 7, Noted::Counted)])?;
+    certify_all(acks, &[3])?;
+    acks.reserve(name(1)?).ok()?;
+    let asked = heap.asked();
+    certify_all(acks, &[1])?;
+    for number in 1..8 {
+        acks.note(name(1)?, NodeId::new(number)?).ok()?;
+    }
+    certify_all(acks, &[1])?;
+    Some(heap.asked() == asked)
 }
 
 #[test]
 fn what_was_reserved_takes_no_memory(rt: HostRuntime) -> Result<(), Fail> {
+    let config = config(2)?;
     let heap = Refusing::new(rt.alloc(), 0);
-    let mut acks = Acks::new(&heap, Config::new(2, 10).ok_or("a config")?);
-    note_all(&mut acks, &[(3, 1, Noted::Counted), (1, 7, Noted::Counted)])?;
-    certify_all(&mut acks, &[3])?;
-    acks.reserve(name(1)?)?;
-    let asked = heap.asked();
-    certify_all(&mut acks, &[1])?;
-    for number in 1..8 {
-        acks.note(name(1)?, node(number)?)?;
-    }
-    certify_all(&mut acks, &[1])?;
-    assert_eq!(rt; heap.asked(), asked);
+    let mut acks = Acks::new(&heap, config);
+    let asks_for_nothing = asks_for_nothing(&mut acks, &heap);
+    drop(acks);
+    assert_eq!(rt; asks_for_nothing, Some(true));
     Ok(())
+}
+
+// Counts and certifies, where growths may be refused. Whether a call was refused; none where a refused one changed something.
+fn counts_on<A: Allocator + Copy>(acks: &mut Acks<A>) -> Option<bool> {
+    let mut told = note_all(acks, &[(2, 2, Noted::Counted)])?;
+    if acks.reserve(name(1)?).is_err() {
+        told = true;
+        if !is_noted(acks, 2, 2) {
+            return None;
+        }
+    }
+    told |= note_all(acks, &[(1, 1, Noted::Counted), (1, 3, Noted::Reached)])?;
+    told |= certify_all(acks, &[1, 2])?;
+    Some(told)
 }
 
 #[test]
 fn each_growth_may_be_refused(rt: HostRuntime) -> Result<(), Fail> {
+    let config = config(3)?;
     let mut met = 0;
     for refused in 1..9 {
         let heap = Refusing::new(rt.alloc(), refused);
-        let mut acks = Acks::new(&heap, Config::new(3, 10).ok_or("a config")?);
-        let mut told = note_all(&mut acks, &[(2, 2, Noted::Counted)])?;
-        if acks.reserve(name(1)?).is_err() {
-            told = true;
-            assert!(rt; acks.noted(name(2)?, node(2)?));
-        }
-        told |= note_all(&mut acks, &[(1, 1, Noted::Counted), (1, 3, Noted::Reached)])?;
-        told |= certify_all(&mut acks, &[1, 2])?;
-        assert_eq!(rt; told, heap.met());
-        if told {
+        let mut acks = Acks::new(&heap, config);
+        let told = counts_on(&mut acks);
+        drop(acks);
+        assert_eq!(rt; told, Some(heap.met()));
+        if heap.met() {
             met = refused;
         }
     }

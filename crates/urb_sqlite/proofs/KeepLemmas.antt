@@ -1,6 +1,6 @@
 -- What each statement of a journal does to the records that it stands for.
 use Rattle.std.proofs.Common.{◌≡◌, ◌≢◌, ◌⊎◌, inl, inr, ℕ, ◌+◌, ◌<◌, ◌≤◌, false, List, [], ◌∷◌, ◌++◌, map, length-append, slice_get, Option, Some, None, Ok, Err, IsTrue, refl, sym, ap, subst, ◌∙◌, arith}
-use Rattle.std.proofs.lemmas.Bool.{cases_Bool, true≢false}
+use Rattle.std.proofs.lemmas.Bool.{cases_Bool}
 use Rattle.sqlite.specs.Order.{Row}
 use Rattle.sqlite.specs.Tree.{Trees}
 use Rattle.sqlite.specs.View.{doubt}
@@ -30,7 +30,7 @@ use Rattle.sqlite_catalog.specs.Listing.{IsSound}
 use Rattle.urb_sqlite.proofs.TextLemmas.{insert_parsed, select_parsed, found_at}
 use Rattle.urb_sqlite.specs.Rows.{row_of, kept_of, rows_in, by_pos, shown, IsWithin, IsInOrder, table_rows, StandsFor}
 use Rattle.urb_sqlite.specs.Reading.{read_from, records_of}
-use Rattle.urb_sqlite.specs.OpenJournal.{IsCounted, IsKept, IsInStep, IsHonestJournal, IsAppended, IsLeft, IsSafeAtRest, IsShutJournal, LeavesOnly}
+use Rattle.urb_sqlite.specs.OpenJournal.{IsCounted, IsKept, IsInStep, IsHonestJournal, IsAppended, IsLeft, IsSafeAtRest, LeavesOnly}
 use Rattle.urb_sqlite.proofs.InsertLemmas.{IsPut, HasPut, inserts, commits_put, went, same_value}
 use Rattle.urb_sqlite.proofs.AnyLemmas.{inserts_in_any, reads_in_any}
 use Rattle.urb_sqlite.proofs.OrderLemmas.{sort_is}
@@ -297,18 +297,6 @@ left old new place step below how =
       alive = λ h clean is_open. record { clean = clean; is_open = is_open; schema = same_journal ((same clean is_open).now_is is_open) h.schema };
       records = λ h. ap (λ (d : Database). records_of d) ((same h.clean h.is_open).now_is h.is_open);
     }
-
--- An honest journal stays so, or a fault shuts it.
-pub honest_or_shut : (old new : State) (place : ℕ) → IsLeft old new place → IsHonestJournal old → HasCleanDisk new → IsHonestJournal new ⊎ IsShutJournal new
-honest_or_shut old new place h honest clean = elim (cases_Bool new.is_open) [ inl is_open ↦ inl (h.alive honest clean is_open) | inr shut ↦ inr (λ is_open. absurd (true≢false (sym is_open ∙ shut))) ]
-
--- One that is shut stays so.
-pub stays_shut : (old new : State) → IsUnchanged old new ⊎ IsRolledBack old new → IsShutJournal old → IsShutJournal new
-stays_shut old new how shut is_open = shut (was_open old new how is_open)
-
--- A stop leaves no more than before a call that commits nothing.
-pub leaves_no_more : (old new : State) (P : List Entry → Type 0) → Survives old new (λ _. ⊥) → HasCleanDisk new → LeavesOnly old P → LeavesOnly new P
-leaves_no_more old new P survives clean leaves db left = elim (survives.crash clean db left) [ inl was ↦ leaves db was | inr none ↦ absurd none ]
 
 -- Of an honest journal no refusal to read is a bad row.
 pub not_bad : (old new : State) (place : ℕ) (e : StoreFault) → IsInStep old place → doubt old.is_clean ≤ doubt new.is_clean → (HasCleanDisk new → IsUnchanged old new ⊎ IsRolledBack old new)
