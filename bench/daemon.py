@@ -24,6 +24,8 @@ from pathlib import Path
 
 HERE = Path(__file__).resolve().parent
 PAYLOAD = 16
+JOURNALS = 3
+RECORDS = 4  # what a message is stored as in a group of three: at each node, and once more at its sender when a majority has it
 BASE = {1: 21000, 3: 22000}
 REDIS = 23000
 ETCD = 24000
@@ -186,11 +188,11 @@ def syncs(folder, seconds):
 
 
 def journals(folder, seconds):
-    """How many records a second three journals take one after another, by the C library of SQLite."""
+    """How many records a second three journals take one after another, by the C library of SQLite. A message is a record of each."""
     import sqlite3
 
     connections = []
-    for number in range(3):
+    for number in range(JOURNALS):
         it = sqlite3.connect(folder / f"plain-{number}.db", isolation_level=None)
         for line in ("PRAGMA journal_mode=WAL", "PRAGMA synchronous=FULL", "PRAGMA locking_mode=EXCLUSIVE"):
             it.execute(line)
@@ -239,7 +241,9 @@ def measure_daemon(table, load, program, room, nodes, seconds):
         table.add("visible p50", median)
         table.add("visible p99", late)
         writers = [load.start("submit", daemon.port(node), 4, seconds, 2000) for node in (1, 2, 3)]
-        table.add("twelve", sum(answer(it)[0] for it in writers))
+        accepted = sum(answer(it)[0] for it in writers)
+        table.add("twelve", accepted)
+        table.add("twelve records", RECORDS * accepted)
         reads, _, _, _ = load.run("read", daemon.port(1), 4, seconds)
         table.add("read", reads)
         table.add("reader p99 alone", load.run("read", daemon.port(1), 1, seconds)[2])
@@ -262,6 +266,8 @@ def measure_floor(table, floor, room, seconds):
     table.add("floor visible p50", median)
     table.add("floor visible p99", late)
     table.add("floor twelve", floor.run(room, 3, 12, seconds)[0])
+    table.add("floor reader alone", floor.run(room, 3, 0, seconds, "read")[2])
+    table.add("floor reader beside", floor.run(room, 3, 11, seconds, "read")[2])
 
 
 def measure_redis(table, load, room, seconds):
@@ -351,7 +357,8 @@ def show(table, rounds):
     table.line("shown at three nodes; etcd's put, 99th percentile", "visible p99", "put p99", "us", 0.5)
     table.line("reads of 8 entries, four clients; redis XRANGE", "read", "xrange", "/s", 1.0, turned=True)
     table.line("a reader's 99th percentile beside writers; without", "reader p99 beside", "reader p99 alone", "us", 1.3)
-    table.line("accepted, twelve clients; records of three journals", "twelve", "journals", "/s", 0.8, turned=True)
+    table.line("accepted, twelve clients; what three journals store", "twelve", "journals", "/s", 0.8, turned=True)
+    table.line("records stored meanwhile; records of three journals", "twelve records", "journals records", "/s", 0.8, turned=True)
     table.line("accepted, one client, one node; the floor", "submit 1", "floor 1", "us", 1.0)
     table.line("accepted, one client, three nodes; the floor", "submit 3", "floor 3", "us", 1.0)
     table.line("shown at three nodes; the floor, median", "visible p50", "floor visible p50", "us", 1.0)
@@ -360,7 +367,8 @@ def show(table, rounds):
     table.line("the floor, one node; redis XADD", "floor 1", "xadd", "us", 1.0)
     table.line("the floor, three nodes; redis XADD", "floor 3", "xadd", "us", 1.0)
     table.line("the floor, shown at three nodes; etcd's put, median", "floor visible p50", "put p50", "us", 0.5)
-    table.line("the floor, twelve clients; records of three journals", "floor twelve", "journals", "/s", 0.8, turned=True)
+    table.line("the floor, twelve clients; what three journals store", "floor twelve", "journals", "/s", 0.8, turned=True)
+    table.line("the floor, a reader's 99th percentile beside writers", "floor reader beside", "floor reader alone", "us", 1.3)
     print(f"{'at rest: of one processor':58} {table.of('at rest'):10.2f} %")
 
 
@@ -379,7 +387,9 @@ def main():
         load, floor, bench = Load(room), Floor(room), built_etcd_load(room)
         for _ in range(options.rounds):
             table.add("fdatasync", syncs(room, options.seconds / 2))
-            table.add("journals", journals(Path(tempfile.mkdtemp(dir=room)), options.seconds / 2))
+            records = journals(Path(tempfile.mkdtemp(dir=room)), options.seconds / 2)
+            table.add("journals records", records)
+            table.add("journals", records / JOURNALS)
             for nodes in (1, 3):
                 measure_daemon(table, load, program, room, nodes, options.seconds)
             measure_floor(table, floor, room, options.seconds)

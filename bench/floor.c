@@ -1,15 +1,17 @@
 // The least that nodes take which sync each record: what urbd does for a message, with nothing of urbd.
 //
-//   floor NODES CLIENTS SECONDS [visible]
+//   floor NODES CLIENTS SECONDS [visible|read]
 //
 // A node is one thread with a file, a UDP socket and the TCP connections of its clients, which submit 16 bytes each, one after
 // the other. A record is 8,249 bytes in three writes into a file that has its length already, and one fdatasync. The sender
 // stores a message, answers its client and tells the other nodes; each of these stores it and tells all others; the sender
 // stores that it heard of one. So a message is one record in a group of one, and n + 1 in a greater one. Nothing is checked,
-// nothing is kept in order, no reader is served and no packet is sent twice.
+// nothing is kept in order and no packet is sent twice. Packets go before clients, so that none is lost for want of room.
 //
-// With `visible` a client submits again only once all nodes have the last message certified. Prints submits a second, the
-// median and the 99th percentile of what a client waits, in microseconds. Files are made in the current folder.
+// With `visible` a client submits again only once all nodes have the last message certified. With `read` one client more asks
+// a thread of its own for a page of 300 bytes, one after the other, while the CLIENTS submit, which may be none then. Prints
+// submits a second, or pages a second, the median and the 99th percentile of what such a client waits, in microseconds. Files
+// are made in the current folder.
 #define _GNU_SOURCE
 #include <arpa/inet.h>
 #include <fcntl.h>
@@ -26,22 +28,23 @@
 #include <time.h>
 #include <unistd.h>
 
-enum { MOST_NODES = 7, MOST_CLIENTS = 64, MOST_TIMES = 1 << 20, MOST_NAMES = 1 << 20, LOG = 1 << 22, RECORD = 8249, PAYLOAD = 16 };
+enum { MOST_NODES = 7, MOST_CLIENTS = 64, MOST_TIMES = 1 << 20, MOST_NAMES = 1 << 20, LOG = 1 << 22, RECORD = 8249, PAYLOAD = 16, ASKED = 8, PAGE = 300 };
 
 struct packet {
   uint32_t source, sender, number;
   unsigned char payload[PAYLOAD];
 };
 
-static int nodes, clients, is_visible;
+static int nodes, clients, is_visible, is_read, pages;
 static double seconds;
 static int udp[MOST_NODES], file[MOST_NODES], listener[MOST_NODES];
 static off_t place[MOST_NODES];
 static struct sockaddr_in address[MOST_NODES];
 static atomic_long certified[MOST_NODES];
 static unsigned char is_known[MOST_NODES][MOST_NAMES];
-static double *times[MOST_CLIENTS];
-static long done[MOST_CLIENTS];
+// the reader's come last
+static double *times[MOST_CLIENTS + 1];
+static long done[MOST_CLIENTS + 1];
 
 static double now(void) {
   struct timespec t;
@@ -80,11 +83,11 @@ static void submitted(int node, int connection, uint32_t *number) {
   tell(node, packet);
 }
 
-static void arrived(int node) {
+static int arrived(int node) {
   struct packet packet;
-  if (recv(udp[node], &packet, sizeof packet, 0) != sizeof packet) return;
+  if (recv(udp[node], &packet, sizeof packet, MSG_DONTWAIT) != sizeof packet) return 0;
   if ((int)packet.sender == node) {
-    if (packet.number >= MOST_NAMES || is_known[node][packet.number]++) return;
+    if (packet.number >= MOST_NAMES || is_known[node][packet.number]++) return 1;
     store(node);
     certified[node]++;
   } else if (packet.source == packet.sender) {
@@ -92,6 +95,7 @@ static void arrived(int node) {
     certified[node]++;
     tell(node, packet);
   }
+  return 1;
 }
 
 static void *node_runs(void *at) {
@@ -104,25 +108,49 @@ static void *node_runs(void *at) {
     ends[count++] = (struct pollfd){.fd = it, .events = POLLIN};
   }
   while (poll(ends, count, -1) >= 0)
-    for (int k = 0; k < count; k++)
+    for (int k = 1; k < count || k == 1; k++) {
+      while (arrived(node)) continue;
+      if (k == count) break;
       if (ends[k].revents & POLLHUP) ends[k].fd = -1;
-      else if (ends[k].revents & POLLIN) {
-        if (k) submitted(node, ends[k].fd, &number);
-        else arrived(node);
-      }
+      else if (ends[k].revents & POLLIN) submitted(node, ends[k].fd, &number);
+    }
   failed("poll");
   return NULL;
 }
 
-static void *client_runs(void *at) {
-  int client = (int)(intptr_t)at, node = client % nodes, one = 1, it = socket(AF_INET, SOCK_STREAM, 0);
-  unsigned char payload[PAYLOAD] = {0};
-  uint32_t number;
+static int connected(int to_listener) {
+  int one = 1, it = socket(AF_INET, SOCK_STREAM, 0);
   struct sockaddr_in to;
   socklen_t length = sizeof to;
-  getsockname(listener[node], (void *)&to, &length);
+  getsockname(to_listener, (void *)&to, &length);
   if (connect(it, (void *)&to, sizeof to)) failed("connect");
   setsockopt(it, IPPROTO_TCP, TCP_NODELAY, &one, sizeof one);
+  return it;
+}
+
+static void *pages_are_served(void *at) {
+  int one = 1, it = accept(pages, NULL, NULL);
+  unsigned char asked[ASKED], page[PAGE] = {0};
+  setsockopt(it, IPPROTO_TCP, TCP_NODELAY, &one, sizeof one);
+  while (recv(it, asked, ASKED, MSG_WAITALL) == ASKED) send(it, page, PAGE, 0);
+  return at;
+}
+
+static void *reader_runs(void *at) {
+  int it = connected(pages);
+  unsigned char asked[ASKED] = {0}, page[PAGE];
+  for (double end = now() + seconds, begin; (begin = now()) < end && done[clients] < MOST_TIMES;) {
+    if (send(it, asked, ASKED, 0) != ASKED) failed("send");
+    if (recv(it, page, PAGE, MSG_WAITALL) != PAGE) failed("recv");
+    times[clients][done[clients]++] = (now() - begin) * 1e6;
+  }
+  return at;
+}
+
+static void *client_runs(void *at) {
+  int client = (int)(intptr_t)at, node = client % nodes, it = connected(listener[node]);
+  unsigned char payload[PAYLOAD] = {0};
+  uint32_t number;
   for (double end = now() + seconds, begin; (begin = now()) < end && done[client] < MOST_TIMES;) {
     if (send(it, payload, PAYLOAD, 0) != PAYLOAD) failed("send");
     if (recv(it, &number, sizeof number, MSG_WAITALL) != sizeof number) failed("recv");
@@ -139,41 +167,60 @@ static int rises(const void *a, const void *b) {
   return (x > y) - (x < y);
 }
 
+static struct sockaddr_in any_port(void) {
+  return (struct sockaddr_in){.sin_family = AF_INET, .sin_addr.s_addr = htonl(INADDR_LOOPBACK)};
+}
+
+static int listens(void) {
+  struct sockaddr_in any = any_port();
+  int it = socket(AF_INET, SOCK_STREAM, 0);
+  if (bind(it, (void *)&any, sizeof any) || listen(it, MOST_CLIENTS)) failed("listen");
+  return it;
+}
+
 static void opens(int node) {
   char name[32];
-  struct sockaddr_in any = {.sin_family = AF_INET, .sin_addr.s_addr = htonl(INADDR_LOOPBACK)};
+  struct sockaddr_in any = any_port();
   socklen_t length = sizeof any;
   snprintf(name, sizeof name, "floor-%d", node + 1);
   unsigned char *zeros = calloc(1, LOG);
   if ((file[node] = open(name, O_CREAT | O_TRUNC | O_RDWR, 0600)) < 0 || write(file[node], zeros, LOG) != LOG || fsync(file[node])) failed(name);
   free(zeros);
   udp[node] = socket(AF_INET, SOCK_DGRAM, 0);
-  listener[node] = socket(AF_INET, SOCK_STREAM, 0);
-  if (bind(udp[node], (void *)&any, sizeof any) || bind(listener[node], (void *)&any, sizeof any) || listen(listener[node], MOST_CLIENTS)) failed("bind");
+  listener[node] = listens();
+  if (bind(udp[node], (void *)&any, sizeof any)) failed("bind");
   getsockname(udp[node], (void *)&address[node], &length);
 }
 
-int main(int count, char **words) {
-  pthread_t thread, waiting[MOST_CLIENTS];
-  if (count < 4 || (nodes = atoi(words[1])) < 1 || nodes > MOST_NODES || (clients = atoi(words[2])) < 1 || clients > MOST_CLIENTS) {
-    fprintf(stderr, "floor NODES CLIENTS SECONDS [visible]\n");
-    return 2;
-  }
-  seconds = atof(words[3]);
-  is_visible = count > 4 && clients == 1;
-  for (int node = 0; node < nodes; node++) opens(node);
-  for (int node = 0; node < nodes; node++) pthread_create(&thread, NULL, node_runs, (void *)(intptr_t)node);
-  for (int client = 0; client < clients; client++) {
-    times[client] = malloc(MOST_TIMES * sizeof *times[client]);
-    pthread_create(&waiting[client], NULL, client_runs, (void *)(intptr_t)client);
-  }
-  long all = 0;
-  for (int client = 0; client < clients; client++) pthread_join(waiting[client], NULL), all += done[client];
-  double *sorted = malloc(all * sizeof *sorted);
-  long k = 0;
-  for (int client = 0; client < clients; client++)
+static void prints(int first, int behind) {
+  long all = 0, k = 0;
+  for (int client = first; client < behind; client++) all += done[client];
+  double *sorted = malloc((all + 1) * sizeof *sorted);
+  for (int client = first; client < behind; client++)
     for (long i = 0; i < done[client]; i++) sorted[k++] = times[client][i];
   qsort(sorted, all, sizeof *sorted, rises);
   printf("%.0f %.1f %.1f 0\n", all / seconds, sorted[all / 2], sorted[all * 99 / 100]);
+}
+
+int main(int count, char **words) {
+  pthread_t thread, waiting[MOST_CLIENTS + 1];
+  is_read = count > 4 && !strcmp(words[4], "read");
+  if (count < 4 || (nodes = atoi(words[1])) < 1 || nodes > MOST_NODES || (clients = atoi(words[2])) < !is_read || clients > MOST_CLIENTS) {
+    fprintf(stderr, "floor NODES CLIENTS SECONDS [visible|read]\n");
+    return 2;
+  }
+  seconds = atof(words[3]);
+  is_visible = count > 4 && !is_read && clients == 1;
+  for (int node = 0; node < nodes; node++) opens(node);
+  pages = listens();
+  for (int client = 0; client <= clients; client++) times[client] = malloc(MOST_TIMES * sizeof *times[client]);
+  for (int node = 0; node < nodes; node++) pthread_create(&thread, NULL, node_runs, (void *)(intptr_t)node);
+  if (is_read) {
+    pthread_create(&thread, NULL, pages_are_served, NULL);
+    pthread_create(&waiting[clients], NULL, reader_runs, NULL);
+  }
+  for (int client = 0; client < clients; client++) pthread_create(&waiting[client], NULL, client_runs, (void *)(intptr_t)client);
+  for (int client = 0; client < clients + is_read; client++) pthread_join(waiting[client], NULL);
+  prints(is_read ? clients : 0, clients + is_read);
   return 0;
 }

@@ -2,278 +2,208 @@
 
 mod failing;
 mod frames;
+mod node;
 mod receiving;
+mod said;
 
-use std::alloc::{Allocator, Global};
+use node::OneNode;
+use std::alloc::Global;
 use std::test::Fail;
 use urb_client::*;
-use urb_names::{ClientId, MAX_PAYLOAD, Message, Name, NoMemory, NodeId, Refusal};
-use urb_refusing::FailingReader;
+use urb_names::{ClientId, MAX_PAYLOAD, NoMemory};
+use urb_refusing::FailingWriter;
 
-/// A node that is a group of its own: what it is sent stands in its log at once.
-#[derive(Drop)]
-struct OneNode<A: Allocator> {
-    alloc: A,
-    node: NodeId,
-    log: Vec<(Name, Message<A>), A>,
+/// What the client of the worked session sends, a frame a line: it ends at the eighth, which has a bad length.
+const SENT: &[u8] = b"\x00\x09\x01\x00\x07\x00\x00\x00\x01hi\
+\x00\x06\x02\x00\x00\x00\x01\x08\
+\x00\x01\x03\
+\x00\x07\x01\x00\x07\x00\x00\x00\x03\
+\x00\x01\x09\
+\x00\x06\x02\x00\x00\x00\x00\x08\
+\x00\x06\x02\x00\x00\x00\x09\x08\
+\x00\x00\
+\x00\x01\x03";
+
+/// What it is answered, a frame a line.
+const ANSWERED: &[u8] = b"\x00\x05\x81\x00\x00\x00\x01\
+\x00\x11\x82\x01\x01\x00\x00\x00\x01\x00\x07\x00\x00\x00\x01\x00\x02hi\
+\x00\x0a\x83\x01\x00\x00\x00\x01\x00\x00\x00\x01\
+\x00\x06\xee\x07\x00\x00\x00\x02\
+\x00\x06\xee\x13\x00\x00\x00\x02\
+\x00\x06\xee\x13\x00\x00\x00\x04\
+\x00\x02\x82\x00\
+\x00\x06\xee\x13\x00\x00\x00\x01";
+
+// The first frame of these bytes, which is short, and what is behind it.
+fn first_frame(bytes: &[u8]) -> (&[u8], &[u8]) {
+    match bytes {
+        [_, length, ..] => bytes.split_at((2 + usize::from(*length)).min(bytes.len())),
+        _ => (bytes, b""),
+    }
 }
 
-impl<A: Allocator + Copy> OneNode<A> {
-    fn new(alloc: A) -> Option<OneNode<A>> {
-        Some(OneNode {
-            alloc,
-            node: NodeId::new(1)?,
-            log: Vec::new(alloc),
-        })
-    }
+// What a client sends, what it is answered, and how the session ends.
+type Line<'a> = (&'a [u8], &'a [u8], Ended);
 
-    fn submit(
-        &mut self,
-        client: ClientId,
-        number: u32,
-        payload: &[u8],
-    ) -> Result<Response<A>, NoMemory> {
-        if MAX_PAYLOAD < payload.len() {
-            return Ok(Response::refused(&Refusal::TooLong));
-        }
-        let next = u32::try_from(self.log.len())
-            .unwrap_or(u32::MAX)
-            .saturating_add(1);
-        if number == 0 || number != next {
-            return Ok(Response::refused(&Refusal::Gap(next)));
-        }
-        let message = Message::copied(self.alloc, client, number, payload)?;
-        let name = Name {
-            sender: self.node,
-            seq: number,
+// Whether a session at the desk goes so.
+fn goes_so(alloc: Global, desk: &mut OneNode<Global>, line: Line<'_>) -> bool {
+    let (sent, answered, end) = line;
+    let mut input = sent;
+    let mut room = [0u8; 40];
+    let mut output = FailingWriter::new(&mut room, 40, 0);
+    let ended = session(alloc, &mut input, &mut output, desk);
+    ended == Ok(end) && output.written() == answered
+}
+
+// How many lines of the worked session go so, each in a session of its own at one desk.
+fn lines_that_go_so(alloc: Global) -> usize {
+    let mut desk = OneNode::new(alloc);
+    let (mut sent, mut answered) = (SENT, ANSWERED);
+    let mut count: usize = 0;
+    for _ in 0..8u8 {
+        let ((request, requests), (answer, answers)) = (first_frame(sent), first_frame(answered));
+        let end = if request.len() == 2 {
+            Ended::BadFrame
+        } else {
+            Ended::Closed
         };
-        self.log.push((name, message))?;
-        Ok(Response::Accepted(number))
-    }
-
-    fn read(&self, place: u32, max: u8) -> Result<Response<A>, NoMemory> {
-        let mut page = Vec::new(self.alloc);
-        for (name, message) in &self.log {
-            if place <= name.seq {
-                page.push((*name, message.copy(self.alloc)?))?;
-            }
+        if goes_so(alloc, &mut desk, (request, answer, end)) {
+            count = count.saturating_add(1);
         }
-        page.truncate(usize::from(max.min(8)));
-        Response::entries(page)
+        (sent, answered) = (requests, answers);
     }
+    count
 }
 
-impl<A: Allocator + Copy> Desk for OneNode<A> {
-    type Alloc = A;
-
-    ghost answers = { λ _ _ _ _. Unit {0} };
-
-    fn answer(&mut self, request: &Request<A>) -> Result<Response<A>, NoMemory> {
-        match request {
-            Request::Submit {
-                client,
-                number,
-                payload,
-            } => self.submit(*client, *number, payload),
-            Request::Read { place, max } => self.read(*place, *max),
-            Request::Status => {
-                let logged = u32::try_from(self.log.len()).unwrap_or(u32::MAX);
-                Ok(Response::Status {
-                    state: NodeState::Ready,
-                    own: logged,
-                    logged,
-                })
-            }
-            Request::Crash => Ok(Response::Done),
-            Request::Restart => Ok(Response::Done),
+// The first of these sessions at one desk, one after the other, that doesn't go so.
+fn first_other(alloc: Global, lines: &[Line<'_>]) -> Option<usize> {
+    let mut desk = OneNode::new(alloc);
+    for (place, line) in lines.iter().enumerate() {
+        if !goes_so(alloc, &mut desk, *line) {
+            return Some(place);
         }
     }
+    None
 }
 
-/// What a client sends, and what it is answered.
-const WORKED: [(&[u8], &[u8]); 8] = [
+#[test]
+fn each_line_of_the_worked_session(rt: HostRuntime) {
+    assert_eq!(rt; lines_that_go_so(rt.alloc()), 8);
+}
+
+/// What a session that is cut inside a frame is answered.
+const CUT: &[u8] = b"\x00\x06\xee\x13\x00\x00\x00\x05";
+
+/// A submit that is cut behind each byte of it; and a question that shows an empty log.
+const CUTS: [Line<'_>; 12] = [
+    (b"", b"", Ended::Closed),
+    (b"\x00", CUT, Ended::BadFrame),
+    (b"\x00\x09", CUT, Ended::BadFrame),
+    (b"\x00\x09\x01", CUT, Ended::BadFrame),
+    (b"\x00\x09\x01\x00", CUT, Ended::BadFrame),
+    (b"\x00\x09\x01\x00\x07", CUT, Ended::BadFrame),
+    (b"\x00\x09\x01\x00\x07\x00", CUT, Ended::BadFrame),
+    (b"\x00\x09\x01\x00\x07\x00\x00", CUT, Ended::BadFrame),
+    (b"\x00\x09\x01\x00\x07\x00\x00\x00", CUT, Ended::BadFrame),
     (
-        b"\x00\x09\x01\x00\x07\x00\x00\x00\x01hi",
-        b"\x00\x05\x81\x00\x00\x00\x01",
+        b"\x00\x09\x01\x00\x07\x00\x00\x00\x01",
+        CUT,
+        Ended::BadFrame,
     ),
     (
-        b"\x00\x06\x02\x00\x00\x00\x01\x08",
-        b"\x00\x11\x82\x01\x01\x00\x00\x00\x01\x00\x07\x00\x00\x00\x01\x00\x02hi",
+        b"\x00\x09\x01\x00\x07\x00\x00\x00\x01h",
+        CUT,
+        Ended::BadFrame,
     ),
     (
         b"\x00\x01\x03",
-        b"\x00\x0a\x83\x01\x00\x00\x00\x01\x00\x00\x00\x01",
+        b"\x00\x0a\x83\x01\x00\x00\x00\x00\x00\x00\x00\x00",
+        Ended::Closed,
     ),
-    (
-        b"\x00\x07\x01\x00\x07\x00\x00\x00\x03",
-        b"\x00\x06\xee\x07\x00\x00\x00\x02",
-    ),
-    (b"\x00\x01\x09", b"\x00\x06\xee\x13\x00\x00\x00\x02"),
-    (
-        b"\x00\x06\x02\x00\x00\x00\x00\x08",
-        b"\x00\x06\xee\x13\x00\x00\x00\x04",
-    ),
-    (b"\x00\x06\x02\x00\x00\x00\x09\x08", b"\x00\x02\x82\x00"),
-    (b"\x00\x00", b"\x00\x06\xee\x13\x00\x00\x00\x01"),
 ];
 
-/// All that the client sends.
-fn sent(alloc: Global) -> Result<Vec<u8>, NoMemory> {
-    let mut sent = Vec::new(alloc);
-    for (request, _) in &WORKED {
-        sent.extend_from_slice(request)?;
-    }
-    Ok(sent)
-}
-
-/// All that it is answered.
-fn answered(alloc: Global) -> Result<Vec<u8>, NoMemory> {
-    let mut answered = Vec::new(alloc);
-    for (_, response) in &WORKED {
-        answered.extend_from_slice(response)?;
-    }
-    Ok(answered)
-}
-
 #[test]
-fn each_line_of_the_worked_session(rt: HostRuntime) -> Result<(), Fail> {
-    let mut desk = OneNode::new(rt.alloc()).ok_or("node 1")?;
-    for (request, response) in &WORKED {
-        let mut input = *request;
-        let mut output = Vec::new(rt.alloc());
-        let ended = session(rt.alloc(), &mut input, &mut output, &mut desk)?;
-        let last = request.len() == 2;
-        let end = if last { Ended::BadFrame } else { Ended::Closed };
-        assert_eq!(rt; ended, end);
-        assert_eq!(rt; output.as_slice(), *response);
-    }
-    Ok(())
+fn an_input_that_ends_inside_a_frame_is_refused(rt: HostRuntime) {
+    assert_eq!(rt; first_other(rt.alloc(), &CUTS), None);
 }
 
-#[test]
-fn a_session_ends_at_a_bad_length(rt: HostRuntime) -> Result<(), Fail> {
-    let mut sent = sent(rt.alloc())?;
-    sent.extend_from_slice(b"\x00\x01\x03")?;
-    let mut input = sent.as_slice();
-    let mut output = Vec::new(rt.alloc());
-    let mut desk = OneNode::new(rt.alloc()).ok_or("node 1")?;
-    let ended = session(rt.alloc(), &mut input, &mut output, &mut desk)?;
-    assert_eq!(rt; ended, Ended::BadFrame);
-    assert_eq!(rt; output, answered(rt.alloc())?);
-    assert_eq!(rt; input, b"\x00\x01\x03".as_slice());
-    Ok(())
-}
+/// Frames with a fault, and its code.
+const FAULTS: [(&[u8], u8); 15] = [
+    (b"\x00\x00", 1),
+    (b"\x40\xd9", 1),
+    (b"\xff\xff\x03", 1),
+    (b"\x00\x01\x00", 2),
+    (b"\x00\x01\x06", 2),
+    (b"\x00\x02\x09\x09", 2),
+    (b"\x00\x06\x01\x00\x00\x00\x00\x00", 3),
+    (b"\x00\x05\x02\x00\x00\x00\x00", 3),
+    (b"\x00\x07\x02\x00\x00\x00\x00\x08\x08", 3),
+    (b"\x00\x02\x03\x03", 3),
+    (b"\x00\x07\x01\x00\x00\x00\x00\x00\x01", 4),
+    (b"\x00\x06\x02\x00\x00\x00\x00\x01", 4),
+    (b"\x00\x06\x02\x00\x00\x00\x01\x00", 4),
+    (b"\x00\x06\x02\x00\x00\x00\x01\x09", 4),
+    (b"\x00\x07\x01\x00\x07\x00\x00\x00", 5),
+];
 
-#[test]
-fn a_reader_may_give_one_byte_at_a_time(rt: HostRuntime) -> Result<(), Fail> {
-    let sent = sent(rt.alloc())?;
-    let mut reader = FailingReader::new(sent.as_slice(), 1, 0);
-    let mut output = Vec::new(rt.alloc());
-    let mut desk = OneNode::new(rt.alloc()).ok_or("node 1")?;
-    let ended = session(rt.alloc(), &mut reader, &mut output, &mut desk)?;
-    assert_eq!(rt; ended, Ended::BadFrame);
-    assert_eq!(rt; output, answered(rt.alloc())?);
-    Ok(())
-}
-
-#[test]
-fn an_input_that_ends_inside_a_frame_is_refused(rt: HostRuntime) -> Result<(), Fail> {
-    let (frame, _) = WORKED[0];
-    for cut in 0..frame.len() {
-        let mut input = &frame[..cut];
-        let mut output = Vec::new(rt.alloc());
-        let mut desk = OneNode::new(rt.alloc()).ok_or("node 1")?;
-        let ended = session(rt.alloc(), &mut input, &mut output, &mut desk)?;
-        if cut == 0 {
-            assert_eq!(rt; ended, Ended::Closed);
-            assert!(rt; output.is_empty());
-        } else {
-            assert_eq!(rt; ended, Ended::BadFrame);
-            assert_eq!(rt;
-                output.as_slice(),
-                b"\x00\x06\xee\x13\x00\x00\x00\x05".as_slice()
-            );
-        }
-        assert!(rt; desk.log.is_empty());
-    }
-    Ok(())
-}
-
-#[test]
-fn each_fault_of_a_frame_has_its_code(rt: HostRuntime) -> Result<(), Fail> {
-    let faults: [(&[u8], u8); 15] = [
-        (b"\x00\x00", 1),
-        (b"\x40\xd9", 1),
-        (b"\xff\xff\x03", 1),
-        (b"\x00\x01\x00", 2),
-        (b"\x00\x01\x06", 2),
-        (b"\x00\x02\x09\x09", 2),
-        (b"\x00\x06\x01\x00\x00\x00\x00\x00", 3),
-        (b"\x00\x05\x02\x00\x00\x00\x00", 3),
-        (b"\x00\x07\x02\x00\x00\x00\x00\x08\x08", 3),
-        (b"\x00\x02\x03\x03", 3),
-        (b"\x00\x07\x01\x00\x00\x00\x00\x00\x01", 4),
-        (b"\x00\x06\x02\x00\x00\x00\x00\x01", 4),
-        (b"\x00\x06\x02\x00\x00\x00\x01\x00", 4),
-        (b"\x00\x06\x02\x00\x00\x00\x01\x09", 4),
-        (b"\x00\x07\x01\x00\x07\x00\x00\x00", 5),
-    ];
-    for (frame, code) in &faults {
-        let mut input = *frame;
-        let mut output = Vec::new(rt.alloc());
-        let mut desk = OneNode::new(rt.alloc()).ok_or("node 1")?;
-        let ended = session(rt.alloc(), &mut input, &mut output, &mut desk)?;
-        let goes_on = matches!(*code, 2 | 3 | 4);
+// The first of these frames whose fault, alone in a session, hasn't this code. The session ends at it, unless the frame is whole
+// and its fault is inside.
+fn first_other_fault(alloc: Global, faults: &[(&[u8], u8)]) -> Option<usize> {
+    let mut desk = OneNode::new(alloc);
+    for (place, (frame, code)) in faults.iter().enumerate() {
+        let goes_on = 2 <= *code && *code <= 4;
         let end = if goes_on {
             Ended::Closed
         } else {
             Ended::BadFrame
         };
-        assert_eq!(rt; ended, end, "code {code}");
-        let refused = [0, 6, 0xee, 19, 0, 0, 0, *code];
-        assert_eq!(rt; output.as_slice(), refused.as_slice(), "code {code}");
+        let answered = [0, 6, 0xee, 19, 0, 0, 0, *code];
+        if !goes_so(alloc, &mut desk, (*frame, answered.as_slice(), end)) {
+            return Some(place);
+        }
     }
-    Ok(())
-}
-
-/// How many entries the desk answers to a read from a place on.
-fn count_from(desk: &mut OneNode<Global>, place: u32) -> Result<usize, Fail> {
-    if place == 0 {
-        Err("places are counted from 1")?;
-    }
-    match desk.answer(&Request::Read { place, max: 8 })? {
-        Response::Entries(entries) => Ok(entries.as_slice().len()),
-        _ => Err("entries")?,
-    }
+    None
 }
 
 #[test]
-fn a_reader_goes_on_behind_what_a_frame_had_room_for(rt: HostRuntime) -> Result<(), Fail> {
-    let mut desk = OneNode::new(rt.alloc()).ok_or("node 1")?;
-    let client = ClientId::new(7).ok_or("client 7")?;
-    let payload = Vec::from_elem(rt.alloc(), b'x', 16384)?;
+fn each_fault_of_a_frame_has_its_code(rt: HostRuntime) {
+    assert_eq!(rt; first_other_fault(rt.alloc(), &FAULTS), None);
+}
+
+// How many entries the desk answers to a read from each of these places on, where its log has eight of the longest.
+fn counts_from(alloc: Global, places: [u32; 4]) -> Option<[usize; 4]> {
+    let client = ClientId::new(7)?;
+    let mut desk = OneNode::new(alloc);
+    let payload = [b'x'; MAX_PAYLOAD];
     for number in 1..9 {
-        let told = desk.submit(client, number, &payload)?;
-        assert!(rt; matches!(told, Response::Accepted(_)), "number {number}");
+        desk.submit(client, number, &payload).ok()?;
     }
-    for (place, count) in [(1, 3), (4, 3), (7, 2), (9, 0)] {
-        assert_eq!(rt; count_from(&mut desk, place)?, count, "place {place}");
+    let mut counts = [0; 4];
+    for (place, count) in places.iter().zip(&mut counts) {
+        *count = desk.count_from(*place);
     }
-    Ok(())
+    Some(counts)
+}
+
+#[test]
+fn a_reader_goes_on_behind_what_a_frame_had_room_for(rt: HostRuntime) {
+    assert_eq!(rt; counts_from(rt.alloc(), [1, 4, 7, 9]), Some([3, 3, 2, 0]));
+}
+
+// A submit with the longest payload that a frame has room for, which is too long for a message, and one of number 0.
+fn bad_submits(alloc: Global) -> Result<Vec<u8>, NoMemory> {
+    let mut sent = Vec::with_capacity(alloc, 16_611)?;
+    sent.extend_from_slice(b"\x40\xd8\x01\x00\x07\x00\x00\x00\x01")?;
+    sent.extend_from_slice(&[b'x'; 16_593])?;
+    sent.extend_from_slice(b"\x00\x07\x01\x00\x07\x00\x00\x00\x00")?;
+    Ok(sent)
 }
 
 #[test]
 fn a_long_payload_and_number_zero_are_passed_on(rt: HostRuntime) -> Result<(), Fail> {
-    let mut frame = Vec::new(rt.alloc());
-    frame.extend_from_slice(b"\x40\xd8\x01\x00\x07\x00\x00\x00\x01")?;
-    frame.extend_from_slice(Vec::from_elem(rt.alloc(), b'x', 16593)?.as_slice())?;
-    frame.extend_from_slice(b"\x00\x07\x01\x00\x07\x00\x00\x00\x00")?;
-    let mut input = frame.as_slice();
-    let mut output = Vec::new(rt.alloc());
-    let mut desk = OneNode::new(rt.alloc()).ok_or("node 1")?;
-    let ended = session(rt.alloc(), &mut input, &mut output, &mut desk)?;
-    assert_eq!(rt; ended, Ended::Closed);
+    let sent = bad_submits(rt.alloc())?;
     let refused = b"\x00\x06\xee\x05\x00\x00\x00\x00\x00\x06\xee\x07\x00\x00\x00\x01";
-    assert_eq!(rt; output.as_slice(), refused.as_slice());
+    let line = (sent.as_slice(), refused.as_slice(), Ended::Closed);
+    assert_eq!(rt; first_other(rt.alloc(), &[line]), None);
     Ok(())
 }

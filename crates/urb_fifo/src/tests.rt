@@ -1,12 +1,30 @@
 //! Release of names in and out of order, refused growth, and certificates with room reserved for them.
 
-ghost use Rattle.std.specs.Prelude.{◌≡◌, ◌<◌, ◌≤◌, IfOk, IfSome};
+ghost use Rattle.std.specs.Prelude.{◌≡◌, ◌<◌, ◌≤◌, IfSome};
 
 use super::*;
-use std::alloc::Allocator;
-use std::test::Fail;
+use std::alloc::{Allocator, Global};
 use urb_names::{Config, Name, NoMemory, NodeId};
 use urb_refusing::Refusing;
+
+/// A call for the name of a sender and a number.
+#[derive(Clone, Copy)]
+enum Step {
+    Reserve(u8, u32),
+    /// Its certificate releases so many names.
+    Certify(u8, u32, u32),
+}
+
+/// Calls, and what is told then.
+#[derive(Clone, Copy)]
+struct Script<'a> {
+    steps: &'a [Step],
+    /// Steps after these, which ask for no memory.
+    calm: &'a [Step],
+    log: &'a [(u8, u32)],
+    /// How many names of each sender are released.
+    counts: &'a [(u8, u32)],
+}
 
 fn name(sender: u8, seq: u32) -> Option<Name>
     requires { 0 < seq }
@@ -16,14 +34,34 @@ fn name(sender: u8, seq: u32) -> Option<Name>
     Some(Name { sender, seq })
 }
 
-fn config() -> Result<Config, Fail>
-    ensures { IfOk result (λ config. config ≡ record { n = 3; cap = 10 }) }
+fn config() -> Option<Config>
+    ensures { IfSome result (λ config. config ≡ record { n = 3; cap = 10 }) }
 {
-    Ok(Config::new(3, 10).ok_or("a config")?)
+    Config::new(3, 10)
 }
 
-// Certifies a name, and once more where a growth was refused, which has changed nothing then. How many names it releases, and
-// whether a call was refused; none where that is not so.
+// Reserves room for a name, and once more where a growth was refused, which has changed nothing then. Whether it was refused;
+// none where that is not so.
+fn reserve<A: Allocator + Copy>(fifo: &mut Fifo<A>, name: Name) -> Option<bool>
+    requires sender { name.sender ≤ fifo.old.limits.n }
+    requires seq { name.seq ≤ fifo.old.limits.cap }
+    ensures { fifo.new.limits ≡ fifo.old.limits }
+{
+    let (logged, certified) = (fifo.log().len(), fifo.is_certified(name));
+    if fifo.reserve(name).is_ok() {
+        return Some(false);
+    }
+    if fifo.log().len() != logged || fifo.is_certified(name) != certified {
+        return None;
+    }
+    if fifo.reserve(name).is_ok() {
+        Some(true)
+    } else {
+        None
+    }
+}
+
+// Certifies a name, in the same way. How many names it releases, and whether a call was refused.
 fn certify<A: Allocator + Copy>(fifo: &mut Fifo<A>, certificate: Name) -> Option<(u32, bool)>
     requires sender { certificate.sender ≤ fifo.old.limits.n }
     requires seq { certificate.seq ≤ fifo.old.limits.cap }
@@ -42,22 +80,51 @@ fn certify<A: Allocator + Copy>(fifo: &mut Fifo<A>, certificate: Name) -> Option
     }
 }
 
-// Certifies names, and compares how many each of them releases. Whether a call was refused; none where a number differs.
-fn certify_all<A: Allocator + Copy>(fifo: &mut Fifo<A>, steps: &[(u8, u32, u32)]) -> Option<bool>
+// Does a step for its name. Whether a call was refused; none where a number differs.
+fn is_step_refused<A: Allocator + Copy>(fifo: &mut Fifo<A>, step: Step, name: Name) -> Option<bool>
+    requires sender { name.sender ≤ fifo.old.limits.n }
+    requires seq { name.seq ≤ fifo.old.limits.cap }
+    ensures { fifo.new.limits ≡ fifo.old.limits }
+{
+    let Step::Certify(_, _, want) = step else {
+        return reserve(fifo, name);
+    };
+    let (released, refused) = certify(fifo, name)?;
+    if released == want && fifo.is_certified(name) {
+        Some(refused)
+    } else {
+        None
+    }
+}
+
+// The sender and the number of a step's name.
+fn parts_of(step: Step) -> (u8, u32) {
+    match step {
+        Step::Reserve(sender, seq) => (sender, seq),
+        Step::Certify(sender, seq, _) => (sender, seq),
+    }
+}
+
+// Its name; none where it is none of the group.
+fn name_of(step: Step) -> Option<Name>
+    ensures { IfSome result (λ name. (name.sender ≤ 3) × (name.seq ≤ 10)) }
+{
+    let (sender, seq) = parts_of(step);
+    if sender > 3 || seq == 0 || seq > 10 {
+        return None;
+    }
+    name(sender, seq)
+}
+
+// Does steps, one after the other.
+fn is_refused_in<A: Allocator + Copy>(fifo: &mut Fifo<A>, steps: &[Step]) -> Option<bool>
     requires { fifo.old.limits ≡ record { n = 3; cap = 10 } }
     ensures { fifo.new.limits ≡ fifo.old.limits }
 {
     let mut refused = false;
-    for (sender, seq, want) in steps {
-        if *sender > 3 || *seq == 0 || *seq > 10 {
-            return None;
-        }
-        let certificate = name(*sender, *seq)?;
-        let (released, again) = certify(fifo, certificate)?;
-        if released != *want || !fifo.is_certified(certificate) {
-            return None;
-        }
-        refused |= again;
+    for step in steps {
+        let named = name_of(*step)?;
+        refused |= is_step_refused(fifo, *step, named)?;
     }
     Some(refused)
 }
@@ -76,123 +143,127 @@ fn has_log<A: Allocator + Copy>(fifo: &Fifo<A>, names: &[(u8, u32)]) -> bool {
     true
 }
 
-// Whether each sender has so many released names.
+// Whether each sender has so many released names, and the next is not certified.
 fn has_counts<A: Allocator + Copy>(fifo: &Fifo<A>, counts: &[(u8, u32)]) -> bool {
     for (sender, count) in counts {
-        match NodeId::new(*sender) {
-            Some(sender) if fifo.count(sender) == *count => {}
+        match name(*sender, count.saturating_add(1)) {
+            Some(next) if fifo.count(next.sender) == *count && !fifo.is_certified(next) => {}
             _ => return false,
         }
     }
     true
 }
 
-// Whether a name is certified.
-fn is_certified<A: Allocator + Copy>(fifo: &Fifo<A>, sender: u8, seq: u32) -> bool
-    requires { 0 < seq }
-{
-    match name(sender, seq) {
-        Some(name) => fifo.is_certified(name),
-        None => false,
-    }
-}
-
-#[test]
-fn a_name_waits_for_the_lower_numbers(rt: HostRuntime) -> Result<(), Fail> {
+// Plays a script. Whether a call was refused; none where something is otherwise.
+fn is_refused<A: Allocator + Copy>(
+    alloc: A,
+    heap: &Refusing<Global>,
+    script: Script,
+) -> Option<bool> {
     let config = config()?;
-    let mut fifo = Fifo::new(rt.alloc(), config);
-    let refused = certify_all(&mut fifo, &[(1, 2, 0), (2, 1, 1), (1, 1, 2), (1, 1, 0)]);
-    let is_logged = has_log(&fifo, &[(2, 1), (1, 1), (1, 2)]);
-    let is_counted = has_counts(&fifo, &[(1, 2), (2, 1), (3, 0)]);
-    let is_early = is_certified(&fifo, 1, 3);
-    drop(fifo);
-    assert_eq!(rt; refused, Some(false));
-    assert!(rt; is_logged && is_counted && !is_early);
-    Ok(())
-}
-
-#[test]
-fn the_log_follows_the_certificates(rt: HostRuntime) -> Result<(), Fail> {
-    let config = config()?;
-    let tables: [(&[(u8, u32, u32)], &[(u8, u32)]); 3] = [
-        (&[], &[]),
-        (&[(1, 2, 0), (1, 1, 2)], &[(1, 1), (1, 2)]),
-        (&[(2, 1, 1), (1, 1, 1)], &[(2, 1), (1, 1)]),
-    ];
-    for (steps, log) in &tables {
-        let mut fifo = Fifo::new(rt.alloc(), config);
-        let refused = certify_all(&mut fifo, steps);
-        let is_logged = has_log(&fifo, log);
-        drop(fifo);
-        assert!(rt; refused == Some(false) && is_logged);
-    }
-    Ok(())
-}
-
-// Whether the first name is certified, where room is reserved for it and for what it releases, without asking for memory.
-fn asks_for_nothing<'a, A: Allocator>(
-    fifo: &mut Fifo<&'a Refusing<A>>,
-    heap: &'a Refusing<A>,
-) -> Option<bool>
-    requires { fifo.old.limits ≡ record { n = 3; cap = 10 } }
-{
-    certify_all(fifo, &[(1, 2, 0), (1, 3, 0), (1, 4, 0), (1, 5, 0)])?;
-    fifo.reserve(name(1, 1)?).ok()?;
+    let mut fifo = Fifo::new(alloc, config);
+    let refused = is_refused_in(&mut fifo, script.steps);
     let asked = heap.asked();
-    certify_all(fifo, &[(1, 1, 5), (1, 1, 0)])?;
-    Some(heap.asked() == asked)
-}
-
-#[test]
-fn what_was_reserved_takes_no_memory(rt: HostRuntime) -> Result<(), Fail> {
-    let config = config()?;
-    let heap = Refusing::new(rt.alloc(), 0);
-    let mut fifo = Fifo::new(&heap, config);
-    let asks_for_nothing = asks_for_nothing(&mut fifo, &heap);
+    let again = is_refused_in(&mut fifo, script.calm);
+    let is_calm = heap.asked() == asked;
+    let is_told = has_log(&fifo, script.log) && has_counts(&fifo, script.counts);
     drop(fifo);
-    assert_eq!(rt; asks_for_nothing, Some(true));
-    Ok(())
+    if is_calm && is_told {
+        Some(refused? || again?)
+    } else {
+        None
+    }
 }
 
-// Reserves room for the first name and certifies six, where growths may be refused. Whether a call was refused; none where a
-// refused one changed something, or a number differs.
-fn certify_six<A: Allocator + Copy>(fifo: &mut Fifo<A>) -> Option<bool>
-    requires { fifo.old.limits ≡ record { n = 3; cap = 10 } }
-{
-    let first = name(1, 1)?;
-    let refused = fifo.reserve(first).is_err();
-    if refused && !(fifo.log().is_empty() && !fifo.is_certified(first)) {
-        return None;
-    }
-    let steps = [
-        (1, 2, 0),
-        (1, 1, 2),
-        (1, 5, 0),
-        (1, 3, 1),
-        (1, 6, 0),
-        (1, 4, 3),
-    ];
-    let again = certify_all(fifo, &steps)?;
-    if !has_counts(fifo, &[(1, 6)]) {
-        return None;
-    }
-    Some(refused || again)
+// The same where the growth of this number is refused, and none at 0. Whether it was; none also where another call was refused.
+fn play(alloc: Global, refused: u64, script: Script) -> Option<bool> {
+    let heap = Refusing::new(alloc, refused);
+    let told = is_refused(&heap, &heap, script);
+    let met = heap.met();
+    drop(heap);
+    if told == Some(met) { told } else { None }
 }
 
 #[test]
-fn each_growth_may_be_refused(rt: HostRuntime) -> Result<(), Fail> {
-    let config = config()?;
+fn a_name_waits_for_the_lower_numbers(rt: HostRuntime) {
+    let script = Script {
+        steps: &[
+            Step::Certify(1, 2, 0),
+            Step::Certify(2, 1, 1),
+            Step::Certify(1, 1, 2),
+            Step::Certify(1, 1, 0),
+        ],
+        calm: &[],
+        log: &[(2, 1), (1, 1), (1, 2)],
+        counts: &[(1, 2), (2, 1), (3, 0)],
+    };
+    assert_eq!(rt; play(rt.alloc(), 0, script), Some(false));
+}
+
+#[test]
+fn the_log_follows_the_certificates(rt: HostRuntime) {
+    let tables: [(&[Step], &[(u8, u32)]); 3] = [
+        (&[], &[]),
+        (
+            &[Step::Certify(1, 2, 0), Step::Certify(1, 1, 2)],
+            &[(1, 1), (1, 2)],
+        ),
+        (
+            &[Step::Certify(2, 1, 1), Step::Certify(1, 1, 1)],
+            &[(2, 1), (1, 1)],
+        ),
+    ];
+    for (steps, log) in tables {
+        let script = Script {
+            steps,
+            calm: &[],
+            log,
+            counts: &[],
+        };
+        assert_eq!(rt; play(rt.alloc(), 0, script), Some(false));
+    }
+}
+
+#[test]
+fn what_was_reserved_takes_no_memory(rt: HostRuntime) {
+    let script = Script {
+        steps: &[
+            Step::Certify(1, 2, 0),
+            Step::Certify(1, 3, 0),
+            Step::Certify(1, 4, 0),
+            Step::Certify(1, 5, 0),
+            Step::Reserve(1, 1),
+        ],
+        calm: &[Step::Certify(1, 1, 5), Step::Certify(1, 1, 0)],
+        log: &[(1, 1), (1, 2), (1, 3), (1, 4), (1, 5)],
+        counts: &[(1, 5)],
+    };
+    assert_eq!(rt; play(rt.alloc(), 0, script), Some(false));
+}
+
+#[test]
+fn each_growth_may_be_refused(rt: HostRuntime) {
+    let script = Script {
+        steps: &[
+            Step::Reserve(1, 1),
+            Step::Certify(1, 2, 0),
+            Step::Certify(1, 1, 2),
+            Step::Certify(1, 5, 0),
+            Step::Certify(1, 3, 1),
+            Step::Certify(1, 6, 0),
+            Step::Certify(1, 4, 3),
+        ],
+        calm: &[],
+        log: &[(1, 1), (1, 2), (1, 3), (1, 4), (1, 5), (1, 6)],
+        counts: &[(1, 6)],
+    };
     let mut most = 0;
     for refused in 1..12 {
-        let heap = Refusing::new(rt.alloc(), refused);
-        let mut fifo = Fifo::new(&heap, config);
-        let told = certify_six(&mut fifo);
-        drop(fifo);
-        assert_eq!(rt; told, Some(heap.met()));
-        if heap.met() {
+        let told = play(rt.alloc(), refused, script);
+        assert!(rt; told.is_some());
+        if told == Some(true) {
             most = refused;
         }
     }
     assert!(rt; 2 <= most, "a growth was refused");
-    Ok(())
 }

@@ -1,11 +1,12 @@
 //! Outside vectors of the packet grammar, and memory that is refused.
-ghost use Rattle.std.specs.Prelude.{◌≡◌, ◌≢◌, ◌≤◌, length, IfOk};
+ghost use Rattle.std.specs.Prelude.{◌≡◌, ◌≢◌, ◌≤◌, length, IfSome};
 ghost use Rattle.urb_names.specs.Packets.{FitsVersion};
 
+mod faults;
+mod growth;
+
 use std::alloc::Global;
-use std::test::Fail;
 use urb_names::*;
-use urb_refusing::Refusing;
 
 // Node 1 sends node 2 its first message, `a` with number 1 of client 7.
 const WITH_PAYLOAD: &[u8] =
@@ -19,10 +20,19 @@ const WITHOUT_PAYLOAD: &[u8] =
 const WITH_FLAGS: &[u8] =
     b"\x55\x42\x02\x01\x02\x01\x01\x00\x00\x00\x01\x00\x07\x00\x00\x00\x01\x00\x01a";
 
-fn node(number: u8) -> Result<NodeId, Fail>
-    ensures { IfOk result (λ p. p ≡ number) }
+fn node(number: u8) -> Option<NodeId>
+    ensures { IfSome result (λ p. p ≡ number) }
 {
-    Ok(NodeId::new(number).ok_or("a node")?)
+    NodeId::new(number)
+}
+
+// A name; none where there is no such sender or number.
+fn name(sender: u8, seq: u32) -> Option<Name> {
+    if seq == 0 {
+        return None;
+    }
+    let sender = node(sender)?;
+    Some(Name { sender, seq })
 }
 
 // The first message of node 1, from client 7 with number 1.
@@ -32,20 +42,17 @@ fn first(
     target: u8,
     payload: &[u8],
     flags: Option<Flags>,
-) -> Result<Packet, Fail>
+) -> Option<Packet>
     requires apart { source ≢ target }
     requires payload { length payload.now ≤ MAX_PAYLOAD }
     requires version { FitsVersion flags payload.now }
 {
-    let source = node(source)?;
-    let target = node(target)?;
-    let client = ClientId::new(7).ok_or("a client")?;
-    let name = Name {
-        sender: node(1)?,
-        seq: 1,
-    };
-    let message = Message::copied(alloc, client, 1, payload)?;
-    Ok(Packet::new(source, target, name, message, flags))
+    let (source, target) = (node(source)?, node(target)?);
+    let (name, client) = (name(1, 1)?, ClientId::new(7)?);
+    match Message::copied(alloc, client, 1, payload) {
+        Ok(message) => Some(Packet::new(source, target, name, message, flags)),
+        Err(NoMemory) => None,
+    }
 }
 
 fn are_same(first: &Packet, second: &Packet) -> bool {
@@ -56,237 +63,139 @@ fn are_same(first: &Packet, second: &Packet) -> bool {
         && first.flags() == second.flags()
 }
 
+// Whether a packet is spelled so.
+fn is_spelled(alloc: Global, packet: &Packet, bytes: &[u8]) -> bool {
+    match encode(alloc, packet) {
+        Ok(spelled) => spelled.as_slice() == bytes,
+        Err(NoMemory) => false,
+    }
+}
+
+// Whether these bytes are read as this packet.
+fn is_read(alloc: Global, packet: &Packet, bytes: &[u8]) -> bool {
+    match decode(alloc, bytes) {
+        Ok(read) => are_same(&read, packet),
+        Err(_fault) => false,
+    }
+}
+
+// Whether a view of these bytes is this packet without a copy.
+fn is_viewed(alloc: Global, packet: &Packet, bytes: &[u8]) -> bool {
+    let Ok(view) = parse(bytes) else {
+        return false;
+    };
+    match view.to_packet(alloc) {
+        Ok(read) => are_same(&read, packet),
+        Err(NoMemory) => false,
+    }
+}
+
+// Whether the first message of node 1 is spelled so from one node to another, and read back.
+fn is_vector(
+    alloc: Global,
+    source: u8,
+    target: u8,
+    payload: &[u8],
+    flags: Option<Flags>,
+    bytes: &[u8],
+) -> bool
+    requires apart { source ≢ target }
+    requires payload { length payload.now ≤ MAX_PAYLOAD }
+    requires version { FitsVersion flags payload.now }
+{
+    let Some(packet) = first(alloc, source, target, payload, flags) else {
+        return false;
+    };
+    let is_so = is_spelled(alloc, &packet, bytes)
+        && is_read(alloc, &packet, bytes)
+        && is_viewed(alloc, &packet, bytes);
+    drop(packet);
+    is_so
+}
+
 #[test]
-fn packets_are_spelled_and_read_as_in_the_vectors(rt: HostRuntime) -> Result<(), Fail> {
-    let alloc = rt.alloc();
-    let with_payload = first(alloc, 1, 2, b"a", None)?;
-    let without_payload = first(alloc, 2, 1, b"", None)?;
+fn packets_are_spelled_and_read_as_in_the_vectors(rt: HostRuntime) {
     let certified = Flags {
         certified: true,
         heard: false,
     };
-    let with_flags = first(alloc, 1, 2, b"a", Some(certified))?;
-    for (packet, bytes) in [
-        (&with_payload, WITH_PAYLOAD),
-        (&without_payload, WITHOUT_PAYLOAD),
-        (&with_flags, WITH_FLAGS),
-    ] {
-        assert!(rt; encode(alloc, packet)?.as_slice() == bytes);
-        assert!(rt; are_same(&decode(alloc, bytes)?, packet));
-    }
-    Ok(())
+    assert!(rt; is_vector(rt.alloc(), 1, 2, b"a", None, WITH_PAYLOAD));
+    assert!(rt; is_vector(rt.alloc(), 2, 1, b"", None, WITHOUT_PAYLOAD));
+    assert!(rt; is_vector(rt.alloc(), 1, 2, b"a", Some(certified), WITH_FLAGS));
 }
 
-#[test]
-fn a_view_is_the_packet_without_a_copy(rt: HostRuntime) -> Result<(), Fail> {
-    let alloc = rt.alloc();
-    let view = parse(WITH_PAYLOAD)?;
-    assert_eq!(rt; view.source().number(), 1);
-    assert_eq!(rt; view.target().number(), 2);
-    assert_eq!(rt; view.name().sender.number(), 1);
-    assert_eq!(rt; view.name().seq, 1);
-    assert_eq!(rt; view.client().number(), 7);
-    assert_eq!(rt; view.number(), 1);
-    assert!(rt; view.payload() == b"a".as_slice());
-    assert_eq!(rt; view.flags(), None);
-    assert!(rt; are_same(&view.to_packet(alloc)?, &first(alloc, 1, 2, b"a", None)?));
+// Whether a view of the first vector shows each of its parts.
+fn shows_parts(view: &PacketView) -> bool {
+    view.source().number() == 1
+        && view.target().number() == 2
+        && view.name().sender.number() == 1
+        && view.name().seq == 1
+        && view.client().number() == 7
+        && view.number() == 1
+        && view.payload() == b"a".as_slice()
+        && view.flags().is_none()
+}
+
+// Whether its packet has the payload.
+fn has_payload(alloc: Global) -> Option<bool> {
     let payload = first(alloc, 1, 2, b"a", None)?
         .into_message()
         .into_payload();
-    assert!(rt; payload.as_slice() == b"a".as_slice());
-    Ok(())
+    Some(payload.as_slice() == b"a".as_slice())
 }
 
 #[test]
-fn the_byte_of_flags_says_what_is_certified_and_what_was_heard(
-    rt: HostRuntime,
-) -> Result<(), Fail> {
-    let alloc = rt.alloc();
-    for (byte, certified, heard) in [
-        (0, false, false),
-        (1, true, false),
-        (2, false, true),
-        (3, true, true),
-    ] {
-        let mut bytes = Vec::from_slice(alloc, WITH_FLAGS)?;
-        bytes[5] = byte;
-        let flags = Flags { certified, heard };
-        assert_eq!(rt; flags.number(), byte);
-        assert_eq!(rt; Flags::of_number(byte), Some(flags));
-        assert_eq!(rt; parse(&bytes)?.flags(), Some(flags));
-        let packet = first(alloc, 1, 2, b"a", Some(flags))?;
-        assert!(rt; encode(alloc, &packet)?.as_slice() == bytes.as_slice());
-        assert!(rt; are_same(&parse(&bytes)?.to_packet(alloc)?, &packet));
-    }
-    Ok(())
-}
-
-#[test]
-fn bytes_are_refused_with_their_first_fault(rt: HostRuntime) -> Result<(), Fail> {
-    let cases: [(&[u8], PacketFault); 11] = [
-        (
-            b"\x55\x42\x01\x01\x02\x01\x00\x00\x00\x01\x00\x07\x00\x00\x00\x01\x00",
-            PacketFault::Short,
-        ),
-        (
-            b"\x55\x42\x02\x01\x02\x01\x01\x00\x00\x00\x01\x00\x07\x00\x00\x00\x01\x00",
-            PacketFault::Short,
-        ),
-        (
-            b"\x55\x43\x01\x01\x02\x01\x00\x00\x00\x01\x00\x07\x00\x00\x00\x01\x00\x01a",
-            PacketFault::Magic,
-        ),
-        (
-            b"\x55\x43\x02\x01\x02\x01\x01\x00\x00\x00\x01\x00\x07\x00\x00\x00\x01\x00",
-            PacketFault::Magic,
-        ),
-        (
-            b"\x55\x42\x00\x01\x02\x01\x00\x00\x00\x01\x00\x07\x00\x00\x00\x01\x00\x01a",
-            PacketFault::Version,
-        ),
-        (
-            b"\x55\x42\x03\x01\x02\x01\x01\x00\x00\x00\x01\x00\x07\x00\x00\x00\x01\x00\x01a",
-            PacketFault::Version,
-        ),
-        (
-            b"\x55\x42\x09\x02\x02\x01\x00\x00\x00\x00\x00\x07\x00\x00\x00\x01\x00\x09a",
-            PacketFault::Version,
-        ),
-        (
-            b"\x55\x42\x01\x01\x02\x01\x00\x00\x00\x01\x00\x07\x00\x00\x00\x01\x00\x01aa",
-            PacketFault::Length,
-        ),
-        (
-            b"\x55\x42\x02\x01\x02\x04\x01\x00\x00\x00\x01\x00\x07\x00\x00\x00\x01\x00\x02a",
-            PacketFault::Length,
-        ),
-        (
-            b"\x55\x42\x01\x02\x02\x01\x00\x00\x00\x01\x00\x07\x00\x00\x00\x01\x00\x01a",
-            PacketFault::Range,
-        ),
-        (
-            b"\x55\x42\x02\x01\x02\x04\x01\x00\x00\x00\x01\x00\x07\x00\x00\x00\x01\x00\x01a",
-            PacketFault::Range,
-        ),
-    ];
-    for (bytes, fault) in cases {
-        assert_eq!(rt;
-            decode(rt.alloc(), bytes).err(),
-            Some(Refusal::Packet(fault))
-        );
-        assert_eq!(rt; parse(bytes).err(), Some(fault));
-    }
-    Ok(())
-}
-
-#[test]
-fn a_packet_that_is_cut_or_has_more_is_refused(rt: HostRuntime) -> Result<(), Fail> {
-    for (packet, header) in [(WITH_PAYLOAD, 18), (WITH_FLAGS, 19)] {
-        for (end, _) in packet.iter().enumerate() {
-            let fault = if end < header {
-                PacketFault::Short
-            } else {
-                PacketFault::Length
-            };
-            assert_eq!(rt; parse(&packet[..end]).err(), Some(fault));
-        }
-        let mut more = Vec::from_slice(rt.alloc(), packet)?;
-        more.push(0)?;
-        assert_eq!(rt; parse(&more).err(), Some(PacketFault::Length));
-    }
-    Ok(())
-}
-
-/// These bytes, a length, and so many letters.
-fn with_letters(alloc: Global, front: &[u8], size: u16) -> Result<Vec<u8>, Fail> {
-    let mut bytes = Vec::from_slice(alloc, front)?;
-    bytes.extend_from_slice(&size.to_be_bytes())?;
-    for _ in 0..size {
-        bytes.push(b'x')?;
-    }
-    Ok(bytes)
-}
-
-#[test]
-fn the_greatest_length_of_a_payload_goes_by_the_version(rt: HostRuntime) -> Result<(), Fail> {
-    for (front, longest, longer) in [
-        (&WITH_PAYLOAD[..16], 1024, 1025),
-        (&WITH_FLAGS[..17], 16384, 16385),
-    ] {
-        let bytes = with_letters(rt.alloc(), front, longest)?;
-        assert_eq!(rt; parse(&bytes)?.payload().len(), usize::from(longest));
-        let bytes = with_letters(rt.alloc(), front, longer)?;
-        assert_eq!(rt; parse(&bytes).err(), Some(PacketFault::Length));
-    }
-    Ok(())
-}
-
-#[test]
-fn a_byte_more_or_less_at_any_place_is_seen(rt: HostRuntime) -> Result<(), Fail> {
-    for (place, _) in WITH_FLAGS.iter().enumerate() {
-        let mut more = Vec::from_slice(rt.alloc(), &WITH_FLAGS[..place])?;
-        more.push(0)?;
-        more.extend_from_slice(&WITH_FLAGS[place..])?;
-        let fault = match place {
-            0 | 1 => PacketFault::Magic,
-            2 => PacketFault::Version,
-            _ => PacketFault::Length,
-        };
-        assert_eq!(rt; parse(&more).err(), Some(fault));
-
-        let mut less = Vec::from_slice(rt.alloc(), &WITH_FLAGS[..place])?;
-        less.extend_from_slice(&WITH_FLAGS[place + 1..])?;
-        // Without its third byte this happens to be a packet of version one: the source stands for the version.
-        let fault = match place {
-            0 | 1 => Some(PacketFault::Magic),
-            2 => None,
-            _ => Some(PacketFault::Length),
-        };
-        assert_eq!(rt; parse(&less).err(), fault);
-    }
-    Ok(())
-}
-
-#[test]
-fn a_refusal_has_its_number_and_its_detail(rt: HostRuntime) -> Result<(), Fail> {
-    let node = node(3)?;
-    let name = Name {
-        sender: node,
-        seq: 4,
+fn a_view_is_the_packet_without_a_copy(rt: HostRuntime) {
+    let shows_parts = match parse(WITH_PAYLOAD) {
+        Ok(view) => shows_parts(&view),
+        Err(_fault) => false,
     };
-    let cases = [
-        (Refusal::NoMemory, 1, 0),
-        (Refusal::BadNode, 2, 0),
-        (Refusal::Down, 3, 0),
-        (Refusal::Busy, 4, 0),
-        (Refusal::TooLong, 5, 0),
-        (Refusal::Conflict, 6, 0),
-        (Refusal::Gap(9), 7, 9),
-        (Refusal::Full, 8, 0),
-        (Refusal::Forged, 9, 0),
-        (Refusal::Packet(PacketFault::Range), 10, 0),
-        (Refusal::Stale, 11, 0),
-        (Refusal::NotDown, 12, 0),
-        (Refusal::BadImage, 13, 0),
+    assert!(rt; shows_parts);
+    assert_eq!(rt; has_payload(rt.alloc()), Some(true));
+}
+
+// Whether flags have this number in the byte of a packet.
+fn are_numbered(alloc: Global, flags: Flags, byte: u8, bytes: &[u8]) -> bool {
+    let read = match parse(bytes) {
+        Ok(view) => view.flags(),
+        Err(_fault) => None,
+    };
+    flags.number() == byte
+        && Flags::of_number(byte) == Some(flags)
+        && read == Some(flags)
+        && is_vector(alloc, 1, 2, b"a", Some(flags), bytes)
+}
+
+#[test]
+fn the_byte_of_flags_says_what_is_certified_and_what_was_heard(rt: HostRuntime) {
+    let cases: [(&[u8], bool, bool); 4] = [
         (
-            Refusal::Inconsistent {
-                rule: Rule::C,
-                node,
-                name,
-            },
-            14,
-            0,
+            b"\x55\x42\x02\x01\x02\x00\x01\x00\x00\x00\x01\x00\x07\x00\x00\x00\x01\x00\x01a",
+            false,
+            false,
         ),
-        (Refusal::Device, 15, 0),
-        (Refusal::Place(4), 16, 4),
-        (Refusal::BadRow(5), 17, 5),
-        (Refusal::BadLine(6), 18, 0),
-        (Refusal::Frame(2), 19, 2),
+        (
+            b"\x55\x42\x02\x01\x02\x01\x01\x00\x00\x00\x01\x00\x07\x00\x00\x00\x01\x00\x01a",
+            true,
+            false,
+        ),
+        (
+            b"\x55\x42\x02\x01\x02\x02\x01\x00\x00\x00\x01\x00\x07\x00\x00\x00\x01\x00\x01a",
+            false,
+            true,
+        ),
+        (
+            b"\x55\x42\x02\x01\x02\x03\x01\x00\x00\x00\x01\x00\x07\x00\x00\x00\x01\x00\x01a",
+            true,
+            true,
+        ),
     ];
-    for (refusal, number, detail) in cases {
-        assert_eq!(rt; (refusal.number(), refusal.detail()), (number, detail));
+    let mut byte: u8 = 0;
+    for (bytes, certified, heard) in cases {
+        let flags = Flags { certified, heard };
+        assert!(rt; are_numbered(rt.alloc(), flags, byte, bytes), "{byte}");
+        byte = byte.saturating_add(1);
     }
-    Ok(())
 }
 
 #[test]
@@ -298,66 +207,14 @@ fn more_than_half_is_a_majority(rt: HostRuntime) {
     }
 }
 
-#[test]
-fn names_are_ordered_by_sender_and_then_by_number(rt: HostRuntime) -> Result<(), Fail> {
-    let early = Name {
-        sender: node(1)?,
-        seq: 9,
-    };
-    let late = Name {
-        sender: node(2)?,
-        seq: 1,
-    };
-    assert!(rt; early < late && early.is_before(late) && !late.is_before(early));
-    assert!(rt;
-        !early.is_before(early)
-            && early.is_before(Name {
-                sender: node(1)?,
-                seq: 10
-            })
-    );
-    Ok(())
-}
-
-type Heap<'h> = &'h Refusing<Global>;
-
-// A packet is read, copied and spelled again; a call that was refused memory is made once more.
-fn read_and_spelled<'h>(heap: Heap<'h>) -> Result<Vec<u8, Heap<'h>>, Refusal> {
-    let packet = match decode(heap, WITH_PAYLOAD) {
-        Ok(packet) => packet,
-        Err(_) => decode(heap, WITH_PAYLOAD)?,
-    };
-    let message = match packet.message().copy(heap) {
-        Ok(message) => message,
-        Err(_) => packet.message().copy(heap)?,
-    };
-    let packet = Packet::new(
-        packet.source(),
-        packet.target(),
-        packet.name(),
-        message,
-        packet.flags(),
-    );
-    match encode(heap, &packet) {
-        Ok(bytes) => Ok(bytes),
-        Err(_) => Ok(encode(heap, &packet)?),
-    }
+// Whether names are ordered by sender and then by number.
+fn are_ordered() -> Option<bool> {
+    let (early, later, late) = (name(1, 9)?, name(1, 10)?, name(2, 1)?);
+    let by_sender = early < late && early.is_before(late) && !late.is_before(early);
+    Some(by_sender && !early.is_before(early) && early.is_before(later))
 }
 
 #[test]
-fn each_growth_refused_is_a_refusal_for_memory(rt: HostRuntime) -> Result<(), Fail> {
-    let mut growths = 0;
-    for refused in 1..100 {
-        let heap = Refusing::new(rt.alloc(), refused);
-        let bytes = read_and_spelled(&heap)?;
-        assert!(rt; bytes.as_slice() == WITH_PAYLOAD);
-        if !heap.met() {
-            growths = heap.asked();
-            break;
-        }
-        let first = Refusing::new(rt.alloc(), 1);
-        assert_eq!(rt; decode(&first, WITH_PAYLOAD).err(), Some(Refusal::NoMemory));
-    }
-    assert_eq!(rt; growths, 3);
-    Ok(())
+fn names_are_ordered_by_sender_and_then_by_number(rt: HostRuntime) {
+    assert_eq!(rt; are_ordered(), Some(true));
 }

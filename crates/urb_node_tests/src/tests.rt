@@ -1,65 +1,74 @@
 //! One node under test, with its store in memory.
 
+ghost use Rattle.std.specs.Prelude.{◌≡◌, IfSome};
+ghost use Rattle.urb_names.specs.Names.{name};
+
 mod answers;
-mod bench;
+mod calling;
 mod calls;
-mod led;
+mod keeping;
 mod opening;
 mod packets;
+mod playing;
 mod receipts;
 mod refused;
 mod restarts;
+mod rising;
+mod rows;
+mod sending;
+mod states;
 mod ticks;
 
-use crate::tests::bench::{Bench, Owned};
-use crate::tests::led::{
-    BOTH, Call, Form, IS_CERTIFIED, IS_HEARD, Led, NEITHER, Origin, Row, What, expected,
-};
+use crate::tests::rows::{Form, Kept};
 use std::alloc::Allocator;
-use std::test::Fail;
-use urb_names::{ClientId, Flags, MAX_PAYLOAD, Message, Name, NodeId, Packet, Refusal};
-use urb_node::{Done, Down, Ready, Storing};
-use urb_stable::{Draft, MemStable, Receipt, Record, Stable};
-use urb_stubborn::Outbox;
+use urb_names::{ClientId, MAX_PAYLOAD, Message, Name, NodeId};
+use urb_stable::Record;
 
-/// How many messages a node may broadcast, where nothing else is said.
-const CAP: u32 = 20;
-
-fn node(number: u8) -> Result<NodeId, Fail> {
-    Ok(NodeId::new(number).ok_or("a node")?)
-}
-
-fn client(number: u16) -> Result<ClientId, Fail> {
-    Ok(ClientId::new(number).ok_or("a client")?)
-}
-
-fn name(sender: u8, seq: u32) -> Result<Name, Fail> {
+// The name of this sender with this number; none where there is no such one.
+fn name(sender: u8, seq: u32) -> Option<Name>
+    ensures { IfSome result (λ x. x ≡ name sender seq) }
+{
     if seq == 0 {
-        return Err(Fail::from("numbers begin at 1"));
+        return None;
     }
-    let sender = node(sender)?;
-    Ok(Name { sender, seq })
+    let sender = NodeId::new(sender)?;
+    Some(Name { sender, seq })
 }
 
-// A message of client 7.
-fn message<A: Allocator + Copy>(alloc: A, number: u32, payload: &[u8]) -> Result<Message<A>, Fail> {
+// A message of this client, with a copy of the payload; none where there is no such one, or no memory.
+fn message<A: Allocator + Copy>(
+    alloc: A,
+    client: u16,
+    number: u32,
+    payload: &[u8],
+) -> Option<Message<A>>
+    ensures { IfSome result (λ m. m ≡ record { client = client; number = number; payload = payload.now }) }
+{
     if number == 0 || payload.len() > MAX_PAYLOAD {
-        return Err(Fail::from("no message is such"));
+        return None;
     }
-    Ok(Message::copied(alloc, client(7)?, number, payload)?)
+    let client = ClientId::new(client)?;
+    Message::copied(alloc, client, number, payload).ok()
 }
 
 // A record about a message of client 7, which has the number of its name.
 fn record_of<A: Allocator + Copy>(
     calm: A,
-    form: Form,
+    form: &Form,
     named: Name,
     payload: &[u8],
-) -> Result<Record<Message<A>>, Fail> {
-    let sent = message(calm, named.seq, payload)?;
-    Ok(match form {
-        Form::Pending => Record::Pend(named, sent),
-        Form::Certified => Record::PendCert(named, sent),
+) -> Option<Record<Message<A>>> {
+    Some(match form {
+        Form::Pending => Record::Pend(named, message(calm, 7, named.seq, payload)?),
+        Form::Certified => Record::PendCert(named, message(calm, 7, named.seq, payload)?),
         Form::Certificate => Record::Cert(named),
     })
+}
+
+// The record of a row of an image.
+fn kept_record<A: Allocator + Copy>(
+    calm: A,
+    (form, sender, payload): &Kept,
+) -> Option<Record<Message<A>>> {
+    record_of(calm, form, name(*sender, 1)?, payload)
 }

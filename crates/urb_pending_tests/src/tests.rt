@@ -5,44 +5,35 @@ ghost use Rattle.std.specs.Prelude.{◌≡◌};
 mod growth;
 mod numbers;
 mod order;
+mod told;
 
 use std::alloc::{Allocator, Global};
-use std::test::Fail;
+use told::{Check, are_told, holds};
 use urb_names::{ClientId, Config, Message, Name, NoMemory, NodeId};
 use urb_pending::*;
 use urb_refusing::Refusing;
 
-/// Refuses one growth.
-type Heap<'h> = &'h Refusing<Global>;
-
 const CAP: u32 = 40;
 
-fn node(number: u8) -> Result<NodeId, Fail> {
-    Ok(NodeId::new(number).ok_or("a node")?)
+/// A message to be added: the sender and number of its name, its client, and the client's number.
+type Row = (u8, u32, u16, u32);
+
+/// What is added to the set of a node, with or without room reserved for each message, and what is told of it then.
+#[derive(Clone, Copy)]
+struct Script<'a> {
+    node: u8,
+    reserving: bool,
+    rows: &'a [Row],
+    checks: &'a [Check<'a>],
 }
 
-fn client(number: u16) -> Result<ClientId, Fail> {
-    Ok(ClientId::new(number).ok_or("a client")?)
-}
-
-fn name(sender: u8, seq: u32) -> Result<Name, Fail> {
+// A name; none where there is no such sender or number.
+fn name(sender: u8, seq: u32) -> Option<Name> {
     if seq == 0 {
-        return Err(Fail::from("numbers begin at 1"));
+        return None;
     }
-    let sender = node(sender)?;
-    Ok(Name { sender, seq })
-}
-
-// A message of a client, with its number as the payload.
-fn message<A: Allocator + Copy>(
-    alloc: A,
-    client: ClientId,
-    number: u32,
-) -> Result<Message<A>, Fail> {
-    if number == 0 {
-        return Err(Fail::from("numbers begin at 1"));
-    }
-    Ok(Message::copied(alloc, client, number, &number.to_be_bytes())?)
+    let sender = NodeId::new(sender)?;
+    Some(Name { sender, seq })
 }
 
 /// The pending set of a node of three, with what `add` asks for tested before it is called.
@@ -56,77 +47,142 @@ struct Tested<A: Allocator> {
 }
 
 impl<A: Allocator + Copy> Tested<A> {
-    fn new(alloc: A, number: u8) -> Result<Tested<A>, Fail> {
-        let config = Config::new(3, CAP).ok_or("a config")?;
-        let node = node(number)?;
-        Ok(Tested {
+    fn new(alloc: A, number: u8) -> Option<Tested<A>> {
+        let config = Config::new(3, CAP)?;
+        let node = NodeId::new(number)?;
+        Some(Tested {
             config,
             node,
             pending: Pending::new(alloc, config, node),
         })
     }
 
-    fn add(
-        &mut self,
-        name: Name,
-        message: Message<A>,
-    ) -> Result<Result<(), (Message<A>, NoMemory)>, Fail> {
-        if self.pending.message(name).is_some() {
-            return Err(Fail::from("the name is pending"));
+    // Adds a message, with its number as the payload, behind those before it. Where the growth was refused, nothing has changed
+    // and the message came back, which goes in the second time. Whether it was refused; none where that is not so, or the
+    // message can't be added.
+    fn add(&mut self, messages: A, row: Row, before: &[Row]) -> Option<bool> {
+        let (sender, seq, client, number) = row;
+        let (name, client) = (name(sender, seq)?, ClientId::new(client)?);
+        if number == 0 || self.pending.message(name).is_some() {
+            return None;
         }
         if name.sender.number() > self.config.n() || name.seq > self.config.cap() {
-            return Err(Fail::from("the name is beyond the limits"));
+            return None;
         }
         let own = name.sender == self.node;
         if own && name.seq != self.pending.own_len() + 1 {
-            return Err(Fail::from("the name is not the node's next"));
+            return None;
         }
-        if own && message.number() != self.pending.client_next(message.client()) {
-            return Err(Fail::from("the number is not the client's next"));
+        if own && number != self.pending.client_next(client) {
+            return None;
         }
-        Ok(self.pending.add(name, message))
+        let message = Message::copied(messages, client, number, &number.to_be_bytes()).ok()?;
+        let Err((back, NoMemory)) = self.pending.add(name, message) else {
+            return Some(false);
+        };
+        if !holds(&self.pending, before) {
+            return None;
+        }
+        match self.pending.add(name, back) {
+            Ok(()) => Some(true),
+            Err(_refused) => None,
+        }
+    }
+
+    // Reserves room for a message, in the same way.
+    fn reserve(&mut self, row: Row, before: &[Row]) -> Option<bool> {
+        let (sender, seq, client, _number) = row;
+        let (name, client) = (name(sender, seq)?, ClientId::new(client)?);
+        if self.pending.reserve(name, client).is_ok() {
+            return Some(false);
+        }
+        if !holds(&self.pending, before) {
+            return None;
+        }
+        self.pending.reserve(name, client).ok()?;
+        Some(true)
+    }
+
+    // Adds a message, where `reserving` once room is reserved, and then without asking for memory.
+    fn put(
+        &mut self,
+        messages: A,
+        heap: &Refusing<Global>,
+        reserving: bool,
+        row: Row,
+        before: &[Row],
+    ) -> Option<bool> {
+        let refused = reserving && self.reserve(row, before)?;
+        let asked = heap.asked();
+        let again = self.add(messages, row, before)?;
+        if reserving && heap.asked() != asked {
+            return None;
+        }
+        Some(refused || again)
+    }
+
+    // Adds the messages one after the other. Whether a call was refused.
+    fn put_all(&mut self, messages: A, heap: &Refusing<Global>, script: Script) -> Option<bool> {
+        let mut refused = false;
+        for (index, row) in script.rows.iter().enumerate() {
+            let before = &script.rows[..index];
+            refused |= self.put(messages, heap, script.reserving, *row, before)?;
+        }
+        Some(refused)
     }
 }
 
-// Adds a message of another node, numbered as its name is.
-fn add_other<A: Allocator + Copy>(set: &mut Tested<A>, alloc: A, name: Name) -> Result<(), Fail> {
-    let sent = message(alloc, client(7)?, name.seq)?;
-    if set.add(name, sent)?.is_err() {
-        return Err(Fail::from("a message was refused"));
-    }
-    Ok(())
+// Plays a script on a new set. Whether a call was refused; none where something is told otherwise.
+fn is_refused<A: Allocator + Copy>(
+    alloc: A,
+    messages: A,
+    heap: &Refusing<Global>,
+    script: Script,
+) -> Option<bool> {
+    let mut set = Tested::new(alloc, script.node)?;
+    let refused = set.put_all(messages, heap, script);
+    let is_told = holds(&set.pending, script.rows)
+        && are_told(&set.pending, messages, script.checks);
+    drop(set);
+    if is_told { refused } else { None }
 }
 
-// Whether a client's messages are those under these numbers of node 1, and its next number is the one behind them.
-fn is_numbered<A: Allocator + Copy>(
-    pending: &Pending<A>,
-    of: u16,
-    owns: &[u32],
-) -> Result<bool, Fail> {
-    let of = client(of)?;
-    let mut next: u32 = 1;
-    for &own in owns {
-        if pending.find(of, next) != Some(name(1, own)?) {
-            return Ok(false);
-        }
-        next = next.saturating_add(1);
-    }
-    Ok(pending.client_next(of) == next && pending.find(of, next).is_none())
+// Plays a script where the growth of this number is refused, and none at 0. Whether it was; none where something is told
+// otherwise, or another call was refused.
+fn play(alloc: Global, refused: u64, script: Script) -> Option<bool> {
+    let calm = Refusing::new(alloc, 0);
+    let heap = Refusing::new(alloc, refused);
+    let told = is_refused(&heap, &calm, &heap, script);
+    let met = heap.met();
+    drop(heap);
+    drop(calm);
+    if told == Some(met) { told } else { None }
 }
 
-// What is told of a sender: how far its names go without a gap, how many are behind it, and how many are pending at all.
-fn told<A: Allocator + Copy>(pending: &Pending<A>, sender: NodeId) -> [u32; 3] {
-    [pending.low(sender), pending.above(sender), pending.count()]
+// The k-th of the numbers 1 to 40 in some order.
+#[derive(Clone, Copy)]
+enum Way {
+    Rising,
+    Falling,
+    OddFirst,
 }
 
-// Whether a window has this many messages, with the client's numbers 1, 2, 3, ..
-fn is_counted<A: Allocator + Copy>(window: &[Message<A>], count: usize) -> bool {
-    let mut next = 1;
-    for message in window {
-        if message.number() != next {
-            return false;
-        }
-        next = next.saturating_add(1);
+// The number behind so many others.
+fn number_in(way: Way, before: u32) -> u32 {
+    match way {
+        Way::Rising => before.saturating_add(1),
+        Way::Falling => CAP.saturating_sub(before),
+        Way::OddFirst if before < 20 => 2 * before + 1,
+        Way::OddFirst => before.saturating_sub(19).saturating_mul(2),
     }
-    window.len() == count
+}
+
+// The messages of node 2 with the numbers 1 to 40 in this order, all of client 7.
+fn forty(way: Way) -> [Row; 40] {
+    let mut rows = [(2, 0, 7, 0); 40];
+    for before in 0..40u32 {
+        let seq = number_in(way, before);
+        rows[before as usize] = (2, seq, 7, seq);
+    }
+    rows
 }

@@ -88,116 +88,129 @@ fn is_bad(rt: &(impl Abort + AllocGlobal), line: &[u8]) -> Result<(), Fail> {
     )
 }
 
+/// Scripts whose first line is bad.
+const BAD_FIRST: [&[u8]; 12] = [
+    b"",
+    b"\n",
+    b"log 1\n",
+    b"stored 1\ngroup 1 10\n",
+    b"group 0 10\n",
+    b"group 8 10\n",
+    b"group 1 0\n",
+    b"group 1 1000001\n",
+    b"group 1\n",
+    b"group 1 10 \n",
+    b" group 1 10\n",
+    b"Group 1 10\n",
+];
+
+/// Lines that are bad behind a first one.
+const BAD: [&[u8]; 62] = [
+    b"",
+    b"group 1 10",
+    b"log  1",
+    b" log 1",
+    b"log 1 ",
+    b"log",
+    b"log 01",
+    b"log +1",
+    b"log -1",
+    b"log 0",
+    b"log 8",
+    b"log 1 1",
+    b"log 18446744073709551617",
+    b"stored",
+    b"stored x",
+    b"stored 1\r",
+    b"submit 1 7",
+    b"submit 1 7 1",
+    b"submit 1 7 1 ",
+    b"submit 1 7 1 a b",
+    b"submit 1 07 1 a",
+    b"submit 1 0 1 a",
+    b"submit 1 65536 1 a",
+    b"submit 1 7 4294967296 a",
+    b"submit 1 7 1 \x7f",
+    b"submit 1 7 1 \xc3\xa9",
+    b"submit 8 7 1 a",
+    b"reopen 1",
+    b"reopen ",
+    b"fail 1",
+    b"fail 1 Old",
+    b"fail 1 old new",
+    b"crash",
+    b"restart 0",
+    b"tick 1 1",
+    b"arrive 1 1 1 1",
+    b"arrive 1 2 1",
+    b"arrive 1 2 8 1",
+    b"arrive 1 2 1 0",
+    b"arrive 1 2 1 4294967296",
+    b"arrive 1 2 1.1",
+    b"arrive2 1 2 1 1",
+    b"arrive2 1 2 1 1 4",
+    b"arrive2 1 2 1 1 00",
+    b"arrive2 1 2 1 1 1 1",
+    b"arrive2 1 1 1 1 1",
+    b"arrive2 1 2 1.1 1",
+    b"arrive3 1 2 1 1 1",
+    b"raw 1",
+    b"raw 1 ",
+    b"raw 1 --",
+    b"raw 1 5",
+    b"raw 1 5g",
+    b"raw 1 55 42",
+    b"held 1",
+    b"held 1 1",
+    b"held 1.0",
+    b"held 1.01",
+    b"held 1.4294967296",
+    b"held 8.1",
+    b"held .1",
+    b"held 1.1.1",
+];
+
 #[test]
 fn bad_lines_end_the_run(rt: HostRuntime) -> Result<(), Fail> {
-    for script in [
-        b"".as_slice(),
-        b"\n",
-        b"log 1\n",
-        b"stored 1\ngroup 1 10\n",
-        b"group 0 10\n",
-        b"group 8 10\n",
-        b"group 1 0\n",
-        b"group 1 1000001\n",
-        b"group 1\n",
-        b"group 1 10 \n",
-        b" group 1 10\n",
-        b"Group 1 10\n",
-    ] {
+    for script in BAD_FIRST {
         gives(&rt, script, b"bad line 1\n", Ended::BadLine(1))?;
     }
-    for line in [
-        b"".as_slice(),
-        b"group 1 10",
-        b"log  1",
-        b" log 1",
-        b"log 1 ",
-        b"log",
-        b"log 01",
-        b"log +1",
-        b"log -1",
-        b"log 0",
-        b"log 8",
-        b"log 1 1",
-        b"log 18446744073709551617",
-        b"stored",
-        b"stored x",
-        b"stored 1\r",
-        b"submit 1 7",
-        b"submit 1 7 1",
-        b"submit 1 7 1 ",
-        b"submit 1 7 1 a b",
-        b"submit 1 07 1 a",
-        b"submit 1 0 1 a",
-        b"submit 1 65536 1 a",
-        b"submit 1 7 4294967296 a",
-        b"submit 1 7 1 \x7f",
-        b"submit 1 7 1 \xc3\xa9",
-        b"submit 8 7 1 a",
-        b"reopen 1",
-        b"reopen ",
-        b"fail 1",
-        b"fail 1 Old",
-        b"fail 1 old new",
-        b"crash",
-        b"restart 0",
-        b"tick 1 1",
-        b"arrive 1 1 1 1",
-        b"arrive 1 2 1",
-        b"arrive 1 2 8 1",
-        b"arrive 1 2 1 0",
-        b"arrive 1 2 1 4294967296",
-        b"arrive 1 2 1.1",
-        b"arrive2 1 2 1 1",
-        b"arrive2 1 2 1 1 4",
-        b"arrive2 1 2 1 1 00",
-        b"arrive2 1 2 1 1 1 1",
-        b"arrive2 1 1 1 1 1",
-        b"arrive2 1 2 1.1 1",
-        b"arrive3 1 2 1 1 1",
-        b"raw 1",
-        b"raw 1 ",
-        b"raw 1 --",
-        b"raw 1 5",
-        b"raw 1 5g",
-        b"raw 1 55 42",
-        b"held 1",
-        b"held 1 1",
-        b"held 1.0",
-        b"held 1.01",
-        b"held 1.4294967296",
-        b"held 8.1",
-        b"held .1",
-        b"held 1.1.1",
-    ] {
+    for line in BAD {
         is_bad(&rt, line)?;
     }
     Ok(())
 }
 
+/// A script whose second line has 13 bytes, so many times 1,024 letters, and more letters.
+fn long_script(alloc: Global, times: usize, more: usize) -> Result<Vec<u8>, Fail> {
+    let mut script = Vec::new(alloc);
+    script.extend_from_slice(b"group 1 10\nsubmit 1 7 1 ")?;
+    for _ in 0..times {
+        script.extend_from_slice([b'x'; 1024].as_slice())?;
+    }
+    for _ in 0..more {
+        script.push(b'x')?;
+    }
+    Ok(script)
+}
+
+/// Lengths of its second line, and whether it is too long: 64,525 bytes, 65,536 and 65,537.
+const LENGTHS: [(usize, usize, bool); 4] = [
+    (63, 0, false),
+    (63, 1011, false),
+    (63, 1012, true),
+    (64, 1024, true),
+];
+
 #[test]
 fn a_line_has_at_most_its_greatest_length(rt: HostRuntime) -> Result<(), Fail> {
-    // 13 bytes, and 63 times 1,024 or 64 times: 64,525 bytes, 65,536 and 65,537.
-    for (times, more, ended, answers) in [
-        (
-            63,
-            0,
-            Ended::Whole,
-            b"group 1 10\nrefused toolong\n".as_slice(),
-        ),
-        (63, 1011, Ended::Whole, b"group 1 10\nrefused toolong\n"),
-        (63, 1012, Ended::BadLine(2), b"group 1 10\nbad line 2\n"),
-        (64, 1024, Ended::BadLine(2), b"group 1 10\nbad line 2\n"),
-    ] {
-        let mut script = Vec::new(rt.alloc());
-        script.extend_from_slice(b"group 1 10\nsubmit 1 7 1 ")?;
-        for _ in 0..times {
-            script.extend_from_slice([b'x'; 1024].as_slice())?;
+    for (times, more, too_long) in LENGTHS {
+        let script = long_script(rt.alloc(), times, more)?;
+        if too_long {
+            gives(&rt, &script, b"group 1 10\nbad line 2\n", Ended::BadLine(2))?;
+        } else {
+            gives(&rt, &script, b"group 1 10\nrefused toolong\n", Ended::Whole)?;
         }
-        for _ in 0..more {
-            script.push(b'x')?;
-        }
-        gives(&rt, script.as_slice(), answers, ended)?;
     }
     Ok(())
 }

@@ -1,53 +1,43 @@
 //! Ticks by example, what was heard between them, and each growth refused in turn.
 
-ghost use Rattle.std.specs.Prelude.{◌≡◌, ◌≤◌, IfOk, length};
+ghost use Rattle.std.specs.Prelude.{◌≡◌};
 
 mod growth;
 mod heard;
 mod packets;
+mod steps;
 mod ticks;
 
 use super::*;
 use std::alloc::{Allocator, Global};
-use std::test::Fail;
+use steps::{Sent, Step, is_refused_in};
 use urb_certified::Certified;
-use urb_names::{
-    ClientId, Config, Flags, MAX_PLAIN_PAYLOAD, Message, Name, NoMemory, NodeId, Packet,
-};
+use urb_names::{ClientId, Config, Message, Name, NodeId};
 use urb_pending::Pending;
 use urb_refusing::Refusing;
 
-/// Refuses one growth.
-type Heap<'h> = &'h Refusing<Global>;
-
 const CAP: u32 = 40;
 
-fn node(number: u8) -> Result<NodeId, Fail> {
-    Ok(NodeId::new(number).ok_or("a node")?)
+/// What node 1 of a group has stored, and what is done then with its resends.
+#[derive(Clone, Copy)]
+struct Script<'a> {
+    nodes: u8,
+    /// Pending are the names of each sender, from 1 to a number.
+    names: &'a [(u8, u32)],
+    /// Certified are these of node 2.
+    certified: &'a [u32],
+    steps: &'a [Step<'a>],
+    /// Steps after these, which ask for no memory.
+    calm: &'a [Step<'a>],
 }
 
-fn config(n: u8) -> Result<Config, Fail> {
-    Ok(Config::new(n, CAP).ok_or("a config")?)
-}
-
-// A name of a sender.
-fn name(sender: u8, seq: u32) -> Result<Name, Fail> {
+// A name; none where there is no such sender or number.
+fn name(sender: u8, seq: u32) -> Option<Name> {
     if seq == 0 {
-        return Err(Fail::from("numbers begin at 1"));
+        return None;
     }
-    let sender = node(sender)?;
-    Ok(Name { sender, seq })
-}
-
-// A message of a client.
-fn message<A: Allocator + Copy>(alloc: A, number: u32) -> Result<Message<A>, Fail>
-    ensures { IfOk result (λ m. length m.payload ≤ MAX_PLAIN_PAYLOAD) }
-{
-    let client = ClientId::new(7).ok_or("a client")?;
-    if number == 0 {
-        return Err(Fail::from("numbers begin at 1"));
-    }
-    Ok(Message::copied(alloc, client, number, b"a")?)
+    let sender = NodeId::new(sender)?;
+    Some(Name { sender, seq })
 }
 
 /// What node 1 of a group has pending and certified.
@@ -62,10 +52,10 @@ struct Stored<A: Allocator> {
 }
 
 impl<A: Allocator + Copy> Stored<A> {
-    fn new(alloc: A, n: u8) -> Result<Stored<A>, Fail> {
-        let config = config(n)?;
-        let node = node(1)?;
-        Ok(Stored {
+    fn new(alloc: A, nodes: u8) -> Option<Stored<A>> {
+        let config = Config::new(nodes, CAP)?;
+        let node = NodeId::new(1)?;
+        Some(Stored {
             config,
             node,
             pending: Pending::new(alloc, config, node),
@@ -73,125 +63,120 @@ impl<A: Allocator + Copy> Stored<A> {
         })
     }
 
-    // A message of another node under this name.
-    fn take(&mut self, alloc: A, name: Name) -> Result<(), Fail> {
-        let client = ClientId::new(7).ok_or("a client")?;
+    // Adds a message of another node under this name. Whether it could be.
+    fn adds(&mut self, alloc: A, name: Name) -> bool {
         if name.sender == self.node
             || name.sender.number() > self.config.n()
             || name.seq > self.config.cap()
             || self.pending.message(name).is_some()
         {
-            return Err(Fail::from("the name can't be added"));
+            return false;
         }
-        match self
-            .pending
-            .add(name, Message::copied(alloc, client, 1, b"a")?)
-        {
-            Ok(()) => Ok(()),
-            Err(_refused) => Err(Fail::from("no memory")),
+        let Some(client) = ClientId::new(7) else {
+            return false;
+        };
+        match Message::copied(alloc, client, 1, b"a") {
+            Ok(message) => self.pending.add(name, message).is_ok(),
+            Err(_no_memory) => false,
         }
+    }
+
+    // Adds the names 1 to count of a node.
+    fn adds_names(&mut self, alloc: A, sender: u8, count: u32) -> bool {
+        for before in 0..count {
+            match name(sender, before + 1) {
+                Some(name) if self.adds(alloc, name) => {}
+                _ => return false,
+            }
+        }
+        true
+    }
+
+    // Certifies names of node 2.
+    fn certifies(&mut self, seqs: &[u32]) -> bool {
+        for seq in seqs {
+            match name(2, *seq) {
+                Some(name) if self.certified.add(name).is_ok() => {}
+                _ => return false,
+            }
+        }
+        true
+    }
+
+    // Stores what a script asks for.
+    fn stores(&mut self, alloc: A, script: Script) -> bool {
+        for (sender, count) in script.names {
+            if !self.adds_names(alloc, *sender, *count) {
+                return false;
+            }
+        }
+        self.certifies(script.certified)
     }
 }
 
-// Takes the names 1 to count of a node.
-fn take_names<A: Allocator + Copy>(
-    stored: &mut Stored<A>,
+// Plays a script on new resends. Whether a call was refused; none where something is otherwise.
+fn is_refused_over<A: Allocator + Copy>(
     alloc: A,
-    sender: u8,
-    count: u32,
-) -> Result<(), Fail> {
-    for index in 0..count.min(CAP) {
-        stored.take(alloc, name(sender, index + 1)?)?;
+    heap: &Refusing<Global>,
+    stored: &Stored<A>,
+    script: Script,
+) -> Option<bool> {
+    if stored.node.number() > stored.config.n() {
+        return None;
     }
-    Ok(())
-}
-
-// Node 1 of a group of n, with the names 1 to count of node 2.
-fn with_names<A: Allocator + Copy>(alloc: A, n: u8, count: u32) -> Result<Stored<A>, Fail> {
-    let mut stored = Stored::new(alloc, n)?;
-    take_names(&mut stored, alloc, 2, count)?;
-    Ok(stored)
-}
-
-// Node 1 of a group of three, with the names 1 to 20 of each other node.
-fn with_names_of_two<A: Allocator + Copy>(alloc: A) -> Result<Stored<A>, Fail> {
-    let mut stored = with_names(alloc, 3, 20)?;
-    take_names(&mut stored, alloc, 3, 20)?;
-    Ok(stored)
-}
-
-// The resends of node 1 of a group.
-fn resend<A: Allocator + Copy>(alloc: A, config: Config) -> Result<Resend<A>, Fail> {
-    let node = node(1)?;
-    if node.number() > config.n() {
-        return Err(Fail::from("the node is not of the group"));
+    let mut resend = Resend::new(alloc, stored.config, stored.node);
+    let refused = is_refused_in(&mut resend, alloc, stored, script.steps);
+    let asked = heap.asked();
+    let again = is_refused_in(&mut resend, alloc, stored, script.calm);
+    let is_calm = heap.asked() == asked;
+    drop(resend);
+    if is_calm {
+        Some(refused? || again?)
+    } else {
+        None
     }
-    Ok(Resend::new(alloc, config, node))
 }
 
-// A node's certificate is heard, with room of its own.
-fn hear<A: Allocator + Copy>(
-    resend: &mut Resend<A>,
-    name: Name,
-    node: NodeId,
-) -> Result<(), NoMemory> {
-    resend.reserve(name)?;
-    resend.hear(name, node);
-    Ok(())
-}
-
-// Whether a packet of node 1 goes to this node, under this name, and doesn't say that a certificate was heard.
-fn is_sent<A: Allocator + Copy>(packet: &Packet<A>, (target, sender, seq): (u8, u8, u32)) -> bool {
-    let name = packet.name();
-    let heard = match packet.flags() {
-        Some(flags) => flags.heard,
-        None => true,
+// The same, with what it asks for stored in other memory.
+fn is_refused<A: Allocator + Copy>(
+    alloc: A,
+    messages: A,
+    heap: &Refusing<Global>,
+    script: Script,
+) -> Option<bool> {
+    let mut stored = Stored::new(messages, script.nodes)?;
+    let refused = if stored.stores(messages, script) {
+        is_refused_over(alloc, heap, &stored, script)
+    } else {
+        None
     };
-    packet.source().number() == 1
-        && packet.target().number() == target
-        && name.sender.number() == sender
-        && name.seq == seq
-        && !heard
+    drop(stored);
+    refused
 }
 
-// Whether the packets are these, each a target with a sender and its number, and none says that a certificate was heard.
-fn are<A: Allocator + Copy>(outbox: &Outbox<A>, wanted: &[(u8, u8, u32)]) -> bool {
-    for (index, one) in wanted.iter().enumerate() {
-        let Some(packet) = outbox.get(index) else {
-            return false;
-        };
-        if !is_sent(packet, *one) {
-            return false;
-        }
-    }
-    outbox.len() == wanted.len()
+// The same where the growth of this number is refused, and none at 0. Whether it was; none also where another call was refused.
+fn play(alloc: Global, refused: u64, script: Script) -> Option<bool> {
+    let calm = Refusing::new(alloc, 0);
+    let heap = Refusing::new(alloc, refused);
+    let told = is_refused(&heap, &calm, &heap, script);
+    let met = heap.met();
+    drop(heap);
+    drop(calm);
+    if told == Some(met) { told } else { None }
 }
 
-// Whether the packets are of these names of node 2, in order, each to this node.
-fn are_to<A: Allocator + Copy>(outbox: &Outbox<A>, target: u8, seqs: &[u32]) -> bool {
-    for (index, seq) in seqs.iter().enumerate() {
-        let Some(packet) = outbox.get(index) else {
-            return false;
-        };
-        let name = packet.name();
-        if packet.target().number() != target || name.sender.number() != 2 || name.seq != *seq {
-            return false;
-        }
-    }
-    outbox.len() == seqs.len()
+// Plays steps of node 1 of a group, where the names of other nodes are pending.
+fn plays(alloc: Global, nodes: u8, names: &[(u8, u32)], steps: &[Step]) -> bool {
+    let script = Script {
+        nodes,
+        names,
+        certified: &[],
+        steps,
+        calm: &[],
+    };
+    play(alloc, 0, script) == Some(false)
 }
 
 const FIRST_TICK: [u32; 16] = [1, 2, 3, 4, 5, 6, 7, 8, 9, 10, 11, 12, 13, 14, 15, 16];
 
 const SECOND_TICK: [u32; 16] = [17, 1, 2, 3, 4, 5, 6, 7, 8, 9, 10, 11, 12, 13, 14, 15];
-
-// Whether a tick sends these names of node 2 to it.
-fn ticks_to_two<A: Allocator + Copy>(
-    resend: &mut Resend<A>,
-    alloc: A,
-    stored: &Stored<A>,
-    seqs: &[u32],
-) -> Result<bool, Fail> {
-    let sent = resend.tick(alloc, &stored.pending, &stored.certified)?;
-    Ok(are_to(&sent, 2, seqs))
-}

@@ -1,125 +1,300 @@
-//! Sessions in which memory is refused, or the reader or the writer fails.
+//! Runs in which memory is refused, or the reader or the writer fails: at the first place, then at the second, and so on.
 
-use super::{OneNode, WORKED, answered, sent};
-use std::test::Fail;
+use super::frames::eight_entries;
+use super::node::OneNode;
+use super::receiving::has_entries;
+use super::{ANSWERED, SENT, first_frame};
+use std::alloc::{Allocator, Global};
+use std::fmt::Display;
 use urb_client::*;
+use urb_names::NoMemory;
 use urb_refusing::{FailingReader, FailingWriter, Refusing};
 
-/// Whether these bytes are the first so many answers, each of them whole.
-fn is_whole_answers(written: &[u8]) -> bool {
-    let mut rest = written;
-    for (_, response) in &WORKED {
-        match rest.strip_prefix(*response) {
-            Some(after) => rest = after,
+// What fails, and in what.
+#[derive(Clone, Copy)]
+enum Failing {
+    SessionGrowth,
+    SessionRead,
+    SessionWrite,
+    PageGrowth,
+    ResponseRead,
+    ResponseGrowth,
+}
+
+// What came of a run: the failure was told, it was not met and all went well, or something else.
+#[derive(Clone, Copy)]
+enum Came {
+    Told,
+    Well,
+    Other,
+}
+
+// What came of a run, by whether the failure was met, whether it was told then, and whether all went well else.
+fn came_of(met: bool, told: bool, well: bool) -> Came {
+    match (met, told, well) {
+        (true, true, _) => Came::Told,
+        (false, _, true) => Came::Well,
+        _ => Came::Other,
+    }
+}
+
+// Where a session fails, by the number of the growth, of the read, and of the write or flush, 0 for nowhere; and in what pieces
+// it reads and writes.
+#[derive(Clone, Copy)]
+struct Course {
+    growth: u64,
+    read: u64,
+    write: u64,
+    pieces: (usize, usize),
+}
+
+// A session that fails nowhere, whose reader gives pieces of three bytes.
+const SMOOTH: Course = Course {
+    growth: 0,
+    read: 0,
+    write: 0,
+    pieces: (3, 100),
+};
+
+// What a session came to: how it ended; whether it met its failure, and whether that was its last growth, read, write or flush;
+// whether all answers were written, or the first so many of them, each whole, and whether they were flushed; how many reads and
+// flushes there were.
+#[derive(Clone, Copy)]
+struct Outcome {
+    ended: Result<Ended, SessionFault>,
+    met: bool,
+    last: bool,
+    all: bool,
+    whole: bool,
+    flushed: bool,
+    reads: u64,
+    flushes: u64,
+}
+
+impl Outcome {
+    // Whether the session ended so.
+    fn ends(&self, fault: SessionFault) -> bool {
+        self.ended == Err(fault)
+    }
+
+    // Whether the session went as it does where nothing fails.
+    fn is_well(&self) -> bool {
+        self.ended == Ok(Ended::BadFrame) && self.all && self.flushed && self.flushes == 8
+    }
+}
+
+// Whether these bytes are the first so many answers, each of them whole.
+fn are_whole_answers(written: &[u8]) -> bool {
+    let (mut rest, mut answered) = (written, ANSWERED);
+    for _ in 0..8u8 {
+        let (answer, answers) = first_frame(answered);
+        match rest.strip_prefix(answer) {
+            Some(after) => (rest, answered) = (after, answers),
             None => return rest.is_empty(),
         }
     }
     rest.is_empty()
 }
 
-#[test]
-fn each_growth_may_be_refused(rt: HostRuntime) -> Result<(), Fail> {
-    let sent = sent(rt.alloc())?;
-    let answered = answered(rt.alloc())?;
-    let mut ran = false;
-    for refused in 1..200u64 {
-        let heap = Refusing::new(rt.alloc(), refused);
-        let mut reader = FailingReader::new(sent.as_slice(), 1200, 0);
-        let mut room = [0u8; 100];
-        let mut writer = FailingWriter::new(&mut room, 3, 0);
-        let mut desk = OneNode::new(&heap).ok_or("node 1")?;
-        let ended = session(&heap, &mut reader, &mut writer, &mut desk);
-        if !heap.met() {
-            assert!(rt; matches!(ended, Ok(Ended::BadFrame)));
-            assert_eq!(rt; writer.written(), answered.as_slice());
-            assert!(rt; 1 < refused);
-            ran = true;
-            break;
-        }
-        assert!(rt;
-            matches!(ended, Err(SessionFault::NoMemory)),
-            "growth {refused}"
-        );
-        assert!(rt; is_whole_answers(writer.written()), "growth {refused}");
-        assert!(rt; heap.asked() == refused, "growth {refused}");
+// How a session ends at the desk of a node whose log is empty.
+fn ended<A: Allocator + Copy>(
+    alloc: A,
+    reader: &mut FailingReader<'_>,
+    writer: &mut FailingWriter<'_>,
+) -> Result<Ended, SessionFault> {
+    let mut desk = OneNode::new(alloc);
+    session(alloc, reader, writer, &mut desk)
+}
+
+// What the worked session comes to on this course.
+fn played(alloc: Global, course: Course) -> Outcome {
+    let heap = Refusing::new(alloc, course.growth);
+    let mut reader = FailingReader::new(SENT, course.pieces.0.max(1), course.read);
+    let mut room = [0u8; 100];
+    let mut writer = FailingWriter::new(&mut room, course.pieces.1, course.write);
+    let ended = ended(&heap, &mut reader, &mut writer);
+    Outcome {
+        ended,
+        met: heap.met() || reader.met() || writer.met(),
+        last: heap.asked() == course.growth || reader.failed_last() || writer.failed_last(),
+        all: writer.written() == ANSWERED,
+        whole: are_whole_answers(writer.written()),
+        flushed: writer.is_flushed(),
+        reads: reader.reads(),
+        flushes: writer.flushes(),
     }
-    assert!(rt; ran);
-    Ok(())
 }
 
 #[test]
-fn the_reader_may_fail_at_each_call(rt: HostRuntime) -> Result<(), Fail> {
-    let sent = sent(rt.alloc())?;
-    let answered = answered(rt.alloc())?;
-    let mut ran = false;
-    for failing in 1..200u64 {
-        let mut reader = FailingReader::new(sent.as_slice(), 3, failing);
-        let mut room = [0u8; 100];
-        let mut writer = FailingWriter::new(&mut room, 100, 0);
-        let mut desk = OneNode::new(rt.alloc()).ok_or("node 1")?;
-        let ended = session(rt.alloc(), &mut reader, &mut writer, &mut desk);
-        if !reader.met() {
-            assert!(rt; matches!(ended, Ok(Ended::BadFrame)));
-            assert_eq!(rt; writer.written(), answered.as_slice());
-            // A length takes one read, and each three bytes after it take one more.
-            assert_eq!(rt; reader.reads(), 22);
-            ran = true;
-            break;
-        }
-        assert!(rt; matches!(ended, Err(SessionFault::Read)), "read {failing}");
-        assert!(rt; reader.failed_last(), "read {failing}");
-        assert!(rt; is_whole_answers(writer.written()), "read {failing}");
-        assert!(rt; writer.is_flushed(), "read {failing}");
-    }
-    assert!(rt; ran);
-    Ok(())
+fn a_session_ends_at_a_bad_length_byte_by_byte(rt: HostRuntime) {
+    let outcome = played(
+        rt.alloc(),
+        Course {
+            pieces: (1, 100),
+            ..SMOOTH
+        },
+    );
+    assert!(rt; outcome.is_well());
+    // A read for each byte up to the bad length, and none for the frame behind it.
+    assert_eq!(rt; outcome.reads, 52);
 }
 
-/// How many reads the first answers take: two a frame, but the last one has no bytes after its length.
+// A session in which this growth is refused, and answers are written in pieces.
+fn session_growth(alloc: Global, number: u64) -> Came {
+    let outcome = played(
+        alloc,
+        Course {
+            growth: number,
+            pieces: (1200, 3),
+            ..SMOOTH
+        },
+    );
+    let told = outcome.ends(SessionFault::NoMemory) && outcome.last && outcome.whole;
+    came_of(outcome.met, told, outcome.is_well())
+}
+
+// A session in which this read fails.
+fn session_read(alloc: Global, number: u64) -> Came {
+    let outcome = played(
+        alloc,
+        Course {
+            read: number,
+            ..SMOOTH
+        },
+    );
+    let told = outcome.ends(SessionFault::Read) && outcome.last && outcome.whole && outcome.flushed;
+    came_of(outcome.met, told, outcome.is_well())
+}
+
+// How many reads the first answers take: two a frame, but the last one has no bytes after its length.
 fn reads_for(answers: u64) -> u64 {
-    if answers == 8 {
-        15
-    } else {
-        answers.saturating_mul(2)
+    answers.saturating_mul(2).min(15)
+}
+
+// A session in which this write or flush fails. The frame after an answer isn't read before that is flushed, nor after the fault.
+fn session_write(alloc: Global, number: u64) -> Came {
+    let outcome = played(
+        alloc,
+        Course {
+            write: number,
+            pieces: (1200, 100),
+            ..SMOOTH
+        },
+    );
+    let told = outcome.ends(SessionFault::Write) && outcome.last;
+    let reads = reads_for(number.saturating_add(1) / 2);
+    came_of(
+        outcome.met,
+        told && outcome.reads == reads,
+        outcome.is_well(),
+    )
+}
+
+// The frame of a page, written and read, where this growth is refused.
+fn page_growth(alloc: Global, number: u64) -> Came {
+    let heap = Refusing::new(alloc, number);
+    let read = eight_entries(&heap);
+    came_of(heap.met(), read == Err(NoMemory), read == Ok(true))
+}
+
+// A page of one entry.
+const PAGE: &[u8] = b"\x00\x11\x82\x01\x01\x00\x00\x00\x01\x00\x07\x00\x00\x00\x01\x00\x02hi";
+
+// A response that is received, where this read fails.
+fn response_read(alloc: Global, number: u64) -> Came {
+    let mut reader = FailingReader::new(PAGE, 3, number);
+    let read = has_entries(alloc, &mut reader);
+    let told = read == Err(ResponseFault::Read) && reader.failed_last();
+    came_of(reader.met(), told, read == Ok(true))
+}
+
+// A response that is received, where this growth is refused.
+fn response_growth(alloc: Global, number: u64) -> Came {
+    let heap = Refusing::new(alloc, number);
+    let mut reader = PAGE;
+    let read = has_entries(&heap, &mut reader);
+    let told = read == Err(ResponseFault::NoMemory);
+    came_of(heap.met(), told, read == Ok(true))
+}
+
+// What comes of a run that fails at this place.
+fn came_at(alloc: Global, failing: Failing, number: u64) -> Came {
+    match failing {
+        Failing::SessionGrowth => session_growth(alloc, number),
+        Failing::SessionRead => session_read(alloc, number),
+        Failing::SessionWrite => session_write(alloc, number),
+        Failing::PageGrowth => page_growth(alloc, number),
+        Failing::ResponseRead => response_read(alloc, number),
+        Failing::ResponseGrowth => response_growth(alloc, number),
     }
 }
 
-#[test]
-fn each_write_and_each_flush_may_fail(rt: HostRuntime) -> Result<(), Fail> {
-    let sent = sent(rt.alloc())?;
-    let mut ran = false;
-    for failing in 1..200u64 {
-        let mut reader = FailingReader::new(sent.as_slice(), 1200, 0);
-        let mut room = [0u8; 100];
-        let mut writer = FailingWriter::new(&mut room, 100, failing);
-        let mut desk = OneNode::new(rt.alloc()).ok_or("node 1")?;
-        let ended = session(rt.alloc(), &mut reader, &mut writer, &mut desk);
-        if !writer.met() {
-            assert!(rt; matches!(ended, Ok(Ended::BadFrame)));
-            // Each answer takes a write, and a flush behind it.
-            assert_eq!(rt; (writer.calls(), writer.flushes()), (16, 8));
-            assert!(rt; writer.is_flushed());
-            ran = true;
-            break;
+// The first place that no run comes to, where each failure before it was told; else the place of the first that was not.
+fn first_unmet(alloc: Global, failing: Failing) -> Result<u64, u64> {
+    for number in 1..200u64 {
+        match came_at(alloc, failing, number) {
+            Came::Told => {}
+            Came::Well => return Ok(number),
+            Came::Other => return Err(number),
         }
-        assert!(rt; matches!(ended, Err(SessionFault::Write)), "call {failing}");
-        assert!(rt; writer.failed_last(), "call {failing}");
-        // The frame after the answer isn't read before it is flushed, nor after the fault.
-        let answers = failing.saturating_add(1) / 2;
-        assert_eq!(rt; reader.reads(), reads_for(answers), "call {failing}");
     }
-    assert!(rt; ran);
-    Ok(())
+    Err(200)
 }
 
 #[test]
-fn faults_have_their_texts(rt: HostRuntime) -> Result<(), Fail> {
-    for (fault, text) in [
-        (SessionFault::Read, "read failed"),
-        (SessionFault::Write, "write failed"),
-        (SessionFault::NoMemory, "no memory"),
-    ] {
-        assert_eq!(rt; format!(in rt.alloc(); "{fault}")?.as_str(), text);
+fn each_growth_may_be_refused(rt: HostRuntime) {
+    let unmet = first_unmet(rt.alloc(), Failing::SessionGrowth);
+    assert!(rt; matches!(unmet, Ok(2..)));
+}
+
+#[test]
+fn the_reader_may_fail_at_each_call(rt: HostRuntime) {
+    // A length takes one read, and each three bytes after it take one more: 22 reads.
+    assert_eq!(rt; first_unmet(rt.alloc(), Failing::SessionRead), Ok(23));
+}
+
+#[test]
+fn each_write_and_each_flush_may_fail(rt: HostRuntime) {
+    // Each of eight answers takes a write, and a flush behind it.
+    assert_eq!(rt; first_unmet(rt.alloc(), Failing::SessionWrite), Ok(17));
+}
+
+#[test]
+fn each_growth_of_a_frame_may_be_refused(rt: HostRuntime) {
+    let unmet = first_unmet(rt.alloc(), Failing::PageGrowth);
+    assert!(rt; matches!(unmet, Ok(22..)));
+}
+
+#[test]
+fn a_failed_read_is_told(rt: HostRuntime) {
+    // The length takes one read, and each three bytes after it take one more: seven reads.
+    assert_eq!(rt; first_unmet(rt.alloc(), Failing::ResponseRead), Ok(8));
+}
+
+#[test]
+fn each_growth_for_a_response_may_be_refused(rt: HostRuntime) {
+    let unmet = first_unmet(rt.alloc(), Failing::ResponseGrowth);
+    assert!(rt; matches!(unmet, Ok(2..)));
+}
+
+// Whether the fault is written so.
+fn is_written<F: Display>(alloc: Global, fault: &F, text: &str) -> bool {
+    match format!(in alloc; "{fault}") {
+        Ok(written) => written.as_str() == text,
+        Err(_) => false,
     }
-    Ok(())
+}
+
+#[test]
+fn faults_have_their_texts(rt: HostRuntime) {
+    let alloc = rt.alloc();
+    let written = [
+        is_written(alloc, &SessionFault::Read, "read failed"),
+        is_written(alloc, &SessionFault::Write, "write failed"),
+        is_written(alloc, &SessionFault::NoMemory, "no memory"),
+        is_written(alloc, &ResponseFault::Read, "read failed"),
+        is_written(alloc, &ResponseFault::NoMemory, "no memory"),
+        is_written(alloc, &ResponseFault::NoResponse, "bad reply"),
+    ];
+    assert_eq!(rt; written, [true; 6]);
 }

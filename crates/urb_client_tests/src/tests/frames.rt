@@ -1,220 +1,214 @@
 //! Frames of requests and responses, both ways.
 
+ghost use Rattle.std.specs.Prelude.{◌≤◌, length};
 ghost use Rattle.urb_client.specs.Requests.{IsAsked, IsShort, asked_by};
+ghost use Rattle.urb_names.specs.declared.message.TheConstants.{MAX_PAYLOAD as longest};
 
-use super::WORKED;
-use std::alloc::Allocator;
-use std::test::Fail;
+use super::said::{Asked, Said, asked_by, said_by};
+use std::alloc::{Allocator, Global};
 use urb_client::*;
 use urb_names::{ClientId, MAX_PAYLOAD, Message, Name, NoMemory, NodeId, Refusal};
-use urb_refusing::Refusing;
 
-#[test]
-fn no_bytes_are_no_request(rt: HostRuntime) {
-    assert!(rt; matches!(parse_request(rt.alloc(), b""), Err(Refusal::Frame(2))));
-}
-
-/// Whether these bytes are the frame of the request.
-fn is_frame_of<A: Allocator>(alloc: A, request: &Request<A>, frame: &[u8]) -> Result<bool, NoMemory>
-    requires values { IsAsked (asked_by request.now) }
-    requires short { IsShort (asked_by request.now) }
+// Whether the request has this frame.
+fn is_frame_of(alloc: Global, request: Request, frame: &[u8]) -> bool
+    requires values { IsAsked (asked_by request) }
+    requires short { IsShort (asked_by request) }
 {
-    Ok(encode_request(alloc, request)?.as_slice() == frame)
+    match encode_request(alloc, &request) {
+        Ok(encoded) => encoded.as_slice() == frame,
+        Err(NoMemory) => false,
+    }
 }
 
-#[test]
-fn requests_are_encoded(rt: HostRuntime) -> Result<(), Fail> {
+// Whether a submit of client 7 has this frame.
+fn is_frame_of_submit(alloc: Global, frame: &[u8]) -> bool {
+    let Ok(payload) = Vec::from_slice(alloc, b"hi") else {
+        return false;
+    };
     let submit = Request::Submit {
-        client: ClientId::new(7).ok_or("client 7")?,
+        client: ClientId::new(7).unwrap(),
         number: 1,
-        payload: Vec::from_slice(rt.alloc(), b"hi")?,
+        payload,
     };
+    is_frame_of(alloc, submit, frame)
+}
+
+#[test]
+fn requests_are_encoded(rt: HostRuntime) {
+    let alloc = rt.alloc();
     let read = Request::Read { place: 1, max: 8 };
-    assert!(rt; is_frame_of(rt.alloc(), &submit, WORKED[0].0)?);
-    assert!(rt; is_frame_of(rt.alloc(), &read, WORKED[1].0)?);
-    assert!(rt; is_frame_of(rt.alloc(), &Request::Status, WORKED[2].0)?);
-    assert!(rt; is_frame_of(rt.alloc(), &Request::Crash, b"\x00\x01\x04")?);
-    assert!(rt; is_frame_of(rt.alloc(), &Request::Restart, b"\x00\x01\x05")?);
-    Ok(())
-}
-
-#[test]
-fn requests_are_read(rt: HostRuntime) -> Result<(), Fail> {
-    match parse_request(rt.alloc(), &WORKED[0].0[2..])? {
-        Request::Submit {
-            client,
-            number,
-            payload,
-        } => {
-            assert_eq!(rt; client.number(), 7);
-            assert_eq!(rt; number, 1);
-            assert_eq!(rt; payload.as_slice(), b"hi".as_slice());
-        }
-        _ => return Err("a submit")?,
-    }
-    let read = parse_request(rt.alloc(), &WORKED[1].0[2..])?;
-    assert!(rt; matches!(read, Request::Read { place: 1, max: 8 }));
-    assert!(rt; matches!(parse_request(rt.alloc(), b"\x03")?, Request::Status));
-    assert!(rt; matches!(parse_request(rt.alloc(), b"\x04")?, Request::Crash));
-    assert!(rt; matches!(parse_request(rt.alloc(), b"\x05")?, Request::Restart));
-    Ok(())
-}
-
-/// The name and the client of the worked session's entry.
-fn first() -> Option<(Name, ClientId)> {
-    let name = Name {
-        sender: NodeId::new(1)?,
-        seq: 1,
-    };
-    Some((name, ClientId::new(7)?))
-}
-
-#[test]
-fn responses_are_encoded_as_they_are_read(rt: HostRuntime) -> Result<(), Fail> {
-    let (name, client) = first().ok_or("the first entry")?;
-    let mut entries = Vec::new(rt.alloc());
-    entries.push((name, Message::copied(rt.alloc(), client, 1, b"hi")?))?;
-    let status = Response::Status {
-        state: NodeState::Ready,
-        own: 1,
-        logged: 1,
-    };
-    let responses = [
-        Response::Accepted(1),
-        Response::entries(entries)?,
-        status,
-        Response::refused(&Refusal::Gap(2)),
-        Response::Done,
-        Response::entries(Vec::new(rt.alloc()))?,
+    let encoded = [
+        is_frame_of_submit(alloc, b"\x00\x09\x01\x00\x07\x00\x00\x00\x01hi"),
+        is_frame_of(alloc, read, b"\x00\x06\x02\x00\x00\x00\x01\x08"),
+        is_frame_of(alloc, Request::Status, b"\x00\x01\x03"),
+        is_frame_of(alloc, Request::Crash, b"\x00\x01\x04"),
+        is_frame_of(alloc, Request::Restart, b"\x00\x01\x05"),
     ];
-    let frames: [&[u8]; 6] = [
-        WORKED[0].1,
-        WORKED[1].1,
-        WORKED[2].1,
-        WORKED[3].1,
-        b"\x00\x01\x84",
-        WORKED[6].1,
-    ];
-    for (response, frame) in responses.iter().zip(&frames) {
-        let encoded = encode_response(rt.alloc(), response)?;
-        assert_eq!(rt; encoded.as_slice(), *frame);
-        let again = parse_response(rt.alloc(), &encoded[2..])?.ok_or("a response")?;
-        assert_eq!(rt; encode_response(rt.alloc(), &again)?, encoded);
+    assert_eq!(rt; encoded, [true; 5]);
+}
+
+/// Requests behind their length, and what they ask; none where there is no request.
+const REQUESTS: [(&[u8], Option<Asked<'_>>); 6] = [
+    (
+        b"\x01\x00\x07\x00\x00\x00\x01hi",
+        Some(Asked::Submit(7, 1, b"hi")),
+    ),
+    (b"\x02\x00\x00\x00\x01\x08", Some(Asked::Read(1, 8))),
+    (b"\x03", Some(Asked::Status)),
+    (b"\x04", Some(Asked::Crash)),
+    (b"\x05", Some(Asked::Restart)),
+    (b"", None),
+];
+
+// Whether these bytes are read as a request that asks this; none where their opcode is unknown.
+fn asks(alloc: Global, bytes: &[u8], asked: Option<Asked<'_>>) -> bool {
+    match parse_request(alloc, bytes) {
+        Ok(request) => Some(asked_by(&request)) == asked,
+        Err(refusal) => refusal == Refusal::Frame(2) && asked.is_none(),
     }
-    Ok(())
 }
 
 #[test]
-fn the_worked_responses_are_read(rt: HostRuntime) -> Result<(), Fail> {
-    let accepted = parse_response(rt.alloc(), &WORKED[0].1[2..])?;
-    assert!(rt; matches!(accepted, Some(Response::Accepted(1))));
-    match parse_response(rt.alloc(), &WORKED[1].1[2..])? {
-        Some(Response::Entries(entries)) => {
-            assert_eq!(rt; entries.as_slice().len(), 1);
-            for (name, message) in entries.as_slice() {
-                assert_eq!(rt; name.sender.number(), 1);
-                assert_eq!(rt; name.seq, 1);
-                assert_eq!(rt; message.client().number(), 7);
-                assert_eq!(rt; message.number(), 1);
-                assert_eq!(rt; message.payload(), b"hi".as_slice());
-            }
-        }
-        _ => return Err("entries")?,
+fn requests_are_read(rt: HostRuntime) {
+    for (bytes, asked) in &REQUESTS {
+        assert!(rt; asks(rt.alloc(), *bytes, *asked), "{bytes:?}");
     }
-    let status = parse_response(rt.alloc(), &WORKED[2].1[2..])?;
-    assert!(rt;
-        matches!(
-            status,
-            Some(Response::Status {
-                state: NodeState::Ready,
-                own: 1,
-                logged: 1
-            })
-        )
-    );
-    Ok(())
 }
 
-#[test]
-fn other_bytes_are_no_response(rt: HostRuntime) -> Result<(), Fail> {
-    let others: [&[u8]; 14] = [
-        b"",
-        b"\x80",
-        b"\x81\x00\x00\x00",
-        b"\x81\x00\x00\x00\x01\x00",
-        b"\x82",
-        b"\x82\x09",
-        b"\x82\x01",
-        b"\x82\x00\x00",
-        b"\x82\x01\x00\x00\x00\x00\x01\x00\x07\x00\x00\x00\x01\x00\x00",
-        b"\x82\x01\x01\x00\x00\x00\x01\x00\x07\x00\x00\x00\x01\x00\x02h",
-        b"\x83\x03\x00\x00\x00\x01\x00\x00\x00\x01",
-        b"\x84\x00",
-        b"\xee\x13\x00\x00\x00",
-        b"\xee\x13\x00\x00\x00\x02\x00",
-    ];
-    for bytes in &others {
-        assert!(rt; parse_response(rt.alloc(), *bytes)?.is_none());
-    }
-    Ok(())
-}
+/// Responses, and what they say.
+const RESPONSES: [(&[u8], Said<'_>); 6] = [
+    (b"\x00\x05\x81\x00\x00\x00\x01", Said::Accepted(1)),
+    (
+        b"\x00\x11\x82\x01\x01\x00\x00\x00\x01\x00\x07\x00\x00\x00\x01\x00\x02hi",
+        Said::Entry(1, 1, 7, 1, b"hi"),
+    ),
+    (
+        b"\x00\x0a\x83\x01\x00\x00\x00\x01\x00\x00\x00\x01",
+        Said::Status(NodeState::Ready, 1, 1),
+    ),
+    (b"\x00\x06\xee\x07\x00\x00\x00\x02", Said::Refused(7, 2)),
+    (b"\x00\x01\x84", Said::Done),
+    (b"\x00\x02\x82\x00", Said::NoEntries),
+];
 
-/// Whether eight entries with a thousand letters each are read from their frame again.
-fn eight_entries<A: Allocator + Copy>(
+// Whether the response has this frame.
+fn is_frame<A: Allocator + Copy>(
     alloc: A,
-    name: Name,
-    client: ClientId,
+    response: &Response<A>,
+    frame: &[u8],
 ) -> Result<bool, NoMemory> {
-    let mut entries = Vec::new(alloc);
-    for _ in 0..8u8 {
-        let message = Message::copied(alloc, client, 1, &[b'x'; 1024])?;
-        entries.push((name, message))?;
+    Ok(encode_response(alloc, response)?.as_slice() == frame)
+}
+
+// Whether the response of this frame says this, and has the frame.
+fn says(alloc: Global, frame: &[u8], said: Said<'_>) -> bool {
+    let [_, _, bytes @ ..] = frame else {
+        return false;
+    };
+    match parse_response(alloc, bytes) {
+        Ok(Some(response)) => {
+            said_by(&response) == said && is_frame(alloc, &response, frame) == Ok(true)
+        }
+        _ => false,
     }
-    entries.truncate(8);
-    let response = Response::entries(entries)?;
-    let frame = encode_response(alloc, &response)?;
+}
+
+#[test]
+fn responses_are_read_and_encoded(rt: HostRuntime) {
+    for (frame, said) in &RESPONSES {
+        assert!(rt; says(rt.alloc(), *frame, *said), "{frame:?}");
+    }
+}
+
+/// Bytes that are no response.
+const OTHERS: [&[u8]; 14] = [
+    b"",
+    b"\x80",
+    b"\x81\x00\x00\x00",
+    b"\x81\x00\x00\x00\x01\x00",
+    b"\x82",
+    b"\x82\x09",
+    b"\x82\x01",
+    b"\x82\x00\x00",
+    b"\x82\x01\x00\x00\x00\x00\x01\x00\x07\x00\x00\x00\x01\x00\x00",
+    b"\x82\x01\x01\x00\x00\x00\x01\x00\x07\x00\x00\x00\x01\x00\x02h",
+    b"\x83\x03\x00\x00\x00\x01\x00\x00\x00\x01",
+    b"\x84\x00",
+    b"\xee\x13\x00\x00\x00",
+    b"\xee\x13\x00\x00\x00\x02\x00",
+];
+
+// Whether these bytes are read as no response.
+fn is_no_response(alloc: Global, bytes: &[u8]) -> bool {
+    matches!(parse_response(alloc, bytes), Ok(None))
+}
+
+#[test]
+fn other_bytes_are_no_response(rt: HostRuntime) {
+    for bytes in &OTHERS {
+        assert!(rt; is_no_response(rt.alloc(), *bytes), "{bytes:?}");
+    }
+}
+
+// The first entry of node 1: a message of client 7 with this payload.
+fn first_entry<A: Allocator>(alloc: A, payload: &[u8]) -> Result<(Name, Message<A>), NoMemory>
+    requires { length payload.now ≤ longest }
+{
+    let (sender, client) = (NodeId::new(1).unwrap(), ClientId::new(7).unwrap());
+    let message = Message::copied(alloc, client, 1, payload)?;
+    Ok((Name { sender, seq: 1 }, message))
+}
+
+// The frame of a page that has this entry eight times, as far as there is room.
+fn frame_of_eight<A: Allocator + Copy>(alloc: A, payload: &[u8]) -> Result<Vec<u8, A>, NoMemory>
+    requires { length payload.now ≤ longest }
+{
+    let mut page = Vec::new(alloc);
+    for _ in 0..8u8 {
+        page.push(first_entry(alloc, payload)?)?;
+    }
+    page.truncate(8);
+    encode_response(alloc, &Response::entries(page)?)
+}
+
+// Whether the response of these bytes has this frame.
+fn is_read_again<A: Allocator + Copy>(
+    alloc: A,
+    bytes: &[u8],
+    frame: &[u8],
+) -> Result<bool, NoMemory> {
+    match parse_response(alloc, bytes)? {
+        Some(response) => is_frame(alloc, &response, frame),
+        None => Ok(false),
+    }
+}
+
+// Whether the frame of a page that has this entry eight times begins so, its length, its opcode and its count, and is read again.
+fn are_read_again<A: Allocator + Copy>(
+    alloc: A,
+    payload: &[u8],
+    head: [u8; 4],
+) -> Result<bool, NoMemory>
+    requires { length payload.now ≤ longest }
+{
+    let frame = frame_of_eight(alloc, payload)?;
     match frame.as_slice() {
-        [0x20, 0x6a, body @ ..] => match parse_response(alloc, body)? {
-            Some(again) => Ok(encode_response(alloc, &again)? == frame),
-            None => Ok(false),
-        },
+        [_, _, bytes @ ..] => {
+            Ok(frame.starts_with(&head) && is_read_again(alloc, bytes, frame.as_slice())?)
+        }
         _ => Ok(false),
     }
 }
 
-#[test]
-fn a_frame_has_room_for_three_of_the_longest_entries(rt: HostRuntime) -> Result<(), Fail> {
-    let (name, client) = first().ok_or("the first entry")?;
-    let payload = Vec::from_elem(rt.alloc(), b'x', MAX_PAYLOAD)?;
-    let mut page = Vec::new(rt.alloc());
-    for _ in 0..8u8 {
-        page.push((name, Message::copied(rt.alloc(), client, 1, &payload)?))?;
-    }
-    page.truncate(8);
-    let frame = encode_response(rt.alloc(), &Response::entries(page)?)?;
-    // A length of 49,193, the opcode, and a count of 3.
-    assert!(rt; frame.starts_with(b"\xc0\x29\x82\x03"));
-    assert_eq!(rt; frame.len(), 49195);
-    let again = parse_response(rt.alloc(), &frame[2..])?.ok_or("a response")?;
-    assert_eq!(rt; encode_response(rt.alloc(), &again)?, frame);
-    Ok(())
+/// Whether eight entries with a thousand letters each are read from their frame again.
+pub(super) fn eight_entries<A: Allocator + Copy>(alloc: A) -> Result<bool, NoMemory> {
+    are_read_again(alloc, &[b'x'; 1024], [0x20, 0x6a, 0x82, 8])
 }
 
 #[test]
-fn each_growth_of_a_frame_may_be_refused(rt: HostRuntime) -> Result<(), Fail> {
-    let (name, client) = first().ok_or("the first entry")?;
-    let mut ran = false;
-    for refused in 1..200u64 {
-        let heap = Refusing::new(rt.alloc(), refused);
-        let read = eight_entries(&heap, name, client);
-        if !heap.met() {
-            assert!(rt; matches!(read, Ok(true)));
-            assert!(rt; 20 < heap.asked());
-            ran = true;
-            break;
-        }
-        assert!(rt; matches!(read, Err(NoMemory)), "growth {refused}");
-    }
-    assert!(rt; ran);
-    Ok(())
+fn a_frame_has_room_for_three_of_the_longest_entries(rt: HostRuntime) {
+    let longest = [b'x'; MAX_PAYLOAD];
+    // Its length is 49,193.
+    let again = are_read_again(rt.alloc(), &longest, [0xc0, 0x29, 0x82, 3]);
+    assert_eq!(rt; again, Ok(true));
 }

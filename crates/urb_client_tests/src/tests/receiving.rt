@@ -1,95 +1,59 @@
-//! Responses as they come in: whole, cut, and of no form; and readers and memory that fail.
+//! Responses as they come in: whole, cut, and of no form.
 
-use std::test::Fail;
+use super::said::{Said, said_by};
+use std::alloc::{Allocator, Global};
+use std::io::Read;
 use urb_client::*;
-use urb_refusing::{FailingReader, Refusing};
+
+// Whether what a reader has at its front is a response that says this.
+fn is_received(alloc: Global, reader: &mut &[u8], said: Said<'_>) -> bool {
+    match read_response(alloc, reader) {
+        Ok(response) => said_by(&response) == said,
+        Err(_) => false,
+    }
+}
 
 #[test]
-fn a_response_is_read_and_no_byte_behind_it(rt: HostRuntime) -> Result<(), Fail> {
+fn a_response_is_read_and_no_byte_behind_it(rt: HostRuntime) {
     let mut reader = b"\x00\x05\x81\x00\x00\x00\x07\x00\x01\x84".as_slice();
-    let first = read_response(rt.alloc(), &mut reader);
-    assert!(rt; matches!(first, Ok(Response::Accepted(7))));
+    assert!(rt; is_received(rt.alloc(), &mut reader, Said::Accepted(7)));
     assert_eq!(rt; reader, b"\x00\x01\x84".as_slice());
-    let second = read_response(rt.alloc(), &mut reader);
-    assert!(rt; matches!(second, Ok(Response::Done)));
+    assert!(rt; is_received(rt.alloc(), &mut reader, Said::Done));
     assert!(rt; reader.is_empty());
-    Ok(())
 }
 
-#[test]
-fn what_is_no_response_is_told(rt: HostRuntime) -> Result<(), Fail> {
-    for sent in [
-        b"".as_slice(),
-        b"\x00",
-        // A length of 0; a response that is cut.
-        b"\x00\x00",
-        b"\x00\x05",
-        b"\x00\x05\x81\x00\x00\x00",
-        // A request; a response with a byte behind it, or a byte too few.
-        b"\x00\x01\x03",
-        b"\x00\x06\x81\x00\x00\x00\x01x",
-        b"\x00\x04\x81\x00\x00\x00",
-        // Entries of which the second is missing.
-        b"\x00\x11\x82\x02\x01\x00\x00\x00\x01\x00\x07\x00\x00\x00\x01\x00\x02hi",
-    ] {
-        let mut reader = sent;
-        let read = read_response(rt.alloc(), &mut reader);
-        assert!(rt; matches!(read, Err(ResponseFault::NoResponse)), "{sent:?}");
+/// Whether the response that a reader has at its front has entries.
+pub(super) fn has_entries<A: Allocator + Copy, R: Read>(
+    alloc: A,
+    reader: &mut R,
+) -> Result<bool, ResponseFault> {
+    match read_response(alloc, reader)? {
+        Response::Entries(_) => Ok(true),
+        _ => Ok(false),
     }
-    Ok(())
 }
 
-/// A page of one entry.
-const PAGE: &[u8] = b"\x00\x11\x82\x01\x01\x00\x00\x00\x01\x00\x07\x00\x00\x00\x01\x00\x02hi";
+/// What comes in where there is no response.
+const NO_RESPONSES: [&[u8]; 9] = [
+    b"",
+    b"\x00",
+    // A length of 0; a response that is cut.
+    b"\x00\x00",
+    b"\x00\x05",
+    b"\x00\x05\x81\x00\x00\x00",
+    // A request; a response with a byte behind it, or a byte too few.
+    b"\x00\x01\x03",
+    b"\x00\x06\x81\x00\x00\x00\x01x",
+    b"\x00\x04\x81\x00\x00\x00",
+    // Entries of which the second is missing.
+    b"\x00\x11\x82\x02\x01\x00\x00\x00\x01\x00\x07\x00\x00\x00\x01\x00\x02hi",
+];
 
 #[test]
-fn a_failed_read_is_told(rt: HostRuntime) -> Result<(), Fail> {
-    let mut ran = false;
-    for failing in 1..50u64 {
-        let mut reader = FailingReader::new(PAGE, 3, failing);
-        let read = read_response(rt.alloc(), &mut reader);
-        if !reader.met() {
-            assert!(rt; matches!(read, Ok(Response::Entries(_))));
-            ran = true;
-            break;
-        }
-        assert!(rt; matches!(read, Err(ResponseFault::Read)), "read {failing}");
-        assert!(rt; reader.failed_last(), "read {failing}");
+fn what_is_no_response_is_told(rt: HostRuntime) {
+    for sent in &NO_RESPONSES {
+        let mut reader = *sent;
+        let read = has_entries(rt.alloc(), &mut reader);
+        assert!(rt; read == Err(ResponseFault::NoResponse), "{sent:?}");
     }
-    assert!(rt; ran);
-    Ok(())
-}
-
-#[test]
-fn each_growth_for_a_response_may_be_refused(rt: HostRuntime) -> Result<(), Fail> {
-    let mut ran = false;
-    for refused in 1..20u64 {
-        let heap = Refusing::new(rt.alloc(), refused);
-        let mut reader = PAGE;
-        let read = read_response(&heap, &mut reader);
-        if !heap.met() {
-            assert!(rt; matches!(read, Ok(Response::Entries(_))));
-            assert!(rt; 1 < refused);
-            ran = true;
-            break;
-        }
-        assert!(rt;
-            matches!(read, Err(ResponseFault::NoMemory)),
-            "growth {refused}"
-        );
-    }
-    assert!(rt; ran);
-    Ok(())
-}
-
-#[test]
-fn its_faults_have_their_texts(rt: HostRuntime) -> Result<(), Fail> {
-    for (fault, text) in [
-        (ResponseFault::Read, "read failed"),
-        (ResponseFault::NoMemory, "no memory"),
-        (ResponseFault::NoResponse, "bad reply"),
-    ] {
-        assert_eq!(rt; format!(in rt.alloc(); "{fault}")?.as_str(), text);
-    }
-    Ok(())
 }

@@ -1,83 +1,131 @@
 //! Two nodes of three deliver a message, with each growth refused in turn.
 
-use super::nodes::{first, node};
-use std::alloc::Global;
+use super::{client, one, three, two};
+use std::alloc::{Allocator, Global};
 use std::test::Fail;
 use urb_group::*;
 use urb_names::encode;
 use urb_refusing::Refusing;
-use urb_stable::MemStable;
 
-/// Refuses one growth.
-type Heap<'h> = &'h Refusing<Global>;
+/// A group, and the bytes of the packet that travels. All memory of the group comes from `heap`.
+#[derive(Drop)]
+struct Walk<A: Allocator + Copy> {
+    heap: A,
+    calm: A,
+    group: Group<A>,
+    packet: Vec<u8, A>,
+}
+
+/// What a node's step came to.
+#[derive(Clone, Copy)]
+struct Step {
+    /// How many names it released.
+    released: u32,
+    /// Whether it was refused for memory first: the node was ready as before, and the same call was made again.
+    refused: bool,
+}
 
 // A group of three; made again where its growth is refused. Whether it was refused.
-fn three<'h>(heap: Heap<'h>) -> Option<(Group<Heap<'h>>, bool)> {
-    let config = Config::new(3, 10)?;
-    match Group::new(heap, config) {
+fn group<A: Allocator + Copy>(alloc: A) -> Option<(Group<A>, bool)> {
+    match Group::new(alloc, three()) {
         Ok(group) => Some((group, false)),
-        Err(NoMemory) => Some((Group::new(heap, config).ok()?, true)),
+        Err(NoMemory) => Some((Group::new(alloc, three()).ok()?, true)),
     }
 }
 
-// A submit at node 1, made again where it is refused for memory: the node is ready as before. Whether it was refused.
-fn submit<'h>(group: &mut Group<Heap<'h>>, heap: Heap<'h>) -> Option<(Taken<Heap<'h>>, bool)> {
-    let (one, client) = (node(1)?, ClientId::new(7)?);
-    match group.submit(heap, one, client, 1, b"a") {
-        Err(Refusal::NoMemory) => Some((group.submit(heap, one, client, 1, b"a").ok()?, true)),
-        taken => Some((taken.ok()?, false)),
+// What was drafted.
+fn drafted<A: Allocator>(taken: Taken<A>) -> Option<Draft<A>> {
+    match taken {
+        Taken::Store(draft) => Some(draft),
+        Taken::Same(_) => None,
     }
 }
 
-// An arrival of the first packet, made again where it is refused for memory. Whether it was refused.
-fn arrive<'h>(
-    group: &mut Group<Heap<'h>>,
-    heap: Heap<'h>,
-    calm: Heap<'h>,
-    number: u8,
-    sent: &Outbox<Heap<'h>>,
-) -> Option<(Taken<Heap<'h>>, bool)> {
-    let target = node(number)?;
-    let bytes = encode(calm, sent.get(0)?).ok()?;
-    match group.arrive(heap, target, &bytes) {
-        Err(Refusal::NoMemory) => Some((group.arrive(heap, target, &bytes).ok()?, true)),
-        taken => Some((taken.ok()?, false)),
+impl<A: Allocator + Copy> Walk<A> {
+    // The client sends its message to node 1, or the packet comes to this node.
+    fn take(&mut self, node: Option<NodeId>) -> Result<Taken<A>, Refusal> {
+        match node {
+            None => self.group.submit(self.heap, one(), client(), 1, b"a"),
+            Some(node) => self.group.arrive(self.heap, node, &self.packet),
+        }
+    }
+
+    // The first packet that a node sends travels on.
+    fn send(&mut self, sent: &Outbox<A>) -> Option<()> {
+        let packet = sent.get(0)?;
+        self.packet = encode(self.calm, packet).ok()?;
+        Some(())
+    }
+
+    // The group takes a receipt without asking for memory: how many names are released.
+    fn commit(&mut self, receipt: Receipt<A>, counted: &Refusing<Global>) -> Option<u32> {
+        let asked = counted.asked();
+        let done = self.group.commit(receipt).ok()?;
+        let is_free = counted.asked() == asked;
+        self.send(&done.sent);
+        if is_free { Some(done.released) } else { None }
+    }
+
+    // A store keeps what was drafted: how many names are released.
+    fn store(
+        &mut self,
+        taken: Taken<A>,
+        store: &mut MemStable<A>,
+        counted: &Refusing<Global>,
+    ) -> Option<u32> {
+        let receipt = drafted(taken)?.keep(store).ok()?;
+        self.commit(receipt, counted)
+    }
+
+    // A node takes the client's message, or the packet, and stores what it says.
+    fn step(
+        &mut self,
+        node: Option<NodeId>,
+        store: &mut MemStable<A>,
+        counted: &Refusing<Global>,
+    ) -> Option<Step> {
+        let (taken, refused) = match self.take(node) {
+            Err(Refusal::NoMemory) => (self.take(node).ok()?, true),
+            taken => (taken.ok()?, false),
+        };
+        let released = self.store(taken, store, counted)?;
+        Some(Step { released, refused })
+    }
+
+    // The message goes to node 2, and back to node 1: the three steps.
+    fn steps(&mut self, counted: &Refusing<Global>) -> [Option<Step>; 3] {
+        let mut first = MemStable::new(self.calm);
+        let mut second = MemStable::new(self.calm);
+        let sent = self.step(None, &mut first, counted);
+        let relayed = self.step(Some(two()), &mut second, counted);
+        let certified = self.step(Some(one()), &mut first, counted);
+        [sent, relayed, certified]
     }
 }
 
-// The store keeps the draft, and the group takes the receipt without asking for memory.
-fn store<'h>(
-    group: &mut Group<Heap<'h>>,
-    heap: Heap<'h>,
-    store: &mut MemStable<Heap<'h>>,
-    taken: Taken<Heap<'h>>,
-) -> Option<Done<Heap<'h>>> {
-    let Taken::Store(draft) = taken else {
-        return None;
+// How many names nodes 1 and 2 release in the end, and whether a step was refused.
+fn told(steps: [Option<Step>; 3]) -> Option<(u32, u32, bool)> {
+    let [sent, relayed, certified] = steps;
+    let (sent, relayed, certified) = (sent?, relayed?, certified?);
+    let refused = sent.refused || relayed.refused || certified.refused;
+    Some((certified.released, relayed.released, refused))
+}
+
+// The same of a new group, and whether that was refused.
+fn released<A: Allocator + Copy>(
+    heap: A,
+    calm: A,
+    counted: &Refusing<Global>,
+) -> Option<(u32, u32, bool)> {
+    let (group, new) = group(heap)?;
+    let mut walk = Walk {
+        heap,
+        calm,
+        group,
+        packet: Vec::new(calm),
     };
-    let receipt = draft.keep(store).ok()?;
-    let asked = heap.asked();
-    let done = group.commit(receipt).ok()?;
-    if heap.asked() == asked {
-        Some(done)
-    } else {
-        None
-    }
-}
-
-// How many names the two nodes release, and whether a call was refused.
-fn released<'h>(heap: Heap<'h>, calm: Heap<'h>) -> Option<(u32, u32, bool)> {
-    let (mut group, new) = three(heap)?;
-    let mut first = MemStable::new(calm);
-    let mut second = MemStable::new(calm);
-    let (taken, submitted) = submit(&mut group, heap)?;
-    let sent = store(&mut group, heap, &mut first, taken)?.sent;
-    let (taken, relayed) = arrive(&mut group, heap, calm, 2, &sent)?;
-    let done = store(&mut group, heap, &mut second, taken)?;
-    let (taken, answered) = arrive(&mut group, heap, calm, 1, &done.sent)?;
-    let at_first = store(&mut group, heap, &mut first, taken)?.released;
-    let refused = new || submitted || relayed || answered;
-    Some((at_first, done.released, refused))
+    let (at_first, at_second, refused) = told(walk.steps(counted))?;
+    Some((at_first, at_second, new || refused))
 }
 
 #[test]
@@ -86,7 +134,7 @@ fn each_growth_may_be_refused(rt: HostRuntime) -> Result<(), Fail> {
     let mut growths = 0;
     for refused in 1..100 {
         let heap = Refusing::new(rt.alloc(), refused);
-        assert_eq!(rt; released(&heap, &calm), Some((1, 1, heap.met())));
+        assert_eq!(rt; released(&heap, &calm, &heap), Some((1, 1, heap.met())));
         if !heap.met() {
             growths = heap.asked();
             break;

@@ -1,11 +1,11 @@
-//! Groups that are opened from images, and those whose images don't fit together.
+//! Groups that are opened from images, those whose images don't fit together, and a restart with an image that lacks a record.
 
-use super::nodes::node;
+use super::{client, one, two};
 use std::alloc::Global;
 use std::test::Fail;
 use urb_group::*;
 
-/// A record of node 1's name of this number; its message is that of client 7 with the same number.
+/// A record of node 1's name of this number; its message is that of the client with the same number.
 #[derive(Clone, Copy)]
 enum Form {
     Pend(u32),
@@ -13,137 +13,139 @@ enum Form {
     Cert(u32),
 }
 
-fn name(number: u32) -> Option<Name> {
-    if number == 0 {
-        return None;
-    }
-    Some(Name {
-        sender: node(1)?,
-        seq: number,
-    })
-}
-
-fn message(alloc: Global, number: u32) -> Option<Message> {
-    if number == 0 {
-        return None;
-    }
-    Message::copied(alloc, ClientId::new(7)?, number, b"a").ok()
+/// What comes of an opening.
+#[derive(Clone, Copy, PartialEq, Eq, Debug)]
+enum Outcome {
+    /// So many names stand in the log of node 1, and of node 2 where there is one.
+    Open(usize, Option<usize>),
+    /// The record of this node, about node 1's name of this number, is the first to break the rule.
+    Misfit(Rule, u8, u32),
+    /// Anything else.
+    Refused(Refusal),
 }
 
 fn record(alloc: Global, form: Form) -> Option<Record> {
-    match form {
-        Form::Pend(number) => Some(Record::Pend(name(number)?, message(alloc, number)?)),
-        Form::PendCert(number) => Some(Record::PendCert(name(number)?, message(alloc, number)?)),
-        Form::Cert(number) => Some(Record::Cert(name(number)?)),
+    let (Form::Pend(seq) | Form::PendCert(seq) | Form::Cert(seq)) = form;
+    if seq == 0 {
+        return None;
     }
+    let name = Name { sender: one(), seq };
+    if matches!(form, Form::Cert(_)) {
+        return Some(Record::Cert(name));
+    }
+    let message = Message::copied(alloc, client(), seq, b"a").ok()?;
+    if matches!(form, Form::Pend(_)) {
+        return Some(Record::Pend(name, message));
+    }
+    Some(Record::PendCert(name, message))
+}
+
+fn image(alloc: Global, forms: &[Form]) -> Option<Vec<Record>> {
+    let mut records = Vec::new(alloc);
+    for form in forms {
+        records.push(record(alloc, *form)?).ok()?;
+    }
+    Some(records)
+}
+
+fn images(alloc: Global, forms: &[&[Form]]) -> Option<Vec<Vec<Record>>> {
+    let mut images = Vec::new(alloc);
+    for form in forms {
+        images.push(image(alloc, form)?).ok()?;
+    }
+    Some(images)
 }
 
 // What comes of opening a group from these images, one for each node.
 fn opened(alloc: Global, forms: &[&[Form]]) -> Option<Result<Group, Refusal>> {
-    let mut images = Vec::new(alloc);
-    for image in forms {
-        let mut records = Vec::new(alloc);
-        for form in *image {
-            records.push(record(alloc, *form)?).ok()?;
-        }
-        images.push(records).ok()?;
-    }
-    if images.len() > 7 {
-        return None;
-    }
-    let config = Config::new(images.len() as u8, 10)?;
+    let images = images(alloc, forms)?;
+    let config = Config::new(u8::try_from(images.len()).ok()?, 10)?;
     Some(Group::open(alloc, config, images))
 }
 
-// How many names each of the first nodes has delivered.
-fn delivered(alloc: Global, forms: &[&[Form]]) -> Option<(usize, Option<usize>)> {
-    let group = opened(alloc, forms)?.ok()?;
-    let second = group.log(node(2)?).map(|names| names.len());
-    Some((group.log(node(1)?)?.len(), second))
+// The same in short.
+fn told(opened: &Result<Group, Refusal>) -> Option<Outcome> {
+    match opened {
+        Ok(group) => {
+            let second = group.log(two()).map(|names| names.len());
+            Some(Outcome::Open(group.log(one())?.len(), second))
+        }
+        Err(Refusal::Inconsistent { rule, node, name }) if name.sender == one() => {
+            Some(Outcome::Misfit(*rule, node.number(), name.seq))
+        }
+        Err(refusal) => Some(Outcome::Refused(*refusal)),
+    }
 }
 
-// How images are refused.
-fn refusal(alloc: Global, forms: &[&[Form]]) -> Option<Refusal> {
-    opened(alloc, forms)?.err()
+fn came(alloc: Global, forms: &[&[Form]]) -> Option<Outcome> {
+    told(&opened(alloc, forms)?)
 }
 
-// That the record of this node, about node 1's name of this number, is the first to break a rule.
-fn misfit(rule: Rule, number: u8, seq: u32) -> Option<Refusal> {
-    Some(Refusal::Inconsistent {
-        rule,
-        node: node(number)?,
-        name: name(seq)?,
-    })
-}
+/// Images, and what comes of them.
+const ROWS: [(&[&[Form]], Outcome); 8] = [
+    // A lone node delivers what it had certified, and so does a relay.
+    (&[&[Form::PendCert(1)]], Outcome::Open(1, None)),
+    (&[&[], &[], &[]], Outcome::Open(0, Some(0))),
+    (
+        &[&[Form::Pend(1)], &[Form::PendCert(1)], &[]],
+        Outcome::Open(0, Some(1)),
+    ),
+    // Its sender lost the message.
+    (
+        &[&[], &[Form::PendCert(1)], &[]],
+        Outcome::Misfit(Rule::C, 2, 1),
+    ),
+    // One of three has stored what is certified.
+    (
+        &[&[Form::PendCert(1)], &[], &[]],
+        Outcome::Misfit(Rule::D, 1, 1),
+    ),
+    // A number is skipped.
+    (
+        &[&[Form::Pend(2)], &[], &[]],
+        Outcome::Misfit(Rule::B, 1, 2),
+    ),
+    // A certificate has no message.
+    (
+        &[&[Form::Cert(1)], &[], &[]],
+        Outcome::Misfit(Rule::A, 1, 1),
+    ),
+    // Half of the nodes have stored what is certified.
+    (
+        &[&[Form::PendCert(1)], &[Form::Pend(1)], &[], &[]],
+        Outcome::Misfit(Rule::D, 1, 1),
+    ),
+];
 
 #[test]
-fn a_lone_node_delivers_what_it_had_certified(rt: HostRuntime) -> Result<(), Fail> {
-    assert_eq!(rt;
-        delivered(rt.alloc(), &[&[Form::PendCert(1)]]),
-        Some((1, None))
-    );
+fn images_open_where_they_fit_together(rt: HostRuntime) -> Result<(), Fail> {
+    for (forms, wanted) in ROWS {
+        assert_eq!(rt; came(rt.alloc(), forms), Some(wanted));
+    }
     Ok(())
 }
 
-#[test]
-fn empty_images_open(rt: HostRuntime) -> Result<(), Fail> {
-    assert_eq!(rt; delivered(rt.alloc(), &[&[], &[], &[]]), Some((0, Some(0))));
-    Ok(())
+// How a restart of node 2 with no records is refused, while it is up, and once it is down.
+fn refusals(group: &mut Group, alloc: Global) -> Option<(Refusal, Refusal)> {
+    let up = group.restart(alloc, two(), Vec::new(alloc)).err()?;
+    group.crash(two()).ok()?;
+    let down = group.restart(alloc, two(), Vec::new(alloc)).err()?;
+    Some((up, down))
+}
+
+// The same where node 2 has a record.
+fn refusals_of_an_empty_image(alloc: Global) -> Option<(Refusal, Refusal)> {
+    match opened(alloc, &[&[Form::Pend(1)], &[Form::PendCert(1)], &[]])? {
+        Ok(mut group) => refusals(&mut group, alloc),
+        Err(_) => None,
+    }
 }
 
 #[test]
-fn a_relay_delivers_what_it_had_certified(rt: HostRuntime) -> Result<(), Fail> {
+fn an_image_that_lost_a_record_is_refused(rt: HostRuntime) -> Result<(), Fail> {
     assert_eq!(rt;
-        delivered(rt.alloc(), &[&[Form::Pend(1)], &[Form::PendCert(1)], &[]]),
-        Some((0, Some(1)))
-    );
-    Ok(())
-}
-
-#[test]
-fn a_message_that_its_sender_lost_is_refused(rt: HostRuntime) -> Result<(), Fail> {
-    assert_eq!(rt;
-        refusal(rt.alloc(), &[&[], &[Form::PendCert(1)], &[]]),
-        misfit(Rule::C, 2, 1)
-    );
-    Ok(())
-}
-
-#[test]
-fn a_certified_message_of_one_of_three_is_refused(rt: HostRuntime) -> Result<(), Fail> {
-    assert_eq!(rt;
-        refusal(rt.alloc(), &[&[Form::PendCert(1)], &[], &[]]),
-        misfit(Rule::D, 1, 1)
-    );
-    Ok(())
-}
-
-#[test]
-fn an_own_message_that_skips_a_number_is_refused(rt: HostRuntime) -> Result<(), Fail> {
-    assert_eq!(rt;
-        refusal(rt.alloc(), &[&[Form::Pend(2)], &[], &[]]),
-        misfit(Rule::B, 1, 2)
-    );
-    Ok(())
-}
-
-#[test]
-fn a_certificate_without_a_message_is_refused(rt: HostRuntime) -> Result<(), Fail> {
-    assert_eq!(rt;
-        refusal(rt.alloc(), &[&[Form::Cert(1)], &[], &[]]),
-        misfit(Rule::A, 1, 1)
-    );
-    Ok(())
-}
-
-#[test]
-fn a_certified_message_of_half_the_nodes_is_refused(rt: HostRuntime) -> Result<(), Fail> {
-    assert_eq!(rt;
-        refusal(
-            rt.alloc(),
-            &[&[Form::PendCert(1)], &[Form::Pend(1)], &[], &[]]
-        ),
-        misfit(Rule::D, 1, 1)
+        refusals_of_an_empty_image(rt.alloc()),
+        Some((Refusal::NotDown, Refusal::BadImage))
     );
     Ok(())
 }

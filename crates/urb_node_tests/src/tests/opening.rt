@@ -1,49 +1,69 @@
 //! A node opened from five records, with each growth refused in turn.
 
-ghost use Rattle.std.specs.Prelude.{◌≡◌, [], ◌∷◌, IfOk, codes};
+ghost use Rattle.std.specs.Prelude.{◌≡◌, ◌++◌, [], ◌∷◌, IfSome, IsTrue, codes};
 ghost use Rattle.urb_names.specs.Names.{name};
 ghost use Rattle.urb_stable.specs.declared.record.Record.TheVariants.{Cert, Pend, PendCert};
 
-use crate::tests::bench::Bench;
-use crate::tests::led::Led;
-use std::alloc::{Allocator, Global};
-use std::test::Fail;
-use urb_names::{ClientId, Config, Message, Name, NoMemory, NodeId};
+use super::*;
+use crate::tests::playing::{gives_back, play_all};
+use crate::tests::rows::{Act, DELIVERED, List, Row, Start, What};
+use urb_names::{Config, NoMemory};
 use urb_node::Ready;
-use urb_refusing::Refusing;
-use urb_stable::Record;
 
-/// Refuses one growth.
-type Heap<'h> = &'h Refusing<Global>;
+/// The records of an image.
+type Records<A> = Vec<Record<Message<A>>, A>;
 
-fn name(sender: u8, seq: u32) -> Result<Name, Fail>
-    ensures { IfOk result (λ x. x ≡ name sender seq) }
+// A pending message, of a client under a number of its own, comes behind the records.
+fn join_pending<A: Allocator + Copy>(
+    records: &mut Records<A>,
+    alloc: A,
+    named: (u8, u32),
+    of: (u16, u32),
+    payload: &[u8],
+) -> bool
+    ensures { IsTrue result → records.new.items ≡ records.old.items ++ Pend (name named.0 named.1) (record { client = of.0; number = of.1; payload = payload.now }) ∷ [] }
 {
-    if seq == 0 {
-        return Err(Fail::from("numbers begin at 1"));
+    match name(named.0, named.1) {
+        Some(named) => match message(alloc, of.0, of.1, payload) {
+            Some(sent) => records.push(Record::Pend(named, sent)).is_ok(),
+            None => false,
+        },
+        None => false,
     }
-    let sender = NodeId::new(sender).ok_or("a node")?;
-    Ok(Name { sender, seq })
 }
 
-fn message<A: Allocator + Copy>(
+// The same with its certificate.
+fn join_certified<A: Allocator + Copy>(
+    records: &mut Records<A>,
     alloc: A,
-    client: u16,
-    number: u32,
+    named: (u8, u32),
+    of: (u16, u32),
     payload: &[u8],
-) -> Result<Message<A>, Fail>
-    ensures { IfOk result (λ m. m ≡ record { client = client; number = number; payload = payload.now }) }
+) -> bool
+    ensures { IsTrue result → records.new.items ≡ records.old.items ++ PendCert (name named.0 named.1) (record { client = of.0; number = of.1; payload = payload.now }) ∷ [] }
 {
-    if number == 0 || payload.len() > 1024 {
-        return Err(Fail::from("numbers begin at 1, and payloads are short"));
+    match name(named.0, named.1) {
+        Some(named) => match message(alloc, of.0, of.1, payload) {
+            Some(sent) => records.push(Record::PendCert(named, sent)).is_ok(),
+            None => false,
+        },
+        None => false,
     }
-    let client = ClientId::new(client).ok_or("a client")?;
-    Ok(Message::copied(alloc, client, number, payload)?)
+}
+
+// The certificate alone.
+fn join_certificate<A: Allocator + Copy>(records: &mut Records<A>, named: (u8, u32)) -> bool
+    ensures { IsTrue result → records.new.items ≡ records.old.items ++ Cert (name named.0 named.1) ∷ [] }
+{
+    match name(named.0, named.1) {
+        Some(named) => records.push(Record::Cert(named)).is_ok(),
+        None => false,
+    }
 }
 
 // The image of node 1 of three: 1.3 waits for its certificate, and all others are delivered.
-fn image<A: Allocator + Copy>(alloc: A) -> Result<Vec<Record<Message<A>>, A>, Fail>
-    ensures { IfOk result (λ records. records.items ≡
+fn image<A: Allocator + Copy>(alloc: A) -> Option<Records<A>>
+    ensures { IfSome result (λ records. records.items ≡
         Pend (name 1 1) (record { client = 7; number = 1; payload = codes "a" })
         ∷ PendCert (name 2 1) (record { client = 7; number = 1; payload = codes "b" })
         ∷ PendCert (name 1 2) (record { client = 8; number = 1; payload = codes "c" })
@@ -52,78 +72,74 @@ fn image<A: Allocator + Copy>(alloc: A) -> Result<Vec<Record<Message<A>>, A>, Fa
         ∷ []) }
 {
     let mut records = Vec::new(alloc);
-    records.push(Record::Pend(name(1, 1)?, message(alloc, 7, 1, b"a")?))?;
-    records.push(Record::PendCert(name(2, 1)?, message(alloc, 7, 1, b"b")?))?;
-    records.push(Record::PendCert(name(1, 2)?, message(alloc, 8, 1, b"c")?))?;
-    records.push(Record::Cert(name(1, 1)?))?;
-    records.push(Record::Pend(name(1, 3)?, message(alloc, 7, 2, b"d")?))?;
-    Ok(records)
+    if join_pending(&mut records, alloc, (1, 1), (7, 1), b"a")
+        && join_certified(&mut records, alloc, (2, 1), (7, 1), b"b")
+        && join_certified(&mut records, alloc, (1, 2), (8, 1), b"c")
+        && join_certificate(&mut records, (1, 1))
+        && join_pending(&mut records, alloc, (1, 3), (7, 2), b"d")
+    {
+        return Some(records);
+    }
+    drop(records);
+    None
 }
 
 // Opens the node, with its image in other memory.
-fn opened<A: Allocator + Copy>(alloc: A, calm: A) -> Result<Result<Ready<A>, NoMemory>, Fail> {
-    let config = Config::new(3, 10).ok_or("a config")?;
-    let node = NodeId::new(1).ok_or("a node")?;
-    Ok(Ready::open(alloc, config, node, image(calm)?))
+fn opened<A: Allocator + Copy>(heap: A, calm: A) -> Option<Result<Ready<A>, NoMemory>> {
+    let config = Config::new(3, 10)?;
+    let node = NodeId::new(1)?;
+    let records = image(calm)?;
+    Some(Ready::open(heap, config, node, records))
 }
 
-// Whether the node is the one that the image says.
-fn is_opened<A: Allocator + Copy>(ready: &Ready<A>, alloc: A) -> Result<bool, Fail> {
-    let log = ready.log() == &[name(2, 1)?, name(1, 1)?, name(1, 2)?][..];
-    let own = ready.own_len() == 3;
-    let held = ready.holds(&name(2, 1)?, &message(alloc, 7, 1, b"b")?)
-        && !ready.holds(&name(2, 1)?, &message(alloc, 7, 1, b"a")?);
-    Ok(log && own && held)
+/// The node that is opened. Where a growth is refused, the same call goes through the second time; whether that was so.
+pub(super) fn opened_at_last<A: Allocator + Copy>(heap: A, calm: A) -> Option<(Ready<A>, bool)> {
+    match opened(heap, calm)? {
+        Ok(ready) => Some((ready, false)),
+        Err(NoMemory) => Some((opened(heap, calm)?.ok()?, true)),
+    }
 }
 
-// The position and the name of the draft of a new message.
-fn drafted_next<A: Allocator + Copy>(bench: &mut Bench<A>) -> Result<(u32, Name), Fail> {
-    let _led = bench.submit(3, b"e")?;
-    let draft = bench.draft()?;
-    Ok((draft.pos(), draft.entry().name()))
-}
+/// The node is the one that its image says.
+const IS_OPENED: &[Row] = &[
+    (
+        Act::Show(3, &[(2, 1), (1, 1), (1, 2)], DELIVERED),
+        (2, 1),
+        b"b",
+    ),
+    (
+        Act::Show(3, &[(2, 1), (1, 1), (1, 2)], (false, true, true)),
+        (2, 1),
+        b"a",
+    ),
+];
 
-// Whether a repeat of a message that the image has is accepted under its name, and a new message is drafted under the next one.
-fn goes_on<A: Allocator + Copy>(bench: &mut Bench<A>) -> Result<bool, Fail> {
-    let accepts = bench.submit(2, b"d")? == Led::Accepted(name(1, 3)?);
-    Ok(accepts && drafted_next(bench)? == (6, name(1, 4)?))
-}
+/// A repeat of a message that the image has is accepted under its name, and a new message is drafted under the next one.
+const GOES_ON: &[Row] = &[
+    (Act::Submit(2, What::Accepted), (1, 3), b"d"),
+    (
+        Act::Submit(3, What::Drafted(Form::Pending, 6)),
+        (1, 4),
+        b"e",
+    ),
+];
+
+static OPENED: [List; 1] = [List {
+    start: Start::Opened,
+    parts: &[IS_OPENED, GOES_ON],
+}];
 
 #[test]
-fn an_opened_node_goes_on_from_its_image(rt: HostRuntime) -> Result<(), Fail> {
-    let alloc = rt.alloc();
-    let mut bench = Bench::with(opened(alloc, alloc)??, alloc, alloc)?;
-    assert!(rt; is_opened(bench.ready()?, alloc)?);
-    assert!(rt; goes_on(&mut bench)?);
-    Ok(())
+fn an_opened_node_goes_on_from_its_image(rt: HostRuntime) {
+    play_all(&rt, &OPENED);
 }
 
-// Where a growth is refused, the same call goes through the second time. Whether it was refused.
-fn opened_at_last<'h>(heap: Heap<'h>, calm: Heap<'h>) -> Result<bool, Fail> {
-    let (ready, refused) = match opened(heap, calm)? {
-        Ok(ready) => (ready, false),
-        Err(NoMemory) => (opened(heap, calm)??, true),
-    };
-    let is_opened = is_opened(&ready, calm);
-    drop(ready);
-    if !is_opened? {
-        return Err(Fail::from("the node is not what its image says"));
-    }
-    Ok(refused)
-}
+static REFUSED: List = List {
+    start: Start::Opened,
+    parts: &[IS_OPENED],
+};
 
 #[test]
-fn each_growth_may_be_refused(rt: HostRuntime) -> Result<(), Fail> {
-    let calm = Refusing::new(rt.alloc(), 0);
-    let mut growths = 0;
-    for refused in 1..100 {
-        let heap = Refusing::new(rt.alloc(), refused);
-        assert_eq!(rt; opened_at_last(&heap, &calm)?, heap.met());
-        if !heap.met() {
-            growths = heap.asked();
-            break;
-        }
-    }
-    assert!(rt; 3 < growths);
-    Ok(())
+fn each_growth_may_be_refused(rt: HostRuntime) {
+    assert!(rt; gives_back(rt.alloc(), &REFUSED, 3));
 }

@@ -1,73 +1,98 @@
 //! Packets that may come to a node under test.
 
-ghost use Rattle.std.specs.Prelude.{OnOk};
+ghost use Rattle.std.specs.Prelude.{◌≡◌, IfSome, IsTrue};
 ghost use Rattle.urb_node.specs.Moves.{IsForNode};
+ghost use Rattle.urb_node.specs.Next.{MayArrive};
 
+use crate::tests::states::State;
 use std::alloc::Allocator;
-use std::test::Fail;
 use urb_names::{
-    Config, Flags, MAX_PLAIN_PAYLOAD, Message, Name, NodeId, Packet, PacketView, encode, parse,
+    Flags, MAX_PLAIN_PAYLOAD, Message, Name, NodeId, Packet, PacketView, encode, parse,
 };
 use urb_node::Ready;
 
-// Fails where the packet, of this message, may not come to the node.
-pub(super) fn check<A: Allocator + Copy>(
-    ready: &Ready<A>,
-    packet: &PacketView<'_>,
-    sent: &Message<A>,
-) -> Result<(), Fail>
-    ensures { OnOk result (IsForNode ready.now packet.now) }
+// Whether a packet is of this message.
+fn is_of<A: Allocator + Copy>(packet: &PacketView<'_>, sent: &Message<A>) -> bool
+    ensures { IsTrue result → packet.now.message ≡ sent.now }
 {
-    let named = packet.name();
+    packet.client() == sent.client()
+        && packet.number() == sent.number()
+        && packet.payload() == sent.payload()
+}
+
+// Whether a message may come to a node under this name: it is the one there, and of a node's own it is there.
+fn may_come<A: Allocator + Copy>(ready: &Ready<A>, named: Name, sent: &Message<A>) -> bool
+    ensures { IsTrue result → MayArrive ready.now.limits ready.now.node ready.now.pairs named sent.now }
+{
     let (node, config) = ready.place();
-    if packet.client() != sent.client()
-        || packet.number() != sent.number()
-        || packet.payload() != sent.payload()
-    {
-        return Err(Fail::from("the packet is of another message"));
-    }
-    if packet.target() != node || packet.source().number() > config.n() {
-        return Err(Fail::from("a packet comes from a node of the group"));
-    }
     if named.sender.number() > config.n() || named.seq > config.cap() {
-        return Err(Fail::from("the name is beyond the limits"));
+        return false;
     }
-    let is_held = ready.holds(&named, sent);
-    if named.sender == node && !is_held {
-        return Err(Fail::from("the node has broadcast no such message"));
+    if named.sender == node && !ready.holds(&named, sent) {
+        return false;
     }
     match ready.message(named) {
-        None => Ok(()),
-        Some(there) => {
-            if there.is_same(sent) {
-                Ok(())
-            } else {
-                Err(Fail::from("the name is of another message"))
-            }
-        }
+        None => true,
+        Some(there) => there.is_same(sent),
+    }
+}
+
+// Whether a packet, of this message, may come to the node.
+fn is_for<A: Allocator + Copy>(ready: &Ready<A>, packet: &PacketView<'_>, sent: &Message<A>) -> bool
+    ensures { IsTrue result → IsForNode ready.now packet.now }
+{
+    let (node, config) = ready.place();
+    packet.target() == node
+        && packet.source().number() <= config.n()
+        && is_of(packet, sent)
+        && may_come(ready, packet.name(), sent)
+}
+
+/// The packet of these bytes, where it is of this message and may come to the node.
+pub(super) fn packet_for<'b, A: Allocator + Copy>(
+    ready: &Ready<A>,
+    bytes: &'b [u8],
+    sent: &Message<A>,
+) -> Option<PacketView<'b>>
+    ensures { IfSome result (λ packet. IsForNode ready.now packet) }
+{
+    match parse(bytes) {
+        Ok(packet) if is_for(ready, &packet, sent) => Some(packet),
+        _ => None,
     }
 }
 
 // The bytes of a packet of this message, of version two where it has flags.
-pub(super) fn bytes_of<A: Allocator + Copy>(
+fn bytes_of<A: Allocator + Copy>(
     calm: A,
-    source: NodeId,
-    target: NodeId,
+    (source, target): (NodeId, NodeId),
     named: Name,
     sent: &Message<A>,
     flags: Option<Flags>,
-) -> Result<Vec<u8, A>, Fail> {
-    if source == target {
-        return Err(Fail::from("a packet comes from another node"));
+) -> Option<Vec<u8, A>> {
+    if source == target || flags.is_none() && MAX_PLAIN_PAYLOAD < sent.payload().len() {
+        return None;
     }
-    if flags.is_none() && MAX_PLAIN_PAYLOAD < sent.payload().len() {
-        return Err(Fail::from("a packet without flags is short"));
-    }
-    let packet = Packet::new(source, target, named, sent.copy(calm)?, flags);
-    Ok(encode(calm, &packet)?)
+    let message = sent.copy(calm).ok()?;
+    let packet = Packet::new(source, target, named, message, flags);
+    let bytes = encode(calm, &packet);
+    drop(packet);
+    bytes.ok()
 }
 
-// The packet of these bytes.
-pub(super) fn packet_of(bytes: &[u8]) -> Result<PacketView<'_>, Fail> {
-    Ok(parse(bytes)?)
+/// The bytes of a packet of this message to a node that is ready, of version two where it has flags.
+pub(super) fn letter<A: Allocator + Copy>(
+    state: &State<A>,
+    calm: A,
+    (source, flags): (u8, Option<Flags>),
+    named: Name,
+    sent: &Message<A>,
+) -> Option<Vec<u8, A>> {
+    match (state, NodeId::new(source)) {
+        (State::Ready(ready), Some(source)) => {
+            let (target, _config) = ready.place();
+            bytes_of(calm, (source, target), named, sent, flags)
+        }
+        _ => None,
+    }
 }

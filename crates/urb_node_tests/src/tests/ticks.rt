@@ -1,59 +1,57 @@
 //! What a node sends by its ticks.
 
 use super::*;
+use crate::tests::playing::play_all;
+use crate::tests::rows::{Act, CAP, List, NEITHER, PENDING, Row, Start};
 
-/// The numbers of the messages that three ticks send, of seventeen.
-static SENT: [[u32; 16]; 3] = [
-    [1, 2, 3, 4, 5, 6, 7, 8, 9, 10, 11, 12, 13, 14, 15, 16],
-    [17, 1, 2, 3, 4, 5, 6, 7, 8, 9, 10, 11, 12, 13, 14, 15],
-    [16, 17, 1, 2, 3, 4, 5, 6, 7, 8, 9, 10, 11, 12, 13, 14],
-];
-
-// Node 1 of two, which has broadcast seventeen messages.
-fn sender<A: Allocator + Copy>(calm: A) -> Result<Owned<A>, Fail> {
-    let mut bench = Bench::new(2, 1, calm, calm)?;
-    for number in 1..18 {
-        let _led = bench.make(Call::Submit(number), b"m", name(1, number)?)?;
-    }
-    Ok(bench)
+// The submits of the messages with these numbers.
+macro_rules! submits {
+    ($($number:literal)*) => {
+        &[$((Act::Submit($number, PENDING), (1, $number), b"m")),*]
+    };
 }
 
-// Whether the packets are of node 1's messages with these numbers in order, each to node 2.
-fn are_to_two<A: Allocator + Copy>(sent: &Outbox<A>, numbers: &[u32]) -> bool {
-    for (index, number) in numbers.iter().enumerate() {
-        let Some(packet) = sent.get(index) else {
-            return false;
-        };
-        let name = packet.name();
-        if name.sender.number() != 1 || name.seq != *number || packet.target().number() != 2 {
-            return false;
-        }
-    }
-    sent.len() == numbers.len()
+// A tick that sends the messages with these numbers to node 2.
+macro_rules! sends {
+    ($($number:literal)*) => {
+        (Act::Tick(&[$((2, $number, NEITHER)),*]), (1, 1), b"m")
+    };
 }
+
+/// Node 1 of two broadcasts seventeen messages.
+const SEVENTEEN: &[Row] = submits![1 2 3 4 5 6 7 8 9 10 11 12 13 14 15 16 17];
+
+static ROUND: [List; 1] = [List {
+    start: Start::New(2, 1, CAP),
+    parts: &[
+        SEVENTEEN,
+        &[
+            sends![1 2 3 4 5 6 7 8 9 10 11 12 13 14 15 16],
+            sends![17 1 2 3 4 5 6 7 8 9 10 11 12 13 14 15],
+            sends![16 17 1 2 3 4 5 6 7 8 9 10 11 12 13 14],
+        ],
+    ],
+}];
 
 #[test]
-fn a_tick_sends_the_next_sixteen_names_and_goes_round(rt: HostRuntime) -> Result<(), Fail> {
-    let alloc = rt.alloc();
-    let mut bench = sender(alloc)?;
-    for numbers in &SENT {
-        assert!(rt; are_to_two(&bench.tick()?, numbers));
-    }
-    Ok(())
+fn a_tick_sends_the_next_sixteen_names_and_goes_round(rt: HostRuntime) {
+    play_all(&rt, &ROUND);
 }
 
-// Whether a tick after a restart sends what the one before it sent.
-fn sends_the_same<A: Allocator + Copy>(calm: A) -> Result<bool, Fail> {
-    let mut bench = sender(calm)?;
-    let is_first = are_to_two(&bench.tick()?, &SENT[0]);
-    bench.crash()?;
-    bench.rise()?;
-    Ok(is_first && are_to_two(&bench.tick()?, &SENT[0]))
-}
+static ANEW: [List; 1] = [List {
+    start: Start::New(2, 1, CAP),
+    parts: &[
+        SEVENTEEN,
+        &[
+            sends![1 2 3 4 5 6 7 8 9 10 11 12 13 14 15 16],
+            (Act::Crash, (1, 1), b"m"),
+            (Act::Rise, (1, 1), b"m"),
+            sends![1 2 3 4 5 6 7 8 9 10 11 12 13 14 15 16],
+        ],
+    ],
+}];
 
 #[test]
-fn resends_begin_anew_with_a_restart(rt: HostRuntime) -> Result<(), Fail> {
-    let alloc = rt.alloc();
-    assert!(rt; sends_the_same(alloc)?);
-    Ok(())
+fn resends_begin_anew_with_a_restart(rt: HostRuntime) {
+    play_all(&rt, &ANEW);
 }

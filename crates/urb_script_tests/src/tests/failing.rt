@@ -2,6 +2,7 @@
 
 use super::{LONG_PAYLOADS, LONG_PAYLOADS_ANSWERS, ONE_NODE, ONE_NODE_ANSWERS, spelled};
 use crate::worked::{FORGOTTEN, HALF, MAJORITY, REOPENED, RESENT, TOLD};
+use std::alloc::Global;
 use std::test::Fail;
 use urb_refusing::{FailingReader, FailingWriter, Refusing};
 use urb_script::*;
@@ -93,125 +94,189 @@ fn outcome_of(
     }
 }
 
+/// What came of a run, how many growths it asked for, and whether the one that was refused was among them.
+#[derive(Clone, Copy)]
+struct Ran {
+    outcome: Option<Outcome>,
+    asked: u64,
+    met: bool,
+}
+
+/// Runs a script with this growth refused.
+fn run_refused(alloc: Global, refused: u64, script: &[u8], answers: &[u8], messages: &[u8]) -> Ran {
+    let heap = Refusing::new(alloc, refused);
+    let mut room = [0u8; 20_000];
+    let mut writer = FailingWriter::new(&mut room, 700, 0);
+    let mut input = script;
+    let ended = run(&heap, &mut input, &mut writer);
+    let outcome = outcome_of(&ended, script, writer.written(), answers, messages);
+    Ran {
+        outcome,
+        asked: heap.asked(),
+        met: heap.met(),
+    }
+}
+
+/// With each growth refused in turn, until a run meets no refusal: how many runs ended early, and in how many a store failed.
+/// None where a run came to none of the three.
+fn counts(alloc: Global, script: &[u8], answers: &[u8], messages: &[u8]) -> Option<(u64, u64)> {
+    let mut ended: u64 = 0;
+    let mut failed: u64 = 0;
+    for refused in 1..2000u64 {
+        let ran = run_refused(alloc, refused, script, answers, messages);
+        match (ran.met, ran.outcome) {
+            (true, Some(Outcome::Ended)) if ran.asked == refused => ended = ended.saturating_add(1),
+            (true, Some(Outcome::Failed)) => failed = failed.saturating_add(1),
+            (true, Some(Outcome::Same)) => {}
+            (false, Some(Outcome::Same)) if ran.asked == refused.saturating_sub(1) => {
+                return Some((ended, failed));
+            }
+            _ => return None,
+        }
+    }
+    None
+}
+
+/// The same of a text in which `@` is as in `spelled`.
+fn ran_spelled(
+    alloc: Global,
+    (script, answers): (&[u8], &[u8]),
+    messages: &[u8],
+) -> Result<Option<(u64, u64)>, Fail> {
+    let script = spelled(alloc, script)?;
+    let answers = spelled(alloc, answers)?;
+    let messages = spelled(alloc, messages)?;
+    Ok(counts(alloc, &script, &answers, &messages))
+}
+
+/// Scripts with their answers, and the messages that their logs show a beginning of.
+const REFUSED: [((&[u8], &[u8]), &[u8]); 8] = [
+    ((ONE_NODE, ONE_NODE_ANSWERS), b" 1.1=hi"),
+    ((LONG_PAYLOADS, LONG_PAYLOADS_ANSWERS), b" 1.1=- 1.2=@"),
+    (MAJORITY, MESSAGES),
+    (HALF, MESSAGES),
+    (FORGOTTEN, MESSAGES),
+    (RESENT, MESSAGES),
+    (REOPENED, MESSAGES),
+    (TOLD, MESSAGES),
+];
+
 #[test]
 fn each_refused_growth_ends_the_run_or_fails_a_store(rt: HostRuntime) -> Result<(), Fail> {
-    for ((script, answers), logs, messages) in [
-        (
-            (ONE_NODE, ONE_NODE_ANSWERS),
-            b"".as_slice(),
-            b" 1.1=hi".as_slice(),
-        ),
-        ((LONG_PAYLOADS, LONG_PAYLOADS_ANSWERS), b"", b" 1.1=- 1.2=@"),
-        (MAJORITY, b"log 1\nlog 2\nlog 3\n", MESSAGES),
-        (HALF, b"log 1\nlog 2\nlog 3\nlog 4\n", MESSAGES),
-        (FORGOTTEN, b"log 1\nlog 2\nlog 3\nlog 4\nlog 5\n", MESSAGES),
-        (RESENT, b"log 1\nlog 2\n", MESSAGES),
-        (REOPENED, b"log 1\nlog 2\nlog 3\n", MESSAGES),
-        (TOLD, b"log 1\nlog 2\nlog 3\n", MESSAGES),
-    ] {
-        // The script, and then the logs that can still be shown.
-        let mut script = spelled(rt.alloc(), script)?;
-        script.extend_from_slice(logs)?;
-        let mut whole = Vec::new(rt.alloc());
-        run(rt.alloc(), &mut script.as_slice(), &mut whole)?;
-        let answers = spelled(rt.alloc(), answers)?;
-        let messages = spelled(rt.alloc(), messages)?;
-        assert!(rt; whole.starts_with(answers.as_slice()));
-        let mut ended_early: u64 = 0;
-        let mut failed: u64 = 0;
-        let mut ran = false;
-        for refused in 1..2000u64 {
-            let heap = Refusing::new(rt.alloc(), refused);
-            let mut room = [0u8; 20_000];
-            let mut writer = FailingWriter::new(&mut room, 700, 0);
-            let mut input = script.as_slice();
-            let ended = run(&heap, &mut input, &mut writer);
-            let written = writer.written();
-            let outcome = outcome_of(
-                &ended,
-                script.as_slice(),
-                written,
-                whole.as_slice(),
-                messages.as_slice(),
-            );
-            if !heap.met() {
-                assert_eq!(rt; outcome, Some(Outcome::Same));
-                assert_eq!(rt; heap.asked(), refused.saturating_sub(1));
-                ran = true;
-                break;
-            }
-            match outcome {
-                Some(Outcome::Ended) => {
-                    assert_eq!(rt; heap.asked(), refused, "growth {refused}");
-                    ended_early = ended_early.saturating_add(1);
-                }
-                Some(Outcome::Failed) => failed = failed.saturating_add(1),
-                Some(Outcome::Same) => {}
-                None => return Err("none of the three".into()),
-            }
-        }
-        assert!(rt; ran && 0 < ended_early && 0 < failed);
+    for (texts, messages) in REFUSED {
+        let ran = ran_spelled(rt.alloc(), texts, messages)?;
+        assert!(rt;
+            matches!(ran, Some((ended, failed)) if 0 < ended && 0 < failed),
+            "{ran:?}"
+        );
     }
     Ok(())
+}
+
+/// What came of a run whose reader or writer is set to fail: whether the failing call was asked for, and whether the run
+/// came to what it is to come to.
+#[derive(Clone, Copy)]
+struct Failed {
+    met: bool,
+    right: bool,
+}
+
+/// Runs a script of which this read fails.
+fn run_read(alloc: Global, failing: u64) -> Failed {
+    let mut reader = FailingReader::new(ONE_NODE, 5, failing);
+    let mut room = [0u8; 300];
+    let mut writer = FailingWriter::new(&mut room, 300, 0);
+    let ended = run(alloc, &mut reader, &mut writer);
+    let written = writer.written();
+    let met = reader.met();
+    let right = match ended {
+        Err(RunFault::Read) => {
+            met && reader.failed_last()
+                && begins_lines(written, ONE_NODE_ANSWERS)
+                && writer.is_flushed()
+        }
+        // A byte a read, and one more at the end.
+        Ok(Ended::Whole) => {
+            !met && written == ONE_NODE_ANSWERS && reader.reads() == ONE_NODE.len() as u64 + 1
+        }
+        _ => false,
+    };
+    Failed { met, right }
+}
+
+/// The first read that isn't asked for any more. An error is a read after whose failure the run came to something else.
+fn first_unread(alloc: Global) -> Result<u64, u64> {
+    for failing in 1..500u64 {
+        let failed = run_read(alloc, failing);
+        if !failed.right {
+            return Err(failing);
+        }
+        if !failed.met {
+            return Ok(failing);
+        }
+    }
+    Err(500)
 }
 
 #[test]
 fn each_failing_read_ends_the_run(rt: HostRuntime) -> Result<(), Fail> {
-    let mut ran = false;
-    for failing in 1..500u64 {
-        let mut reader = FailingReader::new(ONE_NODE, 5, failing);
-        let mut room = [0u8; 300];
-        let mut writer = FailingWriter::new(&mut room, 300, 0);
-        let ended = run(rt.alloc(), &mut reader, &mut writer);
-        if !reader.met() {
-            assert!(rt; matches!(ended, Ok(Ended::Whole)));
-            assert_eq!(rt; writer.written(), ONE_NODE_ANSWERS);
-            // A byte a read, and one more at the end.
-            assert_eq!(rt; reader.reads(), ONE_NODE.len() as u64 + 1);
-            ran = true;
-            break;
-        }
-        assert!(rt; matches!(ended, Err(RunFault::Read)), "read {failing}");
-        assert!(rt; reader.failed_last(), "read {failing}");
-        assert!(rt;
-            begins_lines(writer.written(), ONE_NODE_ANSWERS),
-            "read {failing}"
-        );
-        assert!(rt; writer.is_flushed(), "read {failing}");
-    }
-    assert!(rt; ran);
+    assert_eq!(rt; first_unread(rt.alloc()), Ok(44));
     Ok(())
+}
+
+/// Whether the line after the answer isn't read before it is flushed, nor after the fault, where this call of the writer failed
+/// and so many bytes were read.
+fn is_read_so_far(reads: u64, failing: u64) -> bool {
+    match ONE_NODE.get(..reads as usize) {
+        Some(read) => {
+            let lines = read.split(|byte| *byte == b'\n').count() as u64;
+            read.ends_with(b"\n") && lines == failing.saturating_add(3) / 2
+        }
+        None => false,
+    }
+}
+
+/// Runs a script of which this write or flush fails.
+fn run_write(alloc: Global, failing: u64) -> Failed {
+    // A byte a read, so that the reads count the bytes.
+    let mut reader = FailingReader::new(ONE_NODE, 1, 0);
+    let mut room = [0u8; 300];
+    let mut writer = FailingWriter::new(&mut room, 300, failing);
+    let ended = run(alloc, &mut reader, &mut writer);
+    let met = writer.met();
+    let right = match ended {
+        Err(RunFault::Write) => {
+            met && writer.failed_last() && is_read_so_far(reader.reads(), failing)
+        }
+        // Each answer takes a write, and a flush behind it.
+        Ok(Ended::Whole) => {
+            !met && writer.written() == ONE_NODE_ANSWERS
+                && writer.calls() == 8
+                && writer.flushes() == 4
+                && writer.is_flushed()
+        }
+        _ => false,
+    };
+    Failed { met, right }
+}
+
+/// The first write or flush that isn't asked for any more. An error is one after whose failure the run came to something else.
+fn first_unwritten(alloc: Global) -> Result<u64, u64> {
+    for failing in 1..500u64 {
+        let failed = run_write(alloc, failing);
+        if !failed.right {
+            return Err(failing);
+        }
+        if !failed.met {
+            return Ok(failing);
+        }
+    }
+    Err(500)
 }
 
 #[test]
 fn each_failing_write_and_each_failing_flush_ends_the_run(rt: HostRuntime) -> Result<(), Fail> {
-    let mut ran = false;
-    for failing in 1..500u64 {
-        // A byte a read, so that the reads count the bytes.
-        let mut reader = FailingReader::new(ONE_NODE, 1, 0);
-        let mut room = [0u8; 300];
-        let mut writer = FailingWriter::new(&mut room, 300, failing);
-        let ended = run(rt.alloc(), &mut reader, &mut writer);
-        if !writer.met() {
-            assert!(rt; matches!(ended, Ok(Ended::Whole)));
-            assert_eq!(rt; writer.written(), ONE_NODE_ANSWERS);
-            // Each answer takes a write, and a flush behind it.
-            assert_eq!(rt; (writer.calls(), writer.flushes()), (8, 4));
-            assert!(rt; writer.is_flushed());
-            ran = true;
-            break;
-        }
-        assert!(rt; matches!(ended, Err(RunFault::Write)), "call {failing}");
-        assert!(rt; writer.failed_last(), "call {failing}");
-        // The line after the answer isn't read before it is flushed, nor after the fault.
-        let Some(read) = ONE_NODE.get(..reader.reads() as usize) else {
-            return Err("more bytes than there are".into());
-        };
-        let lines = read.split(|byte| *byte == b'\n').count() as u64;
-        assert!(rt; read.ends_with(b"\n"), "call {failing}");
-        assert_eq!(rt; lines, failing.saturating_add(3) / 2, "call {failing}");
-    }
-    assert!(rt; ran);
+    assert_eq!(rt; first_unwritten(rt.alloc()), Ok(9));
     Ok(())
 }
 

@@ -47,9 +47,7 @@ pub fn reads<K: HouseName>(alloc: Global, reader: &mut LogReader<K>, total: u32)
     requires { 3 ≤ length K.base }
 {
     for number in 1..4u8 {
-        let Some(node) = NodeId::new(number) else {
-            return false;
-        };
+        let node = NodeId::new(number).unwrap();
         if length_of(alloc, reader, node) != Some(total) {
             return false;
         }
@@ -57,22 +55,27 @@ pub fn reads<K: HouseName>(alloc: Global, reader: &mut LogReader<K>, total: u32)
     true
 }
 
+// How many entries all lists have together, where their pages agree.
+fn sum_of<K: HouseName>(alloc: Global, reader: &mut LogReader<K>) -> Option<u32>
+    requires { 3 ≤ length K.base }
+{
+    let mut sum = 0u32;
+    for number in 1..4u8 {
+        let node = NodeId::new(number).unwrap();
+        sum = sum.saturating_add(length_of(alloc, reader, node)?);
+    }
+    Some(sum)
+}
+
 /// Reads all nodes in turn until each list is whole. Whether all pages agreed, and no list became shorter.
-pub fn read_all<K: HouseName, R: Wait>(rt: &R, alloc: Global, mut reader: LogReader<K>) -> bool
+pub fn read_all<K: HouseName, R: Wait>(rt: &R, alloc: Global, reader: &mut LogReader<K>) -> bool
     requires { 3 ≤ length K.base }
 {
     let mut least = 0u32;
     for _ in rt.forever() {
-        let mut sum = 0u32;
-        for number in 1..4u8 {
-            let Some(node) = NodeId::new(number) else {
-                return false;
-            };
-            let Some(total) = length_of(alloc, &mut reader, node) else {
-                return false;
-            };
-            sum = sum.saturating_add(total);
-        }
+        let Some(sum) = sum_of(alloc, reader) else {
+            return false;
+        };
         if sum < least {
             return false;
         }
@@ -92,36 +95,39 @@ fn next<K: HouseName, R: Wait>(rt: &R, board: &Mutex<Board<K>>) -> (Option<News<
     taken
 }
 
+// Learns what was told. Whether it then reads at least that, in a page that agrees.
+fn learns<K: HouseName>(alloc: Global, reader: &mut LogReader<K>, news: News<K>) -> bool
+    requires { 3 ≤ length K.base }
+{
+    let News { told, node, total } = news;
+    reader.learn(told);
+    if node.number() > 3 {
+        return false;
+    }
+    match length_of(alloc, reader, node) {
+        Some(length) => total <= length,
+        None => false,
+    }
+}
+
 /// Learns all that is settled. Whether it then read at least that, and pages that agree.
 pub fn learn_all<K: HouseName, R: Wait>(
     rt: &R,
     alloc: Global,
-    mut reader: LogReader<K>,
+    reader: &mut LogReader<K>,
     board: &Mutex<Board<K>>,
 ) -> bool
     requires { 3 ≤ length K.base }
 {
     for _ in rt.forever() {
-        let (news, ended) = next(rt, board);
-        let Some(news) = news else {
-            if ended {
-                return reads(alloc, &mut reader, 2 * ROUNDS);
-            }
-            continue;
-        };
-        let News { told, node, total } = news;
-        reader.learn(told);
-        let number = node.number();
-        if number > 3 {
-            return false;
-        }
-        match length_of(alloc, &mut reader, node) {
-            Some(length) => {
-                if length < total {
+        match next(rt, board) {
+            (Some(news), _) => {
+                if !learns(alloc, reader, news) {
                     return false;
                 }
             }
-            None => return false,
+            (None, true) => return reads(alloc, reader, 2 * ROUNDS),
+            (None, false) => {}
         }
     }
     unreachable!()

@@ -2,46 +2,65 @@
 ghost use Rattle.std.specs.Prelude.{◌≡◌, ◌≤◌, length};
 ghost use Rattle.urb_show.specs.Lists.{lists_in};
 
+use super::first_false;
 use super::readers::reads;
-use super::writer::{arrive, keep, submit, three_stores};
+use super::writer::{arrive, drafted, keep, submit, three_stores};
 use std::alloc::Global;
 use std::sync::Wait;
-use urb_group::{ClientId, Failure, MemStable, Name, NodeId, Refusal, Stable, State, Taken};
+use urb_group::{ClientId, Failure, MemStable, Name, NodeId, Outbox, Refusal, Stable, State};
 use urb_show::{House, HouseName, LogReader, Opened, Status};
 
-// Node 1 broadcasts and node 2 delivers; the statuses and the answers of both, and what refused calls leave.
-fn events<K: HouseName>(
+// Whether a submit whose number isn't the next is refused, and is no event.
+fn is_refused<K: HouseName>(alloc: Global, house: &mut House<K>, node: NodeId) -> Option<bool> {
+    let client = ClientId::new(7)?;
+    let refusal = house.submit(alloc, node, client, 2, b"x").err();
+    Some(refusal == Some(Refusal::Gap(1)) && house.events() == 0)
+}
+
+// The packets of a node's first message; the node stores meanwhile.
+fn sent_by<K: HouseName>(
     alloc: Global,
     house: &mut House<K>,
-    stores: &mut Vec<MemStable>,
-) -> Option<bool> {
+    stores: &mut [MemStable],
+    node: NodeId,
+) -> Option<Outbox> {
+    let taken = submit(alloc, house, node, 1)?;
+    let storing = house.state(node) == Some(State::Storing);
+    let sent = keep(house, stores, taken)?.sent;
+    if storing { Some(sent) } else { None }
+}
+
+// How many names the packet for a node releases there.
+fn released_by<K: HouseName>(
+    alloc: Global,
+    house: &mut House<K>,
+    stores: &mut [MemStable],
+    node: NodeId,
+    sent: &Outbox,
+) -> Option<u32> {
+    let taken = arrive(alloc, house, node, sent)?;
+    Some(keep(house, stores, taken)?.released)
+}
+
+// How many packets a tick sends.
+fn ticked_by<K: HouseName>(alloc: Global, house: &mut House<K>, node: NodeId) -> Option<usize> {
+    Some(house.tick(alloc, node).ok()?.len())
+}
+
+// Whether the house answers for its nodes that the first one has sent a message, and the second one has delivered it.
+fn tells<K: HouseName>(house: &House<K>) -> Option<bool> {
     let (one, two, none) = (NodeId::new(1)?, NodeId::new(2)?, NodeId::new(4)?);
-    let client = ClientId::new(7)?;
     let name = Name {
         sender: one,
         seq: 1,
     };
-    let refused = house.submit(alloc, one, client, 2, b"x").err() == Some(Refusal::Gap(1));
-    let before = house.events();
-    let taken = submit(alloc, house, one, 1)?;
-    let storing = house.state(one) == Some(State::Storing);
-    let sent = keep(house, stores, taken)?.sent;
-    let taken = arrive(alloc, house, two, &sent)?;
-    let done = keep(house, stores, taken)?;
-    let ticked = house.tick(alloc, one).ok()?.len();
     let status = Status {
         state: State::Ready,
         own: 0,
         logged: 1,
     };
     Some(
-        refused
-            && before == 0
-            && storing
-            && done.released == 1
-            && ticked == 2
-            && house.events() == 5
-            && house.status(two) == Some(status)
+        house.status(two) == Some(status)
             && house.status(none).is_none()
             && house.log(two) == Some(&[name][..])
             && house.holds(two, name)
@@ -50,25 +69,78 @@ fn events<K: HouseName>(
     )
 }
 
-// Node 3's store fails, and it comes back; node 1 crashes.
-fn failures<K: HouseName>(
+// Whether what was sent is delivered at a node, and a tick of the sender sends it again.
+fn delivers<K: HouseName>(
     alloc: Global,
     house: &mut House<K>,
-    stores: &mut Vec<MemStable>,
-) -> Option<bool> {
-    let (one, three) = (NodeId::new(1)?, NodeId::new(3)?);
-    let Taken::Store(draft) = submit(alloc, house, three, 1)? else {
-        return None;
+    stores: &mut [MemStable],
+    ends: (NodeId, NodeId),
+    sent: &Outbox,
+) -> bool {
+    let (from, to) = ends;
+    released_by(alloc, house, stores, to, sent) == Some(1)
+        && ticked_by(alloc, house, from) == Some(2)
+}
+
+// Node 1 broadcasts and node 2 delivers; the statuses and the answers of both, and what refused calls leave.
+fn events<K: HouseName>(alloc: Global, house: &mut House<K>, stores: &mut [MemStable]) -> bool {
+    let (one, two) = (NodeId::new(1).unwrap(), NodeId::new(2).unwrap());
+    if is_refused(alloc, house, one) != Some(true) {
+        return false;
+    }
+    let delivered = match sent_by(alloc, house, stores, one) {
+        Some(sent) => delivers(alloc, house, stores, (one, two), &sent),
+        None => false,
     };
-    let store = stores.get_mut(2)?;
+    delivered && tells(house) == Some(true) && house.events() == 5
+}
+
+// A node drafts a message, and its store fails.
+fn fails<K: HouseName>(
+    alloc: Global,
+    house: &mut House<K>,
+    store: &mut MemStable,
+    node: NodeId,
+) -> Option<()> {
+    let draft = drafted(submit(alloc, house, node, 1)?)?;
     store.arm(Failure::Old);
     let doubt = draft.keep(store).err()?;
-    house.fail(doubt).ok()?;
+    house.fail(doubt).ok()
+}
+
+// A node comes back with what its store has.
+fn comes_back<K: HouseName>(
+    alloc: Global,
+    house: &mut House<K>,
+    store: &mut MemStable,
+    node: NodeId,
+) -> Option<bool> {
     let image = store.retrieve(alloc).ok()?;
-    house.restart(alloc, three, image).ok()?;
-    house.crash(one).ok()?;
+    let up = house.restart(alloc, node, image).is_ok();
+    Some(up && house.state(node) == Some(State::Ready))
+}
+
+// Node 3's store fails, and it comes back; node 1 crashes.
+fn failures<K: HouseName>(alloc: Global, house: &mut House<K>, store: &mut MemStable) -> bool {
+    let (one, three) = (NodeId::new(1).unwrap(), NodeId::new(3).unwrap());
+    let failed = fails(alloc, house, store, three).is_some();
+    let back = comes_back(alloc, house, store, three) == Some(true);
+    let crashed = house.crash(one).is_ok();
     let again = house.crash(one).err() == Some(Refusal::Down);
-    Some(again && house.state(three) == Some(State::Ready) && house.events() == 9)
+    failed && back && crashed && again && house.events() == 9
+}
+
+// How long a node's list is, and how many entries its page from this place on has.
+fn counts_from<K: HouseName>(
+    alloc: Global,
+    reader: &mut LogReader<K>,
+    node: NodeId,
+    first: u32,
+) -> Option<(u32, usize)>
+    requires { (node ≤ length K.base) × (1 ≤ first) }
+{
+    let page = reader.read(alloc, node, first, 8).ok()?;
+    Some((page.total, page.entries.len()))
 }
 
 // What is delivered is read once it is settled, and not before.
@@ -82,17 +154,30 @@ fn settles<K: HouseName, R: Wait>(
 {
     let two = NodeId::new(2)?;
     let before = reads(alloc, reader, 0);
-    let told = house.settle(rt, two).ok()?;
-    reader.learn(told);
-    let page = reader.read(alloc, two, 1, 8).ok()?;
-    let beyond = reader.read(alloc, two, 2, 8).ok()?;
-    Some(
-        before
-            && page.total == 1
-            && page.entries.len() == 1
-            && beyond.total == 1
-            && beyond.entries.is_empty(),
-    )
+    reader.learn(house.settle(rt, two).ok()?);
+    let counts = counts_from(alloc, reader, two, 1)?;
+    let beyond = counts_from(alloc, reader, two, 2)?;
+    Some(before && counts == (1, 1) && beyond == (1, 0))
+}
+
+// All calls of a house that is open.
+fn calls<K: HouseName, R: Wait>(
+    rt: &R,
+    alloc: Global,
+    house: &mut House<K>,
+    reader: &mut LogReader<K>,
+) -> Result<(), &'static str>
+    requires { 3 ≤ length K.base }
+{
+    let mut stores = three_stores(alloc);
+    let happened = events(alloc, house, &mut stores);
+    let failed = failures(alloc, house, &mut stores[2]);
+    let settled = settles(rt, alloc, house, reader) == Some(true);
+    first_false(&[
+        (happened, "events"),
+        (failed, "failures"),
+        (settled, "settling"),
+    ])
 }
 
 /// All of them, on a house of three nodes that was just opened.
@@ -102,12 +187,8 @@ pub fn walk<K: HouseName, R: Wait>(
     opened: Opened,
 ) -> Result<(), &'static str>
     requires names { (opened.book ≡ K.book) × (lists_in opened.group ≡ K.base) }
-    requires nodes { length opened.group.nodes ≡ 3 }
+    requires nodes { opened.group.size.n ≡ 3 }
 {
-    let Some(mut stores) = three_stores(alloc) else {
-        drop(opened.close());
-        return Err("no memory");
-    };
     let (mut house, mut readers) = match opened.parts::<K, R>(rt, alloc) {
         Ok(parts) => parts,
         Err((opened, _)) => {
@@ -116,25 +197,8 @@ pub fn walk<K: HouseName, R: Wait>(
         }
     };
     house.promise();
-    let happened = events(alloc, &mut house, &mut stores) == Some(true);
-    let failed = failures(alloc, &mut house, &mut stores) == Some(true);
-    let settled = match readers.pop() {
-        Some(mut reader) => settles(rt, alloc, &mut house, &mut reader) == Some(true),
-        None => false,
-    };
+    let called = calls(rt, alloc, &mut house, &mut readers[0]);
     let group = house.close(rt);
-    let kept = match NodeId::new(2) {
-        Some(node) => group.log(node).map(|log| log.len()) == Some(1),
-        None => false,
-    };
-    if !happened {
-        return Err("events");
-    }
-    if !failed {
-        return Err("failures");
-    }
-    if !settled {
-        return Err("settling");
-    }
-    if kept { Ok(()) } else { Err("the group") }
+    let kept = group.log(NodeId::new(2).unwrap()).map(|log| log.len()) == Some(1);
+    if kept { called } else { Err("the group") }
 }

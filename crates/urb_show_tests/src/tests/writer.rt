@@ -48,12 +48,12 @@ impl<K: HouseName> Board<K> {
 }
 
 /// The stores of nodes 1, 2 and 3.
-pub fn three_stores(alloc: Global) -> Option<Vec<MemStable>> {
-    let mut stores = Vec::new(alloc);
-    for _ in 0..3u8 {
-        stores.push(MemStable::new(alloc)).ok()?;
-    }
-    Some(stores)
+pub fn three_stores(alloc: Global) -> [MemStable; 3] {
+    [
+        MemStable::new(alloc),
+        MemStable::new(alloc),
+        MemStable::new(alloc),
+    ]
 }
 
 /// What was drafted.
@@ -67,7 +67,7 @@ pub fn drafted(taken: Taken) -> Option<Draft> {
 /// The store keeps what was drafted, and the house takes the receipt.
 pub fn keep<K: HouseName>(
     house: &mut House<K>,
-    stores: &mut Vec<MemStable>,
+    stores: &mut [MemStable],
     taken: Taken,
 ) -> Option<Done> {
     let draft = drafted(taken)?;
@@ -131,13 +131,43 @@ fn settle<K: HouseName, R: Wait>(
     }
 }
 
+// A node's message is stored. The packets for the others are handed out.
+fn broadcast<K: HouseName>(
+    alloc: Global,
+    house: &mut House<K>,
+    stores: &mut [MemStable],
+    node: NodeId,
+    number: u32,
+) -> Option<Outbox> {
+    let taken = submit(alloc, house, node, number)?;
+    Some(keep(house, stores, taken)?.sent)
+}
+
+// The packet among these that is for this node is stored there, and what that delivers is settled. Its packets are handed out.
+fn deliver<K: HouseName, R: Wait>(
+    rt: &R,
+    alloc: Global,
+    house: &mut House<K>,
+    stores: &mut [MemStable],
+    board: &Mutex<Board<K>>,
+    node: NodeId,
+    sent: &Outbox,
+) -> Option<Outbox>
+    requires { node ≤ length K.base }
+{
+    let taken = arrive(alloc, house, node, sent)?;
+    let answered = keep(house, stores, taken)?.sent;
+    settle(rt, house, board, node)?;
+    Some(answered)
+}
+
 // A node's message is stored, and so is what it makes this other node draft; and then what that node's packet makes the
 // first one draft. Both have delivered it then, and the packets for the others are handed out.
 fn there_and_back<K: HouseName, R: Wait>(
     rt: &R,
     alloc: Global,
     house: &mut House<K>,
-    stores: &mut Vec<MemStable>,
+    stores: &mut [MemStable],
     board: &Mutex<Board<K>>,
     ends: (NodeId, NodeId),
     number: u32,
@@ -145,50 +175,48 @@ fn there_and_back<K: HouseName, R: Wait>(
     requires { (ends.0 ≤ length K.base) × (ends.1 ≤ length K.base) }
 {
     let (from, to) = ends;
-    let taken = submit(alloc, house, from, number)?;
-    let sent = keep(house, stores, taken)?.sent;
-    let taken = arrive(alloc, house, to, &sent)?;
-    let there = keep(house, stores, taken)?.sent;
-    settle(rt, house, board, to)?;
-    let taken = arrive(alloc, house, from, &there)?;
-    keep(house, stores, taken)?;
-    settle(rt, house, board, from)?;
+    let sent = broadcast(alloc, house, stores, from, number)?;
+    let there = deliver(rt, alloc, house, stores, board, to, &sent)?;
+    deliver(rt, alloc, house, stores, board, from, &there)?;
     Some(sent)
 }
 
-// A third node delivers it too.
-fn deliver<K: HouseName, R: Wait>(
+// Node 3 delivers the messages of both, that of node 2 first. Whether none was refused.
+fn third_delivers<K: HouseName, R: Wait>(
     rt: &R,
     alloc: Global,
     house: &mut House<K>,
-    stores: &mut Vec<MemStable>,
+    stores: &mut [MemStable],
     board: &Mutex<Board<K>>,
-    node: NodeId,
-    sent: &Outbox,
-) -> Option<()>
-    requires { node ≤ length K.base }
+    sent: (&Outbox, &Outbox),
+) -> bool
+    requires { 3 ≤ length K.base }
 {
-    let taken = arrive(alloc, house, node, sent)?;
-    keep(house, stores, taken)?;
-    settle(rt, house, board, node)
+    let three = NodeId::new(3).unwrap();
+    deliver(rt, alloc, house, stores, board, three, sent.1).is_some()
+        && deliver(rt, alloc, house, stores, board, three, sent.0).is_some()
 }
 
-// Nodes 1 and 2 broadcast, and every node delivers both, node 3 in another order.
+// Nodes 1 and 2 broadcast, and every node delivers both, node 3 in another order. Whether none was refused.
 fn round<K: HouseName, R: Wait>(
     rt: &R,
     alloc: Global,
     house: &mut House<K>,
-    stores: &mut Vec<MemStable>,
+    stores: &mut [MemStable],
     board: &Mutex<Board<K>>,
     number: u32,
-) -> Option<()>
+) -> bool
     requires { 3 ≤ length K.base }
 {
-    let (one, two, three) = (NodeId::new(1)?, NodeId::new(2)?, NodeId::new(3)?);
-    let first = there_and_back(rt, alloc, house, stores, board, (one, two), number)?;
-    let second = there_and_back(rt, alloc, house, stores, board, (two, one), number)?;
-    deliver(rt, alloc, house, stores, board, three, &second)?;
-    deliver(rt, alloc, house, stores, board, three, &first)
+    let (one, two) = (NodeId::new(1).unwrap(), NodeId::new(2).unwrap());
+    let first = there_and_back(rt, alloc, house, stores, board, (one, two), number);
+    let second = there_and_back(rt, alloc, house, stores, board, (two, one), number);
+    match (&first, &second) {
+        (Some(first), Some(second)) => {
+            third_delivers(rt, alloc, house, stores, board, (first, second))
+        }
+        _ => false,
+    }
 }
 
 // Writes all rounds, one turn of the lock each. Whether none was refused.
@@ -200,12 +228,10 @@ fn write_rounds<K: HouseName, R: Wait>(
 ) -> bool
     requires { 3 ≤ length K.base }
 {
-    let Some(mut stores) = three_stores(alloc) else {
-        return false;
-    };
+    let mut stores = three_stores(alloc);
     for number in 0..ROUNDS {
         let mut guard = house.lock(rt);
-        let written = round(rt, alloc, &mut *guard, &mut stores, board, number + 1).is_some();
+        let written = round(rt, alloc, &mut *guard, &mut stores, board, number + 1);
         MutexGuard::unlock(guard);
         if !written {
             return false;

@@ -1,0 +1,108 @@
+//! A node that is a group of its own, and its desk.
+
+ghost use Rattle.std.specs.Prelude.{◌≤◌, IfOk, vec_len};
+
+use std::alloc::Allocator;
+use urb_client::*;
+use urb_names::{ClientId, MAX_PAYLOAD, Message, Name, NoMemory, NodeId, Refusal};
+
+/// A node that is a group of its own: what it is sent stands in its log at once.
+#[derive(Drop)]
+pub(super) struct OneNode<A: Allocator> {
+    alloc: A,
+    log: Vec<(Name, Message<A>), A>,
+}
+
+impl<A: Allocator + Copy> OneNode<A> {
+    /// A node whose log is empty.
+    pub(super) fn new(alloc: A) -> OneNode<A> {
+        OneNode {
+            alloc,
+            log: Vec::new(alloc),
+        }
+    }
+
+    // The number that its next message has.
+    fn next(&self) -> u32 {
+        u32::try_from(self.log.len())
+            .unwrap_or(u32::MAX)
+            .saturating_add(1)
+    }
+
+    /// What a submit is answered.
+    pub(super) fn submit(
+        &mut self,
+        client: ClientId,
+        number: u32,
+        payload: &[u8],
+    ) -> Result<Response<A>, NoMemory> {
+        if MAX_PAYLOAD < payload.len() {
+            return Ok(Response::refused(&Refusal::TooLong));
+        }
+        if number == 0 || number != self.next() {
+            return Ok(Response::refused(&Refusal::Gap(self.next())));
+        }
+        let sender = NodeId::new(1).unwrap();
+        let name = Name {
+            sender,
+            seq: number,
+        };
+        let message = Message::copied(self.alloc, client, number, payload)?;
+        self.log.push((name, message))?;
+        Ok(Response::Accepted(number))
+    }
+
+    // The page from this place on.
+    fn page(&self, place: u32, max: u8) -> Result<Vec<(Name, Message<A>), A>, NoMemory>
+        ensures { IfOk result (λ page. vec_len page ≤ 8) }
+    {
+        let mut page = Vec::new(self.alloc);
+        for (name, message) in &self.log {
+            if place <= name.seq {
+                page.push((*name, message.copy(self.alloc)?))?;
+            }
+        }
+        page.truncate(usize::from(max.min(8)));
+        Ok(page)
+    }
+
+    // What a read is answered.
+    fn read(&self, place: u32, max: u8) -> Result<Response<A>, NoMemory> {
+        Response::entries(self.page(place, max)?)
+    }
+
+    /// How many entries a read from this place on is answered; none where memory is refused.
+    pub(super) fn count_from(&self, place: u32) -> usize {
+        match self.read(place, 8) {
+            Ok(Response::Entries(entries)) => entries.as_slice().len(),
+            _ => 0,
+        }
+    }
+}
+
+impl<A: Allocator + Copy> Desk for OneNode<A> {
+    type Alloc = A;
+
+    ghost answers = { λ _ _ _ _. Unit {0} };
+
+    fn answer(&mut self, request: &Request<A>) -> Result<Response<A>, NoMemory> {
+        match request {
+            Request::Submit {
+                client,
+                number,
+                payload,
+            } => self.submit(*client, *number, payload),
+            Request::Read { place, max } => self.read(*place, *max),
+            Request::Status => {
+                let logged = u32::try_from(self.log.len()).unwrap_or(u32::MAX);
+                Ok(Response::Status {
+                    state: NodeState::Ready,
+                    own: logged,
+                    logged,
+                })
+            }
+            Request::Crash => Ok(Response::Done),
+            Request::Restart => Ok(Response::Done),
+        }
+    }
+}

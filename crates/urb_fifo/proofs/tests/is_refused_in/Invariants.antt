@@ -1,0 +1,6 @@
+use Rattle.std.proofs.Common.{◌≡◌}
+use Rattle.urb_fifo.proofs.tests.is_refused_in.Given as goal
+
+-- the configuration stays
+abbrev pub invariant-loop-step : goal.invariant-loop-step
+invariant-loop-step g l = l.fifo.limits ≡ l.fn.fifo.limits

@@ -1,0 +1,89 @@
+//! Whole lists of commands, with each growth of memory refused in turn.
+
+use super::clusters::{Event, cluster, command};
+use std::alloc::Allocator;
+use std::test::Fail;
+use urb_group::*;
+use urb_refusing::Refusing;
+use urb_stable::MemStable;
+
+/// A draft that is stored, a tick, a crash and a restart.
+const EVENTS: [Event; 5] = [
+    Event::Submit,
+    Event::StoreOne,
+    Event::Tick,
+    Event::Crash,
+    Event::Restart,
+];
+
+// Their commands.
+fn commands<A: Allocator + Copy>(alloc: A) -> Option<Vec<Command<A>, A>> {
+    let mut commands = Vec::new(alloc);
+    for event in EVENTS {
+        commands.push(command(alloc, event)?).ok()?;
+    }
+    Some(commands)
+}
+
+/// What comes of a play.
+#[derive(Clone, Copy)]
+enum Outcome {
+    /// The cluster could not be made.
+    Unmade,
+    /// The play ended for want of memory, or the store of node 1 had none for its record.
+    Short,
+    /// There are so many replies, the second one to a store that took its record.
+    Whole(usize),
+}
+
+// What comes of a play that ended behind its last command.
+fn came_with<A: Allocator>(replies: &[Reply<A>]) -> Outcome {
+    match replies.get(1) {
+        Some(Reply::Stored(_)) => Outcome::Whole(replies.len()),
+        _ => Outcome::Short,
+    }
+}
+
+// What comes of the commands.
+fn came_of<A: Allocator + Copy>(
+    cluster: &mut Cluster<MemStable<A>>,
+    alloc: A,
+    commands: &[Command<A>],
+) -> Outcome {
+    match play(alloc, cluster, commands) {
+        Ok(replies) => came_with(&replies),
+        Err(_) => Outcome::Short,
+    }
+}
+
+// The same of a new cluster, which takes its memory from `heap`.
+fn came<A: Allocator + Copy>(heap: A, calm: A) -> Option<Outcome> {
+    let commands = commands(calm)?;
+    match cluster(heap) {
+        Some(mut cluster) => Some(came_of(&mut cluster, heap, &commands)),
+        None => Some(Outcome::Unmade),
+    }
+}
+
+#[test]
+fn play_ends_where_memory_is_refused(rt: HostRuntime) -> Result<(), Fail> {
+    let calm = Refusing::new(rt.alloc(), 0);
+    let mut ended = 0;
+    for refused in 1..100 {
+        let heap = Refusing::new(rt.alloc(), refused);
+        let came = came(&heap, &calm);
+        if !heap.met() {
+            assert!(rt; matches!(came, Some(Outcome::Whole(5))));
+            break;
+        }
+        assert!(rt;
+            matches!(came, Some(Outcome::Unmade | Outcome::Short)),
+            "growth {refused}"
+        );
+        if matches!(came, Some(Outcome::Short)) {
+            ended = refused;
+        }
+    }
+    assert!(rt; 3 < ended && ended < 99);
+    Ok(())
+}

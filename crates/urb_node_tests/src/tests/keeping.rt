@@ -1,0 +1,187 @@
+//! What becomes of the draft that a node under test holds.
+
+ghost use Rattle.std.specs.Prelude.{◌+◌, ◌<◌, ◌^◌};
+
+use super::*;
+use crate::tests::rows::{Act, Row};
+use crate::tests::sending::are_sent;
+use crate::tests::states::{State, Went, went};
+use urb_node::{Done, Storing};
+use urb_stable::{Draft, Failure, MemStable, Receipt, Stable};
+
+// Whether that is told of a stored record with this name; of an act that isn't `Store` the name alone is compared.
+fn tells<A: Allocator + Copy>(
+    done: &Done<A>,
+    node: NodeId,
+    named: Name,
+    (act, _, payload): &Row,
+) -> bool {
+    let is_it = done.name == named;
+    match act {
+        Act::Store(accepted, released, sent) => {
+            is_it
+                && done.accepted == *accepted
+                && done.released == *released
+                && are_sent(&done.sent, node, named.sender, sent, payload)
+        }
+        _ => is_it,
+    }
+}
+
+// The node goes on with the receipt of its draft.
+fn confirm<A: Allocator + Copy>(
+    storing: Storing<A>,
+    receipt: Receipt<A>,
+    named: Name,
+    row: &Row,
+) -> Went<A> {
+    let node = receipt.node();
+    match storing.confirm(receipt) {
+        Ok((ready, done)) => {
+            let is_so = tells(&done, node, named, row);
+            drop(done);
+            (State::Ready(ready), went(is_so))
+        }
+        Err((storing, receipt)) => {
+            drop(receipt);
+            (State::Down(storing.fail()), None)
+        }
+    }
+}
+
+/// The draft is stored, and the node goes on with its receipt.
+pub(super) fn keep<A: Allocator + Copy>(
+    state: State<A>,
+    store: &mut MemStable<A>,
+    named: Name,
+    row: &Row,
+) -> Went<A> {
+    match state {
+        State::Storing(storing, draft) => match draft.keep(store) {
+            Ok(receipt) => confirm(storing, receipt, named, row),
+            Err(_doubt) => (State::Down(storing.fail()), None),
+        },
+        other => (other, None),
+    }
+}
+
+/// The store fails in this way, and the node with it.
+pub(super) fn doubt<A: Allocator + Copy>(
+    state: State<A>,
+    store: &mut MemStable<A>,
+    failure: Failure,
+) -> Went<A> {
+    match state {
+        State::Storing(storing, draft) => {
+            store.arm(failure);
+            let kept = draft.keep(store);
+            let is_kept = kept.is_ok();
+            drop(kept);
+            (State::Down(storing.fail()), went(!is_kept))
+        }
+        other => (other, None),
+    }
+}
+
+/// The draft is lost: the store fails, or the node crashes.
+pub(super) fn lose<A: Allocator + Copy>(state: State<A>, fails: bool) -> Went<A> {
+    match state {
+        State::Storing(storing, draft) => {
+            drop(draft);
+            let down = if fails {
+                storing.fail()
+            } else {
+                storing.crash()
+            };
+            (State::Down(down), Some(true))
+        }
+        other => (other, None),
+    }
+}
+
+// The store keeps one more record.
+fn fill_next<A: Allocator + Copy>(store: &mut MemStable<A>, pos: u32) -> bool {
+    match name(1, pos) {
+        Some(named) => {
+            let record = Record::Cert(named);
+            let is_kept = store.store(pos, &record).is_ok();
+            drop(record);
+            is_kept
+        }
+        None => false,
+    }
+}
+
+// The receipt of a draft, of a store that holds so many records before it.
+fn receipt_behind<A: Allocator + Copy>(
+    calm: A,
+    node: NodeId,
+    before: u32,
+    record: Record<Message<A>>,
+) -> Option<Receipt<A>>
+    requires { before + 1 < 2 ^ 32 }
+{
+    let mut store = MemStable::new(calm);
+    for earlier in 0..before {
+        let _is_kept = fill_next(&mut store, earlier + 1);
+    }
+    let kept = Draft::new(node, before + 1, record).keep(&mut store);
+    drop(store);
+    kept.ok()
+}
+
+// The receipt of a draft of this node and position.
+fn receipt_of<A: Allocator + Copy>(
+    calm: A,
+    (node, pos): (u8, u32),
+    form: &Form,
+    named: Name,
+    payload: &[u8],
+) -> Option<Receipt<A>> {
+    let node = NodeId::new(node)?;
+    let before = pos.checked_sub(1)?;
+    let record = record_of(calm, form, named, payload)?;
+    receipt_behind(calm, node, before, record)
+}
+
+// Whether a receipt of another draft comes back from a node.
+fn comes_back<A: Allocator + Copy>(
+    storing: Storing<A>,
+    draft: Draft<A>,
+    receipt: Receipt<A>,
+) -> Went<A> {
+    let (node, pos) = (receipt.node(), receipt.pos());
+    match storing.confirm(receipt) {
+        Ok((ready, done)) => {
+            drop(done);
+            drop(draft);
+            (State::Ready(ready), None)
+        }
+        Err((storing, back)) => {
+            let is_it = back.node() == node && back.pos() == pos;
+            drop(back);
+            (State::Storing(storing, draft), went(is_it))
+        }
+    }
+}
+
+/// The receipt of another draft, of this node and position, comes back.
+pub(super) fn give_back<A: Allocator + Copy>(
+    state: State<A>,
+    calm: A,
+    place: (u8, u32),
+    form: &Form,
+    named: Name,
+    payload: &[u8],
+) -> Went<A> {
+    match receipt_of(calm, place, form, named, payload) {
+        Some(receipt) => match state {
+            State::Storing(storing, draft) => comes_back(storing, draft, receipt),
+            other => {
+                drop(receipt);
+                (other, None)
+            }
+        },
+        None => (state, None),
+    }
+}

@@ -1,0 +1,97 @@
+//! Crashes of a node under test, and restarts with images.
+
+use super::*;
+use crate::tests::states::{State, Went, went};
+use urb_names::Refusal;
+use urb_stable::{MemStable, Stable};
+
+/// A crash of a node that holds no draft.
+pub(super) fn crash<A: Allocator + Copy>(state: State<A>) -> Went<A> {
+    match state {
+        State::Ready(ready) => (State::Down(ready.crash()), Some(true)),
+        other => (other, None),
+    }
+}
+
+// A record comes behind those of an image; whether it was there, and had room.
+fn join<A: Allocator + Copy>(
+    image: &mut Vec<Record<Message<A>>, A>,
+    record: Option<Record<Message<A>>>,
+) -> bool {
+    match record {
+        Some(record) => image.push(record).is_ok(),
+        None => false,
+    }
+}
+
+// The image of these rows.
+fn image_of<A: Allocator + Copy>(calm: A, rows: &[Kept]) -> Option<Vec<Record<Message<A>>, A>> {
+    let mut image = Vec::new(calm);
+    let mut is_whole = true;
+    for row in rows {
+        is_whole = is_whole && join(&mut image, kept_record(calm, row));
+    }
+    if is_whole {
+        return Some(image);
+    }
+    drop(image);
+    None
+}
+
+// Whether a restart was taken, or refused so.
+fn judged(refusal: Option<Refusal>, expected: Option<Refusal>) -> Option<bool> {
+    if refusal == Some(Refusal::NoMemory) {
+        return Some(false);
+    }
+    went(refusal == expected)
+}
+
+// A restart with an image, which is taken, or refused so.
+fn restart<A: Allocator + Copy>(
+    state: State<A>,
+    heap: A,
+    image: Vec<Record<Message<A>>, A>,
+    expected: Option<Refusal>,
+) -> Went<A> {
+    match state {
+        State::Down(down) => match down.restart(heap, image) {
+            Ok(ready) => (State::Ready(ready), judged(None, expected)),
+            Err((down, refusal)) => (State::Down(down), judged(Some(refusal), expected)),
+        },
+        other => {
+            drop(image);
+            (other, None)
+        }
+    }
+}
+
+// The same, where there is memory for the image.
+fn restart_with<A: Allocator + Copy>(
+    state: State<A>,
+    heap: A,
+    image: Option<Vec<Record<Message<A>>, A>>,
+    expected: Option<Refusal>,
+) -> Went<A> {
+    match image {
+        Some(image) => restart(state, heap, image, expected),
+        None => (state, None),
+    }
+}
+
+/// A restart with the records of the store, which are taken.
+pub(super) fn rise<A: Allocator + Copy>(
+    state: State<A>,
+    (heap, calm): (A, A),
+    store: &mut MemStable<A>,
+) -> Went<A> {
+    restart_with(state, heap, store.retrieve(calm).ok(), None)
+}
+
+/// A restart with another image, which is refused.
+pub(super) fn refuse<A: Allocator + Copy>(
+    state: State<A>,
+    (heap, calm): (A, A),
+    rows: &[Kept],
+) -> Went<A> {
+    restart_with(state, heap, image_of(calm, rows), Some(Refusal::BadImage))
+}

@@ -1,0 +1,65 @@
+//! A node under test in one of its states, and what it tells there.
+
+use std::alloc::Allocator;
+use urb_names::{Message, Name};
+use urb_node::{Down, Ready, Storing};
+use urb_stable::Draft;
+
+/// A node, with its draft where it holds one.
+#[derive(Drop)]
+pub(super) enum State<A: Allocator> {
+    Ready(Ready<A>),
+    Storing(Storing<A>, Draft<A>),
+    Down(Down<A>),
+}
+
+/// A node after a row: whether that went through, and was not refused for memory; none where it led elsewhere.
+pub(super) type Went<A> = (State<A>, Option<bool>);
+
+/// How a row went that is never refused for memory.
+pub(super) fn went(is_so: bool) -> Option<bool> {
+    if is_so { Some(true) } else { None }
+}
+
+impl<A: Allocator + Copy> State<A> {
+    pub(super) fn own_len(&self) -> u32 {
+        match self {
+            State::Ready(ready) => ready.own_len(),
+            State::Storing(storing, _) => storing.own_len(),
+            State::Down(down) => down.own_len(),
+        }
+    }
+
+    pub(super) fn log(&self) -> &[Name] {
+        match self {
+            State::Ready(ready) => ready.log(),
+            State::Storing(storing, _) => storing.log(),
+            State::Down(down) => down.log(),
+        }
+    }
+
+    pub(super) fn holds(&self, named: Name, sent: &Message<A>) -> bool {
+        match self {
+            State::Ready(ready) => ready.holds(&named, sent),
+            State::Storing(storing, _) => storing.holds(&named, sent),
+            State::Down(down) => down.holds(&named, sent),
+        }
+    }
+
+    /// Whether a message has this name.
+    pub(super) fn has(&self, named: Name) -> bool {
+        match self {
+            State::Ready(ready) => ready.message(named).is_some(),
+            State::Storing(storing, _) => storing.message(named).is_some(),
+            State::Down(down) => down.message(named).is_some(),
+        }
+    }
+
+    pub(super) fn certified(&self, named: Name) -> bool {
+        match self {
+            State::Ready(ready) => ready.certified(named),
+            State::Storing(storing, _) => storing.certified(named),
+            State::Down(down) => down.certified(named),
+        }
+    }
+}

@@ -1,0 +1,146 @@
+//! Calls on a store in memory, with what it answers.
+
+use std::alloc::Allocator;
+use urb_names::{Message, NodeId};
+use urb_stable::*;
+
+/// A call, with its answer.
+#[derive(Clone, Copy)]
+pub(super) enum Call {
+    /// The next store is to fail.
+    Arm(Failure),
+    /// A record is stored at a position.
+    Store(u32, Result<(), StoreFault>),
+    /// A draft of it is kept there.
+    Keep(u32, Result<(), StoreFault>),
+    /// The position that is next.
+    Next(u32),
+    /// Whether a record is in doubt.
+    Doubtful(bool),
+    /// So many copies of the record are given back, and no other.
+    Retrieve(usize),
+}
+
+/// What a store gives back.
+#[derive(Clone, Copy, PartialEq, Eq)]
+pub(super) enum Given {
+    Copies(usize),
+    Others,
+    Refused(StoreFault),
+}
+
+// Whether each of these is a copy of the record.
+fn are_copies<A: Allocator + Copy>(
+    records: &[Record<Message<A>>],
+    record: &Record<Message<A>>,
+) -> bool {
+    for one in records {
+        if !one.is_same(record) {
+            return false;
+        }
+    }
+    true
+}
+
+// What a store gives back of the record.
+pub(super) fn given_back<A: Allocator + Copy>(
+    store: &mut MemStable<A>,
+    alloc: A,
+    record: &Record<Message<A>>,
+) -> Given {
+    match store.retrieve(alloc) {
+        Ok(records) => {
+            let (count, are_copies) = (records.len(), are_copies(&records, record));
+            drop(records);
+            if are_copies {
+                Given::Copies(count)
+            } else {
+                Given::Others
+            }
+        }
+        Err(fault) => Given::Refused(fault),
+    }
+}
+
+// Whether a receipt is of this node, position and record.
+fn is_received<A: Allocator + Copy>(
+    receipt: Receipt<A>,
+    (node, pos): (NodeId, u32),
+    record: &Record<Message<A>>,
+) -> bool {
+    let is_placed = receipt.node() == node && receipt.pos() == pos;
+    let is_same = receipt.entry().is_same(record);
+    let entry = receipt.into_entry();
+    let is_given = entry.is_same(record);
+    drop(entry);
+    is_placed && is_same && is_given
+}
+
+// Keeps a draft of node 2. What becomes of it; none where it, its receipt or its doubt is of another.
+pub(super) fn keep<A: Allocator + Copy>(
+    store: &mut MemStable<A>,
+    alloc: A,
+    record: &Record<Message<A>>,
+    pos: u32,
+) -> Option<Result<(), StoreFault>> {
+    let node = NodeId::new(2)?;
+    if pos == 0 {
+        return None;
+    }
+    let draft = Draft::new(node, pos, record.copy(alloc).ok()?);
+    let is_drafted = draft.node() == node && draft.pos() == pos;
+    match draft.keep(store) {
+        Ok(receipt) => {
+            let is_received = is_received(receipt, (node, pos), record);
+            if is_drafted && is_received {
+                Some(Ok(()))
+            } else {
+                None
+            }
+        }
+        Err(doubt) => {
+            let (of, fault) = (doubt.node(), doubt.fault());
+            drop(doubt);
+            if is_drafted && of == node {
+                Some(Err(fault))
+            } else {
+                None
+            }
+        }
+    }
+}
+
+// Whether a call is answered so.
+fn is_right<A: Allocator + Copy>(
+    store: &mut MemStable<A>,
+    alloc: A,
+    record: &Record<Message<A>>,
+    call: Call,
+) -> bool {
+    match call {
+        Call::Arm(failure) => {
+            store.arm(failure);
+            true
+        }
+        Call::Store(pos, answer) => store.store(pos, record) == answer,
+        Call::Keep(pos, answer) => keep(store, alloc, record, pos) == Some(answer),
+        Call::Next(pos) => store.next() == pos,
+        Call::Doubtful(is_doubtful) => store.doubtful() == is_doubtful,
+        Call::Retrieve(count) => given_back(store, alloc, record) == Given::Copies(count),
+    }
+}
+
+// Whether calls are answered so, one after the other.
+pub(super) fn is_answered<A: Allocator + Copy>(
+    store: &mut MemStable<A>,
+    alloc: A,
+    record: &Record<Message<A>>,
+    calls: &[Call],
+) -> bool {
+    for call in calls {
+        if !is_right(store, alloc, record, *call) {
+            return false;
+        }
+    }
+    true
+}

@@ -1,0 +1,134 @@
+//! Each growth refused in turn: of a store, and of what judges images.
+
+use super::calls::{Call, Given, given_back, is_answered, keep};
+use super::fitting::images;
+use super::index::{LETTERS, TWICE};
+use super::rows::{Form, image, record};
+use std::alloc::{Allocator, Global};
+use urb_names::Message;
+use urb_refusing::Refusing;
+use urb_stable::*;
+
+/// What takes memory.
+#[derive(Clone, Copy)]
+enum Taker {
+    Store,
+    Index,
+    Images,
+}
+
+// Keeps the first record of a store. A draft that is refused memory has left nothing, and the record is taken then. Whether it
+// was refused; none where that is not so.
+fn is_kept_late<A: Allocator + Copy>(
+    store: &mut MemStable<A>,
+    calm: A,
+    record: &Record<Message<A>>,
+) -> Option<bool> {
+    if keep(store, calm, record, 1)?.is_ok() {
+        return Some(false);
+    }
+    let calls = [
+        Call::Doubtful(true),
+        Call::Next(1),
+        Call::Retrieve(0),
+        Call::Store(1, Ok(())),
+    ];
+    if is_answered(store, calm, record, &calls) {
+        Some(true)
+    } else {
+        None
+    }
+}
+
+// Gives it back. A retrieve that is refused memory changes nothing, and the next gives the record.
+fn is_given_late<A: Allocator + Copy>(
+    store: &mut MemStable<A>,
+    alloc: A,
+    record: &Record<Message<A>>,
+) -> Option<bool> {
+    match given_back(store, alloc, record) {
+        Given::Copies(1) => Some(false),
+        Given::Refused(StoreFault::NoMemory) => {
+            let calls = [Call::Next(2), Call::Retrieve(1)];
+            if is_answered(store, alloc, record, &calls) {
+                Some(true)
+            } else {
+                None
+            }
+        }
+        _ => None,
+    }
+}
+
+// Both of a new store.
+fn is_late<A: Allocator + Copy>(heap: A, calm: A, record: &Record<Message<A>>) -> Option<bool> {
+    let mut store = MemStable::new(heap);
+    let is_kept_late = is_kept_late(&mut store, calm, record);
+    let is_given_late = is_given_late(&mut store, heap, record);
+    drop(store);
+    Some(is_kept_late? || is_given_late?)
+}
+
+// Whether one of these calls is refused memory from this heap; none where something is otherwise.
+fn is_refused<A: Allocator + Copy>(heap: A, calm: A, taker: Taker) -> Option<bool> {
+    match taker {
+        Taker::Store => {
+            let record = record(calm, Form::Pend(1, 1), b'm')?;
+            let is_late = is_late(heap, calm, &record);
+            drop(record);
+            is_late
+        }
+        Taker::Index => {
+            let image = image(calm, &TWICE, LETTERS)?;
+            let is_refused = Index::new(heap, &image).is_err();
+            drop(image);
+            Some(is_refused)
+        }
+        Taker::Images => {
+            let first = [Form::PendCert(1, 1), Form::Pend(2, 1), Form::Cert(2, 1)];
+            let second = [Form::Pend(2, 1), Form::PendCert(1, 1)];
+            let images = images(calm, &[&first, &second])?;
+            let is_refused = Images::new(heap, &images).is_err();
+            drop(images);
+            Some(is_refused)
+        }
+    }
+}
+
+// The same where the growth of this number is refused; none also where that is not told, or another call is refused.
+fn is_refused_at(alloc: Global, refused: u64, taker: Taker) -> Option<bool> {
+    let calm = Refusing::new(alloc, 0);
+    let heap = Refusing::new(alloc, refused);
+    let told = is_refused(&heap, &calm, taker);
+    let met = heap.met();
+    drop(heap);
+    drop(calm);
+    if told == Some(met) { told } else { None }
+}
+
+// How many growths there are, each of which was refused in turn; 0 where something is otherwise.
+fn growths(alloc: Global, taker: Taker) -> u64 {
+    for refused in 1..100 {
+        match is_refused_at(alloc, refused, taker) {
+            Some(true) => {}
+            Some(false) => return refused.saturating_sub(1),
+            None => return 0,
+        }
+    }
+    0
+}
+
+#[test]
+fn each_growth_refused_is_want_of_memory(rt: HostRuntime) {
+    assert!(rt; 3 < growths(rt.alloc(), Taker::Store));
+}
+
+#[test]
+fn each_growth_of_an_index_may_be_refused(rt: HostRuntime) {
+    assert!(rt; 1 < growths(rt.alloc(), Taker::Index));
+}
+
+#[test]
+fn each_growth_of_what_judges_may_be_refused(rt: HostRuntime) {
+    assert!(rt; 1 < growths(rt.alloc(), Taker::Images));
+}
