@@ -86,7 +86,8 @@ impl<A: Allocator + Copy> Certified<A> {
     /// `NoMemory` means that a growth was refused: the call may be made again.
     pub fn add(&mut self, name: Name) -> Result<(), NoMemory>
         ensures ok { OnOk result (self.new.names ≡ with_name self.old.names name) }
-        ensures err { OnErr result ((self.new.names ≡ self.old.names) × (self.old.room ≡ true → self.new.room ≡ true)) }
+        ensures err { OnErr result
+            ((self.new.names ≡ self.old.names) × (self.old.room ≡ true → self.new.room ≡ true)) }
         // Want of memory comes only where the name is new, and never where there is room.
         ensures again { has_name self.old.names name ≡ true → IsOk result }
         ensures roomy { self.old.room ≡ true → IsOk result }

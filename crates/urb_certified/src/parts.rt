@@ -43,7 +43,9 @@ pub(crate) fn is_next(low: &[u32; MOST_SENDERS], name: Name) -> bool
 // How far the sender's names would go without a gap, were this name among them.
 pub(crate) fn reach_with(low: &[u32; MOST_SENDERS], above: &[Name], name: Name) -> u32
     requires { IsParts low.now above.now }
-    ensures { result ≡ length (beginning name.sender (name ∷ set_of name_lt same_name (all_names low.now above.now))) }
+    ensures { result
+        ≡ length (beginning name.sender
+        (name ∷ set_of name_lt same_name (all_names low.now above.now))) }
 {
     name.limits();
     if is_next(low, name) {
@@ -71,7 +73,10 @@ pub(crate) fn close_gap<A: Allocator>(
 // Takes out the names behind this one up to a number, where there are any.
 fn drop_run<A: Allocator>(above: &mut Vec<Name, A>, name: Name, end: u32)
     requires from { name.seq ≤ end }
-    requires behind { (y : Label) → has_name above.old.items y ≡ true → y.sender ≡ name.sender → name.seq < y.seq }
+    requires behind { (y : Label)
+        → has_name above.old.items y ≡ true
+        → y.sender ≡ name.sender
+        → name.seq < y.seq }
     ensures items { above.new.items ≡ filter (is_left name.sender end) above.old.items }
 {
     if name.seq < end {
@@ -83,7 +88,9 @@ fn drop_run<A: Allocator>(above: &mut Vec<Name, A>, name: Name, end: u32)
 pub(crate) fn put_above<A: Allocator>(above: &mut Vec<Name, A>, name: Name) -> Result<(), NoMemory>
     requires { IsTrue (is_rising name_lt above.old.items) }
     ensures ok { OnOk result (above.new.items ≡ placed name_lt above.old.items name) }
-    ensures err { OnErr result ((above.new.items ≡ above.old.items) × (vec_len above.new ≡ vec_len above.old) × (vec_capacity above.old ≤ vec_capacity above.new)) }
+    ensures err { OnErr result ((above.new.items ≡ above.old.items)
+        × (vec_len above.new ≡ vec_len above.old)
+        × (vec_capacity above.old ≤ vec_capacity above.new)) }
     ensures roomy { vec_len above.old < vec_capacity above.old → IsOk result }
 {
     let place = place_of(above, name);
@@ -101,7 +108,10 @@ pub(crate) fn join<A: Allocator>(
     requires parts { IsParts low.old above.old.items }
     requires absent { has_name (all_names low.old above.old.items) name ≡ false }
     ensures ok { OnOk result (IsJoined low.old above.old.items name low.new above.new.items) }
-    ensures err { OnErr result ((low.new ≡ low.old) × (above.new.items ≡ above.old.items) × (vec_len above.new ≡ vec_len above.old) × (vec_capacity above.old ≤ vec_capacity above.new)) }
+    ensures err { OnErr result ((low.new ≡ low.old)
+        × (above.new.items ≡ above.old.items)
+        × (vec_len above.new ≡ vec_len above.old)
+        × (vec_capacity above.old ≤ vec_capacity above.new)) }
     ensures roomy { vec_len above.old < vec_capacity above.old → IsOk result }
 {
     name.limits();

@@ -38,8 +38,12 @@ pub(crate) fn holds(names: &[Name], name: Name) -> bool
 pub(crate) fn run_end(names: &[Name], start: Name) -> u32
     requires { IsTrue (is_rising name_lt names.now) }
     ensures from { start.seq ≤ result }
-    ensures held { (i : ℕ) → start.seq < i → i ≤ result → has_name names.now (name start.sender i) ≡ true }
-    ensures stops { result < 2 ^ 32 - 1 → has_name names.now (name start.sender (suc result)) ≡ false }
+    ensures held { (i : ℕ)
+        → start.seq < i
+        → i ≤ result
+        → has_name names.now (name start.sender i) ≡ true }
+    ensures stops { result < 2 ^ 32 - 1
+        → has_name names.now (name start.sender (suc result)) ≡ false }
 {
     let mut end = start.seq;
     while end < u32::MAX && holds_next(names, start, end) {

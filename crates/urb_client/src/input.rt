@@ -14,9 +14,11 @@ pub struct ReadFailed;
 pub fn read_full<R: Read>(reader: &mut R, buffer: &mut [u8]) -> Result<usize, ReadFailed>
     requires { 0 < length buffer.old }
     ensures bound { IfOk result (λ n. n ≤ length buffer.old) }
-    ensures bytes { IfOk result (λ n. Consumes (R.remaining reader.old) (R.remaining reader.new) (take n buffer.new)) }
+    ensures bytes { IfOk result
+        (λ n. Consumes (R.remaining reader.old) (R.remaining reader.new) (take n buffer.new)) }
     ensures end { IfOk result (λ n. n < length buffer.old → IsAtEnd (R.remaining reader.new)) }
-    ensures err { OnErr result (ReadsUnder (length buffer.old) (R.remaining reader.old) (R.remaining reader.new)) }
+    ensures err { OnErr result
+        (ReadsUnder (length buffer.old) (R.remaining reader.old) (R.remaining reader.new)) }
 {
     let mut filled = 0;
     for _ in 0..u64::MAX {

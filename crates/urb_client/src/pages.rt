@@ -12,7 +12,10 @@ use urb_names::{Message, Name};
 pub(crate) fn longest_beginning<A: Allocator>(entries: &[(Name, Message<A>)]) -> usize
     ensures within { result ≤ length entries.now }
     ensures fits { length (listing_body (take result entries.now)) ≤ LONGEST_FRAME }
-    ensures longest { (count : ℕ) → count ≤ length entries.now → length (listing_body (take count entries.now)) ≤ LONGEST_FRAME → count ≤ result }
+    ensures longest { (count : ℕ)
+        → count ≤ length entries.now
+        → length (listing_body (take count entries.now)) ≤ LONGEST_FRAME
+        → count ≤ result }
     ensures some { result ≡ 0 → entries.now ≡ [] }
 {
     let mut used = LISTING_HEAD;

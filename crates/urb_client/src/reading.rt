@@ -70,7 +70,9 @@ fn message_of<A: Allocator>(alloc: A, bytes: &[u8]) -> Result<Option<(Message<A>
 
 #[tactic(auto, unfolding(crate::specs::Reading::message_at))]
 fn content_of(bytes: &[u8]) -> Option<(ClientId, u32, &[u8], &[u8])>
-    ensures read { option_map (λ x. (record { client = x.0; number = x.1; payload = x.2.now }, x.3.now)) result ≡ message_at bytes.now }
+    ensures read { option_map
+        (λ x. (record { client = x.0; number = x.1; payload = x.2.now }, x.3.now)) result
+        ≡ message_at bytes.now }
     ensures limits { IfSome result (λ x. (0 < x.1) × (length x.2.now ≤ MAX_PAYLOAD)) }
 {
     let (client, rest) = u16_at(bytes)?;
@@ -106,7 +108,8 @@ fn list_of<A: Allocator + Copy>(
     count: u8,
     bytes: &[u8],
 ) -> Result<Option<(Vec<(Name, Message<A>), A>, &[u8])>, NoMemory>
-    ensures read { IfOk result (λ read. option_map (λ x. (x.0.items, x.1.now)) read ≡ entries_at count bytes.now) }
+    ensures read { IfOk result
+        (λ read. option_map (λ x. (x.0.items, x.1.now)) read ≡ entries_at count bytes.now) }
     ensures count { IfOk result (λ read. IfSome read (λ x. length x.0.items ≡ count)) }
 {
     let mut entries = Vec::new(alloc);
@@ -211,9 +214,13 @@ pub fn parse_response<A: Allocator + Copy>(
     bytes: &[u8],
 ) -> Result<Option<Response<A>>, NoMemory>
     // What is read is spelled so, each byte of it.
-    ensures found { IfOk result (λ read. IfSome read (λ response. IsSaid (said_by response) × (bytes.now ≡ response_body (said_by response)))) }
+    ensures found { IfOk result (λ read. IfSome read (λ response.
+        IsSaid (said_by response) × (bytes.now ≡ response_body (said_by response)))) }
     // What is spelled so is read: so None comes exactly where there is no response.
-    ensures only { IfOk result (λ read. (said : Said) → IsSaid said → bytes.now ≡ response_body said → option_map said_by read ≡ Some said) }
+    ensures only { IfOk result (λ read. (said : Said)
+        → IsSaid said
+        → bytes.now ≡ response_body said
+        → option_map said_by read ≡ Some said) }
     // Entries alone take memory.
     ensures memory { OnErr result (IsListing bytes.now) }
 {

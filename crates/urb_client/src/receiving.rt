@@ -58,7 +58,8 @@ fn read_body<A: Allocator, R: Read>(
     alloc: A,
     reader: &mut R,
 ) -> Result<Option<Vec<u8, A>>, ResponseFault>
-    ensures whole { IfOk result (λ body. IfSome body (λ v. Consumes (R.remaining reader.old) (R.remaining reader.new) (frame v.items))) }
+    ensures whole { IfOk result (λ body. IfSome body
+        (λ v. Consumes (R.remaining reader.old) (R.remaining reader.new) (frame v.items))) }
     ensures short { IfOk result (λ body. IfSome body (λ v. length v.items < 2 ^ 16)) }
     ensures none { IfOk result (λ body. IfNone body (IfSome (R.remaining reader.old) HasNoFrame)) }
     ensures err { IfErr result (λ fault. fault ≢ ResponseFault.NoResponse) }
@@ -88,9 +89,11 @@ pub fn read_response<A: Allocator + Copy, R: Read>(
     reader: &mut R,
 ) -> Result<Response<A>, ResponseFault>
     // What is read is the whole frame of this response, and no byte behind it.
-    ensures read { IfOk result (λ response. Consumes (R.remaining reader.old) (R.remaining reader.new) (encoding (said_by response))) }
+    ensures read { IfOk result (λ response.
+        Consumes (R.remaining reader.old) (R.remaining reader.new) (encoding (said_by response))) }
     // There is none only where the reader had none at its front.
-    ensures none { result ≡ Err ResponseFault.NoResponse → IfSome (R.remaining reader.old) HasNoResponse }
+    ensures none { result ≡ Err ResponseFault.NoResponse
+        → IfSome (R.remaining reader.old) HasNoResponse }
 {
     let Some(body) = read_body(alloc, reader)? else {
         return Err(ResponseFault::NoResponse);

@@ -44,9 +44,13 @@ pub fn parse_request<A: Allocator>(alloc: A, bytes: &[u8]) -> Result<Request<A>,
     // It is the request that the bytes are, or the first fault.
     ensures exact { Gives asked_by result (request_of bytes.now) }
     // What is read is spelled so, each byte of it.
-    ensures found { IfOk result (λ request. IsAsked (asked_by request) × (bytes.now ≡ request_body (asked_by request))) }
+    ensures found { IfOk result
+        (λ request. IsAsked (asked_by request) × (bytes.now ≡ request_body (asked_by request))) }
     // What is spelled so is read.
-    ensures only { (asked : Asked) → IsAsked asked → bytes.now ≡ request_body asked → Gives asked_by result (Ok asked) }
+    ensures only { (asked : Asked)
+        → IsAsked asked
+        → bytes.now ≡ request_body asked
+        → Gives asked_by result (Ok asked) }
 {
     parsed(alloc, bytes)
 }

@@ -33,7 +33,8 @@ impl<A: Allocator> Model for Entries<A> {
 
     ghost view = { λ a. a.entries.items };
 
-    ghost invariant = { λ a. (vec_len a.entries ≤ MOST_ENTRIES) × (length (listing_body a.entries.items) ≤ LONGEST_FRAME) };
+    ghost invariant = { λ a. (vec_len a.entries ≤ MOST_ENTRIES)
+        × (length (listing_body a.entries.items) ≤ LONGEST_FRAME) };
 }
 
 impl<A: Allocator> Entries<A> {

@@ -68,7 +68,8 @@ pub trait Desk {
     /// number may be 0. `NoMemory` ends the session, and nothing more is asked of the desk.
     fn answer(&mut self, request: &Request<Self::Alloc>) -> Result<Response<Self::Alloc>, NoMemory>
         requires { IsAsked (asked_by request.now) }
-        ensures { IfOk result (λ response. answers self.old (asked_by request.now) (said_by response) self.new) };
+        ensures { IfOk result
+            (λ response. answers self.old (asked_by request.now) (said_by response) self.new) };
 }
 
 // What stands at the front of the input.
@@ -92,7 +93,8 @@ pub fn length_of(bytes: &[u8]) -> u16
 // Reads one frame into `body`.
 fn read_frame<R: Read>(reader: &mut R, body: &mut [u8]) -> Result<Piece, ReadFailed>
     requires { length body.old ≡ LONGEST_REQUEST }
-    ensures piece { IfOk result (λ piece. ReadsPiece (R.remaining reader.old) (R.remaining reader.new) body.new piece) }
+    ensures piece { IfOk result
+        (λ piece. ReadsPiece (R.remaining reader.old) (R.remaining reader.new) body.new piece) }
     ensures err { OnErr result (PartRead (R.remaining reader.old) (R.remaining reader.new)) }
 {
     let mut length = [0u8; 2];
@@ -132,7 +134,8 @@ fn reply<A: Allocator + Copy, W: Write>(
     writer: &mut W,
     response: &Response<A>,
 ) -> Result<(), SessionFault>
-    ensures ok { OnOk result (Appends (W.contents writer.old) (W.contents writer.new) (encoding (said_by response.now))) }
+    ensures ok { OnOk result (Appends (W.contents writer.old) (W.contents writer.new)
+        (encoding (said_by response.now))) }
     ensures read { IfErr result (λ fault. fault ≢ SessionFault.Read) }
     ensures err { IfErr result (λ fault. fault ≢ SessionFault.Write → writer.new ≡ writer.old) }
 {
@@ -146,7 +149,8 @@ fn respond<D: Desk>(
     desk: &mut D,
     body: &[u8],
 ) -> Result<Response<D::Alloc>, NoMemory>
-    ensures { IfOk result (λ response. Answers D.answers desk.old (request_of body.now) (said_by response) desk.new) }
+    ensures { IfOk result
+        (λ response. Answers D.answers desk.old (request_of body.now) (said_by response) desk.new) }
 {
     match parse_request(alloc, body) {
         Ok(request) => desk.answer(&request),
@@ -164,11 +168,13 @@ pub fn session<R: Read, W: Write, D: Desk>(
     desk: &mut D,
 ) -> Result<Ended, SessionFault>
     // All that the reader held is read as these requests and faults, and they are answered in order.
-    ensures ended { IfOk result (λ ended. IfSome (R.remaining reader.old) (λ input. IsSomeAnd (R.remaining reader.new) (λ left.
-        WholeSession D.answers input ended left desk.old desk.new (W.contents writer.old) (W.contents writer.new)))) }
+    ensures ended { IfOk result (λ ended. IfSome (R.remaining reader.old) (λ input.
+        IsSomeAnd (R.remaining reader.new) (λ left. WholeSession D.answers input ended left
+        desk.old desk.new (W.contents writer.old) (W.contents writer.new)))) }
     // The frames that were read whole are answered, but at most the last.
-    ensures broken_off { IfErr result (λ fault. IfSome (R.remaining reader.old) (λ input. IsSomeAnd (R.remaining reader.new) (λ left.
-        BreaksOff D.answers input fault left desk.old desk.new (W.contents writer.old) (W.contents writer.new)))) }
+    ensures broken_off { IfErr result (λ fault. IfSome (R.remaining reader.old) (λ input.
+        IsSomeAnd (R.remaining reader.new) (λ left. BreaksOff D.answers input fault left
+        desk.old desk.new (W.contents writer.old) (W.contents writer.new)))) }
 {
     let mut body = [0u8; LONGEST_REQUEST];
     for _ in 0..u64::MAX {

@@ -67,7 +67,8 @@ fn are_same(first: &[Name], second: &[Name]) -> bool
 fn release<A: Allocator>(log: &mut Vec<Name, A>, sender: NodeId, from: u32, end: u32)
     requires range { from ≤ end }
     requires room { vec_len log.old + (end - from) ≤ vec_capacity log.old }
-    ensures log { log.new.items ≡ log.old.items ++ map (name sender) (numbers_from (suc from) (end - from)) }
+    ensures log { log.new.items
+        ≡ log.old.items ++ map (name sender) (numbers_from (suc from) (end - from)) }
     ensures len { vec_len log.new ≡ vec_len log.old + (end - from) }
 {
     for seq in from..end {
@@ -139,7 +140,8 @@ impl<A: Allocator + Copy> Fifo<A> {
 
     /// Whether both have the same names certified, and have released the same log.
     pub fn is_same(&self, other: &Fifo<A>) -> bool
-        ensures { Decides result ((self.now.certified ≡ other.now.certified) × (self.now.log ≡ other.now.log)) }
+        ensures { Decides result
+            ((self.now.certified ≡ other.now.certified) × (self.now.log ≡ other.now.log)) }
     {
         self.certified.is_same(&other.certified) && are_same(&self.log, &other.log)
     }
@@ -149,7 +151,8 @@ impl<A: Allocator + Copy> Fifo<A> {
         requires sender { certificate.sender ≤ self.now.limits.n }
         requires seq { certificate.seq ≤ self.now.limits.cap }
         ensures range { result.0 ≤ result.1 }
-        ensures names { newly_released self.now.log self.now.certified certificate ≡ map (name certificate.sender) (numbers_from (suc result.0) (result.1 - result.0)) }
+        ensures names { newly_released self.now.log self.now.certified certificate
+            ≡ map (name certificate.sender) (numbers_from (suc result.0) (result.1 - result.0)) }
         ensures label { IsLabel certificate }
     {
         certificate.limits();
@@ -179,9 +182,12 @@ impl<A: Allocator + Copy> Fifo<A> {
         requires sender { name.sender ≤ self.old.limits.n }
         requires seq { name.seq ≤ self.old.limits.cap }
         ensures ok { OnOk result (self.new ≡ certifying self.old name) }
-        ensures count { IfOk result (λ released. length self.new.log ≡ length self.old.log + released) }
+        ensures count { IfOk result
+            (λ released. length self.new.log ≡ length self.old.log + released) }
         // Where the log is the release of certificates, it is now the release of these and the new one.
-        ensures release { OnOk result ((older : List Label) → IsReleaseOf older self.old → IsReleaseOf (name ∷ older) self.new) }
+        ensures release { OnOk result ((older : List Label)
+            → IsReleaseOf older self.old
+            → IsReleaseOf (name ∷ older) self.new) }
         ensures err { OnErr result (self.new ≡ self.old) }
         ensures limits { self.new.limits ≡ self.old.limits }
         // Want of memory comes only where the name is new, and never for the name for which room is reserved.

@@ -15,7 +15,8 @@ use urb_names::{Config, Message, NodeId, PacketView, Refusal, parse};
 // The places of a packet's source and of the node that it is for, where it is for this node and names only nodes of the
 // group.
 fn ends_of(config: Config, node: NodeId, packet: &PacketView<'_>) -> Option<(usize, usize)>
-    ensures { MatchOption result (is_for_node config.n node packet.now ≡ false) (λ ends. AreEnds config.n node packet.now ends) }
+    ensures { MatchOption result (is_for_node config.n node packet.now ≡ false)
+        (λ ends. AreEnds config.n node packet.now ends) }
 {
     if packet.target() != node {
         return None;
@@ -28,7 +29,8 @@ fn ends_of(config: Config, node: NodeId, packet: &PacketView<'_>) -> Option<(usi
 
 // Whether a message is the one that a packet carries.
 fn is_carried<A: Allocator>(message: &Message<A>, packet: &PacketView<'_>) -> bool
-    ensures { MatchBool result (message.now ≡ packet.now.message) (¬ (message.now ≡ packet.now.message)) }
+    ensures { MatchBool result (message.now ≡ packet.now.message)
+        (¬ (message.now ≡ packet.now.message)) }
 {
     message.client() == packet.client()
         && message.number() == packet.number()

@@ -50,7 +50,8 @@ impl<S: Stable> Cluster<S> {
         requires blank { All (IsBlank S.Stable) stores.items }
         ensures started { Starts config stores.items stores result }
         ensures stocked { IfOk result (λ cluster. IsStocked S.Stable cluster) }
-        ensures secured { All (IsGenuine S.Stable) stores.items → IfOk result (λ cluster. IsSecured S.Stable cluster) }
+        ensures secured { All (IsGenuine S.Stable) stores.items
+            → IfOk result (λ cluster. IsSecured S.Stable cluster) }
     {
         Cluster::started(alloc, config, stores)
     }
@@ -103,7 +104,9 @@ impl<S: Stable> Cluster<S> {
         number: u32,
         payload: &[u8],
     ) -> Reply<S::Alloc>
-        ensures { Alone self.old (Submit node (record { client = client; number = number; payload = payload.now })) (reply_of result) self.new }
+        ensures { Alone self.old
+            (Submit node (record { client = client; number = number; payload = payload.now }))
+            (reply_of result) self.new }
     {
         let taken = self.group.submit(alloc, node, client, number, payload);
         noted(&mut self.drafts, taken)
@@ -142,7 +145,8 @@ impl<S: Stable> Cluster<S> {
 
     // The store of a node is to keep the draft that the node holds.
     fn store(&mut self, node: NodeId) -> Reply<S::Alloc>
-        ensures { StoresHeld S.Stable self.old node (held_draft self.old.group node) (reply_of result) self.new }
+        ensures { StoresHeld S.Stable self.old node (held_draft self.old.group node)
+            (reply_of result) self.new }
     {
         if let Some(refusal) = unstored(&self.group, node) {
             return Reply::Refused(refusal);
@@ -154,7 +158,8 @@ impl<S: Stable> Cluster<S> {
 
     // A node comes back with what its store gives.
     fn restart(&mut self, alloc: S::Alloc, node: NodeId) -> Reply<S::Alloc>
-        ensures { RestartsBy S.Stable (is_fallen self.old.group node) self.old node (reply_of result) self.new }
+        ensures { RestartsBy S.Stable (is_fallen self.old.group node) self.old node
+            (reply_of result) self.new }
     {
         if let Some(refusal) = unfallen(&self.group, node) {
             return Reply::Refused(refusal);
@@ -202,7 +207,8 @@ impl<A: Allocator + Copy> Cluster<MemStable<A>> {
     /// Has the store of a node fail while it is to keep the draft that the node holds: for tests, and for scripts that play
     /// failures.
     pub fn fail(&mut self, node: NodeId, failure: Failure) -> Reply<A>
-        ensures failed { FailsHeld self.old node (held_draft self.old.group node) failure (reply_of result) self.new }
+        ensures failed { FailsHeld self.old node (held_draft self.old.group node) failure
+            (reply_of result) self.new }
         // A stop after the call leaves what the opening goes on from, and so does one inside it.
         ensures stocked { IsStocked (in_memory A) self.old → IsStocked (in_memory A) self.new }
         ensures stop { (stocked : IsStocked (in_memory A) self.old)
@@ -213,7 +219,8 @@ impl<A: Allocator + Copy> Cluster<MemStable<A>> {
 
     // The same, as far as the group and the one store are concerned.
     fn failed(&mut self, node: NodeId, failure: Failure) -> Reply<A>
-        ensures { FailsHeld self.old node (held_draft self.old.group node) failure (reply_of result) self.new }
+        ensures { FailsHeld self.old node (held_draft self.old.group node) failure (reply_of result)
+            self.new }
     {
         if let Some(why) = unstored(&self.group, node) {
             return Reply::Refused(why);

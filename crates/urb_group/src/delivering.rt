@@ -21,8 +21,11 @@ use std::alloc::Allocator;
 pub fn a_group_holds_what_its_worlds_deliver()
     ensures held { (group : GroupView) (w : World) (p : ℕ) →
         IsSound group → Shows group w → map known (delivered_at group p) ≡ entries (stored w p) }
-    ensures alike { (group : GroupView) (v w : World) (p : ℕ) →
-        IsSound group → Shows group v → Shows group w → entries (stored v p) ≡ entries (stored w p) }
+    ensures alike { (group : GroupView) (v w : World) (p : ℕ)
+        → IsSound group
+        → Shows group v
+        → Shows group w
+        → entries (stored v p) ≡ entries (stored w p) }
 {}
 
 /// An event leaves the other nodes as they are; and only a receipt and a restart store a record, so that a submit, an
@@ -36,9 +39,10 @@ pub fn an_event_changes_one_node()
 
 /// With a stored record the node's log grows by as many names as are told to be released.
 pub fn a_log_grows_by_what_is_released()
-    ensures { (w : World) (p position : ℕ) (entry : Entry) (done : Done) →
-        (step w (Commit p position entry)).0 ≡ Stored done →
-        length (log (stored (step w (Commit p position entry)).1 p)) ≡ length (log (stored w p)) + done.released }
+    ensures { (w : World) (p position : ℕ) (entry : Entry) (done : Done)
+        → (step w (Commit p position entry)).0 ≡ Stored done
+        → length (log (stored (step w (Commit p position entry)).1 p))
+        ≡ length (log (stored w p)) + done.released }
 {}
 
 /// What a sound group's nodes have delivered only grows at its end: with an event that of its node alone, with one that
@@ -60,7 +64,10 @@ pub fn deliveries_only_grow()
 /// What the nodes of a sound group have delivered agrees (uniform agreement and FIFO order of the logs, sections 3.7 and
 /// 3.9 of the book), and is short, since each of seven senders has at most a million names.
 pub fn deliveries_agree()
-    ensures { (group : GroupView) → IsSound group → IsLimits group.size → Agree (delivered_at group) }
+    ensures { (group : GroupView)
+        → IsSound group
+        → IsLimits group.size
+        → Agree (delivered_at group) }
 {}
 
 impl<A: Allocator + Copy> Group<A> {

@@ -66,7 +66,9 @@ impl<A: Allocator + Copy> Group<A> {
         number: u32,
         payload: &[u8],
     ) -> Result<Taken<A>, Refusal>
-        ensures { Takes self.old node (Submit node (record { client = client; number = number; payload = payload.now })) result self.new }
+        ensures { Takes self.old node
+            (Submit node (record { client = client; number = number; payload = payload.now }))
+            result self.new }
     {
         let Some(at) = place_of(self.config, node) else {
             return Err(Refusal::BadNode);

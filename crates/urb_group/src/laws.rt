@@ -51,8 +51,10 @@ pub fn answers_end()
         says_heard packet.flags ≡ true → answers_to w p packet ≡ [] }
     ensures first_version { (w : World) (p : ℕ) (packet : Carried) →
         packet.flags ≡ None → answers_to w p packet ≡ [] }
-    ensures ends { (first : Carried) (u v w : World) (p q r : ℕ) → AllByRecursion (λ second.
-        AllByRecursion (λ third. answers_to w r third ≡ []) (answers_to v q second)) (answers_to u p first) }
+    ensures ends { (first : Carried) (u v w : World) (p q r : ℕ)
+        → AllByRecursion
+        (λ second. AllByRecursion (λ third. answers_to w r third ≡ []) (answers_to v q second))
+        (answers_to u p first) }
 {}
 
 /// No two nodes hold different messages under one name (no creation, section 3.7).
@@ -125,24 +127,44 @@ pub fn every_sound_group_is_safe()
         IsSound group → Shows group w → OneMessage w }
     ensures stop { (group : GroupView) (w : World) →
         IsSound group → Shows group w → SurvivesStop w }
-    ensures accepted { (group : GroupView) (w : World) (p : ℕ) (m : Content) (x : Label) →
-        IsSound group → Shows group w → (step w (Submit p m)).0 ≡ Same (Accepted x) → HasStored w p x m }
+    ensures accepted { (group : GroupView) (w : World) (p : ℕ) (m : Content) (x : Label)
+        → IsSound group
+        → Shows group w
+        → (step w (Submit p m)).0 ≡ Same (Accepted x)
+        → HasStored w p x m }
 {}
 
 /// A run from any world that a sound group shows hands out packets that are truthful at its end, and those that were
 /// truthful before stay so (no creation, sections 2.4 and 3.7).
 pub fn every_sound_group_tells_the_truth()
-    ensures told { (group : GroupView) (old new : World) (events : List Event) (replies : List Reply) →
-        IsSound group → Shows group old → Run old events replies new → ToldTruth new replies }
-    ensures sent { (group : GroupView) (old new : World) (events : List Event) (replies : List Reply) →
-        IsSound group → Shows group old → AllTruthful old → Run old events replies new → AllTruthful new }
+    ensures told { (group : GroupView) (old new : World) (events : List Event)
+        (replies : List Reply)
+        → IsSound group
+        → Shows group old
+        → Run old events replies new
+        → ToldTruth new replies }
+    ensures sent { (group : GroupView) (old new : World) (events : List Event)
+        (replies : List Reply)
+        → IsSound group
+        → Shows group old
+        → AllTruthful old
+        → Run old events replies new
+        → AllTruthful new }
 {}
 
 /// From any world that a sound group shows, of what two nodes have delivered from one sender, at one moment or at two, one
 /// begins the other; and each node's log, its names with their messages, only grows at its end (sections 3.7 and 3.9).
 pub fn every_sound_groups_logs_agree()
-    ensures agree { (group : GroupView) (old new : World) (events : List Event) (replies : List Reply) →
-        IsSound group → Shows group old → Run old events replies new → AgreeInTime old new }
-    ensures grow { (group : GroupView) (old new : World) (events : List Event) (replies : List Reply) →
-        IsSound group → Shows group old → Run old events replies new → EntriesGrow old new }
+    ensures agree { (group : GroupView) (old new : World) (events : List Event)
+        (replies : List Reply)
+        → IsSound group
+        → Shows group old
+        → Run old events replies new
+        → AgreeInTime old new }
+    ensures grow { (group : GroupView) (old new : World) (events : List Event)
+        (replies : List Reply)
+        → IsSound group
+        → Shows group old
+        → Run old events replies new
+        → EntriesGrow old new }
 {}

@@ -30,7 +30,8 @@ fn misfit_of<A: Allocator + Copy>(
     images: &[Vec<Record<Message<A>>, A>],
 ) -> Result<Option<Misfit>, NoMemory>
     requires { length images.now ≡ config.n }
-    ensures { IfOk result (λ told. told ≡ first_misfit config (image_of (map (λ image. image.items) images.now))) }
+    ensures { IfOk result
+        (λ told. told ≡ first_misfit config (image_of (map (λ image. image.items) images.now))) }
 {
     let read = Images::new(alloc, images)?;
     Ok(read.first_misfit(config))

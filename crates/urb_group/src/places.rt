@@ -54,7 +54,8 @@ pub(crate) fn submitted<A: Allocator + Copy>(
     number: u32,
     payload: &[u8],
 ) -> (Node<A>, Result<Taken<A>, Refusal>)
-    ensures { SubmitsAt node (record { client = client; number = number; payload = payload.now }) result }
+    ensures { SubmitsAt node (record { client = client; number = number; payload = payload.now })
+        result }
 {
     match node {
         Node::Ready(ready) => match ready.submit(alloc, client, number, payload) {

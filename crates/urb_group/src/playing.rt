@@ -55,7 +55,9 @@ pub fn play<S: Stable>(
     ensures played { Plays S.Stable cluster.old commands.now result cluster.new }
     ensures stocked { IsStocked S.Stable cluster.old → IsStocked S.Stable cluster.new }
     ensures secured { IsSecured S.Stable cluster.old → IsSecured S.Stable cluster.new }
-    ensures runs { (w : World) → Shows cluster.old.group w → Runs w commands.now (told_in result) cluster.new.group }
+    ensures runs { (w : World)
+        → Shows cluster.old.group w
+        → Runs w commands.now (told_in result) cluster.new.group }
     ensures headline { (w : World) → Shows cluster.new.group w → IsPromised w }
 {
     let _sound = cluster.group();

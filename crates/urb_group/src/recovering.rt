@@ -36,10 +36,14 @@ pub fn no_run_strands_a_group()
 /// A group that is stranded stays so, whatever happens but for packets that nobody sent: what its one node was opened with and had
 /// not certified, it never certifies. So the exception is one.
 pub fn a_stranded_group_stays_so()
-    ensures { (size : Limits) (images : List (List Entry)) →
-        AreImages size images → Fits size (image_of images) → size.n ≡ 1 →
-        (x : Label) (m : Content) →
-        has_pair (pend (image_of images 1)) x m ≡ true → has_name (cert (image_of images 1)) x ≡ false →
-        (events : List Event) → AreAsSent (opened size (image_of images)) events →
-        has_name (cert (stored (after (opened size (image_of images)) events) 1)) x ≡ false }
+    ensures { (size : Limits) (images : List (List Entry))
+        → AreImages size images
+        → Fits size (image_of images)
+        → size.n ≡ 1
+        → (x : Label) (m : Content)
+        → has_pair (pend (image_of images 1)) x m ≡ true
+        → has_name (cert (image_of images 1)) x ≡ false
+        → (events : List Event)
+        → AreAsSent (opened size (image_of images)) events
+        → has_name (cert (stored (after (opened size (image_of images)) events) 1)) x ≡ false }
 {}

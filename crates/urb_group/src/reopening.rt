@@ -57,14 +57,18 @@ impl<S: Stable> Cluster<S> {
     ) -> Result<Cluster<S>, (Vec<S, S::Alloc>, Refusal)>
         requires counted { length stores.items ≡ config.n }
         ensures opened { OpensStores S.Stable config stores.items result }
-        ensures goes_on { (old : GroupView) (w : World) → HasStopped S.Stable old w config stores.items
+        ensures goes_on { (old : GroupView) (w : World)
+            → HasStopped S.Stable old w config stores.items
             → Continues S.Stable old w config stores.items result }
         // A stop inside the call leaves what one before it would have left.
-        ensures stop { (w : World) → AllHold S.Stable w stores.items → RestLeaves S.Stable w stores.items
+        ensures stop { (w : World)
+            → AllHold S.Stable w stores.items
+            → RestLeaves S.Stable w stores.items
             → StopLeaves S.Stable w stores.items (stores_in result) }
         ensures stocked { IfOk result (λ cluster. IsStocked S.Stable cluster) }
         // A failure may have shut some stores; where they opened, none had.
-        ensures secured { All (IsKnown S.Stable) stores.items → IfOk result (λ cluster. IsSecured S.Stable cluster) }
+        ensures secured { All (IsKnown S.Stable) stores.items
+            → IfOk result (λ cluster. IsSecured S.Stable cluster) }
     {
         Cluster::opened(alloc, config, stores)
     }
@@ -104,7 +108,8 @@ impl<S: Stable> Cluster<S> {
         ensures stop { (stocked : IsStocked S.Stable self)
             → StopLeaves S.Stable stocked.world self.stores (stores_in result) }
         ensures stocked { IfOk result (λ cluster. IsStocked S.Stable cluster) }
-        ensures secured { IsSecured S.Stable self → IfOk result (λ cluster. IsSecured S.Stable cluster) }
+        ensures secured { IsSecured S.Stable self
+            → IfOk result (λ cluster. IsSecured S.Stable cluster) }
     {
         let Cluster { group, stores, .. } = self;
         group.promise();

@@ -58,7 +58,8 @@ pub(crate) fn unfallen<A: Allocator + Copy>(group: &Group<A>, node: NodeId) -> O
 fn committed<A: Allocator + Copy>(group: &mut Group<A>, receipt: Receipt<A>) -> Reply<A>
     requires sound { IsSound group.old }
     requires held { held_draft group.old receipt.node ≡ Some receipt }
-    ensures event { Steps group.old (Commit receipt.node receipt.pos receipt.entry) (λ told. told ≡ reply_of result) group.new }
+    ensures event { Steps group.old (Commit receipt.node receipt.pos receipt.entry)
+        (λ told. told ≡ reply_of result) group.new }
     ensures free { held_draft group.new receipt.node ≡ None }
 {
     Reply::Stored(group.commit(receipt).unwrap())
@@ -67,7 +68,9 @@ fn committed<A: Allocator + Copy>(group: &mut Group<A>, receipt: Receipt<A>) -> 
 // The store failed, and the node holds a draft.
 fn failed<A: Allocator + Copy>(group: &mut Group<A>, doubt: Doubt) -> Reply<A>
     requires sound { IsSound group.old }
-    requires held { (draft : Placed) × (draft.node ≡ doubt.node) × (held_draft group.old draft.node ≡ Some draft) }
+    requires held { (draft : Placed)
+        × (draft.node ≡ doubt.node)
+        × (held_draft group.old draft.node ≡ Some draft) }
     ensures event { Steps group.old (Fail doubt.node) (λ told. told ≡ reply_of result) group.new }
     ensures free { held_draft group.new doubt.node ≡ None }
 {
@@ -84,7 +87,8 @@ pub(crate) fn stored<S: Stable>(
 ) -> Reply<S::Alloc>
     requires sound { IsSound group.old }
     requires held { held_draft group.old draft.node ≡ Some draft }
-    ensures stores { Stores S.Stable group.old store.old draft (reply_of result) group.new store.new }
+    ensures stores { Stores S.Stable group.old store.old draft (reply_of result) group.new
+        store.new }
     ensures free { held_draft group.new draft.node ≡ None }
 {
     match draft.keep(store) {

@@ -60,7 +60,8 @@ fn reserved_for(reserved: Option<Name>, name: Name) -> Option<Name>
 impl<A: Allocator + Copy> Acks<A> {
     /// Nothing is counted and nothing certified.
     pub fn new(alloc: A, config: Config) -> Acks<A>
-        ensures { result ≡ record { limits = config; counted = []; certified = []; reserved = None } }
+        ensures { result
+            ≡ record { limits = config; counted = []; certified = []; reserved = None } }
     {
         Acks {
             config,

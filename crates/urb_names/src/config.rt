@@ -32,7 +32,8 @@ impl Config {
     /// A group of `n` nodes, 1 to 7, each of which may broadcast `cap` messages, 1 to 1,000,000; none where one of the
     /// two is outside of this.
     pub fn new(n: u8, cap: u32) -> Option<Config>
-        ensures { SomeIff result (IsLimits (record { n = n; cap = cap })) (record { n = n; cap = cap }) }
+        ensures { SomeIff result (IsLimits (record { n = n; cap = cap }))
+            (record { n = n; cap = cap }) }
     {
         if n == 0 || n > 7 || cap == 0 || cap > 1_000_000 {
             return None;

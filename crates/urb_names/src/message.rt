@@ -30,7 +30,8 @@ impl<A: Allocator> Model for Message<A> {
 
     ghost Value = { Content };
 
-    ghost view = { λ a. record { client = a.client; number = a.number; payload = a.payload.items } };
+    ghost view = { λ a.
+        record { client = a.client; number = a.number; payload = a.payload.items } };
 
     ghost invariant = { λ a. (0 < a.number) × (vec_len a.payload ≤ MAX_PAYLOAD) };
 }
@@ -58,7 +59,8 @@ impl<A: Allocator> Message<A> {
     ) -> Result<Message<A>, NoMemory>
         requires number { 0 < number }
         requires payload { length payload.now ≤ MAX_PAYLOAD }
-        ensures { IfOk result (λ m. m ≡ record { client = client; number = number; payload = payload.now }) }
+        ensures { IfOk result
+            (λ m. m ≡ record { client = client; number = number; payload = payload.now }) }
     {
         Ok(Message {
             client,

@@ -25,7 +25,13 @@ impl<A: Allocator> Model for Packet<A> {
 
     ghost Value = { Carried };
 
-    ghost view = { λ a. record { source = a.source; target = a.target; name = a.name; message = a.message; flags = a.flags } };
+    ghost view = { λ a. record {
+      source = a.source;
+      target = a.target;
+      name = a.name;
+      message = a.message;
+      flags = a.flags;
+    } };
 
     ghost invariant = { λ a. (a.source ≢ a.target) × FitsVersion a.flags a.message.payload };
 }
@@ -42,7 +48,14 @@ impl<A: Allocator> Packet<A> {
     ) -> Packet<A>
         requires apart { source ≢ target }
         requires version { FitsVersion flags message.payload }
-        ensures { result ≡ record { source = source; target = target; name = name; message = message; flags = flags } }
+        ensures { result
+            ≡ record {
+              source = source;
+              target = target;
+              name = name;
+              message = message;
+              flags = flags;
+            } }
     {
         Packet {
             source,

@@ -45,7 +45,19 @@ impl<'a> Model for Fields<'a> {
 
     ghost Value = { Values };
 
-    ghost view = { λ a. record { magic = a.magic; version = a.version; source = a.source; target = a.target; flags = a.flags; sender = a.sender; seq = a.seq; client = a.client; number = a.number; size = a.size; payload = a.payload.now } };
+    ghost view = { λ a. record {
+      magic = a.magic;
+      version = a.version;
+      source = a.source;
+      target = a.target;
+      flags = a.flags;
+      sender = a.sender;
+      seq = a.seq;
+      client = a.client;
+      number = a.number;
+      size = a.size;
+      payload = a.payload.now;
+    } };
 }
 
 // Whether bytes begin so that a byte of flags is to stand behind the target.
@@ -188,17 +200,23 @@ pub fn parse(bytes: &[u8]) -> Result<PacketView<'_>, PacketFault>
 pub fn decode<A: Allocator>(alloc: A, bytes: &[u8]) -> Result<Packet<A>, Refusal>
     // What is read is spelled so, each byte of it; and what is spelled so is read, unless memory was refused.
     ensures found { IfOk result (λ p. IsPacket p × (bytes.now ≡ spelling p)) }
-    ensures only { (p : Carried) → IsPacket p → bytes.now ≡ spelling p → (result ≡ Ok p) ⊎ (result ≡ Err Refusal.NoMemory) }
+    ensures only { (p : Carried)
+        → IsPacket p
+        → bytes.now ≡ spelling p
+        → (result ≡ Ok p) ⊎ (result ≡ Err Refusal.NoMemory) }
 
     // The bytes' first fault comes before want of memory.
-    ensures refused { IfErr result (λ e. MatchResult (packet_of bytes.now) (λ p. e ≡ Refusal.NoMemory) (λ fault. e ≡ Refusal.Packet fault)) }
+    ensures refused { IfErr result (λ e. MatchResult (packet_of bytes.now)
+        (λ p. e ≡ Refusal.NoMemory) (λ fault. e ≡ Refusal.Packet fault)) }
 {
     Ok(parse(bytes)?.to_packet(alloc)?)
 }
 
 // The bytes of a packet before its flags.
 fn front<A: Allocator>(packet: &Packet<A>) -> [u8; FRONT]
-    ensures { result ≡ big_bytes 2 0x5542 ++ version_of packet.now.flags ∷ packet.now.source ∷ packet.now.target ∷ [] }
+    ensures { result
+        ≡ big_bytes 2 0x5542
+        ++ version_of packet.now.flags ∷ packet.now.source ∷ packet.now.target ∷ [] }
 {
     let mut bytes = [0; FRONT];
     BigEndian::write_u16(&mut bytes, MAGIC);
@@ -213,7 +231,11 @@ fn front<A: Allocator>(packet: &Packet<A>) -> [u8; FRONT]
 
 // Those behind its flags, and before its payload.
 fn back(name: Name, client: u16, number: u32, size: u16) -> [u8; BACK]
-    ensures { result ≡ name.sender ∷ big_bytes 4 name.seq ++ big_bytes 2 client ++ big_bytes 4 number ++ big_bytes 2 size }
+    ensures { result
+        ≡ name.sender ∷ big_bytes 4 name.seq
+        ++ big_bytes 2 client
+        ++ big_bytes 4 number
+        ++ big_bytes 2 size }
 {
     let mut bytes = [0; BACK];
     bytes[0] = name.sender.number();

@@ -26,9 +26,18 @@ impl<'a> Model for PacketView<'a> {
 
     ghost Value = { Carried };
 
-    ghost view = { λ a. record { source = a.source; target = a.target; name = a.name; message = record { client = a.client; number = a.number; payload = a.payload.now }; flags = a.flags } };
+    ghost view = { λ a. record {
+      source = a.source;
+      target = a.target;
+      name = a.name;
+      message = record { client = a.client; number = a.number; payload = a.payload.now };
+      flags = a.flags;
+    } };
 
-    ghost invariant = { λ a. (a.source ≢ a.target) × (0 < a.number) × (length a.payload.now ≤ MAX_PAYLOAD) × FitsVersion a.flags a.payload.now };
+    ghost invariant = { λ a. (a.source ≢ a.target)
+        × (0 < a.number)
+        × (length a.payload.now ≤ MAX_PAYLOAD)
+        × FitsVersion a.flags a.payload.now };
 }
 
 impl<'a> PacketView<'a> {
@@ -46,7 +55,14 @@ impl<'a> PacketView<'a> {
         requires number { 0 < number }
         requires payload { length payload.now ≤ MAX_PAYLOAD }
         requires version { FitsVersion flags payload.now }
-        ensures { result ≡ record { source = source; target = target; name = name; message = record { client = client; number = number; payload = payload.now }; flags = flags } }
+        ensures { result
+            ≡ record {
+              source = source;
+              target = target;
+              name = name;
+              message = record { client = client; number = number; payload = payload.now };
+              flags = flags;
+            } }
     {
         PacketView {
             source,

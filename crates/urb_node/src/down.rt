@@ -31,7 +31,8 @@ impl<A: Allocator> Model for Down<A> {
 
     ghost Value = { Fallen };
 
-    ghost view = { λ a. record { memory = record (memory_of a.held) { acks = []; heard = [] }; doubt = a.doubt } };
+    ghost view = { λ a.
+        record { memory = record (memory_of a.held) { acks = []; heard = [] }; doubt = a.doubt } };
 
     ghost invariant = { λ a. IsDown a.held a.doubt };
 }
@@ -43,7 +44,8 @@ pub(crate) fn fallen<A: Allocator + Copy>(
 ) -> Down<A>
     requires kept { IsHeld held }
     requires next { ForSome doubt (IsNextHeld held) }
-    ensures { result ≡ record { memory = record (memory_of held) { acks = []; heard = [] }; doubt = doubt } }
+    ensures { result
+        ≡ record { memory = record (memory_of held) { acks = []; heard = [] }; doubt = doubt } }
 {
     Down { held, doubt }
 }

@@ -54,7 +54,9 @@ fn make_room<A: Allocator + Copy>(
     requires seq { name.seq ≤ held.old.config.cap }
     ensures kept { IsHeld held.new }
     ensures same { memory_of held.new ≡ memory_of held.old }
-    ensures room { OnOk result ((held.new.pending.reserved ≡ Some (name, client)) × (held.new.acks.reserved ≡ Some name) × (has_name held.new.resend.roomy name ≡ true)) }
+    ensures room { OnOk result ((held.new.pending.reserved ≡ Some (name, client))
+        × (held.new.acks.reserved ≡ Some name)
+        × (has_name held.new.resend.roomy name ≡ true)) }
 {
     held.pending.reserve(name, client)?;
     held.acks.reserve(name)?;
@@ -113,11 +115,14 @@ fn make_wanted<A: Allocator + Copy>(
     cause: Option<Cause>,
 ) -> Result<Wanted<A>, NoMemory>
     requires kept { IsHeld held.old }
-    requires next { IsNextHeld held.old (if is_certified then PendCert name message else Pend name message) }
+    requires next { IsNextHeld held.old
+        (if is_certified then PendCert name message else Pend name message) }
     requires caused { ForSome cause (λ c. (1 ≤ c.source) × (c.source ≤ held.old.config.n)) }
     ensures kept { IsHeld held.new }
     ensures same { memory_of held.new ≡ memory_of held.old }
-    ensures wanted { IfOk result (λ w. IsWanted held.new w × (w.entry ≡ (if is_certified then PendCert name message else Pend name message)) × (w.cause ≡ cause)) }
+    ensures wanted { IfOk result (λ w. IsWanted held.new w
+        × (w.entry ≡ (if is_certified then PendCert name message else Pend name message))
+        × (w.cause ≡ cause)) }
 {
     let packets = Outbox::of_pair(
         alloc,
@@ -147,7 +152,10 @@ fn repeated<A: Allocator + Copy>(
     number: u32,
     payload: &[u8],
 ) -> Result<Found<A>, Refusal>
-    ensures { Finds (memory_of held.now) (repeat_outcome (memory_of held.now) (record { client = client; number = number; payload = payload.now }) name (message_of held.now.pending.pairs name)) result (memory_of held.now) }
+    ensures { Finds (memory_of held.now)
+        (repeat_outcome (memory_of held.now)
+        (record { client = client; number = number; payload = payload.now }) name
+        (message_of held.now.pending.pairs name)) result (memory_of held.now) }
 {
     match held.pending.message(name) {
         Some(message) => {
@@ -173,7 +181,10 @@ pub(crate) fn submitted<A: Allocator + Copy>(
     ensures kept { IsHeld held.new }
     ensures same { IsSameNode (memory_of held.old) (memory_of held.new) }
     ensures wanted { IfOk result (λ found. IsFoundIn held.new found) }
-    ensures outcome { Finds (memory_of held.old) (submit_outcome (memory_of held.old) (record { client = client; number = number; payload = payload.now })) result (memory_of held.new) }
+    ensures outcome { Finds (memory_of held.old)
+        (submit_outcome (memory_of held.old)
+        (record { client = client; number = number; payload = payload.now })) result
+        (memory_of held.new) }
 {
     if payload.len() > MAX_PAYLOAD {
         return Err(Refusal::TooLong);
@@ -206,7 +217,9 @@ pub(crate) fn note<A: Allocator + Copy>(
     name: Name,
     node: NodeId,
 ) -> Result<(), NoMemory>
-    ensures ok { OnOk result ((acks.new.counted ≡ counted_with acks.old.counted name node) × (acks.new.limits ≡ acks.old.limits) × (acks.new.certified ≡ acks.old.certified)) }
+    ensures ok { OnOk result ((acks.new.counted ≡ counted_with acks.old.counted name node)
+        × (acks.new.limits ≡ acks.old.limits)
+        × (acks.new.certified ≡ acks.old.certified)) }
     ensures reserved { acks.old.reserved ≡ Some name → acks.new.reserved ≡ Some name }
     ensures err { OnErr result (acks.new ≡ acks.old) }
     ensures roomy { acks.old.reserved ≡ Some name → IsOk result }
@@ -232,7 +245,8 @@ fn counted<A: Allocator + Copy>(
     ensures kept { IsHeld held.new }
     ensures same { IsSameNode (memory_of held.old) (memory_of held.new) }
     ensures wanted { IfOk result (λ found. IsFoundIn held.new found) }
-    ensures outcome { Finds (memory_of held.old) (counted_outcome (memory_of held.old) source name flags) result (memory_of held.new) }
+    ensures outcome { Finds (memory_of held.old)
+        (counted_outcome (memory_of held.old) source name flags) result (memory_of held.new) }
 {
     let is_counted = held.acks.noted(name, source);
     if held.acks.majority_with(name, source) {
@@ -272,7 +286,8 @@ fn reply_to<A: Allocator + Copy>(
     heard: bool,
 ) -> Result<Outbox<A>, NoMemory>
     requires { packet.now.target ≡ node }
-    ensures { IfOk result (λ outbox. outbox ≡ answer_with node packet.now.source packet.now.name packet.now.message heard ∷ []) }
+    ensures { IfOk result (λ outbox.
+        outbox ≡ answer_with node packet.now.source packet.now.name packet.now.message heard ∷ []) }
 {
     // This gives the proof that a packet's nodes differ.
     let _apart = packet.target();
@@ -307,7 +322,11 @@ fn answered<A: Allocator + Copy>(
     ensures kept { IsHeld held.new }
     ensures same { IsSameNode (memory_of held.old) (memory_of held.new) }
     ensures wanted { IfOk result (λ found. IsFoundIn held.new found) }
-    ensures outcome { Finds (memory_of held.old) (certified_outcome (hearing (memory_of held.old) packet.now.source packet.now.name packet.now.flags) packet.now.source packet.now.name packet.now.message packet.now.flags) result (memory_of held.new) }
+    ensures outcome { Finds (memory_of held.old)
+        (certified_outcome
+        (hearing (memory_of held.old) packet.now.source packet.now.name packet.now.flags)
+        packet.now.source packet.now.name packet.now.message packet.now.flags) result
+        (memory_of held.new) }
 {
     let name = packet.name();
     let source = packet.source();
@@ -333,7 +352,9 @@ pub(crate) fn arrived<A: Allocator + Copy>(
     ensures kept { IsHeld held.new }
     ensures same { IsSameNode (memory_of held.old) (memory_of held.new) }
     ensures wanted { IfOk result (λ found. IsFoundIn held.new found) }
-    ensures outcome { Finds (memory_of held.old) (arrive_outcome (memory_of held.old) packet.now.source packet.now.name packet.now.message packet.now.flags) result (memory_of held.new) }
+    ensures outcome { Finds (memory_of held.old)
+        (arrive_outcome (memory_of held.old) packet.now.source packet.now.name packet.now.message
+        packet.now.flags) result (memory_of held.new) }
 {
     let name = packet.name();
     let source = packet.source();

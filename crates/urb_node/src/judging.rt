@@ -54,8 +54,12 @@ fn certify_record<A: Allocator + Copy>(
 ) -> Result<bool, NoMemory>
     requires limits { fifo.old.limits ≡ config }
     ensures limits { fifo.new.limits ≡ config }
-    ensures released { IfOk result (λ fits. fits ≡ true → (older : List Label) → IsReleaseOf older fifo.old → IsReleaseOf (cert (entry.now ∷ []) ++ older) fifo.new) }
-    ensures strange { IfOk result (λ fits. fits ≡ false → (x : Label) × (cert (entry.now ∷ []) ≡ x ∷ []) × (in_range config x ≡ false)) }
+    ensures released { IfOk result (λ fits. fits ≡ true
+        → (older : List Label)
+        → IsReleaseOf older fifo.old
+        → IsReleaseOf (cert (entry.now ∷ []) ++ older) fifo.new) }
+    ensures strange { IfOk result (λ fits. fits ≡ false
+        → (x : Label) × (cert (entry.now ∷ []) ≡ x ∷ []) × (in_range config x ≡ false)) }
 {
     match entry {
         Record::Pend(_, _) => Ok(true),
@@ -75,8 +79,10 @@ fn released_by<A: Allocator + Copy>(
     config: Config,
     image: &[Record<Message<A>>],
 ) -> Result<Option<Fifo<A>>, NoMemory>
-    ensures released { IfOk result (λ found. IfSome found (IsReleaseOf (reverse (cert image.now)))) }
-    ensures strange { IfOk result (λ found. found ≡ None → (x : Label) × (has_name (cert image.now) x ≡ true) × (in_range config x ≡ false)) }
+    ensures released { IfOk result
+        (λ found. IfSome found (IsReleaseOf (reverse (cert image.now)))) }
+    ensures strange { IfOk result (λ found. found ≡ None
+        → (x : Label) × (has_name (cert image.now) x ≡ true) × (in_range config x ≡ false)) }
 {
     let mut fifo = Fifo::new(alloc, config);
     for record in image {
@@ -94,7 +100,9 @@ fn has_same_names<A: Allocator + Copy>(
     fifo: &Fifo<A>,
 ) -> bool
     requires { IsReleaseOf (reverse (cert image.now)) released.now }
-    ensures { result ≡ (same_names (cert image.now) fifo.now.certified && same_list (log image.now) fifo.now.log) }
+    ensures { result
+        ≡ (same_names (cert image.now) fifo.now.certified && same_list (log image.now)
+        fifo.now.log) }
 {
     // These do nothing: they give the proof what the layers always keep.
     released.limits();
@@ -113,7 +121,9 @@ fn says<A: Allocator + Copy>(
     count: u32,
 ) -> bool
     requires { IsReleaseOf (reverse (cert image.now)) released.now }
-    ensures { result ≡ tells image.now (pairs_with pending.now.pairs doubt.now) fifo.now.certified fifo.now.log count }
+    ensures { result
+        ≡ tells image.now (pairs_with pending.now.pairs doubt.now) fifo.now.certified fifo.now.log
+        count }
 {
     let pairs = has_same_pairs(image, pending, doubt);
     let names = has_same_names(image, released, fifo);
@@ -129,7 +139,8 @@ fn certify_doubtful<A: Allocator + Copy>(
 ) -> Result<(), NoMemory>
     requires sender { (name_of entry.now).sender ≤ fifo.old.limits.n }
     requires seq { (name_of entry.now).seq ≤ fifo.old.limits.cap }
-    ensures { OnOk result ((fifo.new.certified ≡ certified_by fifo.old.certified (Some entry.now)) × (fifo.new.log ≡ delivered_by fifo.old.log fifo.old.certified (Some entry.now))) }
+    ensures { OnOk result ((fifo.new.certified ≡ certified_by fifo.old.certified (Some entry.now))
+        × (fifo.new.log ≡ delivered_by fifo.old.log fifo.old.certified (Some entry.now))) }
 {
     match entry {
         Record::Pend(_, _) => Ok(()),
@@ -146,7 +157,8 @@ fn joined_with<A: Allocator + Copy>(
     fifo: &Fifo<A>,
     doubt: &Option<Record<Message<A>>>,
 ) -> Result<Option<Fifo<A>>, NoMemory>
-    requires { ForSome doubt.now (λ r. ((name_of r).sender ≤ fifo.now.limits.n) × ((name_of r).seq ≤ fifo.now.limits.cap)) }
+    requires { ForSome doubt.now
+        (λ r. ((name_of r).sender ≤ fifo.now.limits.n) × ((name_of r).seq ≤ fifo.now.limits.cap)) }
     ensures { IfOk result (IsJoined fifo.now doubt.now) }
 {
     match doubt {
@@ -168,7 +180,9 @@ fn count_itself<A: Allocator + Copy>(
     node: NodeId,
 ) -> Result<(), NoMemory>
     ensures same { (acks.new.limits ≡ acks.old.limits) × (acks.new.certified ≡ acks.old.certified) }
-    ensures counted { OnOk result ((x : Label) (q : ℕ) → acked acks.new.counted x q ≡ (acked (self_acks node pending.now.pairs) x q || acked acks.old.counted x q)) }
+    ensures counted { OnOk result ((x : Label) (q : ℕ)
+        → acked acks.new.counted x q
+        ≡ (acked (self_acks node pending.now.pairs) x q || acked acks.old.counted x q)) }
 {
     for index in 0..pending.count() as usize {
         if let Some((name, _message)) = pending.get(index) {
@@ -203,7 +217,8 @@ fn prepare<A: Allocator + Copy>(
 ) -> Result<(), NoMemory>
     requires fallen { IsFallen held.old doubt.now }
     ensures kept { IsHeld held.new }
-    ensures same { memory_of held.new ≡ record (memory_of held.old) { acks = held.new.acks.counted } }
+    ensures same { memory_of held.new
+        ≡ record (memory_of held.old) { acks = held.new.acks.counted } }
     ensures next { ForSome doubt.now (IsNextHeld held.new) }
     ensures counted { OnOk result (CountsItself (memory_of held.old) held.new.acks.counted) }
     ensures room { OnOk result (ForSome doubt.now (HasRoom held.new)) }
@@ -221,7 +236,8 @@ fn says_stored<A: Allocator + Copy>(
 ) -> bool
     requires kept { IsHeld held.now }
     requires released { IsReleaseOf (reverse (cert image.now)) released.now }
-    ensures { MatchBool result (Says image.now (memory_of held.now)) (IsOther image.now (memory_of held.now)) }
+    ensures { MatchBool result (Says image.now (memory_of held.now))
+        (IsOther image.now (memory_of held.now)) }
 {
     says(
         image,
@@ -244,7 +260,8 @@ fn says_joined<A: Allocator + Copy>(
     requires kept { IsHeld held.now }
     requires released { IsReleaseOf (reverse (cert image.now)) released.now }
     requires joined { IsJoined held.now.fifo doubt.now joined.now }
-    ensures { MatchBool result (SaysWith image.now (memory_of held.now) doubt.now) (IsOtherThan image.now (memory_of held.now) doubt.now) }
+    ensures { MatchBool result (SaysWith image.now (memory_of held.now) doubt.now)
+        (IsOtherThan image.now (memory_of held.now) doubt.now) }
 {
     // These do nothing: they give the proof what the layers always keep.
     held.pending.limits();
@@ -314,7 +331,8 @@ pub(crate) fn judge<A: Allocator + Copy>(
 ) -> Result<Verdict, NoMemory>
     requires fallen { IsFallen held.old doubt.now }
     ensures kept { IsHeld held.new }
-    ensures same { memory_of held.new ≡ record (memory_of held.old) { acks = held.new.acks.counted } }
+    ensures same { memory_of held.new
+        ≡ record (memory_of held.old) { acks = held.new.acks.counted } }
     ensures next { ForSome doubt.now (IsNextHeld held.new) }
     ensures verdict { IfOk result (IsVerdict image.now (memory_of held.old) doubt.now) }
     ensures counted { OnOk result (CountsItself (memory_of held.old) held.new.acks.counted) }

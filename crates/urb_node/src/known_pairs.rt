@@ -46,7 +46,9 @@ fn is_record_known<A: Allocator + Copy>(
     pending: &Pending<A>,
     doubt: &Option<Record<Message<A>>>,
 ) -> bool
-    ensures { result ≡ list_all (λ pair. has_pair (pairs_with pending.now.pairs doubt.now) pair.0 pair.1) (pend (entry.now ∷ [])) }
+    ensures { result
+        ≡ list_all (λ pair. has_pair (pairs_with pending.now.pairs doubt.now) pair.0 pair.1)
+        (pend (entry.now ∷ [])) }
 {
     match entry {
         Record::Pend(name, message) | Record::PendCert(name, message) => {
@@ -63,7 +65,9 @@ fn are_known<A: Allocator + Copy>(
     pending: &Pending<A>,
     doubt: &Option<Record<Message<A>>>,
 ) -> bool
-    ensures { result ≡ list_all (λ pair. has_pair (pairs_with pending.now.pairs doubt.now) pair.0 pair.1) (pend image.now) }
+    ensures { result
+        ≡ list_all (λ pair. has_pair (pairs_with pending.now.pairs doubt.now) pair.0 pair.1)
+        (pend image.now) }
 {
     for record in image {
         if !is_record_known(record, pending, doubt) {
@@ -75,7 +79,8 @@ fn are_known<A: Allocator + Copy>(
 
 // Whether a record has no pair, or one that the image has.
 fn is_record_in<A: Allocator + Copy>(entry: &Record<Message<A>>, image: &Index<'_, A>) -> bool
-    ensures { result ≡ list_all (λ pair. has_pair (pend image.now) pair.0 pair.1) (pend (entry.now ∷ [])) }
+    ensures { result
+        ≡ list_all (λ pair. has_pair (pend image.now) pair.0 pair.1) (pend (entry.now ∷ [])) }
 {
     match entry {
         Record::Pend(name, message) | Record::PendCert(name, message) => {
@@ -87,7 +92,8 @@ fn is_record_in<A: Allocator + Copy>(entry: &Record<Message<A>>, image: &Index<'
 
 // Whether the image has every pending pair.
 fn has_pending<A: Allocator + Copy>(image: &Index<'_, A>, pending: &Pending<A>) -> bool
-    ensures { result ≡ list_all (λ pair. has_pair (pend image.now) pair.0 pair.1) pending.now.pairs }
+    ensures { result
+        ≡ list_all (λ pair. has_pair (pend image.now) pair.0 pair.1) pending.now.pairs }
 {
     for index in 0..pending.count() as usize {
         if let Some((name, message)) = pending.get(index) {
@@ -106,7 +112,9 @@ fn has_known<A: Allocator + Copy>(
     pending: &Pending<A>,
     doubt: &Option<Record<Message<A>>>,
 ) -> bool
-    ensures { result ≡ list_all (λ pair. has_pair (pend image.now) pair.0 pair.1) (pairs_with pending.now.pairs doubt.now) }
+    ensures { result
+        ≡ list_all (λ pair. has_pair (pend image.now) pair.0 pair.1)
+        (pairs_with pending.now.pairs doubt.now) }
 {
     match doubt {
         Some(record) => has_pending(image, pending) && is_record_in(record, image),

@@ -16,28 +16,58 @@ ghost use Rattle.urb_node.specs.Steps.{answers_of, says_heard};
 /// What a node drafts keeps the rules about its own image, behind what it holds: the next message of its own, a message
 /// that may arrive and isn't pending, and a certificate of a name that is pending and not certified.
 pub fn drafts_are_next()
-    ensures submit { (size : Limits) (p : ℕ) (pairs : List (Label × Content)) (certified : List Label) (m : Content) → p ≤ size.n → length (own p pairs) < size.cap
-        → m.number ≡ next_number m.client (own p pairs) → message_of pairs (name p (suc (length (own p pairs)))) ≡ None
-        → IsNext size p pairs certified (Pend (name p (suc (length (own p pairs)))) m) × IsNext size p pairs certified (PendCert (name p (suc (length (own p pairs)))) m) }
-    ensures arrival { (size : Limits) (p : ℕ) (pairs : List (Label × Content)) (certified : List Label) (x : Label) (m : Content) → MayArrive size p pairs x m → message_of pairs x ≡ None
+    ensures submit { (size : Limits) (p : ℕ) (pairs : List (Label × Content))
+        (certified : List Label) (m : Content)
+        → p ≤ size.n
+        → length (own p pairs) < size.cap
+        → m.number ≡ next_number m.client (own p pairs)
+        → message_of pairs (name p (suc (length (own p pairs)))) ≡ None
+        → IsNext size p pairs certified (Pend (name p (suc (length (own p pairs)))) m)
+        × IsNext size p pairs certified (PendCert (name p (suc (length (own p pairs)))) m) }
+    ensures arrival { (size : Limits) (p : ℕ) (pairs : List (Label × Content))
+        (certified : List Label) (x : Label) (m : Content)
+        → MayArrive size p pairs x m
+        → message_of pairs x ≡ None
         → IsNext size p pairs certified (Pend x m) × IsNext size p pairs certified (PendCert x m) }
-    ensures certificate { (size : Limits) (p : ℕ) (pairs : List (Label × Content)) (certified : List Label) (x : Label) → x.sender ≤ size.n → x.seq ≤ size.cap
-        → is_some (message_of pairs x) ≡ true → has_name certified x ≡ false → IsNext size p pairs certified (Cert x) }
+    ensures certificate { (size : Limits) (p : ℕ) (pairs : List (Label × Content))
+        (certified : List Label) (x : Label)
+        → x.sender ≤ size.n
+        → x.seq ≤ size.cap
+        → is_some (message_of pairs x) ≡ true
+        → has_name certified x ≡ false
+        → IsNext size p pairs certified (Cert x) }
 {}
 
 /// The packets of a stored pair, those of a tick and an answer are of the node's own pending pairs with the node as their source,
 /// and tell of a certificate only where the node has stored one: no creation by a link (sections 2.4 and 3.7 of the book).
 pub fn packets_are_of_held_pairs()
-    ensures pair { (n p : ℕ) (pairs : List (Label × Content)) (certified : List Label) (is_certified : Bool) (heard : Option ℕ) (pair : Label × Content) → has_pair pairs pair.0 pair.1 ≡ true
-        → (is_certified ≡ true → has_name certified pair.0 ≡ true) → AreFrom p pairs certified (to_others n p is_certified heard pair) }
-    ensures tick { (n p : ℕ) (cursor : Option Label) (pairs : List (Label × Content)) (certified : List Label) (heard : List (Label × ℕ)) → AreFrom p pairs certified (flat_map (to_unheard n p certified heard) (resent cursor (due_of n p heard pairs))) }
-    ensures answer { (p q : ℕ) (pairs : List (Label × Content)) (certified : List Label) (x : Label) (m : Content) (heard : Bool) → has_pair pairs x m ≡ true → has_name certified x ≡ true → AreFrom p pairs certified (answer_with p q x m heard ∷ []) }
+    ensures pair { (n p : ℕ) (pairs : List (Label × Content)) (certified : List Label)
+        (is_certified : Bool) (heard : Option ℕ) (pair : Label × Content)
+        → has_pair pairs pair.0 pair.1 ≡ true
+        → (is_certified ≡ true → has_name certified pair.0 ≡ true)
+        → AreFrom p pairs certified (to_others n p is_certified heard pair) }
+    ensures tick { (n p : ℕ) (cursor : Option Label) (pairs : List (Label × Content))
+        (certified : List Label) (heard : List (Label × ℕ))
+        → AreFrom p pairs certified
+        (flat_map (to_unheard n p certified heard) (resent cursor (due_of n p heard pairs))) }
+    ensures answer { (p q : ℕ) (pairs : List (Label × Content)) (certified : List Label) (x : Label)
+        (m : Content) (heard : Bool)
+        → has_pair pairs x m ≡ true
+        → has_name certified x ≡ true
+        → AreFrom p pairs certified (answer_with p q x m heard ∷ []) }
 {}
 
 /// A packet that says that its target's certificate was heard is not answered, nor is one of version one. And the answer to an
 /// answer is not answered, so no two nodes answer each other for ever.
 pub fn answers_end()
-    ensures heard { (size : Limits) (packet : Carried) (node : Node) → says_heard packet.flags ≡ true → answers_of size packet node ≡ [] }
-    ensures first_version { (size : Limits) (packet : Carried) (node : Node) → packet.flags ≡ None → answers_of size packet node ≡ [] }
-    ensures ends { (size : Limits) (first : Carried) (here there last : Node) → AllByRecursion (λ second. AllByRecursion (λ third. answers_of size third last ≡ []) (answers_of size second there)) (answers_of size first here) }
+    ensures heard { (size : Limits) (packet : Carried) (node : Node)
+        → says_heard packet.flags ≡ true
+        → answers_of size packet node ≡ [] }
+    ensures first_version { (size : Limits) (packet : Carried) (node : Node)
+        → packet.flags ≡ None
+        → answers_of size packet node ≡ [] }
+    ensures ends { (size : Limits) (first : Carried) (here there last : Node)
+        → AllByRecursion
+        (λ second. AllByRecursion (λ third. answers_of size third last ≡ [])
+        (answers_of size second there)) (answers_of size first here) }
 {}

@@ -22,7 +22,8 @@ fn joined<A: Allocator + Copy>(
 ) -> Result<Held<A>, NoMemory>
     requires kept { IsHeld held }
     requires next { IsNextHeld held entry }
-    ensures { IfOk result (λ h. IsHeld h × (memory_of h ≡ with_record (memory_of held) entry None)) }
+    ensures { IfOk result
+        (λ h. IsHeld h × (memory_of h ≡ with_record (memory_of held) entry None)) }
 {
     make_room_for(&mut held, &entry)?;
     let (held, _released) = stored(held, entry, None);
@@ -42,7 +43,9 @@ impl<A: Allocator + Copy> Ready<A> {
 
         // No record breaks the rules about its own image.
         requires rules { KeepsOwn config node [] records.items }
-        ensures { IfOk result (λ ready. (ready.limits ≡ config) × (ready.node ≡ node) × ShowsReady ready (opened_node node records.items)) }
+        ensures { IfOk result (λ ready. (ready.limits ≡ config)
+            × (ready.node ≡ node)
+            × ShowsReady ready (opened_node node records.items)) }
     {
         let ready = Ready::new(alloc, config, node)?;
         let Ready { mut held } = ready;

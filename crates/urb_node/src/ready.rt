@@ -71,7 +71,8 @@ fn resent<A: Allocator + Copy>(
     pending: &Pending<A>,
     acks: &Acks<A>,
 ) -> Result<Outbox<A>, NoMemory>
-    ensures packets { IfOk result (λ outbox. outbox ≡ tick_packets resend.old pending.now.pairs acks.now.certified) }
+    ensures packets { IfOk result
+        (λ outbox. outbox ≡ tick_packets resend.old pending.now.pairs acks.now.certified) }
     ensures ok { OnOk result (resend.new ≡ ticked resend.old pending.now.pairs) }
     ensures err { OnErr result (resend.new ≡ resend.old) }
 {
@@ -112,7 +113,8 @@ impl<A: Allocator + Copy> Ready<A> {
         number: u32,
         payload: &[u8],
     ) -> Result<Step<A>, (Ready<A>, Refusal)>
-        ensures event { Submits self (record { client = client; number = number; payload = payload.now }) result }
+        ensures event { Submits self
+            (record { client = client; number = number; payload = payload.now }) result }
 
         // Refused, the node is as it was, whatever it shows.
         ensures refused { IfErr result (λ e. e.0 ≡ self) }
@@ -130,7 +132,8 @@ impl<A: Allocator + Copy> Ready<A> {
     /// broadcast in the book's majority-ack algorithm with logging (section 3.7), as far as its store.
     pub fn arrive(self, alloc: A, packet: PacketView<'_>) -> Result<Step<A>, (Ready<A>, Refusal)>
         requires { IsForNode self packet }
-        ensures event { Arrives self packet.entry.source packet.entry.name packet.entry.message packet.entry.flags result }
+        ensures event { Arrives self packet.entry.source packet.entry.name packet.entry.message
+            packet.entry.flags result }
 
         // What it answers is of the node's stored pairs, with the node as its source.
         ensures memory { IfOk result AnswersFrom }

@@ -36,5 +36,6 @@ impl<A: Allocator> Model for Done<A> {
 
     ghost Value = { Told };
 
-    ghost view = { λ a. record { accepted = a.accepted; name = a.name; sent = a.sent; released = a.released } };
+    ghost view = { λ a.
+        record { accepted = a.accepted; name = a.name; sent = a.sent; released = a.released } };
 }

@@ -50,7 +50,8 @@ impl<A: Allocator> Model for Storing<A> {
 // A stored message is acknowledged by the node, and by the one that the packet which caused it came from.
 fn count<A: Allocator + Copy>(acks: &mut Acks<A>, name: Name, node: NodeId, cause: Option<Cause>)
     requires { acks.old.reserved ≡ Some name }
-    ensures counted { acks.new.counted ≡ counted_cause (counted_with acks.old.counted name node) name cause }
+    ensures counted { acks.new.counted
+        ≡ counted_cause (counted_with acks.old.counted name node) name cause }
     ensures same { (acks.new.limits ≡ acks.old.limits) × (acks.new.certified ≡ acks.old.certified) }
     ensures reserved { acks.new.reserved ≡ Some name }
 {
@@ -69,7 +70,9 @@ fn join_pair<A: Allocator + Copy>(
 )
     requires kept { IsHeld held.old }
     requires next { IsNextHeld held.old (Pend name message) }
-    requires room { (held.old.pending.reserved ≡ Some (name, message.client)) × (held.old.acks.reserved ≡ Some name) × (has_name held.old.resend.roomy name ≡ true) }
+    requires room { (held.old.pending.reserved ≡ Some (name, message.client))
+        × (held.old.acks.reserved ≡ Some name)
+        × (has_name held.old.resend.roomy name ≡ true) }
     requires fits { held.old.stored + 1 < 2 ^ 32 }
     ensures kept { IsHeld held.new }
     ensures memory { memory_of held.new ≡ with_pair (memory_of held.old) name message cause }
@@ -92,7 +95,8 @@ fn join_certificate<A: Allocator + Copy>(held: &mut Held<A>, name: Name) -> u32
     ensures kept { IsHeld held.new }
     ensures memory { memory_of held.new ≡ with_certificate (memory_of held.old) name }
     ensures released { length held.new.fifo.log ≡ length held.old.fifo.log + result }
-    ensures one_more { has_name held.old.acks.certified name ≡ false → held.new.stored + 1 ≤ length held.new.pending.pairs + length held.new.acks.certified }
+    ensures one_more { has_name held.old.acks.certified name ≡ false
+        → held.new.stored + 1 ≤ length held.new.pending.pairs + length held.new.acks.certified }
 {
     held.acks.certify(name).unwrap();
     held.fifo.certify(name).unwrap()
@@ -139,7 +143,8 @@ fn is_receipt_of<A: Allocator>(
     pos: u32,
     entry: &Record<Message<A>>,
 ) -> bool
-    ensures { MatchBool result (receipt.now ≡ record { node = node; pos = pos; entry = entry.now }) (¬ (receipt.now ≡ record { node = node; pos = pos; entry = entry.now })) }
+    ensures { MatchBool result (receipt.now ≡ record { node = node; pos = pos; entry = entry.now })
+        (¬ (receipt.now ≡ record { node = node; pos = pos; entry = entry.now })) }
 {
     receipt.node() == node && receipt.pos() == pos && receipt.entry().is_same(entry)
 }

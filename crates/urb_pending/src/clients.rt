@@ -80,7 +80,9 @@ impl<A: Allocator + Copy> Clients<A> {
     /// The client's next message has the name of this number.
     pub(crate) fn add(&mut self, client: ClientId, seq: u32)
         requires { has_room client self.old ≡ true }
-        ensures { (c : ℕ) → given_to c self.new ≡ (if c == client then given_to c self.old ++ seq ∷ [] else given_to c self.old) }
+        ensures { (c : ℕ)
+            → given_to c self.new
+            ≡ (if c == client then given_to c self.old ++ seq ∷ [] else given_to c self.old) }
     {
         let place = place_of(&self.rows, client);
         self.rows[place].push(seq);
@@ -102,7 +104,10 @@ impl<A: Allocator + Copy> Clients<A> {
     /// The client's next message has the name of this number, where it is the node's own.
     pub(crate) fn add_where(&mut self, own: bool, client: ClientId, seq: u32)
         requires { own ≡ true → has_room client self.old ≡ true }
-        ensures { (c : ℕ) → given_to c self.new ≡ (if own && (c == client) then given_to c self.old ++ seq ∷ [] else given_to c self.old) }
+        ensures { (c : ℕ)
+            → given_to c self.new
+            ≡ (if own && (c == client) then given_to c self.old
+            ++ seq ∷ [] else given_to c self.old) }
     {
         if own {
             self.add(client, seq);

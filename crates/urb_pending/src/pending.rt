@@ -72,7 +72,9 @@ impl<A: Allocator + Copy> Pending<A> {
         requires cap { name.seq ≤ self.old.limits.cap }
 
         // An own message takes the node's next name, and has its client's next number.
-        requires own { name.sender ≡ self.old.node → (name.seq ≡ length (own self.old.node self.old.pairs) + 1) × (message.number ≡ next_number message.client (own self.old.node self.old.pairs)) }
+        requires own { name.sender ≡ self.old.node
+            → (name.seq ≡ length (own self.old.node self.old.pairs) + 1)
+            × (message.number ≡ next_number message.client (own self.old.node self.old.pairs)) }
         ensures ok { OnOk result (self.new ≡ added name message self.old) }
         ensures err { IfErr result (λ e. (e.0 ≡ message) × (self.new ≡ self.old)) }
         ensures reserved { self.old.reserved ≡ Some (name, message.client) → IsOk result }
@@ -108,7 +110,8 @@ impl<A: Allocator + Copy> Pending<A> {
 
     /// The pending message at a place in the order of names, from 0, with its name.
     pub fn get(&self, index: usize) -> Option<(Name, &Message<A>)>
-        ensures { option_map (λ pair. (pair.0, pair.1.now)) result ≡ slice_get self.now.pairs index }
+        ensures { option_map (λ pair. (pair.0, pair.1.now)) result
+            ≡ slice_get self.now.pairs index }
     {
         self.windows.entry(index)
     }
@@ -138,7 +141,8 @@ impl<A: Allocator + Copy> Pending<A> {
 
     /// The name that the node gave the message that this client has numbered so.
     pub fn find(&self, client: ClientId, number: u32) -> Option<Name>
-        ensures { result ≡ name_given self.now.node client number (own self.now.node self.now.pairs) }
+        ensures { result
+            ≡ name_given self.now.node client number (own self.now.node self.now.pairs) }
     {
         let seq = self.clients.find(client, number)?;
         let sender = self.node;

@@ -21,7 +21,11 @@ impl<A: Allocator> Model for ClientRow<A> {
 
     ghost Value = { Row };
 
-    ghost view = { λ a. record { client = a.client; given = a.given.items; room = nat_lt (vec_len a.given) (vec_capacity a.given) } };
+    ghost view = { λ a. record {
+      client = a.client;
+      given = a.given.items;
+      room = nat_lt (vec_len a.given) (vec_capacity a.given);
+    } };
 }
 
 impl<A: Allocator + Copy> ClientRow<A> {

@@ -81,8 +81,12 @@ pub fn parse_command(line: &[u8]) -> Option<CommandLine<'_>>
 
 // The command of a first word and what follows it.
 fn command_of<'a>(word: &[u8], rest: Option<&'a [u8]>) -> Option<CommandLine<'a>>
-    ensures some { IfSome result (λ found. IsSpelled (word.now ∷ words_left rest.entry) (command found) × InRange (command found)) }
-    ensures none { IfNone result ((asked : Command) → IsSpelled (word.now ∷ words_left rest.entry) asked → InRange asked → ⊥) }
+    ensures some { IfSome result (λ found.
+        IsSpelled (word.now ∷ words_left rest.entry) (command found) × InRange (command found)) }
+    ensures none { IfNone result ((asked : Command)
+        → IsSpelled (word.now ∷ words_left rest.entry) asked
+        → InRange asked
+        → ⊥) }
 {
     if word == b"group".as_slice() {
         return Some(CommandLine::Group(group_of(rest)?));
@@ -132,8 +136,11 @@ fn command_of<'a>(word: &[u8], rest: Option<&'a [u8]>) -> Option<CommandLine<'a>
 
 // The limits of a group.
 fn group_of(rest: Option<&[u8]>) -> Option<Config>
-    ensures some { IfSome result (λ limits. (words_left rest.entry ≡ decimal limits.n ∷ decimal limits.cap ∷ []) × IsLimits limits) }
-    ensures none { IfNone result ((limits : Limits) → IsLimits limits → words_left rest.entry ≢ decimal limits.n ∷ decimal limits.cap ∷ []) }
+    ensures some { IfSome result (λ limits.
+        (words_left rest.entry ≡ decimal limits.n ∷ decimal limits.cap ∷ []) × IsLimits limits) }
+    ensures none { IfNone result ((limits : Limits)
+        → IsLimits limits
+        → words_left rest.entry ≢ decimal limits.n ∷ decimal limits.cap ∷ []) }
 {
     let (n, rest) = number_word(rest, 1, 7)?;
     let (cap, rest) = number_word(rest, 1, 1_000_000)?;
@@ -144,8 +151,13 @@ fn group_of(rest: Option<&[u8]>) -> Option<Config>
 }
 
 fn submit_of(rest: Option<&[u8]>) -> Option<CommandLine<'_>>
-    ensures some { IfSome result (λ found. IsSpelled (codes "submit" ∷ words_left rest.entry) (command found) × InRange (command found)) }
-    ensures none { IfNone result ((node client number : ℕ) (payload : List ℕ) → InRange (Submit node client number payload) → AreArguments (Submit node client number payload) (words_left rest.entry) → ⊥) }
+    ensures some { IfSome result (λ found.
+        IsSpelled (codes "submit" ∷ words_left rest.entry) (command found)
+        × InRange (command found)) }
+    ensures none { IfNone result ((node client number : ℕ) (payload : List ℕ)
+        → InRange (Submit node client number payload)
+        → AreArguments (Submit node client number payload) (words_left rest.entry)
+        → ⊥) }
 {
     let (node, rest) = number_word(rest, 1, 7)?;
     let (client, rest) = number_word(rest, 1, 65_535)?;
@@ -163,8 +175,10 @@ fn submit_of(rest: Option<&[u8]>) -> Option<CommandLine<'_>>
 
 // The payload that a word spells.
 fn payload_of(word: &[u8]) -> Option<&[u8]>
-    ensures some { IfSome result (λ payload. (word.now ≡ payload_word payload.now) × HasWord payload.now) }
-    ensures none { IfNone result ((payload : List ℕ) → HasWord payload → word.now ≢ payload_word payload) }
+    ensures some { IfSome result
+        (λ payload. (word.now ≡ payload_word payload.now) × HasWord payload.now) }
+    ensures none { IfNone result
+        ((payload : List ℕ) → HasWord payload → word.now ≢ payload_word payload) }
 {
     if word.len() == 1 && word[0] == b'-' {
         return Some(&word[..0]);
@@ -183,8 +197,11 @@ fn all_printed(word: &[u8]) -> bool
 
 // A node, and what its storage keeps of a record whose store fails.
 fn fail_of(rest: Option<&[u8]>) -> Option<(NodeId, Failure)>
-    ensures some { IfSome result (λ r. (words_left rest.entry ≡ decimal r.0 ∷ failure_word r.1 ∷ []) × IsNodeNumber r.0) }
-    ensures none { IfNone result ((node : ℕ) (failure : Failure) → IsNodeNumber node → words_left rest.entry ≢ decimal node ∷ failure_word failure ∷ []) }
+    ensures some { IfSome result
+        (λ r. (words_left rest.entry ≡ decimal r.0 ∷ failure_word r.1 ∷ []) × IsNodeNumber r.0) }
+    ensures none { IfNone result ((node : ℕ) (failure : Failure)
+        → IsNodeNumber node
+        → words_left rest.entry ≢ decimal node ∷ failure_word failure ∷ []) }
 {
     let (number, rest) = number_word(rest, 1, 7)?;
     let failure = failure_of(last_word(rest)?)?;
@@ -215,8 +232,19 @@ struct Route {
 
 // The route that the next words spell, and what follows them.
 fn route_of(rest: Option<&[u8]>) -> Option<(Route, Option<&[u8]>)>
-    ensures some { IfSome result (λ r. (words_left rest.entry ≡ decimal r.0.source ∷ decimal r.0.node ∷ decimal r.0.name.sender ∷ decimal r.0.name.seq ∷ words_left r.1) × IsRoute r.0.source r.0.node × IsLabel r.0.name) }
-    ensures none { IfNone result ((source node : ℕ) (name : Label) (words : List (List ℕ)) → IsRoute source node → IsLabel name → words_left rest.entry ≢ decimal source ∷ decimal node ∷ decimal name.sender ∷ decimal name.seq ∷ words) }
+    ensures some { IfSome result (λ r. (words_left rest.entry
+        ≡ decimal r.0.source
+        ∷ decimal r.0.node
+        ∷ decimal r.0.name.sender
+        ∷ decimal r.0.name.seq
+        ∷ words_left r.1)
+        × IsRoute r.0.source r.0.node
+        × IsLabel r.0.name) }
+    ensures none { IfNone result ((source node : ℕ) (name : Label) (words : List (List ℕ))
+        → IsRoute source node
+        → IsLabel name
+        → words_left rest.entry
+        ≢ decimal source ∷ decimal node ∷ decimal name.sender ∷ decimal name.seq ∷ words) }
 {
     let (source, rest) = number_word(rest, 1, 7)?;
     let (node, rest) = number_word(rest, 1, 7)?;
@@ -236,8 +264,13 @@ fn route_of(rest: Option<&[u8]>) -> Option<(Route, Option<&[u8]>)>
 }
 
 fn arrive_of<'a>(rest: Option<&[u8]>) -> Option<CommandLine<'a>>
-    ensures some { IfSome result (λ found. IsSpelled (codes "arrive" ∷ words_left rest.entry) (command found) × InRange (command found)) }
-    ensures none { IfNone result ((source node : ℕ) (name : Label) → InRange (Arrive source node name) → AreArguments (Arrive source node name) (words_left rest.entry) → ⊥) }
+    ensures some { IfSome result (λ found.
+        IsSpelled (codes "arrive" ∷ words_left rest.entry) (command found)
+        × InRange (command found)) }
+    ensures none { IfNone result ((source node : ℕ) (name : Label)
+        → InRange (Arrive source node name)
+        → AreArguments (Arrive source node name) (words_left rest.entry)
+        → ⊥) }
 {
     let Some((route, rest)) = route_of(rest) else {
         return None;
@@ -253,8 +286,13 @@ fn arrive_of<'a>(rest: Option<&[u8]>) -> Option<CommandLine<'a>>
 }
 
 fn arrive_flagged_of<'a>(rest: Option<&[u8]>) -> Option<CommandLine<'a>>
-    ensures some { IfSome result (λ found. IsSpelled (codes "arrive2" ∷ words_left rest.entry) (command found) × InRange (command found)) }
-    ensures none { IfNone result ((source node : ℕ) (name : Label) (flags : Flags) → InRange (ArriveFlagged source node name flags) → AreArguments (ArriveFlagged source node name flags) (words_left rest.entry) → ⊥) }
+    ensures some { IfSome result (λ found.
+        IsSpelled (codes "arrive2" ∷ words_left rest.entry) (command found)
+        × InRange (command found)) }
+    ensures none { IfNone result ((source node : ℕ) (name : Label) (flags : Flags)
+        → InRange (ArriveFlagged source node name flags)
+        → AreArguments (ArriveFlagged source node name flags) (words_left rest.entry)
+        → ⊥) }
 {
     let Some((route, rest)) = route_of(rest) else {
         return None;
@@ -272,8 +310,12 @@ fn arrive_flagged_of<'a>(rest: Option<&[u8]>) -> Option<CommandLine<'a>>
 }
 
 fn raw_of(rest: Option<&[u8]>) -> Option<CommandLine<'_>>
-    ensures some { IfSome result (λ found. IsSpelled (codes "raw" ∷ words_left rest.entry) (command found) × InRange (command found)) }
-    ensures none { IfNone result ((node : ℕ) (bytes : List ℕ) → InRange (Raw node bytes) → AreArguments (Raw node bytes) (words_left rest.entry) → ⊥) }
+    ensures some { IfSome result (λ found.
+        IsSpelled (codes "raw" ∷ words_left rest.entry) (command found) × InRange (command found)) }
+    ensures none { IfNone result ((node : ℕ) (bytes : List ℕ)
+        → InRange (Raw node bytes)
+        → AreArguments (Raw node bytes) (words_left rest.entry)
+        → ⊥) }
 {
     let (number, rest) = number_word(rest, 1, 7)?;
     let word = last_word(rest)?;

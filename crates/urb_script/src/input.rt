@@ -29,7 +29,8 @@ pub enum LineRead {
 
 // The next byte, or none at the end. A read that a signal interrupts is tried again.
 fn next_byte<R: Read>(reader: &mut R) -> Result<Option<u8>, ReadFailed>
-    ensures bytes { IfOk result (λ next. Consumes (R.remaining reader.old) (R.remaining reader.new) (option_to_list next)) }
+    ensures bytes { IfOk result
+        (λ next. Consumes (R.remaining reader.old) (R.remaining reader.new) (option_to_list next)) }
     ensures end { IfOk result (λ next. next ≡ None → IsAtEnd (R.remaining reader.new)) }
     ensures err { OnErr result (Keeps (R.remaining reader.old) (R.remaining reader.new)) }
 {
@@ -54,9 +55,12 @@ pub fn read_line<R: Read, A: Allocator>(
     line: &mut Vec<u8, A>,
 ) -> Result<LineRead, ReadFailed>
     requires { TOO_LONG ≤ vec_capacity line.old }
-    ensures line { IfOk result (λ read. ReadsLine (R.remaining reader.old) (R.remaining reader.new) line.new.items read) }
-    ensures took { OnOk result (TookPart IsOneLine (R.remaining reader.old) (R.remaining reader.new)) }
-    ensures err { OnErr result (TookPart IsPlain (R.remaining reader.old) (R.remaining reader.new)) }
+    ensures line { IfOk result
+        (λ read. ReadsLine (R.remaining reader.old) (R.remaining reader.new) line.new.items read) }
+    ensures took { OnOk result
+        (TookPart IsOneLine (R.remaining reader.old) (R.remaining reader.new)) }
+    ensures err { OnErr result
+        (TookPart IsPlain (R.remaining reader.old) (R.remaining reader.new)) }
     ensures room { vec_capacity line.new ≡ vec_capacity line.old }
 {
     line.clear();

@@ -164,7 +164,8 @@ pub fn push_entry<A: Allocator>(
     name: Name,
     message: Option<&Message<A>>,
 ) -> Result<(), NoMemory>
-    ensures { OnOk result (text.new.items ≡ text.old.items ++ entry_text (name, option_map (λ m. m.now) message.entry)) }
+    ensures { OnOk result (text.new.items
+        ≡ text.old.items ++ entry_text (name, option_map (λ m. m.now) message.entry)) }
 {
     let Name { sender, seq } = name;
     let sender = sender.number();
@@ -191,7 +192,8 @@ fn push_payload<A: Allocator>(text: &mut Vec<u8, A>, message: &Message<A>) -> Re
 
 /// Writes the head of a shown log at the end of a text.
 pub fn push_log_head<A: Allocator>(text: &mut Vec<u8, A>, node: NodeId) -> Result<(), NoMemory>
-    ensures { OnOk result (text.new.items ≡ text.old.items ++ (codes "log " ++ (decimal node ++ 58 ∷ []))) }
+    ensures { OnOk result
+        (text.new.items ≡ text.old.items ++ (codes "log " ++ (decimal node ++ 58 ∷ []))) }
 {
     let node = node.number();
     write!(text, "log {node}:").map_err(|_| NoMemory)
@@ -199,7 +201,8 @@ pub fn push_log_head<A: Allocator>(text: &mut Vec<u8, A>, node: NodeId) -> Resul
 
 /// Writes the head of the nodes that have a name stored at the end of a text.
 pub fn push_held_head<A: Allocator>(text: &mut Vec<u8, A>, name: Name) -> Result<(), NoMemory>
-    ensures { OnOk result (text.new.items ≡ text.old.items ++ (codes "held " ++ (name_text name ++ 58 ∷ []))) }
+    ensures { OnOk result
+        (text.new.items ≡ text.old.items ++ (codes "held " ++ (name_text name ++ 58 ∷ []))) }
 {
     let name = NameWord(name);
     write!(text, "held {name}:").map_err(|_| NoMemory)

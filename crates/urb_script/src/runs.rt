@@ -99,7 +99,8 @@ pub trait Play<A: Allocator>: Drop {
         requires later { IsLater (command found) }
         requires range { InRange (command found) }
         requires kept { keeps self }
-        ensures shown { IfOk result (λ new. TakesFrom shows self (command found.entry) text.new.items new) }
+        ensures shown { IfOk result
+            (λ new. TakesFrom shows self (command found.entry) text.new.items new) }
         ensures kept { IfOk result (λ new. keeps new) };
 }
 
@@ -111,7 +112,8 @@ fn answer_line<A: Allocator, P: Play<A>>(
     text: &mut Vec<u8, A>,
 ) -> Result<Option<P>, NoMemory>
     requires { IfSome state (λ it. P.keeps it) }
-    ensures answered { IfOk result (λ next. AnsweredFrom P.shows state line.now text.new.items next) }
+    ensures answered { IfOk result
+        (λ next. AnsweredFrom P.shows state line.now text.new.items next) }
     ensures kept { IfOk result (λ next. IfSome next (λ it. P.keeps it)) }
 {
     text.clear();
@@ -145,8 +147,10 @@ fn write_bad_line<A: Allocator, W: Write>(
     text: &mut Vec<u8, A>,
     number: u64,
 ) -> Result<(), RunFault>
-    ensures ok { OnOk result (Appends (W.contents writer.old) (W.contents writer.new) (bad_line number)) }
-    ensures err { IfErr result (λ fault. (fault ≡ RunFault.Write) ⊎ ((fault ≡ RunFault.NoMemory) × (writer.new ≡ writer.old))) }
+    ensures ok { OnOk result
+        (Appends (W.contents writer.old) (W.contents writer.new) (bad_line number)) }
+    ensures err { IfErr result (λ fault.
+        (fault ≡ RunFault.Write) ⊎ ((fault ≡ RunFault.NoMemory) × (writer.new ≡ writer.old))) }
 {
     text.clear();
     writeln!(text, "bad line {number}").map_err(|_| RunFault::NoMemory)?;
@@ -159,9 +163,11 @@ fn run_over<A: Allocator + Copy, P: Play<A>, R: Read, W: Write>(
     reader: &mut R,
     writer: &mut W,
 ) -> Result<Ended, RunFault>
-    ensures whole { IfOk result (λ ended. IfSome (R.remaining reader.old) (λ input. IsSomeAnd (R.remaining reader.new) (λ unread.
-        WholeScript Takes input ended unread (W.contents writer.old) (W.contents writer.new)))) }
-    ensures broken_off { IfErr result (λ fault. IfSome (R.remaining reader.old) (λ input. IsSomeAnd (R.remaining reader.new) (λ unread.
+    ensures whole { IfOk result (λ ended. IfSome (R.remaining reader.old) (λ input.
+        IsSomeAnd (R.remaining reader.new) (λ unread. WholeScript Takes input ended unread
+        (W.contents writer.old) (W.contents writer.new)))) }
+    ensures broken_off { IfErr result (λ fault. IfSome (R.remaining reader.old) (λ input.
+        IsSomeAnd (R.remaining reader.new) (λ unread.
         BreaksOff fault input unread (W.contents writer.old) (W.contents writer.new)))) }
 {
     let mut line = Vec::with_capacity(alloc, TOO_LONG)?;
@@ -204,11 +210,13 @@ pub fn run<A: Allocator + Copy, R: Read, W: Write>(
 ) -> Result<Ended, RunFault>
     // What was written is the answers to all lines that the reader held, or to those before the first bad line and its
     // own answer; of the lines after that one nothing was read.
-    ensures whole { IfOk result (λ ended. IfSome (R.remaining reader.old) (λ input. IsSomeAnd (R.remaining reader.new) (λ unread.
-        WholeScript Takes input ended unread (W.contents writer.old) (W.contents writer.new)))) }
+    ensures whole { IfOk result (λ ended. IfSome (R.remaining reader.old) (λ input.
+        IsSomeAnd (R.remaining reader.new) (λ unread. WholeScript Takes input ended unread
+        (W.contents writer.old) (W.contents writer.new)))) }
     // After want of memory, or a failed read, the lines before are answered, and nothing else is written; after a failed
     // write they are answered too, and of what went out nothing is said. One line at most was read after them.
-    ensures broken_off { IfErr result (λ fault. IfSome (R.remaining reader.old) (λ input. IsSomeAnd (R.remaining reader.new) (λ unread.
+    ensures broken_off { IfErr result (λ fault. IfSome (R.remaining reader.old) (λ input.
+        IsSomeAnd (R.remaining reader.new) (λ unread.
         BreaksOff fault input unread (W.contents writer.old) (W.contents writer.new)))) }
     // In whatever world answered lines lead to, each log has of each sender the first messages that its storage took, in
     // order and once, and a majority's storages hold each of them.

@@ -40,7 +40,8 @@ pub struct Stage<A: Allocator + Copy = Global> {
 
 // New stores, one for each node.
 fn new_stores<A: Allocator + Copy>(alloc: A, n: u8) -> Result<Vec<MemStable<A>, A>, NoMemory>
-    ensures { IfOk result (λ stores. (length stores.items ≡ n) × All (λ m. m ≡ empty_memory) stores.items) }
+    ensures { IfOk result
+        (λ stores. (length stores.items ≡ n) × All (λ m. m ≡ empty_memory) stores.items) }
 {
     let mut stores = Vec::new(alloc);
     for _ in 0..n {
@@ -90,7 +91,14 @@ fn packet_bytes<A: Allocator + Copy>(
     flags: Option<Flags>,
 ) -> Result<Vec<u8, A>, NoMemory>
     requires { source ≢ node }
-    ensures { IfOk result (λ bytes. packet_of bytes.items ≡ Ok (record { source = source; target = node; name = name; message = message; flags = flags_with flags message })) }
+    ensures { IfOk result (λ bytes. packet_of bytes.items
+        ≡ Ok (record {
+          source = source;
+          target = node;
+          name = name;
+          message = message;
+          flags = flags_with flags message;
+        })) }
 {
     let flags = flags_with(flags, &message);
     let packet = Packet::new(source, node, name, message, flags);
@@ -112,9 +120,11 @@ impl<A: Allocator + Copy> Stage<A> {
     // Applies a command, and writes the answer.
     fn apply(&mut self, command: &Command<A>, text: &mut Vec<u8, A>) -> Result<(), NoMemory>
         requires { text.old.items ≡ [] }
-        ensures shown { OnOk result (TakesFrom Shown self.old (line_of command.now) text.new.items self.new) }
+        ensures shown { OnOk result
+            (TakesFrom Shown self.old (line_of command.now) text.new.items self.new) }
         ensures stores { StoresAsAsked A (line_of command.now) self.old.cluster self.new.cluster }
-        ensures kept { IsStocked (in_memory A) self.old.cluster → IsStocked (in_memory A) self.new.cluster }
+        ensures kept { IsStocked (in_memory A) self.old.cluster
+            → IsStocked (in_memory A) self.new.cluster }
     {
         let reply = self.cluster.apply(self.alloc, command);
         push_told_reply(text, &reply)
@@ -130,8 +140,10 @@ impl<A: Allocator + Copy> Stage<A> {
         text: &mut Vec<u8, A>,
     ) -> Result<(), NoMemory>
         requires { text.old.items ≡ [] }
-        ensures shown { OnOk result (TakesFrom Shown self.old (Submit node client number payload.now) text.new.items self.new) }
-        ensures kept { IsStocked (in_memory A) self.old.cluster → IsStocked (in_memory A) self.new.cluster }
+        ensures shown { OnOk result (TakesFrom Shown self.old
+            (Submit node client number payload.now) text.new.items self.new) }
+        ensures kept { IsStocked (in_memory A) self.old.cluster
+            → IsStocked (in_memory A) self.new.cluster }
     {
         let payload = Vec::from_slice(self.alloc, payload)?;
         let command = Command::Submit {
@@ -151,9 +163,11 @@ impl<A: Allocator + Copy> Stage<A> {
         text: &mut Vec<u8, A>,
     ) -> Result<(), NoMemory>
         requires { text.old.items ≡ [] }
-        ensures shown { OnOk result (TakesFrom Shown self.old (Fail node failure) text.new.items self.new) }
+        ensures shown { OnOk result
+            (TakesFrom Shown self.old (Fail node failure) text.new.items self.new) }
         ensures stores { StoresAsAsked A (Fail node failure) self.old.cluster self.new.cluster }
-        ensures kept { IsStocked (in_memory A) self.old.cluster → IsStocked (in_memory A) self.new.cluster }
+        ensures kept { IsStocked (in_memory A) self.old.cluster
+            → IsStocked (in_memory A) self.new.cluster }
     {
         let reply = self.cluster.fail(node, failure);
         push_told_reply(text, &reply)
@@ -194,8 +208,10 @@ impl<A: Allocator + Copy> Stage<A> {
     ) -> Result<(), NoMemory>
         requires fresh { text.old.items ≡ [] }
         requires apart { source ≢ node }
-        ensures shown { OnOk result (TakesFrom Shown self.old (arrival source node name flags) text.new.items self.new) }
-        ensures kept { IsStocked (in_memory A) self.old.cluster → IsStocked (in_memory A) self.new.cluster }
+        ensures shown { OnOk result
+            (TakesFrom Shown self.old (arrival source node name flags) text.new.items self.new) }
+        ensures kept { IsStocked (in_memory A) self.old.cluster
+            → IsStocked (in_memory A) self.new.cluster }
     {
         let stored = self.cluster.group().message(source, name);
         let message = message_or_nothing(self.alloc, stored)?;
@@ -211,8 +227,10 @@ impl<A: Allocator + Copy> Stage<A> {
         text: &mut Vec<u8, A>,
     ) -> Result<(), NoMemory>
         requires { text.old.items ≡ [] }
-        ensures shown { OnOk result (TakesFrom Shown self.old (Raw node bytes.now) text.new.items self.new) }
-        ensures kept { IsStocked (in_memory A) self.old.cluster → IsStocked (in_memory A) self.new.cluster }
+        ensures shown { OnOk result
+            (TakesFrom Shown self.old (Raw node bytes.now) text.new.items self.new) }
+        ensures kept { IsStocked (in_memory A) self.old.cluster
+            → IsStocked (in_memory A) self.new.cluster }
     {
         let bytes = bytes.decode(self.alloc)?;
         self.apply(&Command::Arrive { node, bytes }, text)
@@ -225,7 +243,10 @@ impl<A: Allocator + Copy> Stage<A> {
         names: &[Name],
         text: &mut Vec<u8, A>,
     ) -> Result<(), NoMemory>
-        ensures { OnOk result (TellsAt node (λ w. flat_map entry_text (map (λ x. (x, message_of (pend (stored w node)) x)) names.now)) self.now.cluster.group text.old.items text.new.items) }
+        ensures { OnOk result (TellsAt node
+            (λ w.
+            flat_map entry_text (map (λ x. (x, message_of (pend (stored w node)) x)) names.now))
+            self.now.cluster.group text.old.items text.new.items) }
     {
         for name in names {
             push_entry(text, *name, self.cluster.group().message(node, *name))?;
@@ -235,7 +256,8 @@ impl<A: Allocator + Copy> Stage<A> {
 
     // Shows a node's log.
     fn push_log(&self, node: NodeId, text: &mut Vec<u8, A>) -> Result<(), NoMemory>
-        ensures { OnOk result (TellsOf (λ w. shown_log w node) self.now.cluster.group text.old.items text.new.items) }
+        ensures { OnOk result
+            (TellsOf (λ w. shown_log w node) self.now.cluster.group text.old.items text.new.items) }
     {
         match self.cluster.group().log(node) {
             None => push_told(text, Told::Refused(Refusal::BadNode)),
@@ -253,7 +275,10 @@ impl<A: Allocator + Copy> Stage<A> {
         name: Name,
         text: &mut Vec<u8, A>,
     ) -> Result<(), NoMemory>
-        ensures { OnOk result (TellsAt node (λ w. if is_some (message_of (pend (stored w node)) name) then 32 ∷ decimal node else []) self.now.cluster.group text.old.items text.new.items) }
+        ensures { OnOk result (TellsAt node
+            (λ w.
+            if is_some (message_of (pend (stored w node)) name) then 32 ∷ decimal node else [])
+            self.now.cluster.group text.old.items text.new.items) }
     {
         if self.cluster.group().holds(node, name) {
             return push_holder(text, node);
@@ -263,7 +288,10 @@ impl<A: Allocator + Copy> Stage<A> {
 
     // Writes the nodes that have a name stored.
     fn push_holders(&self, name: Name, text: &mut Vec<u8, A>) -> Result<(), NoMemory>
-        ensures { OnOk result ((w : World) → Shows self.now.cluster.group w → self.now.config ≡ w.size → text.new.items ≡ text.old.items ++ flat_map (λ q. 32 ∷ decimal q) (holders w name)) }
+        ensures { OnOk result ((w : World)
+            → Shows self.now.cluster.group w
+            → self.now.config ≡ w.size
+            → text.new.items ≡ text.old.items ++ flat_map (λ q. 32 ∷ decimal q) (holders w name)) }
     {
         for number in 1..self.config.n() + 1 {
             let node = NodeId::new(number).unwrap();
@@ -274,7 +302,10 @@ impl<A: Allocator + Copy> Stage<A> {
 
     // Shows which nodes have a name stored.
     fn push_held(&self, name: Name, text: &mut Vec<u8, A>) -> Result<(), NoMemory>
-        ensures { OnOk result ((w : World) → Shows self.now.cluster.group w → self.now.config ≡ w.size → text.new.items ≡ text.old.items ++ shown_holders w name) }
+        ensures { OnOk result ((w : World)
+            → Shows self.now.cluster.group w
+            → self.now.config ≡ w.size
+            → text.new.items ≡ text.old.items ++ shown_holders w name) }
     {
         if self.config.n() < name.sender.number() {
             return push_told(text, Told::Refused(Refusal::BadNode));
@@ -289,9 +320,11 @@ impl<A: Allocator + Copy> Stage<A> {
         requires later { IsLater (command found) }
         requires range { InRange (command found) }
         requires goes_on { command found ≢ Reopen }
-        ensures shown { OnOk result (TakesFrom Shown self.old (command found.entry) text.new.items self.new) }
+        ensures shown { OnOk result
+            (TakesFrom Shown self.old (command found.entry) text.new.items self.new) }
         ensures stores { StoresAsAsked A (command found.entry) self.old.cluster self.new.cluster }
-        ensures kept { IsStocked (in_memory A) self.old.cluster → IsStocked (in_memory A) self.new.cluster }
+        ensures kept { IsStocked (in_memory A) self.old.cluster
+            → IsStocked (in_memory A) self.new.cluster }
     {
         match found {
             CommandLine::Group(_) | CommandLine::Reopen => Ok(()),
@@ -345,9 +378,11 @@ impl<A: Allocator + Copy> Play<A> for Stage<A> {
         requires later { IsLater (command found) }
         requires range { InRange (command found) }
         requires kept { IsStocked (in_memory A) self.cluster }
-        ensures shown { IfOk result (λ new. TakesFrom Shown self (command found.entry) text.new.items new) }
+        ensures shown { IfOk result
+            (λ new. TakesFrom Shown self (command found.entry) text.new.items new) }
         ensures kept { IfOk result (λ new. IsStocked (in_memory A) new.cluster) }
-        ensures stores { IfOk result (λ new. StoresAsAsked A (command found.entry) self.cluster new.cluster) }
+        ensures stores { IfOk result
+            (λ new. StoresAsAsked A (command found.entry) self.cluster new.cluster) }
     {
         match found {
             CommandLine::Reopen => self.reopen(text),

@@ -65,8 +65,12 @@ pub fn first_word(text: &[u8]) -> (&[u8], Option<&[u8]>)
 
 /// The number from `low` to `high` that the next word spells, and what follows it.
 pub fn number_word(rest: Option<&[u8]>, low: u64, high: u64) -> Option<(u64, Option<&[u8]>)>
-    ensures some { IfSome result (λ r. (words_left rest.entry ≡ decimal r.0 ∷ words_left r.1) × (low ≤ r.0) × (r.0 ≤ high)) }
-    ensures none { IfNone result ((n : ℕ) (words : List (List ℕ)) → low ≤ n → n ≤ high → words_left rest.entry ≢ decimal n ∷ words) }
+    ensures some { IfSome result
+        (λ r. (words_left rest.entry ≡ decimal r.0 ∷ words_left r.1) × (low ≤ r.0) × (r.0 ≤ high)) }
+    ensures none { IfNone result ((n : ℕ) (words : List (List ℕ))
+        → low ≤ n
+        → n ≤ high
+        → words_left rest.entry ≢ decimal n ∷ words) }
 {
     let (word, rest) = first_word(rest?);
     let number = number_in(word, low, high)?;
@@ -87,8 +91,10 @@ pub fn last_word(rest: Option<&[u8]>) -> Option<&[u8]>
 
 /// The node that the last word spells.
 pub fn last_node(rest: Option<&[u8]>) -> Option<NodeId>
-    ensures some { IfSome result (λ node. (words_left rest.entry ≡ decimal node ∷ []) × IsNodeNumber node) }
-    ensures none { IfNone result ((node : ℕ) → IsNodeNumber node → words_left rest.entry ≢ decimal node ∷ []) }
+    ensures some { IfSome result
+        (λ node. (words_left rest.entry ≡ decimal node ∷ []) × IsNodeNumber node) }
+    ensures none { IfNone result
+        ((node : ℕ) → IsNodeNumber node → words_left rest.entry ≢ decimal node ∷ []) }
 {
     let (number, rest) = number_word(rest, 1, 7)?;
     if rest.is_some() {

@@ -65,9 +65,9 @@ impl<K: HouseName> House<K> {
     // Is an entry of the node not prepared yet?
     fn lacks(&self, node: NodeId) -> bool
         requires { node ≤ length self.now.group.nodes }
-        ensures lacks { MatchBool result
-            (Lacks (node - 1) self.now)
-            (length (list_at (lists_in self.now.group) (node - 1)) ≤ length (list_at self.now.prepared (node - 1))) }
+        ensures lacks { MatchBool result (Lacks (node - 1) self.now) (length
+            (list_at (lists_in self.now.group) (node - 1)) ≤ length
+            (list_at self.now.prepared (node - 1))) }
         ensures begins { Begins self.now.prepared (lists_in self.now.group) }
     {
         let place = usize::from(node.number() - 1);
@@ -113,8 +113,8 @@ impl<K: HouseName> House<K> {
     // Publishes what was prepared.
     fn publish<R: Wait>(&mut self, rt: &R) -> Result<Told<K>, NoMemory>
         ensures { MatchResult result
-            (λ told. (self.new ≡ record self.old { published = self.old.prepared }) × (told ≡ self.old.prepared))
-            (λ _. self.new ≡ self.old) }
+            (λ told. (self.new ≡ record self.old { published = self.old.prepared })
+            × (told ≡ self.old.prepared)) (λ _. self.new ≡ self.old) }
     {
         self.press.flush()?;
         self.press.publish(rt)

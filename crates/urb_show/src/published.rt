@@ -83,9 +83,9 @@ impl Absorb<Operation> for Published {
 // Puts an entry behind the list at that place, where there is one.
 fn push_at(lists: &mut Vec<Vec<Entry>>, place: usize, entry: Entry) -> Result<(), Entry>
     ensures { MatchResult result
-        (λ _. map (λ l. l.items) lists.new.items ≡ add_at (map (λ l. l.items) lists.old.items) place entry)
-        (λ e. (e ≡ entry)
-        × (map (λ l. l.items) lists.new.items ≡ map (λ l. l.items) lists.old.items)) }
+        (λ _. map (λ l. l.items) lists.new.items
+        ≡ add_at (map (λ l. l.items) lists.old.items) place entry) (λ e.
+        (e ≡ entry) × (map (λ l. l.items) lists.new.items ≡ map (λ l. l.items) lists.old.items)) }
 {
     if place >= lists.len() {
         return Ok(());

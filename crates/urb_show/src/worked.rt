@@ -10,17 +10,21 @@ ghost use Rattle.urb_show.specs.Lists.{Agree, Begins, list_at, lists_in};
 /// empty.
 pub fn lists_of_a_group()
     ensures in_order_of_the_log { lists_in (group_of
-        ((name 1 1, message 7 1 "a") ∷ (name 1 2, message 7 2 "b") ∷ (name 2 1, message 8 1 "c") ∷ [])
-        (name 2 1 ∷ name 1 1 ∷ []))
+        ((name 1 1, message 7 1 "a")
+        ∷ (name 1 2, message 7 2 "b")
+        ∷ (name 2 1, message 8 1 "c")
+        ∷ []) (name 2 1 ∷ name 1 1 ∷ []))
         ≡ (entry 2 1 (message 8 1 "c") ∷ entry 1 1 (message 7 1 "a") ∷ []) ∷ [] }
     ensures beyond { list_at ((told 1 1 "a" ∷ []) ∷ []) 1 ≡ [] }
 {}
 
 /// Lists begin others node by node, and no lists begin all.
 pub fn beginnings()
-    ensures each { Begins ((told 1 1 "a" ∷ []) ∷ [] ∷ []) ((told 1 1 "a" ∷ told 1 2 "b" ∷ []) ∷ (told 1 1 "a" ∷ []) ∷ []) }
+    ensures each { Begins ((told 1 1 "a" ∷ []) ∷ [] ∷ [])
+        ((told 1 1 "a" ∷ told 1 2 "b" ∷ []) ∷ (told 1 1 "a" ∷ []) ∷ []) }
     ensures none { Begins [] ([] ∷ []) }
-    ensures one_is_longer { Begins ([] ∷ (told 1 1 "a" ∷ []) ∷ []) ((told 1 1 "a" ∷ []) ∷ [] ∷ []) → ⊥ }
+    ensures one_is_longer { Begins ([] ∷ (told 1 1 "a" ∷ []) ∷ []) ((told 1 1 "a" ∷ []) ∷ [] ∷ [])
+        → ⊥ }
     ensures a_list_more { Begins ([] ∷ [] ∷ []) ([] ∷ []) → ⊥ }
     ensures another_message { Begins ((told 1 1 "a" ∷ []) ∷ []) ((told 1 1 "b" ∷ []) ∷ []) → ⊥ }
 {}

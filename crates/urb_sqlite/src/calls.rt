@@ -55,10 +55,17 @@ pub fn append<S: Alter>(
     entry: &Record,
 ) -> Result<(), StoreFault>
     requires low { place < 4294967295 }
-    ensures ok { IsInStep (state S.Store conn.old) place → OnOk result (IsAppended (state S.Store conn.old) (state S.Store conn.new) place entry.now) }
-    ensures err { IsInStep (state S.Store conn.old) place → OnErr result (IsLeft (state S.Store conn.old) (state S.Store conn.new) place) }
-    ensures stop { IsInStep (state S.Store conn.old) place → IsHonestJournal (state S.Store conn.old) → HasCleanDisk (state S.Store conn.new)
-        → LeavesOnly (state S.Store conn.new) (λ records. (records ≡ records_of (state S.Store conn.old).now) ⊎ (records ≡ records_of (state S.Store conn.old).now ++ entry.now ∷ [])) }
+    ensures ok { IsInStep (state S.Store conn.old) place
+        → OnOk result
+        (IsAppended (state S.Store conn.old) (state S.Store conn.new) place entry.now) }
+    ensures err { IsInStep (state S.Store conn.old) place
+        → OnErr result (IsLeft (state S.Store conn.old) (state S.Store conn.new) place) }
+    ensures stop { IsInStep (state S.Store conn.old) place
+        → IsHonestJournal (state S.Store conn.old)
+        → HasCleanDisk (state S.Store conn.new)
+        → LeavesOnly (state S.Store conn.new) (λ records.
+        (records ≡ records_of (state S.Store conn.old).now)
+        ⊎ (records ≡ records_of (state S.Store conn.old).now ++ entry.now ∷ [])) }
     ensures rest { IsInStep (state S.Store conn.old) place → IsSafeAtRest (state S.Store conn.new) }
     ensures clean { HasCleanDisk (state S.Store conn.new) → HasCleanDisk (state S.Store conn.old) }
     ensures known { IfErr result (λ e. (e ≡ StoreFault.NoMemory) ⊎ (e ≡ StoreFault.Device)) }
@@ -97,16 +104,34 @@ fn read_part<S: Alter>(
 ) -> Result<Vec<Record>, StoreFault>
     requires { first ≤ 4294967295 }
     ensures short { IfOk result (λ records. first + length records.items ≤ 4294967295) }
-    ensures same { HasCleanDisk (state S.Store conn.new) → OnOk result (IsUnchanged (state S.Store conn.old) (state S.Store conn.new)) }
-    ensures left { HasCleanDisk (state S.Store conn.new) → IsUnchanged (state S.Store conn.old) (state S.Store conn.new) ⊎ IsRolledBack (state S.Store conn.old) (state S.Store conn.new) }
-    ensures unchanged { HasCleanDisk (state S.Store conn.new) → IfErr result (λ e. (place : ℕ) → e ≡ StoreFault.BadRow place → IsUnchanged (state S.Store conn.old) (state S.Store conn.new)) }
-    ensures found { HasCleanDisk (state S.Store conn.new) → HasTable (state S.Store conn.old).now.schema (name_of part)
-        → IfOk result (λ records. read_from (limit_of part) first (table_rows (state S.Store conn.old).now (name_of part)) ≡ Ok records.items) }
-    ensures sound { HasCleanDisk (state S.Store conn.new) → HasTable (state S.Store conn.old).now.schema (name_of part)
-        → (records : List Entry) → read_from (limit_of part) first (table_rows (state S.Store conn.old).now (name_of part)) ≡ Ok records → IfErr result (λ e. is_bad_row e ≡ false) }
-    ensures bad { HasCleanDisk (state S.Store conn.new) → HasTable (state S.Store conn.old).now.schema (name_of part)
-        → IfErr result (λ e. (place : ℕ) → e ≡ StoreFault.BadRow place
-        → (rows : _) × IsInOrder (tree_of (state S.Store conn.old).now.schema (name_of part)) (state S.Store conn.old).now.trees rows × IsFirstBad (limit_of part) first rows place) }
+    ensures same { HasCleanDisk (state S.Store conn.new)
+        → OnOk result (IsUnchanged (state S.Store conn.old) (state S.Store conn.new)) }
+    ensures left { HasCleanDisk (state S.Store conn.new)
+        → IsUnchanged (state S.Store conn.old) (state S.Store conn.new)
+        ⊎ IsRolledBack (state S.Store conn.old) (state S.Store conn.new) }
+    ensures unchanged { HasCleanDisk (state S.Store conn.new)
+        → IfErr result (λ e. (place : ℕ)
+        → e ≡ StoreFault.BadRow place
+        → IsUnchanged (state S.Store conn.old) (state S.Store conn.new)) }
+    ensures found { HasCleanDisk (state S.Store conn.new)
+        → HasTable (state S.Store conn.old).now.schema (name_of part)
+        → IfOk result (λ records.
+        read_from (limit_of part) first (table_rows (state S.Store conn.old).now (name_of part))
+        ≡ Ok records.items) }
+    ensures sound { HasCleanDisk (state S.Store conn.new)
+        → HasTable (state S.Store conn.old).now.schema (name_of part)
+        → (records : List Entry)
+        → read_from (limit_of part) first (table_rows (state S.Store conn.old).now (name_of part))
+        ≡ Ok records
+        → IfErr result (λ e. is_bad_row e ≡ false) }
+    ensures bad { HasCleanDisk (state S.Store conn.new)
+        → HasTable (state S.Store conn.old).now.schema (name_of part)
+        → IfErr result (λ e. (place : ℕ)
+        → e ≡ StoreFault.BadRow place
+        → (rows : _)
+        × IsInOrder (tree_of (state S.Store conn.old).now.schema (name_of part))
+        (state S.Store conn.old).now.trees rows
+        × IsFirstBad (limit_of part) first rows place) }
     ensures stop { Survives (state S.Store conn.old) (state S.Store conn.new) (λ _. ⊥) }
     ensures live_before { IsLive (state S.Store conn.old) }
     ensures live { IsLive (state S.Store conn.new) }
@@ -141,12 +166,23 @@ pub fn read<S: Alter>(
     conn: &mut Connection<S>,
     failures: &mut u64,
 ) -> Result<Vec<Record>, StoreFault>
-    ensures same { HasCleanDisk (state S.Store conn.new) → OnOk result (IsUnchanged (state S.Store conn.old) (state S.Store conn.new)) }
-    ensures left { HasCleanDisk (state S.Store conn.new) → IsUnchanged (state S.Store conn.old) (state S.Store conn.new) ⊎ IsRolledBack (state S.Store conn.old) (state S.Store conn.new) }
-    ensures found { HasCleanDisk (state S.Store conn.new) → HasBoth (state S.Store conn.old).now.schema → IfOk result (λ records. StandsFor (state S.Store conn.old).now records.items) }
-    ensures sound { HasCleanDisk (state S.Store conn.new) → HasBoth (state S.Store conn.old).now.schema → (next : ℕ) → IsCounted (state S.Store conn.old).now next → IfErr result (λ e. is_bad_row e ≡ false) }
+    ensures same { HasCleanDisk (state S.Store conn.new)
+        → OnOk result (IsUnchanged (state S.Store conn.old) (state S.Store conn.new)) }
+    ensures left { HasCleanDisk (state S.Store conn.new)
+        → IsUnchanged (state S.Store conn.old) (state S.Store conn.new)
+        ⊎ IsRolledBack (state S.Store conn.old) (state S.Store conn.new) }
+    ensures found { HasCleanDisk (state S.Store conn.new)
+        → HasBoth (state S.Store conn.old).now.schema
+        → IfOk result (λ records. StandsFor (state S.Store conn.old).now records.items) }
+    ensures sound { HasCleanDisk (state S.Store conn.new)
+        → HasBoth (state S.Store conn.old).now.schema
+        → (next : ℕ)
+        → IsCounted (state S.Store conn.old).now next
+        → IfErr result (λ e. is_bad_row e ≡ false) }
     ensures stop { Survives (state S.Store conn.old) (state S.Store conn.new) (λ _. ⊥) }
-    ensures rest { (next : ℕ) → IsInStep (state S.Store conn.old) next → IsSafeAtRest (state S.Store conn.new) }
+    ensures rest { (next : ℕ)
+        → IsInStep (state S.Store conn.old) next
+        → IsSafeAtRest (state S.Store conn.new) }
     ensures live_before { IsLive (state S.Store conn.old) }
     ensures live { IsLive (state S.Store conn.new) }
     ensures placed { IfErr result (λ e. is_place e ≡ false) }
@@ -173,8 +209,11 @@ fn name_of(part: Part) -> &'static [u8]
 /// Whether no transaction is open and the table is there.
 fn is_ready<S: Alter>(conn: &Connection<S>, part: Part) -> bool
     ensures auto { IsTrue result → (state S.Store conn.now).in_transaction ≡ false }
-    ensures settled { IsTrue result → IsTrue (state S.Store conn.now).is_open → (state S.Store conn.now).now ≡ (state S.Store conn.now).committed }
-    ensures table { IsTrue result → has_table (name_of part) (state S.Store conn.now).now.schema ≡ true }
+    ensures settled { IsTrue result
+        → IsTrue (state S.Store conn.now).is_open
+        → (state S.Store conn.now).now ≡ (state S.Store conn.now).committed }
+    ensures table { IsTrue result
+        → has_table (name_of part) (state S.Store conn.now).now.schema ≡ true }
 {
     conn.is_autocommit() && shape::has_table(conn.schema(), name_of(part))
 }
@@ -186,18 +225,34 @@ pub fn prepare<S: Alter>(
     failures: &mut u64,
     part: Part,
 ) -> Result<(), StoreFault>
-    ensures busy { IsTrue (state S.Store conn.old).in_transaction → (conn.new ≡ conn.old) × (result ≡ Err StoreFault.Device) }
+    ensures busy { IsTrue (state S.Store conn.old).in_transaction
+        → (conn.new ≡ conn.old) × (result ≡ Err StoreFault.Device) }
     ensures auto { OnOk result ((state S.Store conn.new).in_transaction ≡ false) }
-    ensures table { OnOk result (has_table (name_of part) (state S.Store conn.new).now.schema ≡ true) }
-    ensures settled { OnOk result (IsTrue (state S.Store conn.new).is_open → (state S.Store conn.new).now ≡ (state S.Store conn.new).committed) }
-    ensures made { HasCleanDisk (state S.Store conn.new) → Lacks (state S.Store conn.old).now.schema (name_of part)
+    ensures table { OnOk result
+        (has_table (name_of part) (state S.Store conn.new).now.schema ≡ true) }
+    ensures settled { OnOk result (IsTrue (state S.Store conn.new).is_open
+        → (state S.Store conn.new).now ≡ (state S.Store conn.new).committed) }
+    ensures made { HasCleanDisk (state S.Store conn.new)
+        → Lacks (state S.Store conn.old).now.schema (name_of part)
         → OnOk result (IsMade (state S.Store conn.old) (state S.Store conn.new) (name_of part)) }
-    ensures found { HasCleanDisk (state S.Store conn.new) → HasTable (state S.Store conn.old).now.schema (name_of part) → OnOk result (IsUnchanged (state S.Store conn.old) (state S.Store conn.new)) }
-    ensures kept { HasCleanDisk (state S.Store conn.new) → HasTable (state S.Store conn.old).now.schema (name_of part) → KeepsCommit (state S.Store conn.old) (state S.Store conn.new) }
-    ensures most { HasCleanDisk (state S.Store conn.new) → OnOk result (MakesAtMost (state S.Store conn.old) (state S.Store conn.new) (name_of part)) }
-    ensures err { HasCleanDisk (state S.Store conn.new) → OnErr result (CommitsAtMost (state S.Store conn.old) (state S.Store conn.new) (name_of part)) }
-    ensures fresh { HasCleanDisk (state S.Store conn.new) → part ≡ First → (state S.Store conn.old).now.schema ≡ no_schema → OnOk result (Lacks (state S.Store conn.new).now.schema second_name) }
-    ensures stop { Survives (state S.Store conn.old) (state S.Store conn.new) (CommitsBy (create_of part) [] (state S.Store conn.old)) }
+    ensures found { HasCleanDisk (state S.Store conn.new)
+        → HasTable (state S.Store conn.old).now.schema (name_of part)
+        → OnOk result (IsUnchanged (state S.Store conn.old) (state S.Store conn.new)) }
+    ensures kept { HasCleanDisk (state S.Store conn.new)
+        → HasTable (state S.Store conn.old).now.schema (name_of part)
+        → KeepsCommit (state S.Store conn.old) (state S.Store conn.new) }
+    ensures most { HasCleanDisk (state S.Store conn.new)
+        → OnOk result
+        (MakesAtMost (state S.Store conn.old) (state S.Store conn.new) (name_of part)) }
+    ensures err { HasCleanDisk (state S.Store conn.new)
+        → OnErr result
+        (CommitsAtMost (state S.Store conn.old) (state S.Store conn.new) (name_of part)) }
+    ensures fresh { HasCleanDisk (state S.Store conn.new)
+        → part ≡ First
+        → (state S.Store conn.old).now.schema ≡ no_schema
+        → OnOk result (Lacks (state S.Store conn.new).now.schema second_name) }
+    ensures stop { Survives (state S.Store conn.old) (state S.Store conn.new)
+        (CommitsBy (create_of part) [] (state S.Store conn.old)) }
     ensures known { IfErr result (λ e. (e ≡ StoreFault.NoMemory) ⊎ (e ≡ StoreFault.Device)) }
     ensures calm { OnOk result (failures.new ≡ failures.old) }
 {
@@ -220,12 +275,19 @@ fn open_part<S: Alter>(
     part: Part,
     first: u32,
 ) -> Result<u32, StoreFault>
-    ensures busy { IsTrue (state S.Store conn.old).in_transaction → (conn.new ≡ conn.old) × (result ≡ Err StoreFault.Device) }
-    ensures opened { IfOk result (λ next. HasCleanDisk (state S.Store conn.new) → IsPartOpened (state S.Store conn.old) (state S.Store conn.new) part first next) }
-    ensures refused { IfErr result (λ e. HasCleanDisk (state S.Store conn.new) → IsPartRefused (state S.Store conn.old) (state S.Store conn.new) part first e) }
-    ensures fresh { HasCleanDisk (state S.Store conn.new) → part ≡ First → (state S.Store conn.old).now.schema ≡ no_schema → OnOk result (Lacks (state S.Store conn.new).now.schema second_name) }
+    ensures busy { IsTrue (state S.Store conn.old).in_transaction
+        → (conn.new ≡ conn.old) × (result ≡ Err StoreFault.Device) }
+    ensures opened { IfOk result (λ next. HasCleanDisk (state S.Store conn.new)
+        → IsPartOpened (state S.Store conn.old) (state S.Store conn.new) part first next) }
+    ensures refused { IfErr result (λ e. HasCleanDisk (state S.Store conn.new)
+        → IsPartRefused (state S.Store conn.old) (state S.Store conn.new) part first e) }
+    ensures fresh { HasCleanDisk (state S.Store conn.new)
+        → part ≡ First
+        → (state S.Store conn.old).now.schema ≡ no_schema
+        → OnOk result (Lacks (state S.Store conn.new).now.schema second_name) }
     ensures placed { IfErr result (λ e. is_place e ≡ false) }
-    ensures stop { Survives (state S.Store conn.old) (state S.Store conn.new) (CommitsBy (create_of part) [] (state S.Store conn.old)) }
+    ensures stop { Survives (state S.Store conn.old) (state S.Store conn.new)
+        (CommitsBy (create_of part) [] (state S.Store conn.old)) }
     ensures live { OnOk result (IsLive (state S.Store conn.new)) }
     ensures calm { OnOk result (failures.new ≡ failures.old) }
 {
@@ -241,20 +303,35 @@ pub fn take_over<S: Alter>(
     conn: &mut Connection<S>,
     failures: &mut u64,
 ) -> Result<u32, StoreFault>
-    ensures busy { IsTrue (state S.Store conn.old).in_transaction → (conn.new ≡ conn.old) × (result ≡ Err StoreFault.Device) }
-    ensures first { OnOk result (HasCleanDisk (state S.Store conn.new) → has_table (name_of First) (state S.Store conn.new).now.schema ≡ true) }
-    ensures second { OnOk result (HasCleanDisk (state S.Store conn.new) → has_table (name_of Second) (state S.Store conn.new).now.schema ≡ true) }
+    ensures busy { IsTrue (state S.Store conn.old).in_transaction
+        → (conn.new ≡ conn.old) × (result ≡ Err StoreFault.Device) }
+    ensures first { OnOk result (HasCleanDisk (state S.Store conn.new)
+        → has_table (name_of First) (state S.Store conn.new).now.schema ≡ true) }
+    ensures second { OnOk result (HasCleanDisk (state S.Store conn.new)
+        → has_table (name_of Second) (state S.Store conn.new).now.schema ≡ true) }
     ensures kept { IfOk result (λ next. IsInStep (state S.Store conn.new) next) }
-    ensures fresh { HasCleanDisk (state S.Store conn.new) → (state S.Store conn.old).now.schema ≡ no_schema
-        → OnOk result (IsHonestJournal (state S.Store conn.new) × (records_of (state S.Store conn.new).now ≡ [])) }
-    ensures found { HasCleanDisk (state S.Store conn.new) → HasJournal (state S.Store conn.old).now.schema
-        → OnOk result (IsHonestJournal (state S.Store conn.new) × StandsFor (state S.Store conn.old).now (records_of (state S.Store conn.new).now)) }
-    ensures bad { HasCleanDisk (state S.Store conn.new) → HasJournal (state S.Store conn.old).now.schema
-        → IfErr result (λ e. (place : ℕ) → e ≡ StoreFault.BadRow place → IsFirstBadOf (state S.Store conn.old).now place) }
-    ensures rowless { HasCleanDisk (state S.Store conn.new) → (state S.Store conn.old).now.schema ≡ no_schema → IfErr result (λ e. is_bad_row e ≡ false) }
+    ensures fresh { HasCleanDisk (state S.Store conn.new)
+        → (state S.Store conn.old).now.schema ≡ no_schema
+        → OnOk result (IsHonestJournal (state S.Store conn.new)
+        × (records_of (state S.Store conn.new).now ≡ [])) }
+    ensures found { HasCleanDisk (state S.Store conn.new)
+        → HasJournal (state S.Store conn.old).now.schema
+        → OnOk result (IsHonestJournal (state S.Store conn.new)
+        × StandsFor (state S.Store conn.old).now (records_of (state S.Store conn.new).now)) }
+    ensures bad { HasCleanDisk (state S.Store conn.new)
+        → HasJournal (state S.Store conn.old).now.schema
+        → IfErr result (λ e. (place : ℕ)
+        → e ≡ StoreFault.BadRow place
+        → IsFirstBadOf (state S.Store conn.old).now place) }
+    ensures rowless { HasCleanDisk (state S.Store conn.new)
+        → (state S.Store conn.old).now.schema ≡ no_schema
+        → IfErr result (λ e. is_bad_row e ≡ false) }
     ensures placed { IfErr result (λ e. is_place e ≡ false) }
-    ensures refused { HasCleanDisk (state S.Store conn.new) → HasJournal (state S.Store conn.old).now.schema → IfErr result (λ e. KeepsRows (state S.Store conn.old) (state S.Store conn.new) e) }
-    ensures stop { Survives (state S.Store conn.old) (state S.Store conn.new) (CommitsEither (state S.Store conn.old)) }
+    ensures refused { HasCleanDisk (state S.Store conn.new)
+        → HasJournal (state S.Store conn.old).now.schema
+        → IfErr result (λ e. KeepsRows (state S.Store conn.old) (state S.Store conn.new) e) }
+    ensures stop { Survives (state S.Store conn.old) (state S.Store conn.new)
+        (CommitsEither (state S.Store conn.old)) }
     ensures live { OnOk result (IsLive (state S.Store conn.new)) }
     ensures calm { OnOk result (failures.new ≡ failures.old) }
 {

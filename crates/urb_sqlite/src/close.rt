@@ -17,8 +17,10 @@ impl<D: Disk + Drop> SqlStable<FileStore<D>> {
     /// loses nothing: its next opening reads the log.
     pub fn close(self) -> Result<Files<D>, StoreFault>
         // The database file holds the last commit with no log, as it stands and after a crash.
-        ensures copied { IfOk result (λ files. AreClean D.Disk files.log files.db → IsCopied self.conn files) }
-        ensures usable { IfOk result (λ files. IsTrue (D.Disk.is_usable files.log) × IsTrue (D.Disk.is_usable files.db)) }
+        ensures copied { IfOk result
+            (λ files. AreClean D.Disk files.log files.db → IsCopied self.conn files) }
+        ensures usable { IfOk result
+            (λ files. IsTrue (D.Disk.is_usable files.log) × IsTrue (D.Disk.is_usable files.db)) }
         ensures fault { IfErr result (λ e. (e ≡ StoreFault.NoMemory) ⊎ (e ≡ StoreFault.Device)) }
     {
         match self.into_connection().close_files() {

@@ -36,7 +36,8 @@ impl<S: Alter> Model for SqlStable<S> {
 
     ghost coded = { open_code S.code };
 
-    ghost view = { λ s. record { conn = s.conn; next = s.next; doubtful = s.doubtful; failures = s.failures } };
+    ghost view = { λ s.
+        record { conn = s.conn; next = s.next; doubtful = s.doubtful; failures = s.failures } };
 
     ghost invariant = { λ s. IsInStep (state S.Store s.conn) s.next };
 }
@@ -65,27 +66,44 @@ impl<S: Alter> SqlStable<S> {
         mut conn: Connection<S>,
     ) -> Result<SqlStable<S>, (Connection<S>, StoreFault)>
         // In a transaction nothing is done.
-        ensures busy { IsTrue (state S.Store conn).in_transaction → IsErrAnd result (λ e. (e.0 ≡ conn) × (e.1 ≡ StoreFault.Device)) }
+        ensures busy { IsTrue (state S.Store conn).in_transaction
+            → IsErrAnd result (λ e. (e.0 ≡ conn) × (e.1 ≡ StoreFault.Device)) }
         // What is taken over has the two tables under their names: neither other tables nor views.
-        ensures table { IfOk result (λ s. HasCleanDisk (state S.Store s.conn) → has_table journal_name (state S.Store s.conn).now.schema ≡ true) }
-        ensures second { IfOk result (λ s. HasCleanDisk (state S.Store s.conn) → has_table second_name (state S.Store s.conn).now.schema ≡ true) }
+        ensures table { IfOk result (λ s. HasCleanDisk (state S.Store s.conn)
+            → has_table journal_name (state S.Store s.conn).now.schema ≡ true) }
+        ensures second { IfOk result (λ s. HasCleanDisk (state S.Store s.conn)
+            → has_table second_name (state S.Store s.conn).now.schema ≡ true) }
         // No record is doubtful, and no failure is counted.
         ensures new { IfOk result (λ s. (s.doubtful ≡ false) × (s.failures ≡ 0)) }
         // A database with no table becomes a journal with no record.
-        ensures fresh { IfOk result (λ s. HasCleanDisk (state S.Store s.conn) → (state S.Store conn).now.schema ≡ no_schema → IsHonestJournal (state S.Store s.conn) × (records_of (state S.Store s.conn).now ≡ [])) }
+        ensures fresh { IfOk result (λ s. HasCleanDisk (state S.Store s.conn)
+            → (state S.Store conn).now.schema ≡ no_schema
+            → IsHonestJournal (state S.Store s.conn)
+            × (records_of (state S.Store s.conn).now ≡ [])) }
         // A journal that is there, of one table or of both, has its records.
-        ensures found { IfOk result (λ s. HasCleanDisk (state S.Store s.conn) → HasJournal (state S.Store conn).now.schema
-            → IsHonestJournal (state S.Store s.conn) × StandsFor (state S.Store conn).now (records_of (state S.Store s.conn).now)) }
+        ensures found { IfOk result (λ s. HasCleanDisk (state S.Store s.conn)
+            → HasJournal (state S.Store conn).now.schema
+            → IsHonestJournal (state S.Store s.conn)
+            × StandsFor (state S.Store conn).now (records_of (state S.Store s.conn).now)) }
         // BadRow names the first row that is no record, over both tables, and no refusal is Place.
-        ensures bad { IfErr result (λ e. HasCleanDisk (state S.Store e.0) → HasJournal (state S.Store conn).now.schema
-            → (place : ℕ) → e.1 ≡ StoreFault.BadRow place → IsFirstBadOf (state S.Store conn).now place) }
-        ensures rowless { IfErr result (λ e. HasCleanDisk (state S.Store e.0) → (state S.Store conn).now.schema ≡ no_schema → is_bad_row e.1 ≡ false) }
+        ensures bad { IfErr result (λ e. HasCleanDisk (state S.Store e.0)
+            → HasJournal (state S.Store conn).now.schema
+            → (place : ℕ)
+            → e.1 ≡ StoreFault.BadRow place
+            → IsFirstBadOf (state S.Store conn).now place) }
+        ensures rowless { IfErr result (λ e. HasCleanDisk (state S.Store e.0)
+            → (state S.Store conn).now.schema ≡ no_schema
+            → is_bad_row e.1 ≡ false) }
         ensures placed { IfErr result (λ e. is_place e.1 ≡ false) }
         // A journal that is refused keeps its rows.
-        ensures kept { IfErr result (λ e. HasCleanDisk (state S.Store e.0) → HasJournal (state S.Store conn).now.schema → KeepsRows (state S.Store conn) (state S.Store e.0) e.1) }
+        ensures kept { IfErr result (λ e. HasCleanDisk (state S.Store e.0)
+            → HasJournal (state S.Store conn).now.schema
+            → KeepsRows (state S.Store conn) (state S.Store e.0) e.1) }
         // A stop inside this call leaves what was there before, or what a CREATE commits; one after it, the records.
-        ensures stop { IfOk result (λ s. Survives (state S.Store conn) (state S.Store s.conn) (CommitsEither (state S.Store conn))) }
-        ensures stop_refused { IfErr result (λ e. Survives (state S.Store conn) (state S.Store e.0) (CommitsEither (state S.Store conn))) }
+        ensures stop { IfOk result (λ s. Survives (state S.Store conn) (state S.Store s.conn)
+            (CommitsEither (state S.Store conn))) }
+        ensures stop_refused { IfErr result (λ e. Survives (state S.Store conn) (state S.Store e.0)
+            (CommitsEither (state S.Store conn))) }
         ensures rest { IfOk result (λ s. IsSafeAtRest (state S.Store s.conn)) }
     {
         let mut failures = 0;

@@ -85,31 +85,135 @@ impl<K: Contents> Disk for NodeFile<K> {
     ghost use Rattle.sqlite_disk.specs.Fair.{fair_if_honest};
     ghost use Rattle.urb_sqlite.specs.declared.node_file.NodeFile.TheVariants.{First, Second, Third, Fourth, Fifth, Sixth, Seventh};
 
-    ghost seen = { elim [ First f ↦ ⟦<FileFrom<K::First> as Disk>⟧.seen f | Second f ↦ ⟦<FileFrom<K::Second> as Disk>⟧.seen f | Third f ↦ ⟦<FileFrom<K::Third> as Disk>⟧.seen f | Fourth f ↦ ⟦<FileFrom<K::Fourth> as Disk>⟧.seen f | Fifth f ↦ ⟦<FileFrom<K::Fifth> as Disk>⟧.seen f | Sixth f ↦ ⟦<FileFrom<K::Sixth> as Disk>⟧.seen f | Seventh f ↦ ⟦<FileFrom<K::Seventh> as Disk>⟧.seen f ] };
+    ghost seen = { elim [
+      | First f ↦ ⟦<FileFrom<K::First> as Disk>⟧.seen f
+      | Second f ↦ ⟦<FileFrom<K::Second> as Disk>⟧.seen f
+      | Third f ↦ ⟦<FileFrom<K::Third> as Disk>⟧.seen f
+      | Fourth f ↦ ⟦<FileFrom<K::Fourth> as Disk>⟧.seen f
+      | Fifth f ↦ ⟦<FileFrom<K::Fifth> as Disk>⟧.seen f
+      | Sixth f ↦ ⟦<FileFrom<K::Sixth> as Disk>⟧.seen f
+      | Seventh f ↦ ⟦<FileFrom<K::Seventh> as Disk>⟧.seen f
+    ] };
 
-    ghost may_leave = { elim [ First f ↦ ⟦<FileFrom<K::First> as Disk>⟧.may_leave f | Second f ↦ ⟦<FileFrom<K::Second> as Disk>⟧.may_leave f | Third f ↦ ⟦<FileFrom<K::Third> as Disk>⟧.may_leave f | Fourth f ↦ ⟦<FileFrom<K::Fourth> as Disk>⟧.may_leave f | Fifth f ↦ ⟦<FileFrom<K::Fifth> as Disk>⟧.may_leave f | Sixth f ↦ ⟦<FileFrom<K::Sixth> as Disk>⟧.may_leave f | Seventh f ↦ ⟦<FileFrom<K::Seventh> as Disk>⟧.may_leave f ] };
+    ghost may_leave = { elim [
+      | First f ↦ ⟦<FileFrom<K::First> as Disk>⟧.may_leave f
+      | Second f ↦ ⟦<FileFrom<K::Second> as Disk>⟧.may_leave f
+      | Third f ↦ ⟦<FileFrom<K::Third> as Disk>⟧.may_leave f
+      | Fourth f ↦ ⟦<FileFrom<K::Fourth> as Disk>⟧.may_leave f
+      | Fifth f ↦ ⟦<FileFrom<K::Fifth> as Disk>⟧.may_leave f
+      | Sixth f ↦ ⟦<FileFrom<K::Sixth> as Disk>⟧.may_leave f
+      | Seventh f ↦ ⟦<FileFrom<K::Seventh> as Disk>⟧.may_leave f
+    ] };
 
-    ghost is_usable = { elim [ First f ↦ ⟦<FileFrom<K::First> as Disk>⟧.is_usable f | Second f ↦ ⟦<FileFrom<K::Second> as Disk>⟧.is_usable f | Third f ↦ ⟦<FileFrom<K::Third> as Disk>⟧.is_usable f | Fourth f ↦ ⟦<FileFrom<K::Fourth> as Disk>⟧.is_usable f | Fifth f ↦ ⟦<FileFrom<K::Fifth> as Disk>⟧.is_usable f | Sixth f ↦ ⟦<FileFrom<K::Sixth> as Disk>⟧.is_usable f | Seventh f ↦ ⟦<FileFrom<K::Seventh> as Disk>⟧.is_usable f ] };
+    ghost is_usable = { elim [
+      | First f ↦ ⟦<FileFrom<K::First> as Disk>⟧.is_usable f
+      | Second f ↦ ⟦<FileFrom<K::Second> as Disk>⟧.is_usable f
+      | Third f ↦ ⟦<FileFrom<K::Third> as Disk>⟧.is_usable f
+      | Fourth f ↦ ⟦<FileFrom<K::Fourth> as Disk>⟧.is_usable f
+      | Fifth f ↦ ⟦<FileFrom<K::Fifth> as Disk>⟧.is_usable f
+      | Sixth f ↦ ⟦<FileFrom<K::Sixth> as Disk>⟧.is_usable f
+      | Seventh f ↦ ⟦<FileFrom<K::Seventh> as Disk>⟧.is_usable f
+    ] };
 
-    ghost faults = { elim [ First f ↦ ⟦<FileFrom<K::First> as Disk>⟧.faults f | Second f ↦ ⟦<FileFrom<K::Second> as Disk>⟧.faults f | Third f ↦ ⟦<FileFrom<K::Third> as Disk>⟧.faults f | Fourth f ↦ ⟦<FileFrom<K::Fourth> as Disk>⟧.faults f | Fifth f ↦ ⟦<FileFrom<K::Fifth> as Disk>⟧.faults f | Sixth f ↦ ⟦<FileFrom<K::Sixth> as Disk>⟧.faults f | Seventh f ↦ ⟦<FileFrom<K::Seventh> as Disk>⟧.faults f ] };
+    ghost faults = { elim [
+      | First f ↦ ⟦<FileFrom<K::First> as Disk>⟧.faults f
+      | Second f ↦ ⟦<FileFrom<K::Second> as Disk>⟧.faults f
+      | Third f ↦ ⟦<FileFrom<K::Third> as Disk>⟧.faults f
+      | Fourth f ↦ ⟦<FileFrom<K::Fourth> as Disk>⟧.faults f
+      | Fifth f ↦ ⟦<FileFrom<K::Fifth> as Disk>⟧.faults f
+      | Sixth f ↦ ⟦<FileFrom<K::Sixth> as Disk>⟧.faults f
+      | Seventh f ↦ ⟦<FileFrom<K::Seventh> as Disk>⟧.faults f
+    ] };
 
-    ghost tally_of = { elim [ First f ↦ ⟦<FileFrom<K::First> as Disk>⟧.tally_of f | Second f ↦ ⟦<FileFrom<K::Second> as Disk>⟧.tally_of f | Third f ↦ ⟦<FileFrom<K::Third> as Disk>⟧.tally_of f | Fourth f ↦ ⟦<FileFrom<K::Fourth> as Disk>⟧.tally_of f | Fifth f ↦ ⟦<FileFrom<K::Fifth> as Disk>⟧.tally_of f | Sixth f ↦ ⟦<FileFrom<K::Sixth> as Disk>⟧.tally_of f | Seventh f ↦ ⟦<FileFrom<K::Seventh> as Disk>⟧.tally_of f ] };
+    ghost tally_of = { elim [
+      | First f ↦ ⟦<FileFrom<K::First> as Disk>⟧.tally_of f
+      | Second f ↦ ⟦<FileFrom<K::Second> as Disk>⟧.tally_of f
+      | Third f ↦ ⟦<FileFrom<K::Third> as Disk>⟧.tally_of f
+      | Fourth f ↦ ⟦<FileFrom<K::Fourth> as Disk>⟧.tally_of f
+      | Fifth f ↦ ⟦<FileFrom<K::Fifth> as Disk>⟧.tally_of f
+      | Sixth f ↦ ⟦<FileFrom<K::Sixth> as Disk>⟧.tally_of f
+      | Seventh f ↦ ⟦<FileFrom<K::Seventh> as Disk>⟧.tally_of f
+    ] };
 
-    ghost is_clean = { elim [ First f ↦ ⟦<FileFrom<K::First> as Disk>⟧.is_clean f | Second f ↦ ⟦<FileFrom<K::Second> as Disk>⟧.is_clean f | Third f ↦ ⟦<FileFrom<K::Third> as Disk>⟧.is_clean f | Fourth f ↦ ⟦<FileFrom<K::Fourth> as Disk>⟧.is_clean f | Fifth f ↦ ⟦<FileFrom<K::Fifth> as Disk>⟧.is_clean f | Sixth f ↦ ⟦<FileFrom<K::Sixth> as Disk>⟧.is_clean f | Seventh f ↦ ⟦<FileFrom<K::Seventh> as Disk>⟧.is_clean f ] };
+    ghost is_clean = { elim [
+      | First f ↦ ⟦<FileFrom<K::First> as Disk>⟧.is_clean f
+      | Second f ↦ ⟦<FileFrom<K::Second> as Disk>⟧.is_clean f
+      | Third f ↦ ⟦<FileFrom<K::Third> as Disk>⟧.is_clean f
+      | Fourth f ↦ ⟦<FileFrom<K::Fourth> as Disk>⟧.is_clean f
+      | Fifth f ↦ ⟦<FileFrom<K::Fifth> as Disk>⟧.is_clean f
+      | Sixth f ↦ ⟦<FileFrom<K::Sixth> as Disk>⟧.is_clean f
+      | Seventh f ↦ ⟦<FileFrom<K::Seventh> as Disk>⟧.is_clean f
+    ] };
 
-    ghost key_of = { elim [ First f ↦ ⟦<FileFrom<K::First> as Disk>⟧.key_of f | Second f ↦ ⟦<FileFrom<K::Second> as Disk>⟧.key_of f | Third f ↦ ⟦<FileFrom<K::Third> as Disk>⟧.key_of f | Fourth f ↦ ⟦<FileFrom<K::Fourth> as Disk>⟧.key_of f | Fifth f ↦ ⟦<FileFrom<K::Fifth> as Disk>⟧.key_of f | Sixth f ↦ ⟦<FileFrom<K::Sixth> as Disk>⟧.key_of f | Seventh f ↦ ⟦<FileFrom<K::Seventh> as Disk>⟧.key_of f ] };
+    ghost key_of = { elim [
+      | First f ↦ ⟦<FileFrom<K::First> as Disk>⟧.key_of f
+      | Second f ↦ ⟦<FileFrom<K::Second> as Disk>⟧.key_of f
+      | Third f ↦ ⟦<FileFrom<K::Third> as Disk>⟧.key_of f
+      | Fourth f ↦ ⟦<FileFrom<K::Fourth> as Disk>⟧.key_of f
+      | Fifth f ↦ ⟦<FileFrom<K::Fifth> as Disk>⟧.key_of f
+      | Sixth f ↦ ⟦<FileFrom<K::Sixth> as Disk>⟧.key_of f
+      | Seventh f ↦ ⟦<FileFrom<K::Seventh> as Disk>⟧.key_of f
+    ] };
 
-    ghost is_fair = { elim [ First f ↦ ⟦<FileFrom<K::First> as Disk>⟧.is_fair f | Second f ↦ ⟦<FileFrom<K::Second> as Disk>⟧.is_fair f | Third f ↦ ⟦<FileFrom<K::Third> as Disk>⟧.is_fair f | Fourth f ↦ ⟦<FileFrom<K::Fourth> as Disk>⟧.is_fair f | Fifth f ↦ ⟦<FileFrom<K::Fifth> as Disk>⟧.is_fair f | Sixth f ↦ ⟦<FileFrom<K::Sixth> as Disk>⟧.is_fair f | Seventh f ↦ ⟦<FileFrom<K::Seventh> as Disk>⟧.is_fair f ] };
+    ghost is_fair = { elim [
+      | First f ↦ ⟦<FileFrom<K::First> as Disk>⟧.is_fair f
+      | Second f ↦ ⟦<FileFrom<K::Second> as Disk>⟧.is_fair f
+      | Third f ↦ ⟦<FileFrom<K::Third> as Disk>⟧.is_fair f
+      | Fourth f ↦ ⟦<FileFrom<K::Fourth> as Disk>⟧.is_fair f
+      | Fifth f ↦ ⟦<FileFrom<K::Fifth> as Disk>⟧.is_fair f
+      | Sixth f ↦ ⟦<FileFrom<K::Sixth> as Disk>⟧.is_fair f
+      | Seventh f ↦ ⟦<FileFrom<K::Seventh> as Disk>⟧.is_fair f
+    ] };
 
-    ghost is_frozen = { elim [ First f ↦ ⟦<FileFrom<K::First> as Disk>⟧.is_frozen f | Second f ↦ ⟦<FileFrom<K::Second> as Disk>⟧.is_frozen f | Third f ↦ ⟦<FileFrom<K::Third> as Disk>⟧.is_frozen f | Fourth f ↦ ⟦<FileFrom<K::Fourth> as Disk>⟧.is_frozen f | Fifth f ↦ ⟦<FileFrom<K::Fifth> as Disk>⟧.is_frozen f | Sixth f ↦ ⟦<FileFrom<K::Sixth> as Disk>⟧.is_frozen f | Seventh f ↦ ⟦<FileFrom<K::Seventh> as Disk>⟧.is_frozen f ] };
+    ghost is_frozen = { elim [
+      | First f ↦ ⟦<FileFrom<K::First> as Disk>⟧.is_frozen f
+      | Second f ↦ ⟦<FileFrom<K::Second> as Disk>⟧.is_frozen f
+      | Third f ↦ ⟦<FileFrom<K::Third> as Disk>⟧.is_frozen f
+      | Fourth f ↦ ⟦<FileFrom<K::Fourth> as Disk>⟧.is_frozen f
+      | Fifth f ↦ ⟦<FileFrom<K::Fifth> as Disk>⟧.is_frozen f
+      | Sixth f ↦ ⟦<FileFrom<K::Sixth> as Disk>⟧.is_frozen f
+      | Seventh f ↦ ⟦<FileFrom<K::Seventh> as Disk>⟧.is_frozen f
+    ] };
 
-    ghost is_rotten = { elim [ First f ↦ ⟦<FileFrom<K::First> as Disk>⟧.is_rotten f | Second f ↦ ⟦<FileFrom<K::Second> as Disk>⟧.is_rotten f | Third f ↦ ⟦<FileFrom<K::Third> as Disk>⟧.is_rotten f | Fourth f ↦ ⟦<FileFrom<K::Fourth> as Disk>⟧.is_rotten f | Fifth f ↦ ⟦<FileFrom<K::Fifth> as Disk>⟧.is_rotten f | Sixth f ↦ ⟦<FileFrom<K::Sixth> as Disk>⟧.is_rotten f | Seventh f ↦ ⟦<FileFrom<K::Seventh> as Disk>⟧.is_rotten f ] };
+    ghost is_rotten = { elim [
+      | First f ↦ ⟦<FileFrom<K::First> as Disk>⟧.is_rotten f
+      | Second f ↦ ⟦<FileFrom<K::Second> as Disk>⟧.is_rotten f
+      | Third f ↦ ⟦<FileFrom<K::Third> as Disk>⟧.is_rotten f
+      | Fourth f ↦ ⟦<FileFrom<K::Fourth> as Disk>⟧.is_rotten f
+      | Fifth f ↦ ⟦<FileFrom<K::Fifth> as Disk>⟧.is_rotten f
+      | Sixth f ↦ ⟦<FileFrom<K::Sixth> as Disk>⟧.is_rotten f
+      | Seventh f ↦ ⟦<FileFrom<K::Seventh> as Disk>⟧.is_rotten f
+    ] };
 
-    ghost is_mixing = { elim [ First f ↦ ⟦<FileFrom<K::First> as Disk>⟧.is_mixing f | Second f ↦ ⟦<FileFrom<K::Second> as Disk>⟧.is_mixing f | Third f ↦ ⟦<FileFrom<K::Third> as Disk>⟧.is_mixing f | Fourth f ↦ ⟦<FileFrom<K::Fourth> as Disk>⟧.is_mixing f | Fifth f ↦ ⟦<FileFrom<K::Fifth> as Disk>⟧.is_mixing f | Sixth f ↦ ⟦<FileFrom<K::Sixth> as Disk>⟧.is_mixing f | Seventh f ↦ ⟦<FileFrom<K::Seventh> as Disk>⟧.is_mixing f ] };
+    ghost is_mixing = { elim [
+      | First f ↦ ⟦<FileFrom<K::First> as Disk>⟧.is_mixing f
+      | Second f ↦ ⟦<FileFrom<K::Second> as Disk>⟧.is_mixing f
+      | Third f ↦ ⟦<FileFrom<K::Third> as Disk>⟧.is_mixing f
+      | Fourth f ↦ ⟦<FileFrom<K::Fourth> as Disk>⟧.is_mixing f
+      | Fifth f ↦ ⟦<FileFrom<K::Fifth> as Disk>⟧.is_mixing f
+      | Sixth f ↦ ⟦<FileFrom<K::Sixth> as Disk>⟧.is_mixing f
+      | Seventh f ↦ ⟦<FileFrom<K::Seventh> as Disk>⟧.is_mixing f
+    ] };
 
-    ghost seen_may_stay = { elim [ First f ↦ inl refl | Second f ↦ inl refl | Third f ↦ inl refl | Fourth f ↦ inl refl | Fifth f ↦ inl refl | Sixth f ↦ inl refl | Seventh f ↦ inl refl ] };
+    ghost seen_may_stay = { elim [
+      | First f ↦ inl refl
+      | Second f ↦ inl refl
+      | Third f ↦ inl refl
+      | Fourth f ↦ inl refl
+      | Fifth f ↦ inl refl
+      | Sixth f ↦ inl refl
+      | Seventh f ↦ inl refl
+    ] };
 
-    ghost fair_if_clean = { elim [ First f ↦ fair_if_honest (start_of K.First.Start f) f.calls.log.events | Second f ↦ fair_if_honest (start_of K.Second.Start f) f.calls.log.events | Third f ↦ fair_if_honest (start_of K.Third.Start f) f.calls.log.events | Fourth f ↦ fair_if_honest (start_of K.Fourth.Start f) f.calls.log.events | Fifth f ↦ fair_if_honest (start_of K.Fifth.Start f) f.calls.log.events | Sixth f ↦ fair_if_honest (start_of K.Sixth.Start f) f.calls.log.events | Seventh f ↦ fair_if_honest (start_of K.Seventh.Start f) f.calls.log.events ] };
+    ghost fair_if_clean = { elim [
+      | First f ↦ fair_if_honest (start_of K.First.Start f) f.calls.log.events
+      | Second f ↦ fair_if_honest (start_of K.Second.Start f) f.calls.log.events
+      | Third f ↦ fair_if_honest (start_of K.Third.Start f) f.calls.log.events
+      | Fourth f ↦ fair_if_honest (start_of K.Fourth.Start f) f.calls.log.events
+      | Fifth f ↦ fair_if_honest (start_of K.Fifth.Start f) f.calls.log.events
+      | Sixth f ↦ fair_if_honest (start_of K.Sixth.Start f) f.calls.log.events
+      | Seventh f ↦ fair_if_honest (start_of K.Seventh.Start f) f.calls.log.events
+    ] };
 
     fn mixes(&self) -> bool {
         match self {

@@ -26,8 +26,10 @@ fn files_of<S: Start + Default>(
     path: &str,
 ) -> Result<Files<FileFrom<S>>, StoreFault>
     ensures fault { IfErr result (λ e. is_place e ≡ false) }
-    ensures usable { IfOk result (λ files. IsTrue (⟦<FileFrom<S> as Disk>⟧.is_usable files.log) × IsTrue (⟦<FileFrom<S> as Disk>⟧.is_usable files.db)) }
-    ensures held { IfOk result (λ files. image_of ⟦<FileFrom<S> as Disk>⟧ files ≡ image_at S.Start) }
+    ensures usable { IfOk result (λ files. IsTrue (⟦<FileFrom<S> as Disk>⟧.is_usable files.log)
+        × IsTrue (⟦<FileFrom<S> as Disk>⟧.is_usable files.db)) }
+    ensures held { IfOk result
+        (λ files. image_of ⟦<FileFrom<S> as Disk>⟧ files ≡ image_at S.Start) }
 {
     match sqlite_std_file::open(rt, path, S::default()) {
         Ok(files) => Ok(files),
@@ -46,8 +48,11 @@ fn files_of_node<K: Contents>(
     node: NodeId,
 ) -> Result<Files<NodeFile<K>>, StoreFault>
     ensures fault { IfErr result (λ e. is_place e ≡ false) }
-    ensures usable { IfOk result (λ files. IsTrue (⟦<NodeFile<K> as Disk>⟧.is_usable files.log) × IsTrue (⟦<NodeFile<K> as Disk>⟧.is_usable files.db)) }
-    ensures held { IfOk result (λ files. image_of ⟦<NodeFile<K> as Disk>⟧ files ≡ held_by K.First.Start K.Second.Start K.Third.Start K.Fourth.Start K.Fifth.Start K.Sixth.Start K.Seventh.Start node) }
+    ensures usable { IfOk result (λ files. IsTrue (⟦<NodeFile<K> as Disk>⟧.is_usable files.log)
+        × IsTrue (⟦<NodeFile<K> as Disk>⟧.is_usable files.db)) }
+    ensures held { IfOk result (λ files. image_of ⟦<NodeFile<K> as Disk>⟧ files
+        ≡ held_by K.First.Start K.Second.Start K.Third.Start K.Fourth.Start K.Fifth.Start
+        K.Sixth.Start K.Seventh.Start node) }
 {
     match node.number() {
         1 => match files_of::<K::First>(rt, path) {
@@ -111,7 +116,10 @@ pub fn open_node<K: Contents>(
 ) -> Result<NodeJournal<K>, StoreFault>
     ensures fault { IfErr result (λ e. is_place e ≡ false) }
     // A journal that stood in the node's files is found with its records, and none where the database file was empty.
-    ensures found { IfOk result (λ j. IsFoundIn (held_by K.First.Start K.Second.Start K.Third.Start K.Fourth.Start K.Fifth.Start K.Sixth.Start K.Seventh.Start node) (⟦<NodeJournal<K> as Stable>⟧.is_clean j) (⟦<NodeJournal<K> as Stable>⟧.is_honest j) (⟦<NodeJournal<K> as Stable>⟧.certain j)) }
+    ensures found { IfOk result (λ j. IsFoundIn
+        (held_by K.First.Start K.Second.Start K.Third.Start K.Fourth.Start K.Fifth.Start
+        K.Sixth.Start K.Seventh.Start node) (⟦<NodeJournal<K> as Stable>⟧.is_clean j)
+        (⟦<NodeJournal<K> as Stable>⟧.is_honest j) (⟦<NodeJournal<K> as Stable>⟧.certain j)) }
 {
     // As in SQLite, these name no file.
     if path == ":memory:" || path.starts_with("file:") {
@@ -132,7 +140,10 @@ fn open_in<K: Contents>(
     node: NodeId,
 ) -> Result<NodeJournal<K>, StoreFault>
     ensures fault { IfErr result (λ e. is_place e ≡ false) }
-    ensures found { IfOk result (λ j. IsFoundIn (held_by K.First.Start K.Second.Start K.Third.Start K.Fourth.Start K.Fifth.Start K.Sixth.Start K.Seventh.Start node) (⟦<NodeJournal<K> as Stable>⟧.is_clean j) (⟦<NodeJournal<K> as Stable>⟧.is_honest j) (⟦<NodeJournal<K> as Stable>⟧.certain j)) }
+    ensures found { IfOk result (λ j. IsFoundIn
+        (held_by K.First.Start K.Second.Start K.Third.Start K.Fourth.Start K.Fifth.Start
+        K.Sixth.Start K.Seventh.Start node) (⟦<NodeJournal<K> as Stable>⟧.is_clean j)
+        (⟦<NodeJournal<K> as Stable>⟧.is_honest j) (⟦<NodeJournal<K> as Stable>⟧.certain j)) }
 {
     let path = format!(in rt.alloc(); "{directory}/node-{}.db", node.number())?;
     open_node(rt, path.as_str(), node)
@@ -149,7 +160,9 @@ pub fn open_nodes<K: Contents>(
     // One for each node, in order.
     ensures count { IfOk result (λ journals. length journals.items ≡ config.n) }
     // A journal that stood in a node's files is found with its records, and none where the database file was empty.
-    ensures found { IfOk result (λ journals. AreFoundIn ⟦<NodeJournal<K> as Stable>⟧ (held_by K.First.Start K.Second.Start K.Third.Start K.Fourth.Start K.Fifth.Start K.Sixth.Start K.Seventh.Start) journals.items) }
+    ensures found { IfOk result (λ journals. AreFoundIn ⟦<NodeJournal<K> as Stable>⟧
+        (held_by K.First.Start K.Second.Start K.Third.Start K.Fourth.Start K.Fifth.Start
+        K.Sixth.Start K.Seventh.Start) journals.items) }
 {
     let n = config.n();
     let Ok(mut journals) = Vec::with_capacity(rt.alloc(), usize::from(n)) else {

@@ -36,7 +36,8 @@ impl SqlStable<FileStore<File>> {
         ensures new { IfOk result (λ s. (s.doubtful ≡ false) × (s.failures ≡ 0)) }
         ensures rest { IfOk result (λ s. IsSafeAtRest (file_state s.conn)) }
         // Where there was no file, or an empty one, the journal has no record.
-        ensures fresh { IfOk result (λ s. HasCleanDisk (file_state s.conn) → IsHonestJournal (file_state s.conn) × (records_of (file_state s.conn).now ≡ [])) }
+        ensures fresh { IfOk result (λ s. HasCleanDisk (file_state s.conn)
+            → IsHonestJournal (file_state s.conn) × (records_of (file_state s.conn).now ≡ [])) }
     {
         SqlStable::open_from(rt, path, Unknown)
     }
@@ -53,10 +54,16 @@ impl<S: Start> SqlStable<FileStore<FileFrom<S>>> {
         ensures new { IfOk result (λ s. (s.doubtful ≡ false) × (s.failures ≡ 0)) }
         ensures rest { IfOk result (λ s. IsSafeAtRest (file_state s.conn)) }
         // Where there was no file, or an empty one, the journal has no record.
-        ensures fresh { IfOk result (λ s. HasCleanDisk (file_state s.conn) → S.Start.db ≡ [] → IsHonestJournal (file_state s.conn) × (records_of (file_state s.conn).now ≡ [])) }
+        ensures fresh { IfOk result (λ s. HasCleanDisk (file_state s.conn)
+            → S.Start.db ≡ []
+            → IsHonestJournal (file_state s.conn) × (records_of (file_state s.conn).now ≡ [])) }
         // Where the files hold a database that has the journal, its rows are records, and these are found.
-        ensures found { IfOk result (λ s. HasCleanDisk (file_state s.conn) → (db : _) → HoldsDatabase (image_at S.Start) db → (journal : IsJournal db)
-            → IsHonestJournal (file_state s.conn) × StandsFor (database_of journal) (records_of (file_state s.conn).now)) }
+        ensures found { IfOk result (λ s. HasCleanDisk (file_state s.conn)
+            → (db : _)
+            → HoldsDatabase (image_at S.Start) db
+            → (journal : IsJournal db)
+            → IsHonestJournal (file_state s.conn)
+            × StandsFor (database_of journal) (records_of (file_state s.conn).now)) }
     {
         match Connection::open_from(rt, path, false, start) {
             Ok(conn) => match SqlStable::adopt(rt.alloc(), conn) {
@@ -81,12 +88,19 @@ impl<D: Disk + Drop> SqlStable<FileStore<D>> {
         ensures new { IfOk result (λ s. (s.doubtful ≡ false) × (s.failures ≡ 0)) }
         ensures rest { IfOk result (λ s. IsSafeAtRest (file_state s.conn)) }
         // A journal over a clean disk was opened over clean files.
-        ensures clean { IfOk result (λ s. HasCleanDisk (file_state s.conn) → AreClean D.Disk files.log files.db) }
+        ensures clean { IfOk result
+            (λ s. HasCleanDisk (file_state s.conn) → AreClean D.Disk files.log files.db) }
         // Where the database file is empty, the journal has no record.
-        ensures fresh { IfOk result (λ s. HasCleanDisk (file_state s.conn) → (image_of D.Disk files).db ≡ [] → IsHonestJournal (file_state s.conn) × (records_of (file_state s.conn).now ≡ [])) }
+        ensures fresh { IfOk result (λ s. HasCleanDisk (file_state s.conn)
+            → (image_of D.Disk files).db ≡ []
+            → IsHonestJournal (file_state s.conn) × (records_of (file_state s.conn).now ≡ [])) }
         // Where the files hold a database that has the journal, its rows are records, and these are found.
-        ensures found { IfOk result (λ s. HasCleanDisk (file_state s.conn) → (db : _) → HoldsDatabase (image_of D.Disk files) db → (journal : IsJournal db)
-            → IsHonestJournal (file_state s.conn) × StandsFor (database_of journal) (records_of (file_state s.conn).now)) }
+        ensures found { IfOk result (λ s. HasCleanDisk (file_state s.conn)
+            → (db : _)
+            → HoldsDatabase (image_of D.Disk files) db
+            → (journal : IsJournal db)
+            → IsHonestJournal (file_state s.conn)
+            × StandsFor (database_of journal) (records_of (file_state s.conn).now)) }
     {
         match Connection::open_files(alloc, files, options) {
             Ok(conn) => match SqlStable::adopt(alloc, conn) {

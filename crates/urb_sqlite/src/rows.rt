@@ -142,7 +142,8 @@ pub fn records_in(
     requires { limit ≤ MAX_PAYLOAD }
     ensures records { IfOk result (λ records. read_from limit first rows.now ≡ Ok records.items) }
     ensures short { IfOk result (λ records. first + length records.items ≤ 4294967295) }
-    ensures fault { IfErr result (λ e. (e ≡ StoreFault.NoMemory) ⊎ ((bad : ℕ) × (e ≡ StoreFault.BadRow bad) × (read_from limit first rows.now ≡ Err bad))) }
+    ensures fault { IfErr result (λ e. (e ≡ StoreFault.NoMemory)
+        ⊎ ((bad : ℕ) × (e ≡ StoreFault.BadRow bad) × (read_from limit first rows.now ≡ Err bad))) }
 {
     let mut records = Vec::new(alloc);
     let mut place = first;

@@ -19,8 +19,10 @@ pub enum Part {
 
 /// Makes the table where it is absent.
 pub fn create<S: Alter>(conn: &mut Connection<S>, part: Part) -> Result<usize, Error>
-    ensures runs { HasCleanDisk (state S.Store conn.new) → Executes (create_of part) [] (state S.Store conn.old) (state S.Store conn.new) result }
-    ensures survives { Survives (state S.Store conn.old) (state S.Store conn.new) (CommitsBy (create_of part) [] (state S.Store conn.old)) }
+    ensures runs { HasCleanDisk (state S.Store conn.new)
+        → Executes (create_of part) [] (state S.Store conn.old) (state S.Store conn.new) result }
+    ensures survives { Survives (state S.Store conn.old) (state S.Store conn.new)
+        (CommitsBy (create_of part) [] (state S.Store conn.old)) }
 {
     match part {
         Part::First => conn.execute(
@@ -43,8 +45,14 @@ fn put<S: Alter>(
     number: u32,
     payload: &[u8],
 ) -> Result<usize, Error>
-    ensures runs { HasCleanDisk (state S.Store conn.new) → Executes insert_text (columns_of place kind name.sender name.seq client number payload.now) (state S.Store conn.old) (state S.Store conn.new) result }
-    ensures survives { Survives (state S.Store conn.old) (state S.Store conn.new) (CommitsBy insert_text (columns_of place kind name.sender name.seq client number payload.now) (state S.Store conn.old)) }
+    ensures runs { HasCleanDisk (state S.Store conn.new)
+        → Executes insert_text
+        (columns_of place kind name.sender name.seq client number payload.now)
+        (state S.Store conn.old) (state S.Store conn.new) result }
+    ensures survives { Survives (state S.Store conn.old) (state S.Store conn.new)
+        (CommitsBy insert_text
+        (columns_of place kind name.sender name.seq client number payload.now)
+        (state S.Store conn.old)) }
 {
     let sender = u32::from(name.sender.number());
     let seq = name.seq;
@@ -60,8 +68,11 @@ pub fn insert<S: Alter>(
     place: u32,
     entry: &Record,
 ) -> Result<usize, Error>
-    ensures runs { HasCleanDisk (state S.Store conn.new) → Executes insert_text (row_of place entry.now) (state S.Store conn.old) (state S.Store conn.new) result }
-    ensures survives { Survives (state S.Store conn.old) (state S.Store conn.new) (CommitsBy insert_text (row_of place entry.now) (state S.Store conn.old)) }
+    ensures runs { HasCleanDisk (state S.Store conn.new)
+        → Executes insert_text (row_of place entry.now) (state S.Store conn.old)
+        (state S.Store conn.new) result }
+    ensures survives { Survives (state S.Store conn.old) (state S.Store conn.new)
+        (CommitsBy insert_text (row_of place entry.now) (state S.Store conn.old)) }
 {
     match entry {
         Record::Pend(name, m) => {
@@ -78,9 +89,14 @@ pub fn insert<S: Alter>(
 
 /// The rows of a table, in order of pos.
 pub fn select<S: Alter>(conn: &mut Connection<S>, part: Part) -> Result<Vec<Row>, Error>
-    ensures rows { HasCleanDisk (state S.Store conn.new) → IfOk result (λ rows. Shown (select_of part) [] (state S.Store conn.old) (state S.Store conn.new) rows.items) }
-    ensures fault { HasCleanDisk (state S.Store conn.new) → IfErr result (FailsToQuery (select_of part) [] (state S.Store conn.old) (state S.Store conn.new)) }
-    ensures survives { Survives (state S.Store conn.old) (state S.Store conn.new) (CommitsShowing (select_of part) [] (state S.Store conn.old)) }
+    ensures rows { HasCleanDisk (state S.Store conn.new)
+        → IfOk result (λ rows. Shown (select_of part) [] (state S.Store conn.old)
+        (state S.Store conn.new) rows.items) }
+    ensures fault { HasCleanDisk (state S.Store conn.new)
+        → IfErr result
+        (FailsToQuery (select_of part) [] (state S.Store conn.old) (state S.Store conn.new)) }
+    ensures survives { Survives (state S.Store conn.old) (state S.Store conn.new)
+        (CommitsShowing (select_of part) [] (state S.Store conn.old)) }
 {
     match part {
         Part::First => conn.query_all(

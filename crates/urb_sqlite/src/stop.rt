@@ -24,16 +24,28 @@ impl<D: Crash + Drop> SqlStable<FileStore<D>> {
         options: Options,
     ) -> Result<SqlStable<FileStore<D>>, StoreFault>
         // A disk that is clean then was clean before.
-        ensures clean { IfOk result (λ again. HasCleanDisk (file_state again.conn) → HasCleanDisk (file_state self.conn)) }
+        ensures clean { IfOk result
+            (λ again. HasCleanDisk (file_state again.conn) → HasCleanDisk (file_state self.conn)) }
         // Where a stop leaves these records alone, they are found.
-        ensures kept { IfOk result (λ again. HasCleanDisk (file_state again.conn) → (records : List Entry) → LeavesOnly (file_state self.conn) (λ left. left ≡ records)
-            → IsHonestJournal (file_state again.conn) × (records_of (file_state again.conn).now ≡ records)) }
+        ensures kept { IfOk result (λ again. HasCleanDisk (file_state again.conn)
+            → (records : List Entry)
+            → LeavesOnly (file_state self.conn) (λ left. left ≡ records)
+            → IsHonestJournal (file_state again.conn)
+            × (records_of (file_state again.conn).now ≡ records)) }
         // Where it leaves these, or these with one more, one of the two is found.
-        ensures found { IfOk result (λ again. HasCleanDisk (file_state again.conn) → (records : List Entry) (r : Entry) → LeavesOnly (file_state self.conn) (λ left. (left ≡ records) ⊎ (left ≡ records ++ r ∷ []))
-            → IsHonestJournal (file_state again.conn) × ((records_of (file_state again.conn).now ≡ records) ⊎ (records_of (file_state again.conn).now ≡ records ++ r ∷ []))) }
+        ensures found { IfOk result (λ again. HasCleanDisk (file_state again.conn)
+            → (records : List Entry) (r : Entry)
+            → LeavesOnly (file_state self.conn)
+            (λ left. (left ≡ records) ⊎ (left ≡ records ++ r ∷ []))
+            → IsHonestJournal (file_state again.conn)
+            × ((records_of (file_state again.conn).now ≡ records)
+            ⊎ (records_of (file_state again.conn).now ≡ records ++ r ∷ []))) }
         // Whatever storage a stop leaves, certain records or these with a doubtful one, is what is found.
-        ensures left { IfOk result (λ again. HasCleanDisk (file_state again.conn) → (certain : List Entry) (doubtful : Option Entry) → LeavesOnly (file_state self.conn) (IsContents certain doubtful)
-            → IsHonestJournal (file_state again.conn) × IsContents certain doubtful (records_of (file_state again.conn).now)) }
+        ensures left { IfOk result (λ again. HasCleanDisk (file_state again.conn)
+            → (certain : List Entry) (doubtful : Option Entry)
+            → LeavesOnly (file_state self.conn) (IsContents certain doubtful)
+            → IsHonestJournal (file_state again.conn)
+            × IsContents certain doubtful (records_of (file_state again.conn).now)) }
     {
         let Files { mut log, mut db } = self.into_connection().into_store().close();
         log.crash();
@@ -54,8 +66,11 @@ impl<D: Crash + Drop> SqlStable<FileStore<D>> {
         Result<SqlStable<FileStore<D>>, StoreFault>,
     )
         // The records are those before, or these with the one; and where it was stored, these with it.
-        ensures { IfOk result.1 (λ again. HasCleanDisk (file_state again.conn) → IsHonestJournal (file_state self.conn)
-            → IsHonestJournal (file_state again.conn) × IsFoundAfter result.0 (records_of (file_state self.conn).now) entry.now (records_of (file_state again.conn).now)) }
+        ensures { IfOk result.1 (λ again. HasCleanDisk (file_state again.conn)
+            → IsHonestJournal (file_state self.conn)
+            → IsHonestJournal (file_state again.conn)
+            × IsFoundAfter result.0 (records_of (file_state self.conn).now) entry.now
+            (records_of (file_state again.conn).now)) }
     {
         let stored = self.store(pos, entry);
         (stored, self.stop_and_open(alloc, options))

@@ -23,7 +23,8 @@ fn opened_again<D: Crash + Drop>(
     journals: Vec<SqlStable<FileStore<D>>>,
     options: Options,
 ) -> Result<Vec<SqlStable<FileStore<D>>>, StoreFault>
-    ensures { IfOk result (λ again. AreReopened journals.items again.items (λ j. file_state j.conn)) }
+    ensures { IfOk result
+        (λ again. AreReopened journals.items again.items (λ j. file_state j.conn)) }
 {
     let mut again = Vec::with_capacity(alloc, journals.len())?;
     for journal in journals {
@@ -39,12 +40,16 @@ pub(crate) fn over<S: Stable<Alloc = Global> + Drop>(
     stores: Vec<S>,
 ) -> Result<Cluster<S>, Refusal>
     requires counted { length stores.items ≡ config.n }
-    ensures goes_on { IfOk result (λ new. (old : GroupView) (w : World) → HasStopped S.Stable old w config stores.items
-        → All S.Stable.is_honest new.stores → ContinuesFrom S.Stable w stores.items new.group) }
+    ensures goes_on { IfOk result (λ new. (old : GroupView) (w : World)
+        → HasStopped S.Stable old w config stores.items
+        → All S.Stable.is_honest new.stores
+        → ContinuesFrom S.Stable w stores.items new.group) }
     ensures sized { IfOk result (λ new. new.group.size ≡ config) }
-    ensures alive { IfOk result (λ new. All (IsGenuine S.Stable) stores.items → All S.Stable.is_clean new.stores
+    ensures alive { IfOk result (λ new. All (IsGenuine S.Stable) stores.items
+        → All S.Stable.is_clean new.stores
         → All S.Stable.is_honest new.stores) }
-    ensures secured { IfOk result (λ new. All (IsKnown S.Stable) stores.items → IsSecured S.Stable new) }
+    ensures secured { IfOk result
+        (λ new. All (IsKnown S.Stable) stores.items → IsSecured S.Stable new) }
 {
     match Cluster::open(alloc, config, stores) {
         Ok(cluster) => Ok(cluster),
@@ -69,10 +74,16 @@ pub fn stop_and_open_all<D: Crash + Drop>(
     ensures sized { IfOk result (λ new. new.group.size ≡ config) }
     // Where a stop leaves of each journal what it may leave of the nodes of a world that a group showed, the new cluster goes
     // on from that world, as far as the disks have given back what was written.
-    ensures goes_on { IfOk result (λ new. (old : GroupView) (w : World) → IsSound old → length old.nodes ≡ config.n → old.size ≡ config → Shows old w
-        → WouldLeave ⟦<SqlStable<FileStore<D>> as Stable>⟧ w journals.items → All ⟦<SqlStable<FileStore<D>> as Stable>⟧.is_clean new.stores
+    ensures goes_on { IfOk result (λ new. (old : GroupView) (w : World)
+        → IsSound old
+        → length old.nodes ≡ config.n
+        → old.size ≡ config
+        → Shows old w
+        → WouldLeave ⟦<SqlStable<FileStore<D>> as Stable>⟧ w journals.items
+        → All ⟦<SqlStable<FileStore<D>> as Stable>⟧.is_clean new.stores
         → IsContinuation ⟦<SqlStable<FileStore<D>> as Stable>⟧ w new.group) }
-    ensures secured { IfOk result (λ new. (w : World) → WouldLeave ⟦<SqlStable<FileStore<D>> as Stable>⟧ w journals.items
+    ensures secured { IfOk result (λ new. (w : World)
+        → WouldLeave ⟦<SqlStable<FileStore<D>> as Stable>⟧ w journals.items
         → IsSecured ⟦<SqlStable<FileStore<D>> as Stable>⟧ new) }
 {
     match opened_again(alloc, journals, options) {
@@ -85,7 +96,9 @@ pub fn stop_and_open_all<D: Crash + Drop>(
 fn rests<S: Stable<Alloc = Global>>(cluster: &Cluster<S>)
     ensures counted { length cluster.now.group.nodes ≡ cluster.now.group.size.n }
     ensures sound { IsSound cluster.now.group }
-    ensures leaves { (stores : List S) → stores ≡ cluster.now.stores → (secured : IsSecured S.Stable cluster.now)
+    ensures leaves { (stores : List S)
+        → stores ≡ cluster.now.stores
+        → (secured : IsSecured S.Stable cluster.now)
         → WouldLeave S.Stable secured.stocked.world stores }
 {
     cluster.group().promise();
@@ -98,7 +111,9 @@ pub(crate) fn applied<S: Stable<Alloc = Global>>(
     command: &Command,
 )
     ensures sized { cluster.new.group.size ≡ cluster.old.group.size }
-    ensures leaves { (stores : List S) → stores ≡ cluster.new.stores → (secured : IsSecured S.Stable cluster.old)
+    ensures leaves { (stores : List S)
+        → stores ≡ cluster.new.stores
+        → (secured : IsSecured S.Stable cluster.old)
         → WouldLeave S.Stable secured.stocked.world stores }
 {
     rests(cluster);
@@ -117,7 +132,8 @@ pub fn stop_and_reopen<D: Crash + Drop>(
     ensures sized { IfOk result (λ new. new.group.size ≡ config) }
     // The new cluster goes on from the world that the old one showed, also where faults had shut some of its journals, as far as
     // the disks have given back what was written; and it may be stopped in turn.
-    ensures goes_on { IfOk result (λ new. (secured : IsSecured ⟦<SqlStable<FileStore<D>> as Stable>⟧ cluster)
+    ensures goes_on { IfOk result (λ new.
+        (secured : IsSecured ⟦<SqlStable<FileStore<D>> as Stable>⟧ cluster)
         → All ⟦<SqlStable<FileStore<D>> as Stable>⟧.is_clean new.stores
         → IsContinuation ⟦<SqlStable<FileStore<D>> as Stable>⟧ secured.stocked.world new.group) }
     ensures secured { IfOk result (λ new. IsSecured ⟦<SqlStable<FileStore<D>> as Stable>⟧ cluster
@@ -141,7 +157,8 @@ pub fn apply_and_stop<D: Crash + Drop>(
     ensures sized { IfOk result (λ new. new.group.size ≡ config) }
     // The new cluster goes on from the world that the old one showed before the command, also where faults had shut some of
     // its journals by then, as far as the disks have given back what was written; and it may be stopped in turn.
-    ensures goes_on { IfOk result (λ new. (secured : IsSecured ⟦<SqlStable<FileStore<D>> as Stable>⟧ cluster)
+    ensures goes_on { IfOk result (λ new.
+        (secured : IsSecured ⟦<SqlStable<FileStore<D>> as Stable>⟧ cluster)
         → All ⟦<SqlStable<FileStore<D>> as Stable>⟧.is_clean new.stores
         → IsContinuation ⟦<SqlStable<FileStore<D>> as Stable>⟧ secured.stocked.world new.group) }
     ensures secured { IfOk result (λ new. IsSecured ⟦<SqlStable<FileStore<D>> as Stable>⟧ cluster

@@ -48,7 +48,10 @@ fn count_message<A: Allocator + Copy>(
 ) -> Result<(), NoMemory>
     requires room { counts.old.own + 1 < 2 ^ 64 }
     requires part { (c : ℕ) → number_found (get by_client counts.old.clients c) ≤ counts.old.own }
-    ensures { (messages : List Content) (m : Content) → m.client ≡ client → IsCount messages counts.old → IfOk result (λ _. IsCount (messages ++ m ∷ []) counts.new) }
+    ensures { (messages : List Content) (m : Content)
+        → m.client ≡ client
+        → IsCount messages counts.old
+        → IfOk result (λ _. IsCount (messages ++ m ∷ []) counts.new) }
 {
     let count = count_of(counts, client);
     counts.clients.insert(client, count + 1)?;
@@ -66,7 +69,8 @@ fn count_next<A: Allocator + Copy>(
     requires within { place < length image.now }
     requires short { length image.now < 2 ^ 64 }
     requires counted { IsCount (own number (pend (take place image.now))) counts.old }
-    ensures { IfOk result (λ _. IsCount (own number (pend (take (place + 1) image.now))) counts.new) }
+    ensures { IfOk result
+        (λ _. IsCount (own number (pend (take (place + 1) image.now))) counts.new) }
 {
     match &image[place] {
         Record::Pend(name, message) | Record::PendCert(name, message) => {
@@ -85,7 +89,9 @@ fn certify_next<A: Allocator + Copy>(
     certified: &mut BTreeSet<Name, A>,
     entry: &Record<Message<A>>,
 ) -> Result<(), NoMemory>
-    ensures { (earlier : List Entry) → IsSetOf (cert earlier) certified.old → IfOk result (λ _. IsSetOf (cert (earlier ++ entry.now ∷ [])) certified.new) }
+    ensures { (earlier : List Entry)
+        → IsSetOf (cert earlier) certified.old
+        → IfOk result (λ _. IsSetOf (cert (earlier ++ entry.now ∷ [])) certified.new) }
 {
     match entry {
         Record::Pend(_, _) => {}
@@ -102,7 +108,10 @@ fn told_of<A: Allocator>(
     counts: &Counts<A>,
     entry: &Record<Message<A>>,
 ) -> Before
-    ensures { (p : ℕ) (earlier : List Entry) → IsSetOf (cert earlier) certified.now → IsCount (own p (pend earlier)) counts.now → IsBefore p earlier entry.now result }
+    ensures { (p : ℕ) (earlier : List Entry)
+        → IsSetOf (cert earlier) certified.now
+        → IsCount (own p (pend earlier)) counts.now
+        → IsBefore p earlier entry.now result }
 {
     let name = entry.name();
     let of_client = match entry {

@@ -65,35 +65,55 @@ impl<A: Allocator> Draft<A> {
     /// record is kept.
     pub fn keep<S: Stable<Alloc = A>>(self, store: &mut S) -> Result<Receipt<A>, Doubt>
         // A receipt is of this draft, and a doubt of its node.
-        ensures receipt { MatchResult result (λ receipt. receipt ≡ self) (λ doubt. doubt.node ≡ self.node) }
+        ensures receipt { MatchResult result (λ receipt. receipt ≡ self)
+            (λ doubt. doubt.node ≡ self.node) }
 
         // A doubt tells the very fault that the store answered.
         ensures answers { S.stores store.old self.pos self.entry (answer_of result) }
 
         // Place comes exactly where the store is out of place, and then nothing changes.
-        ensures placed { IsPlaced (is_out_of_place (S.is_doubtful store.old) (S.place store.old) self.pos) (S.place store.old) (answer_of result) }
-        ensures same { IsTrue (is_out_of_place (S.is_doubtful store.old) (S.place store.old) self.pos) → store.new ≡ store.old }
+        ensures placed { IsPlaced
+            (is_out_of_place (S.is_doubtful store.old) (S.place store.old) self.pos)
+            (S.place store.old) (answer_of result) }
+        ensures same { IsTrue
+            (is_out_of_place (S.is_doubtful store.old) (S.place store.old) self.pos)
+            → store.new ≡ store.old }
 
         // The record is certain after a receipt, and may be there after another doubt.
-        ensures stored { S.is_honest store.new → OnOk (answer_of result) (S.certain store.new ≡ S.certain store.old ++ self.entry ∷ []) }
-        ensures failed { S.is_honest store.new → OnErr (answer_of result) (S.certain store.new ≡ S.certain store.old) }
-        ensures clear { OnOk (answer_of result) ((S.is_doubtful store.new ≡ false) × (S.doubt store.new ≡ None)) }
-        ensures doubtful { IfErr (answer_of result) (λ e. is_place e ≡ false → S.is_doubtful store.new ≡ true) }
-        ensures doubt { IfErr (answer_of result) (λ e. is_place e ≡ false → (S.doubt store.new ≡ None) ⊎ (S.doubt store.new ≡ Some self.entry)) }
+        ensures stored { S.is_honest store.new
+            → OnOk (answer_of result)
+            (S.certain store.new ≡ S.certain store.old ++ self.entry ∷ []) }
+        ensures failed { S.is_honest store.new
+            → OnErr (answer_of result) (S.certain store.new ≡ S.certain store.old) }
+        ensures clear { OnOk (answer_of result)
+            ((S.is_doubtful store.new ≡ false) × (S.doubt store.new ≡ None)) }
+        ensures doubtful { IfErr (answer_of result)
+            (λ e. is_place e ≡ false → S.is_doubtful store.new ≡ true) }
+        ensures doubt { IfErr (answer_of result) (λ e. is_place e ≡ false
+            → (S.doubt store.new ≡ None) ⊎ (S.doubt store.new ≡ Some self.entry)) }
 
         // A stop, also inside this call, leaves what the storage may hold, or its certain records with this one.
-        ensures stop { S.is_honest store.old → S.is_clean store.new → S.leaves_only store.new (λ records. IsContents (S.certain store.old) (S.doubt store.old) records ⊎ (records ≡ S.certain store.old ++ self.entry ∷ [])) }
-        ensures rest { S.is_honest store.new → S.leaves_only store.new (IsContents (S.certain store.new) (S.doubt store.new)) }
+        ensures stop { S.is_honest store.old
+            → S.is_clean store.new
+            → S.leaves_only store.new (λ records.
+            IsContents (S.certain store.old) (S.doubt store.old) records
+            ⊎ (records ≡ S.certain store.old ++ self.entry ∷ [])) }
+        ensures rest { S.is_honest store.new
+            → S.leaves_only store.new (IsContents (S.certain store.new) (S.doubt store.new)) }
 
         // Device comes only where the count of failures rose.
-        ensures device { answer_of result ≡ Err StoreFault.Device → S.failures store.old < S.failures store.new }
+        ensures device { answer_of result ≡ Err StoreFault.Device
+            → S.failures store.old < S.failures store.new }
         ensures counts { S.failures store.old ≤ S.failures store.new }
         ensures honest { S.is_honest store.new → S.is_honest store.old }
-        ensures alive { OnOk (answer_of result) (S.is_honest store.old → S.is_clean store.new → S.is_honest store.new) }
+        ensures alive { OnOk (answer_of result)
+            (S.is_honest store.old → S.is_clean store.new → S.is_honest store.new) }
 
         // What was not given back as it was written is never forgotten, and an honest storage stays so, or is shut.
         ensures clean { S.is_clean store.new → S.is_clean store.old }
-        ensures shut { S.is_honest store.old → S.is_clean store.new → S.is_honest store.new ⊎ S.is_shut store.new }
+        ensures shut { S.is_honest store.old
+            → S.is_clean store.new
+            → S.is_honest store.new ⊎ S.is_shut store.new }
     {
         let Draft { node, pos, entry } = self;
         match store.store(pos, &entry) {

@@ -87,7 +87,9 @@ fn misfit_in<A: Allocator + Copy>(
 ) -> Option<Misfit>
     requires size { length images.now ≡ config.n }
     requires numbered { image.now.number ≡ node }
-    ensures { result ≡ first_of_all (misfits_behind config (image_of (map (λ image. image.records) images.now)) node [] image.now.records) }
+    ensures { result
+        ≡ first_of_all (misfits_behind config (image_of (map (λ image. image.records) images.now))
+        node [] image.now.records) }
 {
     let records = image.records();
     for (i, entry) in records.iter().enumerate() {
@@ -111,7 +113,9 @@ fn broken_rule<A: Allocator + Copy>(
     requires size { length images.now ≡ config.n }
     requires numbered { image.now.number ≡ node }
     requires here { slice_get image.now.records place ≡ Some entry.now }
-    ensures { result ≡ first_broken config (image_of (map (λ image. image.records) images.now)) node (take place image.now.records) entry.now }
+    ensures { result
+        ≡ first_broken config (image_of (map (λ image. image.records) images.now)) node
+        (take place image.now.records) entry.now }
 {
     if !is_new(config, image, place, entry) {
         return Some(Rule::A);
@@ -193,7 +197,9 @@ fn is_certified_rightly<A: Allocator + Copy>(
 ) -> bool
     requires size { length images.now ≡ config.n }
     requires here { slice_get image.now.records place ≡ Some entry.now }
-    ensures { result ≡ keeps_d config.n (image_of (map (λ image. image.records) images.now)) (take place image.now.records) entry.now }
+    ensures { result
+        ≡ keeps_d config.n (image_of (map (λ image. image.records) images.now))
+        (take place image.now.records) entry.now }
 {
     match entry {
         Record::Pend(_, _) => true,
@@ -214,7 +220,10 @@ fn is_in_range(config: Config, name: Name) -> bool
 
 // Whether the pair is the node's next one, and its client's, with what is said of its record.
 fn is_next_own<A: Allocator>(before: Before, name: Name, message: &Message<A>) -> bool
-    ensures { (messages : List Content) → before.own ≡ length messages → before.of_client ≡ client_count message.now.client messages → result ≡ is_next_own messages name message.now }
+    ensures { (messages : List Content)
+        → before.own ≡ length messages
+        → before.of_client ≡ client_count message.now.client messages
+        → result ≡ is_next_own messages name message.now }
 {
     name.limits();
     message.limits();
@@ -228,7 +237,9 @@ fn is_held_by<A: Allocator + Copy>(
     name: Name,
     message: &Message<A>,
 ) -> bool
-    ensures { result ≡ has_pair (pend (image_of (map (λ image. image.records) images.now) node)) name message.now }
+    ensures { result
+        ≡ has_pair (pend (image_of (map (λ image. image.records) images.now) node)) name
+        message.now }
 {
     match images.get(node.number() as usize - 1) {
         Some(image) => image.has(name, message),
@@ -244,14 +255,19 @@ fn is_held_by_majority<A: Allocator + Copy>(
     message: &Message<A>,
 ) -> bool
     requires { length images.now ≡ config.n }
-    ensures { result ≡ held_by_majority config.n (image_of (map (λ image. image.records) images.now)) name message.now }
+    ensures { result
+        ≡ held_by_majority config.n (image_of (map (λ image. image.records) images.now)) name
+        message.now }
 {
     is_majority(holders(images, name, message) as u8, config.n())
 }
 
 // How many images have the pair.
 fn holders<A: Allocator + Copy>(images: &[Image<A>], name: Name, message: &Message<A>) -> usize
-    ensures count { result ≡ count_by (λ node. has_pair (pend (image_of (map (λ image. image.records) images.now) node)) name message.now) (nodes (length images.now)) }
+    ensures count { result
+        ≡ count_by
+        (λ node. has_pair (pend (image_of (map (λ image. image.records) images.now) node)) name
+        message.now) (nodes (length images.now)) }
     ensures most { result ≤ length images.now }
 {
     images

@@ -66,7 +66,9 @@ impl<'r, A: Allocator + Copy> Image<'r, A> {
     /// What the records before the one at this place say of it.
     pub(crate) fn told_before(&self, place: usize) -> Before
         requires { place < length self.now.records }
-        ensures { (r : Entry) → slice_get self.now.records place ≡ Some r → IsBefore self.now.number (take place self.now.records) r result }
+        ensures { (r : Entry)
+            → slice_get self.now.records place ≡ Some r
+            → IsBefore self.now.number (take place self.now.records) r result }
     {
         self.told[place]
     }
@@ -74,7 +76,8 @@ impl<'r, A: Allocator + Copy> Image<'r, A> {
     /// The message of the first record before this place that is of a pair of this name, the name of the record there.
     pub(crate) fn message_before(&self, place: usize, name: Name) -> Option<&Message<A>>
         requires named { option_map name_of (slice_get self.now.records place) ≡ Some name }
-        ensures { option_map (λ m. m.now) result ≡ message_of (pend (take place self.now.records)) name }
+        ensures { option_map (λ m. m.now) result
+            ≡ message_of (pend (take place self.now.records)) name }
     {
         self.index.message_before(place, name)
     }

@@ -40,7 +40,13 @@ impl<A: Allocator> Model for MemStable<A> {
 
     ghost Value = { Memory };
 
-    ghost view = { λ a. record { certain = take a.certain a.records.items; doubt = slice_get a.records.items a.certain; doubtful = a.doubtful; failures = a.failures; armed = a.armed } };
+    ghost view = { λ a. record {
+      certain = take a.certain a.records.items;
+      doubt = slice_get a.records.items a.certain;
+      doubtful = a.doubtful;
+      failures = a.failures;
+      armed = a.armed;
+    } };
 
     ghost invariant = { IsMemory };
 }
@@ -115,7 +121,8 @@ impl<A: Allocator + Copy> Stable for MemStable<A> {
 
     ghost is_shut = { λ s. ⊥ };
 
-    ghost leaves_only = { λ s P. (records : List Entry) → IsContents s.certain s.doubt records → P records };
+    ghost leaves_only = { λ s P.
+        (records : List Entry) → IsContents s.certain s.doubt records → P records };
 
     ghost stores = { λ s pos _. Stores s pos };
 
@@ -132,23 +139,47 @@ impl<A: Allocator + Copy> Stable for MemStable<A> {
     fn store(&mut self, pos: u32, entry: &Record<Message<A>>) -> Result<(), StoreFault>
         // As every store does.
         ensures answers { Stores self.old pos result }
-        ensures placed { IsPlaced (is_out_of_place self.old.doubtful (length self.old.certain + 1) pos) (length self.old.certain + 1) result }
-        ensures same { IsTrue (is_out_of_place self.old.doubtful (length self.old.certain + 1) pos) → self.new ≡ self.old }
+        ensures placed { IsPlaced
+            (is_out_of_place self.old.doubtful (length self.old.certain + 1) pos)
+            (length self.old.certain + 1) result }
+        ensures same { IsTrue (is_out_of_place self.old.doubtful (length self.old.certain + 1) pos)
+            → self.new ≡ self.old }
         ensures stored { OnOk result (self.new.certain ≡ self.old.certain ++ entry.now ∷ []) }
         ensures failed { OnErr result (self.new.certain ≡ self.old.certain) }
         ensures clear { OnOk result ((self.new.doubtful ≡ false) × (self.new.doubt ≡ None)) }
         ensures doubtful { IfErr result (λ e. is_place e ≡ false → self.new.doubtful ≡ true) }
-        ensures doubt { IfErr result (λ e. is_place e ≡ false → (self.new.doubt ≡ None) ⊎ (self.new.doubt ≡ Some entry.now)) }
-        ensures stop { (records : List Entry) → IsContents self.new.certain self.new.doubt records → IsContents self.old.certain self.old.doubt records ⊎ (records ≡ self.old.certain ++ entry.now ∷ []) }
+        ensures doubt { IfErr result (λ e.
+            is_place e ≡ false → (self.new.doubt ≡ None) ⊎ (self.new.doubt ≡ Some entry.now)) }
+        ensures stop { (records : List Entry)
+            → IsContents self.new.certain self.new.doubt records
+            → IsContents self.old.certain self.old.doubt records
+            ⊎ (records ≡ self.old.certain ++ entry.now ∷ []) }
         ensures device { result ≡ Err StoreFault.Device → self.old.failures < self.new.failures }
         ensures counts { self.old.failures ≤ self.new.failures }
 
         // What it answers and leaves exactly, where it is in place: unarmed, and armed with each failure. Where no further
         // failure can be counted, an armed store has no memory.
-        ensures unarmed { is_out_of_place self.old.doubtful (length self.old.certain + 1) pos ≡ false → self.old.armed ≡ None → ((result ≡ Ok tt) × (self.new ≡ with_record entry.now self.old)) ⊎ ((result ≡ Err StoreFault.NoMemory) × (self.new ≡ without_memory self.old)) }
-        ensures keeps_nothing { is_out_of_place self.old.doubtful (length self.old.certain + 1) pos ≡ false → self.old.armed ≡ Some Failure.Old → self.old.failures < 2 ^ 64 - 1 → (result ≡ Err StoreFault.Device) × (self.new ≡ after_failure None self.old) }
-        ensures keeps_it { is_out_of_place self.old.doubtful (length self.old.certain + 1) pos ≡ false → self.old.armed ≡ Some Failure.New → self.old.failures < 2 ^ 64 - 1 → ((result ≡ Err StoreFault.Device) × (self.new ≡ after_failure (Some entry.now) self.old)) ⊎ ((result ≡ Err StoreFault.NoMemory) × (self.new ≡ without_memory self.old)) }
-        ensures uncounted { is_out_of_place self.old.doubtful (length self.old.certain + 1) pos ≡ false → OnSome self.old.armed (2 ^ 64 - 1 ≤ self.old.failures → (result ≡ Err StoreFault.NoMemory) × (self.new ≡ without_memory self.old)) }
+        ensures unarmed { is_out_of_place self.old.doubtful (length self.old.certain + 1) pos
+            ≡ false
+            → self.old.armed ≡ None
+            → ((result ≡ Ok tt) × (self.new ≡ with_record entry.now self.old))
+            ⊎ ((result ≡ Err StoreFault.NoMemory) × (self.new ≡ without_memory self.old)) }
+        ensures keeps_nothing { is_out_of_place self.old.doubtful (length self.old.certain + 1) pos
+            ≡ false
+            → self.old.armed ≡ Some Failure.Old
+            → self.old.failures < 2 ^ 64 - 1
+            → (result ≡ Err StoreFault.Device) × (self.new ≡ after_failure None self.old) }
+        ensures keeps_it { is_out_of_place self.old.doubtful (length self.old.certain + 1) pos
+            ≡ false
+            → self.old.armed ≡ Some Failure.New
+            → self.old.failures < 2 ^ 64 - 1
+            → ((result ≡ Err StoreFault.Device)
+            × (self.new ≡ after_failure (Some entry.now) self.old))
+            ⊎ ((result ≡ Err StoreFault.NoMemory) × (self.new ≡ without_memory self.old)) }
+        ensures uncounted { is_out_of_place self.old.doubtful (length self.old.certain + 1) pos
+            ≡ false
+            → OnSome self.old.armed (2 ^ 64 - 1 ≤ self.old.failures
+            → (result ≡ Err StoreFault.NoMemory) × (self.new ≡ without_memory self.old)) }
     {
         let next = self.next();
         if pos != next || self.doubtful || next == u32::MAX {
@@ -179,13 +210,19 @@ impl<A: Allocator + Copy> Stable for MemStable<A> {
 
     fn retrieve(&mut self, alloc: A) -> Result<Vec<Record<Message<A>>, A>, StoreFault>
         // As every store does.
-        ensures answers { MatchResult result (λ records. Retrieves self.old (Ok records.items)) (λ e. Retrieves self.old (Err e)) }
-        ensures given { IfOk result (λ records. (self.new.certain ≡ records.items) × IsContents self.old.certain self.old.doubt records.items) }
+        ensures answers { MatchResult result (λ records. Retrieves self.old (Ok records.items))
+            (λ e. Retrieves self.old (Err e)) }
+        ensures given { IfOk result (λ records. (self.new.certain ≡ records.items)
+            × IsContents self.old.certain self.old.doubt records.items) }
         ensures clear { OnOk result ((self.new.doubtful ≡ false) × (self.new.doubt ≡ None)) }
         ensures failed { OnErr result (self.new.certain ≡ self.old.certain) }
-        ensures kept { OnErr result ((self.new.doubtful ≡ self.old.doubtful) × (self.new.doubt ≡ self.old.doubt) × (length self.new.certain + 1 ≡ length self.old.certain + 1)) }
+        ensures kept { OnErr result ((self.new.doubtful ≡ self.old.doubtful)
+            × (self.new.doubt ≡ self.old.doubt)
+            × (length self.new.certain + 1 ≡ length self.old.certain + 1)) }
         ensures faults { IfErr result (λ e. (is_place e ≡ false) × (is_bad_row e ≡ false)) }
-        ensures stop { (records : List Entry) → IsContents self.new.certain self.new.doubt records → IsContents self.old.certain self.old.doubt records }
+        ensures stop { (records : List Entry)
+            → IsContents self.new.certain self.new.doubt records
+            → IsContents self.old.certain self.old.doubt records }
         ensures device { result ≡ Err StoreFault.Device → self.old.failures < self.new.failures }
         ensures counts { self.old.failures ≤ self.new.failures }
 

@@ -129,19 +129,28 @@ pub trait Stable {
         ensures answers { stores self.old pos entry.now result }
 
         // Place comes exactly where the store is out of place, and then nothing changes.
-        ensures placed { IsPlaced (is_out_of_place (is_doubtful self.old) (place self.old) pos) (place self.old) result }
-        ensures same { IsTrue (is_out_of_place (is_doubtful self.old) (place self.old) pos) → self.new ≡ self.old }
+        ensures placed { IsPlaced (is_out_of_place (is_doubtful self.old) (place self.old) pos)
+            (place self.old) result }
+        ensures same { IsTrue (is_out_of_place (is_doubtful self.old) (place self.old) pos)
+            → self.new ≡ self.old }
 
         // The record is certain after Ok, and may be there after another fault.
-        ensures stored { is_honest self.new → OnOk result (certain self.new ≡ certain self.old ++ entry.now ∷ []) }
+        ensures stored { is_honest self.new
+            → OnOk result (certain self.new ≡ certain self.old ++ entry.now ∷ []) }
         ensures failed { is_honest self.new → OnErr result (certain self.new ≡ certain self.old) }
         ensures clear { OnOk result ((is_doubtful self.new ≡ false) × (doubt self.new ≡ None)) }
         ensures doubtful { IfErr result (λ e. is_place e ≡ false → is_doubtful self.new ≡ true) }
-        ensures doubt { IfErr result (λ e. is_place e ≡ false → (doubt self.new ≡ None) ⊎ (doubt self.new ≡ Some entry.now)) }
+        ensures doubt { IfErr result (λ e.
+            is_place e ≡ false → (doubt self.new ≡ None) ⊎ (doubt self.new ≡ Some entry.now)) }
 
         // A stop, also inside this call, leaves what the storage may hold, or its certain records with this one.
-        ensures stop { is_honest self.old → is_clean self.new → leaves_only self.new (λ records. IsContents (certain self.old) (doubt self.old) records ⊎ (records ≡ certain self.old ++ entry.now ∷ [])) }
-        ensures rest { is_honest self.new → leaves_only self.new (IsContents (certain self.new) (doubt self.new)) }
+        ensures stop { is_honest self.old
+            → is_clean self.new
+            → leaves_only self.new (λ records.
+            IsContents (certain self.old) (doubt self.old) records
+            ⊎ (records ≡ certain self.old ++ entry.now ∷ [])) }
+        ensures rest { is_honest self.new
+            → leaves_only self.new (IsContents (certain self.new) (doubt self.new)) }
 
         // Device comes only where the count of failures rose.
         ensures device { result ≡ Err StoreFault.Device → failures self.old < failures self.new }
@@ -151,7 +160,9 @@ pub trait Stable {
 
         // What was not given back as it was written is never forgotten, and an honest storage stays so, or is shut.
         ensures clean { is_clean self.new → is_clean self.old }
-        ensures shut { is_honest self.old → is_clean self.new → is_honest self.new ⊎ is_shut self.new };
+        ensures shut { is_honest self.old
+            → is_clean self.new
+            → is_honest self.new ⊎ is_shut self.new };
 
     /// All records; what it gives is certain from then on. One that fails changes nothing but the count of failures.
     fn retrieve(
@@ -159,20 +170,29 @@ pub trait Stable {
         alloc: Self::Alloc,
     ) -> Result<Vec<Record<Message<Self::Alloc>>, Self::Alloc>, StoreFault>
         // It answers as this storage does.
-        ensures answers { MatchResult result (λ records. answers self.old (Ok records.items)) (λ e. answers self.old (Err e)) }
+        ensures answers { MatchResult result (λ records. answers self.old (Ok records.items))
+            (λ e. answers self.old (Err e)) }
 
         // It gives what the storage may hold, and that is certain then.
-        ensures given { is_honest self.new → IfOk result (λ records. (certain self.new ≡ records.items) × IsContents (certain self.old) (doubt self.old) records.items) }
+        ensures given { is_honest self.new
+            → IfOk result (λ records. (certain self.new ≡ records.items)
+            × IsContents (certain self.old) (doubt self.old) records.items) }
         ensures clear { OnOk result ((is_doubtful self.new ≡ false) × (doubt self.new ≡ None)) }
 
         // A fault leaves what was there, and is never Place; nor BadRow, where the storage is honest.
         ensures failed { is_honest self.new → OnErr result (certain self.new ≡ certain self.old) }
-        ensures kept { OnErr result ((is_doubtful self.new ≡ is_doubtful self.old) × (doubt self.new ≡ doubt self.old) × (place self.new ≡ place self.old)) }
-        ensures faults { IfErr result (λ e. (is_place e ≡ false) × (is_honest self.new → is_bad_row e ≡ false)) }
+        ensures kept { OnErr result ((is_doubtful self.new ≡ is_doubtful self.old)
+            × (doubt self.new ≡ doubt self.old)
+            × (place self.new ≡ place self.old)) }
+        ensures faults { IfErr result
+            (λ e. (is_place e ≡ false) × (is_honest self.new → is_bad_row e ≡ false)) }
 
         // A stop, also inside this call, leaves what the storage may hold.
-        ensures stop { is_honest self.old → is_clean self.new → leaves_only self.new (IsContents (certain self.old) (doubt self.old)) }
-        ensures rest { is_honest self.new → leaves_only self.new (IsContents (certain self.new) (doubt self.new)) }
+        ensures stop { is_honest self.old
+            → is_clean self.new
+            → leaves_only self.new (IsContents (certain self.old) (doubt self.old)) }
+        ensures rest { is_honest self.new
+            → leaves_only self.new (IsContents (certain self.new) (doubt self.new)) }
 
         // Device comes only where the count of failures rose.
         ensures device { result ≡ Err StoreFault.Device → failures self.old < failures self.new }
@@ -182,9 +202,16 @@ pub trait Stable {
 
         // What was not given back as it was written is never forgotten, and an honest storage stays so, or is shut.
         ensures clean { is_clean self.new → is_clean self.old }
-        ensures shut { is_honest self.old → is_clean self.new → is_honest self.new ⊎ is_shut self.new }
+        ensures shut { is_honest self.old
+            → is_clean self.new
+            → is_honest self.new ⊎ is_shut self.new }
 
         // One that is shut gives nothing, and stays so; and of any storage a stop leaves no more than before the call.
-        ensures refuses { is_shut self.old → is_clean self.new → OnOk result ⊥ × OnErr result (is_shut self.new) }
-        ensures lasts { is_clean self.new → (certain : List Entry) (doubtful : Option Entry) → leaves_only self.old (IsContents certain doubtful) → leaves_only self.new (IsContents certain doubtful) };
+        ensures refuses { is_shut self.old
+            → is_clean self.new
+            → OnOk result ⊥ × OnErr result (is_shut self.new) }
+        ensures lasts { is_clean self.new
+            → (certain : List Entry) (doubtful : Option Entry)
+            → leaves_only self.old (IsContents certain doubtful)
+            → leaves_only self.new (IsContents certain doubtful) };
 }

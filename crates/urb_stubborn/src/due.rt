@@ -48,7 +48,10 @@ pub(crate) fn settled_to<A: Allocator + Copy>(
     from: u32,
 ) -> u32
     ensures from { from ≤ result }
-    ensures settled { (k : ℕ) → from < k → k ≤ result → is_due config.n node heard.now.marks (name sender k) ≡ false }
+    ensures settled { (k : ℕ)
+        → from < k
+        → k ≤ result
+        → is_due config.n node heard.now.marks (name sender k) ≡ false }
 {
     let mut end = from;
     while end < u32::MAX {

@@ -60,7 +60,8 @@ impl<A: Allocator + Copy> Outbox<A> {
         certified: bool,
         heard: Option<NodeId>,
     ) -> Result<Outbox<A>, NoMemory>
-        ensures { IfOk result (λ outbox. outbox ≡ to_others config.n node certified heard (name, message.now)) }
+        ensures { IfOk result
+            (λ outbox. outbox ≡ to_others config.n node certified heard (name, message.now)) }
     {
         let mut packets = Vec::new(alloc);
         push_to_others(
@@ -121,7 +122,11 @@ pub(crate) fn push_to_unheard<A: Allocator + Copy>(
     message: &Message<A>,
     certified: bool,
 ) -> Result<(), NoMemory>
-    ensures { OnOk result (packets.new.items ≡ packets.old.items ++ packets_to node (λ q. record { certified = certified; heard = false }) (filter (λ q. not (acked heard.now.marks name q)) (others config.n node)) (name, message.now)) }
+    ensures { OnOk result (packets.new.items
+        ≡ packets.old.items
+        ++ packets_to node (λ q. record { certified = certified; heard = false })
+        (filter (λ q. not (acked heard.now.marks name q)) (others config.n node))
+        (name, message.now)) }
 {
     for number in 1..config.n() + 1 {
         let target = NodeId::new(number).unwrap();
@@ -147,7 +152,8 @@ fn push_to_others<A: Allocator + Copy>(
     certified: bool,
     heard: Option<NodeId>,
 ) -> Result<(), NoMemory>
-    ensures { OnOk result (packets.new.items ≡ packets.old.items ++ to_others config.n node certified heard (name, message.now)) }
+    ensures { OnOk result (packets.new.items
+        ≡ packets.old.items ++ to_others config.n node certified heard (name, message.now)) }
 {
     let end = config.n() + 1;
     for number in 1..end {

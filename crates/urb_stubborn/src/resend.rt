@@ -61,7 +61,8 @@ impl<A: Allocator + Copy> Resend<A> {
     /// later is taken from `alloc`.
     pub fn new(alloc: A, config: Config, node: NodeId) -> Resend<A>
         requires { node ≤ config.n }
-        ensures { result ≡ record { limits = config; node = node; cursor = None; heard = []; roomy = [] } }
+        ensures { result
+            ≡ record { limits = config; node = node; cursor = None; heard = []; roomy = [] } }
     {
         Resend {
             config,
@@ -75,7 +76,8 @@ impl<A: Allocator + Copy> Resend<A> {
     /// Makes room for a name, so that each node's certificate of it can be heard without memory. The room stays. `NoMemory`
     /// means that a growth was refused: the call may be made again.
     pub fn reserve(&mut self, name: Name) -> Result<(), NoMemory>
-        ensures ok { OnOk result (self.new ≡ record self.old { roomy = with_name self.old.roomy name }) }
+        ensures ok { OnOk result
+            (self.new ≡ record self.old { roomy = with_name self.old.roomy name }) }
         ensures err { OnErr result (self.new ≡ self.old) }
     {
         self.heard.make_room(name)
@@ -131,7 +133,8 @@ impl<A: Allocator + Copy> Resend<A> {
         pending: &Pending<A>,
         certified: &Certified<A>,
     ) -> Result<Outbox<A>, NoMemory>
-        ensures packets { IfOk result (λ outbox. outbox ≡ tick_packets self.old pending.now.pairs certified.now.names) }
+        ensures packets { IfOk result
+            (λ outbox. outbox ≡ tick_packets self.old pending.now.pairs certified.now.names) }
         ensures ok { OnOk result (self.new ≡ ticked self.old pending.now.pairs) }
         ensures err { OnErr result (self.new ≡ self.old) }
     {
@@ -153,7 +156,8 @@ impl<A: Allocator + Copy> Resend<A> {
         certified: &Certified<A>,
     ) -> Result<Turn, NoMemory>
         requires { packets.old.items ≡ [] }
-        ensures { IfOk result (λ after. IsTick self.now pending.now.pairs certified.now.names after packets.new.items) }
+        ensures { IfOk result (λ after.
+            IsTick self.now pending.now.pairs certified.now.names after packets.new.items) }
     {
         let begun = Turn {
             left: NAMES_A_TICK,
@@ -184,7 +188,8 @@ impl<A: Allocator + Copy> Resend<A> {
 
     // The name after which the next due one of a sender may come, where this one isn't due.
     fn passed(&self, name: Name) -> Option<Name>
-        ensures due { IfNone result (is_due self.now.limits.n self.now.node self.now.heard name ≡ true) }
+        ensures due { IfNone result
+            (is_due self.now.limits.n self.now.node self.now.heard name ≡ true) }
         ensures passed { IfSome result (IsPassed self.now name) }
     {
         let settled = self.settled[name.sender.number() as usize - 1];
@@ -224,7 +229,8 @@ impl<A: Allocator + Copy> Resend<A> {
         from: Option<Name>,
         last: &Option<Name>,
     ) -> Option<Name>
-        ensures { result ≡ first_name (between from last.now (due_pairs self.now pending.now.pairs)) }
+        ensures { result
+            ≡ first_name (between from last.now (due_pairs self.now pending.now.pairs)) }
     {
         pending.limits();
         let name = self.next_due(pending, from)?;
@@ -246,7 +252,9 @@ impl<A: Allocator + Copy> Resend<A> {
         last: &Option<Name>,
         turn: Turn,
     ) -> Result<Turn, NoMemory>
-        ensures { IfOk result (λ after. IsWalked self.now certified.now.names (take turn.left (between from last.now (due_pairs self.now pending.now.pairs))) turn packets.old.items after packets.new.items) }
+        ensures { IfOk result (λ after. IsWalked self.now certified.now.names
+            (take turn.left (between from last.now (due_pairs self.now pending.now.pairs))) turn
+            packets.old.items after packets.new.items) }
     {
         pending.limits();
         let mut at = from;

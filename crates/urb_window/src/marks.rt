@@ -92,7 +92,9 @@ fn mark<A: Allocator + Copy>(
     requires new { acked (marks_in masks.old.entries) name number ≡ false }
     ensures ok { OnOk result (marks_of masks.new ≡ with_mark (marks_of masks.old) name number) }
     ensures err { OnErr result (masks.new ≡ masks.old) }
-    ensures roomy { (has_name (names_of masks.old.entries) name ≡ false → masks.old.reserved ≡ Some name) → IsOk result }
+    ensures roomy { (has_name (names_of masks.old.entries) name ≡ false
+        → masks.old.reserved ≡ Some name)
+        → IsOk result }
 {
     masks.limits();
     let mask = with_bit(mask_of(masks, name), number);
@@ -194,7 +196,8 @@ impl<A: Allocator + Copy> Marks<A> {
         ensures ok { OnOk result (self.new ≡ with_mark self.old name node) }
         ensures err { OnErr result (self.new ≡ self.old) }
         // Want of memory comes never for a name that has room, or for which room is reserved.
-        ensures roomy { (has_name self.old.roomy name ≡ false → self.old.reserved ≡ Some name) → IsOk result }
+        ensures roomy { (has_name self.old.roomy name ≡ false → self.old.reserved ≡ Some name)
+            → IsOk result }
     {
         mark(&mut self.masks, name, node.number())
     }

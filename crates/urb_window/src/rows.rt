@@ -76,7 +76,8 @@ pub(crate) fn entry_of<T, A: Allocator + Copy>(
     index: usize,
 ) -> Option<(Name, &T)>
     requires { length rows.now ≤ 7 }
-    ensures { option_map (λ entry. (entry.0, entry.1.now)) result ≡ slice_get (entries_from 1 rows.now) index }
+    ensures { option_map (λ entry. (entry.0, entry.1.now)) result
+        ≡ slice_get (entries_from 1 rows.now) index }
 {
     let mut left = index;
     for i in 0..rows.len() {
@@ -99,7 +100,9 @@ pub(crate) fn first_from<T, A: Allocator + Copy>(
     start: usize,
 ) -> Option<Name>
     requires { length rows.now ≤ 7 }
-    ensures { result ≡ option_map (λ entry. entry.0) (slice_get (entries_from (start + 1) (drop start rows.now)) 0) }
+    ensures { result
+        ≡ option_map (λ entry. entry.0)
+        (slice_get (entries_from (start + 1) (drop start rows.now)) 0) }
 {
     for i in start..rows.len() {
         let row = &rows[i];
@@ -115,7 +118,9 @@ pub(crate) fn first_from<T, A: Allocator + Copy>(
 // The first name behind this one.
 pub(crate) fn after_in<T, A: Allocator + Copy>(rows: &[Window<T, A>], name: Name) -> Option<Name>
     requires { length rows.now ≤ 7 }
-    ensures { result ≡ option_map (λ entry. entry.0) (find (λ entry. name_lt name entry.0) (entries_from 1 rows.now)) }
+    ensures { result
+        ≡ option_map (λ entry. entry.0)
+        (find (λ entry. name_lt name entry.0) (entries_from 1 rows.now)) }
 {
     let index = index_of(name.sender);
     match rows.get(index) {

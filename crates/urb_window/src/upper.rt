@@ -44,7 +44,8 @@ pub(crate) fn take_first<T, A: Allocator>(
     number: usize,
 ) -> Option<T>
     ensures some { IfSome result (λ v. above.old.items ≡ (number, v) ∷ above.new.items) }
-    ensures none { IfNone result ((above.new.items ≡ above.old.items) × (holds_at above.old.items 0 number ≡ false)) }
+    ensures none { IfNone result
+        ((above.new.items ≡ above.old.items) × (holds_at above.old.items 0 number ≡ false)) }
     ensures len { IfSome result (λ _. deque_len above.new + 1 ≡ deque_len above.old) }
     ensures rest { IfNone result (deque_len above.new ≡ deque_len above.old) }
     ensures capacity { deque_capacity above.new ≡ deque_capacity above.old }

@@ -103,7 +103,8 @@ impl<T, A: Allocator + Copy> Window<T, A> {
 
     // The pair at a place in the order of numbers, from 0.
     pub(crate) fn pair(&self, index: usize) -> Option<(u32, &T)>
-        ensures { option_map (λ pair. (pair.0, pair.1.now)) result ≡ slice_get (pairs_of self.now) index }
+        ensures { option_map (λ pair. (pair.0, pair.1.now)) result
+            ≡ slice_get (pairs_of self.now) index }
     {
         if index < self.low.len() {
             return Some((index as u32 + 1, &self.low[index]));
@@ -116,7 +117,9 @@ impl<T, A: Allocator + Copy> Window<T, A> {
 
     // The first number over this one.
     pub(crate) fn after(&self, number: u32) -> Option<u32>
-        ensures { result ≡ option_map (λ pair. pair.0) (find (λ pair. nat_lt number pair.0) (pairs_of self.now)) }
+        ensures { result
+            ≡ option_map (λ pair. pair.0)
+            (find (λ pair. nat_lt number pair.0) (pairs_of self.now)) }
     {
         if (number as usize) < self.low.len() {
             return Some(number + 1);
@@ -192,12 +195,18 @@ fn extend<T, A: Allocator>(
     above: &mut VecDeque<(u32, T), A>,
     value: T,
 ) -> Result<(), T>
-    requires row { IsRow (record { low = low.old.items; above = above.old.items; reserved = None }) }
+    requires row { IsRow
+        (record { low = low.old.items; above = above.old.items; reserved = None }) }
     requires few { length low.old.items + 1 < 2 ^ 32 }
-    ensures row { OnOk result (IsRow (record { low = low.new.items; above = above.new.items; reserved = None })) }
-    ensures pairs { OnOk result (counted_from 1 low.new.items ++ above.new.items ≡ placed number_lt (counted_from 1 low.old.items ++ above.old.items) (length low.old.items + 1, value)) }
-    ensures err { IfErr result (λ v. (v ≡ value) × (low.new.items ≡ low.old.items) × (above.new ≡ above.old)) }
-    ensures room { OnErr result ((vec_len low.new ≡ vec_len low.old) × (vec_capacity low.old ≤ vec_capacity low.new)) }
+    ensures row { OnOk result
+        (IsRow (record { low = low.new.items; above = above.new.items; reserved = None })) }
+    ensures pairs { OnOk result (counted_from 1 low.new.items ++ above.new.items
+        ≡ placed number_lt (counted_from 1 low.old.items ++ above.old.items)
+        (length low.old.items + 1, value)) }
+    ensures err { IfErr result
+        (λ v. (v ≡ value) × (low.new.items ≡ low.old.items) × (above.new ≡ above.old)) }
+    ensures room { OnErr result
+        ((vec_len low.new ≡ vec_len low.old) × (vec_capacity low.old ≤ vec_capacity low.new)) }
     ensures roomy { vec_len low.old + deque_len above.old + 1 ≤ vec_capacity low.old → IsOk result }
 {
     if low.reserve(above.len() + 1).is_err() {
@@ -214,7 +223,8 @@ fn close_gap<T, A: Allocator>(low: &mut Vec<T, A>, above: &mut VecDeque<(u32, T)
     requires few { length low.old.items < 2 ^ 32 }
     requires room { vec_len low.old + deque_len above.old ≤ vec_capacity low.old }
     ensures row { IsRow (record { low = low.new.items; above = above.new.items; reserved = None }) }
-    ensures pairs { counted_from 1 low.new.items ++ above.new.items ≡ counted_from 1 low.old.items ++ above.old.items }
+    ensures pairs { counted_from 1 low.new.items ++ above.new.items
+        ≡ counted_from 1 low.old.items ++ above.old.items }
 {
     while let Some(value) = take_first(above, low.len() + 1) {
         low.push_reserved(value);
@@ -229,7 +239,10 @@ fn put_above<T, A: Allocator>(
 ) -> Result<(), T>
     requires { AreOver 0 above.old.items }
     ensures ok { OnOk result (above.new.items ≡ placed number_lt above.old.items (number, value)) }
-    ensures err { IfErr result (λ v. (v ≡ value) × (above.new.items ≡ above.old.items) × (deque_len above.new ≡ deque_len above.old) × (deque_capacity above.old ≤ deque_capacity above.new)) }
+    ensures err { IfErr result (λ v. (v ≡ value)
+        × (above.new.items ≡ above.old.items)
+        × (deque_len above.new ≡ deque_len above.old)
+        × (deque_capacity above.old ≤ deque_capacity above.new)) }
     ensures roomy { deque_len above.old < deque_capacity above.old → IsOk result }
 {
     let place = place_of(above, number);

@@ -67,7 +67,8 @@ impl<T, A: Allocator + Copy> Windows<T, A> {
     pub fn replace(&mut self, name: Name, value: T) -> T
         requires { IsSome (value_of self.old.entries name) }
         ensures old { value_of self.old.entries name ≡ Some result }
-        ensures new { self.new ≡ record self.old { entries = with_value self.old.entries name value } }
+        ensures new { self.new
+            ≡ record self.old { entries = with_value self.old.entries name value } }
     {
         name.limits();
         let row = &mut self.rows[index_of(name.sender)];
@@ -155,7 +156,8 @@ impl<T, A: Allocator + Copy> Windows<T, A> {
 
     /// The entry at a place in the order of names, from 0.
     pub fn entry(&self, index: usize) -> Option<(Name, &T)>
-        ensures { option_map (λ entry. (entry.0, entry.1.now)) result ≡ slice_get self.now.entries index }
+        ensures { option_map (λ entry. (entry.0, entry.1.now)) result
+            ≡ slice_get self.now.entries index }
     {
         entry_of(&self.rows, index)
     }
@@ -169,7 +171,9 @@ impl<T, A: Allocator + Copy> Windows<T, A> {
 
     /// The first name behind this one in the order of names.
     pub fn after(&self, name: Name) -> Option<Name>
-        ensures { result ≡ option_map (λ entry. entry.0) (find (λ entry. name_lt name entry.0) self.now.entries) }
+        ensures { result
+            ≡ option_map (λ entry. entry.0)
+            (find (λ entry. name_lt name entry.0) self.now.entries) }
     {
         after_in(&self.rows, name)
     }

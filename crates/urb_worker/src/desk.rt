@@ -95,7 +95,8 @@ impl<'a, K: HouseName, R: Wait> NodeDesk<'a, K, R> {
 
     // Has the worker do a job, and learns what it tells.
     fn work(&mut self, job: Job) -> Result<Response, NoMemory>
-        ensures { IfOk result (λ response. (self.new.node ≡ self.old.node) × Works self.old (said_by response) self.new) }
+        ensures { IfOk result (λ response.
+            (self.new.node ≡ self.old.node) × Works self.old (said_by response) self.new) }
     {
         match self.finished(job)? {
             Some(finished) => Ok(self.answered(finished)),
@@ -106,7 +107,8 @@ impl<'a, K: HouseName, R: Wait> NodeDesk<'a, K, R> {
     // Reads the node's published list.
     fn read(&mut self, place: u32, max: u8) -> Result<Response, NoMemory>
         requires { (1 ≤ place) × (max ≤ 8) }
-        ensures { IfOk result (λ response. (self.new.node ≡ self.old.node) × Reads self.old place max (said_by response) self.new) }
+        ensures { IfOk result (λ response. (self.new.node ≡ self.old.node)
+            × Reads self.old place max (said_by response) self.new) }
     {
         match self.reader.read(self.alloc, self.node, place, max) {
             Ok(page) => page_told(self.alloc, page.entries),

@@ -97,7 +97,8 @@ impl<K: HouseName, L: HubName> Hub<K, L> {
     pub fn close(self, tallies: Vec<Tally<L>>) -> House<K>
         requires { vec_len tallies ≡ L.parts }
         ensures counted { result.events ≡ count_after (sum tallies.items) L.start }
-        ensures sum { L.start + sum tallies.items < 2 ^ 64 → result.events ≡ L.start + sum tallies.items }
+        ensures sum { L.start + sum tallies.items < 2 ^ 64
+            → result.events ≡ L.start + sum tallies.items }
     {
         let Hub { tallied } = self;
         tallied.into_inner().close(tallies)

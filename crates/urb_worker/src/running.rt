@@ -57,11 +57,16 @@ fn make_rooms<K: HouseName, L: HubName, S: Stable<Alloc = Global> + Drop>(
     alloc: Global,
     count: usize,
 ) -> Result<Rooms<K, L, S>, AllocError>
-    ensures lines { IfOk result (λ made. (vec_len made.lines ≡ count) × (vec_len made.jobs ≡ count)) }
-    ensures seats { IfOk result (λ made. (vec_len made.seats ≡ 0) × (count ≤ vec_capacity made.seats)) }
-    ensures workers { IfOk result (λ made. (vec_len made.workers ≡ 0) × (count ≤ vec_capacity made.workers)) }
-    ensures stores { IfOk result (λ made. (vec_len made.stores ≡ 0) × (count ≤ vec_capacity made.stores)) }
-    ensures tallies { IfOk result (λ made. (vec_len made.tallies ≡ 0) × (count ≤ vec_capacity made.tallies)) }
+    ensures lines { IfOk result
+        (λ made. (vec_len made.lines ≡ count) × (vec_len made.jobs ≡ count)) }
+    ensures seats { IfOk result
+        (λ made. (vec_len made.seats ≡ 0) × (count ≤ vec_capacity made.seats)) }
+    ensures workers { IfOk result
+        (λ made. (vec_len made.workers ≡ 0) × (count ≤ vec_capacity made.workers)) }
+    ensures stores { IfOk result
+        (λ made. (vec_len made.stores ≡ 0) × (count ≤ vec_capacity made.stores)) }
+    ensures tallies { IfOk result
+        (λ made. (vec_len made.tallies ≡ 0) × (count ≤ vec_capacity made.tallies)) }
 {
     let (lines, jobs) = channels(alloc, count)?;
     Ok(Rooms {
@@ -87,7 +92,8 @@ fn seat_all<K: HouseName, L: HubName, S: Stable<Alloc = Global> + Drop>(
     requires nodes { vec_len stores ≤ 7 }
     ensures count { vec_len result ≡ vec_len stores }
     ensures stores { reverse (each result.items (λ seat. seat.store)) ≡ stores.items }
-    ensures nodes { reverse (each result.items (λ seat. seat.node)) ≡ numbers_from 1 (vec_len stores) }
+    ensures nodes { reverse (each result.items (λ seat. seat.node))
+        ≡ numbers_from 1 (vec_len stores) }
 {
     let mut seats = seats;
     let mut stores = stores;
@@ -179,7 +185,8 @@ where
     requires lines { vec_len lines ≡ length stations.now }
     ensures stores { vec_len result.0.0 ≡ vec_len crew.seats }
     ensures tallies { vec_len result.0.1 ≡ vec_len crew.seats }
-    ensures order { AreServed S.Stable (reverse (each crew.seats.items (λ seat. seat.store))) result.0.0.items }
+    ensures order { AreServed S.Stable (reverse (each crew.seats.items (λ seat. seat.store)))
+        result.0.0.items }
 {
     let Crew {
         seats,
@@ -220,7 +227,8 @@ where
     requires lines { vec_len lines ≡ length stations.now }
     ensures stores { vec_len result.0.0 ≡ vec_len crew.seats }
     ensures tallies { vec_len result.0.1 ≡ vec_len crew.seats }
-    ensures order { AreServed S.Stable (reverse (each crew.seats.items (λ seat. seat.store))) result.0.0.items }
+    ensures order { AreServed S.Stable (reverse (each crew.seats.items (λ seat. seat.store)))
+        result.0.0.items }
 {
     thread::scope(
         thread::scope_env(),
@@ -231,7 +239,8 @@ where
                 × (vec_len lines ≡ length stations.now) }
             ensures { (vec_len result.0.0 ≡ vec_len crew.seats)
                 × (vec_len result.0.1 ≡ vec_len crew.seats)
-                × AreServed S.Stable (reverse (each crew.seats.items (λ seat. seat.store))) result.0.0.items }
+                × AreServed S.Stable (reverse (each crew.seats.items (λ seat. seat.store)))
+                result.0.0.items }
         {
             run_crew(
                 scope, rt, alloc, hub, link, crew, lines, readers, millis, stations, watch,

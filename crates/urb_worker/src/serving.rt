@@ -35,7 +35,8 @@ fn send_all<N: Link>(alloc: Global, link: &N, packets: &Outbox) {
 
 // The packets that a reply hands out: those of a stored record, of a tick, or in answer to a packet.
 fn packets_in(reply: &Reply) -> Option<&Outbox>
-    ensures { MatchOption result (packets_in (reply_of reply.now) ≡ []) (λ packets. packets.now ≡ packets_in (reply_of reply.now)) }
+    ensures { MatchOption result (packets_in (reply_of reply.now) ≡ [])
+        (λ packets. packets.now ≡ packets_in (reply_of reply.now)) }
 {
     match reply {
         Reply::Stored(done) => Some(&done.sent),

@@ -88,7 +88,9 @@ pub(crate) fn start<
     requires { (vec_len workers ≡ 0) × (vec_len seats ≤ vec_capacity workers) }
     ensures workers { vec_len result.0 ≡ vec_len seats }
     // The workers have the stores of the seats, in falling order.
-    ensures order { each result.0.items (λ worker. in_either worker (λ thread. thread.promise.0.value) (λ left. left.came.value)) ≡ reverse (each seats.items (λ seat. seat.store)) }
+    ensures order { each result.0.items (λ worker.
+        in_either worker (λ thread. thread.promise.0.value) (λ left. left.came.value))
+        ≡ reverse (each seats.items (λ seat. seat.store)) }
     ensures lines { IfSome result.1 (λ kept. vec_len kept ≡ vec_len lines) }
 {
     let mut lines = Some(lines);
@@ -116,7 +118,8 @@ fn left_by<L: HubName, S: Stable<Alloc = Global> + Drop, R: Threads>(
     rt: &R,
     worker: Worker<L, S>,
 ) -> (S, Tally<L>)
-    ensures { IsLeftOf S.Stable (in_either worker (λ thread. thread.promise.0.value) (λ left. left.came.value)) result.0 }
+    ensures { IsLeftOf S.Stable
+        (in_either worker (λ thread. thread.promise.0.value) (λ left. left.came.value)) result.0 }
 {
     match worker {
         Ok(thread) => thread.join(rt),
@@ -143,7 +146,10 @@ pub(crate) fn gather<L: HubName, S: Stable<Alloc = Global> + Drop, R: Threads>(
     ensures stores { vec_len result.0 ≡ vec_len workers }
     ensures tallies { vec_len result.1 ≡ vec_len workers }
     // Each store is that of its worker, after its turns.
-    ensures order { AreServed S.Stable (each workers.items (λ worker. in_either worker (λ thread. thread.promise.0.value) (λ left. left.came.value))) result.0.items }
+    ensures order { AreServed S.Stable
+        (each workers.items (λ worker.
+        in_either worker (λ thread. thread.promise.0.value) (λ left. left.came.value)))
+        result.0.items }
 {
     let mut stores = stores;
     let mut tallies = tallies;

@@ -120,7 +120,10 @@ pub(crate) struct Ending<K: HouseName> {
 
 // An ending in which nothing was settled, and no status asked for.
 fn unsettled<K: HouseName>(reply: Reply, events: u8) -> Ending<K>
-    ensures { (result.reply ≡ reply) × (result.status ≡ None) × (result.told ≡ None) × (result.events ≡ events) }
+    ensures { (result.reply ≡ reply)
+        × (result.status ≡ None)
+        × (result.told ≡ None)
+        × (result.events ≡ events) }
 {
     Ending {
         reply,

@@ -51,7 +51,14 @@ impl<K: HouseName> Model for Finished<K> {
 
     ghost Value = { FinishedView };
 
-    ghost view = { λ f. record { job = f.job; reply = f.reply; status = f.status; told = f.told; ran = f.ran; events = f.events } };
+    ghost view = { λ f. record {
+      job = f.job;
+      reply = f.reply;
+      status = f.status;
+      told = f.told;
+      ran = f.ran;
+      events = f.events;
+    } };
 }
 
 impl<K: HouseName> Turn<K> {
@@ -103,7 +110,8 @@ impl<K: HouseName> Turn<K> {
         // What it did to the House, in full.
         ensures step { Finishes house.old self house.new result }
         ensures events { self.events ≤ result.events }
-        ensures counted { house.new.events ≡ count_after (result.events - self.events) house.old.events }
+        ensures counted { house.new.events
+            ≡ count_after (result.events - self.events) house.old.events }
     {
         let Turn {
             job,

@@ -24,7 +24,8 @@ impl<A: Allocator + Copy> Storing<A> {
     /// The message that the node has stored under a name: that of its held record isn't stored.
     pub fn message(&self, name: Name) -> Option<&Message<A>>
         ensures memory { option_map (λ m. m.now) result ≡ message_of self.now.memory.pairs name }
-        ensures stored { FindsMessage (ShowsStoring self.now) name (option_map (λ m. m.now) result) }
+        ensures stored { FindsMessage (ShowsStoring self.now) name
+            (option_map (λ m. m.now) result) }
     {
         self.held.pending.message(name)
     }
