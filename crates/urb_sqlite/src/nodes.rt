@@ -107,6 +107,10 @@ fn files_of_node<K: Contents>(
     }
 }
 
+/// How many pages come into a node's log before they are moved into its file, two a record: four times as many as SQLite
+/// takes by itself, so that fewer than one message in a hundred waits for such a move in a group of three.
+const LOG_PAGES: usize = 4000;
+
 /// Opens the journal of a node at this path, as of `SqlStable::open`, where `K` stands for what the node's files hold: for a
 /// program that opens one journal a node, and comes back to what it stored before.
 pub fn open_node<K: Contents>(
@@ -128,7 +132,8 @@ pub fn open_node<K: Contents>(
     let Ok(random) = RandomState::new(rt) else {
         return Err(StoreFault::Device);
     };
-    let options = Options::new(random.hash_one(&0u8));
+    let mut options = Options::new(random.hash_one(&0u8));
+    options.checkpoint_frames = LOG_PAGES;
     let files = files_of_node::<K>(rt, path, node)?;
     SqlStable::open_files(rt.alloc(), files, options)
 }

@@ -60,7 +60,7 @@ impl<K: HouseName, L: HubName> Hub<K, L> {
     }
 
     /// Does one job at a node's worker, with the node's store. The House is lent for its two events alone: nobody is kept
-    /// from it while the store works.
+    /// from it while the store works. Where nothing is asked of the store, both are done at once.
     pub fn work<S: Stable<Alloc = Global>, G: Gate, R: Wait>(
         &self,
         rt: &R,
@@ -82,6 +82,11 @@ impl<K: HouseName, L: HubName> Hub<K, L> {
         let mut tally = tally;
         let mut tallied = self.tallied.lock(rt);
         let turn = tallied.begin(alloc, job, &mut tally);
+        if turn.is_stored() {
+            let done = tallied.finish(rt, alloc, turn, &mut tally);
+            MutexGuard::unlock(tallied);
+            return (done, tally);
+        }
         MutexGuard::unlock(tallied);
         if turn.is_drafted() {
             gate.before_store(node);

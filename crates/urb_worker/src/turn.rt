@@ -142,6 +142,13 @@ impl<K: HouseName> Turn<K> {
         matches!(self.stage, Stage::Drafted(_))
     }
 
+    // Whether nothing is asked of the store, now or any more.
+    pub(crate) fn is_stored(&self) -> bool
+        ensures { result ≡ is_stored self.now.stage }
+    {
+        !matches!(self.stage, Stage::Drafted(_) | Stage::Retrieving)
+    }
+
     // How many events it was so far.
     pub(crate) fn events(&self) -> u8
         ensures value { result ≡ self.now.events }
