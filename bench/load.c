@@ -4,7 +4,8 @@
 //
 // KIND  submit   urbd's SUBMIT, each thread with a client number of its own, from CLIENT on
 //       read     urbd's READ of 8 entries from place 1 (fewer come where payloads are over 8,178 bytes)
-//       visible  SUBMIT at PORT, then READ at PORT .. PORT + CLIENTS - 1 until each shows the entry; one thread
+//       visible  SUBMIT at PORT, then READ until each node shows the entry: at PORT + 1 .. PORT + CLIENTS - 1, and at PORT,
+//                where it is shown last; one thread
 //       xadd     redis' XADD of one field
 //       xrange   redis' XRANGE of 8 entries from the beginning
 //
@@ -168,7 +169,7 @@ static void *run(void *given) {
   return 0;
 }
 
-// Submits at the first node, and reads at each until it shows the entry.
+// Submits at the first node, and reads at each until it shows the entry, at the first one last.
 static void *run_visible(void *given) {
   struct session *s = given, *readers = calloc(clients, sizeof *readers);
   uint32_t number = 0, *seen = calloc(clients, sizeof *seen);
@@ -188,7 +189,8 @@ static void *run_visible(void *given) {
       continue;
     }
     number++;
-    for (int k = 0; k < clients; k++) {
+    for (int turn = 1; turn <= clients; turn++) {
+      int k = turn % clients;
       do {
         ask_entries(readers[k].socket, seen[k] + 1, 1);
         read_frame(&readers[k], body);
