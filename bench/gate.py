@@ -3,7 +3,7 @@
 
 Runs the gate at the top of a clean clone, on PROCESSORS alone if they are given (as taskset takes them: 0,1), and looks at its
 checks every two seconds, so that a figure may lack two seconds a check. Prints what the gate prints, and then the table and the
-minutes by the clock. Nothing else of the toolchain may run meanwhile. Linux.
+minutes by the clock; so too where it is interrupted, of what was seen. Nothing else of the toolchain may run meanwhile. Linux.
 """
 import os
 import subprocess
@@ -32,15 +32,16 @@ def check_of(process, top):
     return crate, kind, (int(fields[11]) + int(fields[12])) / TICK
 
 
-def watched(gate, top):
-    """Seconds of a processor of each check, by process, until the gate ends."""
-    seen = {}
-    while gate.poll() is None:
-        for process in Path("/proc").iterdir():
-            if process.name.isdigit() and (found := check_of(process, top)):
-                seen[process.name, found[0], found[1]] = found[2]
-        time.sleep(2)
-    return seen
+def watch(gate, top, seen):
+    """Notes the seconds of a processor of each check, by process, until the gate ends or the watch is broken off."""
+    try:
+        while gate.poll() is None:
+            for process in Path("/proc").iterdir():
+                if process.name.isdigit() and (found := check_of(process, top)):
+                    seen[process.name, found[0], found[1]] = found[2]
+            time.sleep(2)
+    except KeyboardInterrupt:
+        gate.wait()
 
 
 def main(words):
@@ -48,7 +49,8 @@ def main(words):
     command = (["taskset", "-c", words[0]] if words else []) + ["rt", "ci"]
     begin = time.monotonic()
     gate = subprocess.Popen(command, cwd=top)
-    seen = watched(gate, top)
+    seen = {}
+    watch(gate, top, seen)
     minutes = (time.monotonic() - begin) / 60
     table = {}
     for (_, crate, kind), seconds in seen.items():
