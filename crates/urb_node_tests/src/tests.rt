@@ -42,7 +42,8 @@ fn message<A: Allocator + Copy>(
     number: u32,
     payload: &[u8],
 ) -> Option<Message<A>>
-    ensures { IfSome result (λ m. m ≡ record { client = client; number = number; payload = payload.now }) }
+    ensures { IfSome result
+        (λ m. m ≡ record { client = client; number = number; payload = payload.now }) }
 {
     if number == 0 || payload.len() > MAX_PAYLOAD {
         return None;

@@ -21,7 +21,12 @@ fn join_pending<A: Allocator + Copy>(
     of: (u16, u32),
     payload: &[u8],
 ) -> bool
-    ensures { IsTrue result → records.new.items ≡ records.old.items ++ Pend (name named.0 named.1) (record { client = of.0; number = of.1; payload = payload.now }) ∷ [] }
+    ensures { IsTrue result
+        → records.new.items
+        ≡ records.old.items
+        ++ Pend (name named.0 named.1)
+        (record { client = of.0; number = of.1; payload = payload.now })
+        ∷ [] }
 {
     match name(named.0, named.1) {
         Some(named) => match message(alloc, of.0, of.1, payload) {
@@ -40,7 +45,12 @@ fn join_certified<A: Allocator + Copy>(
     of: (u16, u32),
     payload: &[u8],
 ) -> bool
-    ensures { IsTrue result → records.new.items ≡ records.old.items ++ PendCert (name named.0 named.1) (record { client = of.0; number = of.1; payload = payload.now }) ∷ [] }
+    ensures { IsTrue result
+        → records.new.items
+        ≡ records.old.items
+        ++ PendCert (name named.0 named.1)
+        (record { client = of.0; number = of.1; payload = payload.now })
+        ∷ [] }
 {
     match name(named.0, named.1) {
         Some(named) => match message(alloc, of.0, of.1, payload) {
@@ -53,7 +63,8 @@ fn join_certified<A: Allocator + Copy>(
 
 // The certificate alone.
 fn join_certificate<A: Allocator + Copy>(records: &mut Records<A>, named: (u8, u32)) -> bool
-    ensures { IsTrue result → records.new.items ≡ records.old.items ++ Cert (name named.0 named.1) ∷ [] }
+    ensures { IsTrue result
+        → records.new.items ≡ records.old.items ++ Cert (name named.0 named.1) ∷ [] }
 {
     match name(named.0, named.1) {
         Some(named) => records.push(Record::Cert(named)).is_ok(),

@@ -22,7 +22,8 @@ fn is_of<A: Allocator + Copy>(packet: &PacketView<'_>, sent: &Message<A>) -> boo
 
 // Whether a message may come to a node under this name: it is the one there, and of a node's own it is there.
 fn may_come<A: Allocator + Copy>(ready: &Ready<A>, named: Name, sent: &Message<A>) -> bool
-    ensures { IsTrue result → MayArrive ready.now.limits ready.now.node ready.now.pairs named sent.now }
+    ensures { IsTrue result
+        → MayArrive ready.now.limits ready.now.node ready.now.pairs named sent.now }
 {
     let (node, config) = ready.place();
     if named.sender.number() > config.n() || named.seq > config.cap() {
