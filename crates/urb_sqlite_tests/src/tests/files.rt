@@ -1,8 +1,10 @@
-//! Journals in real files: closed and opened again, damaged, and written to by stock SQLite.
+//! A journal in a real file: closed and opened again, damaged, and written to by stock SQLite.
 
-use crate::tests::bench::Bench;
-use crate::tests::steps::{Form, Step, THIRD, THREE, TWO};
-use sqlite::{Connection, File, FileStore};
+use super::places::Place;
+use super::records::{Form, Load, TWO};
+use super::steps::{Step, play};
+use super::tables::{THIRD, THREE};
+use sqlite::Connection;
 use std::alloc::Global;
 use std::fs;
 use std::rt::HostRuntime;
@@ -34,145 +36,64 @@ static ANALYZED: [(usize, &'static [u8]); 7] = [
     (1522, b"\x0c\x01\x04\x1b\x00\x0fjournal2"),
 ];
 
-fn put(bytes: &mut [u8], at: usize, part: &[u8]) {
-    for (i, byte) in part.iter().enumerate() {
-        if let Some(place) = bytes.get_mut(at.saturating_add(i)) {
-            *place = *byte;
-        }
-    }
-}
-
-// The bytes of that file.
+// The bytes of that file. Its last part ends it.
 fn analyzed(alloc: Global) -> Option<Vec<u8>> {
     let mut bytes = Vec::new(alloc);
-    bytes.resize(1536, 0).ok()?;
     for (at, part) in &ANALYZED {
-        put(&mut bytes, *at, *part);
+        bytes.resize(*at, 0).ok()?;
+        bytes.extend_from_slice(part).ok()?;
     }
     Some(bytes)
 }
 
-// Whether the directory is made anew.
-fn is_made(rt: &HostRuntime, directory: &str) -> bool {
-    let _ = fs::remove_dir_all(rt, directory);
-    fs::create_dir(rt, directory).is_ok()
+/// What is done with a journal's file.
+#[derive(Clone, Copy)]
+enum Act {
+    /// Stock SQLite has written it.
+    Analyzed,
+    /// It is opened, these steps are played, and the journal is let go.
+    Dropped(&'static [Step]),
+    /// The same, but the journal is closed without a fault.
+    Closed(&'static [Step]),
+    /// Whether a log stands beside it.
+    HasLog(bool),
+    /// SQL changes it.
+    Sql(&'static str),
+    /// It is refused twice for this fault, and its bytes stay.
+    Refused(StoreFault),
+    /// In a directory that isn't there, none is made.
+    Missing,
 }
 
-// Whether that file stands at the path.
-fn is_written(rt: &HostRuntime, path: &str) -> Option<bool> {
-    let bytes = analyzed(rt.alloc())?;
-    Some(fs::write(rt, path, bytes.as_slice()).is_ok())
-}
+const FOLDER: &str = "urb_sqlite_file";
 
-// A bench for the journal at this path.
-fn opened(rt: &HostRuntime, path: &str) -> Option<Box<Bench<FileStore<File>>>> {
-    Bench::with(rt.alloc(), SqlStable::open(rt, path).ok()?)
-}
+const FILE: &str = "urb_sqlite_file/node-1.db";
 
-// Whether the journal is closed without a fault.
-fn is_closed(rt: &HostRuntime, path: &str, bench: &mut Bench<FileStore<File>>) -> bool {
-    match bench.take() {
-        Some(journal) => journal.close_at(rt, path).is_ok(),
+// Whether stock SQLite's file stands there.
+fn is_written(rt: &HostRuntime) -> bool {
+    match analyzed(rt.alloc()) {
+        Some(bytes) => fs::write(rt, FILE, bytes.as_slice()).is_ok(),
         None => false,
     }
 }
 
-// Opens the journal at this path, plays the steps, and closes it. The number of the first step that answers otherwise.
-fn closed(rt: &HostRuntime, path: &str, steps: &[Step]) -> Option<Option<usize>> {
-    let mut bench = opened(rt, path)?;
-    let otherwise = bench.play(steps);
-    if is_closed(rt, path, &mut bench) {
-        Some(otherwise)
-    } else {
-        None
+/// Whether the journal at this path answers each step as it is to.
+pub fn is_played(rt: &HostRuntime, path: &str, steps: &[Step], is_closed: bool) -> bool {
+    let Ok(journal) = SqlStable::open(rt, path) else {
+        return false;
+    };
+    let mut place = Place::with(rt.alloc(), journal);
+    let is_played = play(&mut place, steps).is_none();
+    let journal = place.take();
+    drop(place);
+    match journal {
+        Some(journal) if is_closed => is_played && journal.close_at(rt, path).is_ok(),
+        _ => is_played,
     }
 }
 
-// The same, but for the close: the journal is let go.
-fn dropped(rt: &HostRuntime, path: &str, steps: &[Step]) -> Option<Option<usize>> {
-    let mut bench = opened(rt, path)?;
-    Some(bench.play(steps))
-}
-
-/// The first two records are stored.
-static BEGUN: [Step; 2] = [
-    Step::Store(1, (Form::Pending, 1, b"hi"), Ok(())),
-    Step::Store(2, (Form::Certificate, 1, b""), Ok(())),
-];
-
-/// They are found.
-static FOUND: [Step; 2] = [Step::Stands(3, false), Step::Holds(TWO)];
-
-#[test]
-fn a_file_that_was_let_go_is_found_with_its_records(rt: HostRuntime) -> Result<(), Fail> {
-    assert!(rt; is_made(&rt, "urb_sqlite_test"));
-    assert_eq!(rt;
-        dropped(&rt, "urb_sqlite_test/node-1.db", &BEGUN),
-        Some(None)
-    );
-    assert_eq!(rt;
-        dropped(&rt, "urb_sqlite_test/node-1.db", &FOUND),
-        Some(None)
-    );
-    assert_eq!(rt;
-        SqlStable::open(&rt, "urb_sqlite_test/none/node-1.db").err(),
-        Some(StoreFault::Device)
-    );
-    fs::remove_dir_all(&rt, "urb_sqlite_test")?;
-    Ok(())
-}
-
-#[test]
-fn a_journal_that_was_closed_is_one_file(rt: HostRuntime) -> Result<(), Fail> {
-    assert!(rt; is_made(&rt, "urb_sqlite_closed"));
-    assert_eq!(rt;
-        dropped(&rt, "urb_sqlite_closed/node-1.db", &BEGUN),
-        Some(None)
-    );
-    assert!(rt; fs::metadata(&rt, "urb_sqlite_closed/node-1.db-wal").is_ok());
-    assert_eq!(rt;
-        closed(&rt, "urb_sqlite_closed/node-1.db", &FOUND),
-        Some(None)
-    );
-    assert!(rt; fs::metadata(&rt, "urb_sqlite_closed/node-1.db-wal").is_err());
-    assert_eq!(rt;
-        dropped(&rt, "urb_sqlite_closed/node-1.db", &FOUND),
-        Some(None)
-    );
-    fs::remove_dir_all(&rt, "urb_sqlite_closed")?;
-    Ok(())
-}
-
-/// The two records of the first table stand, and the third goes into the second table.
-static GROWN: [Step; 3] = [
-    Step::Holds(TWO),
-    Step::Store(3, THIRD, Ok(())),
-    Step::Holds(THREE),
-];
-
-static ALL: [Step; 2] = [Step::Stands(4, false), Step::Holds(THREE)];
-
-#[test]
-fn a_table_of_statistics_takes_nothing_from_a_journal(rt: HostRuntime) -> Result<(), Fail> {
-    assert!(rt; is_made(&rt, "urb_sqlite_analyzed"));
-    assert_eq!(rt;
-        is_written(&rt, "urb_sqlite_analyzed/node-1.db"),
-        Some(true)
-    );
-    assert_eq!(rt;
-        closed(&rt, "urb_sqlite_analyzed/node-1.db", &GROWN),
-        Some(None)
-    );
-    assert_eq!(rt;
-        dropped(&rt, "urb_sqlite_analyzed/node-1.db", &ALL),
-        Some(None)
-    );
-    fs::remove_dir_all(&rt, "urb_sqlite_analyzed")?;
-    Ok(())
-}
-
-// Whether SQL changes the file, and closes it.
-fn is_damaged(rt: &HostRuntime, path: &str, sql: &str) -> bool {
+/// Whether SQL changes the file at this path, and closes it.
+pub fn is_damaged(rt: &HostRuntime, path: &str, sql: &str) -> bool {
     let Ok(mut conn) = Connection::open(rt, path) else {
         return false;
     };
@@ -180,47 +101,122 @@ fn is_damaged(rt: &HostRuntime, path: &str, sql: &str) -> bool {
     is_changed && conn.close().is_ok()
 }
 
-// The fault of the file, which is refused twice for the same, and whether its bytes stay.
-fn refused(rt: &HostRuntime, path: &str) -> Option<(StoreFault, bool)> {
-    let before = fs::read(rt, path).ok()?;
-    let first = SqlStable::open(rt, path).err()?;
-    let second = SqlStable::open(rt, path).err()?;
-    let after = fs::read(rt, path).ok()?;
-    if first != second {
-        return None;
+// Whether the file is refused for this fault.
+fn is_refused(rt: &HostRuntime, path: &str, fault: StoreFault) -> bool {
+    match SqlStable::open(rt, path) {
+        Ok(journal) => {
+            drop(journal);
+            false
+        }
+        Err(met) => met == fault,
     }
-    Some((first, before.as_slice() == after.as_slice()))
 }
 
-/// What was done to the file, and its fault then.
-static DAMAGES: [(&'static str, StoreFault); 4] = [
+// Whether it is refused for this fault twice, and its bytes stay.
+fn is_left(rt: &HostRuntime, fault: StoreFault) -> Option<bool> {
+    let before = fs::read(rt, FILE).ok()?;
+    let are_refused = is_refused(rt, FILE, fault) && is_refused(rt, FILE, fault);
+    let after = fs::read(rt, FILE).ok()?;
+    Some(are_refused && before.as_slice() == after.as_slice())
+}
+
+// Whether it goes as it is to.
+fn is_right(rt: &HostRuntime, act: Act) -> bool {
+    match act {
+        Act::Analyzed => is_written(rt),
+        Act::Dropped(steps) => is_played(rt, FILE, steps, false),
+        Act::Closed(steps) => is_played(rt, FILE, steps, true),
+        Act::HasLog(is_there) => fs::metadata(rt, "urb_sqlite_file/node-1.db-wal").is_ok()
+            == is_there,
+        Act::Sql(sql) => is_damaged(rt, FILE, sql),
+        Act::Refused(fault) => is_left(rt, fault) == Some(true),
+        Act::Missing => is_refused(rt, "urb_sqlite_file/none/node-1.db", StoreFault::Device),
+    }
+}
+
+/// The first two records are stored.
+const BEGUN: &[Step] = &[
+    Step::Store(1, (Form::Pending, 1, Load::Of(b"hi")), Ok(())),
+    Step::Store(2, (Form::Certificate, 1, Load::Of(b"")), Ok(())),
+];
+
+/// They are found.
+const FOUND: &[Step] = &[Step::Stands(3, false), Step::Holds(TWO)];
+
+/// The two records of the first table stand, and the third goes into the second table.
+const GROWN: &[Step] = &[
+    Step::Holds(TWO),
+    Step::Store(3, THIRD, Ok(())),
+    Step::Holds(THREE),
+];
+
+const ALL: &[Step] = &[Step::Stands(4, false), Step::Holds(THREE)];
+
+/// What is done with one file after the other.
+static FILES: [(&'static str, &'static [Act]); 7] = [
     (
-        "UPDATE journal SET kind = 4 WHERE pos = 2",
-        StoreFault::BadRow(2),
+        "a file that was let go is found with its records",
+        &[Act::Dropped(BEGUN), Act::Dropped(FOUND), Act::Missing],
     ),
-    ("DELETE FROM journal WHERE pos = 1", StoreFault::BadRow(1)),
     (
-        "DROP TABLE journal; CREATE VIEW journal AS SELECT 1 AS pos",
-        StoreFault::Device,
+        "a journal that was closed is one file",
+        &[
+            Act::Dropped(BEGUN),
+            Act::HasLog(true),
+            Act::Closed(FOUND),
+            Act::HasLog(false),
+            Act::Dropped(FOUND),
+        ],
     ),
-    ("CREATE TABLE journal2(x INTEGER)", StoreFault::Device),
+    (
+        "a table of statistics takes nothing from a journal",
+        &[Act::Analyzed, Act::Closed(GROWN), Act::Dropped(ALL)],
+    ),
+    (
+        "a kind that no record has",
+        &[
+            Act::Analyzed,
+            Act::Sql("UPDATE journal SET kind = 4 WHERE pos = 2"),
+            Act::Refused(StoreFault::BadRow(2)),
+        ],
+    ),
+    (
+        "a row that is gone",
+        &[
+            Act::Analyzed,
+            Act::Sql("DELETE FROM journal WHERE pos = 1"),
+            Act::Refused(StoreFault::BadRow(1)),
+        ],
+    ),
+    (
+        "a view in the place of the first table",
+        &[
+            Act::Analyzed,
+            Act::Sql("DROP TABLE journal; CREATE VIEW journal AS SELECT 1 AS pos"),
+            Act::Refused(StoreFault::Device),
+        ],
+    ),
+    (
+        "another table in the place of the second one",
+        &[
+            Act::Analyzed,
+            Act::Sql("CREATE TABLE journal2(x INTEGER)"),
+            Act::Refused(StoreFault::Device),
+        ],
+    ),
 ];
 
 #[test]
-fn a_damaged_file_is_refused_twice_and_left_as_it_was(rt: HostRuntime) -> Result<(), Fail> {
-    for (sql, fault) in &DAMAGES {
-        assert!(rt; is_made(&rt, "urb_sqlite_damaged"));
-        assert_eq!(rt; is_written(&rt, "urb_sqlite_damaged/node-1.db"), Some(true));
-        assert!(rt;
-            is_damaged(&rt, "urb_sqlite_damaged/node-1.db", sql),
-            "{sql}"
-        );
-        assert_eq!(rt;
-            refused(&rt, "urb_sqlite_damaged/node-1.db"),
-            Some((*fault, true)),
-            "after {sql}"
-        );
+fn a_file_keeps_its_records_or_is_refused(rt: HostRuntime) -> Result<(), Fail> {
+    for (name, acts) in &FILES {
+        let _ = fs::remove_dir_all(&rt, FOLDER);
+        fs::create_dir(&rt, FOLDER)?;
+        for (at, act) in acts.iter().enumerate() {
+            if !is_right(&rt, *act) {
+                return Err(Fail::new(format_args!("{name}: act {at}, from 0")));
+            }
+        }
     }
-    fs::remove_dir_all(&rt, "urb_sqlite_damaged")?;
+    fs::remove_dir_all(&rt, FOLDER)?;
     Ok(())
 }

@@ -1,131 +1,133 @@
-//! What is done with a journal under test, a step at a time, and what each step is to answer.
+//! What is done with the journal at a place, a step at a time, and what each step is to answer.
 
+use super::changes::{BAD, GOOD, OVER_BOTH};
+use super::places::{Place, fused};
+use super::records::{Form, Kept, Load};
+use super::stores::STORES;
+use super::tables::{BOTH, OLD, OLD_FILES, OTHERS};
+use sqlite_disk::Disk;
 use std::alloc::Global;
-use urb_names::{ClientId, MAX_PAYLOAD, Message, Name, NodeId};
-use urb_stable::{Record, StoreFault};
-
-/// Which record it is.
-#[derive(Clone, Copy)]
-pub(super) enum Form {
-    Pending,
-    Certified,
-    Certificate,
-}
-
-/// A record about the message with this number of node 1, which is that of client 7 with the same number, and its payload.
-pub(super) type Kept = (Form, u32, &'static [u8]);
+use std::test::Fail;
+use urb_stable::StoreFault;
 
 /// A step, and its answer.
 #[derive(Clone, Copy)]
-pub(super) enum Step {
+pub enum Step {
     /// The connection becomes a journal with this next position, or stays for this fault.
     Adopt(Result<u32, StoreFault>),
     /// The journal becomes its connection again.
     Leave,
     /// The record is stored at this position, or refused.
     Store(u32, Kept, Result<(), StoreFault>),
-    /// A pending record of the first message with a payload of so many bytes is stored at this position.
-    StoreLong(u32, usize),
     /// The journal gives these records, and then is in no doubt.
     Holds(&'static [Kept]),
-    /// The record at this place, from 1, has a payload of so many bytes.
-    HoldsLong(usize, usize),
     /// The next position, and whether a record is in doubt.
     Stands(u32, bool),
-    /// SQL changes the database.
-    Sql(&'static str),
-    /// A payload of so many bytes is the parameter of the statement.
-    Payload(&'static str, usize),
+    /// SQL changes the database, with a payload of so many bytes for its parameter, if it has one.
+    Sql(&'static str, usize),
     /// SQL shows so many rows.
     Shows(&'static str, usize),
+    /// The connection stays, twice, and SQL shows one row before and afterwards.
+    Refused(&'static str),
 }
 
-/// The first message, pending, and its certificate.
-pub(super) const TWO: &[Kept] = &[(Form::Pending, 1, b"hi"), (Form::Certificate, 1, b"")];
+/// What stands in the database before a case.
+#[derive(Clone, Copy)]
+pub enum Start {
+    Empty,
+    /// A journal with the first two records.
+    Stored,
+    /// A file of before there were two tables, with these.
+    Old,
+    /// That file as a journal with a third record.
+    Both,
+}
 
-/// The second message, pending.
-pub(super) const THIRD: Kept = (Form::Pending, 2, b"third");
-
-/// The first two records, and then the third one.
-pub(super) const THREE: &[Kept] = &[
-    (Form::Pending, 1, b"hi"),
-    (Form::Certificate, 1, b""),
-    (Form::Pending, 2, b"third"),
-];
+/// A case: its name, what stands before it, the SQL that is done to the database then, if it is any, and its steps.
+pub type Case = (&'static str, Start, &'static str, &'static [Step]);
 
 /// What makes a journal of an empty database with the first two records.
-pub(super) static STORED: [Step; 3] = [
+const STORED: &[Step] = &[
     Step::Adopt(Ok(1)),
-    Step::Store(1, (Form::Pending, 1, b"hi"), Ok(())),
-    Step::Store(2, (Form::Certificate, 1, b""), Ok(())),
+    Step::Store(1, (Form::Pending, 1, Load::Of(b"hi")), Ok(())),
+    Step::Store(2, (Form::Certificate, 1, Load::Of(b"")), Ok(())),
 ];
 
-fn name(seq: u32) -> Option<Name> {
-    if seq == 0 {
-        return None;
-    }
-    let sender = NodeId::new(1)?;
-    Some(Name { sender, seq })
-}
-
-fn message(alloc: Global, number: u32, payload: &[u8]) -> Option<Message> {
-    if number == 0 || payload.len() > MAX_PAYLOAD {
-        return None;
-    }
-    Message::copied(alloc, ClientId::new(7)?, number, payload).ok()
-}
-
-/// The record that the row is about.
-pub(super) fn record_of(alloc: Global, (form, seq, payload): Kept) -> Option<Record> {
-    let name = name(seq)?;
-    match form {
-        Form::Pending => Some(Record::Pend(name, message(alloc, seq, payload)?)),
-        Form::Certified => Some(Record::PendCert(name, message(alloc, seq, payload)?)),
-        Form::Certificate => Some(Record::Cert(name)),
-    }
-}
-
-/// Bytes that differ from their neighbours.
-pub(super) fn long(alloc: Global, count: usize) -> Option<Vec<u8>> {
-    let mut bytes = Vec::new(alloc);
-    for i in 0..count {
-        bytes.push((i % 251) as u8).ok()?;
-    }
-    Some(bytes)
-}
-
-/// The pending record of the first message with such a payload.
-pub(super) fn long_record(alloc: Global, count: usize) -> Option<Record> {
-    let bytes = long(alloc, count)?;
-    Some(Record::Pend(name(1)?, message(alloc, 1, &bytes)?))
-}
-
-// Whether the record is that of the row.
-fn is_kept(alloc: Global, record: &Record, row: Kept) -> Option<bool> {
-    let wanted = record_of(alloc, row)?;
-    Some(record.is_same(&wanted))
-}
-
-/// Whether these are the records of the rows.
-pub(super) fn are_kept(alloc: Global, records: &[Record], rows: &[Kept]) -> Option<bool> {
-    if records.len() != rows.len() {
-        return Some(false);
-    }
-    for (record, row) in records.iter().zip(rows) {
-        if !is_kept(alloc, record, *row)? {
-            return Some(false);
+// Whether the connection stays, twice, and SQL shows one row before and afterwards.
+fn is_refused<D: Disk + Drop>(place: &mut Place<D>, sql: &str) -> bool {
+    for _ in 0..2 {
+        if place.rows(sql) != Some(1) || place.adopt() != Some(Err(StoreFault::Device)) {
+            return false;
         }
     }
-    Some(true)
+    place.rows(sql) == Some(1)
 }
 
-/// Whether the record at this place, from 1, is the pending one with such a payload.
-pub(super) fn is_long(
-    alloc: Global,
-    records: &[Record],
-    place: usize,
-    count: usize,
-) -> Option<bool> {
-    let wanted = long_record(alloc, count)?;
-    Some(records.get(place.checked_sub(1)?)?.is_same(&wanted))
+// Whether the step answers what it is to.
+fn is_right<D: Disk + Drop>(place: &mut Place<D>, step: Step) -> bool {
+    match step {
+        Step::Adopt(wanted) => place.adopt() == Some(wanted),
+        Step::Leave => {
+            place.leave();
+            true
+        }
+        Step::Store(at, row, wanted) => place.store(at, row) == Some(wanted),
+        Step::Holds(rows) => place.holds(rows),
+        Step::Stands(next, is_doubtful) => place.stand() == Some((next, is_doubtful)),
+        Step::Sql(sql, count) => place.is_done(sql, count),
+        Step::Shows(sql, count) => place.rows(sql) == Some(count),
+        Step::Refused(sql) => is_refused(place, sql),
+    }
+}
+
+/// The number of the first step, from 1, that answers something else.
+pub fn play<D: Disk + Drop>(place: &mut Place<D>, steps: &[Step]) -> Option<usize> {
+    let mut number = 0;
+    for step in steps {
+        number = usize::saturating_add(number, 1);
+        if !is_right(place, *step) {
+            return Some(number);
+        }
+    }
+    None
+}
+
+// What makes what stands before a case.
+fn steps_before(start: Start) -> &'static [Step] {
+    match start {
+        Start::Empty => &[],
+        Start::Stored => STORED,
+        Start::Old => OLD,
+        Start::Both => BOTH,
+    }
+}
+
+// Plays a case over new files in memory. The number of its first step, from 1, that answers something else; 0 where what is
+// before them does.
+fn play_case(alloc: Global, (_, start, sql, steps): &Case) -> Option<usize> {
+    let mut place = fused(alloc, u64::MAX, u64::MAX);
+    let is_begun = place.is_connected()
+        && play(&mut place, steps_before(*start)).is_none()
+        && place.is_changed(sql);
+    let failing = if is_begun {
+        play(&mut place, steps)
+    } else {
+        Some(0)
+    };
+    drop(place);
+    failing
+}
+
+#[test]
+fn each_step_is_answered_as_it_is_to(rt: HostRuntime) -> Result<(), Fail> {
+    let tables: [&[Case]; 6] = [&STORES, &BAD, &GOOD, &OVER_BOTH, &OLD_FILES, &OTHERS];
+    for table in tables {
+        for case in table {
+            if let Some(step) = play_case(rt.alloc(), case) {
+                let (name, _, sql, _) = case;
+                return Err(Fail::new(format_args!("{name} {sql}: step {step}")));
+            }
+        }
+    }
+    Ok(())
 }
