@@ -48,7 +48,8 @@ pub fn line<'a, S: AsStr, R: Print + Eprint>(
     // A line is taken only where the parser finds no fault in it.
     ensures taken { OnOk result (faults_of (map S.text words.entry.now) ≡ []) }
     // What is asked for is the subcommand that the words name, with the values of its options in their ranges.
-    ensures asked { IfOk result (λ line. task_named (subcommand_of urbd_app (map S.text words.entry.now)) ≡ Some (task_of line)) }
+    ensures asked { IfOk result (λ line.
+        task_named (subcommand_of urbd_app (map S.text words.entry.now)) ≡ Some (task_of line)) }
     // The status of one that isn't is that of the first fault, or of memory that was refused.
     ensures refused { IfErr result (HasStatus (faults_of (map S.text words.entry.now))) }
 {

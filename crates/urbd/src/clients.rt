@@ -35,8 +35,10 @@ fn exchange<R: Read, W: Write>(
 ) -> Result<Response, Fault>
     requires values { IsAsked (asked_by request.now) }
     requires short { IsShort (asked_by request.now) }
-    ensures sent { IfOk result (λ response. Appends (W.contents writer.old) (W.contents writer.new) (frame (request_body (asked_by request.now)))) }
-    ensures read { IfOk result (λ response. Consumes (R.remaining reader.old) (R.remaining reader.new) (encoding (said_by response))) }
+    ensures sent { IfOk result (λ response. Appends (W.contents writer.old) (W.contents writer.new)
+        (frame (request_body (asked_by request.now)))) }
+    ensures read { IfOk result (λ response.
+        Consumes (R.remaining reader.old) (R.remaining reader.new) (encoding (said_by response))) }
     ensures bad { result ≡ Err Fault.BadReply → IfSome (R.remaining reader.old) HasNoResponse }
 {
     let frame = encode_request(alloc, request)?;
@@ -47,8 +49,10 @@ fn exchange<R: Read, W: Write>(
 // The request of a submit.
 fn submit_request(alloc: Global, submitting: Submitting<'_>) -> Result<Request, Fault>
     requires { length submitting.text.now ≤ MAX_PAYLOAD }
-    ensures asked { IfOk result (λ request. asked_by request ≡ AskSubmit submitting.entry.client submitting.entry.number submitting.entry.text.now) }
-    ensures values { IfOk result (λ request. IsAsked (asked_by request) × IsShort (asked_by request)) }
+    ensures asked { IfOk result (λ request. asked_by request
+        ≡ AskSubmit submitting.entry.client submitting.entry.number submitting.entry.text.now) }
+    ensures values { IfOk result
+        (λ request. IsAsked (asked_by request) × IsShort (asked_by request)) }
     ensures err { IfErr result (λ fault. fault ≡ Fault.NoMemory) }
 {
     let Some(client) = ClientId::new(submitting.client) else {
@@ -74,10 +78,14 @@ pub fn submit_over<R: Read, W: Write>(
 ) -> Result<Printed, Fault>
     requires { length submitting.text.now ≤ MAX_PAYLOAD }
     // The frame of this submit is sent, and nothing else.
-    ensures sent { IfOk result (λ shown. Appends (W.contents writer.old) (W.contents writer.new) (frame (request_body (AskSubmit submitting.entry.client submitting.entry.number submitting.entry.text.now)))) }
+    ensures sent { IfOk result (λ shown.
+        Appends (W.contents writer.old) (W.contents writer.new) (frame (request_body
+        (AskSubmit submitting.entry.client submitting.entry.number submitting.entry.text.now)))) }
     // What is shown is what the response says.
-    ensures shown { IfOk result (λ shown. IfSome (R.remaining reader.old) (ShowsAs submit_shown (shown_by shown))) }
-    ensures bad { result ≡ Err Fault.BadReply → IfSome (R.remaining reader.old) (ShowsNothing submit_shown) }
+    ensures shown { IfOk result
+        (λ shown. IfSome (R.remaining reader.old) (ShowsAs submit_shown (shown_by shown))) }
+    ensures bad { result ≡ Err Fault.BadReply
+        → IfSome (R.remaining reader.old) (ShowsNothing submit_shown) }
 {
     let request = submit_request(alloc, submitting)?;
     let response = exchange(alloc, reader, writer, &request)?;
@@ -95,10 +103,13 @@ pub fn read_over<R: Read, W: Write>(
     reading: Reading,
 ) -> Result<Printed, Fault>
     // The frame of this read is sent, and nothing else.
-    ensures sent { IfOk result (λ shown. Appends (W.contents writer.old) (W.contents writer.new) (frame (request_body (AskRead reading.from reading.max)))) }
+    ensures sent { IfOk result (λ shown. Appends (W.contents writer.old) (W.contents writer.new)
+        (frame (request_body (AskRead reading.from reading.max)))) }
     // What is shown is what the response says.
-    ensures shown { IfOk result (λ shown. IfSome (R.remaining reader.old) (ShowsAs read_shown (shown_by shown))) }
-    ensures bad { result ≡ Err Fault.BadReply → IfSome (R.remaining reader.old) (ShowsNothing read_shown) }
+    ensures shown { IfOk result
+        (λ shown. IfSome (R.remaining reader.old) (ShowsAs read_shown (shown_by shown))) }
+    ensures bad { result ≡ Err Fault.BadReply
+        → IfSome (R.remaining reader.old) (ShowsNothing read_shown) }
 {
     let request = Request::Read {
         place: reading.from,
@@ -125,7 +136,8 @@ pub fn submit_at<R: Net<Listener = TcpListener, Stream = TcpStream>>(
     alloc: Global,
     submitting: Submitting<'_>,
 ) -> Result<Printed, Fault>
-    ensures long { MAX_PAYLOAD < length submitting.entry.text.now → IfOk result (λ shown. shown_by shown ≡ refused_shown 5 0) }
+    ensures long { MAX_PAYLOAD < length submitting.entry.text.now
+        → IfOk result (λ shown. shown_by shown ≡ refused_shown 5 0) }
 {
     if MAX_PAYLOAD < submitting.text.len() {
         let refusal = Refusal::TooLong;

@@ -46,7 +46,8 @@ fn text_word<'a>(alloc: Global, name: &'a str, help: &'a str) -> Arg<'a>
 }
 
 fn serve_command<'a>(alloc: Global) -> Result<Command<'a>, AllocError>
-    ensures { IfOk result (λ made. (app_of made ≡ serve_app) × ((out-Command made).has_globals ≡ false)) }
+    ensures { IfOk result
+        (λ made. (app_of made ≡ serve_app) × ((out-Command made).has_globals ≡ false)) }
 {
     Command::new(alloc, "serve")
         .about("Runs a group of nodes until standard input ends")
@@ -64,7 +65,8 @@ fn serve_command<'a>(alloc: Global) -> Result<Command<'a>, AllocError>
 }
 
 fn submit_command<'a>(alloc: Global) -> Result<Command<'a>, AllocError>
-    ensures { IfOk result (λ made. (app_of made ≡ submit_app) × ((out-Command made).has_globals ≡ false)) }
+    ensures { IfOk result
+        (λ made. (app_of made ≡ submit_app) × ((out-Command made).has_globals ≡ false)) }
 {
     Command::new(alloc, "submit")
         .about("Sends one message to a node")
@@ -81,7 +83,8 @@ fn submit_command<'a>(alloc: Global) -> Result<Command<'a>, AllocError>
 }
 
 fn read_command<'a>(alloc: Global) -> Result<Command<'a>, AllocError>
-    ensures { IfOk result (λ made. (app_of made ≡ read_app) × ((out-Command made).has_globals ≡ false)) }
+    ensures { IfOk result
+        (λ made. (app_of made ≡ read_app) × ((out-Command made).has_globals ≡ false)) }
 {
     Command::new(alloc, "read")
         .about("Shows entries of a node's log")

@@ -106,7 +106,8 @@ where
     // The stores that come back stand in their nodes' order, each that node's own.
     ensures order { ComeBack S.Stable stores.items result.0.items }
     // A count of events comes only of a run whose opening was told, and a fault is the first that there was.
-    ensures ends { EndsFrom S.Stable (limits_of serving.entry) stores.items console.new.is_told result.1 result.0.items }
+    ensures ends { EndsFrom S.Stable (limits_of serving.entry) stores.items console.new.is_told
+        result.1 result.0.items }
 {
     let mut stores = stores;
     match open_group(alloc, serving.config(), &mut stores) {

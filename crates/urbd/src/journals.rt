@@ -129,7 +129,8 @@ where
     // The journals that come back stand in their nodes' order, each that node's own.
     ensures order { ComeBack ⟦<Journal<D> as Stable>⟧ journals.items result.0.items }
     // A count of events comes only of a run whose opening was told, and a fault is the first that there was.
-    ensures ends { EndsFrom ⟦<Journal<D> as Stable>⟧ (limits_of serving.entry) journals.items console.new.is_told result.1 result.0.items }
+    ensures ends { EndsFrom ⟦<Journal<D> as Stable>⟧ (limits_of serving.entry) journals.items
+        console.new.is_told result.1 result.0.items }
 {
     run_over(rt, alloc, serving, journals, console)
 }

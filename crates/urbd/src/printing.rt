@@ -107,7 +107,8 @@ pub fn refused(alloc: Global, number: u8, detail: u32) -> Result<Printed, NoMemo
 
 /// What `urbd submit` shows of a response; none where it is no response to a submit.
 pub fn submitted(alloc: Global, response: &Response) -> Result<Option<Printed>, NoMemory>
-    ensures { IfOk result (λ shown. option_map shown_by shown ≡ submit_shown (said_by response.now)) }
+    ensures { IfOk result
+        (λ shown. option_map shown_by shown ≡ submit_shown (said_by response.now)) }
 {
     match response {
         Response::Accepted(seq) => Ok(Some(accepted(alloc, *seq)?)),

@@ -25,7 +25,11 @@ impl<'a> Serving<'a> {
     /// A group of these; none exactly where one of them is outside its range.
     pub fn new(nodes: u8, cap: u32, dir: &'a str, base: u16, every: u32) -> Option<Serving<'a>>
         ensures some { AreServed nodes cap base every → IsSome result }
-        ensures fields { IfSome result (λ s. (s.nodes ≡ nodes) × (s.cap ≡ cap) × (s.dir ≡ dir.entry) × (s.base ≡ base) × (s.every ≡ every)) }
+        ensures fields { IfSome result (λ s. (s.nodes ≡ nodes)
+            × (s.cap ≡ cap)
+            × (s.dir ≡ dir.entry)
+            × (s.base ≡ base)
+            × (s.every ≡ every)) }
     {
         if nodes == 0 || 7 < nodes || cap == 0 || 1_000_000 < cap {
             return None;

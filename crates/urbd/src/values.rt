@@ -10,7 +10,8 @@ use clap::ArgMatches;
 
 // The number, where it is within these bounds.
 fn within(number: Option<u32>, low: u32, high: u32) -> Option<u32>
-    ensures value { result ≡ option_and_then (λ n. if nat_le low n && nat_le n high then Some n else None) number }
+    ensures value { result
+        ≡ option_and_then (λ n. if nat_le low n && nat_le n high then Some n else None) number }
     ensures range { IfSome result (λ n. (low ≤ n) × (n ≤ high)) }
 {
     match number {
@@ -77,7 +78,8 @@ fn reading_of(found: &ArgMatches<'_>) -> Option<Reading>
 }
 
 fn named<'a>(name: &str, found: &ArgMatches<'a>) -> Option<Line<'a>>
-    ensures { option_map task_of result ≡ task_named (Some (name.now, rows_of (found_of found.now))) }
+    ensures { option_map task_of result
+        ≡ task_named (Some (name.now, rows_of (found_of found.now))) }
 {
     match name {
         "replay" => Some(Line::Errand(Errand::Replay)),
