@@ -4,7 +4,7 @@ use Rattle.std.proofs.Common.{Err, IfOk, List, Ok, Option, Result, Some, [], ap,
 use Rattle.std.specs.List.{All, AllByRecursion}
 use Rattle.std.specs.Prelude.{Vec, slice_get, slice_index_or}
 use Rattle.std.proofs.lemmas.Bool.{false≢true}
-use Rattle.std.proofs.lemmas.List.Elements.{recursion_from_All}
+use Rattle.std.proofs.lemmas.List.Elements.{All-from_recursion, recursion_from_All}
 use Rattle.urb_names.specs.Naming.{Limits}
 use Rattle.urb_names.specs.declared.refusal.Refusal.{Refusal}
 use Rattle.urb_names.specs.declared.refusal.Refusal.TheVariants as refusal
@@ -18,6 +18,7 @@ use Rattle.urb_stable.specs.declared.stable.StoreFault.{StoreFault}
 use Rattle.urb_stable.specs.declared.stable.StoreFault.TheVariants as fault
 use Rattle.urb_group.proofs.Opened.{misfit-unfit}
 use Rattle.urb_group.proofs.Beside.{one-store}
+use Rattle.urb_group.proofs.SecuredClusters.{read-honest}
 use Rattle.urb_group.proofs.StockedClusters.{asked-left, leaves-held}
 use Rattle.urb_group.proofs.StockedPlays.{held-fits}
 use Rattle.urb_group.specs.Asked.{Gives}
@@ -25,7 +26,7 @@ use Rattle.urb_group.specs.Calls.{Opens}
 use Rattle.urb_group.specs.Clustered.{Clustered}
 use Rattle.urb_group.specs.Reopening.{AllGive, AreRefused, FirstFails, Continues, ContinuesFrom, HasStopped, OpensFrom, OpensGiven, OpensStores, stores_in}
 use Rattle.urb_group.specs.Shown.{GroupView, Shows}
-use Rattle.urb_group.specs.Stocked.{AllHold, AreChosen, HoldsOf, IsStocked, IsStoreOf, LeavesOf, RestLeaves, StopLeaves}
+use Rattle.urb_group.specs.Stocked.{AllHold, AreChosen, HoldsOf, IsKnown, IsStocked, IsStoreOf, LeavesOf, RestLeaves, StopLeaves}
 use Rattle.urb_group.specs.Stopping.{GoesOnIn}
 use Rattle.urb_group.specs.World.{World, opened}
 
@@ -207,10 +208,19 @@ honest-fault fault.Device p b = inr refl
 honest-fault (fault.Place next) p b = absurd (false≢true (sym p))
 honest-fault (fault.BadRow place) p b = absurd (false≢true (sym b))
 
--- the store behind some others is honest where all are
-honest-behind : {S : Type 0} (P : S → Type 0) (earlier later : List S) (s : S) → AllByRecursion P (earlier ++ s ∷ later) → P s
-honest-behind P [] later s h = h.0
-honest-behind P (x ∷ earlier) later s h = honest-behind P earlier later s h.1
+-- what holds of all stores holds of the one behind some others
+every-behind : {S : Type 0} (P : S → Type 0) (earlier later : List S) (s : S) → AllByRecursion P (earlier ++ s ∷ later) → P s
+every-behind P [] later s h = h.0
+every-behind P (x ∷ earlier) later s h = every-behind P earlier later s h.1
+
+-- stores that gave their lists are honest
+given-honest : {S A : Type 0} (g : Ghosts S A) (stores : List S) (images : List (List Entry)) (asked : List S) → AllGive g stores images asked → AllByRecursion (IsKnown g) stores → AllByRecursion g.is_clean asked → AllByRecursion g.is_honest asked
+given-honest g [] [] [] h known clean = tt
+given-honest g [] [] (a ∷ asked) h known clean = absurd h
+given-honest g [] (i ∷ images) asked h known clean = absurd h
+given-honest g (s ∷ stores) [] asked h known clean = absurd h
+given-honest g (s ∷ stores) (i ∷ images) [] h known clean = absurd h
+given-honest g (s ∷ stores) (i ∷ images) (a ∷ asked) h known clean = (read-honest g s a i h.0 known.0 clean.0, given-honest g stores images asked h.1 known.1 clean.1)
 
 module _ {S A : Type 0} (g : Ghosts S A) (old : GroupView) (w : World) (size : Limits) (stores : List S) (stopped : HasStopped g old w size stores) where
   same-size : w.size ≡ size
@@ -256,13 +266,31 @@ module _ {S A : Type 0} (g : Ghosts S A) (old : GroupView) (w : World) (size : L
       first : (fault : StoreFault) × FirstFails g stores fault asked × (why ≡ refusal_of fault) → (why ≡ refusal.NoMemory) ⊎ (why ≡ refusal.Device)
       first f =
           let was : AllByRecursion g.is_honest (f.1.gave ++ f.1.after ∷ f.1.later) = subst (λ (xs : List S). AllByRecursion g.is_honest xs) f.1.are (recursion_from_All g.is_honest asked honest) in
-          let told = honest-fault f.0 f.1.failed.faults.0 (f.1.failed.faults.1 (honest-behind g.is_honest f.1.gave f.1.later f.1.after was)) in
+          let told = honest-fault f.0 f.1.failed.faults.0 (f.1.failed.faults.1 (every-behind g.is_honest f.1.gave f.1.later f.1.after was)) in
           subst (λ (r : Refusal). (r ≡ refusal.NoMemory) ⊎ (r ≡ refusal.Device)) (sym f.2) told
+
+  -- a store that answered this fault was honest, or shut
+  refused-known : (asked : List S) (why : Refusal) → AreRefused g stores why asked → All (IsKnown g) stores → All g.is_clean asked → (why ≡ refusal.NoMemory) ⊎ (why ≡ refusal.Device)
+  refused-known asked why h known clean = ⊎_elim first (λ short. inl short.1) h
+    where
+      first : (fault : StoreFault) × FirstFails g stores fault asked × (why ≡ refusal_of fault) → (why ≡ refusal.NoMemory) ⊎ (why ≡ refusal.Device)
+      first f =
+          let were : AllByRecursion (IsKnown g) (f.1.earlier ++ f.1.before ∷ f.1.later) = subst (λ (xs : List S). AllByRecursion (IsKnown g) xs) f.1.were (recursion_from_All (IsKnown g) stores known) in
+          let are : AllByRecursion g.is_clean (f.1.gave ++ f.1.after ∷ f.1.later) = subst (λ (xs : List S). AllByRecursion g.is_clean xs) f.1.are (recursion_from_All g.is_clean asked clean) in
+          let now : g.is_clean f.1.after = every-behind g.is_clean f.1.gave f.1.later f.1.after are in
+          let was = every-behind (IsKnown g) f.1.earlier f.1.later f.1.before were (f.1.failed.clean now) in
+          subst (λ (r : Refusal). (r ≡ refusal.NoMemory) ⊎ (r ≡ refusal.Device)) (sym f.2) (honest-fault f.0 f.1.failed.faults.0 (f.1.failed.sound was now))
+
+  -- what gave its list is honest
+  all-honest : (images : List (List Entry)) (asked : List S) → AllGive g stores images asked → All (IsKnown g) stores → All g.is_clean asked → All g.is_honest asked
+  all-honest images asked given known clean =
+      All-from_recursion g.is_honest asked (given-honest g stores images asked given (recursion_from_All (IsKnown g) stores known) (recursion_from_All g.is_clean asked clean))
 
   pub opens-goes_on : length stores ≡ size.n → (result : Result (Clustered S) (Vec S A × Refusal)) → OpensStores g size stores result → Continues g old w size stores result
   opens-goes_on count (Ok new) h = goes-on-from count new h
   opens-goes_on count (Err e) h =
       let stay = open-stays g size stores (Err e) h in (
         record { sound = stopped.sound; counted = stopped.counted; size = stopped.size; shows = stopped.shows; holds = stay-held g w stores e.0.items stay stopped.holds },
-        λ honest. ⊎_elim (λ k. refused-so e.0.items e.1 k honest) (λ k. not-inconsistent count e.0.items e.1 k honest) h,
+        ⊎_elim (λ honest. ⊎_elim (λ k. refused-so e.0.items e.1 k honest) (λ k. not-inconsistent count e.0.items e.1 k honest) h)
+            (λ known. ⊎_elim (λ k. refused-known e.0.items e.1 k known.0 known.1) (λ k. not-inconsistent count e.0.items e.1 k (all-honest k.images e.0.items k.given known.0 known.1)) h),
       )

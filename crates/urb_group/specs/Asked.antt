@@ -17,6 +17,7 @@ module _ {S A : Type 0} (g : Ghosts S A) where
 
   -- The store was to keep the draft, and gave this answer: as a store promises of each record.
   pub record Keeps (before : S) (draft : Placed) (answer : Result (Unit {0}) StoreFault) (after : S) : Type 0 where
+    pub answers : g.stores before draft.pos draft.entry answer
     pub placed : IsPlaced (is_out_of_place (g.is_doubtful before) (g.place before) draft.pos) (g.place before) answer
     pub same : IsTrue (is_out_of_place (g.is_doubtful before) (g.place before) draft.pos) → after ≡ before
     pub stored : g.is_honest after → OnOk answer (g.certain after ≡ g.certain before ++ draft.entry ∷ [])
@@ -41,6 +42,7 @@ module _ {S A : Type 0} (g : Ghosts S A) where
     pub failed : g.is_honest after → OnErr answer (g.certain after ≡ g.certain before)
     pub kept : OnErr answer ((g.is_doubtful after ≡ g.is_doubtful before) × (g.doubt after ≡ g.doubt before) × (g.place after ≡ g.place before))
     pub faults : IfErr answer (λ e. (is_place e ≡ false) × (g.is_honest after → is_bad_row e ≡ false))
+    pub sound : g.is_honest before ⊎ g.is_shut before → g.is_clean after → IfErr answer (λ e. is_bad_row e ≡ false)
     pub stop : g.is_honest before → g.is_clean after → g.leaves_only after (IsContents (g.certain before) (g.doubt before))
     pub rest : g.is_honest after → g.leaves_only after (IsContents (g.certain after) (g.doubt after))
     pub device : answer ≡ Err fault.Device → g.failures before < g.failures after

@@ -13,7 +13,7 @@ use Rattle.urb_group.specs.Asked.{Gives}
 use Rattle.urb_group.specs.Calls.{Opens}
 use Rattle.urb_group.specs.Clustered.{Clustered}
 use Rattle.urb_group.specs.Shown.{GroupView, IsSound, Shows, view_of}
-use Rattle.urb_group.specs.Stocked.{AllHold, AreChosen}
+use Rattle.urb_group.specs.Stocked.{AllHold, AreChosen, IsKnown}
 use Rattle.urb_group.specs.Stopping.{GoesOnIn}
 use Rattle.urb_group.specs.World.{World, image_of, opened}
 
@@ -85,9 +85,10 @@ module _ {S A : Type 0} (g : Ghosts S A) where
     pub opens : Shows new (opened w.size (image_of images))
     pub ready : (p : ℕ) → (view_of new p).state ≡ Ready
 
-  -- Over honest stores it goes on, unless memory is refused or a device fails. Refused, the stores still hold what the stop may
-  -- have left, so that it may be asked for again.
+  -- Over honest stores it goes on, unless memory is refused or a device fails: also where that failure, or one before, has shut
+  -- a store. Refused, the stores still hold what the stop may have left, so that it may be asked for again.
   abbrev pub Continues : GroupView → World → Limits → List S → Result (Clustered S) (Vec S A × Refusal) → Type 0
   Continues old w limits passed (Ok new) = All g.is_honest new.stores → ContinuesFrom w passed new.group
   Continues old w limits passed (Err e) =
-      HasStopped old w limits e.0.items × (All g.is_honest e.0.items → (e.1 ≡ refusal.NoMemory) ⊎ (e.1 ≡ refusal.Device))
+      HasStopped old w limits e.0.items
+      × (All g.is_honest e.0.items ⊎ (All (IsKnown g) passed × All g.is_clean e.0.items) → (e.1 ≡ refusal.NoMemory) ⊎ (e.1 ≡ refusal.Device))

@@ -69,8 +69,8 @@ impl<A: Allocator + Copy> Group<A> {
     /// that the packet's source has stored, and which tells of a certificate only where its source has stored one.
     ///
     /// `Packet`: the bytes are no packet. `BadNode`: it names a node that is none, or another than this one. `Down`,
-    /// `Busy`: the node takes none now; the packet is sent again. `Forged`: its source has not stored its message, or not
-    /// the certificate that it tells of. `NoMemory`: the packet is lost, and sent again.
+    /// `Busy`: the node takes none now; a later tick may send the packet again. `Forged`: its source has not stored its
+    /// message, or not the certificate that it tells of. `NoMemory`: the packet is lost; a later tick may send it again.
     pub fn arrive(&mut self, alloc: A, node: NodeId, bytes: &[u8]) -> Result<Taken<A>, Refusal>
         ensures { Takes self.old node (Arrive node (packet_of bytes.now)) result self.new }
     {

@@ -168,7 +168,9 @@ impl<S: Stable> Cluster<S> {
         read(&mut self.group, alloc, node, &mut self.stores[at])
     }
 
-    /// Does what a command says.
+    /// Does what a command says, with the store of its node: a `Store` has it keep the draft that the node holds, a `Restart`
+    /// has it give its records. One that is refused changes nothing, but for what a restart's store did; a store that fails
+    /// takes its node down.
     pub fn apply(&mut self, alloc: S::Alloc, command: &Command<S::Alloc>) -> Reply<S::Alloc>
         ensures applied { Applies S.Stable self.old command.now (reply_of result) self.new }
         // A stop after the call leaves what the opening goes on from, and so does one inside it.

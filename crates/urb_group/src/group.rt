@@ -80,8 +80,8 @@ impl<A: Allocator + Copy> Group<A> {
 
     /// A node's store took the record of its draft: the node goes on, and its packets may be sent. Takes no memory.
     ///
-    /// `Down`: the node crashed in between. `Stale`: the node holds no draft, or another one. A receipt that is refused
-    /// comes back.
+    /// `BadNode`: it is of no node of this group. `Down`: the node crashed in between. `Stale`: the node holds no draft, or
+    /// another one. A receipt that is refused comes back.
     pub fn commit(&mut self, receipt: Receipt<A>) -> Result<Done<A>, (Receipt<A>, Refusal)>
         ensures { Commits self.old receipt result self.new }
     {
@@ -94,7 +94,7 @@ impl<A: Allocator + Copy> Group<A> {
     /// A node's store did not take the record of its draft for certain: the node goes down, and the record is in doubt.
     /// Takes no memory.
     ///
-    /// `Down`: the node crashed in between. `Stale`: it holds no draft.
+    /// `BadNode`: it is of no node of this group. `Down`: the node crashed in between. `Stale`: it holds no draft.
     pub fn fail(&mut self, doubt: Doubt) -> Result<(), Refusal>
         ensures { GoesDown self.old doubt.node (Fail doubt.node) result self.new }
     {
@@ -105,6 +105,9 @@ impl<A: Allocator + Copy> Group<A> {
     }
 
     /// A node sends pending messages again, as on each timeout of its links.
+    ///
+    /// `BadNode`: there is no such node. `Down`, `Busy`: the node is down, or stores. `NoMemory`: nothing is sent; the next
+    /// tick sends the same.
     pub fn tick(&mut self, alloc: A, node: NodeId) -> Result<Outbox<A>, Refusal>
         ensures { Ticks self.old (Tick node) result self.new }
     {
@@ -115,6 +118,8 @@ impl<A: Allocator + Copy> Group<A> {
     }
 
     /// A node stops, and loses what it has not stored. Takes no memory.
+    ///
+    /// `BadNode`: there is no such node. `Down`: it is down already.
     pub fn crash(&mut self, node: NodeId) -> Result<(), Refusal>
         ensures { GoesDown self.old node (Crash node) result self.new }
     {

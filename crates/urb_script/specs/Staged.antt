@@ -37,7 +37,7 @@ pub record ShowsScene (limits : Limits) (cluster : Clustered Memory) (scene : Sc
   pub beyond : (p : ℕ) → is_node limits.n p ≡ false → scene.storage p ≡ []
 
 -- The stores do what the cluster has them do: one that is to fail does so as it is asked, and keeps nothing in place of a record
--- only where memory was refused, as one that is to keep a record fails only there. Of other commands this says nothing.
+-- only where memory was refused; one that is to keep a record answers as it is armed to. Of other commands this says nothing.
 abbrev pub StoresAsAsked : Type 0 → Command → Clustered Memory → Clustered Memory → Type 0
 StoresAsAsked A (Stored p) old new = (said : Reply) × StoresHeld (in_memory A) old p (held_draft old.group p) said new
 StoresAsAsked A (Fail p failure) old new = (said : Reply) × FailsHeld old p (held_draft old.group p) failure said new

@@ -41,7 +41,8 @@ pub enum CommandLine<'a> {
     Restart(NodeId),
     /// Stop all nodes at once, and open them again with what their storages hold.
     Reopen,
-    /// Bring a node what the source has stored under a name, in a packet of version one.
+    /// Bring a node what the source has stored under a name, in a packet of version one, or of version two without flags
+    /// where its payload has more than 1,024 bytes.
     Arrive {
         source: NodeId,
         node: NodeId,

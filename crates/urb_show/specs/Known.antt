@@ -1,5 +1,5 @@
 -- What a reader knows, and what a read makes of it.
-use Rattle.std.specs.Prelude.{◌≡◌}
+use Rattle.std.specs.Prelude.{◌≡◌, ◌⊎◌}
 use Rattle.urb_show.specs.Lists.{Agree, Begins, Lists}
 
 -- the lists that it took last, and the longest that it learnt
@@ -16,6 +16,7 @@ pub record Takes (before after : Known) : Type 0 where
 
 -- what a reader learns is the longer of what it had learnt and of this, each of which begins it
 pub record Learns (token : Lists) (before after : Known) : Type 0 where
+  pub one : (after.told ≡ before.told) ⊎ (after.told ≡ token)
   pub earlier : Begins before.told after.told
   pub told : Begins token after.told
   pub seen : after.seen ≡ before.seen

@@ -1,5 +1,5 @@
 //! The history of all additions to the published lists. It exists in proofs alone: what the program keeps is its length.
-ghost use Rattle.std.specs.Prelude.{◌≡◌, ◌+◌, ◌<◌, ◌≤◌, ◌^◌, ◌++◌, ◌∷◌, [], length, IsTrue};
+ghost use Rattle.std.specs.Prelude.{◌≡◌, ◌⊎◌, ◌+◌, ◌<◌, ◌≤◌, ◌^◌, ◌++◌, ◌∷◌, [], length, IsTrue};
 ghost use mathlib.Core.List.{IsPrefix};
 ghost use Rattle.urb_show.specs.History.{head_of};
 
@@ -219,7 +219,7 @@ impl<K: HouseName> Front<K> {
         }
     }
 
-    /// A copy of a history that is no longer begins this one.
+    /// A copy. A history of this book that isn't longer begins this one.
     pub(crate) fn again_after(&self, earlier: &Front<K>) -> Front<K>
         requires { length earlier.now ≤ length self.now }
         ensures same { result ≡ self.now }
@@ -232,6 +232,7 @@ impl<K: HouseName> Front<K> {
 
     /// The longer of two, which the other begins.
     pub(crate) fn longer(&self, other: &Front<K>) -> Front<K>
+        ensures one { (result ≡ self.now) ⊎ (result ≡ other.now) }
         ensures this { IsPrefix self.now result }
         ensures that { IsPrefix other.now result }
     {

@@ -19,6 +19,7 @@ use Rattle.sqlite.specs.State.{State, IsLive, mode_of, text_of, Runs, Writes, Ha
 use Rattle.urb_stable.specs.Entries.{Entry, IsEntry}
 use Rattle.urb_stable.specs.Storing.{is_bad_row}
 use Rattle.urb_stable.specs.declared.stable.StoreFault.{StoreFault}
+use Rattle.urb_stable.specs.declared.stable.StoreFault.TheVariants.{BadRow, Device, NoMemory, Place}
 use Rattle.urb_stable.specs.declared.record.Record.TheVariants.{Pend, PendCert, Cert}
 use Rattle.urb_sqlite.specs.Journal.{insert_text, select_of, name_of, limit_of, tree_of, HasTable, HasBoth, journal_name, second_name}
 use Rattle.urb_sqlite.specs.declared.statements.Part.{Part}
@@ -30,7 +31,7 @@ use Rattle.sqlite_catalog.specs.Listing.{IsSound}
 use Rattle.urb_sqlite.proofs.TextLemmas.{insert_parsed, select_parsed, found_at}
 use Rattle.urb_sqlite.specs.Rows.{row_of, kept_of, rows_in, by_pos, shown, IsWithin, IsInOrder, table_rows, StandsFor}
 use Rattle.urb_sqlite.specs.Reading.{read_from, records_of}
-use Rattle.urb_sqlite.specs.OpenJournal.{IsCounted, IsKept, IsInStep, IsHonestJournal, IsAppended, IsLeft, IsSafeAtRest, LeavesOnly}
+use Rattle.urb_sqlite.specs.OpenJournal.{IsCounted, IsKept, IsInStep, IsHonestJournal, IsAppended, IsLeft, IsSafeAtRest, IsShutJournal, LeavesOnly}
 use Rattle.urb_sqlite.proofs.InsertLemmas.{IsPut, HasPut, inserts, commits_put, went, same_value}
 use Rattle.urb_sqlite.proofs.AnyLemmas.{inserts_in_any, reads_in_any}
 use Rattle.urb_sqlite.proofs.OrderLemmas.{sort_is}
@@ -304,6 +305,17 @@ pub not_bad : (old new : State) (place : ℕ) (e : StoreFault) → IsInStep old 
 not_bad old new place e step below how sound honest =
     let was = (left old new place step below how).honest honest in
     sound honest.clean was.schema place ((step was.clean was.is_open).counted was.schema)
+
+-- .. nor of one that was honest before, or that a fault had shut.
+pub honest_before : (old new : State) (place : ℕ) (e : StoreFault) → IsInStep old place → (HasCleanDisk new → HasBoth old.now.schema → (next : ℕ) → IsCounted old.now next → is_bad_row e ≡ false)
+    → IsHonestJournal old → HasCleanDisk new → is_bad_row e ≡ false
+honest_before old new place e step sound was clean = sound clean was.schema place ((step was.clean was.is_open).counted was.schema)
+
+pub shut_before : (old new : State) (e : StoreFault) → IsShutJournal old → ((place : ℕ) → e ≡ BadRow place → IsUnchanged old new) → is_bad_row e ≡ false
+shut_before old new (BadRow place) shut same = absurd (shut (same place refl).0.was_open)
+shut_before old new NoMemory shut same = refl
+shut_before old new Device shut same = refl
+shut_before old new (Place next) shut same = refl
 
 pub in_order : (part : Part) (old new : State) (rows : List Row) → HasTable old.now.schema (name_of part) → Shown (select_of part) [] old new rows → IsInOrder (tree_of old.now.schema (name_of part)) old.now.trees rows
 in_order part old new rows has h = let got = selects (select_of part) (name_of part) (select_parsed part) old new rows has h in record { same = got.0; sorted = got.1 }

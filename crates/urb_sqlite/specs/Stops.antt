@@ -6,9 +6,10 @@ use Rattle.sqlite.specs.State.{State, HasCleanDisk}
 use Rattle.urb_stable.specs.Entries.{Entry}
 use Rattle.urb_stable.specs.Storing.{IsContents}
 use Rattle.urb_stable.specs.declared.stable.Stable.{Ghosts}
+use Rattle.urb_group.specs.Clustered.{Clustered}
 use Rattle.urb_group.specs.Reopening.{ContinuesFrom}
 use Rattle.urb_group.specs.Shown.{GroupView}
-use Rattle.urb_group.specs.Stocked.{LeavesOf}
+use Rattle.urb_group.specs.Stocked.{IsSecured, LeavesOf}
 use Rattle.urb_group.specs.World.{World}
 use Rattle.urb_sqlite.specs.OpenJournal.{IsHonestJournal, LeavesOnly}
 use Rattle.urb_sqlite.specs.Reading.{records_of}
@@ -34,3 +35,7 @@ module _ {S A : Type 0} (g : Ghosts S A) where
   -- the group was opened over some stores, and continues from this world
   abbrev pub IsContinuation : World → GroupView → Type 0
   IsContinuation w group = (passed : List S) × ContinuesFrom g w passed group
+
+  -- the new cluster goes on from the world that the secured one showed, as far as the storages have given back what was written
+  abbrev pub GoesOnFrom : Clustered S → Clustered S → Type 0
+  GoesOnFrom old new = (secured : IsSecured g old) → All g.is_clean new.stores → IsContinuation secured.stocked.world new.group

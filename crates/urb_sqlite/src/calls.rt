@@ -13,7 +13,7 @@ ghost use Rattle.urb_sqlite.specs.declared.statements.Part.TheVariants.{First, S
 ghost use Rattle.urb_sqlite.specs.Rows.{table_rows, IsInOrder, IsFirstBad, IsFirstBadOf, StandsFor};
 ghost use Rattle.urb_sqlite.specs.Reading.{read_from, records_of};
 ghost use Rattle.urb_sqlite.specs.Shape.{has_table};
-ghost use Rattle.urb_sqlite.specs.OpenJournal.{IsCounted, IsInStep, IsHonestJournal, IsMade, MakesAtMost, CommitsAtMost, KeepsRows, CommitsEither, IsAppended, IsLeft, IsSafeAtRest, LeavesOnly};
+ghost use Rattle.urb_sqlite.specs.OpenJournal.{IsCounted, IsInStep, IsHonestJournal, IsMade, IsShutJournal, MakesAtMost, CommitsAtMost, KeepsRows, CommitsEither, IsAppended, IsLeft, IsSafeAtRest, LeavesOnly};
 ghost use Rattle.urb_sqlite.specs.PartOpening.{IsPartOpened, IsPartRefused};
 
 use crate::statements::Part;
@@ -178,6 +178,9 @@ pub fn read<S: Alter>(
         → HasBoth (state S.Store conn.old).now.schema
         → (next : ℕ)
         → IsCounted (state S.Store conn.old).now next
+        → IfErr result (λ e. is_bad_row e ≡ false) }
+    ensures shut { HasCleanDisk (state S.Store conn.new)
+        → IsShutJournal (state S.Store conn.old)
         → IfErr result (λ e. is_bad_row e ≡ false) }
     ensures stop { Survives (state S.Store conn.old) (state S.Store conn.new) (λ _. ⊥) }
     ensures rest { (next : ℕ)

@@ -1,7 +1,7 @@
 //! One journal a node: a SQLite database with a row for each stored record, as a `Stable` of `urb_stable`.
 //!
 //! ```text
-//! let journal = open_node::<K>(rt, path, node)?;         // makes the table where it is absent, and reads the rows once
+//! let journal = open_node::<K>(rt, path, node)?;         // makes the tables where they are absent, and reads the rows once
 //! let receipt = draft.keep(&mut journal)?;               // one INSERT, one commit, one sync
 //! close_node(rt, path, journal)?;                        // one file is left
 //! ```

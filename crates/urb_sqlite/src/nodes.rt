@@ -138,6 +138,15 @@ pub fn open_node<K: Contents>(
     SqlStable::open_files(rt.alloc(), files, options)
 }
 
+/// What stands before the path of a directory, so that it names files. SQLite reads one that begins with `file:` otherwise.
+fn prefix_of(directory: &str) -> &'static str {
+    if directory.starts_with("file:") {
+        "./"
+    } else {
+        ""
+    }
+}
+
 /// The journal of a node in this directory, `node-P.db`.
 fn open_in<K: Contents>(
     rt: &HostRuntime,
@@ -150,7 +159,8 @@ fn open_in<K: Contents>(
         K.Sixth.Start K.Seventh.Start node) (⟦<NodeJournal<K> as Stable>⟧.is_clean j)
         (⟦<NodeJournal<K> as Stable>⟧.is_honest j) (⟦<NodeJournal<K> as Stable>⟧.certain j)) }
 {
-    let path = format!(in rt.alloc(); "{directory}/node-{}.db", node.number())?;
+    let prefix = prefix_of(directory);
+    let path = format!(in rt.alloc(); "{prefix}{directory}/node-{}.db", node.number())?;
     open_node(rt, path.as_str(), node)
 }
 
@@ -206,7 +216,8 @@ fn close_in<K: Contents>(
 ) -> Result<(), StoreFault>
     ensures { IfErr result (λ e. (e ≡ StoreFault.NoMemory) ⊎ (e ≡ StoreFault.Device)) }
 {
-    let path = format!(in rt.alloc(); "{directory}/node-{number}.db")?;
+    let prefix = prefix_of(directory);
+    let path = format!(in rt.alloc(); "{prefix}{directory}/node-{number}.db")?;
     closed_at(rt, path.as_str(), journal)
 }
 

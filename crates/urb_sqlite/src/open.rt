@@ -28,7 +28,7 @@ pub fn fault_of(error: Error) -> StoreFault
 }
 
 impl SqlStable<FileStore<File>> {
-    /// Opens the journal at this path, and makes the file and its table where they are absent; its directory has to be there.
+    /// Opens the journal at this path, and makes the file and its tables where they are absent; its directory has to be there.
     /// The refusals are those of `adopt`. No clause says what a file held that was there: `open_from` does, for a caller that
     /// names it.
     pub fn open(rt: &HostRuntime, path: &str) -> Result<SqlStable<FileStore<File>>, StoreFault>

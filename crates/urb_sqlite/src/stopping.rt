@@ -7,7 +7,7 @@ ghost use Rattle.urb_group.specs.Reopening.{ContinuesFrom, HasStopped};
 ghost use Rattle.urb_group.specs.Shown.{GroupView, IsSound, Shows};
 ghost use Rattle.urb_group.specs.Stocked.{IsGenuine, IsKnown, IsSecured, WouldLeave};
 ghost use Rattle.urb_group.specs.World.{World};
-ghost use Rattle.urb_sqlite.specs.Stops.{AreReopened, IsContinuation};
+ghost use Rattle.urb_sqlite.specs.Stops.{AreReopened, GoesOnFrom, IsContinuation};
 
 use crate::SqlStable;
 use sqlite::{FileStore, Options};
@@ -62,8 +62,8 @@ pub(crate) fn over<S: Stable<Alloc = Global> + Drop>(
 
 /// Stops the machine at this moment, opens the journals of all nodes again, and a cluster over them.
 ///
-/// `NoMemory`, `Device`: a journal could not be opened or read. `BadRow`, `Inconsistent`: over a disk that did not give back
-/// what was written.
+/// `NoMemory`, `Device`: a journal could not be opened or read. `BadRow`, `Inconsistent`: what was found is no journal, or the
+/// journals don't fit together. No clause says of a refusal that it comes for this cause.
 pub fn stop_and_open_all<D: Crash + Drop>(
     alloc: Global,
     config: Config,
@@ -132,10 +132,8 @@ pub fn stop_and_reopen<D: Crash + Drop>(
     ensures sized { IfOk result (λ new. new.group.size ≡ config) }
     // The new cluster goes on from the world that the old one showed, also where faults had shut some of its journals, as far as
     // the disks have given back what was written; and it may be stopped in turn.
-    ensures goes_on { IfOk result (λ new.
-        (secured : IsSecured ⟦<SqlStable<FileStore<D>> as Stable>⟧ cluster)
-        → All ⟦<SqlStable<FileStore<D>> as Stable>⟧.is_clean new.stores
-        → IsContinuation ⟦<SqlStable<FileStore<D>> as Stable>⟧ secured.stocked.world new.group) }
+    ensures goes_on { IfOk result
+        (λ new. GoesOnFrom ⟦<SqlStable<FileStore<D>> as Stable>⟧ cluster new) }
     ensures secured { IfOk result (λ new. IsSecured ⟦<SqlStable<FileStore<D>> as Stable>⟧ cluster
         → IsSecured ⟦<SqlStable<FileStore<D>> as Stable>⟧ new) }
 {
@@ -157,10 +155,8 @@ pub fn apply_and_stop<D: Crash + Drop>(
     ensures sized { IfOk result (λ new. new.group.size ≡ config) }
     // The new cluster goes on from the world that the old one showed before the command, also where faults had shut some of
     // its journals by then, as far as the disks have given back what was written; and it may be stopped in turn.
-    ensures goes_on { IfOk result (λ new.
-        (secured : IsSecured ⟦<SqlStable<FileStore<D>> as Stable>⟧ cluster)
-        → All ⟦<SqlStable<FileStore<D>> as Stable>⟧.is_clean new.stores
-        → IsContinuation ⟦<SqlStable<FileStore<D>> as Stable>⟧ secured.stocked.world new.group) }
+    ensures goes_on { IfOk result
+        (λ new. GoesOnFrom ⟦<SqlStable<FileStore<D>> as Stable>⟧ cluster new) }
     ensures secured { IfOk result (λ new. IsSecured ⟦<SqlStable<FileStore<D>> as Stable>⟧ cluster
         → IsSecured ⟦<SqlStable<FileStore<D>> as Stable>⟧ new) }
 {

@@ -1,4 +1,4 @@
-//! Stable storage of a node (sections 2.1 and 3.7 of the book): records, drafts, receipts and doubts.
+//! Stable storage of a node (sections 2.2 and 3.7 of the book): records, drafts, receipts and doubts.
 //!
 //! A record says that a message is pending, that it is certified, or both at once. A `Draft` is a record that waits for its
 //! storage, and the only way from it to a `Receipt` goes through a store that took it:
@@ -9,7 +9,8 @@
 //!     Err(doubt) => ..,                                  // it may be stored or not: the node goes down, and asks
 //! }
 //! let image = store.retrieve(alloc)?;                    // all that it holds; no doubt is left
-//! let misfit = first_misfit(config, &images);            // of the images of all nodes; none where they fit together
+//! let images = Images::new(alloc, &images)?;             // of all nodes
+//! let misfit = images.first_misfit(config);              // none where they fit together
 //! ```
 //!
 //! `Stable` is the contract of every storage; `MemStable` is one in memory, which can be armed to fail. Nothing here removes or

@@ -187,6 +187,11 @@ pub trait Stable {
         ensures faults { IfErr result
             (λ e. (is_place e ≡ false) × (is_honest self.new → is_bad_row e ≡ false)) }
 
+        // Nor is it BadRow where this fault, or one before, has shut an honest storage.
+        ensures sound { is_honest self.old ⊎ is_shut self.old
+            → is_clean self.new
+            → IfErr result (λ e. is_bad_row e ≡ false) }
+
         // A stop, also inside this call, leaves what the storage may hold.
         ensures stop { is_honest self.old
             → is_clean self.new

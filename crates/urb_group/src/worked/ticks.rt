@@ -1,4 +1,5 @@
-//! What ticks send: pending names in cyclic order, sixteen at most, each to every other node.
+//! What ticks send: pending names in cyclic order, sixteen at most, each to every other node that wasn't heard to have
+//! certified it.
 ghost use Rattle.std.specs.Prelude.{[], ◌∷◌, ◌++◌, None, Some};
 ghost use Rattle.urb_names.specs.Names.{name};
 ghost use Rattle.urb_group.specs.World.{image_of};

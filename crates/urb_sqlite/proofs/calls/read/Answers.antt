@@ -1,6 +1,7 @@
 use Rattle.std.proofs.Common.{◌≡◌, ◌+◌, length, arith}
 use Rattle.std.proofs.lemmas.Result.{IfOk-weaker, err_from_is_err_and}
 use Rattle.sqlite.specs.Held.{state}
+use Rattle.urb_sqlite.proofs.KeepLemmas.{shut_before}
 use Rattle.urb_sqlite.proofs.StandLemmas.{first_read}
 use Rattle.urb_sqlite.proofs.BothLemmas.{left_then, survives_both, still_there, earlier, stands_when_read, second_is_read, safe_after}
 use Rattle.urb_sqlite.proofs.calls.read.Goals as goal
@@ -14,6 +15,18 @@ pub returns-in_err-records-clause-rest : goal.returns-in_err-records-clause-rest
 returns-in_err-records-clause-rest g c next step =
     let new = state g.S.Store c.read_part.new.conn in
     safe_after (state g.S.Store c.args.conn.now) new next c.read_part.ensures.stop c.read_part.ensures.left (λ is_open db. g.met.S.Store.settled c.read_part.new.conn.store db is_open) c.read_part.ensures.live step
+
+pub returns-in_err-records-clause-shut : goal.returns-in_err-records-clause-shut
+returns-in_err-records-clause-shut g c clean shut =
+    let p = err_from_is_err_and c.from_residual.result c.from_residual.ensures.1 in
+    rw (p.1, p.2) (shut_before (state g.S.Store c.args.conn.now) (state g.S.Store c.read_part.new.conn) c.in_err-records.field-0.0 shut (c.in_err-records.ensures.unchanged clean))
+
+pub returns-in_err-more-clause-shut : goal.returns-in_err-more-clause-shut
+returns-in_err-more-clause-shut g c clean shut =
+    let mid = state g.S.Store c.read_part.new.conn in
+    let new = state g.S.Store c.read_part-2.new.conn in
+    let same = c.in_ok-records.ensures.same (earlier mid new c.read_part-2.ensures.stop clean) in
+    absurd (shut same.0.was_open)
 
 pub returns-in_err-more-clause-sound : goal.returns-in_err-more-clause-sound
 returns-in_err-more-clause-sound g c clean has next counted =

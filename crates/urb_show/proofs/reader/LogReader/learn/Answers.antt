@@ -1,7 +1,14 @@
-use Rattle.std.proofs.Common.{refl}
+use Rattle.std.proofs.Common.{ap, inl, inr, refl, ⊎_elim}
 use Rattle.urb_show.proofs.Beginnings.{begins_later}
+use Rattle.urb_show.specs.History.{lists_of}
 use Rattle.urb_show.proofs.reader.LogReader.learn.Goals as goal
 
 pub returns : goal.returns
 returns g c =
-    rw (← c.self.view_is, ← c.told.view_is) (record { earlier = begins_later _ _ _ c.longer.ensures.this; told = begins_later _ _ _ c.longer.ensures.that; seen = refl })
+    rw (← c.self.view_is, ← c.told.view_is) (
+    record {
+      one = ⊎_elim (λ same. inl (ap (lists_of _) same)) (λ same. inr (ap (lists_of _) same)) c.longer.ensures.one;
+      earlier = begins_later _ _ _ c.longer.ensures.this;
+      told = begins_later _ _ _ c.longer.ensures.that;
+      seen = refl;
+    })

@@ -1,10 +1,11 @@
-use Rattle.std.proofs.Common.{◌≡◌, subst}
+use Rattle.std.proofs.Common.{false, subst, ◌≡◌, ◌⊎◌, ⊎_elim}
 use Rattle.std.proofs.lemmas.Result.{err_from_is_err_and}
 use Rattle.sqlite.specs.State.{HasCleanDisk}
 use Rattle.sqlite.specs.Held.{state}
-use Rattle.urb_sqlite.specs.OpenJournal.{OpenJournal, IsHonestJournal, LeavesOnly}
+use Rattle.urb_sqlite.specs.OpenJournal.{OpenJournal, IsHonestJournal, IsShutJournal, LeavesOnly}
 use Rattle.urb_sqlite.specs.Reading.{records_of}
-use Rattle.urb_sqlite.proofs.KeepLemmas.{not_bad, stops_at_select}
+use Rattle.urb_stable.specs.Storing.{is_bad_row}
+use Rattle.urb_sqlite.proofs.KeepLemmas.{honest_before, not_bad, stops_at_select}
 use Rattle.urb_sqlite.proofs.BothLemmas.{given_by_read}
 use Rattle.urb_sqlite.proofs.journal.SqlStableStable.retrieve.Goals as goal
 
@@ -41,3 +42,12 @@ returns-in_err-records-clause-faults g c =
       c.in_err-records.ensures.placed,
       λ honest. not_bad old new c.self.inside.next c.in_err-records.field-0.0 c.self.invariant c.read.ensures.stop.clean c.read.ensures.left c.in_err-records.ensures.sound honest,
     )
+
+pub returns-in_err-records-clause-sound : goal.returns-in_err-records-clause-sound
+returns-in_err-records-clause-sound g c =
+    let old = state g.S.Store c.self.inside.conn in
+    let new = state g.S.Store c.read.new.conn in
+    let p = err_from_is_err_and c.from_residual.result c.from_residual.ensures.1 in
+    let told = subst (λ (s : OpenJournal _). IsHonestJournal (state g.S.Store s.conn) ⊎ IsShutJournal (state g.S.Store s.conn) → HasCleanDisk new → is_bad_row c.in_err-records.field-0.0 ≡ false) c.self.view_is
+    (λ known clean. ⊎_elim (λ honest. honest_before old new c.self.inside.next c.in_err-records.field-0.0 c.self.invariant c.in_err-records.ensures.sound honest clean) (λ shut. c.in_err-records.ensures.shut clean shut) known) in
+    λ known clean. rw (p.1, p.2) (told known clean)
