@@ -128,7 +128,7 @@ fn an_input_that_ends_inside_a_frame_is_refused(rt: HostRuntime) {
 }
 
 /// Frames with a fault, and its code.
-const FAULTS: [(&[u8], u8); 15] = [
+const FAULTS: [(&[u8], u8); 18] = [
     (b"\x00\x00", 1),
     (b"\x40\xd9", 1),
     (b"\xff\xff\x03", 1),
@@ -139,11 +139,14 @@ const FAULTS: [(&[u8], u8); 15] = [
     (b"\x00\x05\x02\x00\x00\x00\x00", 3),
     (b"\x00\x07\x02\x00\x00\x00\x00\x08\x08", 3),
     (b"\x00\x02\x03\x03", 3),
+    (b"\x00\x02\x04\x00", 3),
+    (b"\x00\x02\x05\x00", 3),
     (b"\x00\x07\x01\x00\x00\x00\x00\x00\x01", 4),
     (b"\x00\x06\x02\x00\x00\x00\x00\x01", 4),
     (b"\x00\x06\x02\x00\x00\x00\x01\x00", 4),
     (b"\x00\x06\x02\x00\x00\x00\x01\x09", 4),
     (b"\x00\x07\x01\x00\x07\x00\x00\x00", 5),
+    (b"\x00\x02\x09", 5),
 ];
 
 // The first of these frames whose fault, alone in a session, hasn't this code. The session ends at it, unless the frame is whole

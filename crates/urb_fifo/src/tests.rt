@@ -35,9 +35,9 @@ fn name(sender: u8, seq: u32) -> Option<Name>
 }
 
 fn config() -> Option<Config>
-    ensures { IfSome result (λ config. config ≡ record { n = 3; cap = 10 }) }
+    ensures { IfSome result (λ config. config ≡ record { n = 3; cap = 40 }) }
 {
-    Config::new(3, 10)
+    Config::new(3, 40)
 }
 
 // Reserves room for a name, and once more where a growth was refused, which has changed nothing then. Whether it was refused;
@@ -107,10 +107,10 @@ fn parts_of(step: Step) -> (u8, u32) {
 
 // Its name; none where it is none of the group.
 fn name_of(step: Step) -> Option<Name>
-    ensures { IfSome result (λ name. (name.sender ≤ 3) × (name.seq ≤ 10)) }
+    ensures { IfSome result (λ name. (name.sender ≤ 3) × (name.seq ≤ 40)) }
 {
     let (sender, seq) = parts_of(step);
-    if sender > 3 || seq == 0 || seq > 10 {
+    if sender > 3 || seq == 0 || seq > 40 {
         return None;
     }
     name(sender, seq)
@@ -118,7 +118,7 @@ fn name_of(step: Step) -> Option<Name>
 
 // Does steps, one after the other.
 fn is_refused_in<A: Allocator + Copy>(fifo: &mut Fifo<A>, steps: &[Step]) -> Option<bool>
-    requires { fifo.old.limits ≡ record { n = 3; cap = 10 } }
+    requires { fifo.old.limits ≡ record { n = 3; cap = 40 } }
     ensures { fifo.new.limits ≡ fifo.old.limits }
 {
     let mut refused = false;
@@ -266,4 +266,45 @@ fn each_growth_may_be_refused(rt: HostRuntime) {
         }
     }
     assert!(rt; 2 <= most, "a growth was refused");
+}
+
+/// Orders of the numbers 1 to 40.
+#[derive(Clone, Copy)]
+enum Order {
+    Rising,
+    Falling,
+    OddFirst,
+}
+
+// The certificate in this place of the order, from 0, and how many names it releases.
+fn step_in(order: Order, place: u32) -> Step
+    requires { place < 40 }
+{
+    match order {
+        Order::Rising => Step::Certify(2, place + 1, 1),
+        Order::Falling => Step::Certify(2, 40 - place, if place == 39 { 40 } else { 0 }),
+        Order::OddFirst if place < 20 => {
+            Step::Certify(2, 2 * place + 1, if place == 0 { 1 } else { 0 })
+        }
+        Order::OddFirst => Step::Certify(2, 2 * place - 38, if place == 39 { 1 } else { 2 }),
+    }
+}
+
+#[test]
+fn forty_names_are_released_in_their_order(rt: HostRuntime) {
+    for order in [Order::Rising, Order::Falling, Order::OddFirst] {
+        let mut steps = [Step::Certify(2, 1, 1); 40];
+        let mut log = [(2u8, 1u32); 40];
+        for place in 0..40u32 {
+            steps[place as usize] = step_in(order, place);
+            log[place as usize] = (2, place + 1);
+        }
+        let script = Script {
+            steps: &steps,
+            calm: &[],
+            log: &log,
+            counts: &[(1, 0), (2, 40)],
+        };
+        assert_eq!(rt; play(rt.alloc(), 0, script), Some(false));
+    }
 }

@@ -1,4 +1,4 @@
-//! Outside vectors of the packet grammar, and memory that is refused.
+//! Worked bytes of the packet grammar, and memory that is refused.
 ghost use Rattle.std.specs.Prelude.{◌≡◌, ◌≢◌, ◌≤◌, length, IfSome};
 ghost use Rattle.urb_names.specs.Packets.{FitsVersion};
 

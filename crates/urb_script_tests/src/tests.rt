@@ -105,7 +105,7 @@ const BAD_FIRST: [&[u8]; 12] = [
 ];
 
 /// Lines that are bad behind a first one.
-const BAD: [&[u8]; 62] = [
+const BAD: [&[u8]; 66] = [
     b"",
     b"group 1 10",
     b"log  1",
@@ -126,6 +126,7 @@ const BAD: [&[u8]; 62] = [
     b"submit 1 7 1",
     b"submit 1 7 1 ",
     b"submit 1 7 1 a b",
+    b"submit 1 7 1 a\tb",
     b"submit 1 07 1 a",
     b"submit 1 0 1 a",
     b"submit 1 65536 1 a",
@@ -142,6 +143,7 @@ const BAD: [&[u8]; 62] = [
     b"restart 0",
     b"tick 1 1",
     b"arrive 1 1 1 1",
+    b"arrive 0 2 1 1",
     b"arrive 1 2 1",
     b"arrive 1 2 8 1",
     b"arrive 1 2 1 0",
@@ -157,12 +159,14 @@ const BAD: [&[u8]; 62] = [
     b"raw 1",
     b"raw 1 ",
     b"raw 1 --",
+    b"raw 8 -",
     b"raw 1 5",
     b"raw 1 5g",
     b"raw 1 55 42",
     b"held 1",
     b"held 1 1",
     b"held 1.0",
+    b"held 0.1",
     b"held 1.01",
     b"held 1.4294967296",
     b"held 8.1",

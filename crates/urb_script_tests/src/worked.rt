@@ -42,7 +42,39 @@ pub const TOLD: (&[u8], &[u8]) = (
 );
 
 /// Scripts, their answers, and how they end.
-const WORKED: [((&[u8], &[u8]), Ended); 23] = [
+const WORKED: [((&[u8], &[u8]), Ended); 27] = [
+    // What a node that is down, or stores, or isn't there refuses: bytes come before nodes, and nodes before states.
+    (
+        (
+            b"group 3 10\ncrash 2\nraw 2 55\narrive 4 2 1 1\narrive 1 2 1 1\nsubmit 3 7 1 a\narrive 1 3 1 1\ntick 3\ntick 2\ntick 4\ncrash 4\nrestart 4\n",
+            b"group 3 10\ndown 2\nrefused packet short\nrefused badnode\nrefused down\ndraft 3.1 at 1\nrefused busy\nrefused busy\nrefused down\nrefused badnode\nrefused badnode\nrefused badnode\n",
+        ),
+        Ended::Whole,
+    ),
+    // A failure that is refused arms nothing.
+    (
+        (
+            b"group 1 10\nfail 1 old\nsubmit 1 7 1 a\nstored 1\n",
+            b"group 1 10\nrefused stale\ndraft 1.1 at 1\naccepted 1.1 sent 0 released 1\n",
+        ),
+        Ended::Whole,
+    ),
+    // The greatest values that lines may have.
+    (
+        (
+            b"group 7 1000000\nsubmit 7 65535 4294967295 !~\narrive 6 7 7 4294967295\n",
+            b"group 7 1000000\nrefused gap 1\nrefused forged\n",
+        ),
+        Ended::Whole,
+    ),
+    // A node stops and comes back, and is told by another one that a majority has its message.
+    (
+        (
+            b"group 3 10\nsubmit 1 7 1 hi\nstored 1\narrive 1 2 1 1\nstored 2\ncrash 1\nrestart 1\ntick 1\narrive 2 1 1 1\nstored 1\nlog 1\nheld 1.1\n",
+            b"group 3 10\ndraft 1.1 at 1\naccepted 1.1 sent 2 released 0\ndraft 1.1 at 1\ntaken 1.1 sent 2 released 1\ndown 1\nup 1\nsent 2:1.1 3:1.1\ndraft 1.1 at 2\ntaken 1.1 sent 0 released 1\nlog 1: 1.1=hi\nheld 1.1: 1 2\n",
+        ),
+        Ended::Whole,
+    ),
     // One node delivers at once.
     (
         (

@@ -79,7 +79,7 @@ fn read_and_learn<K: HouseName + Send + Sync, R: Threads + Wait + Sync>(
     )
 }
 
-// Four readers on threads of their own read all nodes in turn, one of which learns what is settled. Whether the pages of the
+// Four readers on threads of their own read all nodes in turn, one of them as often as it learns what is settled. Whether the pages of the
 // three agree, and those of the one.
 fn read_on_threads<K: HouseName + Send + Sync, R: Threads + Wait + Sync>(
     rt: &R,

@@ -52,7 +52,13 @@ fn serve_command<'a>(alloc: Global) -> Result<Command<'a>, AllocError>
     Command::new(alloc, "serve")
         .about("Runs a group of nodes until standard input ends")
         .arg(number_option(alloc, "nodes", "How many nodes", 1, 7))?
-        .arg(number_option(alloc, "cap", "How many messages a node keeps", 1, 1_000_000))?
+        .arg(number_option(
+            alloc,
+            "cap",
+            "How many messages each node may broadcast",
+            1,
+            1_000_000,
+        ))?
         .arg(text_option(alloc, "dir", "The folder of the journals"))?
         .arg(number_option(
             alloc,

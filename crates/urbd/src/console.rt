@@ -2,7 +2,7 @@
 
 ghost use Rattle.std.specs.Prelude.{◌≡◌, false};
 
-use std::io::Read;
+use std::io::{ErrorKind, Read};
 use urb_worker::{Station, Watch};
 
 /// Tells once that the group runs, and watches until the input ends. Where that can't be told it doesn't wait.
@@ -51,13 +51,15 @@ impl<'a, P: Print, I: Read + Drop> Watch for Console<'a, P, I> {
     }
 }
 
-// Reads an input to its end; a read that fails is an end too.
+// Reads an input to its end; a read that fails is an end too, unless it was only interrupted.
 fn read_to_end<I: Read>(input: &mut I) {
     let mut buffer = [0u8; 256];
     for _ in 0..u64::MAX {
         match input.read(&mut buffer) {
-            Ok(0) | Err(_) => return,
+            Ok(0) => return,
             Ok(_) => {}
+            Err(error) if error.kind() == ErrorKind::Interrupted => {}
+            Err(_) => return,
         }
     }
 }

@@ -5,12 +5,13 @@ ghost use Rattle.urbd.specs.Served.{AreServed};
 
 use urb_names::Config;
 
-/// A group to run: how many nodes, how many messages each keeps, where its journals are, its ports, and how often each node resends.
+/// A group to run: how many nodes, how many messages each may broadcast, where its journals are, its ports, and how often each
+/// node resends.
 #[derive(Clone, Copy, Debug)]
 pub struct Serving<'a> {
     /// Nodes, 1 to 7.
     pub nodes: u8,
-    /// Messages that each node keeps at most, 1 to 1,000,000.
+    /// Messages that each node may broadcast, 1 to 1,000,000.
     pub cap: u32,
     /// The folder of the journals.
     pub dir: &'a str,

@@ -76,7 +76,7 @@ fn requests_are_read(rt: HostRuntime) {
 }
 
 /// Responses, and what they say.
-const RESPONSES: [(&[u8], Said<'_>); 6] = [
+const RESPONSES: [(&[u8], Said<'_>); 7] = [
     (b"\x00\x05\x81\x00\x00\x00\x01", Said::Accepted(1)),
     (
         b"\x00\x11\x82\x01\x01\x00\x00\x00\x01\x00\x07\x00\x00\x00\x01\x00\x02hi",
@@ -85,6 +85,10 @@ const RESPONSES: [(&[u8], Said<'_>); 6] = [
     (
         b"\x00\x0a\x83\x01\x00\x00\x00\x01\x00\x00\x00\x01",
         Said::Status(NodeState::Ready, 1, 1),
+    ),
+    (
+        b"\x00\x0a\x83\x02\x00\x00\x00\x01\x00\x00\x00\x00",
+        Said::Status(NodeState::Storing, 1, 0),
     ),
     (b"\x00\x06\xee\x07\x00\x00\x00\x02", Said::Refused(7, 2)),
     (b"\x00\x01\x84", Said::Done),
@@ -206,9 +210,13 @@ pub(super) fn eight_entries<A: Allocator + Copy>(alloc: A) -> Result<bool, NoMem
 }
 
 #[test]
-fn a_frame_has_room_for_three_of_the_longest_entries(rt: HostRuntime) {
+fn a_frame_has_room_for_eight_entries_or_seven_or_three_of_the_longest(rt: HostRuntime) {
     let longest = [b'x'; MAX_PAYLOAD];
-    // Its length is 49,193.
-    let again = are_read_again(rt.alloc(), &longest, [0xc0, 0x29, 0x82, 3]);
-    assert_eq!(rt; again, Ok(true));
+    // Their lengths are 65,530, 57,346 and 49,193.
+    let eight = are_read_again(rt.alloc(), &longest[..8178], [0xff, 0xfa, 0x82, 8]);
+    assert!(rt; eight == Ok(true));
+    let seven = are_read_again(rt.alloc(), &longest[..8179], [0xe0, 0x02, 0x82, 7]);
+    assert!(rt; seven == Ok(true));
+    let three = are_read_again(rt.alloc(), &longest, [0xc0, 0x29, 0x82, 3]);
+    assert!(rt; three == Ok(true));
 }

@@ -14,7 +14,7 @@ fn is_refused(alloc: Global, bytes: &[u8], fault: PacketFault) -> bool {
 
 #[test]
 fn bytes_are_refused_with_their_first_fault(rt: HostRuntime) {
-    let cases: [(&[u8], PacketFault); 11] = [
+    let cases: [(&[u8], PacketFault); 14] = [
         (
             b"\x55\x42\x01\x01\x02\x01\x00\x00\x00\x01\x00\x07\x00\x00\x00\x01\x00",
             PacketFault::Short,
@@ -22,6 +22,11 @@ fn bytes_are_refused_with_their_first_fault(rt: HostRuntime) {
         (
             b"\x55\x42\x02\x01\x02\x01\x01\x00\x00\x00\x01\x00\x07\x00\x00\x00\x01\x00",
             PacketFault::Short,
+        ),
+        (b"\x55\x43\x09", PacketFault::Short),
+        (
+            b"\x55\x43\x09\x01\x02\x01\x00\x00\x00\x01\x00\x07\x00\x00\x00\x01\x00\x01a",
+            PacketFault::Magic,
         ),
         (
             b"\x55\x43\x01\x01\x02\x01\x00\x00\x00\x01\x00\x07\x00\x00\x00\x01\x00\x01a",
@@ -37,6 +42,10 @@ fn bytes_are_refused_with_their_first_fault(rt: HostRuntime) {
         ),
         (
             b"\x55\x42\x03\x01\x02\x01\x01\x00\x00\x00\x01\x00\x07\x00\x00\x00\x01\x00\x01a",
+            PacketFault::Version,
+        ),
+        (
+            b"\x55\x42\x09\x01\x02\x01\x00\x00\x00\x01\x00\x07\x00\x00\x00\x01\x00\x01a",
             PacketFault::Version,
         ),
         (
@@ -82,6 +91,38 @@ fn fault_of(alloc: Global, parts: &[&[u8]]) -> Option<Option<PacketFault>> {
     let fault = parse(&bytes).err();
     drop(bytes);
     if is_joined { Some(fault) } else { None }
+}
+
+// Whether the first vector with these bytes at this place is out of range.
+fn is_out_of_range(alloc: Global, place: usize, bytes: &[u8]) -> bool {
+    let length = WITH_PAYLOAD.len();
+    if place > length || bytes.len() > length - place {
+        return false;
+    }
+    let parts = [
+        &WITH_PAYLOAD[..place],
+        bytes,
+        &WITH_PAYLOAD[place + bytes.len()..],
+    ];
+    fault_of(alloc, &parts) == Some(Some(PacketFault::Range))
+}
+
+#[test]
+fn each_number_of_a_packet_has_its_range(rt: HostRuntime) {
+    let cases: [(usize, &[u8]); 9] = [
+        (3, b"\0"),
+        (3, b"\x08"),
+        (4, b"\0"),
+        (4, b"\x08"),
+        (5, b"\0"),
+        (5, b"\x08"),
+        (6, b"\0\0\0\0"),
+        (10, b"\0\0"),
+        (12, b"\0\0\0\0"),
+    ];
+    for (place, bytes) in cases {
+        assert!(rt; is_out_of_range(rt.alloc(), place, bytes), "{place}");
+    }
 }
 
 // Whether each beginning of a packet is refused as too short for its header, or for its payload.
@@ -130,11 +171,16 @@ fn length_of(alloc: Global, front: &[u8], size: u16) -> Option<Result<usize, Pac
     if is_spelled { Some(length) } else { None }
 }
 
+// The beginning of the third vector, with no flag.
+const WITHOUT_FLAGS: &[u8] =
+    b"\x55\x42\x02\x01\x02\x00\x01\x00\x00\x00\x01\x00\x07\x00\x00\x00\x01";
+
 #[test]
 fn the_greatest_length_of_a_payload_goes_by_the_version(rt: HostRuntime) {
     for (front, size, length) in [
         (&WITH_PAYLOAD[..16], 1024, Ok(1024)),
         (&WITH_PAYLOAD[..16], 1025, Err(PacketFault::Length)),
+        (WITHOUT_FLAGS, 1025, Ok(1025)),
         (&WITH_FLAGS[..17], 16384, Ok(16384)),
         (&WITH_FLAGS[..17], 16385, Err(PacketFault::Length)),
     ] {

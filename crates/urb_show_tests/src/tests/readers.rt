@@ -122,7 +122,7 @@ pub fn learn_all<K: HouseName, R: Wait>(
     for _ in rt.forever() {
         match next(rt, board) {
             (Some(news), _) => {
-                if !learns(alloc, reader, news) {
+                if !learns(alloc, reader, news) || sum_of(alloc, reader).is_none() {
                     return false;
                 }
             }

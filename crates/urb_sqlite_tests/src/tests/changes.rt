@@ -4,7 +4,7 @@ use super::steps::{Case, Start, Step};
 use urb_stable::StoreFault;
 
 /// What was done to the rows of a journal of two records, and which row is no record then.
-pub static BAD: [Case; 19] = [
+pub static BAD: [Case; 20] = [
     (
         "",
         Start::Stored,
@@ -117,6 +117,12 @@ pub static BAD: [Case; 19] = [
         "",
         Start::Stored,
         "UPDATE journal2 SET number = 0 WHERE pos = 1",
+        &[Step::Adopt(Err(StoreFault::BadRow(1)))],
+    ),
+    (
+        "",
+        Start::Stored,
+        "UPDATE journal2 SET number = 4294967296 WHERE pos = 1",
         &[Step::Adopt(Err(StoreFault::BadRow(1)))],
     ),
 ];

@@ -54,7 +54,7 @@ const SHORTER: Told = Told {
 };
 
 /// The SQL or its name, what was done, and what the group says then.
-static DAMAGES: [(&'static str, Damage, Said); 17] = [
+static DAMAGES: [(&'static str, Damage, Said); 18] = [
     ("nothing", Damage::Nothing, Said::Told(AGAIN)),
     (
         "DELETE FROM journal2 WHERE pos = 1",
@@ -90,6 +90,11 @@ static DAMAGES: [(&'static str, Damage, Said); 17] = [
         "UPDATE journal2 SET client = 0",
         Damage::Sql(TWO),
         Said::Fault(2, StoreFault::BadRow(1)),
+    ),
+    (
+        "INSERT INTO journal VALUES (1, 1, 0, 1, 7, 1, x'61')",
+        Damage::Sql(THREE),
+        Said::Fault(3, StoreFault::BadRow(1)),
     ),
     (
         "INSERT INTO journal VALUES (1, 1, 1, 1, 0, 1, x'61')",

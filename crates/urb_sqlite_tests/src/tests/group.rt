@@ -2,7 +2,7 @@
 ghost use Rattle.std.specs.Prelude.{◌≡◌};
 
 use std::alloc::Global;
-use urb_group::{Answer, Cluster, Command, Reply};
+use urb_group::{Answer, Cluster, Command, Reply, play};
 use urb_names::{ClientId, Config, Name, NodeId, Refusal, Rule};
 use urb_stable::{Stable, StoreFault};
 
@@ -64,6 +64,14 @@ fn command(alloc: Global, event: Event) -> Option<Command> {
         Event::StoreOne => Some(Command::Store(one)),
         Event::StoreTwo => Some(Command::Store(two)),
     }
+}
+
+fn commands(alloc: Global, events: &[Event]) -> Option<Vec<Command>> {
+    let mut commands = Vec::new(alloc);
+    for event in events {
+        commands.push(command(alloc, *event)?).ok()?;
+    }
+    Some(commands)
 }
 
 // Whether it is the first name of node 1, that of the message.
@@ -204,6 +212,17 @@ pub fn run<S: Stable<Alloc = Global> + Drop>(
     }
 }
 
+// Whether a group plays the commands of a delivery, each with its reply.
+fn is_delivered<S: Stable<Alloc = Global>>(alloc: Global, cluster: &mut Cluster<S>) -> bool {
+    let Some(commands) = commands(alloc, &DELIVERY) else {
+        return false;
+    };
+    match play(alloc, cluster, &commands) {
+        Ok(replies) => replies.len() == DELIVERY.len(),
+        Err(_) => false,
+    }
+}
+
 /// What the same group says that delivers the message, and whose nodes all stop then and are opened again.
 pub fn reopened<S: Stable<Alloc = Global> + Drop>(alloc: Global, stores: Vec<S>) -> Option<Told> {
     if stores.len() != 3 {
@@ -212,9 +231,9 @@ pub fn reopened<S: Stable<Alloc = Global> + Drop>(alloc: Global, stores: Vec<S>)
     let Ok(mut cluster) = Cluster::open(alloc, three(), stores) else {
         return None;
     };
-    let first = tell(alloc, &mut cluster, &DELIVERY);
+    let is_delivered = is_delivered(alloc, &mut cluster);
     match cluster.reopen(alloc) {
-        Ok(mut cluster) if first.is_some() => tell(alloc, &mut cluster, &REPEAT),
+        Ok(mut cluster) if is_delivered => tell(alloc, &mut cluster, &REPEAT),
         _ => None,
     }
 }

@@ -56,6 +56,16 @@ fn are_open<D: Disk + Drop>(places: &mut [Place<D>]) -> bool {
     true
 }
 
+// The same by one call a node.
+fn are_opened<D: Disk + Drop>(places: &mut [Place<D>]) -> bool {
+    for place in places {
+        if !place.is_opened() {
+            return false;
+        }
+    }
+    true
+}
+
 // The journals of all nodes, in order.
 fn taken<D: Disk + Drop>(alloc: Global, places: &mut [Place<D>]) -> Option<Vec<Journal<D>>> {
     let mut journals = Vec::new(alloc);
@@ -225,7 +235,7 @@ fn what_was_told_outlives_each_stop(rt: HostRuntime) -> Result<(), Fail> {
 // What stands after a stop of all nodes over journals that stay open, behind a delivery.
 fn told_again(alloc: Global) -> Option<Told> {
     let mut places = places(alloc, CASES[0], u64::MAX)?;
-    let journals = if are_open(&mut places) {
+    let journals = if are_opened(&mut places) {
         taken(alloc, &mut places)
     } else {
         None

@@ -105,6 +105,24 @@ impl<D: Disk + Drop> Place<D> {
         }
     }
 
+    /// Whether the files become the journal by one call.
+    pub fn is_opened(&mut self) -> bool {
+        let Some(files) = self.files.take() else {
+            return false;
+        };
+        if !files.may_be_used() {
+            put(&mut self.files, files);
+            return false;
+        }
+        match SqlStable::open_files(self.alloc, files, Options::new(1)) {
+            Ok(journal) => {
+                put(&mut self.journal, journal);
+                true
+            }
+            Err(_) => false,
+        }
+    }
+
     /// Whether the files become the journal.
     pub fn is_open(&mut self) -> bool {
         self.is_connected() && matches!(self.adopt(), Some(Ok(_)))

@@ -79,8 +79,19 @@ const FIRST_LIMIT: &[Step] = &[
     Step::Adopt(Err(StoreFault::BadRow(2))),
 ];
 
+const SECOND_LIMIT: &[Step] = &[
+    Step::Adopt(Ok(2)),
+    Step::Store(2, (Form::Certified, 2, Load::Of(b"")), Ok(())),
+    Step::Leave,
+    Step::Sql("UPDATE journal2 SET payload = ?1 WHERE pos = 2", 16384),
+    Step::Adopt(Ok(3)),
+    Step::Leave,
+    Step::Sql("UPDATE journal2 SET payload = ?1 WHERE pos = 2", 16385),
+    Step::Adopt(Err(StoreFault::BadRow(2))),
+];
+
 /// What becomes of an old file.
-pub static OLD_FILES: [Case; 3] = [
+pub static OLD_FILES: [Case; 4] = [
     (
         "a new record goes into the second table",
         Start::Old,
@@ -98,6 +109,12 @@ pub static OLD_FILES: [Case; 3] = [
         Start::Old,
         "",
         FIRST_LIMIT,
+    ),
+    (
+        "and one of the second table no longer than that one's",
+        Start::Old,
+        "DELETE FROM journal WHERE pos = 2",
+        SECOND_LIMIT,
     ),
 ];
 

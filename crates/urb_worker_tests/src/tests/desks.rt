@@ -19,7 +19,8 @@ use urb_show::{HouseName, LogReader, Opened};
 use urb_worker::{HubName, MemoryLink, NodeDesk, OpenGate, Ticket, serve};
 
 // What a client sends to a group of one node: a submit, a read that shows it, a status, a submit whose number isn't the next,
-// an unknown opcode, a read of the place 0, and one behind the end; then a crash, a status, a submit, a restart, and a bad length.
+// an unknown opcode, a read of the place 0, and one behind the end; then a crash, a second one, a status, a submit, a restart, a
+// second one, and a bad length.
 const SENT: &[u8] = b"\x00\x09\x01\x00\x07\x00\x00\x00\x01hi\
 \x00\x06\x02\x00\x00\x00\x01\x08\
 \x00\x01\x03\
@@ -28,8 +29,10 @@ const SENT: &[u8] = b"\x00\x09\x01\x00\x07\x00\x00\x00\x01hi\
 \x00\x06\x02\x00\x00\x00\x00\x08\
 \x00\x06\x02\x00\x00\x00\x09\x08\
 \x00\x01\x04\
+\x00\x01\x04\
 \x00\x01\x03\
 \x00\x07\x01\x00\x07\x00\x00\x00\x02\
+\x00\x01\x05\
 \x00\x01\x05\
 \x00\x00";
 
@@ -41,9 +44,11 @@ const ANSWERED: &[u8] = b"\x00\x05\x81\x00\x00\x00\x01\
 \x00\x06\xee\x13\x00\x00\x00\x04\
 \x00\x02\x82\x00\
 \x00\x01\x84\
+\x00\x06\xee\x03\x00\x00\x00\x00\
 \x00\x0a\x83\x00\x00\x00\x00\x01\x00\x00\x00\x01\
 \x00\x06\xee\x03\x00\x00\x00\x00\
 \x00\x01\x84\
+\x00\x06\xee\x0c\x00\x00\x00\x00\
 \x00\x06\xee\x13\x00\x00\x00\x01";
 
 // A session at the desk of a node, of a client that sends this. Whether it ended at a bad length, answered so.

@@ -4,19 +4,25 @@ use super::{failed, is, new_terminal, what_it_shows};
 use crate::console::Console;
 use std::cell::Cell;
 use std::io;
-use std::io::Read;
+use std::io::{ErrorKind, Read};
 use std::test::Fail;
 use urb_worker::Watch;
 
-/// An input of which so many bytes are left, which come one by one. Then it ends, or fails.
+/// An input of which so many bytes are left, which come one by one, each behind a read that was interrupted. Then it ends, or
+/// fails.
 #[derive(Drop)]
 struct Typed<'a> {
     left: &'a Cell<u32>,
+    interrupted: &'a Cell<bool>,
     ends: bool,
 }
 
 impl Read for Typed<'_> {
     fn read(&mut self, buf: &mut [u8]) -> io::Result<usize> {
+        self.interrupted.set(!self.interrupted.get());
+        if self.interrupted.get() {
+            return Err(io::Error::from(ErrorKind::Interrupted));
+        }
         let left = self.left.get();
         if left == 0 {
             return if self.ends { Ok(0) } else { Err(failed()) };
@@ -41,7 +47,12 @@ fn a_console_tells_once_and_reads_to_the_end(rt: HostRuntime) -> Result<(), Fail
     ] {
         let terminal = new_terminal(rt.alloc(), &[], b"", open);
         let typed = Cell::new(300u32);
-        let input = Typed { left: &typed, ends };
+        let interrupted = Cell::new(false);
+        let input = Typed {
+            left: &typed,
+            interrupted: &interrupted,
+            ends,
+        };
         let mut console = Console::new(&terminal, input);
         assert!(rt; !console.is_told());
         console.watch(&[]);
