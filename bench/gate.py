@@ -6,6 +6,7 @@ checks every two seconds, so that a figure may lack two seconds a check. Prints 
 minutes by the clock; so too where it is interrupted, of what was seen. Nothing else of the toolchain may run meanwhile. Linux.
 """
 import os
+import signal
 import subprocess
 import sys
 import time
@@ -15,10 +16,10 @@ TICK = os.sysconf("SC_CLK_TCK")
 KINDS = ("alone", "tests", "edits")
 
 
-def check_of(process, top):
-    """The crate that a process checks, as which of the kinds, and its seconds of a processor; none where it is no check."""
+def check_of(gate, process, top):
+    """The crate that a process of the gate checks, as which of the kinds, and its seconds of a processor; none where it is no check."""
     try:
-        if os.readlink(process / "exe").rsplit("/", 1)[-1] != "rattle":
+        if os.getsid(int(process.name)) != gate or os.readlink(process / "exe").rsplit("/", 1)[-1] != "rattle":
             return None
         words = (process / "cmdline").read_bytes().decode(errors="replace").split("\0")
         folder = os.readlink(process / "cwd")
@@ -37,10 +38,11 @@ def watch(gate, top, seen):
     try:
         while gate.poll() is None:
             for process in Path("/proc").iterdir():
-                if process.name.isdigit() and (found := check_of(process, top)):
+                if process.name.isdigit() and (found := check_of(gate.pid, process, top)):
                     seen[process.name, found[0], found[1]] = found[2]
             time.sleep(2)
     except KeyboardInterrupt:
+        os.killpg(gate.pid, signal.SIGINT)
         gate.wait()
 
 
@@ -48,7 +50,7 @@ def main(words):
     top = str(Path(__file__).resolve().parent.parent)
     command = (["taskset", "-c", words[0]] if words else []) + ["rt", "ci"]
     begin = time.monotonic()
-    gate = subprocess.Popen(command, cwd=top)
+    gate = subprocess.Popen(command, cwd=top, start_new_session=True)
     seen = {}
     watch(gate, top, seen)
     minutes = (time.monotonic() - begin) / 60

@@ -162,7 +162,8 @@ impl<A: Allocator + Copy> Fifo<A> {
     }
 
     /// Makes room for a name of the group and for all that its certificate would release.
-    /// The room is promised until another name is certified. `NoMemory` means that a growth was refused: the call may be made again.
+    /// The room is promised until another name is certified or reserved. `NoMemory` means that a growth was refused: the
+    /// call may be made again.
     pub fn reserve(&mut self, name: Name) -> Result<(), NoMemory>
         requires sender { name.sender ≤ self.old.limits.n }
         requires seq { name.seq ≤ self.old.limits.cap }

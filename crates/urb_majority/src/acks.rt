@@ -126,7 +126,8 @@ impl<A: Allocator + Copy> Acks<A> {
     }
 
     /// Makes room for a name: for a certificate of it, and for an acknowledgement of it by each node.
-    /// The room is promised until another name is added. `NoMemory` means that a growth was refused: the call may be made again.
+    /// The room is promised until another name is added or reserved, or all is forgotten. `NoMemory` means that a growth was
+    /// refused: the call may be made again.
     pub fn reserve(&mut self, name: Name) -> Result<(), NoMemory>
         ensures ok { OnOk result (self.new ≡ record self.old { reserved = Some name }) }
         ensures err { OnErr result (self.new ≡ self.old) }

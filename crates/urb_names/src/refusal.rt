@@ -62,10 +62,10 @@ pub enum Refusal {
     /// A growth of memory was refused. The same call may be made again.
     #[error("no memory")]
     NoMemory,
-    /// The group has no such node, or the packet was sent to another one.
+    /// The group has no such node, or the packet was sent to another one. Of a worker: the job is another node's.
     #[error("there is no such node")]
     BadNode,
-    /// The node is down: restart it first.
+    /// The node is down: restart it first. Of a client's request: its node's worker has ended.
     #[error("the node is down")]
     Down,
     /// The node waits for its storage: finish that record first.
@@ -83,7 +83,8 @@ pub enum Refusal {
     /// The sender has broadcast as many messages as the group allows each node.
     #[error("the sender has sent all that it may")]
     Full,
-    /// The packet's source doesn't hold this message under this name, so it can't have sent it.
+    /// The packet's source doesn't hold this message under this name, or not the certificate that the packet tells of, so it
+    /// can't have sent it.
     #[error("the source does not hold this message")]
     Forged,
     /// The bytes are no packet, and this is their first fault.

@@ -64,8 +64,8 @@ impl<A: Allocator + Copy> Pending<A> {
         Ok(())
     }
 
-    /// Adds a message under a name that is not pending, as a node does before it stores it (section 3.7 of the book). Where
-    /// memory is refused, the message comes back.
+    /// Adds a message under a name that is not pending, as a node does once its record is stored (section 3.7 of the
+    /// book). Where memory is refused, the message comes back.
     pub fn add(&mut self, name: Name, message: Message<A>) -> Result<(), (Message<A>, NoMemory)>
         requires absent { message_of self.old.pairs name ≡ None }
         requires sender { name.sender ≤ self.old.limits.n }

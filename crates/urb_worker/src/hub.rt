@@ -1,4 +1,4 @@
-//! The Hub: the lock round the House, and one job done under it.
+//! The Hub: the lock round the House, and one job done with it.
 
 ghost use Rattle.std.specs.Prelude.{◌≡◌, ◌+◌, ◌<◌, ◌≤◌, ◌^◌, IfOk, IfErr, sum, vec_len};
 ghost use Rattle.urb_worker.specs.Counting.{count_after};

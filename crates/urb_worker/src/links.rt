@@ -8,7 +8,7 @@ use std::sync::{Mutex, Wait};
 use urb_names::NodeId;
 
 /// Carries packets to nodes, as the book's fair-loss links do (section 2.4 of the book). It answers nothing: a packet that
-/// can't be sent is lost, for want of memory too, and a later tick sends it again.
+/// can't be sent is lost, for want of memory too, and a later tick may send it again.
 pub trait Link {
     fn send(&self, target: NodeId, bytes: &[u8]);
 }
