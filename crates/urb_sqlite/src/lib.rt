@@ -6,8 +6,9 @@
 //! close_node(rt, path, journal)?;                        // one file is left
 //! ```
 //!
-//! `open_nodes` and `close_nodes` do this for all nodes of a group. `adopt` takes a connection over, and `stop_and_open` carries
-//! the theorem from a stop inside any call to the next opening. A row that is there is never changed or removed.
+//! `open_nodes` and `close_nodes` do this for all nodes of a group, `open_node_in` and `close_node_in` for one of them. `adopt`
+//! takes a connection over, and `stop_and_open` carries the theorem from a stop inside any call to the next opening. A row that
+//! is there is never changed or removed.
 #![tactic(auto)]
 
 mod calls;
@@ -24,5 +25,7 @@ mod stopping;
 
 pub use journal::SqlStable;
 pub use node_file::{Contents, NodeFile, Unnamed};
-pub use nodes::{NodeJournal, close_node, close_nodes, open_node, open_nodes};
+pub use nodes::{
+    NodeJournal, close_node, close_node_in, close_nodes, open_node, open_node_in, open_nodes,
+};
 pub use stopping::{apply_and_stop, stop_and_open_all, stop_and_reopen};

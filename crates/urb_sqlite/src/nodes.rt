@@ -147,8 +147,9 @@ fn prefix_of(directory: &str) -> &'static str {
     }
 }
 
-/// The journal of a node in this directory, `node-P.db`.
-fn open_in<K: Contents>(
+/// Opens the journal of one node in this directory, `node-P.db`, as of `open_node`: for a program that opens the journals of
+/// its nodes side by side. `open_nodes` opens them one after the other.
+pub fn open_node_in<K: Contents>(
     rt: &HostRuntime,
     directory: &str,
     node: NodeId,
@@ -185,7 +186,7 @@ pub fn open_nodes<K: Contents>(
     };
     for at in 0..n {
         let node = NodeId::new(at + 1).unwrap();
-        match open_in(rt, directory, node) {
+        match open_node_in(rt, directory, node) {
             Ok(journal) => journals.push_reserved(journal),
             Err(fault) => {
                 let _ = close_nodes(rt, directory, journals);
@@ -219,6 +220,19 @@ fn close_in<K: Contents>(
     let prefix = prefix_of(directory);
     let path = format!(in rt.alloc(); "{prefix}{directory}/node-{number}.db")?;
     closed_at(rt, path.as_str(), journal)
+}
+
+/// Closes the journal of one node that `open_node_in` opened in this directory, as of `close_node`: for a program that opened
+/// journals of which others could not be opened.
+pub fn close_node_in<K: Contents>(
+    rt: &HostRuntime,
+    directory: &str,
+    node: NodeId,
+    journal: NodeJournal<K>,
+) -> Result<(), StoreFault>
+    ensures { IfErr result (λ e. (e ≡ StoreFault.NoMemory) ⊎ (e ≡ StoreFault.Device)) }
+{
+    close_in(rt, directory, usize::from(node.number()), journal)
 }
 
 /// The first of two outcomes, where it is a fault, or else the second one.

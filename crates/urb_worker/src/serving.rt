@@ -6,9 +6,10 @@ ghost use Rattle.urb_group.specs.Commands.{reply_of};
 ghost use Rattle.urb_worker.specs.Served.{IsLeftOf};
 
 use crate::{Finished, Gate, Hub, HubName, Job, Link, Tally};
-use crossbeam_channel::{Receiver, Sender};
+use crossbeam_channel::{Receiver, Sender, TryRecvError};
 use std::alloc::Global;
 use std::sync::Wait;
+use std::thread;
 use urb_group::{Answer, Outbox, Reply};
 use urb_names::{NodeId, encode};
 use urb_show::HouseName;
@@ -46,6 +47,22 @@ fn packets_in(reply: &Reply) -> Option<&Outbox>
     }
 }
 
+// How often a worker looks for its next ticket before it sleeps.
+const LOOKS: u32 = 100;
+
+// A worker's next ticket; none once its channel has closed. Who was answered often asks again at once, and to wake a thread
+// takes longer than that: so a worker looks for a while before it sleeps, and gives way to other threads between two looks.
+fn next_ticket<K: HouseName, R: Wait>(rt: &R, jobs: &Receiver<Ticket<K>>) -> Option<Ticket<K>> {
+    for _ in 0..LOOKS {
+        match jobs.try_recv(rt) {
+            Ok(ticket) => return Some(ticket),
+            Err(TryRecvError::Disconnected) => return None,
+            Err(TryRecvError::Empty) => thread::yield_now(),
+        }
+    }
+    jobs.recv(rt).ok()
+}
+
 /// Does the jobs of one node, until its channel closes. For each ticket it does the job, sends what has to be sent, and
 /// answers. It holds nothing while it sends and answers, and an answer that can't be sent is a loss.
 pub fn serve<K: HouseName, L: HubName, S: Stable<Alloc = Global> + Drop, N: Link, G: Gate, R: Wait>(
@@ -80,7 +97,7 @@ pub fn serve_from<K: HouseName, L: HubName, S: Stable<Alloc = Global>, N: Link, 
 {
     let mut tally = tally;
     for _ in rt.forever() {
-        let Ok(Ticket { job, answer }) = jobs.recv(rt) else {
+        let Some(Ticket { job, answer }) = next_ticket(rt, &jobs) else {
             break;
         };
         let (finished, counted) = hub.work(rt, alloc, node, job, store, gate, tally);

@@ -6,3 +6,4 @@ mod NumbersRead
 mod Showing
 mod Sending
 mod Running
+mod Together

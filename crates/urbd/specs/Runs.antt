@@ -6,10 +6,10 @@ use Rattle.urb_stable.specs.Entries.{Entry}
 use Rattle.urb_stable.specs.declared.stable.Stable.{Ghosts}
 use Rattle.urb_stable.specs.declared.stable.StoreFault.{StoreFault}
 use Rattle.urb_group.specs.Asked.{Gives}
-use Rattle.urb_group.specs.Reopening.{OpensFrom}
 use Rattle.urb_group.specs.Shown.{GroupView}
 use Rattle.urb_worker.specs.Served.{AreServed}
 use Rattle.urbd.specs.Statuses.{fault_of_refusal}
+use Rattle.urbd.specs.Together.{OpensTogether}
 use Rattle.urbd.specs.declared.faults.Fault.{Fault}
 use Rattle.urbd.specs.declared.faults.Fault.TheVariants as fault
 use Rattle.urbd.specs.declared.serving.Serving.{Serving}
@@ -49,14 +49,14 @@ module _ {S A : Type 0} (g : Ghosts S A) where
   -- the group could not be opened from these stores, which is how the run ends
   pub record EndsUnopened (size : Limits) (stores : List S) (end : Result ℕ Fault) (lasts : List S) : Type 0 where
     pub why : Refusal
-    pub opens : OpensFrom g size stores (Err why) lasts
+    pub opens : OpensTogether g size stores (Err why) lasts
     pub ends : end ≡ Err (fault_of_refusal why)
 
   -- the group was opened from these stores, and they served it until the run ended
   pub record EndsOpened (size : Limits) (stores : List S) (told : Bool) (end : Result ℕ Fault) (lasts : List S) : Type 0 where
     pub group : GroupView
     pub asked : List S
-    pub opens : OpensFrom g size stores (Ok group) asked
+    pub opens : OpensTogether g size stores (Ok group) asked
     pub served : AreServed g asked lasts
     pub ends : EndsAs told end
 

@@ -109,8 +109,8 @@ where
     ensures ends { EndsFrom S.Stable (limits_of serving.entry) stores.items console.new.is_told
         result.1 result.0.items }
 {
-    let mut stores = stores;
-    match open_group(alloc, serving.config(), &mut stores) {
+    let (stores, opened) = open_group(rt, alloc, serving.config(), stores);
+    match opened {
         Ok(group) => run_at_sockets(rt, alloc, group, serving, stores, console),
         Err(refusal) => (stores, Err(Fault::from(refusal))),
     }

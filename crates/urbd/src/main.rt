@@ -5,6 +5,7 @@ ghost use Rattle.std.specs.Prelude.{◌≡◌, ◌≤◌};
 ghost use Rattle.urbd.specs.Statuses.{status_of};
 
 mod arguments;
+mod asking;
 mod clients;
 mod commands;
 mod console;
@@ -14,6 +15,7 @@ mod files;
 mod host;
 mod journals;
 mod lines;
+mod opened;
 mod opening;
 mod printed;
 mod printing;

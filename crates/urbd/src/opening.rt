@@ -1,40 +1,30 @@
 //! The opening of a group: what each of its stores holds, and the group of that.
 
-ghost use Rattle.std.specs.Prelude.{◌≡◌, IfOk, length};
-ghost use Rattle.urb_group.specs.Reopening.{OpensFrom, RetrievesAll};
+ghost use Rattle.std.specs.Prelude.{◌≡◌, IfOk, vec_len};
+ghost use Rattle.urbd.specs.Together.{OpensTogether};
 
+use crate::asking::images_of;
 use std::alloc::Global;
-use urb_group::{Config, Group, Record, Stable};
+use std::thread::Threads;
+use urb_group::{Config, Group, Stable};
 use urb_names::Refusal;
 
-// What each store holds. The first fault ends it.
-fn images_of<S: Stable<Alloc = Global>>(
-    alloc: Global,
-    stores: &mut [S],
-) -> Result<Vec<Vec<Record>>, Refusal>
-    ensures { RetrievesAll S.Stable stores.old result stores.new }
-{
-    let mut images = Vec::with_capacity(alloc, stores.len())?;
-    for store in stores.iter_mut() {
-        match store.retrieve(alloc) {
-            Ok(image) => images.push_reserved(image),
-            Err(fault) => return Err(fault.refusal()),
-        }
-    }
-    Ok(images)
-}
-
-/// The group of what the stores hold, that of node 1 first. `Device`, `BadRow`: a store failed, and those behind it were not
-/// asked. `Inconsistent`: what they hold doesn't fit together.
-pub fn open_group<S: Stable<Alloc = Global>>(
+/// The group of what the stores hold, that of node 1 first, which are asked side by side. They come back in their order.
+/// `Device`, `BadRow`: a store failed, the first in their order that did. `Inconsistent`: what they hold doesn't fit together.
+pub fn open_group<S: Stable<Alloc = Global> + Send + Drop, R: Threads + Sync>(
+    rt: &R,
     alloc: Global,
     config: Config,
-    stores: &mut [S],
-) -> Result<Group, Refusal>
-    requires { length stores.old ≡ config.n }
-    ensures opens { OpensFrom S.Stable config stores.old result stores.new }
-    ensures size { IfOk result (λ group. group.size ≡ config) }
+    stores: Vec<S>,
+) -> (Vec<S>, Result<Group, Refusal>)
+    requires { vec_len stores ≡ config.n }
+    ensures opens { OpensTogether S.Stable config stores.items result.1 result.0.items }
+    ensures size { IfOk result.1 (λ group. group.size ≡ config) }
+    ensures count { vec_len result.0 ≡ vec_len stores }
 {
-    let images = images_of(alloc, stores)?;
-    Group::open(alloc, config, images)
+    let (stores, images) = images_of(rt, alloc, stores);
+    match images {
+        Ok(images) => (stores, Group::open(alloc, config, images)),
+        Err(refusal) => (stores, Err(refusal)),
+    }
 }

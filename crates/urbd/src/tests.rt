@@ -4,6 +4,7 @@ mod clients;
 mod consoles;
 mod groups;
 mod lines;
+mod openings;
 mod runs;
 mod scripts;
 

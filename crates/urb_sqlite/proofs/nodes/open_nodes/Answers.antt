@@ -14,6 +14,6 @@ loop-at-preserved g c =
       count = omega (arith, c.push_reserved.ensures.len, c.loop-at.invariant.count);
       room = omega (arith, c.push_reserved.ensures.capacity, c.loop-at.invariant.room);
       found =
-          one_more c.loop-at.journals.items c.push_reserved.new.self.items c.in-Ok-open_in.journal (λ j. HasCleanDisk (file_state j.conn)) (λ j. IsHonestJournal (file_state j.conn)) (λ j. records_of (file_state j.conn).now)
-          (held_by g.K.First.Start g.K.Second.Start g.K.Third.Start g.K.Fourth.Start g.K.Fifth.Start g.K.Sixth.Start g.K.Seventh.Start) c.unwrap-node.result c.push_reserved.ensures.items node c.loop-at.invariant.found c.in-Ok-open_in.ensures.found;
+          one_more c.loop-at.journals.items c.push_reserved.new.self.items c.in-Ok-open_node_in.journal (λ j. HasCleanDisk (file_state j.conn)) (λ j. IsHonestJournal (file_state j.conn)) (λ j. records_of (file_state j.conn).now)
+          (held_by g.K.First.Start g.K.Second.Start g.K.Third.Start g.K.Fourth.Start g.K.Fifth.Start g.K.Sixth.Start g.K.Seventh.Start) c.unwrap-node.result c.push_reserved.ensures.items node c.loop-at.invariant.found c.in-Ok-open_node_in.ensures.found;
     }

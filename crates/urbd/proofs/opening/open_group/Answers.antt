@@ -1,11 +1,9 @@
-use Rattle.std.proofs.Common.{map, sym, ◌∙◌}
+use Rattle.std.proofs.Common.{map, subst, sym, ◌∙◌}
 use Rattle.std.proofs.lemmas.List.{length-map}
-use Rattle.urb_group.proofs.Reopened.{given-count, given-opens}
+use Rattle.urb_group.proofs.Reopened.{given-count}
+use Rattle.urbd.specs.Together.{RetrievesTogether}
 use Rattle.urbd.proofs.opening.open_group.Goals as goal
 
 pub open-requires : goal.open-requires
 open-requires g c =
-    sym (length-map c.in_ok-images.images.items (λ image. image.items)) ∙ (given-count g.S.Stable c.args.stores.now (map (λ image. image.items) c.in_ok-images.images.items) c.images_of.new.stores c.in_ok-images.ensures ∙ c.requires)
-
-pub returns-clause-opens : goal.returns-clause-opens
-returns-clause-opens g c = given-opens g.S.Stable c.args.config c.args.stores.now c.images_of.new.stores (map (λ image. image.items) c.in_ok-images.images.items) c.open.result c.in_ok-images.ensures c.open.ensures
+    sym (length-map c.in-Ok.images.items (λ image. image.items)) ∙ (given-count g.S.Stable c.args.stores.items (map (λ image. image.items) c.in-Ok.images.items) c.images_of-stores.result.0.items (subst (λ images. RetrievesTogether g.S.Stable c.args.stores.items images c.images_of-stores.result.0.items) c.in-Ok.is c.images_of-stores.ensures.gives) ∙ (sym c.args.stores.ok.0 ∙ c.requires))
