@@ -5,7 +5,7 @@ usage: old_files.py PROGRAM [--base-port B]
 The files are made by Python's sqlite3 from docs/FORMATS.md alone. The program opens them: each log is the one that the records say,
 each old message is accepted again under its name, and new ones, of up to 16,384 bytes, go into `journal2` behind the old ones, of
 which no row changes. The same holds after a stop and after a kill. An old file with a bad row is refused, stays as it is, byte for
-byte, and keeps no other journal from being opened later. Files whose two tables don't go together are refused, as where an older
+byte, and keeps no other journal from being opened later; of two such files that of the lower node is told. Files whose two tables don't go together are refused, as where an older
 program has gone on in the first. Needs Python 3.8 or later, with an SQLite that has STRICT tables (3.37)."""
 import argparse
 import os
@@ -198,6 +198,22 @@ def refused(program, folder, base, text):
     print(f"{folder.rsplit('/', 1)[1]}: {errors.decode().strip()}", flush=True)
 
 
+def are_closed(folder, rows):
+    """The other journals were opened side by side with the bad one: each is one file again, and has the rows that it had."""
+    left = os.listdir(folder)
+    for node, was in rows.items():
+        assert f"node-{node}.db-wal" not in left, node
+        assert rows_of(folder, node, "journal") == was, node
+
+
+def tells_the_first_node(program, folder, base):
+    """Of two journals with a bad row that of the lower node is told."""
+    make(folder)
+    for node, place in ((3, 1), (2, 4)):
+        changed(path_of(folder, node), ("UPDATE journal SET kind = 4 WHERE pos = ?", (place,)))
+    refused(program, folder, base, b"refused 17 4")
+
+
 def refuses_bad_rows(program, folder, base):
     """A bad row of an old file is told by its place, and the file stays; with the good one in its place the group opens."""
     for name, node, statement, values, place in (
@@ -209,11 +225,13 @@ def refuses_bad_rows(program, folder, base):
         make(room)
         good = bytes_of(room, node)
         changed(path_of(room, node), (statement, values))
-        bad = {other: bytes_of(room, other) for other in NODES if other >= node}
+        bad = bytes_of(room, node)
+        rows = {other: rows_of(room, other, "journal") for other in NODES if other != node}
         for _ in range(2):
             refused(program, room, base, b"refused 17 " + place)
-            assert all(bytes_of(room, other) == was for other, was in bad.items()), name
+            assert bytes_of(room, node) == bad, name
             assert "journal2" not in tables_of(room, node), name
+            are_closed(room, rows)
         with open(path_of(room, node), "wb") as file:
             file.write(good)
         daemon = Daemon(program, len(NODES), room, base)
@@ -264,6 +282,7 @@ def main():
     try:
         opens_old_files(options.program, os.path.join(folder, "old"), options.base_port)
         refuses_bad_rows(options.program, folder, options.base_port)
+        tells_the_first_node(options.program, os.path.join(folder, "two"), options.base_port)
         refuses_what_does_not_fit(options.program, os.path.join(folder, "old"), options.base_port)
         opens_what_a_stop_leaves(options.program, os.path.join(folder, "half"), options.base_port)
         print("old_files.py: all went well")

@@ -7,3 +7,4 @@ mod Showing
 mod Sending
 mod Running
 mod Together
+mod FirstFault

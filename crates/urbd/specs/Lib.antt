@@ -1,5 +1,7 @@
 pub mod CommandLine
+pub mod Held
 pub mod Opened
+pub mod Openers
 pub mod Runs
 pub mod Served
 pub mod Shown

@@ -1,40 +1,134 @@
-//! The journals of a run in their files: opened, and closed.
+//! The journals of a run in their files: opened side by side, and closed.
 
-ghost use Rattle.std.specs.Prelude.{◌≡◌, IfOk, vec_len};
+ghost use Rattle.std.specs.Prelude.{◌≡◌, ◌⊎◌, suc, false, IfErr, IfOk, IfSome, MatchResult, vec_len};
+ghost use Rattle.urb_stable.specs.Storing.{is_place, refusal_of};
+ghost use Rattle.urb_stable.specs.declared.stable.StoreFault.{StoreFault as StoringFault};
+ghost use Rattle.urb_sqlite.specs.Nodes.{AreFoundIn, IsFoundIn, held_by};
+ghost use Rattle.urbd.specs.Held.{AreOfNodes, held_under};
+ghost use Rattle.urbd.specs.Openers.{AreOpened, FailsAtFirst};
+ghost use Rattle.urbd.specs.Statuses.{fault_of_refusal};
 
 use crate::faults::Fault;
-use crate::journals::{Journal, named, plain};
+use crate::journals::Journal;
+use crate::openers::{Opener, close_all, open_all};
 use crate::serving::Serving;
+use sqlite::Start;
+use sqlite_disk::Disk;
+use std::alloc::Global;
 use std::marker::Brand;
 use std::rt::HostRuntime;
-use urb_sqlite::{NodeFile, close_nodes, open_nodes};
+use std::thread::Threads;
+use urb_names::NodeId;
+use urb_sqlite::{Contents, NodeFile, Unnamed, close_node_in, open_node_in};
+use urb_stable::{Stable, StoreFault};
 
 /// A node's journal in its folder.
-type FileJournal = Journal<NodeFile<Brand>>;
+type FileJournal<K> = Journal<NodeFile<K>>;
 
-/// The journals of all nodes of a group, `node-1.db`, `node-2.db` and so on in its folder. The first fault ends it, and those
-/// that were open are closed.
-pub fn open_journals(rt: &HostRuntime, serving: Serving<'_>) -> Result<Vec<FileJournal>, Fault>
-    // One for each node.
-    ensures { IfOk result (λ journals. vec_len journals ≡ serving.entry.nodes) }
+/// The folder of a group's journals: that of node P is `node-P.db`, and its place is P - 1.
+#[derive(Clone, Copy)]
+struct Folder<'a> {
+    rt: &'a HostRuntime,
+    dir: &'a str,
+}
+
+// The node at this place.
+fn node_at(place: usize) -> Option<NodeId>
+    ensures { IfSome result (λ node. node ≡ suc place) }
 {
-    let journals = match open_nodes::<Brand>(rt, serving.dir, serving.config()) {
-        Ok(journals) => journals,
-        Err((_, fault)) => return Err(Fault::from(fault.refusal())),
+    NodeId::new(u8::try_from(place.checked_add(1)?).ok()?)
+}
+
+// Opens the journal of the node at this place, where `K` stands for what the nodes' files hold.
+fn open_at<K: Contents>(
+    rt: &HostRuntime,
+    dir: &str,
+    place: usize,
+) -> Result<FileJournal<K>, StoreFault>
+    ensures fault { IfErr result (λ fault. is_place fault ≡ false) }
+    ensures node { IfOk result (λ j. j.node ≡ suc place) }
+    // A journal that stood in this node's files is found with its records, and none where the database file was empty.
+    ensures found { IfOk result (λ j. IsFoundIn
+        (held_by K.First.Start K.Second.Start K.Third.Start K.Fourth.Start K.Fifth.Start
+        K.Sixth.Start K.Seventh.Start (suc place))
+        (⟦<FileJournal<K> as Stable>⟧.is_clean j) (⟦<FileJournal<K> as Stable>⟧.is_honest j)
+        (⟦<FileJournal<K> as Stable>⟧.certain j)) }
+{
+    let Some(node) = node_at(place) else {
+        return Err(StoreFault::Device);
     };
-    match named(rt.alloc(), journals) {
+    let journal = open_node_in::<K>(rt, dir, node)?;
+    Ok(Journal { node, journal })
+}
+
+impl Opener<FileJournal<Brand>> for Folder<'_> {
+    ghost opens = { λ _ place outcome. MatchResult outcome
+        (λ j. (j.node ≡ suc place) × IsFoundIn (held_under ⟦<Unnamed as Start>⟧ (suc place))
+        (⟦<FileJournal<Brand> as Stable>⟧.is_clean j)
+        (⟦<FileJournal<Brand> as Stable>⟧.is_honest j)
+        (⟦<FileJournal<Brand> as Stable>⟧.certain j))
+        (λ fault. is_place fault ≡ false) };
+
+    fn open_at(&self, place: usize) -> Result<FileJournal<Brand>, StoreFault> {
+        open_at::<Brand>(self.rt, self.dir, place)
+    }
+
+    fn close(&self, journal: FileJournal<Brand>) {
+        let (node, journal) = journal.into_parts();
+        let _ = close_node_in(self.rt, self.dir, node, journal);
+    }
+}
+
+// What the opener opens, whatever kind of file the journals are in. That a journal may go to a thread is proved here, from the
+// one fact that its file may.
+fn open_kind<D: Disk + Send + Drop, O: Opener<Journal<D>> + Sync, R: Threads + Sync>(
+    rt: &R,
+    alloc: Global,
+    opener: &O,
+    count: usize,
+) -> Result<Vec<Journal<D>>, StoreFault>
+    ensures all { IfOk result (λ all. AreOpened O.opens opener.now count all.items) }
+    ensures fault { IfErr result (λ fault. FailsAtFirst O.opens opener.now count fault
+        ⊎ (fault ≡ StoringFault.NoMemory)) }
+{
+    open_all(rt, alloc, opener, count)
+}
+
+/// The journals of all nodes of a group, `node-1.db`, `node-2.db` and so on in its folder, opened side by side. Where one can't
+/// be opened, those that were are closed, and the fault of the first such node is told. `threads` and `rt` are one runtime: the
+/// one gives threads, the other files.
+pub fn open_journals<R: Threads + Sync>(
+    threads: &R,
+    rt: &HostRuntime,
+    serving: Serving<'_>,
+) -> Result<Vec<FileJournal<Brand>>, Fault>
+    // One for each node.
+    ensures count { IfOk result (λ journals. vec_len journals ≡ serving.entry.nodes) }
+    // Each is that of the node at its place, and found as its files held it.
+    ensures nodes { IfOk result (λ journals. AreOfNodes (λ j. j.node) journals.items) }
+    ensures found { IfOk result (λ journals. AreFoundIn ⟦<FileJournal<Brand> as Stable>⟧
+        (held_under ⟦<Unnamed as Start>⟧) journals.items) }
+    // A fault is one of a store's opening.
+    ensures fault { IfErr result (λ why. (fault : StoringFault) × (is_place fault ≡ false)
+        × (why ≡ fault_of_refusal (refusal_of fault))) }
+{
+    let folder = Folder {
+        rt,
+        dir: serving.dir,
+    };
+    let count = usize::from(serving.nodes);
+    match open_kind::<NodeFile<Brand>, Folder<'_>, R>(threads, rt.alloc(), &folder, count) {
         Ok(journals) => Ok(journals),
-        Err(journals) => {
-            let _ = close_nodes(rt, serving.dir, journals);
-            Err(Fault::NoMemory)
-        }
+        Err(fault) => Err(Fault::from(fault.refusal())),
     }
 }
 
 /// Closes the journals that `open_journals` opened, so that one file is left of each. One that can't be closed has lost
 /// nothing: its next opening reads what is in its log.
-pub fn close_journals(rt: &HostRuntime, serving: Serving<'_>, journals: Vec<FileJournal>) {
-    if let Some(journals) = plain(rt.alloc(), journals) {
-        let _ = close_nodes(rt, serving.dir, journals);
-    }
+pub fn close_journals(rt: &HostRuntime, serving: Serving<'_>, journals: Vec<FileJournal<Brand>>) {
+    let folder = Folder {
+        rt,
+        dir: serving.dir,
+    };
+    close_all(&folder, journals);
 }

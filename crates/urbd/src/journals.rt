@@ -1,6 +1,6 @@
 //! Journals under a name of their own, and a run of a group over them.
 
-ghost use Rattle.std.specs.Prelude.{◌≡◌, IfErr, IfOk, IfSome, map, vec_len};
+ghost use Rattle.std.specs.Prelude.{◌≡◌, vec_len};
 ghost use Rattle.urbd.specs.Runs.{ComeBack, EndsFrom, limits_of};
 
 use crate::console::Console;
@@ -13,28 +13,35 @@ use sqlite_disk::Disk;
 use std::alloc::Global;
 use std::io::Read;
 use std::net::{Net, TcpListener, TcpStream};
+use urb_names::NodeId;
 use urb_sqlite::SqlStable;
 use urb_stable::{Record, Stable, StoreFault};
 
 /// A node's journal in files of this kind, under a name of its own: so that who passes it on to a thread proves nothing of a
 /// database.
 pub struct Journal<D: Disk> {
-    journal: SqlStable<FileStore<D>>,
+    /// Whose it is.
+    pub node: NodeId,
+    /// The journal itself.
+    pub journal: SqlStable<FileStore<D>>,
 }
 
 impl<D: Disk + Drop> Drop for Journal<D> {
     fn drop(self) {
-        let Journal { journal: _ } = self;
+        let Journal {
+            node: _,
+            journal: _,
+        } = self;
     }
 }
 
 impl<D: Disk> Journal<D> {
-    // Without the name.
-    fn plain(self) -> SqlStable<FileStore<D>>
-        ensures { result ≡ self.journal }
+    /// Whose it is, and the journal without that name.
+    pub fn into_parts(self) -> (NodeId, SqlStable<FileStore<D>>)
+        ensures { (result.0 ≡ self.node) × (result.1 ≡ self.journal) }
     {
-        let Journal { journal } = self;
-        journal
+        let Journal { node, journal } = self;
+        (node, journal)
     }
 }
 
@@ -78,39 +85,6 @@ impl<D: Disk> Stable for Journal<D> {
     fn retrieve(&mut self, alloc: Global) -> Result<Vec<Record>, StoreFault> {
         self.journal.retrieve(alloc)
     }
-}
-
-/// These journals under that name, in their order. They come back where memory for the list was refused.
-pub fn named<D: Disk + Drop>(
-    alloc: Global,
-    journals: Vec<SqlStable<FileStore<D>>>,
-) -> Result<Vec<Journal<D>>, Vec<SqlStable<FileStore<D>>>>
-    ensures named { IfOk result (λ named. map (λ j. j.journal) named.items ≡ journals.items) }
-    ensures back { IfErr result (λ back. back ≡ journals) }
-{
-    let Ok(mut named) = Vec::with_capacity(alloc, journals.len()) else {
-        return Err(journals);
-    };
-    for journal in journals {
-        named.push_reserved(Journal { journal });
-    }
-    Ok(named)
-}
-
-/// The journals without that name, in their order. None where memory for the list was refused: then they are let go.
-pub fn plain<D: Disk + Drop>(
-    alloc: Global,
-    journals: Vec<Journal<D>>,
-) -> Option<Vec<SqlStable<FileStore<D>>>>
-    ensures { IfSome result (λ plain. plain.items ≡ map (λ j. j.journal) journals.items) }
-{
-    let Ok(mut plain) = Vec::with_capacity(alloc, journals.len()) else {
-        return None;
-    };
-    for journal in journals {
-        plain.push_reserved(journal.plain());
-    }
-    Some(plain)
 }
 
 /// Runs a group over its nodes' journals, whatever kind of file they are in, as of `run_over`. That a journal may go to a thread

@@ -16,6 +16,7 @@ mod host;
 mod journals;
 mod lines;
 mod opened;
+mod openers;
 mod opening;
 mod printed;
 mod printing;
@@ -74,7 +75,7 @@ fn main(rt: HostRuntime) -> ExitCode {
         Ok(Line::Errand(errand)) => return ExitCode::from(run_errand(&rt, errand)),
         Err(status) => return ExitCode::from(status),
     };
-    let journals = match open_journals(&rt, serving) {
+    let journals = match open_journals(&rt, &rt, serving) {
         Ok(journals) => journals,
         Err(fault) => return ExitCode::from(tell(&rt, fault)),
     };

@@ -1,4 +1,4 @@
-use Rattle.std.proofs.Common.{rules, arith, ap, sym, subst, ◌∙◌, ◌≡◌, ◌++◌, ◌∷◌, [], Ok, map, suc}
+use Rattle.std.proofs.Common.{rules, arith, ap, subst, ◌∙◌, ◌≡◌, ◌++◌, ◌∷◌, [], Ok, map, suc}
 use Rattle.std.proofs.lemmas.List.{append_assoc, map-append}
 use Rattle.std.specs.List.{All}
 use Rattle.urbd.specs.Opened.{IsOpen}
