@@ -1,6 +1,6 @@
 //! A node's worker: its tickets, one after the other.
 
-ghost use Rattle.std.specs.Prelude.{◌≡◌, [], MatchOption};
+ghost use Rattle.std.specs.Prelude.{◌≡◌, ◌≤◌, [], MatchOption};
 ghost use Rattle.urb_node.specs.Replies.{packets_in};
 ghost use Rattle.urb_group.specs.Commands.{reply_of};
 ghost use Rattle.urb_worker.specs.Served.{IsLeftOf};
@@ -47,13 +47,22 @@ fn packets_in(reply: &Reply) -> Option<&Outbox>
     }
 }
 
-// How often a worker looks for its next ticket before it sleeps.
-const LOOKS: u32 = 100;
+// How often a worker looks for tickets behind a record that it stored, before it sleeps again. Where nobody else wants its
+// processor, so many looks take about as long as a record takes to come back from the other nodes.
+const LOOKS: u32 = 1000;
 
-// A worker's next ticket; none once its channel has closed. Who was answered often asks again at once, and to wake a thread
-// takes longer than that: so a worker looks for a while before it sleeps, and gives way to other threads between two looks.
-fn next_ticket<K: HouseName, R: Wait>(rt: &R, jobs: &Receiver<Ticket<K>>) -> Option<Ticket<K>> {
-    for _ in 0..LOOKS {
+// A worker's next ticket; none once its channel has closed. Who was answered often asks again at once, other nodes answer a
+// record soon, and to wake a thread takes long: so a worker has some looks before it sleeps, and gives way to other threads
+// between two of them. What it doesn't need for one ticket is left for the next.
+fn next_ticket<K: HouseName, R: Wait>(
+    rt: &R,
+    jobs: &Receiver<Ticket<K>>,
+    looks: &mut u32,
+) -> Option<Ticket<K>>
+    ensures { looks.new ≤ looks.old }
+{
+    while 0 < *looks {
+        *looks -= 1;
         match jobs.try_recv(rt) {
             Ok(ticket) => return Some(ticket),
             Err(TryRecvError::Disconnected) => return None,
@@ -61,6 +70,11 @@ fn next_ticket<K: HouseName, R: Wait>(rt: &R, jobs: &Receiver<Ticket<K>>) -> Opt
         }
     }
     jobs.recv(rt).ok()
+}
+
+// Whether a record was stored.
+fn is_stored(reply: &Reply) -> bool {
+    matches!(reply, Reply::Stored(_))
 }
 
 /// Does the jobs of one node, until its channel closes. For each ticket it does the job, sends what has to be sent, and
@@ -96,12 +110,16 @@ pub fn serve_from<K: HouseName, L: HubName, S: Stable<Alloc = Global>, N: Link, 
     ensures { IsLeftOf S.Stable store.old store.new }
 {
     let mut tally = tally;
+    let mut looks = 0;
     for _ in rt.forever() {
-        let Some(Ticket { job, answer }) = next_ticket(rt, &jobs) else {
+        let Some(Ticket { job, answer }) = next_ticket(rt, &jobs, &mut looks) else {
             break;
         };
         let (finished, counted) = hub.work(rt, alloc, node, job, store, gate, tally);
         tally = counted;
+        if is_stored(finished.reply()) {
+            looks = LOOKS;
+        }
         if let Some(packets) = packets_in(finished.reply()) {
             send_all(alloc, link, packets);
         }

@@ -1,0 +1,9 @@
+use Rattle.std.proofs.Common.{◌≤◌}
+use Rattle.urb_worker.proofs.serving.next_ticket.Given as goal
+
+-- looks are only used up
+abbrev pub invariant-loop-looks : goal.invariant-loop-looks
+invariant-loop-looks g l = l.looks ≤ l.fn.looks
+
+abbrev pub decreases-loop-looks : goal.decreases-loop-looks
+decreases-loop-looks g l = l.looks
