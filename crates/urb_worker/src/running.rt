@@ -6,6 +6,7 @@ ghost use Rattle.urb_worker.specs.Counting.{count_after};
 ghost use Rattle.urb_worker.specs.Served.{AreServed, each, numbers_from};
 
 use crate::outside::run_outside;
+use crate::serving::looks_of;
 use crate::staff::{Seat, Worker, gather, start};
 use crate::{Hub, HubName, Station, Tally, Ticket, UdpLink, Watch};
 use crossbeam_channel::{Receiver, Sender};
@@ -194,7 +195,8 @@ where
         stores,
         tallies,
     } = crew;
-    let (workers, lines) = start(scope, rt, alloc, hub, link, seats, workers, lines);
+    let looks = looks_of(rt, seats.len());
+    let (workers, lines) = start(scope, rt, alloc, hub, link, looks, seats, workers, lines);
     let whole = match lines {
         Some(lines) => run_outside(rt, alloc, millis, stations, lines, readers, watch),
         None => false,

@@ -10,6 +10,7 @@ use crossbeam_channel::{Receiver, Sender, TryRecvError};
 use std::alloc::Global;
 use std::sync::Wait;
 use std::thread;
+use std::thread::Threads;
 use urb_group::{Answer, Outbox, Reply};
 use urb_names::{NodeId, encode};
 use urb_show::HouseName;
@@ -48,8 +49,19 @@ fn packets_in(reply: &Reply) -> Option<&Outbox>
 }
 
 // How often a worker looks for tickets behind a record that it stored, before it sleeps again. Where nobody else wants its
-// processor, so many looks take about as long as a record takes to come back from the other nodes.
-const LOOKS: u32 = 1000;
+// processor, so many looks take about as long as a record of another node takes.
+const LOOKS: u32 = 300;
+
+/// How often each of so many workers looks for tickets behind a record that it stored: not at all where the program has no more
+/// processors than that, since other threads would wait for those that look.
+pub(crate) fn looks_of<R: Threads>(rt: &R, workers: usize) -> u32
+    ensures { result ≤ 300 }
+{
+    match thread::available_parallelism(rt) {
+        Ok(processors) if workers < processors.get() => LOOKS,
+        _ => 0,
+    }
+}
 
 // A worker's next ticket; none once its channel has closed. Who was answered often asks again at once, other nodes answer a
 // record soon, and to wake a thread takes long: so a worker has some looks before it sleeps, and gives way to other threads
@@ -95,7 +107,6 @@ pub fn serve<K: HouseName, L: HubName, S: Stable<Alloc = Global> + Drop, N: Link
 }
 
 /// The same with a store that is lent, for one who closes it afterwards.
-#[tactic(auto, using(crate::proofs::Served::not_yet, crate::proofs::Served::one_turn))]
 pub fn serve_from<K: HouseName, L: HubName, S: Stable<Alloc = Global>, N: Link, G: Gate, R: Wait>(
     rt: &R,
     alloc: Global,
@@ -109,6 +120,32 @@ pub fn serve_from<K: HouseName, L: HubName, S: Stable<Alloc = Global>, N: Link, 
 ) -> Tally<L>
     ensures { IsLeftOf S.Stable store.old store.new }
 {
+    serve_looking(rt, alloc, hub, node, store, jobs, link, gate, tally, 0)
+}
+
+/// The same by a worker that looks for tickets so often behind each record that it stored.
+#[tactic(auto, using(crate::proofs::Served::not_yet, crate::proofs::Served::one_turn))]
+pub(crate) fn serve_looking<
+    K: HouseName,
+    L: HubName,
+    S: Stable<Alloc = Global>,
+    N: Link,
+    G: Gate,
+    R: Wait,
+>(
+    rt: &R,
+    alloc: Global,
+    hub: &Hub<K, L>,
+    node: NodeId,
+    store: &mut S,
+    jobs: Receiver<Ticket<K>>,
+    link: &N,
+    gate: &G,
+    tally: Tally<L>,
+    most: u32,
+) -> Tally<L>
+    ensures { IsLeftOf S.Stable store.old store.new }
+{
     let mut tally = tally;
     let mut looks = 0;
     for _ in rt.forever() {
@@ -118,7 +155,7 @@ pub fn serve_from<K: HouseName, L: HubName, S: Stable<Alloc = Global>, N: Link, 
         let (finished, counted) = hub.work(rt, alloc, node, job, store, gate, tally);
         tally = counted;
         if is_stored(finished.reply()) {
-            looks = LOOKS;
+            looks = most;
         }
         if let Some(packets) = packets_in(finished.reply()) {
             send_all(alloc, link, packets);

@@ -3,7 +3,7 @@
 ghost use Rattle.std.specs.Prelude.{◌≡◌, ◌≤◌, IfSome, map, reverse, vec_len, vec_capacity};
 ghost use Rattle.urb_worker.specs.Served.{AreServed, IsLeftOf, each, in_either};
 
-use crate::serving::serve_from;
+use crate::serving::serve_looking;
 use crate::{Hub, HubName, OpenGate, Tally, Ticket, UdpLink};
 use crossbeam_channel::{Receiver, Sender};
 use std::alloc::Global;
@@ -51,6 +51,7 @@ fn work_at<K: HouseName, L: HubName, S: Stable<Alloc = Global> + Drop, R: Wait>(
     alloc: Global,
     hub: &Hub<K, L>,
     link: &UdpLink,
+    looks: u32,
     seat: Seat<K, L, S>,
 ) -> (S, Tally<L>)
     ensures { IsLeftOf S.Stable seat.store result.0 }
@@ -61,13 +62,14 @@ fn work_at<K: HouseName, L: HubName, S: Stable<Alloc = Global> + Drop, R: Wait>(
         jobs,
         tally,
     } = seat;
-    let tally = serve_from(
-        rt, alloc, hub, node, &mut store, jobs, link, &OpenGate, tally,
+    let tally = serve_looking(
+        rt, alloc, hub, node, &mut store, jobs, link, &OpenGate, tally, looks,
     );
     (store, tally)
 }
 
-/// Starts a worker a seat, the last seat first. Where a thread can't be made the lines are let go, so that every worker ends.
+/// Starts a worker a seat, the last seat first, each of which looks for tickets so often behind a record. Where a thread can't be
+/// made the lines are let go, so that every worker ends.
 pub(crate) fn start<
     's,
     E,
@@ -81,6 +83,7 @@ pub(crate) fn start<
     alloc: Global,
     hub: &'s Hub<K, L>,
     link: &'s UdpLink,
+    looks: u32,
     seats: Vec<Seat<K, L, S>>,
     workers: Vec<Worker<L, S>>,
     lines: Vec<Sender<Ticket<K>>>,
@@ -100,7 +103,7 @@ pub(crate) fn start<
         let (came, kept) = (Snapshot::of(&seat.store), Snapshot::of(&seat.store));
         let work = move || -> (S, Tally<L>)
             ensures { IsLeftOf S.Stable seat.store result.0 }
-        { work_at(rt, alloc, hub, link, seat) };
+        { work_at(rt, alloc, hub, link, looks, seat) };
         match scope.spawn_with(LeavesIt(kept), work) {
             Ok(thread) => workers.push_reserved(Ok(thread)),
             Err(refused) => {

@@ -1,5 +1,5 @@
 use Rattle.urb_worker.specs.Served.{IsLeftOf}
-use Rattle.urb_worker.proofs.serving.serve_from.Given as goal
+use Rattle.urb_worker.proofs.serving.serve_looking.Given as goal
 
 -- the store after the turns so far
 abbrev pub invariant-loop : goal.invariant-loop
