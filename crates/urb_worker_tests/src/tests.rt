@@ -13,6 +13,7 @@ use urb_worker::{Hub, HubName, Job, Tally};
 
 mod desks;
 mod gates;
+mod groups;
 mod hearing;
 mod pacing;
 mod receivers;

@@ -1,0 +1,243 @@
+//! Groups that run on threads and sockets of this machine: what ticks bring, clients that break off, and what is counted.
+
+ghost use Rattle.std.specs.Prelude.{◌≡◌, ◌<◌, ◌≤◌, IfSome, vec_len, vec_capacity};
+
+use super::opened;
+use std::alloc::Global;
+use std::io::{Read, Write};
+use std::marker::Brand;
+use std::net::{Ipv4Addr, Net, TcpListener, TcpStream, UdpSocket};
+use std::sync::Wait;
+use std::sync::ledger::Blank;
+use std::test::Fail;
+use std::thread;
+use std::thread::Threads;
+use std::time::{Clock, Duration};
+use urb_stable::MemStable;
+use urb_worker::{Station, UdpLink, Watch, run_group};
+
+// A submit of client 7's first message, `x`, and that it was accepted; and a bad length, by which a session ends, and its answer.
+const SUBMIT: &[u8] = b"\x00\x08\x01\x00\x07\x00\x00\x00\x01x\x00\x00";
+
+const ACCEPTED: &[u8] = b"\x00\x05\x81\x00\x00\x00\x01\x00\x06\xee\x13\x00\x00\x00\x01";
+
+// A crash and a restart, each of which is done.
+const CRASH: &[u8] = b"\x00\x01\x04\x00\x00";
+
+const RESTART: &[u8] = b"\x00\x01\x05\x00\x00";
+
+const DONE: &[u8] = b"\x00\x01\x84\x00\x06\xee\x13\x00\x00\x00\x01";
+
+// A read of the first place, and what a node answers that shows the message of node 1.
+const READ: &[u8] = b"\x00\x06\x02\x00\x00\x00\x01\x01\x00\x00";
+
+const SHOWN: &[u8] = b"\x00\x10\x82\x01\x01\x00\x00\x00\x01\x00\x07\x00\x00\x00\x01\x00\x01x\
+\x00\x06\xee\x13\x00\x00\x00\x01";
+
+// All that a node answers to these bytes, until it ends the session.
+fn answers<R: Net<Listener = TcpListener, Stream = TcpStream>>(
+    rt: &R,
+    alloc: Global,
+    station: &Station,
+    sent: &[u8],
+) -> Option<Vec<u8>> {
+    let mut stream = TcpStream::connect(rt, (Ipv4Addr::LOCALHOST, station.tcp_port)).ok()?;
+    stream.write_all(sent).ok()?;
+    let mut answered = Vec::new(alloc);
+    stream.read_to_end(&mut answered).ok()?;
+    Some(answered)
+}
+
+// Whether a node comes to show the message of node 1, after at most 10,000 looks of a millisecond.
+fn shows_it<R: Clock + Net<Listener = TcpListener, Stream = TcpStream>>(
+    rt: &R,
+    alloc: Global,
+    station: &Station,
+) -> Option<bool> {
+    for _ in 0..10_000u32 {
+        if answers(rt, alloc, station, READ)?.as_slice() == SHOWN {
+            return Some(true);
+        }
+        thread::sleep(rt, Duration::from_millis(1));
+    }
+    Some(false)
+}
+
+// Has node 1 send a message while node 3 is down, and says whether node 3 shows it once it is up again: its packet was lost, and
+// only a tick sends it again.
+fn comes_by_a_tick<R: Clock + Net<Listener = TcpListener, Stream = TcpStream>>(
+    rt: &R,
+    alloc: Global,
+    stations: &[Station],
+) -> Option<bool> {
+    let [first, second, third] = stations else {
+        return None;
+    };
+    let is_down = answers(rt, alloc, third, CRASH)?.as_slice() == DONE;
+    let is_accepted = answers(rt, alloc, first, SUBMIT)?.as_slice() == ACCEPTED;
+    let is_shown = shows_it(rt, alloc, second)?;
+    let is_up = answers(rt, alloc, third, RESTART)?.as_slice() == DONE;
+    Some(is_down && is_accepted && is_shown && is_up && shows_it(rt, alloc, third)?)
+}
+
+// Breaks off a session in the midst of what it sends, or of an answer, of which it reads as many bytes as there is room for. What
+// isn't read then is a fault for who sent it.
+fn break_off<R: Net<Listener = TcpListener, Stream = TcpStream>>(
+    rt: &R,
+    station: &Station,
+    sent: &[u8],
+    room: &mut [u8],
+) -> Option<()> {
+    let mut stream = TcpStream::connect(rt, (Ipv4Addr::LOCALHOST, station.tcp_port)).ok()?;
+    stream.write_all(sent).ok()?;
+    stream.read_exact(room).ok()
+}
+
+// Breaks off five sessions in the midst of a request and five in the midst of an answer, one after the other, and says whether a
+// node that takes four at a time still accepts a message.
+fn outlives_who_breaks_off<R: Net<Listener = TcpListener, Stream = TcpStream>>(
+    rt: &R,
+    alloc: Global,
+    stations: &[Station],
+) -> Option<bool> {
+    let station = stations.first()?;
+    for _ in 0..5u8 {
+        break_off(rt, station, b"\x00\x09\x01", &mut [])?;
+        break_off(rt, station, b"\x00\x01\x03", &mut [0])?;
+    }
+    Some(answers(rt, alloc, station, SUBMIT)?.as_slice() == ACCEPTED)
+}
+
+// Sends a message, and says whether it was accepted.
+fn accepts_one<R: Net<Listener = TcpListener, Stream = TcpStream>>(
+    rt: &R,
+    alloc: Global,
+    stations: &[Station],
+) -> Option<bool> {
+    Some(answers(rt, alloc, stations.first()?, SUBMIT)?.as_slice() == ACCEPTED)
+}
+
+// What a client does with a group that runs.
+#[derive(Clone, Copy, Debug)]
+enum Course {
+    SendsOne,
+    BreaksOff,
+    SendsWhileOneIsDown,
+}
+
+// A client of a group, and whether what it did went well.
+#[derive(Drop)]
+struct Client<'a, R: Clock + Net<Listener = TcpListener, Stream = TcpStream>> {
+    rt: &'a R,
+    alloc: Global,
+    course: Course,
+    went_well: bool,
+}
+
+impl<'a, R: Clock + Net<Listener = TcpListener, Stream = TcpStream>> Watch for Client<'a, R> {
+    fn watch(&mut self, stations: &[Station]) {
+        let (rt, alloc) = (self.rt, self.alloc);
+        let went_well = match self.course {
+            Course::SendsOne => accepts_one(rt, alloc, stations),
+            Course::BreaksOff => outlives_who_breaks_off(rt, alloc, stations),
+            Course::SendsWhileOneIsDown => comes_by_a_tick(rt, alloc, stations),
+        };
+        self.went_well = went_well == Some(true);
+    }
+}
+
+// So many stations, at ports that are free.
+fn stations<R: Net<Listener = TcpListener, Stream = TcpStream>>(
+    rt: &R,
+    alloc: Global,
+    nodes: u8,
+) -> Option<Vec<Station>>
+    ensures { IfSome result (λ all. vec_len all ≡ nodes) }
+{
+    let mut all = Vec::with_capacity(alloc, usize::from(nodes)).ok()?;
+    for _i in 0..nodes {
+        all.push_reserved(Station::open(rt, 0, 0).ok()?);
+    }
+    Some(all)
+}
+
+// So many stores, which are empty.
+fn stores(alloc: Global, nodes: u8) -> Option<Vec<MemStable>>
+    ensures { IfSome result (λ all. vec_len all ≡ nodes) }
+{
+    let mut all = Vec::with_capacity(alloc, usize::from(nodes)).ok()?;
+    for _i in 0..nodes {
+        all.push_reserved(MemStable::new(alloc));
+    }
+    Some(all)
+}
+
+// The link to these stations.
+fn link_to<R: Net<Listener = TcpListener, Stream = TcpStream>>(
+    rt: &R,
+    alloc: Global,
+    stations: &[Station],
+) -> Option<UdpLink> {
+    let mut ports = Vec::new(alloc);
+    for station in stations {
+        ports.push(station.udp_port).ok()?;
+    }
+    let socket = UdpSocket::bind(rt, (Ipv4Addr::LOCALHOST, 0)).ok()?;
+    Some(UdpLink::new(socket, ports))
+}
+
+// Runs a new group, with a tick at each node every so many milliseconds, while a client asks it. Whether that went well, and the
+// count of the group's events.
+fn came_of<R>(rt: &R, alloc: Global, nodes: u8, millis: u32, course: Course) -> Option<(bool, u64)>
+where
+    R: Threads + Wait + Clock + Sync + Net<Listener = TcpListener, Stream = TcpStream>,
+    requires { (0 < nodes) × (nodes ≤ 7) }
+{
+    let mut client = Client {
+        rt,
+        alloc,
+        course,
+        went_well: false,
+    };
+    let stations = stations(rt, alloc, nodes)?;
+    let stations = stations.as_slice();
+    let link = link_to(rt, alloc, stations)?;
+    let stores = stores(alloc, nodes)?;
+    let opened = opened(alloc, nodes)?;
+    let blank = Blank::new(u64::from(nodes));
+    let (_, events) = run_group::<Brand, Brand, MemStable, R, Client<'_, R>>(
+        rt,
+        alloc,
+        opened,
+        blank,
+        stores,
+        &link,
+        stations,
+        millis,
+        &mut client,
+    );
+    Some((client.went_well, events?))
+}
+
+#[test]
+fn a_tick_brings_what_a_node_that_was_down_has_missed(rt: HostRuntime) -> Result<(), Fail> {
+    let course = Course::SendsWhileOneIsDown;
+    let (went_well, _) = came_of(&rt, rt.alloc(), 3, 20, course).ok_or("memory")?;
+    assert!(rt; went_well);
+    Ok(())
+}
+
+#[test]
+fn clients_that_break_off_cost_no_thread(rt: HostRuntime) -> Result<(), Fail> {
+    let (went_well, _) = came_of(&rt, rt.alloc(), 1, 20, Course::BreaksOff).ok_or("memory")?;
+    assert!(rt; went_well);
+    Ok(())
+}
+
+// A submit and its store are all that happens while no tick comes.
+#[test]
+fn a_run_counts_its_events(rt: HostRuntime) -> Result<(), Fail> {
+    let outcome = came_of(&rt, rt.alloc(), 1, 60_000, Course::SendsOne);
+    assert_eq!(rt; outcome, Some((true, 2)));
+    Ok(())
+}
