@@ -9,7 +9,20 @@ use Rattle.urb_client.specs.declared.sessions.SessionFault.{SessionFault}
 use Rattle.urb_client.specs.declared.sessions.SessionFault.TheVariants as fault
 use Rattle.urb_client.specs.Requests.{Asked, request_of}
 use Rattle.urb_client.specs.Responses.{Said, Refused, encoding, frame}
-use Rattle.urb_client.specs.Sessions.{Event, Asks, Fault, Says, Begins, IsBroken, Replies, Answers, WholeSession, Served, TakesFrame, PartRead, BreaksOff}
+use Rattle.urb_client.specs.Sessions.{Event, Asks, Fault, Says, Begins, IsBroken, Replies, Answers, GoesUnanswered, WholeSession, Served, Leaves, Meets, TakesFrame, PartRead, BreaksOff}
+
+-- a whole frame is taken, of which this holds
+whole_taken : (P : Event → Type 0) (known left : Option (List ℕ)) (body : List ℕ) (event : Event) → Consumes known left (frame body) → 0 < length body → length body ≤ LONGEST_REQUEST → Says body event → P event
+    → IfSome known (λ bytes. IsSomeAnd left (TakesFrame P bytes))
+whole_taken P None left body event c some small is holds = tt
+whole_taken P (Some bytes) None body event c some small is holds = absurd c
+whole_taken P (Some bytes) (Some rest) body event c some small is holds = inl (event, (body, rest, some, small, c, is, refl), holds)
+
+-- a broken frame is taken, of which this holds
+pub broken_taken : (P : Event → Type 0) (known left : Option (List ℕ)) (code : ℕ) → IfSome known (λ bytes. IsSomeAnd left (IsBroken bytes code)) → P (Fault code) → IfSome known (λ bytes. IsSomeAnd left (TakesFrame P bytes))
+broken_taken P None left code b holds = tt
+broken_taken P (Some bytes) None code b holds = absurd b
+broken_taken P (Some bytes) (Some rest) code b holds = inr (code, b, holds)
 
 module _ {S : Type 0} (answers : S → Asked → Said → S → Type 0) where
   -- what of the input is known to be answered
@@ -96,46 +109,68 @@ module _ {S : Type 0} (answers : S → Asked → Said → S → Type 0) where
     written = Appends-trans _ _ _ _ _ p.written w;
   }
 
-  -- the reader fails inside a frame
-  pub read_fails : (from : Option (List ℕ)) (old new : S) (before after known left : Option (List ℕ)) → Going from known old new before after → PartRead known left
-      → IfSome from (λ input. IsSomeAnd left (λ rest. BreaksOff answers input fault.Read rest old new before after))
-  read_fails None old new before after known left p t = tt
-  read_fails (Some input) old new before after None left p t = absurd p
-  read_fails (Some input) old new before after (Some bytes) None p t = absurd t
-  read_fails (Some input) old new before after (Some bytes) (Some rest) p t = (bytes, p, t)
+  read_met : (old new : S) (known left : Option (List ℕ)) (body : List ℕ) (said : Said) (read : Result Asked ℕ) → request_of body ≡ read → Consumes known left (frame body) → 0 < length body → length body ≤ LONGEST_REQUEST
+      → Answers answers old read said new → IfSome known (λ bytes. IsSomeAnd left (TakesFrame (λ event. Meets answers old event new) bytes))
+  read_met old new known left body said (Ok asked) is c some small a = whole_taken (λ event. Meets answers old event new) known left body (Asks asked) c some small is (said, a)
+  read_met old new known left body said (Err code) is c some small a = whole_taken (λ event. Meets answers old event new) known left body (Fault code) c some small is a.1
 
-  -- too many frames came
-  pub too_many : (from : Option (List ℕ)) (old new : S) (before after known : Option (List ℕ)) → Going from known old new before after
-      → IfSome from (λ input. IsSomeAnd known (λ rest. BreaksOff answers input fault.Read rest old new before after))
-  too_many None old new before after known p = tt
-  too_many (Some input) old new before after None p = absurd p
-  too_many (Some input) old new before after (Some bytes) p = (bytes, p, ([], refl, inl refl))
+  -- a whole frame is taken, and has its answer
+  pub whole_met : (old new : S) (known left : Option (List ℕ)) (body : List ℕ) (said : Said) → Consumes known left (frame body) → 0 < length body → length body ≤ LONGEST_REQUEST
+      → Answers answers old (request_of body) said new → IfSome known (λ bytes. IsSomeAnd left (TakesFrame (λ event. Meets answers old event new) bytes))
+  whole_met old new known left body said = read_met old new known left body said (request_of body) refl
 
-  -- a frame is taken that isn't answered
-  pub not_answered : (from : Option (List ℕ)) (cause : SessionFault) (old mid new : S) (before after later known left : Option (List ℕ)) → Going from known old mid before after → IfSome known (λ bytes. IsSomeAnd left (TakesFrame bytes))
-      → cause ≢ fault.Read → (cause ≢ fault.Write → later ≡ after) → IfSome from (λ input. IsSomeAnd left (λ rest. BreaksOff answers input cause rest old new before later))
-  not_answered None cause old mid new before after later known left p t r w = tt
-  not_answered (Some input) cause old mid new before after later None left p t r w = absurd p
-  not_answered (Some input) cause old mid new before after later (Some bytes) None p t r w = absurd t
-  not_answered (Some input) fault.Read old mid new before after later (Some bytes) (Some rest) p t r w = absurd (r refl)
-  not_answered (Some input) fault.NoMemory old mid new before after later (Some bytes) (Some rest) p t r w =
-      (bytes, mid, subst (λ (out : Option (List ℕ)). Served answers input bytes old mid before out) (sym (w (λ e. absurd cc))) p, t)
-  not_answered (Some input) fault.Write old mid new before after later (Some bytes) (Some rest) p t r w = (bytes, mid, p.events, p.output, p.begins, p.replies, t)
+  module _ (refuses : S → Asked → S → Type 0) where
+    -- the reader fails inside a frame
+    pub read_fails : (from : Option (List ℕ)) (old new : S) (before after known left : Option (List ℕ)) → Going from known old new before after → PartRead known left
+        → IfSome from (λ input. IsSomeAnd left (λ rest. BreaksOff answers refuses input fault.Read rest old new before after))
+    read_fails None old new before after known left p t = tt
+    read_fails (Some input) old new before after None left p t = absurd p
+    read_fails (Some input) old new before after (Some bytes) None p t = absurd t
+    read_fails (Some input) old new before after (Some bytes) (Some rest) p t = (bytes, p, t)
 
-is_event : (body : List ℕ) (read : Result Asked ℕ) → request_of body ≡ read → (event : Event) × Says body event
-is_event body (Ok asked) e = (Asks asked, e)
-is_event body (Err code) e = (Fault code, e)
+    -- too many frames came
+    pub too_many : (from : Option (List ℕ)) (old new : S) (before after known : Option (List ℕ)) → Going from known old new before after
+        → IfSome from (λ input. IsSomeAnd known (λ rest. BreaksOff answers refuses input fault.Read rest old new before after))
+    too_many None old new before after known p = tt
+    too_many (Some input) old new before after None p = absurd p
+    too_many (Some input) old new before after (Some bytes) p = (bytes, p, ([], refl, inl refl))
 
--- a whole frame is taken
-pub whole_taken : (known left : Option (List ℕ)) (body : List ℕ) → Consumes known left (frame body) → 0 < length body → length body ≤ LONGEST_REQUEST → IfSome known (λ bytes. IsSomeAnd left (TakesFrame bytes))
-whole_taken None left body c some small = tt
-whole_taken (Some bytes) None body c some small = absurd c
-whole_taken (Some bytes) (Some rest) body c some small =
-    let event = is_event body (request_of body) refl in
-    inl (event.0, (body, rest, some, small, c, event.1, refl))
+    -- memory is refused for a frame
+    pub not_answered : (from : Option (List ℕ)) (old mid new : S) (before after known left : Option (List ℕ)) → Going from known old mid before after
+        → IfSome known (λ bytes. IsSomeAnd left (TakesFrame (λ event. Leaves answers refuses mid event new) bytes))
+        → IfSome from (λ input. IsSomeAnd left (λ rest. BreaksOff answers refuses input fault.NoMemory rest old new before after))
+    not_answered None old mid new before after known left p t = tt
+    not_answered (Some input) old mid new before after None left p t = absurd p
+    not_answered (Some input) old mid new before after (Some bytes) None p t = absurd t
+    not_answered (Some input) old mid new before after (Some bytes) (Some rest) p t = (bytes, mid, p, t)
 
--- a broken frame is taken
-pub broken_taken : (known left : Option (List ℕ)) (code : ℕ) → IfSome known (λ bytes. IsSomeAnd left (IsBroken bytes code)) → IfSome known (λ bytes. IsSomeAnd left (TakesFrame bytes))
-broken_taken None left code b = tt
-broken_taken (Some bytes) None code b = absurd b
-broken_taken (Some bytes) (Some rest) code b = inr (code, b)
+    met_leaves : (old new : S) (event : Event) → Meets answers old event new → Leaves answers refuses old event new
+    met_leaves old new (Asks asked) m = inr (inl m)
+    met_leaves old new (Fault code) m = m
+
+    met_taken : (old new : S) (bytes rest : List ℕ) → TakesFrame (λ event. Meets answers old event new) bytes rest → TakesFrame (λ event. Leaves answers refuses old event new) bytes rest
+    met_taken old new bytes rest (inl t) = inl (t.0, t.1, met_leaves old new t.0 t.2)
+    met_taken old new bytes rest (inr t) = inr t
+
+    -- an answer isn't written
+    pub not_written : (from : Option (List ℕ)) (cause : SessionFault) (old mid new : S) (before after later known left : Option (List ℕ)) → Going from known old mid before after
+        → IfSome known (λ bytes. IsSomeAnd left (TakesFrame (λ event. Meets answers mid event new) bytes)) → cause ≢ fault.Read → (cause ≢ fault.Write → later ≡ after)
+        → IfSome from (λ input. IsSomeAnd left (λ rest. BreaksOff answers refuses input cause rest old new before later))
+    not_written None cause old mid new before after later known left p t r w = tt
+    not_written (Some input) cause old mid new before after later None left p t r w = absurd p
+    not_written (Some input) cause old mid new before after later (Some bytes) None p t r w = absurd t
+    not_written (Some input) fault.Read old mid new before after later (Some bytes) (Some rest) p t r w = absurd (r refl)
+    not_written (Some input) fault.NoMemory old mid new before after later (Some bytes) (Some rest) p t r w =
+        (bytes, mid, subst (λ (out : Option (List ℕ)). Served answers input bytes old mid before out) (sym (w (λ e. absurd cc))) p, met_taken mid new bytes rest t)
+    not_written (Some input) fault.Write old mid new before after later (Some bytes) (Some rest) p t r w = (bytes, mid, p.events, p.output, p.begins, p.replies, t)
+
+    read_refused : (old new : S) (known left : Option (List ℕ)) (body : List ℕ) (read : Result Asked ℕ) → request_of body ≡ read → Consumes known left (frame body) → 0 < length body → length body ≤ LONGEST_REQUEST
+        → GoesUnanswered refuses old read new → IfSome known (λ bytes. IsSomeAnd left (TakesFrame (λ event. Leaves answers refuses old event new) bytes))
+    read_refused old new known left body (Ok asked) is c some small (inl same) = whole_taken (λ event. Leaves answers refuses old event new) known left body (Asks asked) c some small is (inl same)
+    read_refused old new known left body (Ok asked) is c some small (inr r) = whole_taken (λ event. Leaves answers refuses old event new) known left body (Asks asked) c some small is (inr (inr r))
+    read_refused old new known left body (Err code) is c some small same = whole_taken (λ event. Leaves answers refuses old event new) known left body (Fault code) c some small is same
+
+    -- a whole frame is taken, for which memory is refused
+    pub whole_refused : (old new : S) (known left : Option (List ℕ)) (body : List ℕ) → Consumes known left (frame body) → 0 < length body → length body ≤ LONGEST_REQUEST
+        → GoesUnanswered refuses old (request_of body) new → IfSome known (λ bytes. IsSomeAnd left (TakesFrame (λ event. Leaves answers refuses old event new) bytes))
+    whole_refused old new known left body = read_refused old new known left body (request_of body) refl

@@ -68,6 +68,11 @@ abbrev pub Answers : {S : Type 0} → (S → Asked → Said → S → Type 0) �
 Answers {S} answers old (Ok asked) said new = answers old asked said new
 Answers {S} answers old (Err code) said new = (said ≡ Refused 19 code) × (new ≡ old)
 
+-- a frame that was read goes unanswered since memory was refused, and leaves the desk so: as it was, or, where the frame is a request, as the refused memory left it
+abbrev pub GoesUnanswered : {S : Type 0} → (S → Asked → S → Type 0) → S → Result Asked ℕ → S → Type 0
+GoesUnanswered {S} refuses old (Ok asked) new = (new ≡ old) ⊎ refuses old asked new
+GoesUnanswered {S} refuses old (Err code) new = new ≡ old
+
 -- a session from its first byte to its end: all that the input says is answered, and the answers are written; left is what the reader still has
 pub record WholeSession {S : Type 0} (answers : S → Asked → Said → S → Type 0) (input : List ℕ) (ended : Ended) (left : List ℕ) (old new : S) (before after : Option (List ℕ)) : Type 0 where
   pub events : List Event
@@ -84,19 +89,29 @@ pub record Served {S : Type 0} (answers : S → Asked → Said → S → Type 0)
   pub replies : Replies answers old events output new
   pub written : Appends before after output
 
--- one frame is taken from the front, whole or broken
-abbrev pub TakesFrame : List ℕ → List ℕ → Type 0
-TakesFrame bytes rest = ((event : Event) × Begins bytes (event ∷ []) rest) ⊎ ((code : ℕ) × IsBroken bytes code rest)
+-- what one frame leaves of a desk where memory was refused before its answer was written: the desk as it was, or, where the frame is a request, the desk as its answer left it or as the refused memory left it
+abbrev pub Leaves : {S : Type 0} → (S → Asked → Said → S → Type 0) → (S → Asked → S → Type 0) → S → Event → S → Type 0
+Leaves {S} answers refuses old (Asks asked) new = (new ≡ old) ⊎ (((said : Said) × answers old asked said new) ⊎ refuses old asked new)
+Leaves {S} answers refuses old (Fault code) new = new ≡ old
+
+-- what one frame leaves of a desk where its answer was made and not written: the desk as its answer left it; it doesn't see a fault
+abbrev pub Meets : {S : Type 0} → (S → Asked → Said → S → Type 0) → S → Event → S → Type 0
+Meets {S} answers old (Asks asked) new = (said : Said) × answers old asked said new
+Meets {S} answers old (Fault code) new = new ≡ old
+
+-- one frame is taken from the front, whole or broken, of which this holds
+abbrev pub TakesFrame : (Event → Type 0) → List ℕ → List ℕ → Type 0
+TakesFrame P bytes rest = ((event : Event) × Begins bytes (event ∷ []) rest × P event) ⊎ ((code : ℕ) × IsBroken bytes code rest × P (Fault code))
 
 -- less than a frame is taken from the front
 abbrev pub TakesPart : List ℕ → List ℕ → Type 0
 TakesPart bytes rest = (part : List ℕ) × (bytes ≡ part ++ rest) × ((part ≡ []) ⊎ IsCut part)
 
--- a session that broke off, with what the reader has left: after a failed read all frames that were read whole are answered; without memory all but the last one that was read; after a failed write the desk has answered all but the last one that was read, or that one too, and of the output nothing is said
-abbrev pub BreaksOff : {S : Type 0} → (S → Asked → Said → S → Type 0) → List ℕ → SessionFault → List ℕ → S → S → Option (List ℕ) → Option (List ℕ) → Type 0
-BreaksOff {S} answers input fault.Read left old new before after = (rest : List ℕ) × Served answers input rest old new before after × TakesPart rest left
-BreaksOff {S} answers input fault.NoMemory left old new before after = (rest : List ℕ) × (mid : S) × Served answers input rest old mid before after × TakesFrame rest left
-BreaksOff {S} answers input fault.Write left old new before after = (rest : List ℕ) × (mid : S) × (events : List Event) × (output : List ℕ) × Begins input events rest × Replies answers old events output mid × TakesFrame rest left
+-- a session that broke off, with what the reader has left, and the desk: after a failed read all frames that were read whole are answered; without memory all but the last one that was read, and the desk is as that one leaves it, whatever became of it; after a failed write the desk has answered every request that was read whole, the last one too, and of the output nothing is said
+abbrev pub BreaksOff : {S : Type 0} → (S → Asked → Said → S → Type 0) → (S → Asked → S → Type 0) → List ℕ → SessionFault → List ℕ → S → S → Option (List ℕ) → Option (List ℕ) → Type 0
+BreaksOff {S} answers refuses input fault.Read left old new before after = (rest : List ℕ) × Served answers input rest old new before after × TakesPart rest left
+BreaksOff {S} answers refuses input fault.NoMemory left old new before after = (rest : List ℕ) × (mid : S) × Served answers input rest old mid before after × TakesFrame (λ event. Leaves answers refuses mid event new) rest left
+BreaksOff {S} answers refuses input fault.Write left old new before after = (rest : List ℕ) × (mid : S) × (events : List Event) × (output : List ℕ) × Begins input events rest × Replies answers old events output mid × TakesFrame (λ event. Meets answers mid event new) rest left
 
 -- what is read from the front of the known bytes, into the body: nothing at their end, a broken frame, or a whole one
 abbrev pub ReadsPiece : Option (List ℕ) → Option (List ℕ) → List ℕ → Piece → Type 0

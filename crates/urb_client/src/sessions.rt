@@ -5,7 +5,7 @@ ghost use Rattle.std.specs.Io.KnownBytes.{Appends};
 ghost use Rattle.byteorder.specs.Endian.{big_bytes};
 ghost use Rattle.urb_client.specs.Requests.{Asked, IsAsked, asked_by, request_of};
 ghost use Rattle.urb_client.specs.Responses.{Said, said_by, Refused, encoding};
-ghost use Rattle.urb_client.specs.Sessions.{ReadsPiece, PartRead, Answers, WholeSession, BreaksOff, IsReadOnce};
+ghost use Rattle.urb_client.specs.Sessions.{ReadsPiece, PartRead, Answers, GoesUnanswered, WholeSession, BreaksOff, IsReadOnce};
 
 use crate::format::{BAD_LENGTH, CUT, LONGEST_REQUEST};
 use crate::input::{ReadFailed, read_full};
@@ -64,12 +64,17 @@ pub trait Desk {
     /// In the first state it may answer a request so, and is in the second state then.
     ghost answers: { Self → Asked → Said → Self → Type 0 };
 
+    /// Where memory is refused for a request in the first state, it may be in the second state then.
+    ghost refuses: { Self → Asked → Self → Type 0 };
+
     /// Answers one request, whose values are in range: but its payload may be too long for a message, and its
-    /// number may be 0. `NoMemory` ends the session, and nothing more is asked of the desk.
+    /// number may be 0. `NoMemory` ends the session: nothing more is asked of the desk in that session, and the
+    /// next session may get the same desk.
     fn answer(&mut self, request: &Request<Self::Alloc>) -> Result<Response<Self::Alloc>, NoMemory>
         requires { IsAsked (asked_by request.now) }
-        ensures { IfOk result
-            (λ response. answers self.old (asked_by request.now) (said_by response) self.new) };
+        ensures answered { IfOk result
+            (λ response. answers self.old (asked_by request.now) (said_by response) self.new) }
+        ensures refused { OnErr result (refuses self.old (asked_by request.now) self.new) };
 }
 
 // What stands at the front of the input.
@@ -149,8 +154,10 @@ fn respond<D: Desk>(
     desk: &mut D,
     body: &[u8],
 ) -> Result<Response<D::Alloc>, NoMemory>
-    ensures { IfOk result
+    ensures answered { IfOk result
         (λ response. Answers D.answers desk.old (request_of body.now) (said_by response) desk.new) }
+    ensures refused { OnErr result
+        (GoesUnanswered D.refuses desk.old (request_of body.now) desk.new) }
 {
     match parse_request(alloc, body) {
         Ok(request) => desk.answer(&request),
@@ -171,9 +178,9 @@ pub fn session<R: Read, W: Write, D: Desk>(
     ensures ended { IfOk result (λ ended. IfSome (R.remaining reader.old) (λ input.
         IsSomeAnd (R.remaining reader.new) (λ left. WholeSession D.answers input ended left
         desk.old desk.new (W.contents writer.old) (W.contents writer.new)))) }
-    // The frames that were read whole are answered, but at most the last.
+    // The frames that were read whole are answered, but at most the last; the desk is as that one leaves it.
     ensures broken_off { IfErr result (λ fault. IfSome (R.remaining reader.old) (λ input.
-        IsSomeAnd (R.remaining reader.new) (λ left. BreaksOff D.answers input fault left
+        IsSomeAnd (R.remaining reader.new) (λ left. BreaksOff D.answers D.refuses input fault left
         desk.old desk.new (W.contents writer.old) (W.contents writer.new)))) }
 {
     let mut body = [0u8; LONGEST_REQUEST];

@@ -9,7 +9,7 @@
 //!
 //! ```text
 //! let opened = House::open(group)?;                      // the group, not yet published
-//! let (mut house, readers) = opened.parts::<K, R>(rt, alloc)?;   // four readers for each node
+//! let (mut house, readers) = opened.parts::<K, R>(rt, alloc)?;   // READERS for each node
 //! let taken = house.submit(alloc, node, client, number, payload)?;   // the group's calls, one event each
 //! let done = house.commit(receipt)?;                     // a stored draft may release names
 //! let told = house.settle(rt, node)?;                    // they are published
@@ -42,6 +42,6 @@ pub mod worked;
 pub use book::HouseName;
 pub use entry::{Entry, Page};
 pub use house::House;
-pub use opened::Opened;
+pub use opened::{Opened, READERS};
 pub use reader::{LogReader, ReadFault, Told};
 pub use status::Status;

@@ -4,6 +4,7 @@ ghost use Rattle.urb_names.specs.Naming.{IsLimits};
 ghost use Rattle.urb_show.specs.Lists.{Agree, lists_in};
 ghost use Rattle.urb_show.specs.History.{issue_of};
 ghost use Rattle.urb_show.specs.Housed.{opened_house};
+ghost use Rattle.urb_show.specs.declared.opened.TheConstants.{READERS};
 
 use crate::book::{HouseName, Unnamed};
 use crate::delivered::entries_of;
@@ -20,8 +21,8 @@ use std::marker::{Brand, Model};
 use std::sync::Wait;
 use urb_group::{Group, NoMemory, NodeId, Refusal};
 
-// How many readers there are for each node.
-const READERS: usize = 4;
+/// How many readers a house has for each of its nodes, so how many sessions of clients a node can have at a time.
+pub const READERS: usize = 4;
 
 /// A group with an open book, which is not published yet. `parts` gives it a name, and makes a house of it; it can't be
 /// dropped before: end it by `close`.
@@ -59,8 +60,8 @@ impl Opened {
         group
     }
 
-    /// The house under its name, with all that its nodes have delivered published, and four readers for each node, those of
-    /// node 1 first. Each reader reads the lists of all nodes.
+    /// The house under its name, with all that its nodes have delivered published, and `READERS` readers for each node, those
+    /// of node 1 first. Each reader reads the lists of all nodes.
     ///
     /// `NoMemory`: what was opened comes back as it was.
     pub fn parts<K: HouseName, R: Wait>(
@@ -71,7 +72,7 @@ impl Opened {
         requires names { (self.book ≡ K.book) × (lists_in self.group ≡ K.base) }
         ensures house { MatchResult result
             (λ t. t.0 ≡ opened_house self.group K.base) (λ e. e.0 ≡ self) }
-        ensures readers { IfOk result (λ t. length t.1.items ≡ 4 * self.group.size.n) }
+        ensures readers { IfOk result (λ t. length t.1.items ≡ READERS * self.group.size.n) }
         ensures known { IfOk result (λ t.
             All (λ r. r ≡ record { seen = K.base; told = K.base }) t.1.items) }
     {
@@ -154,8 +155,7 @@ fn readers_of<K: HouseName>(
 {
     let mut readers = Vec::new(alloc);
     readers.reserve(count)?;
-    for i in 0..count {
-        let _ = i;
+    for _ in 0..count {
         let reader = factory.reader()?;
         readers.reserve(1)?;
         readers.push_reserved(LogReader::new(reader, unnamed.mark().front::<K>()));

@@ -2,14 +2,15 @@
 ghost use Rattle.std.specs.Prelude.{◌≡◌, ◌≤◌, IfSome, length};
 ghost use Rattle.urb_show.specs.Lists.{lists_in};
 
+mod again;
 mod readers;
 mod walk;
 mod writer;
 
+use again::{deliver, reads_two};
 use readers::{learn_all, read_all, reads};
 use std::alloc::Global;
 use std::marker::Brand;
-use std::process::Abort;
 use std::sync::{Mutex, Wait};
 use std::test::*;
 use std::thread::{Threads, join};
@@ -27,6 +28,16 @@ fn opened(alloc: Global) -> Option<Opened>
     House::open(group).ok()
 }
 
+// The group of three nodes that a house gave back, opened again.
+fn opened_again(group: Group) -> Option<Opened>
+    ensures { IfSome result (λ it. it.group.size.n ≡ 3) }
+{
+    if group.config().n() != 3 {
+        return None;
+    }
+    House::open(group).ok()
+}
+
 // What the first of these says that doesn't hold.
 fn first_false(all: &[(bool, &'static str)]) -> Result<(), &'static str> {
     for (holds, what) in all {
@@ -37,12 +48,13 @@ fn first_false(all: &[(bool, &'static str)]) -> Result<(), &'static str> {
     Ok(())
 }
 
-// Two readers on threads of their own. Whether their pages agree.
+// Two readers on threads of their own. Whether their pages agree, and were whole in the end.
 fn read_both<K: HouseName + Send + Sync, R: Threads + Wait + Sync>(
     rt: &R,
     alloc: Global,
     one: &mut LogReader<K>,
     two: &mut LogReader<K>,
+    board: &Mutex<Board<K>>,
 ) -> bool
     requires { 3 ≤ length K.base }
 {
@@ -50,15 +62,16 @@ fn read_both<K: HouseName + Send + Sync, R: Threads + Wait + Sync>(
         rt,
         move || -> bool
             requires { 3 ≤ length K.base }
-        { read_all(rt, alloc, one) },
+        { read_all(rt, alloc, one, board) },
         move || -> bool
             requires { 3 ≤ length K.base }
-        { read_all(rt, alloc, two) },
+        { read_all(rt, alloc, two, board) },
     );
     first && second
 }
 
-// Two readers on threads of their own, the second of which learns what is settled. Whether their pages agree.
+// Two readers on threads of their own, the second of which learns what is settled. Whether their pages agree, and were whole in
+// the end.
 fn read_and_learn<K: HouseName + Send + Sync, R: Threads + Wait + Sync>(
     rt: &R,
     alloc: Global,
@@ -72,7 +85,7 @@ fn read_and_learn<K: HouseName + Send + Sync, R: Threads + Wait + Sync>(
         rt,
         move || -> bool
             requires { 3 ≤ length K.base }
-        { read_all(rt, alloc, one) },
+        { read_all(rt, alloc, one, board) },
         move || -> bool
             requires { 3 ≤ length K.base }
         { learn_all(rt, alloc, two, board) },
@@ -96,7 +109,7 @@ fn read_on_threads<K: HouseName + Send + Sync, R: Threads + Wait + Sync>(
         rt,
         move || -> bool
             requires { 3 ≤ length K.base }
-        { read_both(rt, alloc, one, two) },
+        { read_both(rt, alloc, one, two, board) },
         move || -> (bool, bool)
             requires { 3 ≤ length K.base }
         { read_and_learn(rt, alloc, three, four, board) },
@@ -162,7 +175,7 @@ fn played<K: HouseName + Send + Sync, R: Threads + Wait + Sync>(
     first_false(&[
         (readers.len() == 11, "twelve readers"),
         (wrote, "all is written"),
-        (read, "pages agree"),
+        (read, "pages agree, and are whole in the end"),
         (learnt, "what was learnt is read"),
         (fresh, "all is read without being told"),
         (gone, "a closed house is gone"),
@@ -173,13 +186,24 @@ fn played<K: HouseName + Send + Sync, R: Threads + Wait + Sync>(
 #[test]
 fn readers_read_while_another_thread_writes(rt: HostRuntime) -> Result<(), Fail> {
     let opened = opened(rt.alloc()).ok_or("no group")?;
-    assert_eq!(rt; played::<Brand, _>(&rt, rt.alloc(), opened), Ok(()));
+    played::<Brand, _>(&rt, rt.alloc(), opened)?;
     Ok(())
 }
 
 #[test]
 fn a_house_is_called_one_by_one(rt: HostRuntime) -> Result<(), Fail> {
     let opened = opened(rt.alloc()).ok_or("no group")?;
-    assert_eq!(rt; walk::<Brand, _>(&rt, rt.alloc(), opened), Ok(()));
+    walk::<Brand, _>(&rt, rt.alloc(), opened)?;
+    Ok(())
+}
+
+#[test]
+fn what_was_refused_memory_goes_through_when_it_is_asked_again(
+    rt: HostRuntime,
+) -> Result<(), Fail> {
+    let opened = opened(rt.alloc()).ok_or("no group")?;
+    let group = deliver::<Brand, _>(&rt, rt.alloc(), opened)?;
+    let opened = opened_again(group).ok_or("another group")?;
+    reads_two::<Brand, _>(&rt, rt.alloc(), opened)?;
     Ok(())
 }

@@ -1,10 +1,10 @@
 -- Stores in their order, as loops take them up and put them down.
-use Rattle.std.proofs.Common.{◌≡◌, ◌∙◌, ◌++◌, List, [], ◌∷◌, append_assoc, ap, inr, sym, refl, map, reverse}
+use Rattle.std.proofs.Common.{◌≡◌, ◌∙◌, ◌++◌, IfSome, List, [], ◌∷◌, None, Ok, Err, Option, Result, Some, append_assoc, ap, inr, sym, refl, map, reverse}
 use Rattle.std.proofs.Math.Logic.{∥∥₁_elim}
 use Rattle.std.proofs.Props.{props}
 use Rattle.std.proofs.lemmas.List.{reverse-append}
 use Rattle.urb_stable.specs.declared.stable.Stable.{Ghosts}
-use Rattle.urb_worker.specs.Served.{AreServed, IsLeftOf, Rests, Serves, Turns, Works}
+use Rattle.urb_worker.specs.Served.{AllThere, AreServed, IsLeftOf, Rests, Serves, Turns, Works}
 use Rattle.urb_worker.specs.Turns.{Stores}
 use Rattle.urb_worker.specs.declared.stages.Stage.{Stage}
 
@@ -78,3 +78,13 @@ puts_down f h ws w new old rest x whole put last same so_far =
     ∙ ap (λ y. map h ws ++ y ∷ reverse (map f rest)) same
     ∙ ap (λ ys. map h ws ++ ys) (sym (ap (λ xs. reverse (map f xs)) last ∙ reverse_push f rest x))
     ∙ so_far
+
+there_push : {T E : Type 0} (ws : List (Result T E)) (thread : T) → AllThere ws → AllThere (ws ++ Ok thread ∷ [])
+there_push [] thread all = tt
+there_push (Ok first ∷ ws) thread all = there_push ws thread all
+there_push (Err left ∷ ws) thread all = absurd all
+
+-- where something is kept one worker more has its thread
+pub with_thread : {T E L : Type 0} (kept : Option L) (ws new : List (Result T E)) (thread : T) → new ≡ ws ++ Ok thread ∷ [] → IfSome kept (λ _. AllThere ws) → IfSome kept (λ _. AllThere new)
+with_thread None ws new thread put all = tt
+with_thread (Some lines) ws new thread put all = rw put (there_push ws thread all)

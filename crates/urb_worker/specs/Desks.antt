@@ -84,3 +84,9 @@ Works before said after =
 abbrev pub AnswersAt : DeskView → Asked → Said → DeskView → Type 0
 AnswersAt before (Read place max) said after = (after.node ≡ before.node) × Reads before place max said after
 AnswersAt before asked said after = (after.node ≡ before.node) × Works before said after
+
+-- what refused memory leaves of a desk: it has asked its worker nothing, and knows what it knew; of a read it may have taken the
+-- lists already
+abbrev pub RefusedAt : DeskView → Asked → DeskView → Type 0
+RefusedAt before (Read place max) after = (after.node ≡ before.node) × ((after.known ≡ before.known) ⊎ Takes before.known after.known)
+RefusedAt before asked after = after ≡ before

@@ -33,6 +33,12 @@ abbrev pub in_either : {T E Y : Type 0} → Result T E → (T → Y) → (E → 
 in_either (Ok there) f g = f there
 in_either (Err left) f g = g left
 
+-- each is there, and none has left
+abbrev pub AllThere : {T E : Type 0} → List (Result T E) → Type 0
+AllThere [] = Unit {0}
+AllThere (Ok there ∷ more) = AllThere more
+AllThere (Err left ∷ more) = ⊥
+
 -- so many numbers from the first one on
 abbrev pub numbers_from : ℕ → ℕ → List ℕ
 numbers_from first zero = []

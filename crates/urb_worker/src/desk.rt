@@ -1,8 +1,9 @@
 //! The desk of a running node: it passes requests on to the node's worker, and reads by itself.
 
-ghost use Rattle.std.specs.Prelude.{◌≡◌, ◌≤◌, IfOk, length};
+ghost use Rattle.std.specs.Prelude.{◌≡◌, ◌⊎◌, ◌≤◌, IfOk, MatchOption, OnErr, length};
 ghost use Rattle.urb_client.specs.Responses.{said_by};
-ghost use Rattle.urb_worker.specs.Desks.{LearnsTold, Reads, Works, told_of};
+ghost use Rattle.urb_show.specs.Known.{Takes};
+ghost use Rattle.urb_worker.specs.Desks.{LearnsTold, Reads, Works, gone, told_of};
 
 use crate::responses::{nobody, page_told, told};
 use crate::{Finished, Job, Ticket};
@@ -93,22 +94,37 @@ impl<'a, K: HouseName, R: Wait> NodeDesk<'a, K, R> {
         told(&reply, status)
     }
 
+    // What is told of a job by what came back of it, which is learnt first; nobody does it where nothing came back.
+    fn come_of(&mut self, came: Option<Finished<K>>) -> Response
+        ensures node { self.new.node ≡ self.old.node }
+        ensures learnt { MatchOption came (self.new.known ≡ self.old.known)
+            (λ finished. LearnsTold finished.told self.old.known self.new.known) }
+        ensures said { MatchOption came (said_by result ≡ gone)
+            (λ finished. said_by result ≡ told_of finished.reply finished.status) }
+    {
+        match came {
+            Some(finished) => self.answered(finished),
+            None => nobody(),
+        }
+    }
+
     // Has the worker do a job, and learns what it tells.
     fn work(&mut self, job: Job) -> Result<Response, NoMemory>
-        ensures { IfOk result (λ response.
+        ensures answered { IfOk result (λ response.
             (self.new.node ≡ self.old.node) × Works self.old (said_by response) self.new) }
+        ensures refused { OnErr result (self.new ≡ self.old) }
     {
-        match self.finished(job)? {
-            Some(finished) => Ok(self.answered(finished)),
-            None => Ok(nobody()),
-        }
+        let came = self.finished(job)?;
+        Ok(self.come_of(came))
     }
 
     // Reads the node's published list.
     fn read(&mut self, place: u32, max: u8) -> Result<Response, NoMemory>
         requires { (1 ≤ place) × (max ≤ 8) }
-        ensures { IfOk result (λ response. (self.new.node ≡ self.old.node)
+        ensures answered { IfOk result (λ response. (self.new.node ≡ self.old.node)
             × Reads self.old place max (said_by response) self.new) }
+        ensures refused { OnErr result ((self.new.node ≡ self.old.node)
+            × ((self.new.known ≡ self.old.known) ⊎ Takes self.old.known self.new.known)) }
     {
         match self.reader.read(self.alloc, self.node, place, max) {
             Ok(page) => page_told(self.alloc, page.entries),
@@ -121,9 +137,11 @@ impl<'a, K: HouseName, R: Wait> NodeDesk<'a, K, R> {
 impl<'a, K: HouseName, R: Wait> Desk for NodeDesk<'a, K, R> {
     type Alloc = Global;
 
-    ghost use Rattle.urb_worker.specs.Desks.{AnswersAt};
+    ghost use Rattle.urb_worker.specs.Desks.{AnswersAt, RefusedAt};
 
     ghost answers = { AnswersAt };
+
+    ghost refuses = { RefusedAt };
 
     fn answer(&mut self, request: &Request) -> Result<Response, NoMemory> {
         let node = self.node;

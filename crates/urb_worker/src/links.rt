@@ -5,7 +5,7 @@ ghost use Rattle.std.specs.Prelude.{◌≡◌};
 use std::alloc::Global;
 use std::net::{Ipv4Addr, UdpSocket};
 use std::sync::{Mutex, Wait};
-use urb_names::NodeId;
+use urb_names::{NoMemory, NodeId};
 
 /// Carries packets to nodes, as the book's fair-loss links do (section 2.4 of the book). It answers nothing: a packet that
 /// can't be sent is lost, for want of memory too, and a later tick may send it again.
@@ -47,13 +47,13 @@ pub struct MemoryLink<'a, R: Wait> {
 }
 
 impl<'a, R: Wait> MemoryLink<'a, R> {
-    /// A link to the nodes 1 to 7, whose mailboxes are empty. None where memory was refused.
-    pub fn new(rt: &'a R, alloc: Global) -> Option<MemoryLink<'a, R>> {
-        let mut mailboxes = Vec::with_capacity(alloc, 7).ok()?;
+    /// A link to the nodes 1 to 7, whose mailboxes are empty.
+    pub fn new(rt: &'a R, alloc: Global) -> Result<MemoryLink<'a, R>, NoMemory> {
+        let mut mailboxes = Vec::with_capacity(alloc, 7)?;
         for _ in 0..7u8 {
-            mailboxes.push(Mutex::new(Vec::new(alloc))).ok()?;
+            mailboxes.push(Mutex::new(Vec::new(alloc)))?;
         }
-        Some(MemoryLink {
+        Ok(MemoryLink {
             rt,
             alloc,
             mailboxes,

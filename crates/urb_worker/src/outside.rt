@@ -2,7 +2,7 @@
 
 ghost use Rattle.std.specs.Prelude.{◌≡◌, ◌<◌, ◌≤◌, ◌*◌, length, vec_len};
 
-use crate::stations::{SESSIONS, Station};
+use crate::stations::{SESSIONS, Station, rest};
 use crate::{NodeDesk, Outgoing, Stop, Ticket, receive, timer};
 use crossbeam_channel::Sender;
 use std::alloc::Global;
@@ -10,14 +10,10 @@ use std::net::{Net, TcpListener, TcpStream};
 use std::sync::Wait;
 use std::thread;
 use std::thread::{Scope, Threads};
-use std::time::{Clock, Duration};
+use std::time::Clock;
 use urb_client::session;
 use urb_names::NodeId;
 use urb_show::{HouseName, LogReader};
-
-// How long it waits after a connection that could not be taken, in milliseconds: as long as the process has no descriptor
-// left, each would be refused at once.
-const PAUSE: u64 = 10;
 
 /// Is asked to watch once a group runs: the group is stopped when it returns.
 pub trait Watch {
@@ -40,7 +36,8 @@ fn serve_client<K: HouseName, R: Wait>(
     let _ = answers.let_go();
 }
 
-// Serves one client of a node after the other, until the stop is set.
+// Serves one client of a node after the other, until the stop is set. It looks at the stop before each further wait, since a stop
+// wakes only those that wait then.
 fn accept<K: HouseName, R: Wait + Clock>(
     rt: &R,
     alloc: Global,
@@ -54,23 +51,23 @@ fn accept<K: HouseName, R: Wait + Clock>(
 {
     let mut desk = NodeDesk::new(rt, alloc, node, line, reader);
     for _ in rt.forever() {
-        let accepted = listener.accept();
-        if stop.is_set() {
-            break;
-        }
-        match accepted {
-            Ok((stream, _)) => {
+        match listener.accept() {
+            Ok((stream, _)) if !stop.is_set() => {
                 let _ = stream.set_nodelay(true);
                 serve_client(alloc, &stream, &mut desk);
             }
-            Err(_) => thread::sleep(rt, Duration::from_millis(PAUSE)),
+            Ok(_) => {}
+            Err(_) => rest(rt),
+        }
+        if stop.is_set() {
+            break;
         }
     }
 }
 
 // Hands the datagrams of the node of this number to its worker, until the stop is set. A closure that owns nothing can't hold
 // the node itself, whose type has an invariant.
-fn take_datagrams<K: HouseName, R: Wait>(
+fn take_datagrams<K: HouseName, R: Wait + Clock>(
     rt: &R,
     alloc: Global,
     stop: &Stop,

@@ -1,10 +1,12 @@
 //! The receiver: a node's datagrams, handed to its worker.
 
+use crate::stations::rest;
 use crate::{Job, Stop, Ticket};
 use crossbeam_channel::Sender;
 use std::alloc::Global;
 use std::net::UdpSocket;
 use std::sync::Wait;
+use std::time::Clock;
 use urb_names::NodeId;
 use urb_show::HouseName;
 
@@ -20,9 +22,23 @@ fn arrival<K: HouseName>(alloc: Global, node: NodeId, bytes: &[u8]) -> Option<Ti
     })
 }
 
+// Hands one datagram to a node's worker, and waits while the line has no room.
+fn hand_on<K: HouseName, R: Wait>(
+    rt: &R,
+    alloc: Global,
+    node: NodeId,
+    bytes: &[u8],
+    line: &Sender<Ticket<K>>,
+) {
+    if let Some(ticket) = arrival(alloc, node, bytes) {
+        let _ = line.send(rt, ticket);
+    }
+}
+
 /// Hands the datagrams of a socket to a node's worker, until the stop is set. It looks at the stop after each datagram, so an
-/// empty one wakes it. It waits while the line has no room; a datagram for which memory is refused is lost.
-pub fn receive<K: HouseName, R: Wait>(
+/// empty one wakes it. It waits while the line has no room; a datagram for which memory is refused is lost. After an error of the
+/// socket it rests for 10 milliseconds and goes on.
+pub fn receive<K: HouseName, R: Wait + Clock>(
     rt: &R,
     alloc: Global,
     stop: &Stop,
@@ -36,10 +52,9 @@ pub fn receive<K: HouseName, R: Wait>(
         if stop.is_set() {
             break;
         }
-        if let Ok((count, _)) = received
-            && let Some(ticket) = arrival(alloc, node, &room[..count])
-        {
-            let _ = line.send(rt, ticket);
+        match received {
+            Ok((count, _)) => hand_on(rt, alloc, node, &room[..count], line),
+            Err(_) => rest(rt),
         }
     }
 }

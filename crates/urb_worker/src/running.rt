@@ -4,9 +4,10 @@ ghost use Rattle.std.specs.Prelude.{◌≡◌, ◌<◌, ◌≤◌, ◌*◌, ◌+
 ghost use Rattle.urb_show.specs.Lists.{lists_in};
 ghost use Rattle.urb_worker.specs.Counting.{count_after};
 ghost use Rattle.urb_worker.specs.Served.{AreServed, each, numbers_from};
+ghost use Rattle.urb_worker.specs.declared.stations.TheConstants.{SESSIONS};
 
+use crate::looks::Looks;
 use crate::outside::run_outside;
-use crate::serving::looks_of;
 use crate::staff::{Seat, Worker, gather, start};
 use crate::{Hub, HubName, Station, Tally, Ticket, UdpLink, Watch};
 use crossbeam_channel::{Receiver, Sender};
@@ -124,7 +125,7 @@ fn hub_of<K: HouseName, L: HubName, R: Wait>(
     requires parts { (blank.parts ≡ L.parts) × (L.parts ≡ opened.group.size.n) }
     requires start { L.start ≡ 0 }
     ensures tallies { IfSome result (λ it. vec_len it.1 ≡ L.parts) }
-    ensures readers { IfSome result (λ it. length it.2.items ≡ 4 * L.parts) }
+    ensures readers { IfSome result (λ it. length it.2.items ≡ SESSIONS * L.parts) }
     ensures nodes { IfSome result (λ it. (L.parts ≡ length K.base) × (L.parts ≤ 7)) }
 {
     let (house, readers) = match opened.parts::<K, R>(rt, alloc) {
@@ -195,7 +196,7 @@ where
         stores,
         tallies,
     } = crew;
-    let looks = looks_of(rt, seats.len());
+    let looks = Looks::of(rt, seats.len());
     let (workers, lines) = start(scope, rt, alloc, hub, link, looks, seats, workers, lines);
     let whole = match lines {
         Some(lines) => run_outside(rt, alloc, millis, stations, lines, readers, watch),

@@ -3,14 +3,15 @@
 ghost use Rattle.std.specs.Prelude.{◌≡◌, ◌≤◌, [], MatchOption};
 ghost use Rattle.urb_node.specs.Replies.{packets_in};
 ghost use Rattle.urb_group.specs.Commands.{reply_of};
+ghost use Rattle.urb_worker.specs.Replies.{tells_record};
 ghost use Rattle.urb_worker.specs.Served.{IsLeftOf};
 
+use crate::looks::Looks;
 use crate::{Finished, Gate, Hub, HubName, Job, Link, Tally};
 use crossbeam_channel::{Receiver, Sender, TryRecvError};
 use std::alloc::Global;
 use std::sync::Wait;
 use std::thread;
-use std::thread::Threads;
 use urb_group::{Answer, Outbox, Reply};
 use urb_names::{NodeId, encode};
 use urb_show::HouseName;
@@ -48,21 +49,6 @@ fn packets_in(reply: &Reply) -> Option<&Outbox>
     }
 }
 
-// How often a worker looks for tickets behind a record that it stored, before it sleeps again. Where nobody else wants its
-// processor, so many looks take about as long as a record of another node takes.
-const LOOKS: u32 = 300;
-
-/// How often each of so many workers looks for tickets behind a record that it stored: not at all where the program has no more
-/// processors than that, since other threads would wait for those that look.
-pub(crate) fn looks_of<R: Threads>(rt: &R, workers: usize) -> u32
-    ensures { result ≤ 300 }
-{
-    match thread::available_parallelism(rt) {
-        Ok(processors) if workers < processors.get() => LOOKS,
-        _ => 0,
-    }
-}
-
 // A worker's next ticket; none once its channel has closed. Who was answered often asks again at once, other nodes answer a
 // record soon, and to wake a thread takes long: so a worker has some looks before it sleeps, and gives way to other threads
 // between two of them. What it doesn't need for one ticket is left for the next.
@@ -85,7 +71,9 @@ fn next_ticket<K: HouseName, R: Wait>(
 }
 
 // Whether a record was stored.
-fn is_stored(reply: &Reply) -> bool {
+fn is_stored(reply: &Reply) -> bool
+    ensures { result ≡ tells_record (reply_of reply.now) }
+{
     matches!(reply, Reply::Stored(_))
 }
 
@@ -120,10 +108,21 @@ pub fn serve_from<K: HouseName, L: HubName, S: Stable<Alloc = Global>, N: Link, 
 ) -> Tally<L>
     ensures { IsLeftOf S.Stable store.old store.new }
 {
-    serve_looking(rt, alloc, hub, node, store, jobs, link, gate, tally, 0)
+    serve_looking(
+        rt,
+        alloc,
+        hub,
+        node,
+        store,
+        jobs,
+        link,
+        gate,
+        tally,
+        Looks::none(),
+    )
 }
 
-/// The same by a worker that looks for tickets so often behind each record that it stored.
+/// The same by a worker that looks for tickets behind each record that it stored.
 #[tactic(auto, using(crate::proofs::Served::not_yet, crate::proofs::Served::one_turn))]
 pub(crate) fn serve_looking<
     K: HouseName,
@@ -142,20 +141,20 @@ pub(crate) fn serve_looking<
     link: &N,
     gate: &G,
     tally: Tally<L>,
-    most: u32,
+    looks: Looks,
 ) -> Tally<L>
     ensures { IsLeftOf S.Stable store.old store.new }
 {
     let mut tally = tally;
-    let mut looks = 0;
+    let mut left = 0;
     for _ in rt.forever() {
-        let Some(Ticket { job, answer }) = next_ticket(rt, &jobs, &mut looks) else {
+        let Some(Ticket { job, answer }) = next_ticket(rt, &jobs, &mut left) else {
             break;
         };
         let (finished, counted) = hub.work(rt, alloc, node, job, store, gate, tally);
         tally = counted;
         if is_stored(finished.reply()) {
-            looks = most;
+            left = looks.times();
         }
         if let Some(packets) = packets_in(finished.reply()) {
             send_all(alloc, link, packets);

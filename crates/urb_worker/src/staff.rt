@@ -1,8 +1,9 @@
 //! The workers of a group, each on a thread of its own: what they have, and what they leave.
 
 ghost use Rattle.std.specs.Prelude.{◌≡◌, ◌≤◌, IfSome, map, reverse, vec_len, vec_capacity};
-ghost use Rattle.urb_worker.specs.Served.{AreServed, IsLeftOf, each, in_either};
+ghost use Rattle.urb_worker.specs.Served.{AllThere, AreServed, IsLeftOf, each, in_either};
 
+use crate::looks::Looks;
 use crate::serving::serve_looking;
 use crate::{Hub, HubName, OpenGate, Tally, Ticket, UdpLink};
 use crossbeam_channel::{Receiver, Sender};
@@ -51,7 +52,7 @@ fn work_at<K: HouseName, L: HubName, S: Stable<Alloc = Global> + Drop, R: Wait>(
     alloc: Global,
     hub: &Hub<K, L>,
     link: &UdpLink,
-    looks: u32,
+    looks: Looks,
     seat: Seat<K, L, S>,
 ) -> (S, Tally<L>)
     ensures { IsLeftOf S.Stable seat.store result.0 }
@@ -68,8 +69,7 @@ fn work_at<K: HouseName, L: HubName, S: Stable<Alloc = Global> + Drop, R: Wait>(
     (store, tally)
 }
 
-/// Starts a worker a seat, the last seat first, each of which looks for tickets so often behind a record. Where a thread can't be
-/// made the lines are let go, so that every worker ends.
+/// Starts a worker a seat, the last seat first. Where a thread can't be made the lines are let go, so that every worker ends.
 pub(crate) fn start<
     's,
     E,
@@ -83,7 +83,7 @@ pub(crate) fn start<
     alloc: Global,
     hub: &'s Hub<K, L>,
     link: &'s UdpLink,
-    looks: u32,
+    looks: Looks,
     seats: Vec<Seat<K, L, S>>,
     workers: Vec<Worker<L, S>>,
     lines: Vec<Sender<Ticket<K>>>,
@@ -95,6 +95,8 @@ pub(crate) fn start<
         in_either worker (λ thread. thread.promise.0.value) (λ left. left.came.value))
         ≡ reverse (each seats.items (λ seat. seat.store)) }
     ensures lines { IfSome result.1 (λ kept. vec_len kept ≡ vec_len lines) }
+    // They are kept only where each worker has its thread: one without would have had to wait for their tickets.
+    ensures threads { IfSome result.1 (λ kept. AllThere result.0.items) }
 {
     let mut lines = Some(lines);
     let mut workers = workers;
@@ -107,6 +109,7 @@ pub(crate) fn start<
         match scope.spawn_with(LeavesIt(kept), work) {
             Ok(thread) => workers.push_reserved(Ok(thread)),
             Err(refused) => {
+                // The lines go first: this worker would wait for their tickets for ever.
                 lines = None;
                 let (store, tally) = (refused.value)();
                 workers.push_reserved(Err(Left { store, tally, came }));

@@ -2,12 +2,16 @@
 
 ghost use Rattle.std.specs.Prelude.{◌≡◌};
 
-use std::io;
 use std::net::{Ipv4Addr, Net, SocketAddr, TcpListener, TcpStream, UdpSocket};
-use std::time::Duration;
+use std::time::{Clock, Duration};
+use std::{io, thread};
+use urb_show::READERS;
 
-/// How many sessions of clients a node has at a time.
-pub const SESSIONS: usize = 4;
+/// How many sessions of clients a node has at a time: each reads with a reader of its own.
+pub const SESSIONS: usize = READERS;
+
+// How long a thread rests after an error of its socket, in milliseconds: as long as the cause stays, each try would fail at once.
+const REST: u64 = 10;
 
 // How long a connection that only wakes may take, in milliseconds. Where there is no room for it, others wait already.
 const PATIENCE: u64 = 200;
@@ -49,4 +53,9 @@ impl Station {
             let _ = TcpStream::connect_timeout(rt, &at, Duration::from_millis(PATIENCE));
         }
     }
+}
+
+/// Rests after an error of a socket, before it is tried again.
+pub(crate) fn rest<R: Clock>(rt: &R) {
+    thread::sleep(rt, Duration::from_millis(REST));
 }

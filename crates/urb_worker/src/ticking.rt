@@ -30,8 +30,8 @@ fn tick<K: HouseName>(node: NodeId) -> Ticket<K> {
     }
 }
 
-/// Sends each node's worker a tick every so many milliseconds, until the stop is set. The lines are those of the nodes 1, 2,
-/// ... A tick for which a line has no room is lost. It looks at the stop every 50 milliseconds.
+/// Sends each node's worker a tick every so many milliseconds, where 0 is taken as 1, until the stop is set. The lines are those of
+/// the nodes 1, 2, ... A tick for which a line has no room is lost. It looks at the stop every 50 milliseconds.
 pub fn timer<K: HouseName, R: Wait + Clock>(
     rt: &R,
     stop: &Stop,
@@ -39,7 +39,7 @@ pub fn timer<K: HouseName, R: Wait + Clock>(
     lines: &[Sender<Ticket<K>>],
 ) {
     for _ in rt.forever() {
-        if !pause(rt, stop, millis) {
+        if !pause(rt, stop, millis.max(1)) {
             break;
         }
         for (number, line) in (1u8..8).zip(lines) {

@@ -85,6 +85,8 @@ impl<A: Allocator + Copy> Desk for OneNode<A> {
 
     ghost answers = { λ _ _ _ _. Unit {0} };
 
+    ghost refuses = { λ _ _ _. Unit {0} };
+
     fn answer(&mut self, request: &Request<A>) -> Result<Response<A>, NoMemory> {
         match request {
             Request::Submit {

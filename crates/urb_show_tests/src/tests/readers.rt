@@ -5,7 +5,7 @@ use super::writer::{Board, News, ROUNDS};
 use std::alloc::Global;
 use std::sync::{Mutex, MutexGuard, Wait};
 use urb_group::NodeId;
-use urb_show::{HouseName, LogReader, Page};
+use urb_show::{HouseName, LogReader, Page, ReadFault};
 
 /// Whether a page from the first entry on has of each sender the numbers 1, 2, 3, .., each with its message.
 pub fn agrees(page: &Page) -> bool {
@@ -30,11 +30,21 @@ pub fn agrees(page: &Page) -> bool {
     page.total as usize == page.entries.len()
 }
 
+/// A node's list; read again where memory was refused.
+pub fn page_of<K: HouseName>(alloc: Global, reader: &mut LogReader<K>, node: NodeId) -> Option<Page>
+    requires { node ≤ length K.base }
+{
+    match reader.read(alloc, node, 1, 255) {
+        Err(ReadFault::NoMemory) => reader.read(alloc, node, 1, 255).ok(),
+        page => page.ok(),
+    }
+}
+
 // The length of a node's list, where its page agrees.
 fn length_of<K: HouseName>(alloc: Global, reader: &mut LogReader<K>, node: NodeId) -> Option<u32>
     requires { node ≤ length K.base }
 {
-    let page = reader.read(alloc, node, 1, 255).ok()?;
+    let page = page_of(alloc, reader, node)?;
     if agrees(&page) {
         Some(page.total)
     } else {
@@ -42,46 +52,53 @@ fn length_of<K: HouseName>(alloc: Global, reader: &mut LogReader<K>, node: NodeI
     }
 }
 
+// The length of each node's list, node 1's first, where their pages agree.
+fn lengths<K: HouseName>(alloc: Global, reader: &mut LogReader<K>) -> Option<[u32; 3]>
+    requires { 3 ≤ length K.base }
+{
+    let one = length_of(alloc, reader, NodeId::new(1).unwrap())?;
+    let two = length_of(alloc, reader, NodeId::new(2).unwrap())?;
+    let three = length_of(alloc, reader, NodeId::new(3).unwrap())?;
+    Some([one, two, three])
+}
+
 /// Whether each node's list has this length, and agrees.
 pub fn reads<K: HouseName>(alloc: Global, reader: &mut LogReader<K>, total: u32) -> bool
     requires { 3 ≤ length K.base }
 {
-    for number in 1..4u8 {
-        let node = NodeId::new(number).unwrap();
-        if length_of(alloc, reader, node) != Some(total) {
-            return false;
-        }
-    }
-    true
+    lengths(alloc, reader) == Some([total; 3])
 }
 
-// How many entries all lists have together, where their pages agree.
-fn sum_of<K: HouseName>(alloc: Global, reader: &mut LogReader<K>) -> Option<u32>
-    requires { 3 ≤ length K.base }
-{
-    let mut sum = 0u32;
-    for number in 1..4u8 {
-        let node = NodeId::new(number).unwrap();
-        sum = sum.saturating_add(length_of(alloc, reader, node)?);
-    }
-    Some(sum)
+// Whether the writer has ended. What it had settled by then is in each page that is read afterwards.
+fn has_ended<K: HouseName, R: Wait>(rt: &R, board: &Mutex<Board<K>>) -> bool {
+    let guard = board.lock(rt);
+    let ended = guard.has_ended();
+    MutexGuard::unlock(guard);
+    ended
 }
 
-/// Reads all nodes in turn until each list is whole. Whether all pages agreed, and no list became shorter.
-pub fn read_all<K: HouseName, R: Wait>(rt: &R, alloc: Global, reader: &mut LogReader<K>) -> bool
+/// Reads all nodes in turn until each list is whole, and once more after the writer has ended. Whether all pages agreed, no
+/// list became shorter, and each was whole in the end.
+pub fn read_all<K: HouseName, R: Wait>(
+    rt: &R,
+    alloc: Global,
+    reader: &mut LogReader<K>,
+    board: &Mutex<Board<K>>,
+) -> bool
     requires { 3 ≤ length K.base }
 {
-    let mut least = 0u32;
+    let mut before = [0u32; 3];
     for _ in rt.forever() {
-        let Some(sum) = sum_of(alloc, reader) else {
+        let ended = has_ended(rt, board);
+        let Some(after) = lengths(alloc, reader) else {
             return false;
         };
-        if sum < least {
+        if after[0] < before[0] || after[1] < before[1] || after[2] < before[2] {
             return false;
         }
-        least = sum;
-        if sum == 6 * ROUNDS {
-            return true;
+        before = after;
+        if ended || after == [2 * ROUNDS; 3] {
+            return after == [2 * ROUNDS; 3];
         }
     }
     unreachable!()
@@ -110,7 +127,8 @@ fn learns<K: HouseName>(alloc: Global, reader: &mut LogReader<K>, news: News<K>)
     }
 }
 
-/// Learns all that is settled. Whether it then read at least that, and pages that agree.
+/// Learns all that is settled. Whether it then read at least that, pages that agree, and whole lists in the end, which comes
+/// where the writer has ended and nothing is left to learn.
 pub fn learn_all<K: HouseName, R: Wait>(
     rt: &R,
     alloc: Global,
@@ -122,7 +140,7 @@ pub fn learn_all<K: HouseName, R: Wait>(
     for _ in rt.forever() {
         match next(rt, board) {
             (Some(news), _) => {
-                if !learns(alloc, reader, news) || sum_of(alloc, reader).is_none() {
+                if !learns(alloc, reader, news) || lengths(alloc, reader).is_none() {
                     return false;
                 }
             }

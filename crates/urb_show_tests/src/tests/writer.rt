@@ -38,6 +38,10 @@ impl<K: HouseName> Board<K> {
         (news, self.ended)
     }
 
+    pub fn has_ended(&self) -> bool {
+        self.ended
+    }
+
     fn post(&mut self, news: News<K>) -> bool {
         self.news.push(news).is_ok()
     }
@@ -131,8 +135,8 @@ fn settle<K: HouseName, R: Wait>(
     }
 }
 
-// A node's message is stored. The packets for the others are handed out.
-fn broadcast<K: HouseName>(
+/// A node's message is stored. The packets for the others are handed out.
+pub fn broadcast<K: HouseName>(
     alloc: Global,
     house: &mut House<K>,
     stores: &mut [MemStable],

@@ -84,7 +84,7 @@ fn served<K: HouseName + Send + Sync, L: HubName + Send + Sync, R: Threads + Wai
     requires start { L.start ≡ 0 }
 {
     let node = NodeId::new(1).unwrap();
-    let (Some(link), Ok((line, jobs))) = (
+    let (Ok(link), Ok((line, jobs))) = (
         MemoryLink::new(rt, alloc),
         crossbeam_channel::bounded(alloc, 64),
     ) else {

@@ -152,7 +152,7 @@ fn lines<K: HouseName, R: Wait>(
     rt: &R,
     alloc: Global,
 ) -> Option<(MemoryLink<'_, R>, Line<K>, Line<K>)> {
-    let link = MemoryLink::new(rt, alloc)?;
+    let link = MemoryLink::new(rt, alloc).ok()?;
     let first = crossbeam_channel::bounded(alloc, 64).ok()?;
     let second = crossbeam_channel::bounded(alloc, 64).ok()?;
     Some((link, first, second))

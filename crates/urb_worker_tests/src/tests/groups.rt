@@ -14,7 +14,7 @@ use std::thread;
 use std::thread::Threads;
 use std::time::{Clock, Duration};
 use urb_stable::MemStable;
-use urb_worker::{Station, UdpLink, Watch, run_group};
+use urb_worker::{SESSIONS, Station, UdpLink, Watch, run_group};
 
 // A submit of client 7's first message, `x`, and that it was accepted; and a bad length, by which a session ends, and its answer.
 const SUBMIT: &[u8] = b"\x00\x08\x01\x00\x07\x00\x00\x00\x01x\x00\x00";
@@ -117,11 +117,48 @@ fn accepts_one<R: Net<Listener = TcpListener, Stream = TcpStream>>(
     Some(answers(rt, alloc, stations.first()?, SUBMIT)?.as_slice() == ACCEPTED)
 }
 
+// Whether a node serves as many clients at once as it has sessions, each of which it tells how it is.
+fn serves_all_at_once<R: Net<Listener = TcpListener, Stream = TcpStream>>(
+    rt: &R,
+    alloc: Global,
+    station: &Station,
+) -> Option<bool> {
+    let mut streams = Vec::with_capacity(alloc, SESSIONS).ok()?;
+    for _i in 0..SESSIONS {
+        let mut stream = TcpStream::connect(rt, (Ipv4Addr::LOCALHOST, station.tcp_port)).ok()?;
+        stream
+            .set_read_timeout(Some(Duration::from_millis(10_000)))
+            .ok()?;
+        stream.write_all(b"\x00\x01\x03").ok()?;
+        stream.read_exact(&mut [0]).ok()?;
+        streams.push(stream).ok()?;
+    }
+    Some(streams.len() == SESSIONS)
+}
+
+// Has a node's listener answer errors for a while, then wait again, and says whether the node still serves all its clients.
+fn outlives_errors<R: Clock + Net<Listener = TcpListener, Stream = TcpStream>>(
+    rt: &R,
+    alloc: Global,
+    stations: &[Station],
+) -> Option<bool> {
+    let station = stations.first()?;
+    station.tcp.set_nonblocking(true).ok()?;
+    // Each thread that waits takes one connection more, and has errors then.
+    for _i in 0..SESSIONS {
+        break_off(rt, station, b"\x00\x01\x03", &mut [0])?;
+    }
+    thread::sleep(rt, Duration::from_millis(50));
+    station.tcp.set_nonblocking(false).ok()?;
+    serves_all_at_once(rt, alloc, station)
+}
+
 // What a client does with a group that runs.
 #[derive(Clone, Copy, Debug)]
 enum Course {
     SendsOne,
     BreaksOff,
+    HasErrors,
     SendsWhileOneIsDown,
 }
 
@@ -140,6 +177,7 @@ impl<'a, R: Clock + Net<Listener = TcpListener, Stream = TcpStream>> Watch for C
         let went_well = match self.course {
             Course::SendsOne => accepts_one(rt, alloc, stations),
             Course::BreaksOff => outlives_who_breaks_off(rt, alloc, stations),
+            Course::HasErrors => outlives_errors(rt, alloc, stations),
             Course::SendsWhileOneIsDown => comes_by_a_tick(rt, alloc, stations),
         };
         self.went_well = went_well == Some(true);
@@ -230,6 +268,13 @@ fn a_tick_brings_what_a_node_that_was_down_has_missed(rt: HostRuntime) -> Result
 #[test]
 fn clients_that_break_off_cost_no_thread(rt: HostRuntime) -> Result<(), Fail> {
     let (went_well, _) = came_of(&rt, rt.alloc(), 1, 20, Course::BreaksOff).ok_or("memory")?;
+    assert!(rt; went_well);
+    Ok(())
+}
+
+#[test]
+fn a_node_serves_on_after_errors_of_its_listener(rt: HostRuntime) -> Result<(), Fail> {
+    let (went_well, _) = came_of(&rt, rt.alloc(), 1, 20, Course::HasErrors).ok_or("memory")?;
     assert!(rt; went_well);
     Ok(())
 }

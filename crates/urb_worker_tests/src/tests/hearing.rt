@@ -126,7 +126,7 @@ fn played<K: HouseName, L: HubName, R: Wait>(
     requires parts { (blank.parts ≡ L.parts) × (L.parts ≡ 3) × (opened.group.size.n ≡ 3) }
     requires start { L.start ≡ 0 }
 {
-    let Some(link) = MemoryLink::new(rt, alloc) else {
+    let Ok(link) = MemoryLink::new(rt, alloc) else {
         drop(opened.close());
         return None;
     };

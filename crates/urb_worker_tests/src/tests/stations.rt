@@ -3,10 +3,7 @@
 use std::net::{Ipv4Addr, Net, TcpListener, TcpStream, UdpSocket};
 use std::test::Fail;
 use std::time::Duration;
-use urb_worker::Station;
-
-// How many connections a station's wake makes: one for each session.
-const SESSIONS: u8 = 4;
+use urb_worker::{SESSIONS, Station};
 
 // Whether a station's ports are those of its sockets, which listen at 127.0.0.1 and nowhere else: at another address of this
 // machine both ports are free.
@@ -25,7 +22,7 @@ fn is_at_loopback_alone<R: Net<Listener = TcpListener, Stream = TcpStream>>(
     )
 }
 
-// Whether a station has woken a receiver, by an empty datagram, and all that take sessions.
+// Whether a station has woken a receiver, by an empty datagram, and all that take sessions, by a connection each.
 fn has_woken(station: &Station) -> Option<bool> {
     let patience = Some(Duration::from_millis(10_000));
     station.udp.set_read_timeout(patience).ok()?;

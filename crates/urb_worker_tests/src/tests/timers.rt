@@ -10,9 +10,6 @@ use std::thread::Threads;
 use std::time::{Clock, Duration, Instant};
 use urb_worker::{Job, Stop, Ticket, timer};
 
-// How many milliseconds the timer waits from one tick to the next.
-const PAUSE: u32 = 20;
-
 // Whether a ticket is a tick of this node, which nobody waits for.
 fn is_tick_at(ticket: &Ticket<Brand>, number: u8) -> bool {
     matches!(ticket.job, Job::Tick(_))
@@ -40,9 +37,14 @@ fn are_ticks_at<R: Wait>(rt: &R, jobs: &Receiver<Ticket<Brand>>, number: u8) -> 
     are_ticks
 }
 
-// Whether each of two nodes gets two ticks of a timer and nothing else, and the timer ends once the stop is set; and how long
-// it took.
-fn ticks<R: Threads + Wait + Clock + Sync>(rt: &R, alloc: Global) -> Option<(bool, Duration)> {
+// Whether each of two nodes gets so many ticks of a timer and nothing else, where it has one every so many milliseconds, and the
+// timer ends once the stop is set; and how long it took.
+fn ticks<R: Threads + Wait + Clock + Sync>(
+    rt: &R,
+    alloc: Global,
+    millis: u32,
+    count: u8,
+) -> Option<(bool, Duration)> {
     let (first, first_jobs) = crossbeam_channel::bounded(alloc, 64).ok()?;
     let (second, second_jobs) = crossbeam_channel::bounded(alloc, 64).ok()?;
     let lines = vec![in alloc; first, second].ok()?;
@@ -52,10 +54,10 @@ fn ticks<R: Threads + Wait + Clock + Sync>(rt: &R, alloc: Global) -> Option<(boo
     let began = Instant::now(rt).ok()?;
     let ((), have_come) = thread::join(
         rt,
-        move || timer(rt, stop, PAUSE, lines),
+        move || timer(rt, stop, millis, lines),
         move || {
             let mut have_come = true;
-            for _i in 0..2u8 {
+            for _i in 0..count {
                 have_come = have_come
                     && is_next_at(rt, first_jobs, 1)
                     && is_next_at(rt, second_jobs, 2);
@@ -88,10 +90,18 @@ fn is_stopped<R: Threads + Wait + Clock + Sync>(rt: &R) -> bool {
 
 #[test]
 fn a_timer_ticks_at_each_node_in_its_time(rt: HostRuntime) -> Result<(), Fail> {
-    let (are_ticks, took) = ticks(&rt, rt.alloc()).ok_or("memory")?;
+    let (are_ticks, took) = ticks(&rt, rt.alloc(), 20, 2).ok_or("memory")?;
     assert!(rt; are_ticks);
-    // The second tick is two pauses off.
+    // The second tick is two times that off.
     assert!(rt; took >= Duration::from_millis(40));
+    Ok(())
+}
+
+#[test]
+fn a_timer_sleeps_where_no_time_is_told(rt: HostRuntime) -> Result<(), Fail> {
+    let (are_ticks, took) = ticks(&rt, rt.alloc(), 0, 100).ok_or("memory")?;
+    assert!(rt; are_ticks);
+    assert!(rt; took >= Duration::from_millis(100));
     Ok(())
 }
 

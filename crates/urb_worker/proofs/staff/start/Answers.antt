@@ -1,5 +1,5 @@
 use Rattle.std.proofs.Common.{rules}
-use Rattle.urb_worker.proofs.Served.{puts_down}
+use Rattle.urb_worker.proofs.Served.{puts_down, with_thread}
 use Rattle.urb_worker.proofs.staff.start.Goals as goal
 
 pub loop-seat-preserved-in-Ok-1 : goal.loop-seat-preserved-in-Ok-1
@@ -7,6 +7,7 @@ loop-seat-preserved-in-Ok-1 g c = record {
   all = search rules;
   room = search rules;
   lines = search rules;
+  threads = with_thread _ _ _ _ c.push_reserved.ensures.items c.loop-seat.invariant.threads;
   placed = puts_down _ _ _ _ _ _ _ _ _ c.push_reserved.ensures.items c.in-Some.ensures.items (search rules) c.loop-seat.invariant.placed;
 }
 
@@ -15,5 +16,6 @@ loop-seat-preserved g c = record {
   all = search rules;
   room = search rules;
   lines = tt;
+  threads = tt;
   placed = puts_down _ _ _ _ _ _ _ _ _ c.push_reserved-in-Err.ensures.items c.in-Some.ensures.items (search rules) c.loop-seat.invariant.placed;
 }
