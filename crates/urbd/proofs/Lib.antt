@@ -1,3 +1,4 @@
+mod Digits
 mod Emptied
 mod Building
 mod Parsing

@@ -2,6 +2,7 @@
 use Rattle.std.specs.Prelude.{◌≡◌, ◌⊎◌, ℕ, ℤ, pos, List, [], ◌∷◌, true, codes, Some}
 use Rattle.clap.specs.Words.{App, Rule, Text, new_app, new_rule, with_rule, with_subcommand, fault_of, Kinds, IsAmong}
 use Rattle.clap.specs.declared.builder.action.ArgAction.TheVariants.{Set}
+use Rattle.clap.specs.declared.builder.value_parser.ValueParser.{ValueParser}
 use Rattle.clap.specs.declared.builder.value_parser.ValueParser.TheVariants as vp
 use Rattle.clap.specs.declared.error.kind.ErrorKind.{ErrorKind}
 use Rattle.clap.specs.declared.error.kind.ErrorKind.TheVariants.{OutOfMemory, DisplayHelp}
@@ -10,13 +11,17 @@ use Rattle.clap.specs.declared.error.kind.ErrorKind.TheVariants.{OutOfMemory, Di
 abbrev pub place_rule : Text → Rule
 place_rule name = record (new_rule name) { required = true; action = Some Set }
 
--- a required option with any text
+-- a required option with a value that this parser takes
+abbrev pub option_rule : Text → ValueParser → Rule
+option_rule name parser = record (place_rule name) { long = Some name; parser = Some parser }
+
+-- a required option with any text, but not an empty one
 abbrev pub text_rule : Text → Rule
-text_rule name = record (place_rule name) { long = Some name }
+text_rule name = option_rule name vp.NonEmptyString
 
 -- a required option with a number from low to high
 abbrev pub number_rule : Text → ℤ → ℤ → Rule
-number_rule name low high = record (text_rule name) { parser = Some (vp.Signed low high) }
+number_rule name low high = option_rule name (vp.Signed low high)
 
 -- `replay` takes no words of its own
 abbrev pub replay_app : App

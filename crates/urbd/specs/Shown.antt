@@ -57,6 +57,10 @@ read_shown (said.Listing entries) = Some (listing_shown entries)
 read_shown (said.Refused number detail) = Some (refused_shown number detail)
 read_shown _ = None
 
+-- there is a response that is shown so
+abbrev pub IsShown : (Said → Option Shown) → Shown → Type 0
+IsShown shows shown = (answer : Said) × (shows answer ≡ Some shown)
+
 -- the bytes begin with a response that is shown so
 abbrev pub ShowsAs : (Said → Option Shown) → Shown → List ℕ → Type 0
 ShowsAs shows shown input = (answer : Said) × (rest : List ℕ) × (input ≡ encoding answer ++ rest) × (shows answer ≡ Some shown)

@@ -38,8 +38,8 @@ fn refused<R: Print + Eprint>(rt: &R, error: &Error) -> u8
 
 /// Reads a command line, of which the first word is the program's name. Of one that isn't the program's it prints the
 /// parser's text, to standard output for help that was asked for and else to standard error, and gives the status: 0 for
-/// that help, 3 for a mistake. Where memory is refused, or that help can't be written, it tells this fault, and the
-/// status is 1.
+/// that help, 3 for a mistake. Where memory is refused, that help can't be written, or what the parser found can't be read, it
+/// tells this fault, `no memory`, `write failed` or `read failed`, and the status is 1.
 pub fn line<'a, S: AsStr, R: Print + Eprint>(
     rt: &R,
     alloc: Global,

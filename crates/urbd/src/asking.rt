@@ -43,7 +43,7 @@ fn ask<S: Stable<Alloc = Global>>(alloc: Global, asking: &mut Asking<S>)
     asking.answer = asking.store.retrieve(alloc);
 }
 
-// Asks each store on a thread of its own.
+// Asks each store, on a thread of its own where one can be made.
 fn ask_all<S: Stable<Alloc = Global> + Send, R: Threads + Sync>(
     rt: &R,
     alloc: Global,

@@ -5,7 +5,8 @@ ghost use Rattle.std.specs.Io.KnownBytes.{Appends, Consumes};
 ghost use Rattle.urb_client.specs.Requests.{IsAsked, IsShort, Read as AskRead, Submit as AskSubmit, asked_by, request_body};
 ghost use Rattle.urb_client.specs.Responses.{encoding, frame, said_by};
 ghost use Rattle.urb_client.specs.Receiving.{HasNoResponse};
-ghost use Rattle.urbd.specs.Shown.{ShowsAs, ShowsNothing, read_shown, refused_shown, shown_by, submit_shown};
+ghost use Rattle.urbd.specs.Shown.{IsShown, ShowsAs, ShowsNothing, read_shown, refused_shown, shown_by, submit_shown};
+ghost use Rattle.urbd.specs.Statuses.{IsClientsEnd};
 
 use crate::faults::{Fault, tell};
 use crate::lines::{Reading, Submitting};
@@ -84,6 +85,7 @@ pub fn submit_over<R: Read, W: Write>(
     // What is shown is what the response says.
     ensures shown { IfOk result
         (λ shown. IfSome (R.remaining reader.old) (ShowsAs submit_shown (shown_by shown))) }
+    ensures response { IfOk result (λ shown. IsShown submit_shown (shown_by shown)) }
     ensures bad { result ≡ Err Fault.BadReply
         → IfSome (R.remaining reader.old) (ShowsNothing submit_shown) }
 {
@@ -108,6 +110,7 @@ pub fn read_over<R: Read, W: Write>(
     // What is shown is what the response says.
     ensures shown { IfOk result
         (λ shown. IfSome (R.remaining reader.old) (ShowsAs read_shown (shown_by shown))) }
+    ensures response { IfOk result (λ shown. IsShown read_shown (shown_by shown)) }
     ensures bad { result ≡ Err Fault.BadReply
         → IfSome (R.remaining reader.old) (ShowsNothing read_shown) }
 {
@@ -136,6 +139,9 @@ pub fn submit_at<R: Net<Listener = TcpListener, Stream = TcpStream>>(
     alloc: Global,
     submitting: Submitting<'_>,
 ) -> Result<Printed, Fault>
+    // What is shown is what a response to a submit says.
+    ensures response { IfOk result (λ shown. IsShown submit_shown (shown_by shown)) }
+    // Of a text that is too long it is the refusal.
     ensures long { MAX_PAYLOAD < length submitting.entry.text.now
         → IfOk result (λ shown. shown_by shown ≡ refused_shown 5 0) }
 {
@@ -152,7 +158,10 @@ pub fn read_at<R: Net<Listener = TcpListener, Stream = TcpStream>>(
     rt: &R,
     alloc: Global,
     reading: Reading,
-) -> Result<Printed, Fault> {
+) -> Result<Printed, Fault>
+    // What is shown is what a response to a read says.
+    ensures { IfOk result (λ shown. IsShown read_shown (shown_by shown)) }
+{
     let stream = connect(rt, reading.port)?;
     read_over(alloc, &mut &stream, &mut &stream, reading)
 }
@@ -176,7 +185,9 @@ pub fn show<R: Print + Eprint>(rt: &R, outcome: Result<Printed, Fault>) -> u8
 pub fn submit<R>(rt: &R, submitting: Submitting<'_>) -> u8
 where
     R: AllocGlobal + Print + Eprint + Net<Listener = TcpListener, Stream = TcpStream>,
-    ensures { result ≤ 4 }
+    ensures end { IsClientsEnd result }
+    // A text that is too long is never accepted.
+    ensures long { MAX_PAYLOAD < length submitting.entry.text.now → (result ≡ 1) ⊎ (result ≡ 4) }
 {
     show(rt, submit_at(rt, rt.alloc(), submitting))
 }
@@ -186,7 +197,7 @@ where
 pub fn read<R>(rt: &R, reading: Reading) -> u8
 where
     R: AllocGlobal + Print + Eprint + Net<Listener = TcpListener, Stream = TcpStream>,
-    ensures { result ≤ 4 }
+    ensures { IsClientsEnd result }
 {
     show(rt, read_at(rt, rt.alloc(), reading))
 }

@@ -22,7 +22,7 @@ fn number_option<'a>(alloc: Global, name: &'a str, help: &'a str, low: i64, high
         .value_parser(ValueParser::signed(low, high))
 }
 
-// A required option whose value is any text.
+// A required option whose value is any text, but not an empty one.
 fn text_option<'a>(alloc: Global, name: &'a str, help: &'a str) -> Arg<'a>
     ensures rule { rule_of result ≡ text_rule name.entry.now }
     ensures own { result.global ≡ false }
@@ -32,6 +32,7 @@ fn text_option<'a>(alloc: Global, name: &'a str, help: &'a str) -> Arg<'a>
         .help(help)
         .required(true)
         .action(ArgAction::Set)
+        .value_parser(ValueParser::NonEmptyString)
 }
 
 // A required word at its place, of any text.

@@ -117,6 +117,7 @@ where
 }
 
 /// Tells how a run has ended, and gives the program's status: `closed E` with the count of events and 0, or the fault and 1.
+/// A `closed E` that can't be printed is `write failed` and 1, though the group has stopped in order and nothing is lost.
 pub fn tell_end<R: Print + Eprint>(rt: &R, ended: Result<u64, Fault>) -> u8
     ensures low { result ≤ 1 }
     ensures fault { IfErr ended (λ why. result ≡ 1) }

@@ -14,7 +14,7 @@ pub enum Fault {
     /// Standard input, the command line, or what a node sent could not be read.
     #[error("read failed")]
     Read,
-    /// Standard output could not be written, or nothing sent to a node.
+    /// Standard output or a request to a node could not be written: nothing, a part or the whole of it may have gone out.
     #[error("write failed")]
     Write,
     /// Memory was refused, or a thread.
@@ -26,7 +26,8 @@ pub enum Fault {
     /// What a node sent is no response to what was asked.
     #[error("bad reply")]
     BadReply,
-    /// What the journals hold was refused: the number of the refusal, and its detail.
+    /// A journal could not be opened, or what they hold was refused: the number of the refusal, and its detail. 15 also stands for
+    /// a folder that is missing, and for a journal that another program has in use.
     #[error("refused {0} {1}")]
     Refused(u8, u32),
 }

@@ -9,13 +9,15 @@ ghost use Rattle.urbd.specs.Openers.{AreOpened, FailsAtFirst};
 ghost use Rattle.urbd.specs.Statuses.{fault_of_refusal};
 
 use crate::faults::Fault;
-use crate::journals::Journal;
+use crate::journals::{FileId, Journal};
 use crate::openers::{Opener, close_all, open_all};
 use crate::serving::Serving;
 use sqlite::Start;
 use sqlite_disk::Disk;
 use std::alloc::Global;
+use std::fs;
 use std::marker::Brand;
+use std::os::unix::fs::MetadataExt;
 use std::rt::HostRuntime;
 use std::thread::Threads;
 use urb_names::NodeId;
@@ -39,6 +41,16 @@ fn node_at(place: usize) -> Option<NodeId>
     NodeId::new(u8::try_from(place.checked_add(1)?).ok()?)
 }
 
+// Which file has the name of a node's journal in this folder; none where none has.
+fn file_of(rt: &HostRuntime, dir: &str, node: NodeId) -> Option<FileId> {
+    let path = format!(in rt.alloc(); "{dir}/node-{}.db", node.number()).ok()?;
+    let found = fs::metadata(rt, path.as_str()).ok()?;
+    Some(FileId {
+        device: found.dev(),
+        number: found.ino(),
+    })
+}
+
 // Opens the journal of the node at this place, where `K` stands for what the nodes' files hold.
 fn open_at<K: Contents>(
     rt: &HostRuntime,
@@ -58,7 +70,14 @@ fn open_at<K: Contents>(
         return Err(StoreFault::Device);
     };
     let journal = open_node_in::<K>(rt, dir, node)?;
-    Ok(Journal { node, journal })
+    match file_of(rt, dir, node) {
+        Some(file) => Ok(Journal {
+            node,
+            file,
+            journal,
+        }),
+        None => Err(StoreFault::Device),
+    }
 }
 
 impl Opener<FileJournal<Brand>> for Folder<'_> {
@@ -73,9 +92,13 @@ impl Opener<FileJournal<Brand>> for Folder<'_> {
         open_at::<Brand>(self.rt, self.dir, place)
     }
 
+    // It closes a journal by its name, and so only where this still leads to its file. Else the log beside the file of that name
+    // is another's; a journal that is dropped loses nothing.
     fn close(&self, journal: FileJournal<Brand>) {
-        let (node, journal) = journal.into_parts();
-        let _ = close_node_in(self.rt, self.dir, node, journal);
+        let (node, file, journal) = journal.into_parts();
+        if file_of(self.rt, self.dir, node) == Some(file) {
+            let _ = close_node_in(self.rt, self.dir, node, journal);
+        }
     }
 }
 
@@ -123,8 +146,8 @@ pub fn open_journals<R: Threads + Sync>(
     }
 }
 
-/// Closes the journals that `open_journals` opened, so that one file is left of each. One that can't be closed has lost
-/// nothing: its next opening reads what is in its log.
+/// Closes the journals that `open_journals` opened, so that one file is left of each. One that can't be closed, or whose name
+/// leads to another file by now, has lost nothing: its next opening reads what is in its log.
 pub fn close_journals(rt: &HostRuntime, serving: Serving<'_>, journals: Vec<FileJournal<Brand>>) {
     let folder = Folder {
         rt,

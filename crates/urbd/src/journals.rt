@@ -17,11 +17,20 @@ use urb_names::NodeId;
 use urb_sqlite::SqlStable;
 use urb_stable::{Record, Stable, StoreFault};
 
+/// Which file has a name: its device, and its number there.
+#[derive(Clone, Copy, Debug, PartialEq, Eq)]
+pub struct FileId {
+    pub device: u64,
+    pub number: u64,
+}
+
 /// A node's journal in files of this kind, under a name of its own: so that who passes it on to a thread proves nothing of a
 /// database.
 pub struct Journal<D: Disk> {
     /// Whose it is.
     pub node: NodeId,
+    /// The file that had its name as it was opened.
+    pub file: FileId,
     /// The journal itself.
     pub journal: SqlStable<FileStore<D>>,
 }
@@ -30,18 +39,23 @@ impl<D: Disk + Drop> Drop for Journal<D> {
     fn drop(self) {
         let Journal {
             node: _,
+            file: _,
             journal: _,
         } = self;
     }
 }
 
 impl<D: Disk> Journal<D> {
-    /// Whose it is, and the journal without that name.
-    pub fn into_parts(self) -> (NodeId, SqlStable<FileStore<D>>)
-        ensures { (result.0 ≡ self.node) × (result.1 ≡ self.journal) }
+    /// Whose it is, which file it is in, and the journal without these names.
+    pub fn into_parts(self) -> (NodeId, FileId, SqlStable<FileStore<D>>)
+        ensures { (result.0 ≡ self.node) × (result.1 ≡ self.file) × (result.2 ≡ self.journal) }
     {
-        let Journal { node, journal } = self;
-        (node, journal)
+        let Journal {
+            node,
+            file,
+            journal,
+        } = self;
+        (node, file, journal)
     }
 }
 

@@ -11,9 +11,9 @@ pub struct Submitting<'a> {
     pub port: u16,
     /// The client's number, from 1.
     pub client: u16,
-    /// Which of the client's messages it is.
+    /// Which of the client's messages it is: 0 to 4,294,967,295, the first one 1. A node refuses 0 as a gap.
     pub number: u32,
-    /// The message.
+    /// The message. One over 16,384 bytes is refused before it is sent.
     pub text: &'a str,
     ghost within: { (0 < port) × (0 < client) },
 }

@@ -1,8 +1,8 @@
 //! The program `urbd`: logged uniform FIFO broadcast, by its command line.
 #![tactic(auto)]
 
-ghost use Rattle.std.specs.Prelude.{◌≡◌, ◌≤◌};
-ghost use Rattle.urbd.specs.Statuses.{status_of};
+ghost use Rattle.std.specs.Prelude.{◌≡◌};
+ghost use Rattle.urbd.specs.Statuses.{IsErrandsEnd, status_of};
 
 mod arguments;
 mod asking;
@@ -23,6 +23,7 @@ mod printing;
 mod replaying;
 mod serving;
 mod sockets;
+mod streams;
 mod values;
 
 use crate::arguments::{line, words};
@@ -34,6 +35,7 @@ use crate::files::{close_journals, open_journals};
 use crate::journals::run_journals;
 use crate::lines::{Errand, Line};
 use crate::replaying::replay;
+use crate::streams::Streams;
 use std::net::{Net, TcpListener, TcpStream};
 use std::process::ExitCode;
 use urb_script::{Ended, RunFault};
@@ -56,7 +58,7 @@ fn finish<R: Eprint>(rt: &R, outcome: Result<Ended, RunFault>) -> u8
 fn run_errand<R>(rt: &R, errand: Errand<'_>) -> u8
 where
     R: AllocGlobal + Print + Eprint + Input + Net<Listener = TcpListener, Stream = TcpStream>,
-    ensures { result ≤ 4 }
+    ensures { IsErrandsEnd errand.entry result }
 {
     match errand {
         Errand::Replay => finish(rt, replay(rt)),
@@ -66,6 +68,7 @@ where
 }
 
 fn main(rt: HostRuntime) -> ExitCode {
+    let _streams = Streams::take(&rt);
     let words = match words(&rt) {
         Ok(words) => words,
         Err(status) => return ExitCode::from(status),

@@ -1,4 +1,4 @@
-//! What is opened side by side, each at its place, on a thread of its own.
+//! What is opened side by side, each at its place, on a thread of its own where one can be made.
 
 ghost use Rattle.std.specs.Prelude.{◌≡◌, ◌⊎◌, ℕ, Result, IfErr, IfOk, IfSome, length, vec_len};
 ghost use Rattle.urb_stable.specs.declared.stable.StoreFault.{StoreFault as Fault};
@@ -10,7 +10,7 @@ use std::thread;
 use std::thread::Threads;
 use urb_stable::StoreFault;
 
-/// Opens what belongs at a place, the first at 0: for several places at once, each on a thread of its own.
+/// Opens what belongs at a place, the first at 0: for several places at once, each on a thread of its own where one can be made.
 pub trait Opener<J> {
     /// What the opening of a place comes to.
     ghost opens: { Self → ℕ → Result J Fault → Type 0 };
@@ -34,7 +34,7 @@ fn unopened<J: Drop>(alloc: Global, count: usize) -> Option<Outcomes<J>>
     Some(outcomes)
 }
 
-// Opens each place on a thread of its own.
+// Opens each place, on a thread of its own where one can be made.
 fn open_each<J: Send + Drop, O: Opener<J> + Sync, R: Threads + Sync>(
     rt: &R,
     opener: &O,

@@ -1,6 +1,6 @@
 //! What a command of a client prints.
 
-ghost use Rattle.std.specs.Prelude.{◌≤◌};
+ghost use Rattle.std.specs.Prelude.{◌≡◌, ◌==◌, ◌||◌, true};
 
 /// A text for standard output, and the program's status behind it.
 #[derive(Drop)]
@@ -9,5 +9,5 @@ pub struct Printed {
     pub text: Vec<u8>,
     /// 0 where it was done, and 4 where it was refused.
     pub status: u8,
-    ghost low: { status ≤ 4 },
+    ghost end: { (status == 0 || status == 4) ≡ true },
 }

@@ -1,8 +1,8 @@
 //! What the commands of a client print, by the response.
 
-ghost use Rattle.std.specs.Prelude.{◌≡◌, ◌<◌, ◌++◌, ◌∷◌, [], ◌/◌, ◌%◌, IfOk, OnOk, flat_map, option_map};
+ghost use Rattle.std.specs.Prelude.{◌≡◌, ◌++◌, IfOk, OnOk, flat_map, option_map};
 ghost use Rattle.urb_client.specs.Responses.{said_by};
-ghost use Rattle.urbd.specs.Shown.{accepted_shown, entry_line, hex_byte, hex_digit, hex_payload, listing_shown, read_shown, refused_shown, shown_by, submit_shown};
+ghost use Rattle.urbd.specs.Shown.{accepted_shown, entry_line, hex_payload, listing_shown, read_shown, refused_shown, shown_by, submit_shown};
 
 use crate::printed::Printed;
 use std::alloc::Global;
@@ -13,66 +13,42 @@ use urb_names::{Message, Name, NoMemory};
 /// The status where a node refused what was asked.
 const REFUSED: u8 = 4;
 
-// A digit, as a lower-case letter from ten on.
-fn hex_digit(digit: u8) -> u8
-    requires { digit < 16 }
-    ensures { result ≡ hex_digit digit }
-{
-    if digit < 10 {
-        b'0' + digit
-    } else {
-        b'a' - 10 + digit
-    }
-}
-
-// Writes the two digits of a byte.
-fn push_byte(text: &mut Vec<u8>, byte: u8) -> Result<(), NoMemory>
-    ensures { OnOk result (text.new.items ≡ text.old.items ++ hex_byte byte) }
-{
-    text.extend_from_slice(&[hex_digit(byte / 16), hex_digit(byte % 16)])?;
-    Ok(())
-}
-
-// Writes the digits of bytes.
-fn push_bytes(text: &mut Vec<u8>, bytes: &[u8]) -> Result<(), NoMemory>
-    ensures { OnOk result (text.new.items ≡ text.old.items ++ flat_map hex_byte bytes.now) }
-{
-    for byte in bytes {
-        push_byte(text, *byte)?;
-    }
-    Ok(())
-}
-
 // Writes a payload: its digits, or a hyphen where it has none.
-fn push_payload(text: &mut Vec<u8>, payload: &[u8]) -> Result<(), NoMemory>
+fn push_payload(alloc: Global, text: &mut Vec<u8>, payload: &[u8]) -> Result<(), NoMemory>
     ensures { OnOk result (text.new.items ≡ text.old.items ++ hex_payload payload.now) }
 {
     if payload.is_empty() {
         text.push(b'-')?;
         return Ok(());
     }
-    push_bytes(text, payload)
+    let digits = hex::encode(alloc, payload)?;
+    text.extend_from_slice(digits.as_bytes())?;
+    Ok(())
 }
 
 // Writes the line of an entry.
-fn push_entry(text: &mut Vec<u8>, entry: &(Name, Message)) -> Result<(), NoMemory>
+fn push_entry(alloc: Global, text: &mut Vec<u8>, entry: &(Name, Message)) -> Result<(), NoMemory>
     ensures { OnOk result (text.new.items ≡ text.old.items ++ entry_line entry.now) }
 {
     let (name, message) = entry;
     let (sender, seq) = (name.sender.number(), name.seq);
     let (client, number) = (message.client().number(), message.number());
     write!(text, "{sender}.{seq} {client} {number} ").map_err(|_| NoMemory)?;
-    push_payload(text, message.payload())?;
+    push_payload(alloc, text, message.payload())?;
     text.push(b'\n')?;
     Ok(())
 }
 
 // Writes the lines of entries.
-fn push_entries(text: &mut Vec<u8>, entries: &[(Name, Message)]) -> Result<(), NoMemory>
+fn push_entries(
+    alloc: Global,
+    text: &mut Vec<u8>,
+    entries: &[(Name, Message)],
+) -> Result<(), NoMemory>
     ensures { OnOk result (text.new.items ≡ text.old.items ++ flat_map entry_line entries.now) }
 {
     for entry in entries {
-        push_entry(text, entry)?;
+        push_entry(alloc, text, entry)?;
     }
     Ok(())
 }
@@ -81,7 +57,7 @@ fn listed(alloc: Global, entries: &[(Name, Message)]) -> Result<Printed, NoMemor
     ensures { IfOk result (λ shown. shown_by shown ≡ listing_shown entries.now) }
 {
     let mut text = Vec::new(alloc);
-    push_entries(&mut text, entries)?;
+    push_entries(alloc, &mut text, entries)?;
     Ok(Printed { text, status: 0 })
 }
 

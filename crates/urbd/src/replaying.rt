@@ -5,7 +5,7 @@ use urb_script::{Ended, RunFault, run};
 use urb_worker::Outgoing;
 
 /// Runs a script from standard input to standard output. Answers go out before an input that may wait is read, and not one
-/// by one where more lines are at hand.
+/// by one where more lines are at hand. `NoMemory` may come before anything was read.
 pub fn replay<R: AllocGlobal + Print + Input>(rt: &R) -> Result<Ended, RunFault> {
     let Ok(answers) = Outgoing::new(rt.alloc(), io::writer(rt)) else {
         return Err(RunFault::NoMemory);

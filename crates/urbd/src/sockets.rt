@@ -1,12 +1,13 @@
 //! The sockets of a group: a station for each node, and the link to all of them.
 
-ghost use Rattle.std.specs.Prelude.{◌≡◌, ◌≤◌, IfErr, IfOk, map, vec_capacity, vec_len};
+ghost use Rattle.std.specs.Prelude.{◌≡◌, ◌≤◌, ◌+◌, ◌*◌, IfErr, IfOk, map, vec_capacity, vec_len};
+ghost use Rattle.urb_worker.specs.declared.stations.TheConstants.{SESSIONS};
 ghost use Rattle.urbd.specs.Runs.{IsOfSockets};
 
 use crate::faults::Fault;
 use std::alloc::Global;
 use std::net::{Ipv4Addr, Net, TcpListener, TcpStream, UdpSocket};
-use urb_worker::{Station, UdpLink};
+use urb_worker::{SESSIONS, Station, UdpLink};
 
 // The stations of so many nodes, in their order.
 fn open_stations<R: Net<Listener = TcpListener, Stream = TcpStream>>(
@@ -49,8 +50,30 @@ pub fn link_to<R: Net<Listener = TcpListener, Stream = TcpStream>>(
     }
 }
 
+// As many sockets more as so many nodes take descriptors while they run: one a client, and one by which a stop wakes them. Where they
+// can be opened and are closed again, no client waits for a descriptor, and a stop can wake everybody.
+fn spare_sockets<R: Net<Listener = TcpListener, Stream = TcpStream>>(
+    rt: &R,
+    alloc: Global,
+    nodes: u8,
+) -> Result<Vec<UdpSocket>, Fault>
+    requires { nodes ≤ 7 }
+    ensures count { IfOk result (λ sockets. vec_len sockets ≡ SESSIONS * nodes + 1) }
+    ensures fault { IfErr result IsOfSockets }
+{
+    let count = SESSIONS * usize::from(nodes) + 1;
+    let mut sockets = Vec::with_capacity(alloc, count)?;
+    for _i in 0..count {
+        match UdpSocket::bind(rt, (Ipv4Addr::LOCALHOST, 0)) {
+            Ok(socket) => sockets.push_reserved(socket),
+            Err(_) => return Err(Fault::Network),
+        }
+    }
+    Ok(sockets)
+}
+
 /// The stations of so many nodes, node P's at the ports base + P and base + 10 + P, and the link to them. The first port that
-/// can't be had ends it, and nothing stays open.
+/// can't be had ends it, and so do descriptors that are too few for the nodes' clients; nothing stays open then.
 pub fn open_sockets<R: Net<Listener = TcpListener, Stream = TcpStream>>(
     rt: &R,
     alloc: Global,
@@ -65,5 +88,6 @@ pub fn open_sockets<R: Net<Listener = TcpListener, Stream = TcpStream>>(
 {
     let stations = open_stations(rt, alloc, nodes, base)?;
     let link = link_to(rt, alloc, stations.as_slice())?;
+    drop(spare_sockets(rt, alloc, nodes)?);
     Ok((stations, link))
 }

@@ -2,6 +2,8 @@
 
 mod clients;
 mod consoles;
+mod errands;
+mod folders;
 mod groups;
 mod lines;
 mod openings;

@@ -79,8 +79,14 @@ fn stores(alloc: Global, nodes: u8) -> Option<Vec<MemStable>>
     Some(all)
 }
 
-// Runs a new group, whose nodes resend every 20 milliseconds, while the watch asks it. The count of its events.
-fn events_of<R, W: Watch>(rt: &R, alloc: Global, nodes: u8, watch: &mut W) -> Option<u64>
+// Runs a new group, whose nodes resend every so many milliseconds, while the watch asks it. The count of its events.
+pub(super) fn events_of<R, W: Watch>(
+    rt: &R,
+    alloc: Global,
+    nodes: u8,
+    millis: u32,
+    watch: &mut W,
+) -> Option<u64>
 where
     R: Host + Net<Listener = TcpListener, Stream = TcpStream>,
     requires { (0 < nodes) × (nodes ≤ 7) }
@@ -91,7 +97,7 @@ where
     let link = link_to(rt, alloc, stations).ok()?;
     let stores = stores(alloc, nodes)?;
     let group = Group::new(alloc, config).ok()?;
-    let (_, events) = run_opened(rt, alloc, group, stations, &link, 20, stores, watch);
+    let (_, events) = run_opened(rt, alloc, group, stations, &link, millis, stores, watch);
     events
 }
 
@@ -160,7 +166,7 @@ fn four_sessions_of_a_node_are_answered_at_once(rt: HostRuntime) -> Result<(), F
         alloc: rt.alloc(),
         are_answered: false,
     };
-    let events = events_of(&rt, rt.alloc(), 1, &mut clients);
+    let events = events_of(&rt, rt.alloc(), 1, 20, &mut clients);
     assert!(rt; clients.are_answered);
     assert!(rt; events.is_some());
     Ok(())
@@ -173,26 +179,25 @@ fn is_alone<R: Net<Listener = TcpListener, Stream = TcpStream>>(rt: &R, station:
         && TcpListener::bind(rt, (other, station.tcp_port)).is_ok()
 }
 
-// Whether the stations above this base are those of their nodes, and can't be had twice; none where a port is in use.
+// Whether the stations of seven nodes above this base are those of their nodes, and can't be had twice; none where a port is in
+// use.
 fn are_of_their_nodes<R: Net<Listener = TcpListener, Stream = TcpStream>>(
     rt: &R,
     alloc: Global,
     base: u16,
 ) -> Option<bool> {
-    let serving = Serving::new(2, 1, ".", base, 1)?;
+    let serving = Serving::new(7, 1, ".", base, 1)?;
     let base = serving.base;
     let (stations, _link) = open_sockets(rt, alloc, serving.nodes, base).ok()?;
-    let [first, second] = stations.as_slice() else {
-        return None;
-    };
     let again = open_sockets(rt, alloc, serving.nodes, base);
-    Some(
-        (first.udp_port, first.tcp_port) == (base + 1, base + 11)
-            && (second.udp_port, second.tcp_port) == (base + 2, base + 12)
-            && is_alone(rt, first)
-            && is_alone(rt, second)
-            && again.err() == Some(Fault::Network),
-    )
+    let mut are = stations.len() == 7 && again.err() == Some(Fault::Network);
+    for node in 1..8u16 {
+        let station = stations.get(usize::from(node) - 1)?;
+        are = are
+            && (station.udp_port, station.tcp_port) == (base + node, base + 10 + node)
+            && is_alone(rt, station);
+    }
+    Some(are)
 }
 
 #[test]
@@ -213,7 +218,7 @@ fn a_session_over_tcp_is_answered(rt: HostRuntime) -> Result<(), Fail> {
         alloc: rt.alloc(),
         is_answered: false,
     };
-    let events = events_of(&rt, rt.alloc(), 1, &mut client);
+    let events = events_of(&rt, rt.alloc(), 1, 20, &mut client);
     assert!(rt; client.is_answered);
     assert!(rt; events.is_some());
     Ok(())
@@ -327,7 +332,7 @@ fn three_nodes_over_udp_agree(rt: HostRuntime) -> Result<(), Fail> {
         alloc: rt.alloc(),
         have_agreed: false,
     };
-    let events = events_of(&rt, rt.alloc(), 3, &mut clients).ok_or("memory")?;
+    let events = events_of(&rt, rt.alloc(), 3, 20, &mut clients).ok_or("memory")?;
     assert!(rt; clients.have_agreed);
     // Each of thirty messages is at each node at least an arrival or a submit and a store, and at its own two more.
     assert!(rt; events >= 240);

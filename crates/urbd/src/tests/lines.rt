@@ -183,6 +183,9 @@ fn each_option_stands_once(rt: HostRuntime) -> Result<(), Fail> {
             assert_eq!(rt; status_of(rt.alloc(), twice.as_slice()), Some(3), "{at}");
         }
     }
+    // A folder has a name.
+    let nowhere = changed(rt.alloc(), &SERVE, 7, b"")?;
+    assert_eq!(rt; status_of(rt.alloc(), nowhere.as_slice()), Some(3));
     // The text of a submit is wanted too, and is one word.
     assert_eq!(rt; status_of(rt.alloc(), &SUBMIT[..8]), Some(3));
     let two = changed(rt.alloc(), &SUBMIT, 7, b"1 2")?;

@@ -1,12 +1,16 @@
 //! Runs of a group over stores in memory, from their opening to what comes back of them.
 
 use super::{new_terminal, what_it_shows};
+use crate::clients::submit_at;
 use crate::console::Console;
-use crate::daemon::run_over;
+use crate::daemon::{run_over, tell_end};
 use crate::faults::Fault;
 use crate::host::Host;
+use crate::lines::Submitting;
 use crate::serving::Serving;
 use std::alloc::Global;
+use std::io;
+use std::io::Read;
 use std::net::{Net, TcpListener, TcpStream};
 use std::test::Fail;
 use urb_group::{MemStable, Record, Stable, StoreFault};
@@ -105,23 +109,63 @@ struct Ran<J: Drop> {
     shown: Vec<u8>,
 }
 
-// A run over these stores, at the ports above this base. Its input has ended before it begins.
+/// How a run goes: whether its output can be written, how many milliseconds lie between two ticks, and whether a client submits a
+/// message at node 1 before its input ends.
+#[derive(Clone, Copy)]
+struct Course {
+    open: bool,
+    millis: u32,
+    submits: bool,
+}
+
+/// An input that has ended by its first read. Where it has a port, a client submits a message there before.
+#[derive(Drop)]
+struct Client<'a, R: Net<Listener = TcpListener, Stream = TcpStream>> {
+    rt: &'a R,
+    alloc: Global,
+    port: Option<u16>,
+}
+
+impl<'a, R: Net<Listener = TcpListener, Stream = TcpStream>> Read for Client<'a, R> {
+    fn read(&mut self, _buf: &mut [u8]) -> io::Result<usize> {
+        if let Some(port) = self.port
+            && 0 < port
+        {
+            let submitting = Submitting {
+                port,
+                client: 7,
+                number: 1,
+                text: "hi",
+            };
+            let _ = submit_at(self.rt, self.alloc, submitting);
+        }
+        Ok(0)
+    }
+}
+
+// A run over these stores, at the ports above this base.
 fn run_at<J: Stable<Alloc = Global> + Send + Drop, R>(
     rt: &R,
     alloc: Global,
     stores: Vec<J>,
     base: u16,
-    open: bool,
+    course: Course,
 ) -> Option<Ran<J>>
 where
     R: Host + Net<Listener = TcpListener, Stream = TcpStream>,
 {
-    let serving = Serving::new(u8::try_from(stores.len()).ok()?, 100, ".", base, 20)?;
+    let nodes = u8::try_from(stores.len()).ok()?;
+    let serving = Serving::new(nodes, 100, ".", base, course.millis)?;
     if stores.len() != usize::from(serving.nodes) {
         return None;
     }
-    let terminal = new_terminal(alloc, &[], b"", open);
-    let mut console = Console::new(&terminal, b"".as_slice());
+    let port = if course.submits {
+        Some(serving.base + 11)
+    } else {
+        None
+    };
+    let terminal = new_terminal(alloc, &[], b"", course.open);
+    let mut console = Console::new(&terminal, Client { rt, alloc, port });
     let (stores, ended) = run_over(rt, alloc, serving, stores, &mut console);
     drop(console);
     Some(Ran {
@@ -136,14 +180,14 @@ fn run<J: Stable<Alloc = Global> + Send + Drop, R>(
     rt: &R,
     alloc: Global,
     stores: Vec<J>,
-    open: bool,
+    course: Course,
 ) -> Option<Ran<J>>
 where
     R: Host + Net<Listener = TcpListener, Stream = TcpStream>,
 {
     let mut stores = stores;
     for base in [21_310, 24_870, 28_430, 31_090] {
-        let ran = run_at(rt, alloc, stores, base, open)?;
+        let ran = run_at(rt, alloc, stores, base, course)?;
         if ran.ended != Err(Fault::Network) {
             return Some(ran);
         }
@@ -163,7 +207,12 @@ fn the_stores_of_a_run_come_back_in_their_order(rt: HostRuntime) -> Result<(), F
         (&[1, 1], true, b"", Some(Fault::Refused(14, 0))),
     ] {
         let stores = stores_of(alloc, numbers).ok_or("memory")?;
-        let mut ran = run(&rt, alloc, stores, open).ok_or("memory")?;
+        let course = Course {
+            open,
+            millis: 20,
+            submits: false,
+        };
+        let mut ran = run(&rt, alloc, stores, course).ok_or("memory")?;
         assert_eq!(rt; ran.ended.err(), fault);
         assert_eq!(rt; ran.shown.as_slice(), shown);
         assert!(rt; are_of(alloc, &mut ran.stores, numbers));
@@ -178,9 +227,49 @@ fn a_run_to_which_memory_is_refused_tells_it(rt: HostRuntime) -> Result<(), Fail
     stores.push(Refusing {
         store: MemStable::new(alloc),
     })?;
-    let ran = run(&rt, alloc, stores, true).ok_or("memory")?;
+    let course = Course {
+        open: true,
+        millis: 20,
+        submits: false,
+    };
+    let ran = run(&rt, alloc, stores, course).ok_or("memory")?;
     assert_eq!(rt; ran.ended, Err(Fault::NoMemory));
     assert_eq!(rt; ran.stores.len(), 1);
     assert_eq!(rt; ran.shown.len(), 0);
+    Ok(())
+}
+
+// Where no tick comes, nothing happens at one node but a submit and its store.
+#[test]
+fn a_run_ends_with_the_count_of_its_events(rt: HostRuntime) -> Result<(), Fail> {
+    let alloc = rt.alloc();
+    for (submits, events) in [(false, 0), (true, 2)] {
+        let mut stores = Vec::new(alloc);
+        stores.push(MemStable::new(alloc))?;
+        let course = Course {
+            open: true,
+            millis: 60_000,
+            submits,
+        };
+        let ran = run(&rt, alloc, stores, course).ok_or("memory")?;
+        assert_eq!(rt; ran.ended, Ok(events));
+    }
+    Ok(())
+}
+
+#[test]
+fn an_end_is_told(rt: HostRuntime) -> Result<(), Fail> {
+    for (ended, open, status, output, errors) in [
+        (Ok(7), true, 0, b"closed 7\n".as_slice(), b"".as_slice()),
+        (Ok(7), false, 1, b"", b"urbd: write failed\n"),
+        (Err(Fault::Network), true, 1, b"", b"urbd: network failed\n"),
+    ] {
+        let terminal = new_terminal(rt.alloc(), &[], b"", open);
+        let told = tell_end(&terminal, ended);
+        let shown = what_it_shows(terminal, told);
+        assert_eq!(rt; shown.status, status);
+        assert_eq!(rt; shown.output.as_slice(), output);
+        assert_eq!(rt; shown.errors.as_slice(), errors);
+    }
     Ok(())
 }
