@@ -58,7 +58,10 @@ fn name_of(bytes: &[u8]) -> Option<(Name, &[u8])>
 }
 
 #[tactic(auto, unfolding(crate::specs::Reading::message_at))]
-fn message_of<A: Allocator>(alloc: A, bytes: &[u8]) -> Result<Option<(Message<A>, &[u8])>, NoMemory>
+fn message_of<A: Allocator + Copy>(
+    alloc: A,
+    bytes: &[u8],
+) -> Result<Option<(Message<A>, &[u8])>, NoMemory>
     ensures { IfOk result (λ read. option_map (λ x. (x.0, x.1.now)) read ≡ message_at bytes.now) }
 {
     let Some((client, number, payload, rest)) = content_of(bytes) else {
@@ -88,7 +91,7 @@ fn content_of(bytes: &[u8]) -> Option<(ClientId, u32, &[u8], &[u8])>
 }
 
 #[tactic(auto, unfolding(crate::specs::Reading::entry_at))]
-fn entry_of<A: Allocator>(
+fn entry_of<A: Allocator + Copy>(
     alloc: A,
     bytes: &[u8],
 ) -> Result<Option<((Name, Message<A>), &[u8])>, NoMemory>

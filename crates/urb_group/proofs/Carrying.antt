@@ -186,7 +186,7 @@ module _ (w : World) (calm : Calm w) (packet : Carried) (may : Carriable w packe
 
 -- ---- many packets
 
-carriable-stays : (packet : Carried) (v w : World) → Onward v w → Carriable v packet → Carriable w packet
+pub carriable-stays : (packet : Carried) (v w : World) → Onward v w → Carriable v packet → Carriable w packet
 carriable-stays packet v w o h =
     record {
       source = node-stays v w o packet.source h.source;

@@ -3,6 +3,7 @@ use Rattle.std.proofs.Common.{Bool, List, Option, Some, [], ap, arith, count_by,
 use Rattle.std.proofs.lemmas.Bool.{and_from, and_parts, cases_Bool, cases_eq, cases_lt, cond-true, false≢true, or_cases}
 use Rattle.std.proofs.lemmas.List.{length-map}
 use Rattle.std.proofs.lemmas.List.Sums.{length-filter}
+use Rattle.urb_group.proofs.Certified.{certified-delivered}
 use Rattle.urb_group.proofs.ComingBack.{all-back}
 use Rattle.urb_group.proofs.Growth.{certificate-begins, run-goes_on}
 use Rattle.urb_group.proofs.Live.{reached-live}
@@ -42,35 +43,13 @@ count-all test first count h = sym (length-filter test (numbers_from first count
         ap length (cond-true (test first) (first ∷ filter test (numbers_from (suc first) count)) (filter test (numbers_from (suc first) count)) (h first (omega arith) (omega arith)))
         ∙ ap suc (passes (suc first) count (λ q l u. h q (omega arith) (omega arith)))
 
-all-majority : (n : ℕ) (test : ℕ → Bool) → 0 < n → ((q : ℕ) → is_node n q ≡ true → test q ≡ true) → majority_passes n test ≡ true
+pub all-majority : (n : ℕ) (test : ℕ → Bool) → 0 < n → ((q : ℕ) → is_node n q ≡ true → test q ≡ true) → majority_passes n test ≡ true
 all-majority n test l h =
     let all : count_by test (nodes n) ≡ n = count-all test 1 n (λ q low high. h q (and_from (nat_lt 0 q) _ (lt-ltb 0 q low) (lt-ltb q (suc n) (omega (arith, high))))) in
     lt-ltb n (2 * count_by test (nodes n)) (omega (arith, all, l))
 
 different : (p q : ℕ) → (p ≡ q → ⊥) → (p == q) ≡ false
 different p q h = ⊎_elim (λ e. absurd (h (eqb-true p q e))) (λ e. e) (cases_Bool (p == q))
-
--- ---- names of a sender, by number
-
-names-high : (s first count j : ℕ) → has_name (map (name s) (numbers_from first count)) (name s j) ≡ true → j < first + count
-names-high s first zero j h = absurd (false≢true h)
-names-high s first (suc count) j h =
-    ⊎_elim (λ e. let k = eqb-true first j (and_parts (s == s) (first == j) e).1 in omega (arith, k)) (λ e. let k = names-high s (suc first) count j e in omega (arith, k))
-    (or_cases ((s == s) && (first == j)) (has_name (map (name s) (numbers_from (suc first) count)) (name s j)) h)
-
-get-some : {A : Type 0} (xs : List A) (i : ℕ) → i < length xs → (a : A) × (slice_get xs i ≡ Some a)
-get-some [] i l = absurd (omega arith)
-get-some (x ∷ xs) zero l = (x, refl)
-get-some (x ∷ xs) (suc i) l = get-some xs i (omega arith)
-
-length-first : {A : Type 0} (n : ℕ) (xs : List A) → length (take n xs) ≤ length xs
-length-first zero xs = omega arith
-length-first (suc n) [] = omega arith
-length-first (suc n) (x ∷ xs) = let l = length-first n xs in omega (arith, l)
-
-take-all : {A : Type 0} (xs : List A) → take (length xs) xs ≡ xs
-take-all [] = refl
-take-all (x ∷ xs) = ap (λ ys. x ∷ ys) (take-all xs)
 
 -- ---- two rounds
 
@@ -154,59 +133,17 @@ module _ (v : World) (calm : Calm v) (free : IsNotStranded v) where
         many : ¬ (v.size.n ≡ 1) → 1 < v.size.n
         many other = let w = within q (node-before q is) in omega (arith, w.0, w.1, other)
 
-    -- a node's log has of each sender as many names as it has broadcast
-    module _ (q : ℕ) (is : is_node z.size.n q ≡ true) (s : ℕ) where
-      abbrev messages : List Content
-      messages = (z.node s).broadcast
+  second-delivered : (z : World) → Second z → AllDelivered z
+  second-delivered z end = certified-delivered z (record { sound = end.0.sound; ready = end.0.ready; certified = λ p q _ is x k. certified z end q is x (end.1.only p x k) })
 
-      abbrev part : List Label
-      part = part_of s (log (stored z q))
-
-      in_order : IsInOrder z q s
-      in_order = (safe z end.0.sound.kept.nodes).in_order q s
-
-      -- each number up to that of the last message is a name's
-      numbered : (i : ℕ) → 1 ≤ i → i ≤ length messages → has_name (cert (stored z q)) (name s i) ≡ true
-      numbered zero low high = absurd (omega arith)
-      numbered (suc j) low high = certified q is (name s (suc j)) (onward.only s (name s (suc j)) known)
-        where
-          known : knows (stored z s) (name s (suc j)) ≡ true
-          known =
-              let kept = end.0.sound.kept.nodes s in
-              let found = get-some messages j (omega arith) in
-              ap is_some (kept-numbered z.size (stored z) s (stored z s) kept.kept j ∙ (ap (λ ms. slice_get ms j) (sym kept.broadcast) ∙ found.1))
-
-      no-more : length part ≤ length messages
-      no-more =
-          let e : length (map (message_of (pend (stored z q))) part) ≡ length (map Some (take (length part) messages)) = ap length in_order.messages in
-          omega (arith, e, length-map part (message_of (pend (stored z q))), length-map {B = Option Content} (take (length part) messages) Some, length-first (length part) messages)
-
-      no-less : length part < length messages → ⊥
-      no-less l = absurd (let high = names-high s 1 (length part) (suc (length part)) there in omega (arith, high))
-        where
-          in_log : has_name (log (stored z q)) (name s (suc (length part))) ≡ true
-          in_log = (delivers (stored z q) s (suc (length part))).1 (omega arith, λ i low high. numbered i low (omega (arith, l, high)))
-
-          there : has_name (names s (length part)) (name s (suc (length part))) ≡ true
-          there = ap (λ xs. has_name xs (name s (suc (length part)))) (sym in_order.numbers) ∙ (has_name-part s (suc (length part)) (log (stored z q)) ∙ in_log)
-
-      all : length part ≡ length messages
-      all = ⊎_elim (λ l. absurd (no-less l)) (λ l. let m = no-more in omega (arith, l, m)) (cases_lt (length part) (length messages))
-
-      all-names : part ≡ names s (length messages)
-      all-names = in_order.numbers ∙ ap (names s) all
-
-      all-messages : map (message_of (pend (stored z q))) part ≡ map Some messages
-      all-messages = in_order.messages ∙ ap (map Some) (ap (λ k. take k messages) all ∙ take-all messages)
-
-  pub all-delivered : Reaches AllDelivered v (both rounds rounds v)
+  all-delivered : Reaches AllDelivered v (both rounds rounds v)
   all-delivered =
-      reaches-weaker Second AllDelivered v (both rounds rounds v) (λ z end p is. record { ready = end.0.ready p is; names = λ s _. all-names z end p is s; messages = λ s _. all-messages z end p is s })
+      reaches-weaker Second AllDelivered v (both rounds rounds v) second-delivered
       (reaches-both First Second rounds rounds v (rounds-reach Own v calm (λ p is x k. subst (λ (i : ℕ). knows (stored v i) x ≡ true) k.0 k.1)) second)
 
 -- ---- any world of a run
 
-reached-sound : (w : World) → IsReached w → Sound w
+pub reached-sound : (w : World) → IsReached w → Sound w
 reached-sound w r = record { kept = (reached-keeps w r).0; live = reached-live w r }
 
 pub can-deliver : (w : World) → IsReached w → IsNotStranded w → CanDeliver w

@@ -27,16 +27,16 @@ rises-test : (x : Label) (ps : Pairs) → ((y : Label) (m : Content) → has_pai
 rises-test x [] h = refl
 rises-test x (p ∷ ps) h = and_from (name_lt x p.0) _ (h p.0 p.1 (has_pair-head p ps)) (rises-test x ps (λ y m k. h y m (has_pair-behind p ps y m k)))
 
-rises-rising : (ps : Pairs) → Rises ps → are_rising ps ≡ true
+pub rises-rising : (ps : Pairs) → Rises ps → are_rising ps ≡ true
 rises-rising [] h = refl
 rises-rising (p ∷ ps) h = and_from (list_all (λ later. name_lt p.0 later.0) ps) _ (rises-test p.0 ps h.0) (rises-rising ps h.1)
 
 -- sorted pairs are the same
-has_pair-rising : (ps : Pairs) (x : Label) (m : Content) → has_pair (rising ps) x m ≡ has_pair ps x m
+pub has_pair-rising : (ps : Pairs) (x : Label) (m : Content) → has_pair (rising ps) x m ≡ has_pair ps x m
 has_pair-rising [] x m = refl
 has_pair-rising (p ∷ ps) x m = has_pair-inserted p (rising ps) x m ∙ ap (λ b. (same_name p.0 x && same_message p.1 m) || b) (has_pair-rising ps x m)
 
-has_pair-filter : (test : Label × Content → Bool) (ps : Pairs) (x : Label) (m : Content) → has_pair (filter test ps) x m ≡ true → has_pair ps x m ≡ true
+pub has_pair-filter : (test : Label × Content → Bool) (ps : Pairs) (x : Label) (m : Content) → has_pair (filter test ps) x m ≡ true → has_pair ps x m ≡ true
 has_pair-filter test [] x m h = h
 has_pair-filter test (p ∷ ps) x m h =
     cond_both (test p) (p ∷ filter test ps) (filter test ps) (λ qs. has_pair qs x m ≡ true → has_pair (p ∷ ps) x m ≡ true)
@@ -50,7 +50,7 @@ rises-filter test (p ∷ ps) h =
     cond_both (test p) (p ∷ filter test ps) (filter test ps) Rises (λ _. (λ x m k. h.0 x m (has_pair-filter test ps x m k), rises-filter test ps h.1)) (λ _. rises-filter test ps h.1)
 
 -- the pairs of records that keep the rules
-rises-records : (size : Limits) (images : ℕ → List Entry) (p : ℕ) (rs : List Entry) → Kept size images p [] rs → Rises (rising (pend rs))
+pub rises-records : (size : Limits) (images : ℕ → List Entry) (p : ℕ) (rs : List Entry) → Kept size images p [] rs → Rises (rising (pend rs))
 rises-records size images p rs h = pairs-all size images p (λ ps. Rises (rising ps)) tt (λ e x m rises rules. subst Rises (sym (rising-push (pend e) (x, m) rules.fresh)) (push e x m rules.fresh rises)) rs h
   where
     push : (e : List Entry) (x : Label) (m : Content) → message_of (pend e) x ≡ None → Rises (rising (pend e)) → Rises (inserted (x, m) (rising (pend e)))
@@ -71,7 +71,7 @@ length-inserted : (p : Label × Content) (ps : Pairs) → length (inserted p ps)
 length-inserted p [] = refl
 length-inserted p (q ∷ ps) = cond_both (name_lt q.0 p.0) (q ∷ inserted p ps) (p ∷ q ∷ ps) (λ qs. length qs ≡ suc (suc (length ps))) (λ _. ap suc (length-inserted p ps)) (λ _. refl)
 
-length-rising : (ps : Pairs) → length (rising ps) ≡ length ps
+pub length-rising : (ps : Pairs) → length (rising ps) ≡ length ps
 length-rising [] = refl
 length-rising (p ∷ ps) = length-inserted p (rising ps) ∙ ap suc (length-rising ps)
 
@@ -85,7 +85,7 @@ due-few n q heard ps = let l = length-fewer (λ pair. is_due n q heard pair.0) (
 
 -- ---- which
 
-any-in : {A : Type 0} (test : A → Bool) (x : A) (xs : List A) → IsIn x xs → test x ≡ true → list_any test xs ≡ true
+pub any-in : {A : Type 0} (test : A → Bool) (x : A) (xs : List A) → IsIn x xs → test x ≡ true → list_any test xs ≡ true
 any-in test x [] h e = absurd h
 any-in test x (y ∷ xs) h e = ⊎_elim (λ f. or_left (test y) _ (ap test f ∙ e)) (λ f. or_right (test y) _ (any-in test x xs f e)) h
 

@@ -1,5 +1,5 @@
 -- What is stored, broadcast and delivered only grows at its end.
-use Rattle.std.proofs.Common.{Bool, Err, List, None, Ok, Option, Result, Some, [], ap, append-nil, append_assoc, bytes_eq, cond, eqb-true, false, filter, find, length, nat_lt, not, refl, reverse, subst, sym, true, ℕ, ◌&&◌, ◌++◌, ◌==◌, ◌||◌, ◌∙◌, ◌∷◌, ◌≡◌}
+use Rattle.std.proofs.Common.{Bool, Err, List, None, Ok, Option, Result, Some, [], ap, append-nil, append_assoc, bytes_eq, cond, eqb-true, false, filter, find, length, nat_lt, not, refl, reverse, subst, sym, true, ℕ, ◌&&◌, ◌++◌, ◌==◌, ◌∙◌, ◌∷◌, ◌≡◌}
 use Rattle.std.proofs.lemmas.Bool.{cond_both}
 use Rattle.std.proofs.lemmas.List.{reverse-append}
 use Rattle.urb_group.proofs.ArriveCases.{arrive-cases}
@@ -180,7 +180,7 @@ step-extends w (Restart p image) q = outcome-extends w p _ (restart-extends p im
 pub step-goes_on : (w : World) (event : Event) → GoesOn w (step w event).1
 step-goes_on w event = goes_on w (step w event).1 (step-extends w event)
 
-run-extends : (w : World) (events : List Event) (q : ℕ) → Extends (w.node q) ((run w events).1.node q)
+pub run-extends : (w : World) (events : List Event) (q : ℕ) → Extends (w.node q) ((run w events).1.node q)
 unfolding run
 run-extends w [] q = extends-itself (w.node q)
 run-extends w (event ∷ events) q =

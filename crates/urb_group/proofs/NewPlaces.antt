@@ -72,3 +72,8 @@ next-places A size n places new a e f g = g ∙ (ap (λ (ps : List (Place A)). p
 pub some_from : {T P : Type 0} (o : Option T) (v : T) → SomeIff o P v → P → IsSome o
 some_from None v h p = absurd (h p)
 some_from (Some x) v h p = refl
+
+-- the value of what is some exactly under a condition
+pub value_from : {T : Type 0} (o : Option T) (P : Type 0) (v x : T) → SomeIff o P v → o ≡ Some x → x ≡ v
+value_from None P v x h e = absurd cc
+value_from (Some y) P v x h e = let is : y ≡ v = h.1 in cc

@@ -20,7 +20,7 @@ use Rattle.urb_stable.specs.Records.{cert}
 
 -- ---- nodes
 
-in-numbers : (first count q : ℕ) → first ≤ q → q < first + count → IsIn q (numbers_from first count)
+pub in-numbers : (first count q : ℕ) → first ≤ q → q < first + count → IsIn q (numbers_from first count)
 in-numbers first zero q l u = absurd (omega arith)
 in-numbers first (suc count) q l u = ⊎_elim (λ e. inl e) (λ h. inr (in-numbers (suc first) count q (omega arith) (omega arith))) (cases_eq first q)
 
@@ -40,7 +40,7 @@ in-others n p q is other = in-filter (λ i. not (i == p)) q (nodes n) (ap not ot
 
 -- ---- the packets of a tick go to nodes
 
-filtered-in : {A : Type 0} (test : A → Bool) (x : A) (xs : List A) → IsIn x (filter test xs) → IsIn x xs
+pub filtered-in : {A : Type 0} (test : A → Bool) (x : A) (xs : List A) → IsIn x (filter test xs) → IsIn x xs
 filtered-in test x [] h = h
 filtered-in test x (y ∷ xs) h =
     cond_both (test y) (y ∷ filter test xs) (filter test xs) (λ ys. IsIn x ys → IsIn x (y ∷ xs)) (λ _ k. ⊎_elim (λ e. inl e) (λ e. inr (filtered-in test x xs e)) k) (λ _ k. inr (filtered-in test x xs k)) h

@@ -80,7 +80,7 @@ onward-further u v w a b =
 
 -- ---- what stays
 
-found-begins : (xs ys : List Entry) → Begins xs ys → (x : Label) (m : Content) → message_of (pend xs) x ≡ Some m → message_of (pend ys) x ≡ Some m
+pub found-begins : (xs ys : List Entry) → Begins xs ys → (x : Label) (m : Content) → message_of (pend xs) x ≡ Some m → message_of (pend ys) x ≡ Some m
 found-begins xs ys b x m e =
     subst (λ (zs : List Entry). message_of (pend zs) x ≡ Some m) b.1
     (subst (λ (ps : List (Label × Content)). message_of ps x ≡ Some m) (sym (pend-append xs b.0)) (message_of-more (pend xs) (pend b.0) x m e))

@@ -79,7 +79,7 @@ tick-quiet n p node =
     cond_both (is_down node.state) _ _ (Quiet node) (λ _ r e. refl)
     (λ _. cond_both (is_storing node.state) _ _ (Quiet node) (λ _ r e. refl) (λ _ r e. cc))
 
-same_nodes : (f : ℕ → Node) (p : ℕ) (v : Node) → v ≡ f p → updated f p v ≡ f
+pub same_nodes : (f : ℕ → Node) (p : ℕ) (v : Node) → v ≡ f p → updated f p v ≡ f
 same_nodes f p v h = fun_ext (λ q. at q (q == p) refl)
   where
     at : (q : ℕ) (b : Bool) → (q == p) ≡ b → cond b v (f q) ≡ f q

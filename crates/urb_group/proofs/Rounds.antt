@@ -1,5 +1,5 @@
 -- A round of one node: each other node knows then what it knew, and has counted it for each name or certified the name.
-use Rattle.std.proofs.Common.{List, Some, ap, eqb-true, false, filter, is_some, length, not, refl, slice_get, subst, sym, true, ℕ, ⊎_elim, ◌++◌, ◌==◌, ◌∙◌, ◌≡◌, ◌⊎◌, inl, inr}
+use Rattle.std.proofs.Common.{List, Some, ap, arith, eqb-true, false, filter, is_some, length, not, refl, slice_get, subst, sym, true, ℕ, ⊎_elim, ◌++◌, ◌==◌, ◌∙◌, ◌≡◌, ◌≤◌, ◌⊎◌, inl, inr}
 use Rattle.std.proofs.lemmas.Bool.{cases_Bool, false≢true}
 use Rattle.std.specs.List.{AllByRecursion}
 use Rattle.urb_group.proofs.Carrying.{Carriable, IsToldBy, all-carried, moved-each}
@@ -30,17 +30,14 @@ use Rattle.urb_group.proofs.NodeLists.{ToNode, in-nodes, in-others, nodes-in, re
 
 -- ---- the ticks
 
-module _ (w : World) (calm : Calm w) (p : ℕ) (is : is_node w.size.n p ≡ true) where
-  abbrev count : ℕ
-  count = length (pend (stored w p))
-
-  ticks : Ticks p count (w.node p) w
+module _ (w : World) (calm : Calm w) (p : ℕ) (is : is_node w.size.n p ≡ true) (count : ℕ) where
+  pub ticks : Ticks p count (w.node p) w
   ticks = ticks-go p count (w.node p) w refl (calm.ready p is) is
 
-  abbrev v : World
+  abbrev pub v : World
   v = after w (tick_events p count)
 
-  abbrev packets : List Carried
+  abbrev pub packets : List Carried
   packets = packets_of w (tick_events p count)
 
   abbrev due : List (Label × Content)
@@ -52,7 +49,7 @@ module _ (w : World) (calm : Calm w) (p : ℕ) (is : is_node w.size.n p ≡ true
   ticked-each : (P : ℕ → Node → Type 0) → P p (record (w.node p) { cursor = cursor_after count (w.node p).cursor due }) → ((q : ℕ) → P q (w.node q)) → (q : ℕ) → P q (v.node q)
   ticked-each = moved-each w p (record (w.node p) { cursor = cursor_after count (w.node p).cursor due }) v ticks.moved
 
-  onward-ticks : Onward w v
+  pub onward-ticks : Onward w v
   onward-ticks =
       record {
         size = ticks.moved.size;
@@ -63,7 +60,7 @@ module _ (w : World) (calm : Calm w) (p : ℕ) (is : is_node w.size.n p ≡ true
         only = λ q x. ticked-each (λ i node. knows node.records x ≡ true → knows (stored w x.sender) x ≡ true) (λ h. known-sender w calm.sound p x h) (λ i h. known-sender w calm.sound i x h) q;
       }
 
-  calm-ticks : Calm v
+  pub calm-ticks : Calm v
   calm-ticks =
       record {
         sound = run-sound w (tick_events p count) calm.sound;
@@ -76,7 +73,7 @@ module _ (w : World) (calm : Calm w) (p : ℕ) (is : is_node w.size.n p ≡ true
       in-turns (pend (stored w p)) count (w.node p).cursor due
       (in_due (pend (stored w p)) w.size.n p (w.node p).heard (rising (pend (stored w p))) (in_rising (pend (stored w p)) (pend (stored w p)) (in_itself (pend (stored w p)))))
 
-  may-carry : AllByRecursion (Carriable v) packets
+  pub may-carry : AllByRecursion (Carriable v) packets
   may-carry = all-in (Carriable v) packets one
     where
       one : (packet : Carried) → IsIn packet packets → Carriable v packet
@@ -116,14 +113,15 @@ module _ (w : World) (calm : Calm w) (p : ℕ) (is : is_node w.size.n p ≡ true
     heard-counts = certified-counts w.size.n (stored w q) (w.node q).acks x p certified-there
 
   -- and one whose certificate was not is told to q
-  module _ (q : ℕ) (x : Label) (m : Content) (there : is_node w.size.n q ≡ true) (other : (q == p) ≡ false) (unheard : acked (w.node p).heard x q ≡ false) (held : has_pair (pend (stored w p)) x m ≡ true) where
+  module _ (q : ℕ) (x : Label) (m : Content) (there : is_node w.size.n q ≡ true) (other : (q == p) ≡ false) (unheard : acked (w.node p).heard x q ≡ false) (held : has_pair (pend (stored w p)) x m ≡ true)
+      (many : length (pend (stored w p)) ≤ count) where
     abbrev packet : Carried
     packet = record { source = p; target = q; name = x; message = m; flags = Some (record { certified = has_name (cert (stored w p)) x; heard = false }) }
 
     has-turn : IsIn (x, m) sent_pairs
     has-turn =
         all-turn due (due-rises w.size (stored w) p (stored w p) (calm.sound.kept.nodes p).kept w.size.n p (w.node p).heard) count (w.node p).cursor (x, m)
-        (due-few w.size.n p (w.node p).heard (pend (stored w p)))
+        (let few = due-few w.size.n p (w.node p).heard (pend (stored w p)) in omega (arith, few, many))
         (in-due w.size.n p q (w.node p).heard (pend (stored w p)) x m (in-others w.size.n p q there other) unheard held)
 
     was-sent : IsIn packet packets
@@ -137,6 +135,10 @@ module _ (w : World) (calm : Calm w) (p : ℕ) (is : is_node w.size.n p ≡ true
     told-others u told = let one = in-all (λ c. IsToldBy c u) packet packets told was-sent in (one.known, one.counted)
 
 -- ---- the round
+
+-- a round of p ticks as often as it has pending names
+abbrev count_of : World → ℕ → ℕ
+count_of w p = length (pend (stored w p))
 
 -- these are the names that each node is to tell
 module _ (K : ℕ → Label → Type 0) where
@@ -152,16 +154,16 @@ module _ (K : ℕ → Label → Type 0) where
 
   round-reaches : (p : ℕ) (w : World) → Calm w → KnowsNames p w → Reaches (λ u. Calm u × Onward w u × HasTold p u) w (round_of p w)
   round-reaches p w calm h =
-      reaches-append (λ u. Unit {0}) _ w (tick_events p (count w calm p h.node)) (each carries (packets w calm p h.node) (v w calm p h.node))
-      (record { goes = (ticks w calm p h.node).goes; leads = tt })
-      (λ _. reaches-weaker _ _ (v w calm p h.node) (each carries (packets w calm p h.node) (v w calm p h.node)) after-round
-      (all-carried (packets w calm p h.node) (v w calm p h.node) (calm-ticks w calm p h.node) (may-carry w calm p h.node)))
+      reaches-append (λ u. Unit {0}) _ w (tick_events p (count_of w p)) (each carries (packets w calm p h.node (count_of w p)) (v w calm p h.node (count_of w p)))
+      (record { goes = (ticks w calm p h.node (count_of w p)).goes; leads = tt })
+      (λ _. reaches-weaker _ _ (v w calm p h.node (count_of w p)) (each carries (packets w calm p h.node (count_of w p)) (v w calm p h.node (count_of w p))) after-round
+      (all-carried (packets w calm p h.node (count_of w p)) (v w calm p h.node (count_of w p)) (calm-ticks w calm p h.node (count_of w p)) (may-carry w calm p h.node (count_of w p))))
     where
-      after-round : (u : World) → Calm u × Onward (v w calm p h.node) u × AllByRecursion (λ packet. IsToldBy packet u) (packets w calm p h.node) → Calm u × Onward w u × HasTold p u
+      after-round : (u : World) → Calm u × Onward (v w calm p h.node (count_of w p)) u × AllByRecursion (λ packet. IsToldBy packet u) (packets w calm p h.node (count_of w p)) → Calm u × Onward w u × HasTold p u
       after-round u r = (r.0, onward, record { known = λ q is x k. (at q is x k (cases_Bool (q == p))).0; counted = λ q is other x k. (at q is x k (inr other)).1 other })
         where
           onward : Onward w u
-          onward = onward-further w (v w calm p h.node) u (onward-ticks w calm p h.node) r.1
+          onward = onward-further w (v w calm p h.node (count_of w p)) u (onward-ticks w calm p h.node (count_of w p)) r.1
 
           at : (q : ℕ) → is_node u.size.n q ≡ true → (x : Label) → K p x → ((q == p) ≡ true) ⊎ ((q == p) ≡ false) → (knows (stored u q) x ≡ true) × ((q == p) ≡ false → CountsAt u q x p)
           at q is x k (inl same) = (known-stays w u onward q x (subst (λ (i : ℕ). knows (stored w i) x ≡ true) (sym (eqb-true q p same)) (h.names x k)), λ other. absurd (false≢true (sym other ∙ same)))
@@ -171,12 +173,12 @@ module _ (K : ℕ → Label → Type 0) where
               there = subst (λ (size : Limits). is_node size.n q ≡ true) onward.size is
 
               by_heard : acked (w.node p).heard x q ≡ true → (knows (stored u q) x ≡ true) × ((q == p) ≡ false → CountsAt u q x p)
-              by_heard e = (known-stays w u onward q x (heard-known w calm p h.node q x e), λ _. onward.counts q x p (heard-counts w calm p h.node q x e))
+              by_heard e = (known-stays w u onward q x (heard-known w calm p h.node (count_of w p) q x e), λ _. onward.counts q x p (heard-counts w calm p h.node (count_of w p) q x e))
 
               unheard : acked (w.node p).heard x q ≡ false → (knows (stored u q) x ≡ true) × ((q == p) ≡ false → CountsAt u q x p)
               unheard e =
                   let pair = known-pair (stored w p) x (h.names x k) in
-                  let told = told-others w calm p h.node q x pair.0 there other e pair.1 u r.2 in
+                  let told = told-others w calm p h.node (count_of w p) q x pair.0 there other e pair.1 (omega arith) u r.2 in
                   (told.0, λ _. told.1)
 
   knows-stays : (p : ℕ) (v w : World) → Onward v w → KnowsNames p v → KnowsNames p w

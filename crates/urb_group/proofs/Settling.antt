@@ -59,7 +59,7 @@ certifies-itself x = or_left (same_name x x) false (same_name-same x)
 known-joined : (ps : List (Label × Content)) (x : Label) (m : Content) → message_of ps x ≡ None → is_some (message_of (ps ++ (x, m) ∷ []) x) ≡ true
 known-joined ps x m e = ap is_some (message_of-new ps x m e)
 
-only-joined : (ps : List (Label × Content)) (x y : Label) (m : Content) → is_some (message_of (ps ++ (x, m) ∷ []) y) ≡ true → (is_some (message_of ps y) ≡ true) ⊎ (x ≡ y)
+pub only-joined : (ps : List (Label × Content)) (x y : Label) (m : Content) → is_some (message_of (ps ++ (x, m) ∷ []) y) ≡ true → (is_some (message_of ps y) ≡ true) ⊎ (x ≡ y)
 only-joined ps x y m h = ⊎_elim (λ e. inr (same_name-true x y e)) (λ e. inl (sym (ap is_some (message_of-other ps x y m e)) ∙ h)) (cases_Bool (same_name x y))
 
 -- ---- from what was counted

@@ -82,7 +82,7 @@ module _ (w : World) (live : WorldLive w) (free : IsNotStranded w) where
   step-free (Crash p) = same-free (Crash p) (step-stored w (Crash p) tt 1)
   step-free (Restart p image) = at_node-free p _ (restart-whole p image (w.node p) (w.node p).state refl)
 
-run-free : (w : World) (events : List Event) → WorldLive w → IsNotStranded w → IsNotStranded (run w events).1
+pub run-free : (w : World) (events : List Event) → WorldLive w → IsNotStranded w → IsNotStranded (run w events).1
 unfolding run
 run-free w [] live free = free
 run-free w (event ∷ events) live free = run-free (step w event).1 events (step-live w event live) (step-free w live free event)

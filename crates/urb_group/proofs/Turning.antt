@@ -14,7 +14,7 @@ abbrev Pairs : Type 0
 Pairs = List (Label × Content)
 
 -- no name stands before itself
-not_before_itself : (x : Label) → name_lt x x ≡ false
+pub not_before_itself : (x : Label) → name_lt x x ≡ false
 not_before_itself x = ⊎_elim (λ e. name_lt-other_way x x e) (λ e. e) (cases_Bool (name_lt x x))
 
 -- what stands behind a name stands behind each name before it

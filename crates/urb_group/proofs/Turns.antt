@@ -19,7 +19,7 @@ turns zero cursor pairs = []
 turns (suc k) cursor pairs = resent cursor pairs ++ turns k (last_name cursor (resent cursor pairs)) pairs
 
 -- cyclic order has the same pairs
-in-cyclic : (cursor : Option Label) (d : Label × Content) (pairs : List (Label × Content)) → IsIn d pairs → IsIn d (cyclic cursor pairs)
+pub in-cyclic : (cursor : Option Label) (d : Label × Content) (pairs : List (Label × Content)) → IsIn d pairs → IsIn d (cyclic cursor pairs)
 in-cyclic cursor d pairs h =
     ⊎_elim (λ e. in-left d (filter (λ pair. is_after cursor pair.0) pairs) _ (in-filter (λ pair. is_after cursor pair.0) d pairs e h))
     (λ e. in-right d (filter (λ pair. is_after cursor pair.0) pairs) _ (in-filter (λ pair. not (is_after cursor pair.0)) d pairs (ap not e) h))
@@ -32,7 +32,7 @@ in-turns all (suc k) cursor pairs h = all_append _ (resent cursor pairs) _ (in_r
 
 module _ (pairs : List (Label × Content)) (rises : are_rising pairs ≡ true) where
   -- once the cursor is behind the first ones, they stand last
-  turned : (cursor : Option Label) (firsts rest : List (Label × Content)) → cyclic cursor pairs ≡ firsts ++ rest → cyclic (last_name cursor firsts) pairs ≡ rest ++ firsts
+  pub turned : (cursor : Option Label) (firsts rest : List (Label × Content)) → cyclic cursor pairs ≡ firsts ++ rest → cyclic (last_name cursor firsts) pairs ≡ rest ++ firsts
   turned cursor [] rest e = e ∙ sym (append-nil rest)
   turned cursor (pair ∷ firsts) rest e =
       turned (Some pair.0) firsts (rest ++ pair ∷ []) (turn cursor pairs pair (firsts ++ rest) rises e ∙ append_assoc firsts rest (pair ∷ []))

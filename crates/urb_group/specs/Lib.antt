@@ -28,3 +28,8 @@ pub mod InMemory
 pub mod Reopening
 pub mod Delivering
 pub mod Recoveries
+pub mod Rounds
+pub mod PlayedRounds
+pub mod RoundExamples
+pub mod Resends
+pub mod Hearing

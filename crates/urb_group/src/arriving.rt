@@ -2,6 +2,7 @@
 
 ghost use Rattle.std.specs.Prelude.{◌≡◌, false, MatchOption};
 ghost use Rattle.std.specs.Bool.{MatchBool};
+ghost use Rattle.std.specs.Option.{ForSome};
 ghost use Rattle.urb_names.specs.Packets.{packet_of};
 ghost use Rattle.urb_group.specs.Calls.{Takes};
 ghost use Rattle.urb_group.specs.Reaching.{AreEnds, HoldsPair, IsAsCertified, TellsTruth, is_for_node};
@@ -64,6 +65,22 @@ fn tells_truth<A: Allocator + Copy>(node: &Node<A>, packet: &PacketView<'_>) -> 
     holds_pair(node, packet) && is_as_certified(node, packet)
 }
 
+// The message that a packet carries, sharing the payload that the packet's source has stored. `None` if the source holds
+// another message, or if sharing fails.
+fn known_at<A: Allocator + Copy>(
+    alloc: A,
+    node: &Node<A>,
+    packet: &PacketView<'_>,
+) -> Option<Message<A>>
+    ensures { ForSome result (λ m. m ≡ packet.now.message) }
+{
+    let message = node.message(packet.name())?;
+    if !is_carried(message, packet) {
+        return None;
+    }
+    message.share(alloc).ok()
+}
+
 impl<A: Allocator + Copy> Group<A> {
     /// Bytes come to a node, as a datagram brings them, from wherever: only a packet for this node is taken, of a message
     /// that the packet's source has stored, and which tells of a certificate only where its source has stored one.
@@ -79,8 +96,9 @@ impl<A: Allocator + Copy> Group<A> {
             return Err(Refusal::BadNode);
         };
         let is_truthful = tells_truth(&self.nodes[source], &packet);
+        let known = known_at(alloc, &self.nodes[source], &packet);
         move_at(&mut self.nodes, at, move |node| {
-            arrived(node, alloc, packet, is_truthful)
+            arrived(node, alloc, packet, known, is_truthful)
         })
     }
 }

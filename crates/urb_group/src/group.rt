@@ -11,6 +11,7 @@ use crate::Taken;
 use crate::places::{
     Node, committed, crashed, failed, move_at, place_of, restarted, submitted, ticked,
 };
+use crate::sharing::share_image;
 use std::alloc::{Allocator, Global};
 use std::marker::Model;
 use urb_names::{ClientId, Config, Message, NoMemory, NodeId, Refusal};
@@ -129,7 +130,8 @@ impl<A: Allocator + Copy> Group<A> {
         move_at(&mut self.nodes, at, crashed)
     }
 
-    /// A node comes up again with what its storage gave back, all of it. Nothing is sent.
+    /// A node comes up again with what its storage gave back, all of it. Nothing is sent. A message that another node has
+    /// stored too shares its payload.
     ///
     /// `NotDown`: it is up. `BadImage`: the image is neither what the node had stored nor that with the record in doubt.
     /// `NoMemory`: ask again, with the image read again.
@@ -144,12 +146,13 @@ impl<A: Allocator + Copy> Group<A> {
         let Some(at) = place_of(self.config, node) else {
             return Err(Refusal::BadNode);
         };
+        let shared = share_image(&self.nodes, alloc, image);
         move_at(
             &mut self.nodes,
             at,
             move |node| -> (Node<A>, Result<(), Refusal>)
-                ensures { RestartsAt node image.items result }
-            { restarted(node, alloc, image) },
+                ensures { RestartsAt node shared.items result }
+            { restarted(node, alloc, shared) },
         )
     }
 }

@@ -13,8 +13,8 @@
 //! ```
 //!
 //! Each call is one step of every world that the group shows (`specs/Step.antt`), or is refused and changes nothing. `play`
-//! carries the headline, `laws` the theorems over all runs, and `recovering` that no state is a dead end. No call here waits,
-//! sends or looks at a clock.
+//! carries the headline, `laws` the theorems over all runs, `recovering` that no state is a dead end, and `fairness` that rounds
+//! deliver in whatever order. No call here waits, sends or looks at a clock.
 #![tactic(auto)]
 
 mod arriving;
@@ -22,7 +22,9 @@ mod cluster;
 mod command;
 pub mod delivering;
 mod drafts;
+pub mod fairness;
 mod group;
+pub mod heard;
 pub mod laws;
 mod opening;
 mod places;
@@ -32,6 +34,7 @@ mod queries;
 pub mod recovering;
 mod reopening;
 mod reply;
+mod sharing;
 mod state;
 mod stores;
 mod taken;

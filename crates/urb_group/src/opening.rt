@@ -9,9 +9,9 @@ ghost use Rattle.urb_group.specs.Calls.{Opens};
 
 use crate::Group;
 use crate::places::Node;
+use crate::sharing::opened_beside;
 use std::alloc::Allocator;
 use urb_names::{Config, Message, NoMemory, NodeId, Refusal};
-use urb_node::Ready;
 use urb_stable::{Images, Misfit, Record, limits_of};
 
 // That every record of the images is within its limits: for proofs alone, since it does nothing.
@@ -40,7 +40,7 @@ fn misfit_of<A: Allocator + Copy>(
 impl<A: Allocator + Copy> Group<A> {
     /// A group whose nodes come up with what their storages hold, as after a stop of the whole process: the recovery of
     /// all processes (sections 2.2 and 3.7 of the book). The image of node 1 comes first. The records are taken as they
-    /// lie in memory.
+    /// lie in memory, and messages that are the same under one name share one payload from then on.
     ///
     /// `Inconsistent`: the images don't fit together, so some are not of this group, or a storage has lost a record or
     /// made one up; the first record that breaks a fitting rule is told. `NoMemory`: ask again.
@@ -66,7 +66,8 @@ impl<A: Allocator + Copy> Group<A> {
         for image in images {
             number += 1;
             let node = NodeId::new(number).unwrap();
-            nodes.push_reserved(Node::Ready(Ready::open(alloc, config, node, image)?));
+            let ready = opened_beside(&nodes, alloc, config, node, image)?;
+            nodes.push_reserved(Node::Ready(ready));
         }
         Ok(Group { config, nodes })
     }

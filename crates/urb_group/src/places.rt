@@ -1,7 +1,7 @@
 //! The nodes of a group, each in its place.
 
 ghost use Rattle.std.specs.Prelude.{◌<◌, ◌≡◌, Some, slice_get, suc, vec_len};
-ghost use Rattle.std.specs.Option.{MatchOption};
+ghost use Rattle.std.specs.Option.{ForSome, MatchOption};
 ghost use Rattle.urb_group.specs.Moving.{ArrivesAt, CommitsAt, CrashesAt, FailsAt, MayReach, Moved, RestartsAt, SubmitsAt, TicksAt};
 
 use crate::Taken;
@@ -73,9 +73,11 @@ pub(crate) fn arrived<A: Allocator + Copy>(
     node: Node<A>,
     alloc: A,
     packet: PacketView<'_>,
+    known: Option<Message<A>>,
     is_truthful: bool,
 ) -> (Node<A>, Result<Taken<A>, Refusal>)
-    requires { MayReach node packet is_truthful }
+    requires reach { MayReach node packet is_truthful }
+    requires known { ForSome known (λ m. m ≡ packet.message) }
     ensures { ArrivesAt node packet.entry is_truthful result }
 {
     match node {
@@ -83,7 +85,7 @@ pub(crate) fn arrived<A: Allocator + Copy>(
             if !is_truthful {
                 return (Node::Ready(ready), Err(Refusal::Forged));
             }
-            match ready.arrive(alloc, packet) {
+            match ready.arrive_sharing(alloc, packet, known) {
                 Ok(Step::Same(ready, answer)) => (Node::Ready(ready), Ok(Taken::Same(answer))),
                 Ok(Step::Store(storing, draft)) => {
                     (Node::Storing(storing), Ok(Taken::Store(draft)))

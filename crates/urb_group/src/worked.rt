@@ -12,5 +12,7 @@ pub mod packets;
 pub mod recoveries;
 pub mod refusals;
 pub mod restarts;
+pub mod rounds;
 pub mod stops;
+pub mod telling;
 pub mod ticks;

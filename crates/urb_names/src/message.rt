@@ -1,11 +1,12 @@
 //! Messages of clients.
-ghost use Rattle.std.specs.Prelude.{◌≡◌, ◌≤◌, ◌<◌, IfOk, length, vec_len};
+ghost use Rattle.std.specs.Prelude.{◌≡◌, ◌≤◌, ◌<◌, IfOk, IfErr, length, vec_len};
 ghost use Rattle.std.specs.Bool.{MatchBool};
 ghost use Rattle.urb_names.specs.Naming.{IsContent};
 
 use crate::{ClientId, NoMemory};
 use std::alloc::{Allocator, Global};
 use std::marker::Model;
+use std::sync::Arc;
 
 /// The greatest length of a payload, in bytes.
 pub const MAX_PAYLOAD: usize = 16384;
@@ -20,55 +21,24 @@ pub const MAX_PLAIN_PAYLOAD: usize = 1024;
 pub struct Message<A: Allocator = Global> {
     client: ClientId,
     number: u32,
-    payload: Vec<u8, A>,
+    payload: Arc<Vec<u8, A>, A>,
 }
 
 impl<A: Allocator> Model for Message<A> {
     ghost use Rattle.std.specs.Prelude.{◌<◌, ◌≤◌, vec_len};
+    ghost use Rattle.std.specs.Arc.{arc_value};
     ghost use Rattle.urb_names.specs.Naming.{Content};
     ghost use Rattle.urb_names.specs.declared.message.TheConstants.{MAX_PAYLOAD};
 
     ghost Value = { Content };
 
     ghost view = { λ a.
-        record { client = a.client; number = a.number; payload = a.payload.items } };
+        record { client = a.client; number = a.number; payload = (arc_value a.payload).items } };
 
-    ghost invariant = { λ a. (0 < a.number) × (vec_len a.payload ≤ MAX_PAYLOAD) };
+    ghost invariant = { λ a. (0 < a.number) × (vec_len (arc_value a.payload) ≤ MAX_PAYLOAD) };
 }
 
 impl<A: Allocator> Message<A> {
-    /// The message of these parts, with the payload as it lies in memory. Takes no memory.
-    pub fn new(client: ClientId, number: u32, payload: Vec<u8, A>) -> Message<A>
-        requires number { 0 < number }
-        requires payload { vec_len payload ≤ MAX_PAYLOAD }
-        ensures { result ≡ record { client = client; number = number; payload = payload.items } }
-    {
-        Message {
-            client,
-            number,
-            payload,
-        }
-    }
-
-    /// A message with a copy of the payload. Its memory comes from `alloc`.
-    pub fn copied(
-        alloc: A,
-        client: ClientId,
-        number: u32,
-        payload: &[u8],
-    ) -> Result<Message<A>, NoMemory>
-        requires number { 0 < number }
-        requires payload { length payload.now ≤ MAX_PAYLOAD }
-        ensures { IfOk result
-            (λ m. m ≡ record { client = client; number = number; payload = payload.now }) }
-    {
-        Ok(Message {
-            client,
-            number,
-            payload: Vec::from_slice(alloc, payload)?,
-        })
-    }
-
     /// Whose message it is.
     pub fn client(&self) -> ClientId
         ensures { result ≡ self.now.client }
@@ -89,15 +59,28 @@ impl<A: Allocator> Message<A> {
         ensures value { result.now ≡ self.now.payload }
         ensures limit { length self.now.payload ≤ MAX_PAYLOAD }
     {
-        &self.payload
+        (*self.payload).as_slice()
     }
 
-    /// The payload, without a copy.
-    pub fn into_payload(self) -> Vec<u8, A>
-        ensures { result.items ≡ self.payload }
+    /// The payload, moved out without a copy and without memory if no other message shares it. Else the message comes
+    /// back as it was.
+    pub fn into_payload(self) -> Result<Vec<u8, A>, Message<A>>
+        ensures ok { IfOk result (λ bytes. bytes.items ≡ self.payload) }
+        ensures shared { IfErr result (λ m. m ≡ self) }
     {
-        let Message { payload, .. } = self;
-        payload
+        let Message {
+            client,
+            number,
+            payload,
+        } = self;
+        match Arc::try_unwrap(payload) {
+            Ok(bytes) => Ok(bytes),
+            Err(payload) => Err(Message {
+                client,
+                number,
+                payload,
+            }),
+        }
     }
 
     /// Whether the other is the same message: that of the same client, with the same number and payload.
@@ -106,14 +89,7 @@ impl<A: Allocator> Message<A> {
     {
         self.client == other.client
             && self.number == other.number
-            && self.payload.as_slice() == other.payload.as_slice()
-    }
-
-    /// Another message with the same content. Its memory comes from `alloc`.
-    pub fn copy(&self, alloc: A) -> Result<Message<A>, NoMemory>
-        ensures { IfOk result (λ m. m ≡ self.now) }
-    {
-        Message::copied(alloc, self.client, self.number, &self.payload)
+            && (*self.payload).as_slice() == (*other.payload).as_slice()
     }
 
     /// That every message is within its limits: for proofs alone, since it does nothing.
@@ -123,5 +99,60 @@ impl<A: Allocator> Message<A> {
         let _client = self.client.number();
         let _number = self.number;
         let _payload = &self.payload;
+    }
+}
+
+impl<A: Allocator + Copy> Message<A> {
+    /// The message of these parts. The payload stays where it is in memory; only the count of its owners is
+    /// allocated.
+    pub fn new(
+        alloc: A,
+        client: ClientId,
+        number: u32,
+        payload: Vec<u8, A>,
+    ) -> Result<Message<A>, NoMemory>
+        requires number { 0 < number }
+        requires payload { vec_len payload ≤ MAX_PAYLOAD }
+        ensures { IfOk result
+            (λ m. m ≡ record { client = client; number = number; payload = payload.items }) }
+    {
+        match Arc::new(alloc, payload) {
+            Ok(payload) => Ok(Message {
+                client,
+                number,
+                payload,
+            }),
+            Err(_) => Err(NoMemory),
+        }
+    }
+
+    /// A message with a copy of the payload. Its memory comes from `alloc`.
+    pub fn copied(
+        alloc: A,
+        client: ClientId,
+        number: u32,
+        payload: &[u8],
+    ) -> Result<Message<A>, NoMemory>
+        requires number { 0 < number }
+        requires payload { length payload.now ≤ MAX_PAYLOAD }
+        ensures { IfOk result
+            (λ m. m ≡ record { client = client; number = number; payload = payload.now }) }
+    {
+        Message::new(alloc, client, number, Vec::from_slice(alloc, payload)?)
+    }
+
+    /// Another message with the same content, which shares the payload's memory. It copies the payload only
+    /// if the memory has no room for one more owner.
+    pub fn share(&self, alloc: A) -> Result<Message<A>, NoMemory>
+        ensures { IfOk result (λ m. m ≡ self.now) }
+    {
+        match Arc::try_clone(&self.payload) {
+            Ok(payload) => Ok(Message {
+                client: self.client,
+                number: self.number,
+                payload,
+            }),
+            Err(_) => Message::copied(alloc, self.client, self.number, (*self.payload).as_slice()),
+        }
     }
 }

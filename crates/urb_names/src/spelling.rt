@@ -197,7 +197,7 @@ pub fn parse(bytes: &[u8]) -> Result<PacketView<'_>, PacketFault>
 
 /// The packet that bytes spell, in memory of its own. `Packet` tells the first fault of bytes that are no packet;
 /// `NoMemory` comes only where they are one.
-pub fn decode<A: Allocator>(alloc: A, bytes: &[u8]) -> Result<Packet<A>, Refusal>
+pub fn decode<A: Allocator + Copy>(alloc: A, bytes: &[u8]) -> Result<Packet<A>, Refusal>
     // What is read is spelled so, each byte of it; and what is spelled so is read, unless memory was refused.
     ensures found { IfOk result (λ p. IsPacket p × (bytes.now ≡ spelling p)) }
     ensures only { (p : Carried)

@@ -128,7 +128,7 @@ impl<'a> PacketView<'a> {
     }
 
     /// The packet, with a copy of the payload. Its memory comes from `alloc`.
-    pub fn to_packet<A: Allocator>(&self, alloc: A) -> Result<Packet<A>, NoMemory>
+    pub fn to_packet<A: Allocator + Copy>(&self, alloc: A) -> Result<Packet<A>, NoMemory>
         ensures { IfOk result (λ p. p ≡ self.now) }
     {
         let message = Message::copied(alloc, self.client, self.number, self.payload)?;

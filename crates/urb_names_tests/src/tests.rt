@@ -138,9 +138,8 @@ fn shows_parts(view: &PacketView) -> bool {
 
 // Whether its packet has the payload.
 fn has_payload(alloc: Global) -> Option<bool> {
-    let payload = first(alloc, 1, 2, b"a", None)?
-        .into_message()
-        .into_payload();
+    let message = first(alloc, 1, 2, b"a", None)?.into_message();
+    let payload = message.into_payload().ok()?;
     Some(payload.as_slice() == b"a".as_slice())
 }
 

@@ -133,7 +133,7 @@ fn make_wanted<A: Allocator + Copy>(
         is_certified,
         heard_of(&cause),
     )?;
-    let copy = pending_record(name, message.copy(alloc)?, is_certified);
+    let copy = pending_record(name, message.share(alloc)?, is_certified);
     let entry = pending_record(name, message, is_certified);
     make_room_for(held, &entry)?;
     Ok(Wanted {
@@ -270,12 +270,19 @@ fn counted<A: Allocator + Copy>(
     Ok(Found::Known(Answer::Noted(name)))
 }
 
-// The message that a packet carries.
-fn message_in<A: Allocator>(alloc: A, packet: &PacketView<'_>) -> Result<Message<A>, NoMemory>
+// The message that a packet carries: the known one, or a copy out of the packet.
+fn message_in<A: Allocator + Copy>(
+    alloc: A,
+    packet: &PacketView<'_>,
+    known: Option<Message<A>>,
+) -> Result<Message<A>, NoMemory>
+    requires known { ForSome known (λ m. m ≡ packet.now.message) }
     ensures { IfOk result (λ m. m ≡ packet.now.message) }
 {
-    let message = Message::copied(alloc, packet.client(), packet.number(), packet.payload())?;
-    Ok(message)
+    match known {
+        Some(message) => Ok(message),
+        None => Message::copied(alloc, packet.client(), packet.number(), packet.payload()),
+    }
 }
 
 // The answer to a packet's source: that this node has stored a certificate of the name, and whether it heard of one there.
@@ -283,15 +290,17 @@ fn reply_to<A: Allocator + Copy>(
     alloc: A,
     node: NodeId,
     packet: &PacketView<'_>,
+    known: Option<Message<A>>,
     heard: bool,
 ) -> Result<Outbox<A>, NoMemory>
-    requires { packet.now.target ≡ node }
+    requires target { packet.now.target ≡ node }
+    requires known { ForSome known (λ m. m ≡ packet.now.message) }
     ensures { IfOk result (λ outbox.
         outbox ≡ answer_with node packet.now.source packet.now.name packet.now.message heard ∷ []) }
 {
     // This gives the proof that a packet's nodes differ.
     let _apart = packet.target();
-    let message = message_in(alloc, packet)?;
+    let message = message_in(alloc, packet, known)?;
     let flags = Flags {
         certified: true,
         heard,
@@ -315,9 +324,11 @@ fn answered<A: Allocator + Copy>(
     held: &mut Held<A>,
     alloc: A,
     packet: &PacketView<'_>,
+    known: Option<Message<A>>,
 ) -> Result<Found<A>, Refusal>
     requires kept { IsHeld held.old }
     requires target { packet.now.target ≡ held.old.node }
+    requires known { ForSome known (λ m. m ≡ packet.now.message) }
     requires pending { is_some (message_of held.old.pending.pairs packet.now.name) ≡ true }
     ensures kept { IsHeld held.new }
     ensures same { IsSameNode (memory_of held.old) (memory_of held.new) }
@@ -336,7 +347,7 @@ fn answered<A: Allocator + Copy>(
         return Ok(Found::Known(Answer::Again(name)));
     }
     let heard = says_certified(flags) || held.resend.heard(name, source);
-    let packets = reply_to(alloc, held.node, packet, heard)?;
+    let packets = reply_to(alloc, held.node, packet, known, heard)?;
     hear_packet(held, source, name, flags);
     Ok(Found::Known(Answer::Answered(name, packets)))
 }
@@ -346,9 +357,11 @@ pub(crate) fn arrived<A: Allocator + Copy>(
     held: &mut Held<A>,
     alloc: A,
     packet: &PacketView<'_>,
+    known: Option<Message<A>>,
 ) -> Result<Found<A>, Refusal>
     requires kept { IsHeld held.old }
     requires packet { IsForNode (memory_of held.old) packet.now }
+    requires known { ForSome known (λ m. m ≡ packet.now.message) }
     ensures kept { IsHeld held.new }
     ensures same { IsSameNode (memory_of held.old) (memory_of held.new) }
     ensures wanted { IfOk result (λ found. IsFoundIn held.new found) }
@@ -362,13 +375,13 @@ pub(crate) fn arrived<A: Allocator + Copy>(
     // This gives the proof the range of a node's number.
     let _range = source.number();
     if held.pending.message(name).is_none() {
-        let message = message_in(alloc, packet)?;
+        let message = message_in(alloc, packet, known)?;
         let is_certified = is_majority(2, held.config.n());
         let cause = Some(cause_of(source, flags));
         return Ok(Found::New(make_wanted(held, alloc, name, message, is_certified, cause)?));
     }
     if held.acks.certified(name) {
-        return answered(held, alloc, packet);
+        return answered(held, alloc, packet, known);
     }
     counted(held, alloc, source, name, flags)
 }

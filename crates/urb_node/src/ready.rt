@@ -1,6 +1,7 @@
 //! A node that holds no draft.
 
 ghost use Rattle.std.specs.Prelude.{◌≡◌, ◌≤◌, [], IfErr, IfOk, OnErr, OnOk};
+ghost use Rattle.std.specs.Option.{ForSome};
 ghost use Rattle.urb_names.specs.Carried.{AreFrom};
 ghost use Rattle.urb_stubborn.specs.Resending.{tick_packets, ticked};
 ghost use Rattle.urb_node.specs.Held.{memory_of, IsHeld};
@@ -17,7 +18,7 @@ use std::alloc::{Allocator, Global};
 use std::marker::Model;
 use urb_fifo::Fifo;
 use urb_majority::Acks;
-use urb_names::{ClientId, Config, NoMemory, NodeId, PacketView, Refusal};
+use urb_names::{ClientId, Config, Message, NoMemory, NodeId, PacketView, Refusal};
 use urb_pending::Pending;
 use urb_stable::Draft;
 use urb_stubborn::{Outbox, Resend};
@@ -142,11 +143,33 @@ impl<A: Allocator + Copy> Ready<A> {
         // Refused, the node is as it was, whatever it shows.
         ensures refused { IfErr result (λ e. e.0 ≡ self) }
     {
+        self.arrive_sharing(alloc, packet, None)
+    }
+
+    /// The same, where another message of the same content may be at hand, whose payload is shared then.
+    pub fn arrive_sharing(
+        self,
+        alloc: A,
+        packet: PacketView<'_>,
+        known: Option<Message<A>>,
+    ) -> Result<Step<A>, (Ready<A>, Refusal)>
+        requires packet { IsForNode self packet }
+        requires known { ForSome known (λ m. m ≡ packet.message) }
+        ensures event { Arrives self packet.entry.source packet.entry.name packet.entry.message
+            packet.entry.flags result }
+
+        // What it answers is of the node's stored pairs, with the node as its source.
+        ensures memory { IfOk result AnswersFrom }
+        ensures stored { IfOk result AnswersOfStored }
+
+        // Refused, the node is as it was, whatever it shows.
+        ensures refused { IfErr result (λ e. e.0 ≡ self) }
+    {
         let Ready { mut held } = self;
         // These give the proof that a packet's nodes differ, and the range of their numbers.
         let _apart = packet.target();
         let _range = packet.source().number();
-        match arrived(&mut held, alloc, &packet) {
+        match arrived(&mut held, alloc, &packet, known) {
             Ok(found) => Ok(step_of(held, found)),
             Err(refusal) => Err((Ready { held }, refusal)),
         }

@@ -6,6 +6,7 @@ ghost use Rattle.urb_names.specs.Names.{name};
 mod answers;
 mod calling;
 mod calls;
+mod forty;
 mod keeping;
 mod opening;
 mod packets;

@@ -58,8 +58,8 @@ fn message_or_nothing<A: Allocator + Copy>(
     ensures { IfOk result (λ message. message ≡ or_nothing (option_map (λ m. m.now) stored.entry)) }
 {
     match stored {
-        Some(message) => message.copy(alloc),
-        None => Ok(Message::new(ClientId::new(1).unwrap(), 1, Vec::new(alloc))),
+        Some(message) => message.share(alloc),
+        None => Message::copied(alloc, ClientId::new(1).unwrap(), 1, &[]),
     }
 }
 

@@ -1,10 +1,12 @@
 -- Beginnings of lists that agree do; and what one more entry makes of lists.
-use Rattle.std.proofs.Common.{List, [], ap, arith, inl, inr, length, map, refl, slice_index_or, suc, sym, zero, ℕ, ⊎_elim, ◌++◌, ◌<◌, ◌==◌, ◌∙◌, ◌∷◌, ◌≡◌, ◌⊎◌}
+use Rattle.std.proofs.Common.{List, [], ap, arith, inl, inr, length, map, refl, slice_index_or, subst, suc, sym, zero, ℕ, ⊎_elim, ◌++◌, ◌<◌, ◌==◌, ◌∙◌, ◌∷◌, ◌≡◌, ◌⊎◌}
 use Rattle.std.proofs.lemmas.List.Elements.{filter-append}
 use Rattle.urb_group.specs.Delivering.{Delivery, sent_by}
 use Rattle.urb_names.specs.Nodes.{numbers_from}
 use Rattle.urb_show.proofs.Prefixes.{prefix_length, prefix_trans}
-use Rattle.urb_show.specs.Lists.{Agree, Begins, Lists, add_at, delivery_of, list_at}
+use Rattle.urb_show.proofs.Beginnings.{begins_self, begins_trans}
+use Rattle.urb_show.specs.Known.{AreOfOneHistory, GoesOn, HasLearnt, HasRead, Known, Learns, Rests, Takes}
+use Rattle.urb_show.specs.Lists.{Agree, AgreeAcross, Begins, Lists, OneBeginsAll, add_at, delivery_of, list_at}
 use Rattle.urb_show.specs.declared.entry.Entry.{Entry}
 use mathlib.Core.List.{IsPrefix}
 
@@ -59,6 +61,48 @@ agree_begins xs ys b agree = record {
   where
     at : (p : ℕ) → IsPrefix (map delivery_of (list_at xs p)) (map delivery_of (list_at ys p))
     at p = map_prefix delivery_of _ _ (begins_at xs ys p b)
+
+-- a list that begins one of those that agree, and any of them
+pub begins_across : (xs ys : Lists) → Begins xs ys → Agree ys → AgreeAcross xs ys
+begins_across xs ys b agree p q s =
+    let at = sent_prefix s _ _ (map_prefix delivery_of _ _ (begins_at xs ys p b)) in
+    ⊎_elim (λ t. inl (prefix_trans _ _ _ at t)) (λ t. either_prefix _ _ _ at t) (agree.one_begins p q s)
+
+pub one_begins_across : (xs ys : Lists) → OneBeginsAll xs ys → Agree xs → Agree ys → AgreeAcross xs ys
+one_begins_across xs ys (inl b) left right p q s = begins_across xs ys b right p q s
+one_begins_across xs ys (inr b) left right p q s = ⊎_elim (λ t. inr t) (λ t. inl t) (begins_across ys xs b left q p s)
+
+pub of_one_history : (xs ys : Lists) → OneBeginsAll xs ys → Agree xs → Agree ys → AreOfOneHistory xs ys
+of_one_history xs ys one left right = record { these_agree = left; those_agree = right; one_begins = one; across = one_begins_across xs ys one left right }
+
+pub goes_on_begins : (first last : Known) → GoesOn first last → Begins first.seen last.seen
+goes_on_begins first last Rests = begins_self first.seen
+goes_on_begins first last (HasRead before after runs takes) = begins_trans first.seen before.seen last.seen (goes_on_begins first before runs) takes.seen
+goes_on_begins first last (HasLearnt token before after runs learns) = subst (λ (w : Lists). Begins first.seen w) (sym learns.seen) (goes_on_begins first before runs)
+
+pub goes_on_agrees : (first before last : Known) → GoesOn first before → Takes before last → AreOfOneHistory first.seen last.seen
+goes_on_agrees first before last runs then =
+    let seen = begins_trans first.seen before.seen last.seen (goes_on_begins first before runs) then.seen in
+    of_one_history first.seen last.seen (inl seen) (agree_begins first.seen last.seen seen then.agree) then.agree
+
+pub goes_on_told : (first last : Known) → GoesOn first last → Begins first.told last.told
+goes_on_told first last Rests = begins_self first.told
+goes_on_told first last (HasRead before after runs takes) = subst (λ (w : Lists). Begins first.told w) (sym takes.kept) (goes_on_told first before runs)
+goes_on_told first last (HasLearnt token before after runs learns) = begins_trans first.told before.told last.told (goes_on_told first before runs) learns.earlier
+
+-- who learnt a token takes lists that begin with what it tells
+pub learnt_agrees : (token : Lists) (start first before last : Known) → Learns token start first → GoesOn first before → Takes before last → AreOfOneHistory token last.seen
+learnt_agrees token start first before last learns runs then =
+    let told = begins_trans token first.told before.told learns.told (goes_on_told first before runs) in
+    let seen = begins_trans token before.told last.seen told then.told in
+    of_one_history token last.seen (inl seen) (agree_begins token last.seen seen then.agree) then.agree
+
+-- lists that begin lists of one history
+pub earlier_across : (xs us ys vs : Lists) → Begins xs us → Begins ys vs → AreOfOneHistory us vs → AgreeAcross xs ys
+earlier_across xs us ys vs b c one p q s =
+    let left = sent_prefix s _ _ (map_prefix delivery_of _ _ (begins_at xs us p b)) in
+    let right = sent_prefix s _ _ (map_prefix delivery_of _ _ (begins_at ys vs q c)) in
+    ⊎_elim (λ t. either_prefix _ _ _ (prefix_trans _ _ _ left t) right) (λ t. either_prefix _ _ _ left (prefix_trans _ _ _ right t)) (one.across p q s)
 
 -- the next entry goes behind a beginning
 pub prefix_next : (xs ys : List Entry) (e : Entry) → IsPrefix xs ys → length xs < length ys → e ≡ slice_index_or ys (length xs) e → IsPrefix (xs ++ e ∷ []) ys

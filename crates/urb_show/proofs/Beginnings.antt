@@ -1,10 +1,10 @@
 -- Lists that begin others, node by node.
-use Rattle.std.proofs.Common.{◌≡◌, ℕ, zero, suc, List, [], ◌∷◌, ◌++◌, refl, subst, sym, ap, ◌∙◌}
+use Rattle.std.proofs.Common.{◌≡◌, ◌⊎◌, inl, inr, ℕ, zero, suc, List, [], ◌∷◌, ◌++◌, refl, subst, sym, ap, ◌∙◌}
 use Rattle.std.proofs.lemmas.List.Sums.{fold-append}
 use mathlib.Core.List.{IsPrefix}
 use Rattle.urb_show.specs.declared.entry.Entry.{Entry}
 use Rattle.urb_show.specs.declared.entry.Addition.{Addition}
-use Rattle.urb_show.specs.Lists.{Agree, Begins, Lists, add_at}
+use Rattle.urb_show.specs.Lists.{Agree, Begins, Lists, OneBeginsAll, add_at}
 use Rattle.urb_show.specs.Known.{Known, Takes}
 use Rattle.urb_show.specs.History.{lists_of}
 use Rattle.urb_show.proofs.Prefixes.{prefix_self, prefix_trans}
@@ -33,6 +33,12 @@ pub begins_later : (base : Lists) (log later : List Addition) → IsPrefix log l
 begins_later base log later pre =
     let e : lists_of base later ≡ lists_of (lists_of base log) pre.0 = ap (lists_of base) (sym pre.1) ∙ fold-append (λ lists (x : Addition). add_at lists x.place x.entry) base log pre.0 in
     subst (λ (w : Lists). Begins (lists_of base log) w) (sym e) (begins_all (lists_of base log) pre.0)
+
+-- of two histories, one of which is a longest that both begin, one gives lists that begin the other's
+pub longer_begins : (base : Lists) (one other longest : List Addition) → (longest ≡ one) ⊎ (longest ≡ other) → IsPrefix one longest → IsPrefix other longest
+    → OneBeginsAll (lists_of base one) (lists_of base other)
+longer_begins base one other longest (inl same) p q = inr (begins_later base other one (subst (λ (w : List Addition). IsPrefix other w) same q))
+longer_begins base one other longest (inr same) p q = inl (begins_later base one other (subst (λ (w : List Addition). IsPrefix one w) same p))
 
 -- what a reader takes begins with what it knew, where the history does
 pub takes : (base : Lists) (seen told now : List Addition) (before : Known) → record { seen = lists_of base seen; told = lists_of base told } ≡ before

@@ -8,3 +8,4 @@ pub mod GroupLists
 pub mod Telling
 pub mod Preparing
 pub mod Settling
+pub mod NeverContradicting

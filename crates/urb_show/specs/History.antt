@@ -1,6 +1,6 @@
 -- The history of all additions, which exists in proofs alone: the rule of its book, what a step tells, and the lists that it
 -- stands for.
-use Rattle.std.specs.Prelude.{List, MatchBool, [], fold, length, true, ℕ, ◌++◌, ◌==◌, ◌∷◌, ◌≡◌}
+use Rattle.std.specs.Prelude.{List, MatchBool, [], fold, length, true, ℕ, ◌++◌, ◌<◌, ◌==◌, ◌^◌, ◌∷◌, ◌≡◌, ◌≤◌, ◌⊎◌}
 use Rattle.logbook.specs.Pages.{Book, Cell, Named, Step, View}
 use Rattle.urb_show.specs.Lists.{Lists, add_at}
 use Rattle.urb_show.specs.declared.entry.Addition.{Addition}
@@ -35,8 +35,19 @@ pub record Issue : Type 0 where
 abbrev pub issue_of : Book → Lists → List Addition → Issue
 issue_of book base log = record { lists = lists_of base log; mark = record { book = book; log = log } }
 
--- all additions, those that the writer has, and those that are published
+-- a history that can have no addition more
+abbrev pub IsFull : List Addition → Type 0
+IsFull log = 2 ^ 62 ≤ length log
+
+-- the longest history that the book was seen to have, all additions of the press, those that its
+-- writer has, and those that are published
 pub record Pressed : Type 0 where
+  pub known : List Addition
   pub all : List Addition
   pub queued : List Addition
   pub shown : List Addition
+
+-- Nothing was added: the history is full, or the book was seen to have an addition that isn't the press's.
+pub record AddsNothing (before after : Pressed) : Type 0 where
+  pub kept : (after.all ≡ before.all) × (after.queued ≡ before.queued) × (after.shown ≡ before.shown)
+  pub cause : IsFull before.all ⊎ (length before.all < length after.known)

@@ -1,6 +1,6 @@
 -- What a reader knows, and what a read makes of it.
 use Rattle.std.specs.Prelude.{◌≡◌, ◌⊎◌}
-use Rattle.urb_show.specs.Lists.{Agree, Begins, Lists}
+use Rattle.urb_show.specs.Lists.{Agree, AgreeAcross, Begins, Lists, OneBeginsAll}
 
 -- the lists that it took last, and the longest that it learnt
 pub record Known : Type 0 where
@@ -20,3 +20,17 @@ pub record Learns (token : Lists) (before after : Known) : Type 0 where
   pub earlier : Begins before.told after.told
   pub told : Begins token after.told
   pub seen : after.seen ≡ before.seen
+
+-- What two saw, at whatever moments, is of one history: each agrees, and one begins the other node by
+-- node. So of any two lists of theirs, one sender's part in one begins that in the other.
+pub record AreOfOneHistory (these those : Lists) : Type 0 where
+  pub these_agree : Agree these
+  pub those_agree : Agree those
+  pub one_begins : OneBeginsAll these those
+  pub across : AgreeAcross these those
+
+-- a reader after reads that were answered and what it learnt between them, one after the other
+pub data GoesOn (first : Known) : Known → Type 0 where
+  Rests : GoesOn first first
+  HasRead : (before after : Known) → GoesOn first before → Takes before after → GoesOn first after
+  HasLearnt : (token : Lists) (before after : Known) → GoesOn first before → Learns token before after → GoesOn first after

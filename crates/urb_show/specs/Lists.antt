@@ -1,7 +1,7 @@
 -- Lists of entries, one for each node: when they begin others, when they agree, and those of a group.
-use Rattle.std.specs.Prelude.{List, [], map, slice_index_or, suc, zero, ℕ, ◌++◌, ◌∷◌}
-use Rattle.urb_names.specs.Beginnings.{Begins as IsBeginning}
-use Rattle.urb_group.specs.Delivering.{Agree as AgreeAll, Delivery, deliveries}
+use Rattle.std.specs.Prelude.{List, [], map, slice_index_or, suc, zero, ℕ, ◌++◌, ◌∷◌, ◌⊎◌}
+use Rattle.urb_names.specs.Beginnings.{Begins as IsBeginning, OneBegins}
+use Rattle.urb_group.specs.Delivering.{Agree as AgreeAll, Delivery, deliveries, sent_by}
 use Rattle.urb_group.specs.Shown.{GroupView}
 use Rattle.urb_show.specs.declared.entry.Entry.{Entry}
 
@@ -27,6 +27,14 @@ delivery_of e = (e.name, e.message)
 -- and each list has fewer than 2^32 entries.
 abbrev pub Agree : Lists → Type 0
 Agree lists = AgreeAll (λ place. map delivery_of (list_at lists place))
+
+-- one of the two begins the other
+abbrev pub OneBeginsAll : Lists → Lists → Type 0
+OneBeginsAll xs ys = Begins xs ys ⊎ Begins ys xs
+
+-- of a list of these and a list of those, of whatever nodes, one sender's part of one begins the other's
+abbrev pub AgreeAcross : Lists → Lists → Type 0
+AgreeAcross xs ys = (p q s : ℕ) → OneBegins (sent_by s (map delivery_of (list_at xs p))) (sent_by s (map delivery_of (list_at ys q)))
 
 -- what a group has delivered, as an entry
 abbrev pub entry_of : Delivery → Entry

@@ -1,13 +1,13 @@
 //! The history of all additions to the published lists. It exists in proofs alone: what the program keeps is its length.
-ghost use Rattle.std.specs.Prelude.{◌≡◌, ◌⊎◌, ◌+◌, ◌<◌, ◌≤◌, ◌^◌, ◌++◌, ◌∷◌, [], length, IsTrue};
+ghost use Rattle.std.specs.Prelude.{◌≡◌, ◌⊎◌, ◌+◌, ◌<◌, ◌≤◌, ◌^◌, ◌++◌, ◌∷◌, [], length, MatchBool};
 ghost use mathlib.Core.List.{IsPrefix};
-ghost use Rattle.urb_show.specs.History.{head_of};
+ghost use Rattle.urb_show.specs.History.{IsFull, head_of};
 
 use crate::entry::Addition;
 use logbook::{Gain, Offer, Plain, Play, Rule, Seen, Start, Word};
 use std::marker::{Brand, Model, PhantomData};
 
-// How long a history may become, which leaves room for the next length.
+// How many additions a history may have.
 const MOST: u64 = 1 << 62;
 
 /// The rule of the book: its word is the length of the history.
@@ -243,9 +243,12 @@ impl<K: HouseName> Front<K> {
         }
     }
 
-    /// Adds to the history. False where it is longer than this, which it never is while one owner adds, or full.
+    /// Adds to the history. False if it is full; or if it is longer than this, and then this becomes the
+    /// longer one.
     pub(crate) fn add(&mut self, book: &Book<K>, addition: &Addition) -> bool
-        ensures added { IsTrue result → self.new ≡ self.old ++ addition.now ∷ [] }
+        ensures added { MatchBool result
+            (self.new ≡ self.old ++ addition.now ∷ []) (IsFull self.old ⊎ (length self.old < length self.new)) }
+        ensures begins { IsPrefix self.old self.new }
     {
         if self.count >= MOST {
             return false;

@@ -40,7 +40,7 @@ pub(crate) fn entry_at(
     let Some(message) = group.message(node, name) else {
         unreachable!()
     };
-    let message = message.copy(alloc)?;
+    let message = message.share(alloc)?;
     Ok(Entry { name, message })
 }
 

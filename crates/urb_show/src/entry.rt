@@ -1,7 +1,7 @@
 //! Entries of a node's log, and pages of them.
 ghost use Rattle.std.specs.Prelude.{◌≡◌, IfOk};
 
-use std::alloc::Global;
+use std::alloc::{Allocator, Global};
 use urb_group::{Message, Name, NoMemory};
 
 /// A name that a node has delivered, and its message.
@@ -14,11 +14,11 @@ pub struct Entry {
 }
 
 impl Entry {
-    /// Another entry with the same content. Its memory comes from `alloc`.
-    pub(crate) fn copy(&self, alloc: Global) -> Result<Entry, NoMemory>
+    /// Another entry with the same content, which shares the payload's memory.
+    pub(crate) fn share(&self, alloc: Global) -> Result<Entry, NoMemory>
         ensures { IfOk result (λ e. e ≡ self.now) }
     {
-        let message = self.message.copy(alloc)?;
+        let message = self.message.share(alloc)?;
         Ok(Entry {
             name: self.name,
             message,
@@ -26,11 +26,12 @@ impl Entry {
     }
 }
 
-/// Some entries of a node's published list.
-#[derive(Debug, Drop)]
-pub struct Page {
+/// Some entries of a node's published list. The list's memory comes from an allocator `A`.
+#[derive(Drop)]
+#[derive_where(Debug)]
+pub struct Page<A: Allocator = Global> {
     /// The entries, in the order of their delivery.
-    pub entries: Vec<Entry>,
+    pub entries: Vec<Entry, A>,
     /// How many entries the whole list had when it was read.
     pub total: u32,
 }

@@ -8,7 +8,7 @@ ghost use Rattle.urb_show.specs.Housed.{IsEvent, next_count};
 
 use crate::book::HouseName;
 use crate::house::House;
-use std::alloc::Global;
+use std::alloc::{Allocator, Global};
 use urb_group::{ClientId, Done, Doubt, Group, NodeId, Outbox, Receipt, Record, Refusal, Taken};
 
 // How many events there are after a call of the group: one more where it was not refused.
@@ -23,7 +23,7 @@ fn counted<T, E>(group: &Group, events: u64, done: &Result<T, E>) -> u64
     }
 }
 
-impl<K: HouseName> House<K> {
+impl<K: HouseName, A: Allocator> House<K, A> {
     /// A client gives a node a message to broadcast, with the next of its numbers at this node: `Group::submit`, with its
     /// refusals.
     pub fn submit(

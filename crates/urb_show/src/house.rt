@@ -10,22 +10,24 @@ use crate::delivered::{entry_at, entry_count};
 use crate::entry::Addition;
 use crate::press::Press;
 use crate::reader::Told;
+use std::alloc::{Allocator, Global};
 use std::marker::Model;
 use std::sync::Wait;
 use urb_group::{Group, NoMemory, NodeId};
 
 /// A group, and what of its nodes' logs is published. Its calls change it one event at a time, so a lock may hold it.
 ///
-/// It can't be dropped, since its readers may stand in the midst of a read: end it by `close`.
-pub struct House<K: HouseName> {
+/// It can't be dropped, since its readers may be in the midst of a read: end it by `close`. What its nodes and the
+/// published lists hold is at `Global`; all else comes from an allocator `A`, so that tests can refuse it.
+pub struct House<K: HouseName, A: Allocator = Global> {
     pub(crate) group: Group,
-    pub(crate) press: Press<K>,
+    pub(crate) press: Press<K, A>,
     // How long each list is that was prepared.
     pub(crate) prepared: Vec<usize>,
     pub(crate) events: u64,
 }
 
-impl<K: HouseName> Model for House<K> {
+impl<K: HouseName, A: Allocator> Model for House<K, A> {
     ghost use Rattle.urb_show.specs.History.{lists_of};
     ghost use Rattle.urb_show.specs.Housed.{Housed};
     ghost use Rattle.urb_show.specs.Prepared.{IsHouse};
@@ -42,7 +44,7 @@ impl<K: HouseName> Model for House<K> {
     ghost invariant = { λ h. IsHouse h.group (lists_of K.base h.press.all) h.prepared.items };
 }
 
-impl<K: HouseName> House<K> {
+impl<K: HouseName, A: Allocator> House<K, A> {
     /// That the group of every house is sound, that each published list begins what its node has delivered, and that this
     /// agrees: for proofs alone, since it does nothing.
     pub fn promise(&self)

@@ -30,6 +30,7 @@ mod delivered;
 mod entry;
 mod events;
 mod house;
+pub mod laws;
 mod opened;
 mod press;
 mod published;

@@ -16,7 +16,7 @@ use crate::reader::LogReader;
 use crate::rule::Grows;
 use left_right::reader::Factory;
 use left_right::writer::Writer;
-use std::alloc::Global;
+use std::alloc::{Allocator, Global};
 use std::marker::{Brand, Model};
 use std::sync::Wait;
 use urb_group::{Group, NoMemory, NodeId, Refusal};
@@ -76,14 +76,35 @@ impl Opened {
         ensures known { IfOk result (λ t.
             All (λ r. r ≡ record { seen = K.base; told = K.base }) t.1.items) }
     {
+        self.parts_in::<K, R, Global>(rt, alloc, alloc)
+    }
+
+    /// `parts`, with the lists at `alloc`, and all else in `memory`: the room for the readers, and the queue of
+    /// what isn't published yet.
+    ///
+    /// `NoMemory`: what was opened comes back as it was, and the same call may be made again.
+    pub fn parts_in<K: HouseName, R: Wait, A: Allocator + Copy>(
+        self,
+        rt: &R,
+        alloc: Global,
+        memory: A,
+    ) -> Result<(House<K, A>, Vec<LogReader<K, A>, A>), (Opened, NoMemory)>
+        requires names { (self.book ≡ K.book) × (lists_in self.group ≡ K.base) }
+        ensures house { MatchResult result
+            (λ t. t.0 ≡ opened_house self.group K.base) (λ e. e.0 ≡ self) }
+        ensures readers { IfOk result (λ t. length t.1.items ≡ READERS * self.group.size.n) }
+        ensures known { IfOk result (λ t.
+            All (λ r. r ≡ record { seen = K.base; told = K.base }) t.1.items) }
+    {
         let Opened { group, unnamed } = self;
         group.deliveries();
         let count = READERS * usize::from(group.config().n());
-        let Ok((writer, prepared)) = writer_of::<K>(alloc, &group, &unnamed, count) else {
+        let Ok((writer, prepared)) = writer_of::<K, A>(alloc, memory, &group, &unnamed, count)
+        else {
             return Err((Opened { group, unnamed }, NoMemory));
         };
         let factory = writer.factory();
-        let Ok(readers) = readers_of::<K>(alloc, &factory, &unnamed, count) else {
+        let Ok(readers) = readers_of::<K, A>(memory, &factory, &unnamed, count) else {
             drop(writer.take(rt));
             return Err((Opened { group, unnamed }, NoMemory));
         };
@@ -99,12 +120,13 @@ impl Opened {
 }
 
 // The writer with two copies of the nodes' entries, and how long each list is.
-fn writer_of<K: HouseName>(
+fn writer_of<K: HouseName, A: Allocator + Copy>(
     alloc: Global,
+    memory: A,
     group: &Group,
     unnamed: &Unnamed,
     count: usize,
-) -> Result<(LogWriter<K>, Vec<usize>), NoMemory>
+) -> Result<(LogWriter<K, A>, Vec<usize>), NoMemory>
     requires names { (unnamed.now.seen.book ≡ K.book) × (lists_in group.now ≡ K.base) }
     requires count { (0 < count) × (count < 2 ^ 32) }
     ensures { IfOk result (λ t.
@@ -117,7 +139,7 @@ fn writer_of<K: HouseName>(
     let (second, _) = copy_lists(alloc, group)?;
     let first = Published::new(first, unnamed.mark());
     let second = Published::new(second, unnamed.mark());
-    let writer = Writer::new(alloc, first, second, count)?;
+    let writer = Writer::new(memory, first, second, count)?;
     Ok((writer, prepared))
 }
 
@@ -142,13 +164,14 @@ fn copy_lists(alloc: Global, group: &Group) -> Result<(Vec<Vec<Entry>>, Vec<usiz
 }
 
 // So many readers, which have seen the empty history.
-fn readers_of<K: HouseName>(
-    alloc: Global,
-    factory: &Factory<Published, u64, Grows<K>>,
+fn readers_of<K: HouseName, A: Allocator + Copy>(
+    alloc: A,
+    factory: &Factory<Published, u64, Grows<K>, A>,
     unnamed: &Unnamed,
     count: usize,
-) -> Result<Vec<LogReader<K>>, NoMemory>
-    requires { unnamed.now.seen.book ≡ K.book }
+) -> Result<Vec<LogReader<K, A>, A>, NoMemory>
+    requires name { unnamed.now.seen.book ≡ K.book }
+    requires agree { Agree K.base }
     ensures count { IfOk result (λ v. length v.items ≡ count) }
     ensures known { IfOk result (λ v.
         All (λ r. r ≡ record { seen = K.base; told = K.base }) v.items) }

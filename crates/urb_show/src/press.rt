@@ -2,7 +2,7 @@
 ghost use Rattle.std.specs.Prelude.{◌≡◌, [], ◌∷◌, ◌++◌, length, drop, MatchResult};
 ghost use mathlib.Core.List.{IsPrefix};
 ghost use Rattle.urb_show.specs.Lists.{Agree};
-ghost use Rattle.urb_show.specs.History.{lists_of, issue_of};
+ghost use Rattle.urb_show.specs.History.{AddsNothing, lists_of, issue_of};
 
 use crate::book::{Book, Front, HouseName};
 use crate::entry::Addition;
@@ -10,25 +10,28 @@ use crate::published::{Operation, Published};
 use crate::reader::Told;
 use crate::rule::{Grows, Sees};
 use left_right::writer::Writer;
+use std::alloc::{Allocator, Global};
 use std::marker::Model;
 use std::mem::replace;
 use std::sync::Wait;
 use urb_group::NoMemory;
 
-pub(crate) type LogWriter<K> = Writer<Published, Operation, u64, Grows<K>>;
+pub(crate) type LogWriter<K, A = Global> = Writer<Published, Operation, u64, Grows<K>, A>;
 
-/// Contracts see three histories, each a beginning of the one before: all additions, those that the writer has, and those that are published.
-pub(crate) struct Press<K: HouseName> {
+/// Contracts see four histories, each a beginning of the one before: the longest that the book was seen to
+/// have, all additions of this press, those that the writer has, and those that are published.
+pub(crate) struct Press<K: HouseName, A: Allocator = Global> {
     book: Book<K>,
+    known: Front<K>,
     all: Front<K>,
     queued: Front<K>,
     shown: Front<K>,
-    // The last addition, where the writer had no room for it.
+    // The last addition, if the writer had no room for it.
     kept: Option<Operation>,
-    writer: Option<LogWriter<K>>,
+    writer: Option<LogWriter<K, A>>,
 }
 
-impl<K: HouseName> Model for Press<K> {
+impl<K: HouseName, A: Allocator> Model for Press<K, A> {
     ghost use Rattle.std.specs.Prelude.{◌≡◌, [], ◌∷◌, ◌++◌, drop, fold};
     ghost use Rattle.std.specs.Option.{IsSomeAnd, MatchOption};
     ghost use mathlib.Core.List.{IsPrefix};
@@ -38,7 +41,8 @@ impl<K: HouseName> Model for Press<K> {
 
     ghost Value = { Pressed };
 
-    ghost view = { λ p. record { all = p.all; queued = p.queued; shown = p.shown } };
+    ghost view = { λ p.
+        record { known = p.known; all = p.all; queued = p.queued; shown = p.shown } };
 
     ghost invariant = { λ p.
         IsPrefix p.shown p.queued
@@ -48,21 +52,24 @@ impl<K: HouseName> Model for Press<K> {
         × IsSomeAnd p.writer (λ w.
         (w.desk.shown.value ≡ issue_of K.book K.base p.shown)
         × (fold applied_to (state_of (issue_of K.book K.base p.shown)) (drop w.behind w.log.items)
-        ≡ state_of (issue_of K.book K.base p.queued))) };
+        ≡ state_of (issue_of K.book K.base p.queued)))
+        × IsPrefix p.all p.known };
 }
 
-impl<K: HouseName> Press<K> {
-    pub(crate) fn new(book: Book<K>, front: Front<K>, writer: LogWriter<K>) -> Press<K>
+impl<K: HouseName, A: Allocator> Press<K, A> {
+    pub(crate) fn new(book: Book<K>, front: Front<K>, writer: LogWriter<K, A>) -> Press<K, A>
         requires empty { front ≡ [] }
         requires agree { Agree K.base }
         requires writer { (writer.desk.shown.value ≡ issue_of K.book K.base [])
             × (drop writer.behind writer.log.items ≡ []) }
-        ensures { result ≡ record { all = []; queued = []; shown = [] } }
+        ensures { result ≡ record { known = []; all = []; queued = []; shown = [] } }
     {
+        let known = front.again();
         let queued = front.again();
         let shown = front.again();
         Press {
             book,
+            known,
             all: front,
             queued,
             shown,
@@ -71,16 +78,23 @@ impl<K: HouseName> Press<K> {
         }
     }
 
-    /// Adds to the history. The writer gets it by `flush`.
+    /// Adds to the history. The writer gets it by `flush`. It asks for no memory itself.
+    ///
+    /// `NoMemory`: the history is full, or the book has an addition that isn't this press's.
     pub(crate) fn add(&mut self, addition: Addition) -> Result<(), NoMemory>
         requires flushed { self.old.queued ≡ self.old.all }
         requires agree { Agree (lists_of K.base (self.old.all ++ addition ∷ [])) }
         ensures { MatchResult result
-            (λ _. self.new ≡ record self.old { all = self.old.all ++ addition ∷ [] })
-            (λ _. self.new ≡ self.old) }
+            (λ _. self.new ≡ record self.old {
+              known = self.old.all ++ addition ∷ [];
+              all = self.old.all ++ addition ∷ [];
+            })
+            (λ _. AddsNothing self.old self.new) }
     {
         let mut all = self.all.again();
-        if !all.add(&self.book, &addition) {
+        let added = all.add(&self.book, &addition);
+        self.known = all.again();
+        if !added {
             return Err(NoMemory);
         }
         self.kept = Some(Operation {
@@ -152,6 +166,7 @@ impl<K: HouseName> Press<K> {
     pub(crate) fn close<R: Wait>(self, rt: &R) {
         let Press {
             book: _,
+            known: _,
             all: _,
             queued: _,
             shown: _,

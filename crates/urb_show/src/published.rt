@@ -7,7 +7,7 @@ ghost use Rattle.urb_show.specs.Pages.{IsPageOf};
 use crate::book::Mark;
 use crate::entry::{Addition, Entry, Page};
 use left_right::Absorb;
-use std::alloc::{AllocError, Global};
+use std::alloc::{AllocError, Allocator, Global};
 use std::marker::Model;
 use urb_group::NoMemory;
 
@@ -54,7 +54,7 @@ impl Absorb<Operation> for Published {
         operation: &Operation,
         _other: &Published,
     ) -> Result<(), AllocError> {
-        let Ok(copy) = operation.addition.entry.copy(*self.lists.allocator()) else {
+        let Ok(copy) = operation.addition.entry.share(*self.lists.allocator()) else {
             return Err(AllocError);
         };
         if push_at(&mut self.lists, operation.addition.place, copy).is_err() {
@@ -128,14 +128,14 @@ impl Published {
         }
     }
 
-    /// The entries of a node from the place `first`, which counts from 1, at most `max`.
-    pub(crate) fn page(
+    /// The entries of a node from the place `first`, which counts from 1, at most `max`, in a list of `alloc`.
+    pub(crate) fn page<B: Allocator + Copy>(
         &self,
-        alloc: Global,
+        alloc: B,
         place: usize,
         first: u32,
         max: u8,
-    ) -> Result<Page, NoMemory>
+    ) -> Result<Page<B>, NoMemory>
         requires first { 1 ≤ first }
         requires agree { Agree self.now.lists }
         ensures { IfOk result (λ p. IsPageOf (list_at self.now.lists place) first max p) }
@@ -143,7 +143,7 @@ impl Published {
         let list = self.list(place);
         let from = list.len().min(first as usize - 1);
         let to = list.len().min(from + max as usize);
-        let entries = copy_all(alloc, &list[from..to])?;
+        let entries = copy_all(*self.lists.allocator(), alloc, &list[from..to])?;
         Ok(Page {
             entries,
             total: list.len() as u32,
@@ -151,13 +151,18 @@ impl Published {
     }
 }
 
-fn copy_all(alloc: Global, entries: &[Entry]) -> Result<Vec<Entry>, NoMemory>
+// Copies of these entries, in a list of `list`. A payload that can't be shared is copied to memory of `alloc`.
+fn copy_all<B: Allocator + Copy>(
+    alloc: Global,
+    list: B,
+    entries: &[Entry],
+) -> Result<Vec<Entry, B>, NoMemory>
     ensures { IfOk result (λ v. v.items ≡ entries.now) }
 {
-    let mut copies = Vec::new(alloc);
+    let mut copies = Vec::new(list);
     copies.reserve(entries.len())?;
     for entry in entries {
-        let copy = entry.copy(alloc)?;
+        let copy = entry.share(alloc)?;
         if copies.push(copy).is_err() {
             return Err(NoMemory);
         }

@@ -7,9 +7,10 @@ ghost use Rattle.urb_show.specs.Statuses.{TellsStatus};
 use crate::book::HouseName;
 use crate::house::House;
 use crate::status::Status;
+use std::alloc::Allocator;
 use urb_group::{Config, Message, Name, NodeId, State};
 
-impl<K: HouseName> House<K> {
+impl<K: HouseName, A: Allocator> House<K, A> {
     /// How many events there were that were not refused, since it was opened. The count stays at its greatest value,
     /// 18,446,744,073,709,551,615.
     pub fn events(&self) -> u64

@@ -1,7 +1,7 @@
 //! Readers of the published logs. They wait for nobody.
 ghost use Rattle.std.specs.Prelude.{◌≡◌, ◌⊎◌, ◌≤◌, ◌-◌, [], IfOk, IfErr, MatchResult, length};
-ghost use Rattle.urb_show.specs.Known.{Learns, Takes};
-ghost use Rattle.urb_show.specs.Lists.{Begins, list_at};
+ghost use Rattle.urb_show.specs.Known.{AreOfOneHistory, Learns, Takes};
+ghost use Rattle.urb_show.specs.Lists.{Agree, Begins, list_at};
 ghost use Rattle.urb_show.specs.Pages.{IsPageOf};
 ghost use Rattle.urb_show.specs.Faults.{Leaves};
 ghost use Rattle.urb_show.specs.History.{lists_of};
@@ -11,7 +11,7 @@ use crate::entry::Page;
 use crate::published::Published;
 use crate::rule::{Grows, Sees};
 use left_right::reader::Reader;
-use std::alloc::Global;
+use std::alloc::{Allocator, Global};
 use std::marker::Model;
 use urb_group::NodeId;
 
@@ -29,23 +29,26 @@ pub enum ReadFault {
 /// Contracts see the lists that it took last, and the longest that it learnt. So any two pages of one reader, of whatever
 /// nodes and moments, agree for each sender.
 #[derive(Drop)]
-pub struct LogReader<K: HouseName> {
-    reader: Option<Reader<Published, u64, Grows<K>>>,
+pub struct LogReader<K: HouseName, A: Allocator = Global> {
+    reader: Option<Reader<Published, u64, Grows<K>, A>>,
     seen: Front<K>,
     told: Front<K>,
 }
 
-impl<K: HouseName> Model for LogReader<K> {
+impl<K: HouseName, A: Allocator> Model for LogReader<K, A> {
     ghost use Rattle.std.specs.Prelude.{◌≤◌, length};
     ghost use Rattle.std.specs.Option.{IsSomeAnd};
     ghost use Rattle.urb_show.specs.History.{lists_of};
     ghost use Rattle.urb_show.specs.Known.{Known};
+    ghost use Rattle.urb_show.specs.Lists.{Agree};
 
     ghost Value = { Known };
 
     ghost view = { λ r. record { seen = lists_of K.base r.seen; told = lists_of K.base r.told } };
 
-    ghost invariant = { λ r. IsSomeAnd r.reader (λ it. length r.seen ≤ it.place.me.0.client) };
+    ghost invariant = { λ r.
+        IsSomeAnd r.reader (λ it. length r.seen ≤ it.place.me.0.client)
+        × Agree (lists_of K.base r.seen) };
 }
 
 /// That lists were published, all those of one moment: who learns it reads no less from then on. It holds no list, so it is
@@ -72,9 +75,13 @@ impl<K: HouseName> Told<K> {
     }
 }
 
-impl<K: HouseName> LogReader<K> {
-    pub(crate) fn new(reader: Reader<Published, u64, Grows<K>>, front: Front<K>) -> LogReader<K>
-        requires { front ≡ [] }
+impl<K: HouseName, A: Allocator> LogReader<K, A> {
+    pub(crate) fn new(
+        reader: Reader<Published, u64, Grows<K>, A>,
+        front: Front<K>,
+    ) -> LogReader<K, A>
+        requires empty { front ≡ [] }
+        requires agree { Agree K.base }
         ensures { result ≡ record { seen = K.base; told = K.base } }
     {
         let told = front.again();
@@ -89,13 +96,13 @@ impl<K: HouseName> LogReader<K> {
     /// at most `max` of them; none where the list is shorter.
     ///
     /// `NoMemory`: there was none for the page; ask again. `Gone`: the house was closed.
-    pub fn read(
+    pub fn read<B: Allocator + Copy>(
         &mut self,
-        alloc: Global,
+        alloc: B,
         node: NodeId,
         first: u32,
         max: u8,
-    ) -> Result<Page, ReadFault>
+    ) -> Result<Page<B>, ReadFault>
         requires { (node ≤ length K.base) × (1 ≤ first) }
         // the page is of lists that agree, and that begin with all that was seen and learnt
         ensures page { IfOk result (λ p.
@@ -127,6 +134,23 @@ impl<K: HouseName> LogReader<K> {
             Ok(page) => Ok(page),
             Err(_) => Err(ReadFault::NoMemory),
         }
+    }
+
+    /// That what two readers of one house saw last is of one history, so that no page of one contradicts a page of
+    /// the other: for proofs alone, since it does nothing. A reader's earlier pages are of lists that begin those
+    /// that it saw last.
+    pub fn agrees_with(&self, other: &LogReader<K, A>)
+        ensures { AreOfOneHistory self.now.seen other.now.seen }
+    {
+        let _ = self.seen.longer(&other.seen);
+    }
+
+    /// The lists that it saw last, as a token for another reader to learn, which then reads no less. So two readers
+    /// agree that are never lent in one place.
+    pub fn saw(&self) -> Told<K>
+        ensures { result ≡ self.now.seen }
+    {
+        Told::new(self.seen.again())
     }
 
     /// From now on it reads no less than this.

@@ -4,17 +4,20 @@ ghost use Rattle.urb_show.specs.Lists.{lists_in};
 
 mod again;
 mod readers;
+mod seven;
 mod walk;
 mod writer;
 
-use again::{deliver, reads_two};
+use again::{Tally, deliver, open_again};
 use readers::{learn_all, read_all, reads};
+use seven::seven_nodes;
 use std::alloc::Global;
 use std::marker::Brand;
 use std::sync::{Mutex, Wait};
 use std::test::*;
 use std::thread::{Threads, join};
 use urb_group::{Config, Group, NodeId};
+use urb_refusing::Refusing;
 use urb_show::*;
 use walk::walk;
 use writer::{Board, ROUNDS, write};
@@ -24,6 +27,15 @@ fn opened(alloc: Global) -> Option<Opened>
     ensures { IfSome result (λ it. it.group.size.n ≡ 3) }
 {
     let config = Config::new(3, 100)?;
+    let group = Group::new(alloc, config).ok()?;
+    House::open(group).ok()
+}
+
+// A new group of seven nodes, opened.
+fn opened_seven(alloc: Global) -> Option<Opened>
+    ensures { IfSome result (λ it. it.group.size.n ≡ 7) }
+{
+    let config = Config::new(7, 100)?;
     let group = Group::new(alloc, config).ok()?;
     House::open(group).ok()
 }
@@ -197,13 +209,46 @@ fn a_house_is_called_one_by_one(rt: HostRuntime) -> Result<(), Fail> {
     Ok(())
 }
 
-#[test]
-fn what_was_refused_memory_goes_through_when_it_is_asked_again(
-    rt: HostRuntime,
-) -> Result<(), Fail> {
-    let opened = opened(rt.alloc()).ok_or("no group")?;
-    let group = deliver::<Brand, _>(&rt, rt.alloc(), opened)?;
+// A house of three nodes delivers all messages, and the same group is opened again, with this growth refused. How many calls were
+// refused memory; none if there was no such growth.
+fn with_growth_refused<R: Wait>(
+    rt: &R,
+    alloc: Global,
+    refused: u64,
+) -> Result<Option<Tally>, &'static str> {
+    let heap = Refusing::new(alloc, refused);
+    let opened = opened(alloc).ok_or("no group")?;
+    let (group, first) = deliver::<Brand, R>(rt, alloc, &heap, opened)?;
     let opened = opened_again(group).ok_or("another group")?;
-    reads_two::<Brand, _>(&rt, rt.alloc(), opened)?;
+    let second = open_again::<Brand, R>(rt, alloc, &heap, opened)?;
+    if heap.met() {
+        Ok(Some(first.plus(second)))
+    } else {
+        Ok(None)
+    }
+}
+
+#[test]
+fn each_growth_of_a_house_may_be_refused(rt: HostRuntime) -> Result<(), Fail> {
+    let mut all = Tally::none();
+    let mut is_done = false;
+    for refused in 1..300 {
+        let Some(tally) = with_growth_refused(&rt, rt.alloc(), refused)? else {
+            is_done = true;
+            break;
+        };
+        assert_eq!(rt; tally.all(), 1);
+        all = all.plus(tally);
+    }
+    assert!(rt; is_done);
+    assert!(rt; all.opening > 10 && all.settling > 2);
+    assert_eq!(rt; all.reading, 5);
+    Ok(())
+}
+
+#[test]
+fn a_house_of_seven_nodes_is_opened_settled_and_read(rt: HostRuntime) -> Result<(), Fail> {
+    let opened = opened_seven(rt.alloc()).ok_or("no group")?;
+    seven_nodes::<Brand, _>(&rt, rt.alloc(), opened)?;
     Ok(())
 }

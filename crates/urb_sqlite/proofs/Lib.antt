@@ -19,3 +19,4 @@ pub mod StopLemmas
 pub mod NodeLemmas
 pub mod StoppingLemmas
 pub mod AppliedLemmas
+pub mod BlankLemmas

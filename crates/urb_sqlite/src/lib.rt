@@ -11,6 +11,7 @@
 //! is there is never changed or removed.
 #![tactic(auto)]
 
+mod blank;
 mod calls;
 mod close;
 mod journal;

@@ -11,7 +11,7 @@ ghost use Rattle.urb_sqlite.specs.Rows.{StandsFor};
 ghost use Rattle.urb_sqlite.specs.Reading.{records_of};
 ghost use Rattle.urb_sqlite.specs.OpenJournal.{IsHonestJournal, IsJournal, IsSafeAtRest, database_of};
 
-use crate::{SqlStable, calls};
+use crate::{SqlStable, blank, calls};
 use sqlite::{Connection, Error, File, FileFrom, FileStore, Files, Options, Start, Unknown};
 use sqlite_disk::Disk;
 use std::alloc::Global;
@@ -76,8 +76,73 @@ impl<S: Start> SqlStable<FileStore<FileFrom<S>>> {
 }
 
 impl<D: Disk + Drop> SqlStable<FileStore<D>> {
-    /// The same over a pair of files, which no failed sync may have spoiled.
+    /// The same over a pair of files, which no failed sync may have spoiled. Files that hold no database get one with pages of
+    /// 1,024 bytes; those that hold one keep its page size.
     pub fn open_files(
+        alloc: Global,
+        files: Files<D>,
+        options: Options,
+    ) -> Result<SqlStable<FileStore<D>>, StoreFault>
+        requires log { IsTrue (D.Disk.is_usable files.log) }
+        requires db { IsTrue (D.Disk.is_usable files.db) }
+        ensures fault { IfErr result (λ e. is_place e ≡ false) }
+        ensures new { IfOk result (λ s. (s.doubtful ≡ false) × (s.failures ≡ 0)) }
+        ensures rest { IfOk result (λ s. IsSafeAtRest (file_state s.conn)) }
+        // A journal over a clean disk was opened over clean files.
+        ensures clean { IfOk result
+            (λ s. HasCleanDisk (file_state s.conn) → AreClean D.Disk files.log files.db) }
+        // Where the database file is empty, the journal has no record.
+        ensures fresh { IfOk result (λ s. HasCleanDisk (file_state s.conn)
+            → (image_of D.Disk files).db ≡ []
+            → IsHonestJournal (file_state s.conn) × (records_of (file_state s.conn).now ≡ [])) }
+        // Where the files hold a database that has the journal, its rows are records, and these are found.
+        ensures found { IfOk result (λ s. HasCleanDisk (file_state s.conn)
+            → (db : _)
+            → HoldsDatabase (image_of D.Disk files) db
+            → (journal : IsJournal db)
+            → IsHonestJournal (file_state s.conn)
+            × StandsFor (database_of journal) (records_of (file_state s.conn).now)) }
+    {
+        let mut files = files;
+        match blank::is_blank(alloc, &mut files) {
+            Ok(is_blank) => {
+                if is_blank {
+                    SqlStable::make_files(alloc, files, options)
+                } else {
+                    SqlStable::open_there(alloc, files, options)
+                }
+            }
+            Err(fault) => Err(fault),
+        }
+    }
+
+    /// Makes a journal with no record in files that hold no database.
+    fn make_files(
+        alloc: Global,
+        files: Files<D>,
+        options: Options,
+    ) -> Result<SqlStable<FileStore<D>>, StoreFault>
+        requires log { IsTrue (D.Disk.is_usable files.log) }
+        requires db { IsTrue (D.Disk.is_usable files.db) }
+        ensures fault { IfErr result (λ e. is_place e ≡ false) }
+        ensures new { IfOk result (λ s. (s.doubtful ≡ false) × (s.failures ≡ 0)) }
+        ensures rest { IfOk result (λ s. IsSafeAtRest (file_state s.conn)) }
+        ensures clean { IfOk result
+            (λ s. HasCleanDisk (file_state s.conn) → AreClean D.Disk files.log files.db) }
+        ensures fresh { IfOk result (λ s. HasCleanDisk (file_state s.conn)
+            → IsHonestJournal (file_state s.conn) × (records_of (file_state s.conn).now ≡ [])) }
+    {
+        match blank::make(alloc, files, options) {
+            Ok(conn) => match SqlStable::adopt(alloc, conn) {
+                Ok(journal) => Ok(journal),
+                Err((_, fault)) => Err(fault),
+            },
+            Err(fault) => Err(fault),
+        }
+    }
+
+    /// Opens the journal in files that hold a database, of any page size.
+    fn open_there(
         alloc: Global,
         files: Files<D>,
         options: Options,

@@ -52,7 +52,7 @@ impl<A: Allocator> Model for MemStable<A> {
 }
 
 // Puts a copy of a record behind the others.
-fn keep<A: Allocator>(
+fn keep<A: Allocator + Copy>(
     records: &mut Vec<Record<Message<A>>, A>,
     alloc: A,
     entry: &Record<Message<A>>,
@@ -60,7 +60,7 @@ fn keep<A: Allocator>(
     ensures ok { OnOk result (records.new.items ≡ records.old.items ++ entry.now ∷ []) }
     ensures err { OnErr result (records.new.items ≡ records.old.items) }
 {
-    records.push(entry.copy(alloc)?)?;
+    records.push(entry.share(alloc)?)?;
     Ok(())
 }
 

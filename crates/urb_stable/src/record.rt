@@ -31,17 +31,6 @@ impl<A: Allocator> Record<Message<A>> {
         }
     }
 
-    /// Another record with the same content. Its memory comes from `alloc`.
-    pub fn copy(&self, alloc: A) -> Result<Record<Message<A>>, NoMemory>
-        ensures { IfOk result (λ r. r ≡ self.now) }
-    {
-        match self {
-            Record::Pend(name, message) => Ok(Record::Pend(*name, message.copy(alloc)?)),
-            Record::PendCert(name, message) => Ok(Record::PendCert(*name, message.copy(alloc)?)),
-            Record::Cert(name) => Ok(Record::Cert(*name)),
-        }
-    }
-
     /// Whether the other is the same record.
     pub fn is_same(&self, other: &Record<Message<A>>) -> bool
         ensures { MatchBool result (self.now ≡ other.now) (¬ (self.now ≡ other.now)) }
@@ -64,6 +53,19 @@ impl<A: Allocator> Record<Message<A>> {
                 message.limits();
             }
             Record::Cert(name) => name.limits(),
+        }
+    }
+}
+
+impl<A: Allocator + Copy> Record<Message<A>> {
+    /// Another record with the same content, which shares the payload's memory.
+    pub fn share(&self, alloc: A) -> Result<Record<Message<A>>, NoMemory>
+        ensures { IfOk result (λ r. r ≡ self.now) }
+    {
+        match self {
+            Record::Pend(name, message) => Ok(Record::Pend(*name, message.share(alloc)?)),
+            Record::PendCert(name, message) => Ok(Record::PendCert(*name, message.share(alloc)?)),
+            Record::Cert(name) => Ok(Record::Cert(*name)),
         }
     }
 }

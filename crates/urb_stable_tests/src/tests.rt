@@ -98,7 +98,7 @@ fn is_same_as_its_copy<A: Allocator + Copy>(
     alloc: A,
     record: &Record<urb_names::Message<A>>,
 ) -> bool {
-    let Ok(copy) = record.copy(alloc) else {
+    let Ok(copy) = record.share(alloc) else {
         return false;
     };
     let is_same = copy.is_same(record);

@@ -135,7 +135,7 @@ pub(crate) fn push_to_unheard<A: Allocator + Copy>(
                 certified,
                 heard: false,
             };
-            packets.push(Packet::new(node, target, name, message.copy(alloc)?, Some(flags)))?;
+            packets.push(Packet::new(node, target, name, message.share(alloc)?, Some(flags)))?;
         }
     }
     Ok(())
@@ -163,7 +163,7 @@ fn push_to_others<A: Allocator + Copy>(
                 certified,
                 heard: is_heard_of(heard, target),
             };
-            packets.push(Packet::new(node, target, name, message.copy(alloc)?, Some(flags)))?;
+            packets.push(Packet::new(node, target, name, message.share(alloc)?, Some(flags)))?;
         }
     }
     Ok(())

@@ -1,3 +1,9 @@
 pub mod Counts
 pub mod Nodes
 pub mod Served
+pub mod Telling
+pub mod LastingStores
+pub mod Waiting
+pub mod KeptTurns
+pub mod Turned
+pub mod Others

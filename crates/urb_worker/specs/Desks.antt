@@ -1,22 +1,33 @@
 -- What the desk of a running node answers.
-use Rattle.std.specs.Prelude.{List, if◌then◌else◌, None, Option, Some, drop, map, take, ℕ, ◌-◌, ◌≡◌, ◌⊎◌}
+use Rattle.std.specs.Prelude.{Bool, List, if◌then◌else◌, None, Ok, Option, Some, drop, map, take, ℕ, ◌-◌, ◌≡◌, ◌⊎◌}
 use Rattle.std.specs.declared.alloc.Global.{Global}
+use Rattle.urb_names.specs.Names.{name}
 use Rattle.urb_names.specs.Naming.{Content, Label}
 use Rattle.urb_names.specs.Refusing.{detail_of, number_of}
-use Rattle.urb_client.specs.Requests.{Asked, Read}
+use Rattle.urb_client.specs.Requests.{Asked, Crash as IsCrash, Read, Restart as IsRestart, Status as IsStatus, Submit}
 use Rattle.urb_client.specs.Pages.{SaysPage}
 use Rattle.urb_client.specs.Responses.{Accepted, Done as IsDone, Refused, Said, Status as HasStatus}
 use Rattle.urb_client.specs.declared.response.NodeState.{NodeState}
 use Rattle.urb_client.specs.declared.response.NodeState.TheVariants as told
 use Rattle.urb_node.specs.declared.answer.Answer.TheVariants as answer
+use Rattle.urb_stable.specs.Entries.{Entry as Record}
+use Rattle.urb_group.specs.Accepting.{HasStored}
+use Rattle.urb_group.specs.Calls.{ComesUp, GoesDown}
+use Rattle.urb_group.specs.Shown.{GroupView, IsSound, Shows}
+use Rattle.urb_group.specs.Step.{Crash as CrashOf, Restart as RestartOf}
+use Rattle.urb_group.specs.World.{World}
 use Rattle.urb_group.specs.declared.reply.Reply.{Reply}
 use Rattle.urb_group.specs.declared.reply.Reply.TheVariants as reply
 use Rattle.urb_group.specs.declared.state.State.{State}
 use Rattle.urb_group.specs.declared.state.State.TheVariants as state
 use Rattle.urb_show.specs.Known.{Known, Learns, Takes}
 use Rattle.urb_show.specs.Lists.{Lists, list_at}
+use Rattle.urb_show.specs.Statuses.{TellsStatus}
 use Rattle.urb_show.specs.declared.entry.Entry.{Entry}
 use Rattle.urb_show.specs.declared.status.Status.{Status}
+use Rattle.urb_worker.specs.Turns.{IsOutcome}
+use Rattle.urb_worker.specs.declared.job.Job.{Job}
+use Rattle.urb_worker.specs.declared.job.Job.TheVariants as job
 
 -- a desk: its node, and what its reader knows
 pub record DeskView : Type 0 where
@@ -72,18 +83,75 @@ abbrev pub LearnsTold : Option Lists → Known → Known → Type 0
 LearnsTold None before after = after ≡ before
 LearnsTold (Some lists) before after = Learns lists before after
 
--- A turn of the worker came back with this reply, status and told lists, which were learnt before its reply was told; or none
--- came back.
-abbrev pub Works : DeskView → Said → DeskView → Type 0
-Works before said after =
-    ((answered : Reply Global) × (status : Option Status) × (lists : Option Lists)
+-- the job is what this request asks at node p
+abbrev pub IsJobOf : ℕ → Asked → Job → Type 0
+IsJobOf p (Submit client number payload) (job.Submit q of ranked bytes) = (q ≡ p) × (of ≡ client) × (ranked ≡ number) × (bytes.items ≡ payload)
+IsJobOf p IsStatus (job.Status q) = q ≡ p
+IsJobOf p IsCrash (job.Crash q) = q ≡ p
+IsJobOf p IsRestart (job.Restart q) = q ≡ p
+IsJobOf p asked other = ⊥
+
+-- the worker is asked, as of all but a read
+abbrev pub IsWork : Asked → Type 0
+IsWork (Read place max) = ⊥
+IsWork asked = Unit {0}
+
+-- A turn of the worker with the request's job came back, and this is what came of it: what it told was learnt before its reply was
+-- told. Or none came back.
+abbrev pub Works : DeskView → Asked → Said → DeskView → Type 0
+Works before asked said after =
+    ((done : Job) × (ran : Bool) × (answered : Reply Global) × (status : Option Status) × (lists : Option Lists)
+    × IsJobOf before.node asked done × IsOutcome ran done answered status lists
     × LearnsTold lists before.known after.known × (said ≡ told_of answered status))
     ⊎ ((after.known ≡ before.known) × (said ≡ gone))
+
+-- ---- what was told is so
+
+-- node p has stored this message as its own under this number, at a moment of the House
+pub record HasAccepted (p : ℕ) (m : Content) (seq : ℕ) : Type 0 where
+  pub group : GroupView
+  pub sound : IsSound group
+  pub stored : (w : World) → Shows group w → HasStored w p (name p seq) m
+
+-- node p was so, at a moment of the House
+pub record WasSo (p : ℕ) (state : NodeState) (own logged : ℕ) : Type 0 where
+  pub group : GroupView
+  pub sound : IsSound group
+  pub status : Status
+  pub tells : TellsStatus group p (Some status)
+  pub told : HasStatus state own logged ≡ HasStatus (told_state status.state) status.own status.logged
+
+-- node p crashed, at a moment of the House
+pub record HasCrashed (p : ℕ) : Type 0 where
+  pub before : GroupView
+  pub after : GroupView
+  pub sound : IsSound before
+  pub crash : GoesDown before p (CrashOf p) (Ok tt) after
+
+-- node p restarted with some image, at a moment of the House
+pub record HasRestarted (p : ℕ) : Type 0 where
+  pub before : GroupView
+  pub after : GroupView
+  pub image : List Record
+  pub sound : IsSound before
+  pub restart : ComesUp before p (RestartOf p image) (Ok tt) after
+
+-- What a request to node p may be told: a submit the number under which the node has stored this very message, a status how the node
+-- was, a crash and a restart that they are done, and each of them a refusal.
+abbrev pub Tells : ℕ → Asked → Said → Type 0
+Tells p asked (Refused number detail) = Unit {0}
+Tells p (Submit client number payload) (Accepted seq) =
+    HasAccepted p (record { client = client; number = number; payload = payload }) seq
+Tells p IsStatus (HasStatus state own logged) = WasSo p state own logged
+Tells p IsCrash IsDone = HasCrashed p
+Tells p IsRestart IsDone = HasRestarted p
+Tells p asked said = ⊥
 
 -- a desk answers a read by its reader alone, and all else by its node's worker
 abbrev pub AnswersAt : DeskView → Asked → Said → DeskView → Type 0
 AnswersAt before (Read place max) said after = (after.node ≡ before.node) × Reads before place max said after
-AnswersAt before asked said after = (after.node ≡ before.node) × Works before said after
+AnswersAt before asked said after =
+    (after.node ≡ before.node) × Works before asked said after × Tells before.node asked said
 
 -- what refused memory leaves of a desk: it has asked its worker nothing, and knows what it knew; of a read it may have taken the
 -- lists already

@@ -3,6 +3,9 @@ pub mod Counting
 pub mod Views
 pub mod Stages
 pub mod Turns
+pub mod Whole
 pub mod Replies
 pub mod Served
 pub mod Desks
+pub mod Backlogs
+pub mod Arrivals

@@ -49,6 +49,13 @@ abbrev pub crash_stage : ℕ → Result (Unit {0}) Refusal → Stage
 crash_stage p (Ok done) = stage.Answered (reply.WentDown p)
 crash_stage p (Err r) = stage.Answered (reply.Refused r)
 
+-- a restart: its store is asked only where the node is down
+abbrev pub restart_stage : Option State → Stage
+restart_stage (Some state.Down) = stage.Retrieving
+restart_stage (Some state.Ready) = stage.Answered (reply.Refused refusal.NotDown)
+restart_stage (Some state.Storing) = stage.Answered (reply.Refused refusal.NotDown)
+restart_stage None = stage.Answered (reply.Refused refusal.BadNode)
+
 -- ---- where it stands by what the store gave
 
 -- a draft was given to the store: it was taken, or the store answered a fault

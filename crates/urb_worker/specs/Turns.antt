@@ -1,9 +1,10 @@
 -- What a turn does with the House and with its node's store.
-use Rattle.std.specs.Prelude.{Bool, Err, List, MatchOption, MatchResult, None, Ok, Option, Result, Vec, false, length, true, ℕ, ◌-◌, ◌≡◌, ltb}
+use Rattle.std.specs.Prelude.{Bool, Err, List, MatchOption, MatchResult, None, Ok, Option, Result, Some, Vec, false, length, true, ℕ, ◌-◌, ◌≡◌, ◌⊎◌, ltb}
 use Rattle.std.specs.declared.alloc.Global.{Global}
 use Rattle.urb_names.specs.Carried.{Carried}
 use Rattle.urb_names.specs.Packets.{packet_of}
 use Rattle.urb_names.specs.declared.refusal.Refusal.{Refusal}
+use Rattle.urb_names.specs.declared.refusal.Refusal.TheVariants as refusal
 use Rattle.urb_stable.specs.Answering.{answer_of}
 use Rattle.urb_stable.specs.Doubted.{Doubted}
 use Rattle.urb_stable.specs.Entries.{Entry}
@@ -13,11 +14,13 @@ use Rattle.urb_stable.specs.declared.stable.Stable.{Ghosts}
 use Rattle.urb_stable.specs.declared.stable.StoreFault.{StoreFault}
 use Rattle.urb_node.specs.Replies.{Done}
 use Rattle.urb_group.specs.Asked.{Gives, Keeps}
-use Rattle.urb_group.specs.Calls.{ComesUp, Commits, GoesDown, Takes, Ticks}
-use Rattle.urb_group.specs.Shown.{GroupView, view_of}
+use Rattle.urb_group.specs.Calls.{Answers, ComesUp, Commits, GoesDown, Takes, Ticks}
+use Rattle.urb_group.specs.Shown.{GroupView, IsSound, view_of}
+use Rattle.urb_group.specs.States.{state_of}
 use Rattle.urb_group.specs.Step.{Arrive, Crash, Fail, Restart, Submit, Tick}
 use Rattle.urb_group.specs.declared.reply.Reply.{Reply}
 use Rattle.urb_group.specs.declared.reply.Reply.TheVariants as reply
+use Rattle.urb_group.specs.declared.state.State.{State}
 use Rattle.urb_group.specs.declared.taken.Taken.{Taken}
 use Rattle.urb_show.specs.Housed.{Grew, Housed, IsEvent, Settled}
 use Rattle.urb_show.specs.Lists.{Lists}
@@ -25,7 +28,7 @@ use Rattle.urb_show.specs.Statuses.{TellsStatus}
 use Rattle.urb_show.specs.declared.status.Status.{Status}
 use Rattle.urb_worker.specs.Counting.{count_of}
 use Rattle.urb_worker.specs.Jobs.{node_of}
-use Rattle.urb_worker.specs.Stages.{commit_reply, crash_stage, fail_reply, image_stage, kept_stage, restart_reply, status_reply, taken_stage, tick_stage}
+use Rattle.urb_worker.specs.Stages.{commit_reply, crash_stage, fail_reply, image_stage, kept_stage, restart_reply, restart_stage, status_reply, taken_stage, tick_stage}
 use Rattle.urb_worker.specs.Views.{FinishedView, TurnView}
 use Rattle.urb_worker.specs.declared.job.Job.{Job}
 use Rattle.urb_worker.specs.declared.job.Job.TheVariants as job
@@ -38,8 +41,8 @@ Counts result old new = MatchResult result (λ done. IsEvent old new) (λ refuse
 
 -- ---- before the store
 
--- the job's event in the House, and where the turn stands after it and how many events it was; none for a restart, which has
--- to ask the store first, and for a status
+-- the job's event in the House, and where the turn stands after it and how many events it was; none for a restart, whose store is
+-- asked first if its node is down, and for a status
 abbrev pub Begins : Housed → Job → Housed → Stage → ℕ → Type 0
 Begins old (job.Submit p client number payload) new at events =
     (r : Result (Taken Global) Refusal)
@@ -57,7 +60,9 @@ Begins old (job.Crash p) new at events =
     (r : Result (Unit {0}) Refusal)
     × GoesDown old.group p (Crash p) r new.group
     × Counts r old new × (at ≡ crash_stage p r) × (events ≡ count_of r)
-Begins old (job.Restart p) new at events = (new ≡ old) × (at ≡ stage.Retrieving) × (events ≡ 0)
+Begins old (job.Restart p) new at events =
+    (state : Option State) × Answers (λ w. Some (state_of (w.node p).state)) old.group p state
+    × (new ≡ old) × (at ≡ restart_stage state) × (events ≡ 0)
 Begins old (job.Status p) new at events = (new ≡ old) × (at ≡ stage.Asking) × (events ≡ 0)
 
 -- ---- the store's part
@@ -133,3 +138,28 @@ Ends old job stage.Retrieving new said status told events = ⊥
 abbrev pub Finishes : Housed → TurnView → Housed → FinishedView → Type 0
 Finishes old turn new finished =
     Ends old turn.job turn.stage new finished.reply finished.status finished.told (finished.events - turn.events)
+
+-- ---- the whole of a turn, whatever its store is
+
+-- from the stage before the store's part to a stage that it may be in then
+abbrev pub Goes : Stage → Stage → Type 0
+Goes (stage.Drafted draft) after = (after ≡ stage.Drafted draft) ⊎ ((r : Result Placed Doubted) × IsKeptOf draft r × (after ≡ kept_stage r))
+Goes stage.Retrieving after = (after ≡ stage.Retrieving) ⊎ ((r : Result (Vec Entry Global) StoreFault) × (after ≡ image_stage r))
+Goes before after = after ≡ before
+
+-- a turn of this job began at a moment of the House, and stands so
+abbrev pub HasBegun : Job → Stage → Type 0
+HasBegun job after =
+    (old new : Housed) × (at : Stage) × (events : ℕ)
+    × IsSound old.group × Begins old job new at events × Goes at after
+
+-- a turn of this job began at a moment of the House, its store did its part, and it ended so at a later one
+abbrev pub CameOf : Job → Reply Global → Option Status → Option Lists → Type 0
+CameOf job said status told =
+    (at : Stage) × (old new : Housed) × (events : ℕ)
+    × IsSound old.group × HasBegun job at × Ends old job at new said status told events
+
+-- what came of a job: of its turn, where it ran; else it is refused as one of no such node
+abbrev pub IsOutcome : Bool → Job → Reply Global → Option Status → Option Lists → Type 0
+IsOutcome true job said status told = CameOf job said status told
+IsOutcome false job said status told = (said ≡ reply.Refused refusal.BadNode) × (status ≡ None) × (told ≡ None)

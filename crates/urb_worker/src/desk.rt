@@ -1,9 +1,10 @@
 //! The desk of a running node: it passes requests on to the node's worker, and reads by itself.
 
-ghost use Rattle.std.specs.Prelude.{◌≡◌, ◌⊎◌, ◌≤◌, IfOk, MatchOption, OnErr, length};
+ghost use Rattle.std.specs.Prelude.{◌≡◌, ◌⊎◌, ◌≤◌, ◌↔◌, IfOk, IsTrue, OnErr, length};
+ghost use Rattle.urb_client.specs.Requests.{asked_by};
 ghost use Rattle.urb_client.specs.Responses.{said_by};
 ghost use Rattle.urb_show.specs.Known.{Takes};
-ghost use Rattle.urb_worker.specs.Desks.{LearnsTold, Reads, Works, gone, told_of};
+ghost use Rattle.urb_worker.specs.Desks.{IsJobOf, IsWork, LearnsTold, Reads, Tells, Works, told_of};
 
 use crate::responses::{nobody, page_told, told};
 use crate::{Finished, Job, Ticket};
@@ -58,6 +59,30 @@ impl<'a, K: HouseName, R: Wait> NodeDesk<'a, K, R> {
         }
     }
 
+    // What a request asks, as a job at the desk's node.
+    fn job_of(&self, request: &Request) -> Result<Job, NoMemory>
+        requires { IsWork (asked_by request.now) }
+        ensures { IfOk result (λ job. IsJobOf self.now.node (asked_by request.now) job) }
+    {
+        let node = self.node;
+        match request {
+            Request::Read { .. } => unreachable!(),
+            Request::Submit {
+                client,
+                number,
+                payload,
+            } => Ok(Job::Submit {
+                node,
+                client: *client,
+                number: *number,
+                payload: Vec::from_slice(self.alloc, payload.as_slice())?,
+            }),
+            Request::Status => Ok(Job::Status(node)),
+            Request::Crash => Ok(Job::Crash(node)),
+            Request::Restart => Ok(Job::Restart(node)),
+        }
+    }
+
     // What comes of a job, from the worker; none where it is gone.
     fn finished(&self, job: Job) -> Result<Option<Finished<K>>, NoMemory> {
         let (to, from) = crossbeam_channel::bounded(self.alloc, 1)?;
@@ -94,28 +119,35 @@ impl<'a, K: HouseName, R: Wait> NodeDesk<'a, K, R> {
         told(&reply, status)
     }
 
-    // What is told of a job by what came back of it, which is learnt first; nobody does it where nothing came back.
-    fn come_of(&mut self, came: Option<Finished<K>>) -> Response
+    // What is told of a request by what came back of its job, which is learnt first; nobody does it where nothing came back, or
+    // what came back is of another job.
+    fn come_of(&mut self, request: &Request, came: Option<Finished<K>>) -> Response
         ensures node { self.new.node ≡ self.old.node }
-        ensures learnt { MatchOption came (self.new.known ≡ self.old.known)
-            (λ finished. LearnsTold finished.told self.old.known self.new.known) }
-        ensures said { MatchOption came (said_by result ≡ gone)
-            (λ finished. said_by result ≡ told_of finished.reply finished.status) }
+        ensures works { Works self.old (asked_by request.now) (said_by result) self.new }
     {
         match came {
-            Some(finished) => self.answered(finished),
+            Some(finished) => {
+                if is_job_of(self.node, request, finished.job()) {
+                    self.answered(finished)
+                } else {
+                    nobody()
+                }
+            }
             None => nobody(),
         }
     }
 
-    // Has the worker do a job, and learns what it tells.
-    fn work(&mut self, job: Job) -> Result<Response, NoMemory>
-        ensures answered { IfOk result (λ response.
-            (self.new.node ≡ self.old.node) × Works self.old (said_by response) self.new) }
+    // Has the worker do what a request asks, and learns what it tells.
+    fn work(&mut self, request: &Request) -> Result<Response, NoMemory>
+        requires { IsWork (asked_by request.now) }
+        ensures answered { IfOk result (λ response. (self.new.node ≡ self.old.node)
+            × Works self.old (asked_by request.now) (said_by response) self.new
+            × Tells self.old.node (asked_by request.now) (said_by response)) }
         ensures refused { OnErr result (self.new ≡ self.old) }
     {
+        let job = self.job_of(request)?;
         let came = self.finished(job)?;
-        Ok(self.come_of(came))
+        Ok(self.come_of(request, came))
     }
 
     // Reads the node's published list.
@@ -144,25 +176,40 @@ impl<'a, K: HouseName, R: Wait> Desk for NodeDesk<'a, K, R> {
     ghost refuses = { RefusedAt };
 
     fn answer(&mut self, request: &Request) -> Result<Response, NoMemory> {
-        let node = self.node;
         match request {
             Request::Read { place, max } => self.read(*place, *max),
+            Request::Submit { .. } => self.work(request),
+            Request::Status => self.work(request),
+            Request::Crash => self.work(request),
+            Request::Restart => self.work(request),
+        }
+    }
+}
+
+// Whether a job is what a request asks at a node.
+fn is_job_of(node: NodeId, request: &Request, job: &Job) -> bool
+    ensures { IsTrue result ↔ IsJobOf node (asked_by request.now) job.now }
+{
+    match (request, job) {
+        (
             Request::Submit {
                 client,
                 number,
                 payload,
-            } => {
-                let payload = Vec::from_slice(self.alloc, payload.as_slice())?;
-                self.work(Job::Submit {
-                    node,
-                    client: *client,
-                    number: *number,
-                    payload,
-                })
-            }
-            Request::Status => self.work(Job::Status(node)),
-            Request::Crash => self.work(Job::Crash(node)),
-            Request::Restart => self.work(Job::Restart(node)),
-        }
+            },
+            Job::Submit {
+                node: at,
+                client: of,
+                number: ranked,
+                payload: bytes,
+            },
+        ) => *at == node
+            && *of == *client
+            && *ranked == *number
+            && bytes.as_slice() == payload.as_slice(),
+        (Request::Status, Job::Status(at)) => *at == node,
+        (Request::Crash, Job::Crash(at)) => *at == node,
+        (Request::Restart, Job::Restart(at)) => *at == node,
+        _ => false,
     }
 }

@@ -3,7 +3,7 @@
 ghost use Rattle.std.specs.Prelude.{◌≡◌, ◌+◌, ◌<◌, ◌≤◌, ◌^◌, IfOk, IfErr, sum, vec_len};
 ghost use Rattle.urb_worker.specs.Counting.{count_after};
 ghost use Rattle.urb_worker.specs.Jobs.{runs_at};
-ghost use Rattle.urb_worker.specs.Served.{Turns};
+ghost use Rattle.urb_worker.specs.Whole.{Does};
 
 use crate::tallied::TalliedHouse;
 use crate::tally::{HubName, Tally};
@@ -60,7 +60,8 @@ impl<K: HouseName, L: HubName> Hub<K, L> {
     }
 
     /// Does one job at a node's worker, with the node's store. The House is lent for its two events alone: nobody is kept
-    /// from it while the store works. Where nothing is asked of the store, both are done at once.
+    /// from it while the store works. The turn says of which houses these events were, and what the store did in between: from a
+    /// reply that a record is stored follows that this store took it, and the store stays that of the node. Where nothing is asked of the store, both are done at once.
     pub fn work<S: Stable<Alloc = Global>, G: Gate, R: Wait>(
         &self,
         rt: &R,
@@ -74,7 +75,8 @@ impl<K: HouseName, L: HubName> Hub<K, L> {
         ensures job { result.0.job ≡ job }
         ensures ran { result.0.ran ≡ runs_at node job }
         ensures tally { result.1 ≡ tally + result.0.events }
-        ensures store { Turns S.Stable store.old store.new }
+        // What the turn did to the House and to the store; of a job that doesn't run here nothing.
+        ensures turn { Does S.Stable node (runs_at node job) job store.old store.new result.0 }
     {
         if !job.runs_at(node) {
             return (Finished::misrouted(job), tally);

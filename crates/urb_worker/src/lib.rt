@@ -13,7 +13,7 @@
 //! let (line, jobs) = crossbeam_channel::bounded(alloc, 64)?;     // for each node
 //! // on threads of their own:
 //! let tally = serve(rt, alloc, &hub, node, store, jobs, &link, &OpenGate, tally);   // until all lines are gone
-//! receive(rt, alloc, &stop, node, &socket, &line);               // a node's datagrams, until the stop is set
+//! receive(rt, alloc, &stop, node, &station, &line);              // a node's datagrams, until the stop is set
 //! timer(rt, &stop, 100, &lines);                                 // a tick at each node every 100 milliseconds
 //! let mut desk = NodeDesk::new(rt, alloc, node, &line, reader);  // for sessions of clients
 //! // at the end: set the stop, wake the receivers, let the lines go, join all
@@ -30,9 +30,12 @@
 //! for the lock, the holder of the lock for readers that are in the midst of a read, and these for nobody.
 #![tactic(auto)]
 
+mod backlog;
 mod desk;
 mod hub;
+mod in_flight;
 mod job;
+pub mod laws;
 mod links;
 mod looks;
 mod outside;
@@ -50,10 +53,12 @@ mod tally;
 mod ticking;
 mod turn;
 
+pub use backlog::{BACKLOG, Backlog, KEEPING};
 pub use desk::NodeDesk;
 pub use hub::{Gate, Hub, OpenGate};
+pub use in_flight::{CARRYING, InFlight, MOST_IN_FLIGHT};
 pub use job::Job;
-pub use links::{Link, MemoryLink, UdpLink};
+pub use links::{Link, MemoryLink, PacedLink, UdpLink};
 pub use outside::Watch;
 pub use pacing::{Outgoing, PacedInput, PacedWriter};
 pub use receiving::receive;

@@ -2,9 +2,11 @@
 
 ghost use Rattle.std.specs.Prelude.{◌≡◌};
 
+use crate::Station;
 use std::alloc::Global;
 use std::net::{Ipv4Addr, UdpSocket};
 use std::sync::{Mutex, Wait};
+use std::time::Clock;
 use urb_names::{NoMemory, NodeId};
 
 /// Carries packets to nodes, as the book's fair-loss links do (section 2.4 of the book). It answers nothing: a packet that
@@ -35,6 +37,34 @@ impl Link for UdpLink {
         if let Some(port) = self.ports.get(usize::from(target.number()) - 1) {
             let _ = self.socket.send_to(bytes, (Ipv4Addr::LOCALHOST, *port));
         }
+    }
+}
+
+/// Sends over another link, and waits before a packet while too much is in flight to its node, as `InFlight::enter` says. The
+/// receivers of the stations have to take what comes there.
+#[derive(Drop)]
+pub struct PacedLink<'a, N: Link, R: Clock> {
+    rt: &'a R,
+    link: &'a N,
+    stations: &'a [Station],
+}
+
+impl<'a, N: Link, R: Clock> PacedLink<'a, N, R> {
+    /// A link to the nodes 1, 2, .. whose stations these are.
+    pub fn new(rt: &'a R, link: &'a N, stations: &'a [Station]) -> PacedLink<'a, N, R>
+        ensures link { result.link.now ≡ link.now }
+        ensures stations { result.stations.now ≡ stations.now }
+    {
+        PacedLink { rt, link, stations }
+    }
+}
+
+impl<'a, N: Link, R: Clock> Link for PacedLink<'a, N, R> {
+    fn send(&self, target: NodeId, bytes: &[u8]) {
+        if let Some(station) = self.stations.get(usize::from(target.number()) - 1) {
+            station.in_flight.enter(self.rt, bytes.len());
+        }
+        self.link.send(target, bytes);
     }
 }
 

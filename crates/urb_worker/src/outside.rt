@@ -76,7 +76,7 @@ fn take_datagrams<K: HouseName, R: Wait + Clock>(
     line: &Sender<Ticket<K>>,
 ) {
     if let Some(node) = NodeId::new(number) {
-        receive(rt, alloc, stop, node, &station.udp, line);
+        receive(rt, alloc, stop, node, station, line);
     }
 }
 

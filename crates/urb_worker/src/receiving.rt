@@ -1,60 +1,201 @@
 //! The receiver: a node's datagrams, handed to its worker.
+//!
+//! A worker's channel has room for few tickets, and the system for few datagrams. So while the channel is full the receiver goes on
+//! taking datagrams from its socket, and keeps them in a backlog.
+
+ghost use Rattle.std.specs.Prelude.{◌≡◌, ◌⊎◌, ◌++◌, [], ◌∷◌, IfSome, drop};
+ghost use Rattle.urb_worker.specs.Arrivals.{IsArrival, IsOfFirst};
 
 use crate::stations::rest;
-use crate::{Job, Stop, Ticket};
-use crossbeam_channel::Sender;
+use crate::{Backlog, Job, Station, Stop, Ticket};
+use crossbeam_channel::{SendTimeoutError, Sender, TrySendError};
 use std::alloc::Global;
-use std::net::UdpSocket;
+use std::io::ErrorKind;
 use std::sync::Wait;
-use std::time::Clock;
-use urb_names::NodeId;
+use std::time::{Clock, Duration};
+use urb_names::{MAX_PAYLOAD, NodeId};
 use urb_show::HouseName;
 
 // The room for a datagram: more than the longest packet, so that what is cut off was no packet.
 const ROOM: usize = 16_640;
 
-// The arrival of these bytes at a node; none where memory was refused.
-fn arrival<K: HouseName>(alloc: Global, node: NodeId, bytes: &[u8]) -> Option<Ticket<K>> {
-    let bytes = Vec::from_slice(alloc, bytes).ok()?;
-    Some(Ticket {
-        job: Job::Arrive { node, bytes },
+// How long a packet is beside its payload.
+const HEAD: usize = 19;
+
+const _: () = prove!(HEAD + MAX_PAYLOAD < ROOM);
+
+// How long a receiver waits for room in its worker's channel before it looks at its socket again, in milliseconds.
+const MOMENT: u64 = 1;
+
+// How many datagrams a receiver takes at most before it looks at the stop and at the channel again.
+const ROUND: u32 = 256;
+
+// The arrival of a datagram at a node.
+fn arrival<K: HouseName>(node: NodeId, datagram: Vec<u8>) -> Ticket<K>
+    ensures { IsArrival node datagram.items result.job }
+{
+    Ticket {
+        job: Job::Arrive {
+            node,
+            bytes: datagram,
+        },
         answer: None,
-    })
+    }
 }
 
-// Hands one datagram to a node's worker, and waits while the line has no room.
+// Sends a worker a ticket, which is handed back if the channel is full.
+fn offer<K: HouseName, R: Wait>(
+    rt: &R,
+    line: &Sender<Ticket<K>>,
+    ticket: Ticket<K>,
+) -> Option<Ticket<K>>
+    ensures { IfSome result (λ back. back ≡ ticket) }
+{
+    match line.try_send(rt, ticket) {
+        Err(TrySendError::Full(ticket)) => Some(ticket),
+        _ => None,
+    }
+}
+
+// The same, if the channel is still full after a moment.
+fn offer_for_a_moment<K: HouseName, R: Wait + Clock>(
+    rt: &R,
+    line: &Sender<Ticket<K>>,
+    ticket: Ticket<K>,
+) -> Option<Ticket<K>>
+    ensures { IfSome result (λ back. back ≡ ticket) }
+{
+    match line.send_timeout(rt, ticket, Duration::from_millis(MOMENT)) {
+        Err(SendTimeoutError::Timeout(ticket)) => Some(ticket),
+        _ => None,
+    }
+}
+
+// Sends a worker the datagram that has waited longest, if there is one. Its ticket is handed back if the channel is full.
+fn offer_first<K: HouseName, R: Wait>(
+    rt: &R,
+    node: NodeId,
+    line: &Sender<Ticket<K>>,
+    backlog: &mut Backlog,
+) -> Option<Ticket<K>>
+    ensures others { backlog.new ≡ drop 1 backlog.old }
+    ensures back { IfSome result (λ back. IsOfFirst node backlog.old back.job) }
+{
+    let datagram = backlog.pop()?;
+    offer(rt, line, arrival(node, datagram))
+}
+
+// Has a datagram wait, unless there is no room for it or no memory.
+fn keep(alloc: Global, backlog: &mut Backlog, datagram: &[u8])
+    ensures { (backlog.new ≡ backlog.old) ⊎ (backlog.new ≡ backlog.old ++ datagram.now ∷ []) }
+{
+    if let Ok(datagram) = Vec::from_slice(alloc, datagram) {
+        let _ = backlog.push(datagram);
+    }
+}
+
+// Moves what waits in a socket into the backlog, as far as there is room in it, but not more than a round. The socket must not wait.
+fn empty_socket(alloc: Global, station: &Station, room: &mut [u8; ROOM], backlog: &mut Backlog) {
+    for _ in 0..ROUND {
+        if !backlog.has_room(ROOM) {
+            break;
+        }
+        let seen = station.in_flight.load();
+        match station.udp.recv_from(room) {
+            Ok((count, _)) => {
+                station.in_flight.leave(count);
+                keep(alloc, backlog, &room[..count]);
+            }
+            Err(error) => {
+                if error.kind() == ErrorKind::WouldBlock {
+                    station.in_flight.settle(seen);
+                }
+                break;
+            }
+        }
+    }
+}
+
+// Hands on what the channel had no room for, and what comes meanwhile, until nothing waits or the stop is set.
+fn catch_up<K: HouseName, R: Wait + Clock>(
+    rt: &R,
+    alloc: Global,
+    stop: &Stop,
+    node: NodeId,
+    station: &Station,
+    line: &Sender<Ticket<K>>,
+    room: &mut [u8; ROOM],
+    refused: Option<Ticket<K>>,
+) {
+    let is_ready = station.udp.set_nonblocking(true).is_ok();
+    let mut backlog = Backlog::new(alloc);
+    let mut next = refused;
+    for _ in rt.forever() {
+        if is_ready {
+            empty_socket(alloc, station, room, &mut backlog);
+        }
+        if stop.is_set() {
+            break;
+        }
+        next = match next {
+            Some(ticket) => offer_for_a_moment(rt, line, ticket),
+            None => offer_first(rt, node, line, &mut backlog),
+        };
+        if next.is_none() && backlog.is_empty() {
+            break;
+        }
+    }
+    let _ = station.udp.set_nonblocking(false);
+}
+
+// Hands on a datagram that has come. Its ticket is handed back if the channel is full; without memory the datagram is lost.
 fn hand_on<K: HouseName, R: Wait>(
     rt: &R,
     alloc: Global,
     node: NodeId,
-    bytes: &[u8],
     line: &Sender<Ticket<K>>,
-) {
-    if let Some(ticket) = arrival(alloc, node, bytes) {
-        let _ = line.send(rt, ticket);
-    }
+    datagram: &[u8],
+) -> Option<Ticket<K>>
+    ensures { IfSome result (λ back. IsArrival node datagram.now back.job) }
+{
+    let datagram = Vec::from_slice(alloc, datagram).ok()?;
+    offer(rt, line, arrival(node, datagram))
 }
 
-/// Hands the datagrams of a socket to a node's worker, until the stop is set. It looks at the stop after each datagram, so an
-/// empty one wakes it. It waits while the line has no room; a datagram for which memory is refused is lost. After an error of the
-/// socket it rests for 10 milliseconds and goes on.
+/// Hands the datagrams of a node's station to its worker, the oldest first, until the stop is set. It looks at the stop after each
+/// datagram, so an empty one wakes it. While the channel is full it keeps what comes in a `Backlog`, and looks at the stop each
+/// millisecond; once the backlog is full, what comes stays in the socket. What waits at a stop isn't handed on. A datagram is lost
+/// if memory for it is refused. After an error of the socket it rests for 10 milliseconds and goes on.
 pub fn receive<K: HouseName, R: Wait + Clock>(
     rt: &R,
     alloc: Global,
     stop: &Stop,
     node: NodeId,
-    socket: &UdpSocket,
+    station: &Station,
     line: &Sender<Ticket<K>>,
 ) {
     let mut room = [0u8; ROOM];
     for _ in rt.forever() {
-        let received = socket.recv_from(&mut room);
+        let received = station.udp.recv_from(&mut room);
         if stop.is_set() {
             break;
         }
-        match received {
-            Ok((count, _)) => hand_on(rt, alloc, node, &room[..count], line),
-            Err(_) => rest(rt),
+        let refused = match received {
+            Ok((count, _)) => {
+                station.in_flight.leave(count);
+                hand_on(rt, alloc, node, line, &room[..count])
+            }
+            Err(_) => {
+                rest(rt);
+                None
+            }
+        };
+        if refused.is_some() || station.in_flight.is_crowded() {
+            catch_up(rt, alloc, stop, node, station, line, &mut room, refused);
+        }
+        if stop.is_set() {
+            break;
         }
     }
+    station.in_flight.give_up();
 }

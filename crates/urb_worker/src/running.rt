@@ -9,7 +9,7 @@ ghost use Rattle.urb_worker.specs.declared.stations.TheConstants.{SESSIONS};
 use crate::looks::Looks;
 use crate::outside::run_outside;
 use crate::staff::{Seat, Worker, gather, start};
-use crate::{Hub, HubName, Station, Tally, Ticket, UdpLink, Watch};
+use crate::{Hub, HubName, Link, PacedLink, Station, Tally, Ticket, UdpLink, Watch};
 use crossbeam_channel::{Receiver, Sender};
 use std::alloc::{AllocError, Global};
 use std::net::{Net, TcpListener, TcpStream};
@@ -166,6 +166,7 @@ fn run_crew<
     K: HouseName + Send + Sync,
     L: HubName + Send + Sync,
     S: Stable<Alloc = Global> + Send + Drop + 's,
+    N: Link + Sync,
     R,
     W: Watch,
 >(
@@ -173,7 +174,7 @@ fn run_crew<
     rt: &'s R,
     alloc: Global,
     hub: &'s Hub<K, L>,
-    link: &'s UdpLink,
+    link: &'s N,
     crew: Crew<K, L, S>,
     lines: Vec<Sender<Ticket<K>>>,
     readers: Vec<LogReader<K>>,
@@ -205,7 +206,7 @@ where
     (gather(rt, workers, stores, tallies), whole)
 }
 
-// The same in a scope of its own.
+// The same in a scope of its own. The workers send no faster than the stations' receivers take.
 fn run_workers<
     K: HouseName + Send + Sync,
     L: HubName + Send + Sync,
@@ -233,6 +234,8 @@ where
     ensures order { AreServed S.Stable (reverse (each crew.seats.items (λ seat. seat.store)))
         result.0.0.items }
 {
+    let paced = PacedLink::new(rt, link, stations);
+    let link = &paced;
     thread::scope(
         thread::scope_env(),
         rt,

@@ -123,7 +123,7 @@ pub fn serve_from<K: HouseName, L: HubName, S: Stable<Alloc = Global>, N: Link, 
 }
 
 /// The same by a worker that looks for tickets behind each record that it stored.
-#[tactic(auto, using(crate::proofs::Served::not_yet, crate::proofs::Served::one_turn))]
+#[tactic(auto, using(crate::proofs::Served::not_yet, crate::proofs::Turned::one_job))]
 pub(crate) fn serve_looking<
     K: HouseName,
     L: HubName,

@@ -5,7 +5,7 @@ ghost use Rattle.urb_worker.specs.Served.{AllThere, AreServed, IsLeftOf, each, i
 
 use crate::looks::Looks;
 use crate::serving::serve_looking;
-use crate::{Hub, HubName, OpenGate, Tally, Ticket, UdpLink};
+use crate::{Hub, HubName, Link, OpenGate, Tally, Ticket};
 use crossbeam_channel::{Receiver, Sender};
 use std::alloc::Global;
 use std::snapshot::Snapshot;
@@ -47,11 +47,11 @@ impl<L: HubName, S: Stable<Alloc = Global>> Promise<(S, Tally<L>)> for LeavesIt<
 pub(crate) type Worker<L, S> = Result<PromisedHandle<(S, Tally<L>), LeavesIt<S>>, Left<L, S>>;
 
 // Does a node's jobs until its channel closes, and leaves its store and its tally.
-fn work_at<K: HouseName, L: HubName, S: Stable<Alloc = Global> + Drop, R: Wait>(
+fn work_at<K: HouseName, L: HubName, S: Stable<Alloc = Global> + Drop, N: Link, R: Wait>(
     rt: &R,
     alloc: Global,
     hub: &Hub<K, L>,
-    link: &UdpLink,
+    link: &N,
     looks: Looks,
     seat: Seat<K, L, S>,
 ) -> (S, Tally<L>)
@@ -76,13 +76,14 @@ pub(crate) fn start<
     K: HouseName + Send + Sync,
     L: HubName + Send + Sync,
     S: Stable<Alloc = Global> + Send + Drop + 's,
+    N: Link + Sync,
     R: Wait + Sync,
 >(
     scope: &Scope<'s, E>,
     rt: &'s R,
     alloc: Global,
     hub: &'s Hub<K, L>,
-    link: &'s UdpLink,
+    link: &'s N,
     looks: Looks,
     seats: Vec<Seat<K, L, S>>,
     workers: Vec<Worker<L, S>>,

@@ -3,7 +3,7 @@
 
 ghost use Rattle.std.specs.Prelude.{◌≡◌, ◌≤◌, true, None, length};
 ghost use Rattle.urb_worker.specs.Counting.{count_of};
-ghost use Rattle.urb_worker.specs.Stages.{crash_stage, is_stored, state_reply, taken_stage, tick_stage};
+ghost use Rattle.urb_worker.specs.Stages.{crash_stage, is_stored, restart_stage, state_reply, taken_stage, tick_stage};
 ghost use Rattle.urb_worker.specs.Turns.{Begins, Ends, Settles, Stores, logged};
 
 use crate::Job;
@@ -66,6 +66,18 @@ fn crashed(node: NodeId, done: Result<(), Refusal>) -> (Stage, u8)
     }
 }
 
+// Where a restart of a node in this state leads. A node that is up has nothing to read, and a fault of its store would leave it
+// with a store that gives nothing more.
+fn restarting(state: Option<State>) -> Stage
+    ensures { result ≡ restart_stage state }
+{
+    match state {
+        Some(State::Down) => Stage::Retrieving,
+        Some(State::Ready | State::Storing) => Stage::Answered(Reply::Refused(Refusal::NotDown)),
+        None => Stage::Answered(Reply::Refused(Refusal::BadNode)),
+    }
+}
+
 // The job's event before its store.
 pub(crate) fn begun<K: HouseName>(alloc: Global, house: &mut House<K>, job: &Job) -> (Stage, u8)
     ensures step { Begins house.old job.now house.new result.0 result.1 }
@@ -81,7 +93,7 @@ pub(crate) fn begun<K: HouseName>(alloc: Global, house: &mut House<K>, job: &Job
         Job::Arrive { node, bytes } => taken(house.arrive(alloc, *node, bytes.as_slice())),
         Job::Tick(node) => ticked(house.tick(alloc, *node)),
         Job::Crash(node) => crashed(*node, house.crash(*node)),
-        Job::Restart(_) => (Stage::Retrieving, 0),
+        Job::Restart(node) => (restarting(house.state(*node)), 0),
         Job::Status(_) => (Stage::Asking, 0),
     }
 }

@@ -2,6 +2,7 @@
 
 ghost use Rattle.std.specs.Prelude.{◌≡◌};
 
+use crate::InFlight;
 use std::net::{Ipv4Addr, Net, SocketAddr, TcpListener, TcpStream, UdpSocket};
 use std::time::{Clock, Duration};
 use std::{io, thread};
@@ -16,13 +17,15 @@ const REST: u64 = 10;
 // How long a connection that only wakes may take, in milliseconds. Where there is no room for it, others wait already.
 const PATIENCE: u64 = 200;
 
-/// A node's two sockets at 127.0.0.1, with their ports: packets come to the one, and clients to the other.
+/// A node's two sockets at 127.0.0.1, with their ports: packets come to the one, and clients to the other. Beside them stands what
+/// is in flight to the first one.
 #[derive(Drop)]
 pub struct Station {
     pub udp: UdpSocket,
     pub tcp: TcpListener,
     pub udp_port: u16,
     pub tcp_port: u16,
+    pub in_flight: InFlight,
 }
 
 impl Station {
@@ -42,6 +45,7 @@ impl Station {
             tcp,
             udp_port,
             tcp_port,
+            in_flight: InFlight::new(),
         })
     }
 

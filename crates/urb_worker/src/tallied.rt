@@ -1,6 +1,7 @@
 //! What lies under a Hub's lock: the House, with the book of its events.
 
 ghost use Rattle.std.specs.Prelude.{◌≡◌, ◌+◌, ◌-◌, ◌<◌, ◌^◌, sum, true, vec_len};
+ghost use Rattle.urb_group.specs.Shown.{IsSound};
 ghost use Rattle.urb_worker.specs.Counting.{count_after};
 ghost use Rattle.urb_worker.specs.Stages.{is_stored};
 ghost use Rattle.urb_worker.specs.Turns.{Begins, Finishes};
@@ -60,6 +61,7 @@ impl<K: HouseName, L: HubName> TalliedHouse<K, L> {
     ) -> Finished<K>
         requires { is_stored turn.stage ≡ true }
         ensures step { Finishes self.old.house turn self.new.house result }
+        ensures sound { IsSound self.new.house.group }
         ensures job { result.job ≡ turn.job }
         ensures ran { result.ran ≡ true }
         ensures tally { tally.new + turn.events ≡ tally.old + result.events }
@@ -72,6 +74,8 @@ impl<K: HouseName, L: HubName> TalliedHouse<K, L> {
         let before = turn.events();
         let finished = turn.finish(rt, alloc, house);
         tally.count(book, finished.events() - before);
+        // This does nothing: it gives the proof what every house keeps.
+        house.promise();
         finished
     }
 

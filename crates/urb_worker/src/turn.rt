@@ -1,9 +1,10 @@
 //! One job's turn on the House, and what comes of it.
 
-ghost use Rattle.std.specs.Prelude.{◌≡◌, ◌-◌, ◌≤◌, false, true, None};
+ghost use Rattle.std.specs.Prelude.{◌≡◌, ◌-◌, ◌≤◌, true};
 ghost use Rattle.urb_worker.specs.Counting.{count_after};
 ghost use Rattle.urb_worker.specs.Stages.{is_drafted, is_stored};
 ghost use Rattle.urb_worker.specs.Turns.{Begins, Finishes, Stores};
+ghost use Rattle.urb_worker.specs.Whole.{misrouted};
 
 use crate::Job;
 use crate::stages::{Ending, Stage, begun, ended, stored};
@@ -26,13 +27,14 @@ pub struct Turn<K: HouseName> {
 
 impl<K: HouseName> Model for Turn<K> {
     ghost use Rattle.std.specs.Prelude.{◌≤◌};
+    ghost use Rattle.urb_worker.specs.Turns.{HasBegun};
     ghost use Rattle.urb_worker.specs.Views.{TurnView};
 
     ghost Value = { TurnView };
 
     ghost view = { λ t. record { job = t.job; stage = t.stage; events = t.count } };
 
-    ghost invariant = { λ t. t.count ≤ 1 };
+    ghost invariant = { λ t. (t.count ≤ 1) × HasBegun t.job t.stage };
 }
 
 /// What came of a job. One that ran comes of a turn on the House that K names.
@@ -47,9 +49,12 @@ pub struct Finished<K: HouseName> {
 }
 
 impl<K: HouseName> Model for Finished<K> {
+    ghost use Rattle.urb_worker.specs.Turns.{IsOutcome};
     ghost use Rattle.urb_worker.specs.Views.{FinishedView};
 
     ghost Value = { FinishedView };
+
+    ghost invariant = { λ f. IsOutcome f.ran f.job f.reply f.status f.told };
 
     ghost view = { λ f. record {
       job = f.job;
@@ -62,13 +67,15 @@ impl<K: HouseName> Model for Finished<K> {
 }
 
 impl<K: HouseName> Turn<K> {
-    /// The job's event before its store. A restart asks its store first, and a status is no event: they change nothing here.
+    /// The job's event before its store. A restart of a node that is down asks its store first, and a status is no event: they
+    /// change nothing here.
     pub fn begin(alloc: Global, house: &mut House<K>, job: Job) -> Turn<K>
         ensures job { result.job ≡ job }
         // What it did to the House, in full.
         ensures step { Begins house.old job house.new result.stage result.events }
         ensures counted { house.new.events ≡ count_after result.events house.old.events }
     {
+        house.promise();
         let (stage, count) = begun(alloc, house, &job);
         Turn {
             job,
@@ -119,6 +126,7 @@ impl<K: HouseName> Turn<K> {
             count,
             name: _,
         } = self;
+        house.promise();
         let Ending {
             reply,
             status,
@@ -161,14 +169,7 @@ impl<K: HouseName> Turn<K> {
 impl<K: HouseName> Finished<K> {
     /// What comes of a job that is of another node than its worker's: it did not run.
     pub fn misrouted(job: Job) -> Finished<K>
-        ensures { result ≡ record {
-          job = job;
-          reply = Reply.Refused Refusal.BadNode;
-          status = None;
-          told = None;
-          ran = false;
-          events = 0;
-        } }
+        ensures { result ≡ misrouted job }
     {
         Finished {
             job,

@@ -11,14 +11,19 @@ use urb_names::{ClientId, Config, NodeId};
 use urb_show::{House, HouseName, LogReader, Opened};
 use urb_worker::{Hub, HubName, Job, Tally};
 
+mod bursts;
 mod desks;
+mod flights;
 mod gates;
 mod groups;
 mod hearing;
+mod limits;
 mod pacing;
 mod receivers;
+mod sevens;
 mod shorts;
 mod stations;
+mod strays;
 mod timers;
 mod turns;
 

@@ -155,7 +155,10 @@ fn other_bytes_are_no_response(rt: HostRuntime) {
 }
 
 // The first entry of node 1: a message of client 7 with this payload.
-fn first_entry<A: Allocator>(alloc: A, payload: &[u8]) -> Result<(Name, Message<A>), NoMemory>
+fn first_entry<A: Allocator + Copy>(
+    alloc: A,
+    payload: &[u8],
+) -> Result<(Name, Message<A>), NoMemory>
     requires { length payload.now ≤ longest }
 {
     let (sender, client) = (NodeId::new(1).unwrap(), ClientId::new(7).unwrap());

@@ -59,7 +59,7 @@ impl<A: Allocator + Copy> OneNode<A> {
         let mut page = Vec::new(self.alloc);
         for (name, message) in &self.log {
             if place <= name.seq {
-                page.push((*name, message.copy(self.alloc)?))?;
+                page.push((*name, message.share(self.alloc)?))?;
             }
         }
         page.truncate(usize::from(max.min(8)));

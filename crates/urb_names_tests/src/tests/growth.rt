@@ -16,7 +16,7 @@ fn read<A: Allocator + Copy>(alloc: A) -> Option<Packet<A>> {
 // A packet of a copy of this one's message; none where memory was refused.
 fn remade<A: Allocator + Copy>(alloc: A, packet: &Packet<A>) -> Option<Packet<A>> {
     packet.limits();
-    match packet.message().copy(alloc) {
+    match packet.message().share(alloc) {
         Ok(message) => {
             let (source, target) = (packet.source(), packet.target());
             Some(Packet::new(source, target, packet.name(), message, packet.flags()))

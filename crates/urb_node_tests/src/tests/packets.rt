@@ -74,7 +74,7 @@ fn bytes_of<A: Allocator + Copy>(
     if source == target || flags.is_none() && MAX_PLAIN_PAYLOAD < sent.payload().len() {
         return None;
     }
-    let message = sent.copy(calm).ok()?;
+    let message = sent.share(calm).ok()?;
     let packet = Packet::new(source, target, named, message, flags);
     let bytes = encode(calm, &packet);
     drop(packet);

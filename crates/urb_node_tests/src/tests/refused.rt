@@ -49,7 +49,7 @@ static ALL: List = List {
 
 #[test]
 fn a_refused_growth_gives_the_node_back_as_it_was(rt: HostRuntime) {
-    assert!(rt; gives_back(rt.alloc(), &ALL, 100));
+    assert!(rt; gives_back(rt.alloc(), &ALL, 40));
 }
 
 /// Calls of node 1 of five that note an acknowledgement and certify a name, and then calls that take no memory.

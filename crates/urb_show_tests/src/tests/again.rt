@@ -1,31 +1,80 @@
-//! Where memory is refused to opening, settling or reading, what was there stays, and the same call goes through. A run in which
-//! no memory is refused makes each call once.
+//! Each growth that opening, settling or reading asks for is refused in turn. The same call is then made again, with memory, and
+//! gives what the first one would have given.
 ghost use Rattle.std.specs.Prelude.{◌≡◌, ◌≤◌, IfOk, length};
 ghost use Rattle.urb_show.specs.Lists.{lists_in};
 
-use super::readers::{agrees, page_of, reads};
+use super::readers::agrees;
 use super::writer::{arrive, broadcast, keep, three_stores};
 use std::alloc::Global;
 use std::sync::Wait;
-use urb_group::{Group, NoMemory, NodeId};
-use urb_show::{House, HouseName, LogReader, Opened, Told};
+use urb_group::{Group, MemStable, NoMemory, NodeId};
+use urb_refusing::Refusing;
+use urb_show::{House, HouseName, LogReader, Opened, ReadFault, Told};
 
-// The house of three nodes and its readers; where memory was refused, the same of what came back.
-fn parts_of<K: HouseName, R: Wait>(
+/// How many messages node 2 delivers.
+pub const MESSAGES: u32 = 12;
+
+/// How many calls were refused memory.
+#[derive(Clone, Copy, PartialEq, Eq, Debug)]
+pub struct Tally {
+    pub opening: u32,
+    pub settling: u32,
+    pub reading: u32,
+}
+
+impl Tally {
+    /// None was.
+    pub fn none() -> Tally {
+        Tally {
+            opening: 0,
+            settling: 0,
+            reading: 0,
+        }
+    }
+
+    /// The calls of both.
+    pub fn plus(self, other: Tally) -> Tally {
+        Tally {
+            opening: self.opening.saturating_add(other.opening),
+            settling: self.settling.saturating_add(other.settling),
+            reading: self.reading.saturating_add(other.reading),
+        }
+    }
+
+    /// How many there were.
+    pub fn all(self) -> u32 {
+        let both = self.opening.saturating_add(self.settling);
+        both.saturating_add(self.reading)
+    }
+}
+
+// Memory that is refused once.
+type Heap<'a> = &'a Refusing<Global>;
+
+// The house of three nodes, and how often opening was refused memory. After a refusal, what came back is opened again.
+fn site_of<'a, K: HouseName, R: Wait>(
     rt: &R,
     alloc: Global,
+    heap: Heap<'a>,
     opened: Opened,
-) -> Result<(House<K>, Vec<LogReader<K>>), &'static str>
+) -> Result<
+    (
+        House<K, Heap<'a>>,
+        Vec<LogReader<K, Heap<'a>>, Heap<'a>>,
+        u32,
+    ),
+    &'static str,
+>
     requires names { (opened.book ≡ K.book) × (lists_in opened.group ≡ K.base) }
     requires nodes { opened.group.size.n ≡ 3 }
     ensures { IfOk result (λ it. length it.1.items ≡ 12) }
 {
-    let opened = match opened.parts::<K, R>(rt, alloc) {
-        Ok(parts) => return Ok(parts),
+    let opened = match opened.parts_in::<K, R, Heap<'a>>(rt, alloc, heap) {
+        Ok((house, readers)) => return Ok((house, readers, 0)),
         Err((opened, NoMemory)) => opened,
     };
-    match opened.parts::<K, R>(rt, alloc) {
-        Ok(parts) => Ok(parts),
+    match opened.parts_in::<K, R, Heap<'a>>(rt, alloc, heap) {
+        Ok((house, readers)) => Ok((house, readers, 1)),
         Err((opened, NoMemory)) => {
             drop(opened.close());
             Err("no house")
@@ -33,97 +82,170 @@ fn parts_of<K: HouseName, R: Wait>(
     }
 }
 
-// Settles a node; again where memory was refused, when readers still read what was published before.
+// Whether node 2's list has `total` entries, which agree. The memory for this read isn't refused.
+fn has<K: HouseName>(alloc: Global, reader: &mut LogReader<K, Heap<'_>>, total: u32) -> bool
+    requires { 3 ≤ length K.base }
+{
+    match reader.read(alloc, NodeId::new(2).unwrap(), 1, 255) {
+        Ok(page) => agrees(&page) && page.total == total,
+        Err(_) => false,
+    }
+}
+
+// Settles node 2, and tells how often that was refused memory. After a refusal readers still read the `before` entries
+// that were published before.
 fn settle<K: HouseName, R: Wait>(
     rt: &R,
     alloc: Global,
-    house: &mut House<K>,
-    reader: &mut LogReader<K>,
-    node: NodeId,
-) -> Option<Told<K>>
-    requires { (node ≤ length K.base) × (3 ≤ length K.base) }
+    house: &mut House<K, Heap<'_>>,
+    reader: &mut LogReader<K, Heap<'_>>,
+    before: u32,
+) -> Option<(Told<K>, u32)>
+    requires { 3 ≤ length K.base }
 {
+    let node = NodeId::new(2).unwrap();
     match house.settle(rt, node) {
-        Ok(told) => Some(told),
+        Ok(told) => Some((told, 0)),
         Err(NoMemory) => {
-            if !reads(alloc, reader, 0) {
+            if !has(alloc, reader, before) {
                 return None;
             }
-            house.settle(rt, node).ok()
+            Some((house.settle(rt, node).ok()?, 1))
         }
     }
 }
 
-// Node 1 broadcasts two messages, and node 2 delivers them.
-fn broadcast_two<K: HouseName>(alloc: Global, house: &mut House<K>) -> Option<()> {
+// Reads node 2's list into memory that may be refused, and tells how often it was. It has `total` entries, which agree.
+fn read<'a, K: HouseName>(
+    heap: Heap<'a>,
+    reader: &mut LogReader<K, Heap<'a>>,
+    total: u32,
+) -> Option<u32>
+    requires { 3 ≤ length K.base }
+{
+    let node = NodeId::new(2).unwrap();
+    let (page, refused) = match reader.read(heap, node, 1, 255) {
+        Ok(page) => (page, 0),
+        Err(ReadFault::NoMemory) => (reader.read(heap, node, 1, 255).ok()?, 1),
+        Err(ReadFault::Gone) => return None,
+    };
+    if agrees(&page) && page.total == total {
+        Some(refused)
+    } else {
+        None
+    }
+}
+
+// Node 1 broadcasts its message of this number, and node 2 delivers it.
+fn send<K: HouseName>(
+    alloc: Global,
+    house: &mut House<K, Heap<'_>>,
+    stores: &mut [MemStable],
+    number: u32,
+) -> Option<()> {
     let (one, two) = (NodeId::new(1)?, NodeId::new(2)?);
-    let mut stores = three_stores(alloc);
-    for number in 1..3u32 {
-        let sent = broadcast(alloc, house, &mut stores, one, number)?;
-        let taken = arrive(alloc, house, two, &sent)?;
-        keep(house, &mut stores, taken)?;
+    let sent = broadcast(alloc, house, stores, one, number)?;
+    let taken = arrive(alloc, house, two, &sent)?;
+    keep(house, stores, taken)?;
+    Some(())
+}
+
+// Node 2 delivers the messages behind the first `before`, up to this one.
+fn send_to<K: HouseName>(
+    alloc: Global,
+    house: &mut House<K, Heap<'_>>,
+    stores: &mut [MemStable],
+    before: u32,
+    total: u32,
+) -> Option<()> {
+    for number in before..total {
+        send(alloc, house, stores, number.saturating_add(1))?;
     }
     Some(())
 }
 
-// Whether node 2's list has both messages.
-fn reads_both<K: HouseName>(alloc: Global, reader: &mut LogReader<K>) -> bool
-    requires { 3 ≤ length K.base }
-{
-    match page_of(alloc, reader, NodeId::new(2).unwrap()) {
-        Some(page) => agrees(&page) && page.total == 2,
-        None => false,
-    }
-}
-
-// Node 2 delivers two messages, which are settled and read.
-fn settle_two<K: HouseName, R: Wait>(
+// Node 2's new messages are settled, learnt and read.
+fn settle_and_read<'a, K: HouseName, R: Wait>(
     rt: &R,
     alloc: Global,
-    house: &mut House<K>,
-    reader: &mut LogReader<K>,
-) -> Result<(), &'static str>
+    heap: Heap<'a>,
+    house: &mut House<K, Heap<'a>>,
+    reader: &mut LogReader<K, Heap<'a>>,
+    counts: (u32, u32),
+) -> Result<Tally, &'static str>
     requires { 3 ≤ length K.base }
 {
-    broadcast_two(alloc, house).ok_or("a node was refused memory")?;
-    let told = settle(rt, alloc, house, reader, NodeId::new(2).unwrap());
-    reader.learn(told.ok_or("settling")?);
-    if reads_both(alloc, reader) {
-        Ok(())
-    } else {
-        Err("reading")
-    }
+    let (before, total) = counts;
+    let (told, settling) = settle(rt, alloc, house, reader, before).ok_or("settling")?;
+    reader.learn(told);
+    let reading = read(heap, reader, total).ok_or("reading")?;
+    Ok(Tally {
+        opening: 0,
+        settling,
+        reading,
+    })
 }
 
-/// Node 2 of a house of three nodes that was just opened delivers two messages. The group comes back.
+// Node 2 delivers all messages: one, one more, and all others, each time settled and read.
+fn send_all<'a, K: HouseName, R: Wait>(
+    rt: &R,
+    alloc: Global,
+    heap: Heap<'a>,
+    house: &mut House<K, Heap<'a>>,
+    reader: &mut LogReader<K, Heap<'a>>,
+) -> Result<Tally, &'static str>
+    requires { 3 ≤ length K.base }
+{
+    let mut stores = three_stores(alloc);
+    let mut tally = Tally::none();
+    for counts in [(0, 1), (1, 2), (2, MESSAGES)] {
+        let (before, total) = counts;
+        let sent = send_to(alloc, house, &mut stores, before, total);
+        sent.ok_or("a node was refused memory")?;
+        tally = tally.plus(settle_and_read(rt, alloc, heap, house, reader, counts)?);
+    }
+    Ok(tally)
+}
+
+/// Node 2 of a house of three nodes that was just opened delivers all messages. The group comes back, and how many calls were
+/// refused memory.
 pub fn deliver<K: HouseName, R: Wait>(
     rt: &R,
     alloc: Global,
+    heap: &Refusing<Global>,
     opened: Opened,
-) -> Result<Group, &'static str>
+) -> Result<(Group, Tally), &'static str>
     requires names { (opened.book ≡ K.book) × (lists_in opened.group ≡ K.base) }
     requires nodes { opened.group.size.n ≡ 3 }
 {
-    let (mut house, mut readers) = parts_of::<K, R>(rt, alloc, opened)?;
+    let (mut house, mut readers, opening) = site_of::<K, R>(rt, alloc, heap, opened)?;
     house.promise();
-    let settled = settle_two(rt, alloc, &mut house, &mut readers[0]);
+    let told = send_all(rt, alloc, heap, &mut house, &mut readers[0]);
     let group = house.close(rt);
-    settled?;
-    Ok(group)
+    let mut tally = told?;
+    tally.opening = opening;
+    Ok((group, tally))
 }
 
-/// The group is opened again: each of its readers reads both messages at once.
-pub fn reads_two<K: HouseName, R: Wait>(
+/// The group is opened again: its first reader and its last one read all messages at once. How many calls were refused memory.
+pub fn open_again<K: HouseName, R: Wait>(
     rt: &R,
     alloc: Global,
+    heap: &Refusing<Global>,
     opened: Opened,
-) -> Result<(), &'static str>
+) -> Result<Tally, &'static str>
     requires names { (opened.book ≡ K.book) × (lists_in opened.group ≡ K.base) }
     requires nodes { opened.group.size.n ≡ 3 }
 {
-    let (house, mut readers) = parts_of::<K, R>(rt, alloc, opened)?;
+    let (house, mut readers, opening) = site_of::<K, R>(rt, alloc, heap, opened)?;
     house.promise();
-    let both = reads_both(alloc, &mut readers[0]) && reads_both(alloc, &mut readers[11]);
+    let first = read(heap, &mut readers[0], MESSAGES);
+    let last = read(heap, &mut readers[11], MESSAGES);
     drop(house.close(rt));
-    if both { Ok(()) } else { Err("reading again") }
+    let reading = first.ok_or("the first reader")?;
+    Ok(Tally {
+        opening,
+        settling: 0,
+        reading: reading.saturating_add(last.ok_or("the last reader")?),
+    })
 }

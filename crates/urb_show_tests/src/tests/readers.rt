@@ -2,13 +2,13 @@
 ghost use Rattle.std.specs.Prelude.{◌≤◌, length};
 
 use super::writer::{Board, News, ROUNDS};
-use std::alloc::Global;
+use std::alloc::{Allocator, Global};
 use std::sync::{Mutex, MutexGuard, Wait};
 use urb_group::NodeId;
 use urb_show::{HouseName, LogReader, Page, ReadFault};
 
 /// Whether a page from the first entry on has of each sender the numbers 1, 2, 3, .., each with its message.
-pub fn agrees(page: &Page) -> bool {
+pub fn agrees<A: Allocator>(page: &Page<A>) -> bool {
     let mut first = 0u32;
     let mut second = 0u32;
     for entry in &page.entries {

@@ -143,6 +143,43 @@ fn counts_from<K: HouseName>(
     Some((page.total, page.entries.len()))
 }
 
+// How long node 2's list is, and how many entries a page of at most none has.
+fn counts_of_none<K: HouseName>(alloc: Global, reader: &mut LogReader<K>) -> Option<(u32, usize)>
+    requires { 3 ≤ length K.base }
+{
+    let page = reader.read(alloc, NodeId::new(2)?, 1, 0).ok()?;
+    Some((page.total, page.entries.len()))
+}
+
+// Whether settling tells where nothing is new, and a reader that learns it reads what is there.
+fn settles_nothing<K: HouseName, R: Wait>(
+    rt: &R,
+    alloc: Global,
+    house: &mut House<K>,
+    reader: &mut LogReader<K>,
+) -> Option<bool>
+    requires { 3 ≤ length K.base }
+{
+    let two = NodeId::new(2)?;
+    reader.learn(house.settle(rt, two).ok()?);
+    let same = counts_from(alloc, reader, two, 1)? == (1, 1);
+    Some(same && counts_of_none(alloc, reader)? == (1, 0))
+}
+
+// Whether a reader that learns what another one saw reads it.
+fn tells_another<K: HouseName>(
+    alloc: Global,
+    reader: &LogReader<K>,
+    other: &mut LogReader<K>,
+) -> Option<bool>
+    requires { 3 ≤ length K.base }
+{
+    other.learn(reader.saw());
+    let counts = counts_from(alloc, other, NodeId::new(2)?, 1)?;
+    reader.agrees_with(other);
+    Some(counts == (1, 1))
+}
+
 // What is delivered is read once it is settled, and not before.
 fn settles<K: HouseName, R: Wait>(
     rt: &R,
@@ -166,6 +203,7 @@ fn calls<K: HouseName, R: Wait>(
     alloc: Global,
     house: &mut House<K>,
     reader: &mut LogReader<K>,
+    other: &mut LogReader<K>,
 ) -> Result<(), &'static str>
     requires { 3 ≤ length K.base }
 {
@@ -173,10 +211,14 @@ fn calls<K: HouseName, R: Wait>(
     let happened = events(alloc, house, &mut stores);
     let failed = failures(alloc, house, &mut stores[2]);
     let settled = settles(rt, alloc, house, reader) == Some(true);
+    let nothing = settles_nothing(rt, alloc, house, reader) == Some(true);
+    let told = tells_another(alloc, reader, other) == Some(true);
     first_false(&[
         (happened, "events"),
         (failed, "failures"),
         (settled, "settling"),
+        (nothing, "settling where nothing is new"),
+        (told, "what a reader saw is told"),
     ])
 }
 
@@ -197,7 +239,8 @@ pub fn walk<K: HouseName, R: Wait>(
         }
     };
     house.promise();
-    let called = calls(rt, alloc, &mut house, &mut readers[0]);
+    let mut other = readers.pop().unwrap();
+    let called = calls(rt, alloc, &mut house, &mut readers[0], &mut other);
     let group = house.close(rt);
     let kept = group.log(NodeId::new(2).unwrap()).map(|log| log.len()) == Some(1);
     if kept { called } else { Err("the group") }

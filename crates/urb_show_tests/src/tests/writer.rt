@@ -1,7 +1,7 @@
 //! A thread that submits, carries packets, stores and settles, and tells what it settled.
 ghost use Rattle.std.specs.Prelude.{◌≤◌, length};
 
-use std::alloc::Global;
+use std::alloc::{Allocator, Global};
 use std::sync::{Mutex, MutexGuard, Wait};
 use urb_group::{ClientId, Done, Draft, MemStable, NodeId, Outbox, Taken};
 use urb_names::encode;
@@ -69,8 +69,8 @@ pub fn drafted(taken: Taken) -> Option<Draft> {
 }
 
 /// The store keeps what was drafted, and the house takes the receipt.
-pub fn keep<K: HouseName>(
-    house: &mut House<K>,
+pub fn keep<K: HouseName, A: Allocator + Copy>(
+    house: &mut House<K, A>,
     stores: &mut [MemStable],
     taken: Taken,
 ) -> Option<Done> {
@@ -81,9 +81,9 @@ pub fn keep<K: HouseName>(
 }
 
 /// Client 7 sends a node its message of this number. Its payload is the node and the number.
-pub fn submit<K: HouseName>(
+pub fn submit<K: HouseName, A: Allocator + Copy>(
     alloc: Global,
-    house: &mut House<K>,
+    house: &mut House<K, A>,
     node: NodeId,
     number: u32,
 ) -> Option<Taken> {
@@ -93,9 +93,9 @@ pub fn submit<K: HouseName>(
 }
 
 /// The packet among these that is for this node arrives there.
-pub fn arrive<K: HouseName>(
+pub fn arrive<K: HouseName, A: Allocator + Copy>(
     alloc: Global,
-    house: &mut House<K>,
+    house: &mut House<K, A>,
     node: NodeId,
     sent: &Outbox,
 ) -> Option<Taken> {
@@ -136,9 +136,9 @@ fn settle<K: HouseName, R: Wait>(
 }
 
 /// A node's message is stored. The packets for the others are handed out.
-pub fn broadcast<K: HouseName>(
+pub fn broadcast<K: HouseName, A: Allocator + Copy>(
     alloc: Global,
-    house: &mut House<K>,
+    house: &mut House<K, A>,
     stores: &mut [MemStable],
     node: NodeId,
     number: u32,

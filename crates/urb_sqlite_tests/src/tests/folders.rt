@@ -185,6 +185,23 @@ fn is_right(rt: &HostRuntime, (sql, damage, wanted): &(&str, Damage, Said)) -> b
 }
 
 #[test]
+fn a_file_that_is_new_has_small_pages(rt: HostRuntime) -> Result<(), Fail> {
+    let _ = fs::remove_dir_all(&rt, FOLDER);
+    fs::create_dir(&rt, FOLDER)?;
+    let Ok(journals) = open_nodes::<Brand>(&rt, FOLDER, three()) else {
+        return Err(Fail::new(format_args!("they do not open")));
+    };
+    let is_closed = close_nodes(&rt, FOLDER, journals).is_ok();
+    let bytes = fs::read(&rt, ONE)?;
+    fs::remove_dir_all(&rt, FOLDER)?;
+    // The page size stands in bytes 16 and 17, the higher one first.
+    if !is_closed || bytes.get(16) != Some(&4) || bytes.get(17) != Some(&0) {
+        return Err(Fail::new(format_args!("pages of another size")));
+    }
+    Ok(())
+}
+
+#[test]
 fn a_group_over_files_says_what_they_hold(rt: HostRuntime) -> Result<(), Fail> {
     for row in &DAMAGES {
         let _ = fs::remove_dir_all(&rt, FOLDER);

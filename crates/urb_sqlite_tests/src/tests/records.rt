@@ -50,7 +50,7 @@ pub fn record_of(alloc: Global, (form, seq, load): Kept) -> Option<Record> {
     }
     let sender = NodeId::new(1).unwrap();
     let name = Name { sender, seq };
-    let message = Message::new(ClientId::new(7).unwrap(), seq, bytes);
+    let message = Message::new(alloc, ClientId::new(7).unwrap(), seq, bytes).ok()?;
     match form {
         Form::Pending => Some(Record::Pend(name, message)),
         Form::Certified => Some(Record::PendCert(name, message)),

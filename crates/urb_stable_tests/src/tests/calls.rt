@@ -87,7 +87,7 @@ pub(super) fn keep<A: Allocator + Copy>(
     if pos == 0 {
         return None;
     }
-    let draft = Draft::new(node, pos, record.copy(alloc).ok()?);
+    let draft = Draft::new(node, pos, record.share(alloc).ok()?);
     let is_drafted = draft.node() == node && draft.pos() == pos;
     match draft.keep(store) {
         Ok(receipt) => {

@@ -120,7 +120,7 @@ fn growths(alloc: Global, taker: Taker) -> u64 {
 
 #[test]
 fn each_growth_refused_is_want_of_memory(rt: HostRuntime) {
-    assert!(rt; 3 < growths(rt.alloc(), Taker::Store));
+    assert!(rt; 1 < growths(rt.alloc(), Taker::Store));
 }
 
 #[test]

@@ -57,5 +57,5 @@ fn a_refused_growth_changes_nothing(rt: HostRuntime) {
         ],
         calm: &[],
     };
-    assert!(rt; 32 < growths(rt.alloc(), ticking));
+    assert!(rt; 2 < growths(rt.alloc(), ticking));
 }

@@ -108,6 +108,19 @@ fn outlives_who_breaks_off<R: Net<Listener = TcpListener, Stream = TcpStream>>(
     Some(answers(rt, alloc, station, SUBMIT)?.as_slice() == ACCEPTED)
 }
 
+// Has node 1 send a message, and says whether each node comes to show it.
+fn comes_to_all<R: Clock + Net<Listener = TcpListener, Stream = TcpStream>>(
+    rt: &R,
+    alloc: Global,
+    stations: &[Station],
+) -> Option<bool> {
+    let mut is_shown = answers(rt, alloc, stations.first()?, SUBMIT)?.as_slice() == ACCEPTED;
+    for station in stations {
+        is_shown = is_shown && shows_it(rt, alloc, station)?;
+    }
+    Some(is_shown)
+}
+
 // Sends a message, and says whether it was accepted.
 fn accepts_one<R: Net<Listener = TcpListener, Stream = TcpStream>>(
     rt: &R,
@@ -160,6 +173,7 @@ enum Course {
     BreaksOff,
     HasErrors,
     SendsWhileOneIsDown,
+    SendsToAll,
 }
 
 // A client of a group, and whether what it did went well.
@@ -179,6 +193,7 @@ impl<'a, R: Clock + Net<Listener = TcpListener, Stream = TcpStream>> Watch for C
             Course::BreaksOff => outlives_who_breaks_off(rt, alloc, stations),
             Course::HasErrors => outlives_errors(rt, alloc, stations),
             Course::SendsWhileOneIsDown => comes_by_a_tick(rt, alloc, stations),
+            Course::SendsToAll => comes_to_all(rt, alloc, stations),
         };
         self.went_well = went_well == Some(true);
     }
@@ -261,6 +276,13 @@ where
 fn a_tick_brings_what_a_node_that_was_down_has_missed(rt: HostRuntime) -> Result<(), Fail> {
     let course = Course::SendsWhileOneIsDown;
     let (went_well, _) = came_of(&rt, rt.alloc(), 3, 20, course).ok_or("memory")?;
+    assert!(rt; went_well);
+    Ok(())
+}
+
+#[test]
+fn a_message_comes_to_each_of_seven_nodes(rt: HostRuntime) -> Result<(), Fail> {
+    let (went_well, _) = came_of(&rt, rt.alloc(), 7, 20, Course::SendsToAll).ok_or("memory")?;
     assert!(rt; went_well);
     Ok(())
 }

@@ -1,6 +1,6 @@
 //! Nodes that tell each other of their certificates: once each has heard of all, ticks send nothing.
 
-ghost use Rattle.std.specs.Prelude.{◌≡◌};
+ghost use Rattle.std.specs.Prelude.{◌≡◌, ◌<◌};
 ghost use Rattle.urb_show.specs.Lists.{lists_in};
 
 use super::{hub_of, opened, submit};
@@ -22,6 +22,7 @@ struct Nodes<'a, 'r, K: HouseName, L: HubName, R: Wait> {
     hub: &'a Hub<K, L>,
     link: &'a MemoryLink<'r, R>,
     stores: Vec<MemStable>,
+    count: u8,
 }
 
 impl<'a, 'r, K: HouseName, L: HubName, R: Wait> Nodes<'a, 'r, K, L, R> {
@@ -48,8 +49,10 @@ impl<'a, 'r, K: HouseName, L: HubName, R: Wait> Nodes<'a, 'r, K, L, R> {
         let mut tally = tally;
         let mut count: usize = 0;
         for _ in 0..20u8 {
-            for number in 1..4u8 {
-                let node = NodeId::new(number).unwrap();
+            for number in 0..self.count {
+                let Some(node) = NodeId::new(number.saturating_add(1)) else {
+                    break;
+                };
                 for bytes in self.link.empty(node) {
                     count = count.saturating_add(1);
                     tally = self.work(node, Job::Arrive { node, bytes }, tally);
@@ -62,8 +65,10 @@ impl<'a, 'r, K: HouseName, L: HubName, R: Wait> Nodes<'a, 'r, K, L, R> {
     // A tick at each node. How many packets that leads to.
     fn tick(&mut self, tally: Tally<L>) -> (usize, Tally<L>) {
         let mut tally = tally;
-        for number in 1..4u8 {
-            let node = NodeId::new(number).unwrap();
+        for number in 0..self.count {
+            let Some(node) = NodeId::new(number.saturating_add(1)) else {
+                break;
+            };
             tally = self.work(node, Job::Tick(node), tally);
         }
         self.deliver(tally)
@@ -83,10 +88,13 @@ impl<'a, 'r, K: HouseName, L: HubName, R: Wait> Nodes<'a, 'r, K, L, R> {
     }
 }
 
-// Whether each of three nodes has delivered one message.
-fn have_delivered<K: HouseName>(house: &House<K>) -> bool {
-    for number in 1..4u8 {
-        match house.log(NodeId::new(number).unwrap()) {
+// Whether each of so many nodes has delivered one message.
+fn have_delivered<K: HouseName>(house: &House<K>, count: u8) -> bool {
+    for number in 0..count {
+        let Some(node) = NodeId::new(number.saturating_add(1)) else {
+            return false;
+        };
+        match house.log(node) {
             Some([_]) => {}
             _ => return false,
         }
@@ -101,6 +109,7 @@ fn play_at<'a, 'r, K: HouseName, L: HubName, R: Wait>(
     hub: &'a Hub<K, L>,
     link: &'a MemoryLink<'r, R>,
     stores: Vec<MemStable>,
+    count: u8,
     tally: Tally<L>,
 ) -> ((usize, usize, usize), Tally<L>) {
     let mut nodes = Nodes {
@@ -109,21 +118,24 @@ fn play_at<'a, 'r, K: HouseName, L: HubName, R: Wait>(
         hub,
         link,
         stores,
+        count,
     };
     nodes.play(tally)
 }
 
-// The packets of a group of three that plays, and whether all have delivered the message.
+// The packets of a group of so many nodes that plays, and whether all have delivered the message.
 fn played<K: HouseName, L: HubName, R: Wait>(
     rt: &R,
     alloc: Global,
     opened: Opened,
     blank: Blank,
     stores: Vec<MemStable>,
+    count: u8,
 ) -> Option<((usize, usize, usize), bool)>
     requires names { (opened.book ≡ K.book) × (lists_in opened.group ≡ K.base) }
     requires name { blank.name ≡ L.name }
-    requires parts { (blank.parts ≡ L.parts) × (L.parts ≡ 3) × (opened.group.size.n ≡ 3) }
+    requires parts { (blank.parts ≡ L.parts) × (L.parts ≡ count) × (opened.group.size.n ≡ count) }
+    requires count { 0 < count }
     requires start { L.start ≡ 0 }
 {
     let Ok(link) = MemoryLink::new(rt, alloc) else {
@@ -133,24 +145,45 @@ fn played<K: HouseName, L: HubName, R: Wait>(
     let (hub, mut tallies, readers) = hub_of::<K, L, R>(rt, alloc, opened, blank)?;
     drop(readers);
     let tally = tallies.pop().unwrap();
-    let (counts, tally) = play_at(rt, alloc, &hub, &link, stores, tally);
+    let (counts, tally) = play_at(rt, alloc, &hub, &link, stores, count, tally);
     tallies.push_reserved(tally);
     let house = hub.close(tallies);
-    let delivered = have_delivered(&house);
+    let delivered = have_delivered(&house, count);
     drop(house.close(rt));
     Some((counts, delivered))
+}
+
+// So many empty stores.
+fn stores(alloc: Global, count: u8) -> Option<Vec<MemStable>> {
+    let mut stores = Vec::new(alloc);
+    for _ in 0..count {
+        stores.push(MemStable::new(alloc)).ok()?;
+    }
+    Some(stores)
 }
 
 #[test]
 fn ticks_send_nothing_once_all_have_heard(rt: HostRuntime) -> Result<(), Fail> {
     let alloc = rt.alloc();
-    let mut stores = Vec::new(alloc);
-    for _ in 0..3u8 {
-        stores.push(MemStable::new(alloc))?;
-    }
+    let stores = stores(alloc, 3).ok_or("memory")?;
     let opened = opened(alloc, 3).ok_or("memory")?;
-    let played = played::<Brand, Brand, _>(&rt, alloc, opened, Blank::new(3), stores);
+    let played = played::<Brand, Brand, _>(&rt, alloc, opened, Blank::new(3), stores, 3);
     // Node 2 alone has not heard of the first node's certificate: its first tick asks, and is answered.
     assert_eq!(rt; played, Some(((9, 2, 0), true)));
+    Ok(())
+}
+
+// A submit at the first of seven nodes comes to all of them, and once each has heard of all, ticks send nothing.
+#[test]
+fn seven_nodes_deliver_and_fall_silent(rt: HostRuntime) -> Result<(), Fail> {
+    let alloc = rt.alloc();
+    let stores = stores(alloc, 7).ok_or("memory")?;
+    let opened = opened(alloc, 7).ok_or("memory")?;
+    let played = played::<Brand, Brand, _>(&rt, alloc, opened, Blank::new(7), stores, 7);
+    let silent = match played {
+        Some(((_, _, last), delivered)) => Some((last, delivered)),
+        None => None,
+    };
+    assert_eq!(rt; silent, Some((0, true)));
     Ok(())
 }

@@ -1,6 +1,6 @@
 //! The timer, beside a thread that takes its ticks and sets the stop.
 
-use crossbeam_channel::Receiver;
+use crossbeam_channel::{Receiver, Sender};
 use std::alloc::Global;
 use std::marker::Brand;
 use std::sync::Wait;
@@ -37,7 +37,44 @@ fn are_ticks_at<R: Wait>(rt: &R, jobs: &Receiver<Ticket<Brand>>, number: u8) -> 
     are_ticks
 }
 
-// Whether each of two nodes gets so many ticks of a timer and nothing else, where it has one every so many milliseconds, and the
+// A line for each of so many nodes, and the workers' ends.
+fn lines(
+    alloc: Global,
+    nodes: u8,
+) -> Option<(Vec<Sender<Ticket<Brand>>>, Vec<Receiver<Ticket<Brand>>>)> {
+    let mut lines = Vec::new(alloc);
+    let mut ends = Vec::new(alloc);
+    for _ in 0..nodes {
+        let (line, end) = crossbeam_channel::bounded(alloc, 64).ok()?;
+        lines.push(line).ok()?;
+        ends.push(end).ok()?;
+    }
+    Some((lines, ends))
+}
+
+// Whether what comes next at each node is a tick of this node.
+fn come_at_all<R: Wait>(rt: &R, ends: &[Receiver<Ticket<Brand>>]) -> bool {
+    let mut number: u8 = 0;
+    let mut have_come = true;
+    for jobs in ends {
+        number = number.saturating_add(1);
+        have_come = have_come && is_next_at(rt, jobs, number);
+    }
+    have_come
+}
+
+// Whether all that is left at each node are ticks of this node.
+fn are_left_at_all<R: Wait>(rt: &R, ends: &[Receiver<Ticket<Brand>>]) -> bool {
+    let mut number: u8 = 0;
+    let mut are_ticks = true;
+    for jobs in ends {
+        number = number.saturating_add(1);
+        are_ticks = are_ticks && are_ticks_at(rt, jobs, number);
+    }
+    are_ticks
+}
+
+// Whether each of seven nodes gets so many ticks of a timer and nothing else, where it has one every so many milliseconds, and the
 // timer ends once the stop is set; and how long it took.
 fn ticks<R: Threads + Wait + Clock + Sync>(
     rt: &R,
@@ -45,12 +82,9 @@ fn ticks<R: Threads + Wait + Clock + Sync>(
     millis: u32,
     count: u8,
 ) -> Option<(bool, Duration)> {
-    let (first, first_jobs) = crossbeam_channel::bounded(alloc, 64).ok()?;
-    let (second, second_jobs) = crossbeam_channel::bounded(alloc, 64).ok()?;
-    let lines = vec![in alloc; first, second].ok()?;
+    let (lines, ends) = lines(alloc, 7)?;
     let stop = Stop::new();
-    let (stop, lines) = (&stop, lines.as_slice());
-    let (first_jobs, second_jobs) = (&first_jobs, &second_jobs);
+    let (stop, lines, ends) = (&stop, lines.as_slice(), ends.as_slice());
     let began = Instant::now(rt).ok()?;
     let ((), have_come) = thread::join(
         rt,
@@ -58,17 +92,14 @@ fn ticks<R: Threads + Wait + Clock + Sync>(
         move || {
             let mut have_come = true;
             for _i in 0..count {
-                have_come = have_come
-                    && is_next_at(rt, first_jobs, 1)
-                    && is_next_at(rt, second_jobs, 2);
+                have_come = have_come && come_at_all(rt, ends);
             }
             stop.set();
             have_come
         },
     );
     let took = began.elapsed(rt).ok()?;
-    let are_ticks = are_ticks_at(rt, first_jobs, 1) && are_ticks_at(rt, second_jobs, 2);
-    Some((have_come && are_ticks, took))
+    Some((have_come && are_left_at_all(rt, ends), took))
 }
 
 // A timer whose tick is ten minutes off, and a stop that is set soon.
@@ -89,7 +120,7 @@ fn is_stopped<R: Threads + Wait + Clock + Sync>(rt: &R) -> bool {
 }
 
 #[test]
-fn a_timer_ticks_at_each_node_in_its_time(rt: HostRuntime) -> Result<(), Fail> {
+fn a_timer_ticks_at_each_of_seven_nodes_in_its_time(rt: HostRuntime) -> Result<(), Fail> {
     let (are_ticks, took) = ticks(&rt, rt.alloc(), 20, 2).ok_or("memory")?;
     assert!(rt; are_ticks);
     // The second tick is two times that off.

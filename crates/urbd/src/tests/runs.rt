@@ -68,7 +68,7 @@ impl Stable for Refusing {
 fn store_of(alloc: Global, number: u8, text: u8) -> Option<MemStable> {
     let sender = NodeId::new(number)?;
     let payload = Vec::from_elem(alloc, text, 1).ok()?;
-    let message = Message::new(ClientId::new(7)?, 1, payload);
+    let message = Message::new(alloc, ClientId::new(7)?, 1, payload).ok()?;
     let mut store = MemStable::new(alloc);
     let record = Record::Pend(Name { sender, seq: 1 }, message);
     store.store(1, &record).ok()?;

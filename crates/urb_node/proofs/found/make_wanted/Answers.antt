@@ -13,7 +13,7 @@ make_room_for-requires-clause-next g c = subst (λ (entry : Entry). IsNextHeld c
 
 pub returns-clause-wanted : goal.returns-clause-wanted
 returns-clause-wanted g c =
-    let copied = ap (λ (m : Content). pending_entry c.args.is_certified c.args.name m) c.in_ok-copy.ensures in
+    let copied = ap (λ (m : Content). pending_entry c.args.is_certified c.args.name m) c.in_ok-share.ensures in
     let room = subst (λ (entry : Entry). HasRoom c.make_room_for.new.held entry) c.pending_record-entry.ensures c.in_ok-make_room_for.ensures.room in
     let caused = subst (λ (n : ℕ). ForSome c.args.cause (λ cause. (1 ≤ cause.source) × (cause.source ≤ n))) (ap (λ (a : Memory). a.limits.n) (sym c.make_room_for.ensures.same)) c.requires.caused in
     let sends = c.in_ok-packets.ensures ∙ ap (λ (heard : Option ℕ). to_others c.args.held.now.config.n c.args.held.now.node c.args.is_certified heard (c.args.name, c.args.message)) c.heard_of.ensures in

@@ -4,7 +4,7 @@ use Rattle.urb_names.specs.Carried.{is_heard_of, others}
 use Rattle.urb_names.specs.declared.flags.Flags.{Flags}
 use Rattle.urb_stubborn.proofs.Sent.{packet, sent_to, not_sent_to, others_grow}
 use Rattle.urb_stubborn.proofs.outbox.push_to_others.Goals as goal
-use Rattle.urb_stubborn.proofs.outbox.push_to_others.Goals.{then-ne+in_ok-copy+in_ok-push, else-ne}
+use Rattle.urb_stubborn.proofs.outbox.push_to_others.Goals.{then-ne+in_ok-share+in_ok-push, else-ne}
 
 pub loop-number-preserved : goal.loop-number-preserved
 loop-number-preserved g c =
@@ -15,12 +15,12 @@ loop-number-preserved g c =
     let here : i + 1 - 1 ≡ i = omega arith in
     let target : c.unwrap-target.result ≡ i = search rules in
     elim c.if-ne.branch [
-      | then-ne+in_ok-copy+in_ok-push w ↦
+      | then-ne+in_ok-share+in_ok-push w ↦
           let other : i ≢ p = search rules in
           let told : w.is_heard_of.result ≡ is_heard_of c.args.heard i = w.is_heard_of.ensures ∙ ap (is_heard_of c.args.heard) target in
           let sent : w.new-then-ne.result ≡ packet p flags i pair =
-          w.new-then-ne.ensures ∙ (ap (λ t. record { source = p; target = t; name = c.args.name; message = w.in_ok-copy.field-0; flags = Some (record { certified = c.args.certified; heard = w.is_heard_of.result }) }) target
-          ∙ ap₂ (λ m b. record { source = p; target = i; name = c.args.name; message = m; flags = Some (record { certified = c.args.certified; heard = b }) }) w.in_ok-copy.ensures told) in
+          w.new-then-ne.ensures ∙ (ap (λ t. record { source = p; target = t; name = c.args.name; message = w.in_ok-share.field-0; flags = Some (record { certified = c.args.certified; heard = w.is_heard_of.result }) }) target
+          ∙ ap₂ (λ m b. record { source = p; target = i; name = c.args.name; message = m; flags = Some (record { certified = c.args.certified; heard = b }) }) w.in_ok-share.ensures told) in
           rw (w.packets-is, w.in_ok-push.ensures.items, sent)
           (sent_to (λ n. others n p) (λ q. not (q == p)) (others_grow p) p flags pair i (i + 1 - 1) c.args.packets.now.items c.loop-number.packets.items here (omega arith) (ap not (ne_eqb i p other)) c.loop-number.invariant)
       | else-ne w ↦

@@ -5,7 +5,7 @@ use Rattle.urb_names.specs.Carried.{others}
 use Rattle.urb_names.specs.declared.flags.Flags.{Flags}
 use Rattle.urb_stubborn.proofs.Sent.{packet, sent_to, not_sent_to, some_grow}
 use Rattle.urb_stubborn.proofs.outbox.push_to_unheard.Goals as goal
-use Rattle.urb_stubborn.proofs.outbox.push_to_unheard.Goals.{then-is_unheard+in_ok-copy+in_ok-push, else-is_unheard}
+use Rattle.urb_stubborn.proofs.outbox.push_to_unheard.Goals.{then-is_unheard+in_ok-share+in_ok-push, else-is_unheard}
 
 pub loop-number-preserved : goal.loop-number-preserved
 loop-number-preserved g c =
@@ -18,10 +18,10 @@ loop-number-preserved g c =
     let target : c.unwrap-target.result ≡ i = search rules in
     let tested : c.is_unheard.result ≡ (not (i == p) && unheard i) = c.is_unheard.ensures ∙ ap (λ q. not (q == p) && unheard q) target in
     elim c.if-is_unheard.branch [
-      | then-is_unheard+in_ok-copy+in_ok-push w ↦
+      | then-is_unheard+in_ok-share+in_ok-push w ↦
           let passes : (not (i == p) && unheard i) ≡ true = sym tested ∙ w.if-is_unheard.true in
           let sent : w.new-then-is_unheard.result ≡ packet p flags i pair =
-          w.new-then-is_unheard.ensures ∙ ap₂ (λ t m. record { source = p; target = t; name = c.args.name; message = m; flags = Some (record { certified = c.args.certified; heard = false }) }) target w.in_ok-copy.ensures in
+          w.new-then-is_unheard.ensures ∙ ap₂ (λ t m. record { source = p; target = t; name = c.args.name; message = m; flags = Some (record { certified = c.args.certified; heard = false }) }) target w.in_ok-share.ensures in
           rw (w.packets-is, w.in_ok-push.ensures.items, sent)
           (sent_to (λ n. filter unheard (others n p)) (λ q. not (q == p) && unheard q) (some_grow unheard p) p flags pair i (i + 1 - 1) c.args.packets.now.items c.loop-number.packets.items here (omega arith) passes c.loop-number.invariant)
       | else-is_unheard w ↦

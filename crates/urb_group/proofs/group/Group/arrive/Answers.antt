@@ -26,7 +26,7 @@ move_at-requires-clause-within g c = omega (arith, c.in-Some.ensures.target.2, c
 pub move_at-requires-clause-callable : goal.move_at-requires-clause-callable
 move_at-requires-clause-callable g c node was k h l o =
     let from : slice_get c.self.inside.nodes.items c.in-Some.source ≡ Some c.index.result.now = was_read c.self.inside.nodes.items c.in-Some.source c.self.inside.config.n c.index.result.now c.self.invariant.placed.count c.in-Some.ensures.source.1 c.index.ensures in
-    may_reach c.self.inside.config c.self.inside.nodes.items c.self.invariant c.args.node c.in-Some.at c.in-Some.source c.in_ok-packet.packet c.tells_truth-is_truthful.result c.index.result.now c.in-Some.ensures from c.tells_truth-is_truthful.ensures node was
+    (may_reach c.self.inside.config c.self.inside.nodes.items c.self.invariant c.args.node c.in-Some.at c.in-Some.source c.in_ok-packet.packet c.tells_truth-is_truthful.result c.index.result.now c.in-Some.ensures from c.tells_truth-is_truthful.ensures node was, c.known_at-known.ensures)
 
 pub invariant_of-self : goal.invariant_of-self
 invariant_of-self g c =

@@ -6,7 +6,7 @@ use Rattle.urb_node.specs.Values.{ShowsReady}
 use Rattle.urb_stable.specs.Entries.{IsEntry}
 use Rattle.urb_stable.specs.Fitting.{KeepsOwn, first_misfit}
 use Rattle.urb_stable.specs.Images.{image_of}
-use Rattle.urb_group.proofs.NewPlaces.{some_from}
+use Rattle.urb_group.proofs.NewPlaces.{some_from, value_from}
 use Rattle.urb_group.proofs.OpenedPlaces.{HasOpened, all-group, all-opens, more-opened, next-counted, next-keeps, none-opened}
 use Rattle.urb_group.specs.World.{AreImages}
 use Rattle.urb_group.proofs.group.Group.open.Goals as goal
@@ -38,35 +38,42 @@ unwrap-node-requires g c =
     let below : c.loop-image.number + 1 ≤ 7 = omega (arith, few, c.requires, c.n-n.ensures.range.1) in
     some_from c.new.result _ c.new.ensures (omega arith, below)
 
-pub open-requires-clause-node : goal.open-requires-clause-node
-open-requires-clause-node g c =
+pub opened_beside-requires-clause-node : goal.opened_beside-requires-clause-node
+opened_beside-requires-clause-node g c =
     let opened = subst (λ left. HasOpened (λ image. image.items) c.args.config c.args.images.items c.loop-image.yielded left c.loop-image.number c.loop-image.nodes.items) c.in-Some-image.ensures.steps.0 c.loop-image.invariant.opened in
     let few = next-counted (λ image. image.items) c.args.config c.args.images.items c.loop-image.yielded c.next.new.self.rest.items c.in-Some-image.image c.loop-image.number c.loop-image.nodes.items opened in
-    let is : c.unwrap-node.result ≡ c.loop-image.number + 1 = search rules in
+    let is : c.unwrap-node.result ≡ c.loop-image.number + 1 = value_from c.new.result _ (c.loop-image.number + 1) c.unwrap-node.result c.new.ensures c.unwrap-node.ensures in
     omega (arith, few, is, c.requires)
 
-pub open-requires-clause-rules : goal.open-requires-clause-rules
-open-requires-clause-rules g c =
+pub opened_beside-requires-clause-rules : goal.opened_beside-requires-clause-rules
+opened_beside-requires-clause-rules g c =
     let opened = subst (λ left. HasOpened (λ image. image.items) c.args.config c.args.images.items c.loop-image.yielded left c.loop-image.number c.loop-image.nodes.items) c.in-Some-image.ensures.steps.0 c.loop-image.invariant.opened in
     let same : c.deref-2.result.now ≡ c.args.images.items = search rules in
     let read : c.deref.result.now ≡ c.args.images.items = search rules in
     let none = subst (λ xs. first_misfit c.args.config (image_of (map (λ image. image.items) xs)) ≡ None) same (sym c.in_ok-misfit.ensures ∙ c.in_default.is) in
     let are : AreImages c.args.config (map (λ image. image.items) c.args.images.items) =
     record { one_each = length-map c.args.images.items (λ image. image.items) ∙ c.requires; limits = subst (λ xs. All (All IsEntry) (map (λ image. image.items) xs)) read c.limits_of_images.ensures } in
-    let is : c.unwrap-node.result ≡ c.loop-image.number + 1 = search rules in
+    let is : c.unwrap-node.result ≡ c.loop-image.number + 1 = value_from c.new.result _ (c.loop-image.number + 1) c.unwrap-node.result c.new.ensures c.unwrap-node.ensures in
     subst (λ (p : ℕ). KeepsOwn c.args.config p [] c.in-Some-image.image.items) (sym (is ∙ add-one c.loop-image.number))
     (next-keeps (λ image. image.items) c.args.config c.args.images.items c.loop-image.yielded c.next.new.self.rest.items c.in-Some-image.image c.loop-image.number c.loop-image.nodes.items opened are none)
+
+pub push_reserved-requires : goal.push_reserved-requires
+push_reserved-requires g c =
+    let opened = subst (λ left. HasOpened (λ image. image.items) c.args.config c.args.images.items c.loop-image.yielded left c.loop-image.number c.loop-image.nodes.items) c.in-Some-image.ensures.steps.0 c.loop-image.invariant.opened in
+    let few = next-counted (λ image. image.items) c.args.config c.args.images.items c.loop-image.yielded c.next.new.self.rest.items c.in-Some-image.image c.loop-image.number c.loop-image.nodes.items opened in
+    omega (arith, few, c.requires, c.loop-image.invariant.count, c.loop-image.invariant.room)
 
 pub loop-image-preserved : goal.loop-image-preserved
 loop-image-preserved g c =
     let opened = subst (λ left. HasOpened (λ image. image.items) c.args.config c.args.images.items c.loop-image.yielded left c.loop-image.number c.loop-image.nodes.items) c.in-Some-image.ensures.steps.0 c.loop-image.invariant.opened in
-    let is : c.unwrap-node.result ≡ suc c.loop-image.number = (search rules) ∙ add-one c.loop-image.number in
-    let shows = subst (λ (p : ℕ). ShowsReady c.in_ok-open.field-0 (opened_node p c.in-Some-image.image.items)) is c.in_ok-open.ensures.2 in
+    let is : c.unwrap-node.result ≡ suc c.loop-image.number =
+    value_from c.new.result _ (c.loop-image.number + 1) c.unwrap-node.result c.new.ensures c.unwrap-node.ensures ∙ add-one c.loop-image.number in
+    let shows = subst (λ (p : ℕ). ShowsReady c.in_ok-ready.ready (opened_node p c.in-Some-image.image.items)) is c.in_ok-ready.ensures.2 in
     record {
       opened =
           subst (λ (n : ℕ). HasOpened (λ image. image.items) c.args.config c.args.images.items (c.loop-image.yielded ++ c.in-Some-image.image ∷ []) c.next.new.self.rest.items n c.push_reserved.new.self.items) (sym (add-one c.loop-image.number))
-          (more-opened (λ image. image.items) c.args.config c.args.images.items c.loop-image.yielded c.next.new.self.rest.items c.in-Some-image.image c.loop-image.number c.loop-image.nodes.items c.push_reserved.new.self.items c.in_ok-open.field-0 opened
-          c.in_ok-open.ensures.0 (c.in_ok-open.ensures.1 ∙ is) shows c.push_reserved.ensures.items);
+          (more-opened (λ image. image.items) c.args.config c.args.images.items c.loop-image.yielded c.next.new.self.rest.items c.in-Some-image.image c.loop-image.number c.loop-image.nodes.items c.push_reserved.new.self.items c.in_ok-ready.ready opened
+          c.in_ok-ready.ensures.0 (c.in_ok-ready.ensures.1 ∙ is) shows c.push_reserved.ensures.items);
       count = omega (arith, c.push_reserved.ensures.len, c.loop-image.invariant.count);
       room = omega (arith, c.push_reserved.ensures.capacity, c.loop-image.invariant.room);
     }

@@ -1,4 +1,4 @@
-use Rattle.std.proofs.Common.{rules}
+use Rattle.std.proofs.Common.{rules, subst}
 use Rattle.urb_group.specs.Moving.{RestartsAt, restarts_as}
 use Rattle.urb_group.specs.Step.{Restart}
 use Rattle.urb_group.proofs.GroupMoves.{restart-moved, restart-step}
@@ -13,12 +13,14 @@ returns-in_default g c =
 pub invariant_of-self : goal.invariant_of-self
 invariant_of-self g c =
     let move = c.move_at.ensures in
-    let step : RestartsAt move.node c.args.image.items (move.moved, c.move_at.result) = search rules in
+    let shared : RestartsAt move.node c.share_image-shared.result.items (move.moved, c.move_at.result) = search rules in
+    let step = subst (λ items. RestartsAt move.node items (move.moved, c.move_at.result)) c.share_image-shared.ensures shared in
     (restart-moved c.self.inside.config c.self.inside.nodes.items c.move_at.new.nodes.items c.in-Some.at c.args.node c.args.image.items c.move_at.result c.self.invariant c.in-Some.ensures.1 (record { node = move.node; moved = move.moved; was = move.was; step = step; is = move.is })).1
 
 pub returns : goal.returns
 returns g c =
     let move = c.move_at.ensures in
-    let step : RestartsAt move.node c.args.image.items (move.moved, c.move_at.result) = search rules in
+    let shared : RestartsAt move.node c.share_image-shared.result.items (move.moved, c.move_at.result) = search rules in
+    let step = subst (λ items. RestartsAt move.node items (move.moved, c.move_at.result)) c.share_image-shared.ensures shared in
     rw (← c.self.view_is)
     (restart-moved c.self.inside.config c.self.inside.nodes.items c.move_at.new.nodes.items c.in-Some.at c.args.node c.args.image.items c.move_at.result c.self.invariant c.in-Some.ensures.1 (record { node = move.node; moved = move.moved; was = move.was; step = step; is = move.is })).0

@@ -1,4 +1,5 @@
 use Rattle.std.proofs.Common.{rules, ap, ◌∙◌, ◌≡◌, ◌==◌, refl}
+use Rattle.std.proofs.lemmas.Bool.{false≢true}
 use Rattle.urb_names.specs.Naming.{Label}
 use Rattle.urb_names.specs.Ordered.{placed}
 use Rattle.urb_window.specs.Entries.{entry_lt}
@@ -32,3 +33,8 @@ pub returns-clause-ok : goal.returns-clause-ok
 returns-clause-ok g c =
     let entries : c.insert.new.self.entries ≡ placed entry_lt c.self.inside.windows.entries (c.args.name, c.args.message) = search rules in
     rw (← c.self.view_is, entries ∙ placed_pair c.args.name c.args.message c.self.inside.windows.entries) refl
+
+pub returns-in_err-insert-clause-reserved : goal.returns-in_err-insert-clause-reserved
+returns-in_err-insert-clause-reserved g c = λ here.
+    let room = c.self.invariant.room c.args.name c.args.message.client (ap (λ s. s.reserved) c.self.view_is ∙ here) in
+    absurd (false≢true (c.in_err-insert.ensures.reserved room.under))

@@ -23,4 +23,4 @@ invariant_of-self g c =
     let done = rw c.in-Ok.is at c.publish_as-writer.ensures.values in
     let writer = now_published g.K.HouseName.book g.K.HouseName.base c.self.inside.shown c.self.inside.queued c.self.inside.all c.again.result c.in-Some.writer.desk.shown.value c.publish_as-writer.result.0.desk.shown.value (drop c.in-Some.writer.behind c.in-Some.writer.log.items) _ has.0 has.1 flushed c.again.ensures done in
     let whole : IsPrefix c.again.result c.self.inside.queued = subst (λ (w : List Addition). IsPrefix w c.self.inside.queued) (flushed ∙ sym c.again.ensures) (prefix_self c.self.inside.queued) in
-    (whole, c.self.invariant.1, c.self.invariant.2, rw c.replace.ensures.after writer)
+    (whole, c.self.invariant.1, c.self.invariant.2, rw c.replace.ensures.after writer, c.self.invariant.4)

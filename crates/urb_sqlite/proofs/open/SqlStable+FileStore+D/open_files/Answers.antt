@@ -1,29 +1,18 @@
-use Rattle.sqlite.specs.State.{HasCleanDisk}
-use Rattle.sqlite.specs.Files.{file_state, image_of}
-use Rattle.urb_sqlite.proofs.KeepLemmas.{earlier_clean}
-use Rattle.urb_sqlite.proofs.SchemaLemmas.{finds_journal, finds_nothing}
+use Rattle.std.proofs.Common.{◌≡◌, ◌∙◌, sym, subst}
+use Rattle.std.proofs.lemmas.Result.{IfOk-weaker}
+use Rattle.sqlite.specs.Files.{image_of, HoldsDatabase}
+use Rattle.sqlite.proofs.FileLemmas.{same_image}
 use Rattle.urb_sqlite.proofs.open.SqlStable+FileStore+D.open_files.Goals as goal
 
-pub returns-in-Ok-adopt-clause-found : goal.returns-in-Ok-adopt-clause-found
-returns-in-Ok-adopt-clause-found g c clean db holds sound =
-    let conn = file_state c.in-Ok.conn in
-    let now = file_state c.in-Ok-adopt.journal.conn in
-    let early : HasCleanDisk conn = earlier_clean conn now c.in-Ok-adopt.ensures.stop.clean clean in
-    let opened = c.in-Ok.ensures.opened early in
-    let found = c.in-Ok.ensures.found early in
-    finds_journal conn now db opened.1 opened.0 (found.holds db holds) sound (c.in-Ok-adopt.ensures.found clean)
+pub returns-then-is_blank-clause-found : goal.returns-then-is_blank-clause-found
+returns-then-is_blank-clause-found g c =
+    IfOk-weaker c.make_files.result _ _ (λ s was clean db held journal. absurd (c.in-Ok.ensures.none (was clean) c.if-is_blank.true db held)) c.make_files.ensures.clean
 
-pub returns-in-Ok-adopt-clause-clean : goal.returns-in-Ok-adopt-clause-clean
-returns-in-Ok-adopt-clause-clean g c clean =
-    let conn = file_state c.in-Ok.conn in
-    let now = file_state c.in-Ok-adopt.journal.conn in
-    (c.in-Ok.ensures.found (earlier_clean conn now c.in-Ok-adopt.ensures.stop.clean clean)).honest
+pub returns-else-is_blank-clause-fresh : goal.returns-else-is_blank-clause-fresh
+returns-else-is_blank-clause-fresh g c =
+    IfOk-weaker c.open_there.result _ _ (λ s fresh clean none. fresh clean (c.is_blank.ensures.db.seen ∙ none)) c.open_there.ensures.fresh
 
-pub returns-in-Ok-adopt-clause-fresh : goal.returns-in-Ok-adopt-clause-fresh
-returns-in-Ok-adopt-clause-fresh g c clean none =
-    let conn = file_state c.in-Ok.conn in
-    let now = file_state c.in-Ok-adopt.journal.conn in
-    let early : HasCleanDisk conn = earlier_clean conn now c.in-Ok-adopt.ensures.stop.clean clean in
-    let opened = c.in-Ok.ensures.opened early in
-    let found = c.in-Ok.ensures.found early in
-    c.in-Ok-adopt.ensures.fresh clean (finds_nothing conn (image_of g.D.Disk c.args.files) opened.1 opened.0 none found.reads)
+pub returns-else-is_blank-clause-found : goal.returns-else-is_blank-clause-found
+returns-else-is_blank-clause-found g c =
+    let same : image_of g.D.Disk c.is_blank.new.files ≡ image_of g.D.Disk c.args.files = same_image c.is_blank.ensures.log c.is_blank.ensures.db in
+    IfOk-weaker c.open_there.result _ _ (λ s found clean db held journal. found clean db (subst (λ i. HoldsDatabase i db) (sym same) held) journal) c.open_there.ensures.found

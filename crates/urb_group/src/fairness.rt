@@ -1,0 +1,133 @@
+//! That a group whose packets get through delivers all that its storages took, in whatever order things happen. Laws, each as
+//! the contract of a function that does nothing.
+//!
+//! They are no promise that packets arrive, nor that nodes tick: they say what follows once that happened (`specs/Rounds.antt`).
+
+ghost use Rattle.std.specs.Prelude.{◌≡◌, Bool, List, Option, true, ℕ, ◌⊎◌, ◌≤◌, ◌<◌, ◌*◌, ◌+◌, length};
+ghost use Rattle.std.specs.List.{AllByRecursion};
+ghost use Rattle.urb_names.specs.Cyclic.{are_rising, resent};
+ghost use Rattle.urb_names.specs.Naming.{Content, Label};
+ghost use Rattle.urb_names.specs.Nodes.{is_node, majority_passes};
+ghost use Rattle.urb_names.specs.Pairs.{has_pair};
+ghost use Rattle.urb_group.specs.Recovered.{AllDelivered, IsNotStranded};
+ghost use Rattle.urb_group.specs.Recovering.{after};
+ghost use Rattle.urb_group.specs.Resends.{IsDueAmong, cursor_next, resent_over, turn_of};
+ghost use Rattle.urb_group.specs.Rounds.{Act, AllUp, AnswersArrive, AreUp, HaveDeliveredHeld, IsRound, IsRoundAmong, IsUndisturbed, NoneDue, TickAtLeast, TicksAreSilent, acts_of, taken, ticks_of};
+ghost use Rattle.urb_group.specs.Step.{Event, IsReached};
+ghost use Rattle.urb_group.specs.PlayedRounds.{IsPlayedRound};
+ghost use Rattle.urb_group.specs.Plays.{Runs};
+ghost use Rattle.urb_group.specs.Shown.{GroupView};
+ghost use Rattle.urb_group.specs.World.{World, stored};
+ghost use Rattle.urb_group.specs.declared.command.Command.{Command};
+ghost use Rattle.urb_node.specs.Replies.{Reply};
+ghost use Rattle.urb_stable.specs.Records.{pend};
+
+use std::alloc::Allocator;
+
+/// Two rounds deliver, in whatever order their events come and whatever else arrives or is refused among them: from any world
+/// of a run, but for a stranded group, in which every node is ready or holds a record. After the second round every node has
+/// delivered all that each sender's storage took. Nodes that are down come back before.
+pub fn two_fair_rounds_deliver()
+    ensures { (w : World) (first second : List Event)
+        → IsReached w
+        → IsNotStranded w
+        → AllUp w
+        → IsRound w first
+        → IsRound (after w first) second
+        → AllDelivered (after (after w first) second) }
+{}
+
+/// The same of what runs: of two lists of commands that were played, each with the replies that came back. Where they are
+/// rounds by these replies, every node has delivered all that each sender's storage took. `Runs` is what `play` promises.
+pub fn two_played_rounds_deliver<A: Allocator>()
+    ensures { (w : World) (first second : List (Command A)) (told answered : List Reply) (between behind : GroupView)
+        → (one : Runs w first told between)
+        → (two : Runs one.after second answered behind)
+        → IsReached w
+        → IsNotStranded w
+        → AllUp w
+        → IsPlayedRound first told one.after
+        → IsPlayedRound second answered two.after
+        → AllDelivered two.after }
+{}
+
+/// While nodes are down, a majority of nodes that are up delivers what it holds: after two rounds among them each has
+/// delivered, of each sender, the longest beginning of its messages each of which one of them had stored. What nodes that are
+/// down alone have stored nobody else can know.
+pub fn a_majority_delivers_what_it_holds()
+    ensures { (among : ℕ → Bool) (w : World) (first second : List Event)
+        → IsReached w
+        → IsNotStranded w
+        → majority_passes w.size.n among ≡ true
+        → AreUp among w
+        → IsRoundAmong among (acts_of w first) (after w first)
+        → IsRoundAmong among (acts_of (after w first) second) (after (after w first) second)
+        → HaveDeliveredHeld among w (after (after w first) second) }
+{}
+
+/// There are rounds: from every world of a run, whatever was lost and whichever nodes are down, some list of events is one. So
+/// what the laws of rounds ask for can be met.
+pub fn rounds_exist()
+    ensures { (w : World) → IsReached w → (events : List Event) × IsRound w events }
+{}
+
+/// Ticks by number: where each node ticks so often that sixteen times as many names are at least the messages that the storages
+/// of all nodes took, each ticks often enough for a round.
+pub fn so_many_ticks_are_enough()
+    ensures { (count : ℕ) (w : World) (acts : List Act)
+        → IsReached w
+        → taken w ≤ 16 * count
+        → TickAtLeast count w acts
+        → (p : ℕ)
+        → is_node w.size.n p ≡ true
+        → length (pend (stored w p)) ≤ 16 * ticks_of p acts }
+{}
+
+/// Ticks end: after two rounds, and a third in which the answers arrive too, no name is due at any node. So long as no new
+/// message is drafted, nothing crashes and no store fails it stays so, and no tick sends anything.
+pub fn ticks_end()
+    ensures { (w : World) (first second third later : List Event)
+        → IsReached w
+        → IsNotStranded w
+        → AllUp w
+        → IsRound w first
+        → IsRound (after w first) second
+        → IsRound (after (after w first) second) third
+        → AnswersArrive (acts_of (after (after w first) second) third)
+        → IsUndisturbed (acts_of (after (after (after w first) second) third) later)
+        → NoneDue (after (after (after (after w first) second) third) later)
+        × TicksAreSilent (acts_of (after (after (after w first) second) third) later) }
+{}
+
+/// A tick that leaves out a pair that is due passes at least sixteen others that stood before it.
+pub fn a_tick_passes_sixteen()
+    ensures { (all : List (Label × Content)) (cursor : Option Label) (x : Label) (m : Content)
+        (due : List (Label × Content))
+        → are_rising all ≡ true
+        → IsDueAmong all x m due
+        → (has_pair (resent cursor due) x m ≡ true)
+        ⊎ (turn_of all (cursor_next cursor due) x + 16 ≤ turn_of all cursor x) }
+{}
+
+/// A pair that stays due has its turn, whatever others come and go between ticks: once there were more ticks than a sixteenth
+/// of the pairs that stood before it at first, or as many as a sixteenth of all that were due at any of them.
+pub fn what_stays_due_is_resent()
+    ensures turn { (all : List (Label × Content)) (cursor : Option Label) (x : Label) (m : Content)
+        (dues : List (List (Label × Content)))
+        → are_rising all ≡ true
+        → has_pair all x m ≡ true
+        → AllByRecursion (IsDueAmong all x m) dues
+        → turn_of all cursor x < 16 * length dues
+        → has_pair (resent_over cursor dues) x m ≡ true }
+    ensures below { (all : List (Label × Content)) (cursor : Option Label) (x : Label) (m : Content)
+        → are_rising all ≡ true
+        → has_pair all x m ≡ true
+        → turn_of all cursor x < length all }
+    ensures all { (all : List (Label × Content)) (cursor : Option Label) (x : Label) (m : Content)
+        (dues : List (List (Label × Content)))
+        → are_rising all ≡ true
+        → has_pair all x m ≡ true
+        → AllByRecursion (IsDueAmong all x m) dues
+        → length all ≤ 16 * length dues
+        → has_pair (resent_over cursor dues) x m ≡ true }
+{}

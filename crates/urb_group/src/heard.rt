@@ -1,0 +1,20 @@
+//! What holds of the certificates that nodes have heard, each law as the contract of a function that does nothing.
+
+ghost use Rattle.std.specs.Prelude.{◌≡◌, ℕ};
+ghost use Rattle.std.specs.List.{AllByRecursion};
+ghost use Rattle.urb_stable.specs.Entries.{Entry};
+ghost use Rattle.urb_node.specs.Replies.{Done, Stored};
+ghost use Rattle.urb_group.specs.World.{World};
+ghost use Rattle.urb_group.specs.Step.{Commit, step, IsReached};
+ghost use Rattle.urb_group.specs.Hearing.{HearsOfPending, SaysWhatWasHeard};
+
+/// In every world of a run, each certificate that a node has heard is of a name that is pending there. So of a pair that a node
+/// stores only the packet that caused it can have told a certificate, and the pair's packets tell each node exactly whether its
+/// certificate was heard.
+pub fn what_is_heard_is_pending()
+    ensures heard { (w : World) (p : ℕ) → IsReached w → HearsOfPending (w.node p) }
+    ensures told { (w : World) (p position : ℕ) (entry : Entry) (done : Done) →
+        IsReached w → (step w (Commit p position entry)).0 ≡ Stored done →
+        AllByRecursion
+        (SaysWhatWasHeard ((step w (Commit p position entry)).1.node p)) done.sent }
+{}

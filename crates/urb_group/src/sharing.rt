@@ -1,0 +1,122 @@
+//! Messages of an image that share the payloads of nodes that are open.
+
+ghost use Rattle.std.specs.Prelude.{◌≡◌, ◌≤◌, [], IfOk};
+ghost use Rattle.std.specs.Option.{ForSome};
+ghost use Rattle.urb_node.specs.Part.{opened_node};
+ghost use Rattle.urb_node.specs.Values.{ShowsReady};
+ghost use Rattle.urb_stable.specs.Fitting.{KeepsOwn};
+
+use crate::places::Node;
+use std::alloc::Allocator;
+use urb_names::{Config, Message, Name, NoMemory, NodeId};
+use urb_node::Ready;
+use urb_stable::Record;
+
+// Another message of the same content, which shares the payload that a node has stored under this name. `None` if the node has
+// not stored the same message, or if sharing fails.
+fn known_in<A: Allocator + Copy>(
+    node: &Node<A>,
+    alloc: A,
+    name: Name,
+    message: &Message<A>,
+) -> Option<Message<A>>
+    ensures { ForSome result (λ m. m ≡ message.now) }
+{
+    let known = node.message(name)?;
+    if !known.is_same(message) {
+        return None;
+    }
+    known.share(alloc).ok()
+}
+
+// The same of the first of these nodes that has one.
+fn known_among<A: Allocator + Copy>(
+    nodes: &[Node<A>],
+    alloc: A,
+    name: Name,
+    message: &Message<A>,
+) -> Option<Message<A>>
+    ensures { ForSome result (λ m. m ≡ message.now) }
+{
+    for node in nodes {
+        if let Some(known) = known_in(node, alloc, name, message) {
+            return Some(known);
+        }
+    }
+    None
+}
+
+// The message gives up its own payload for that of a node which has stored the same.
+fn share_payload<A: Allocator + Copy>(
+    nodes: &[Node<A>],
+    alloc: A,
+    name: Name,
+    message: &mut Message<A>,
+)
+    ensures { message.new ≡ message.old }
+{
+    if let Some(known) = known_among(nodes, alloc, name, message) {
+        *message = known;
+    }
+}
+
+// The same for the message of a record, if it has one.
+fn share_payload_of<A: Allocator + Copy>(
+    nodes: &[Node<A>],
+    alloc: A,
+    entry: &mut Record<Message<A>>,
+)
+    ensures { entry.new ≡ entry.old }
+{
+    match entry {
+        Record::Pend(name, message) => share_payload(nodes, alloc, *name, message),
+        Record::PendCert(name, message) => share_payload(nodes, alloc, *name, message),
+        Record::Cert(_) => {}
+    }
+}
+
+// The same for each record of an image.
+fn share_payloads<A: Allocator + Copy>(
+    nodes: &[Node<A>],
+    alloc: A,
+    records: &mut [Record<Message<A>>],
+)
+    ensures { records.new ≡ records.old }
+{
+    for entry in records.iter_mut() {
+        share_payload_of(nodes, alloc, entry);
+    }
+}
+
+/// The same image. Its messages share the payloads that one of these nodes has stored under the same names.
+pub(crate) fn share_image<A: Allocator + Copy>(
+    nodes: &[Node<A>],
+    alloc: A,
+    image: Vec<Record<Message<A>>, A>,
+) -> Vec<Record<Message<A>>, A>
+    ensures { result.items ≡ image.items }
+{
+    let mut image = image;
+    share_payloads(nodes, alloc, &mut image);
+    image
+}
+
+/// Opens a node beside those that are open already: a payload that one of them has stored under the same name stays once in
+/// memory.
+pub(crate) fn opened_beside<A: Allocator + Copy>(
+    nodes: &[Node<A>],
+    alloc: A,
+    config: Config,
+    node: NodeId,
+    image: Vec<Record<Message<A>>, A>,
+) -> Result<Ready<A>, NoMemory>
+    requires node { node ≤ config.n }
+    requires rules { KeepsOwn config node [] image.items }
+    ensures { IfOk result (λ ready. (ready.limits ≡ config)
+        × (ready.node ≡ node)
+        × ShowsReady ready (opened_node node image.items)) }
+{
+    let mut image = image;
+    share_payloads(nodes, alloc, &mut image);
+    Ready::open(alloc, config, node, image)
+}

@@ -1,0 +1,93 @@
+//! Rounds in different orders, all of which deliver; and for each thing that a round asks for, lists of events that lack it alone
+//! and don't deliver.
+ghost use Rattle.std.specs.Prelude.{[], ◌∷◌, ◌++◌, ◌≡◌, List, Ok, map};
+ghost use Rattle.urb_names.specs.Names.{name, names};
+ghost use Rattle.urb_names.specs.Nodes.{numbers_from};
+ghost use Rattle.urb_group.specs.Examples.{flagged, limits, pending};
+ghost use Rattle.urb_group.specs.Recoveries.{opened_group, scene_after};
+ghost use Rattle.urb_group.specs.Recovering.{both, rounds, stores};
+ghost use Rattle.urb_group.specs.RoundExamples.{RoundsCome, TicksSend, a_round, as_sent, broadcast_of_two, busy_at_first, disturbed, in_order, judged, leaves_a_draft, loses_a_packet, none_of, old_packets, one_by_one, ticks_too_seldom, two_of_three_nodes_broadcast, with_answers, without_receipts};
+ghost use Rattle.urb_group.specs.Rounds.{IsRound};
+ghost use Rattle.urb_group.specs.Scripts.{message, submit};
+ghost use Rattle.urb_group.specs.Step.{Arrive, Crash, Event, Restart, Tick};
+ghost use Rattle.urb_group.specs.World.{stored, World};
+
+/// What the examples test is what a round asks for.
+pub fn what_is_judged_a_round_is_one()
+    ensures { (w : World) (events : List Event) → judged w events ≡ a_round → IsRound w events }
+{}
+
+/// Nodes 1 and 3 of three have stored a message each, and what they sent is lost or late. Whatever the order of ticks and of
+/// arrivals, also with old packets that come twice, and with packets that are refused at first, two rounds deliver.
+pub fn rounds_in_any_order()
+    ensures from_the_first_node_to_the_last { RoundsCome two_of_three_nodes_broadcast
+        (in_order (1 ∷ 2 ∷ 3 ∷ []) as_sent) a_round
+        (in_order (1 ∷ 2 ∷ 3 ∷ []) as_sent) a_round
+        ((name 3 1 ∷ name 1 1 ∷ []) ∷ (name 1 1 ∷ name 3 1 ∷ []) ∷ (name 1 1 ∷ name 3 1 ∷ []) ∷ []) }
+    ensures from_the_last_to_the_first { RoundsCome two_of_three_nodes_broadcast
+        (in_order (3 ∷ 2 ∷ 1 ∷ []) as_sent) a_round
+        (in_order (3 ∷ 2 ∷ 1 ∷ []) as_sent) a_round
+        ((name 3 1 ∷ name 1 1 ∷ []) ∷ (name 3 1 ∷ name 1 1 ∷ []) ∷ (name 1 1 ∷ name 3 1 ∷ []) ∷ []) }
+    ensures one_node_after_the_other { RoundsCome two_of_three_nodes_broadcast
+        (one_by_one (1 ∷ 2 ∷ 3 ∷ [])) a_round
+        (one_by_one (1 ∷ 2 ∷ 3 ∷ [])) a_round
+        ((name 1 1 ∷ name 3 1 ∷ []) ∷ (name 1 1 ∷ name 3 1 ∷ []) ∷ (name 1 1 ∷ name 3 1 ∷ []) ∷ []) }
+    ensures behind_old_packets { RoundsCome two_of_three_nodes_broadcast
+        (both old_packets (in_order (2 ∷ 1 ∷ 3 ∷ []) as_sent)) a_round
+        (in_order (2 ∷ 1 ∷ 3 ∷ []) as_sent) a_round
+        ((name 3 1 ∷ name 1 1 ∷ []) ∷ (name 1 1 ∷ name 3 1 ∷ []) ∷ (name 1 1 ∷ name 3 1 ∷ []) ∷ []) }
+    ensures with_refused_arrivals { RoundsCome two_of_three_nodes_broadcast
+        (busy_at_first (1 ∷ 2 ∷ 3 ∷ [])) a_round
+        (busy_at_first (1 ∷ 2 ∷ 3 ∷ [])) a_round
+        ((name 3 1 ∷ name 1 1 ∷ []) ∷ (name 1 1 ∷ name 3 1 ∷ []) ∷ (name 1 1 ∷ name 3 1 ∷ []) ∷ []) }
+{}
+
+/// Each of these lists lacks one thing that a round asks for, and some node has not delivered all in the end. That another one has
+/// says nothing: delivered is what every node has.
+pub fn what_is_no_round()
+    ensures a_node_ticks_once_too_seldom { RoundsCome
+        (opened_group (limits 2 20) (map (pending 1) (numbers_from 1 17) ∷ [] ∷ []))
+        (in_order (1 ∷ 2 ∷ []) as_sent) ticks_too_seldom
+        (in_order (1 ∷ 1 ∷ 2 ∷ 2 ∷ []) as_sent) a_round
+        (names 1 16 ∷ names 1 17 ∷ []) }
+    ensures names_come_before_the_tick { RoundsCome
+        (opened_group (limits 2 20) (map (pending 1) (numbers_from 1 16) ∷ (pending 2 1 ∷ []) ∷ []))
+        (both (in_order (1 ∷ 1 ∷ []) as_sent) (in_order (2 ∷ []) as_sent)) ticks_too_seldom
+        (in_order (1 ∷ 1 ∷ 2 ∷ 2 ∷ []) as_sent) a_round
+        ((names 1 16 ++ name 2 1 ∷ []) ∷ names 1 16 ∷ []) }
+    ensures a_packet_does_not_arrive { RoundsCome (broadcast_of_two 1)
+        (in_order (1 ∷ 2 ∷ []) none_of) loses_a_packet
+        (in_order (1 ∷ 2 ∷ []) as_sent) a_round
+        ([] ∷ (name 1 1 ∷ []) ∷ []) }
+    ensures a_packet_is_refused_as_busy { RoundsCome (scene_after (broadcast_of_two 1) (submit 2 (message 8 1 "b") ∷ []))
+        (both (λ w. Tick 1 ∷ Arrive 2 (Ok (flagged 0 1 2 1 1 (message 7 1 "a"))) ∷ [])
+        (both (stores 2) (in_order (2 ∷ []) as_sent))) loses_a_packet
+        (in_order (1 ∷ 2 ∷ []) as_sent) a_round
+        ((name 2 1 ∷ []) ∷ (name 2 1 ∷ name 1 1 ∷ []) ∷ []) }
+    ensures a_draft_is_left { RoundsCome (broadcast_of_two 1)
+        (in_order (1 ∷ 2 ∷ []) as_sent) a_round
+        (without_receipts (1 ∷ 2 ∷ [])) leaves_a_draft
+        ([] ∷ (name 1 1 ∷ []) ∷ []) }
+    ensures a_node_crashes { RoundsCome (broadcast_of_two 1)
+        (in_order (1 ∷ 2 ∷ []) as_sent) a_round
+        (both (without_receipts (1 ∷ 2 ∷ [])) (λ w. Crash 1 ∷ Restart 1 (stored w 1) ∷ [])) disturbed
+        ([] ∷ (name 1 1 ∷ []) ∷ []) }
+{}
+
+/// What a round asks for is enough, and not always needed: here node 1 ticks too seldom, and all is delivered.
+pub fn what_is_not_needed()
+    ensures { RoundsCome (broadcast_of_two 2)
+        rounds ticks_too_seldom
+        rounds a_round
+        ((name 2 1 ∷ []) ∷ (name 2 1 ∷ []) ∷ []) }
+{}
+
+/// Ticks end: behind a third round whose answers arrive no node sends anything at a tick. If answers are lost, ticks go on.
+pub fn when_ticks_end()
+    ensures answers_arrive { TicksSend (broadcast_of_two 1)
+        (both (in_order (1 ∷ 2 ∷ []) as_sent) (both (in_order (1 ∷ 2 ∷ []) as_sent) (with_answers (1 ∷ 2 ∷ []))))
+        [] }
+    ensures answers_are_lost { TicksSend (broadcast_of_two 1)
+        (both (in_order (1 ∷ 2 ∷ []) as_sent) (both (in_order (1 ∷ 2 ∷ []) as_sent) (in_order (1 ∷ 2 ∷ []) as_sent)))
+        ((1, name 1 1) ∷ []) }
+{}

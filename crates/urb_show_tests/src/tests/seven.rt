@@ -1,0 +1,150 @@
+//! A house of seven nodes: the last node broadcasts, and what it delivers is published and read.
+ghost use Rattle.std.specs.Prelude.{◌≡◌, ◌≤◌, length};
+ghost use Rattle.urb_show.specs.Lists.{lists_in};
+
+use super::first_false;
+use super::readers::agrees;
+use super::writer::{arrive, keep, submit};
+use std::alloc::Global;
+use std::sync::Wait;
+use urb_group::{MemStable, NodeId, Outbox};
+use urb_show::{House, HouseName, LogReader, Opened};
+
+// The stores of seven nodes.
+fn seven_stores(alloc: Global) -> [MemStable; 7] {
+    [
+        MemStable::new(alloc),
+        MemStable::new(alloc),
+        MemStable::new(alloc),
+        MemStable::new(alloc),
+        MemStable::new(alloc),
+        MemStable::new(alloc),
+        MemStable::new(alloc),
+    ]
+}
+
+// The packet among these that is for this node is stored there, and the packet that it sends back to node 7 arrives: how many
+// names node 7 releases, if that makes it draft anything.
+fn there_and_back<K: HouseName>(
+    alloc: Global,
+    house: &mut House<K>,
+    stores: &mut [MemStable],
+    node: NodeId,
+    sent: &Outbox,
+) -> Option<u32> {
+    let seven = NodeId::new(7)?;
+    let taken = arrive(alloc, house, node, sent)?;
+    let back = keep(house, stores, taken)?.sent;
+    let taken = arrive(alloc, house, seven, &back)?;
+    match keep(house, stores, taken) {
+        Some(done) => Some(done.released),
+        None => Some(0),
+    }
+}
+
+// Node 7 broadcasts, and the nodes 1, 2 and 3 take it: how many names node 7 releases each time.
+fn broadcast_at_seven<K: HouseName>(
+    alloc: Global,
+    house: &mut House<K>,
+    stores: &mut [MemStable],
+) -> Option<[u32; 3]> {
+    let taken = submit(alloc, house, NodeId::new(7)?, 1)?;
+    let sent = keep(house, stores, taken)?.sent;
+    if sent.len() != 6 {
+        return None;
+    }
+    let first = there_and_back(alloc, house, stores, NodeId::new(1)?, &sent)?;
+    let second = there_and_back(alloc, house, stores, NodeId::new(2)?, &sent)?;
+    let third = there_and_back(alloc, house, stores, NodeId::new(3)?, &sent)?;
+    Some([first, second, third])
+}
+
+// How many entries a node's list has, if its page agrees.
+fn length_of<K: HouseName>(alloc: Global, reader: &mut LogReader<K>, number: u8) -> Option<u32>
+    requires { (7 ≤ length K.base) × (number ≤ 7) }
+{
+    let page = reader.read(alloc, NodeId::new(number)?, 1, 255).ok()?;
+    if page.total as usize == page.entries.len() {
+        Some(page.total)
+    } else {
+        None
+    }
+}
+
+// Whether the list of node 7 has `at_seven` entries, and the other six lists are empty.
+fn lists_are<K: HouseName>(alloc: Global, reader: &mut LogReader<K>, at_seven: u32) -> bool
+    requires { 7 ≤ length K.base }
+{
+    for number in 1..7 {
+        if length_of(alloc, reader, number) != Some(0) {
+            return false;
+        }
+    }
+    length_of(alloc, reader, 7) == Some(at_seven)
+}
+
+// Node 7 is settled, and the reader learns it.
+fn settle_seven<K: HouseName, R: Wait>(
+    rt: &R,
+    house: &mut House<K>,
+    reader: &mut LogReader<K>,
+) -> bool
+    requires { 7 ≤ length K.base }
+{
+    match house.settle(rt, NodeId::new(7).unwrap()) {
+        Ok(told) => {
+            reader.learn(told);
+            true
+        }
+        Err(_) => false,
+    }
+}
+
+// The calls on the house and on its last reader.
+fn calls<K: HouseName, R: Wait>(
+    rt: &R,
+    alloc: Global,
+    house: &mut House<K>,
+    reader: &mut LogReader<K>,
+) -> Result<(), &'static str>
+    requires { 7 ≤ length K.base }
+{
+    let mut stores = seven_stores(alloc);
+    let released = broadcast_at_seven(alloc, house, &mut stores);
+    let before = lists_are(alloc, reader, 0);
+    let settled = settle_seven(rt, house, reader);
+    let after = lists_are(alloc, reader, 1);
+    let ticked = house.tick(alloc, NodeId::new(7).unwrap());
+    first_false(&[
+        (released == Some([0, 0, 1]), "four of seven deliver"),
+        (before, "nothing is published before it is settled"),
+        (settled, "settling"),
+        (after, "node 7's entry is published"),
+        (
+            ticked.ok().map(|sent| sent.len()) == Some(6),
+            "a tick goes to six nodes",
+        ),
+    ])
+}
+
+/// All of them, on a house of seven nodes that was just opened, and its last reader of twenty-eight.
+pub fn seven_nodes<K: HouseName, R: Wait>(
+    rt: &R,
+    alloc: Global,
+    opened: Opened,
+) -> Result<(), &'static str>
+    requires names { (opened.book ≡ K.book) × (lists_in opened.group ≡ K.base) }
+    requires nodes { opened.group.size.n ≡ 7 }
+{
+    let (mut house, mut readers) = match opened.parts::<K, R>(rt, alloc) {
+        Ok(parts) => parts,
+        Err((opened, _)) => {
+            drop(opened.close());
+            return Err("no memory");
+        }
+    };
+    house.promise();
+    let called = calls(rt, alloc, &mut house, &mut readers[27]);
+    drop(house.close(rt));
+    called
+}

@@ -1,0 +1,7 @@
+use Rattle.urb_worker.proofs.Turned.{begun_on}
+use Rattle.urb_worker.proofs.turn.Turn.store.Goals as goal
+
+-- the turn began as before, and its store has done its part
+pub invariant_of-result : goal.invariant_of-result
+invariant_of-result g c =
+    (c.self.invariant.0, begun_on g.S.Stable c.args.store.now c.stored.new.store c.self.inside.job c.self.inside.stage c.stored.result c.self.invariant.1 c.stored.ensures.step)

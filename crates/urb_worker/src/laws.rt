@@ -1,0 +1,72 @@
+//! What follows of turns, one after the other and side by side: for proofs alone, since these functions do nothing.
+
+ghost use Rattle.std.specs.Prelude.{◌≡◌, ◌≢◌, ◌++◌, ◌∷◌, [], List, Some, slice_get, suc, true, ℕ};
+ghost use Rattle.std.specs.declared.alloc.Global.{Global};
+ghost use Rattle.urb_stable.specs.Entries.{Entry};
+ghost use Rattle.urb_stable.specs.Placed.{Placed};
+ghost use Rattle.urb_node.specs.Replies.{Done};
+ghost use Rattle.urb_group.specs.Clustered.{Clustered};
+ghost use Rattle.urb_group.specs.Shown.{GroupView, IsSound, Shows};
+ghost use Rattle.urb_group.specs.Stocked.{IsSecured};
+ghost use Rattle.urb_group.specs.Stopping.{GoesOnIn, MayLeave};
+ghost use Rattle.urb_group.specs.World.{World};
+ghost use Rattle.urb_group.specs.declared.reply.Reply.TheVariants.{Stored};
+ghost use Rattle.urb_worker.specs.Jobs.{runs_at};
+ghost use Rattle.urb_worker.specs.Views.{FinishedView};
+ghost use Rattle.urb_worker.specs.Whole.{IsStoreAt, IsTurn, LeavesAt, Waits};
+ghost use Rattle.urb_worker.specs.declared.job.Job.{Job};
+ghost use Rattle.urb_worker.specs.declared.stages.Stage.TheVariants.{Drafted, Kept};
+
+use std::alloc::Global;
+use urb_stable::Stable;
+
+/// A turn whose reply is that a record is stored drafted this record and had its store take it: the store, if it is honest, has it
+/// for certain then.
+pub fn what_is_told_as_stored_is_kept<S: Stable<Alloc = Global>>()
+    ensures { (job : Job) (before after : S) (came : FinishedView) (done : Done)
+        (turn : IsTurn S.Stable job before after came)
+        → came.reply ≡ Stored done
+        → (draft : Placed) × (turn.at ≡ Drafted draft) × (turn.new ≡ Kept draft)
+        × (S.is_honest after → S.certain after ≡ S.certain before ++ draft.entry ∷ []) }
+{}
+
+/// What the turns of other workers make of a node is no more than a crash.
+pub fn other_workers_let_a_node_wait<S: Stable<Alloc = Global>>()
+    ensures turn { (n m : ℕ) (job : Job) (before after : S) (came : FinishedView)
+        (turn : IsTurn S.Stable job before after came)
+        → runs_at m job ≡ true
+        → n ≢ m
+        → Waits n turn.lent.group turn.given_back.group
+        × Waits n turn.lent_again.group turn.left.group }
+    ensures none { (n : ℕ) (group : GroupView) → Waits n group group }
+    ensures on { (n : ℕ) (first second third : GroupView)
+        → Waits n first second → Waits n second third → Waits n first third }
+{}
+
+/// While a node waits, its store stays its own, and a stop leaves what it may leave of the node. Each store of a cluster that was
+/// opened is that of its node.
+pub fn a_store_stays_that_of_its_node<S: Stable<Alloc = Global>>()
+    ensures opened { (cluster : Clustered S) (i : ℕ) (store : S)
+        → IsSecured S.Stable cluster
+        → slice_get cluster.stores i ≡ Some store
+        → IsStoreAt S.Stable (suc i) cluster.group store }
+    ensures waits { (n : ℕ) (earlier later : GroupView) (store : S)
+        → IsStoreAt S.Stable n earlier store
+        → Waits n earlier later
+        → IsStoreAt S.Stable n later store }
+    ensures rests { (n : ℕ) (group : GroupView) (store : S)
+        → IsStoreAt S.Stable n group store
+        → LeavesAt S.Stable n group store }
+    ensures leaves { (n : ℕ) (earlier later : GroupView) (store : S)
+        → LeavesAt S.Stable n earlier store
+        → Waits n earlier later
+        → LeavesAt S.Stable n later store }
+{}
+
+/// What a stop of all nodes may leave, node by node, fits together, and opens a group that goes on from where this one stood.
+pub fn a_stop_of_all_nodes_is_survived()
+    ensures { (group : GroupView) (images : ℕ → List Entry)
+        → IsSound group
+        → ((p : ℕ) → (w : World) × Shows group w × MayLeave (w.node p) (images p))
+        → (w : World) × Shows group w × GoesOnIn w images }
+{}

@@ -1,0 +1,252 @@
+//! A burst that comes while a node's store is held: the node stores and delivers all of it.
+
+ghost use Rattle.std.specs.Prelude.{◌≡◌};
+ghost use Rattle.urb_show.specs.Lists.{lists_in};
+
+use super::{hub_of, opened, submit};
+use crossbeam_channel::{Receiver, Sender};
+use std::alloc::Global;
+use std::marker::Brand;
+use std::net::{Ipv4Addr, Net, TcpListener, TcpStream, UdpSocket};
+use std::sync::Wait;
+use std::sync::atomic::{AtomicBool, Ordering};
+use std::sync::ledger::Blank;
+use std::test::Fail;
+use std::thread;
+use std::thread::Threads;
+use std::time::{Clock, Duration};
+use urb_group::MemStable;
+use urb_names::{ClientId, MAX_PAYLOAD, NodeId};
+use urb_show::{HouseName, Opened};
+use urb_worker::{
+    Gate, HubName, Job, Link, MemoryLink, OpenGate, PacedLink, Station, Stop, Ticket, UdpLink,
+    receive, serve,
+};
+
+// How many messages node 2 has sent: as many as the group's cap.
+const BURST: u32 = 100;
+
+// How many tickets node 1's channel has room for.
+const ROOM: usize = 4;
+
+// How often a thread looks for a sign or a packet, once a millisecond, before it gives up.
+const LOOKS: u32 = 10_000;
+
+// What the gate and the sender tell each other: whether a store is held, and whether it may go on.
+#[derive(Drop)]
+struct Signs {
+    is_held: AtomicBool,
+    may_go_on: AtomicBool,
+}
+
+// Waits for a sign, and says whether it came.
+fn comes<R: Clock>(rt: &R, sign: &AtomicBool) -> bool {
+    for _ in 0..LOOKS {
+        if sign.load(Ordering::SeqCst) {
+            return true;
+        }
+        thread::sleep(rt, Duration::from_millis(1));
+    }
+    false
+}
+
+// Holds each store until the sign that it may go on.
+#[derive(Drop)]
+struct Holds<'a, R: Clock> {
+    rt: &'a R,
+    signs: &'a Signs,
+}
+
+impl<'a, R: Clock> Gate for Holds<'a, R> {
+    fn before_store(&self, _node: NodeId) {
+        self.signs.is_held.store(true, Ordering::SeqCst);
+        let _ = comes(self.rt, &self.signs.may_go_on);
+    }
+}
+
+// A submit of client 7 at node 2, of 16,384 bytes.
+fn long_submit(alloc: Global, number: u32) -> Option<Job> {
+    Some(Job::Submit {
+        node: NodeId::new(2)?,
+        client: ClientId::new(7)?,
+        number,
+        payload: Vec::from_elem(alloc, b'x', MAX_PAYLOAD).ok()?,
+    })
+}
+
+// Submits for a worker whose channel has closed behind them: as many as the burst has.
+fn submits<K: HouseName, R: Wait>(rt: &R, alloc: Global) -> Option<Receiver<Ticket<K>>> {
+    let (line, jobs) = crossbeam_channel::bounded(alloc, BURST as usize).ok()?;
+    for number in 1..=BURST {
+        let ticket = Ticket {
+            job: long_submit(alloc, number)?,
+            answer: None,
+        };
+        line.send(rt, ticket).ok()?;
+    }
+    Some(jobs)
+}
+
+// How many packets node 1 sends to node 2, until they reach this count or it takes too long.
+fn answers<R: Wait + Clock>(rt: &R, link: &MemoryLink<'_, R>, count: usize) -> Option<usize> {
+    let node = NodeId::new(2)?;
+    let mut sent: usize = 0;
+    for _ in 0..LOOKS {
+        sent = sent.saturating_add(link.empty(node).len());
+        if count <= sent {
+            break;
+        }
+        thread::sleep(rt, Duration::from_millis(1));
+    }
+    Some(sent)
+}
+
+// Has node 1 store a message of its own, which is held, and sends it these packets meanwhile. Whether it was held, and how many
+// packets node 1 sends then: its own message, and an answer to each of the burst.
+fn burst<K: HouseName, R: Wait + Clock>(
+    rt: &R,
+    alloc: Global,
+    signs: &Signs,
+    sender: &UdpLink,
+    stations: &[Station],
+    packets: &[Vec<u8>],
+    line: &Sender<Ticket<K>>,
+    link: &MemoryLink<'_, R>,
+) -> Option<(bool, usize)> {
+    let node = NodeId::new(1)?;
+    let ticket = Ticket {
+        job: submit(alloc, node, 1)?,
+        answer: None,
+    };
+    line.send(rt, ticket).ok()?;
+    let is_held = comes(rt, &signs.is_held);
+    let paced = PacedLink::new(rt, sender, stations);
+    for packet in packets {
+        paced.send(node, packet.as_slice());
+    }
+    signs.may_go_on.store(true, Ordering::SeqCst);
+    Some((is_held, answers(rt, link, BURST as usize + 1)?))
+}
+
+// The station of node 1, and a link to it.
+fn station<R: Net<Listener = TcpListener, Stream = TcpStream>>(
+    rt: &R,
+    alloc: Global,
+) -> Option<(Vec<Station>, UdpLink)> {
+    let station = Station::open(rt, 0, 0).ok()?;
+    let socket = UdpSocket::bind(rt, (Ipv4Addr::LOCALHOST, 0)).ok()?;
+    let link = UdpLink::new(socket, vec![in alloc; station.udp_port].ok()?);
+    Some((vec![in alloc; station].ok()?, link))
+}
+
+// The receiver of the node of this number. A closure that owns nothing can't hold the node itself, whose type has an invariant.
+fn take_datagrams<K: HouseName, R: Wait + Clock>(
+    rt: &R,
+    alloc: Global,
+    stop: &Stop,
+    number: u8,
+    station: &Station,
+    line: &Sender<Ticket<K>>,
+) {
+    if let Some(node) = NodeId::new(number) {
+        receive(rt, alloc, stop, node, station, line);
+    }
+}
+
+// The outcome of the burst, and how long node 1's log is at the end.
+fn played<K: HouseName + Send + Sync, L: HubName + Send + Sync, R>(
+    rt: &R,
+    alloc: Global,
+    opened: Opened,
+    blank: Blank,
+    stations: &[Station],
+    sender: &UdpLink,
+) -> Option<((bool, usize), usize)>
+where
+    R: Threads + Wait + Clock + Sync + Net<Listener = TcpListener, Stream = TcpStream>,
+    requires names { (opened.book ≡ K.book) × (lists_in opened.group ≡ K.base) }
+    requires name { blank.name ≡ L.name }
+    requires parts { (blank.parts ≡ L.parts) × (L.parts ≡ 2) × (opened.group.size.n ≡ 2) }
+    requires start { L.start ≡ 0 }
+{
+    let one = NodeId::new(1).unwrap();
+    let two = NodeId::new(2).unwrap();
+    let (Ok(link), Ok((line, jobs)), Some(station), Some(submits)) = (
+        MemoryLink::new(rt, alloc),
+        crossbeam_channel::bounded(alloc, ROOM),
+        stations.first(),
+        submits(rt, alloc),
+    ) else {
+        drop(opened.close());
+        return None;
+    };
+    let (hub, mut tallies, readers) = hub_of::<K, L, R>(rt, alloc, opened, blank)?;
+    drop(readers);
+    let second = tallies.pop().unwrap();
+    let store = MemStable::new(alloc);
+    let second = serve(
+        rt, alloc, &hub, two, store, submits, &link, &OpenGate, second,
+    );
+    let packets = link.empty(one);
+    let tally = tallies.pop().unwrap();
+    let (stop, signs) = (
+        Stop::new(),
+        Signs {
+            is_held: AtomicBool::new(false),
+            may_go_on: AtomicBool::new(false),
+        },
+    );
+    let gate = Holds { rt, signs: &signs };
+    let (hub_of, link_of, gate_of, signs_of, stop) = (&hub, &link, &gate, &signs, &stop);
+    let packets = packets.as_slice();
+    let (tally, ((), came)) = thread::join(
+        rt,
+        move || {
+            let store = MemStable::new(alloc);
+            serve(rt, alloc, hub_of, one, store, jobs, link_of, gate_of, tally)
+        },
+        move || {
+            let line = &line;
+            thread::join(
+                rt,
+                move || take_datagrams(rt, alloc, stop, 1, station, line),
+                move || {
+                    let came = burst(
+                        rt, alloc, signs_of, sender, stations, packets, line, link_of,
+                    );
+                    signs_of.may_go_on.store(true, Ordering::SeqCst);
+                    stop.set();
+                    station.wake(rt);
+                    came
+                },
+            )
+        },
+    );
+    tallies.push_reserved(second);
+    tallies.push_reserved(tally);
+    let house = hub.close(tallies);
+    let delivered = match house.log(one) {
+        Some(entries) => entries.len(),
+        None => 0,
+    };
+    drop(house.close(rt));
+    Some((came?, delivered))
+}
+
+#[test]
+fn what_comes_while_a_store_is_held_is_delivered(rt: HostRuntime) -> Result<(), Fail> {
+    let (stations, sender) = station(&rt, rt.alloc()).ok_or("sockets")?;
+    let opened = opened(rt.alloc(), 2).ok_or("memory")?;
+    let blank = Blank::new(2);
+    let played = played::<Brand, Brand, _>(
+        &rt,
+        rt.alloc(),
+        opened,
+        blank,
+        stations.as_slice(),
+        &sender,
+    );
+    let all = BURST as usize;
+    assert_eq!(rt; played, Some(((true, all + 1), all)));
+    Ok(())
+}

@@ -1,0 +1,157 @@
+//! What bounds a burst: a backlog at its bound, and senders that wait for a receiver.
+
+use std::alloc::Global;
+use std::net::{Net, TcpListener, TcpStream};
+use std::sync::Wait;
+use std::test::Fail;
+use std::time::{Clock, Duration, Instant};
+use urb_names::NodeId;
+use urb_worker::{
+    BACKLOG, Backlog, CARRYING, InFlight, KEEPING, Link, MOST_IN_FLIGHT, MemoryLink, PacedLink,
+    Station,
+};
+
+// How many bytes the longest packet has.
+const LONGEST: usize = 16_403;
+
+// How long a sender waits in vain, in milliseconds.
+const WAIT: u64 = 100;
+
+// A datagram of this length. All its bytes have this value.
+fn datagram(alloc: Global, value: u8, length: usize) -> Result<Vec<u8>, Fail> {
+    Ok(Vec::from_elem(alloc, value, length)?)
+}
+
+#[test]
+fn a_backlog_gives_what_came_first(rt: HostRuntime) -> Result<(), Fail> {
+    let mut backlog = Backlog::new(rt.alloc());
+    assert!(rt; backlog.is_empty());
+    for value in 1..4u8 {
+        let length = usize::from(value);
+        assert!(rt; backlog.push(datagram(rt.alloc(), value, length)?).is_ok());
+    }
+    assert_eq!(rt; backlog.bytes(), 6 + 3 * KEEPING);
+    for value in 1..4u8 {
+        let first = backlog.pop().ok_or("nothing waits")?;
+        assert_eq!(rt;
+            first.as_slice(),
+            datagram(rt.alloc(), value, usize::from(value))?.as_slice()
+        );
+    }
+    assert!(rt; backlog.pop().is_none());
+    assert_eq!(rt; (backlog.bytes(), backlog.is_empty()), (0, true));
+    Ok(())
+}
+
+#[test]
+fn a_backlog_has_room_to_its_bound(rt: HostRuntime) -> Result<(), Fail> {
+    let mut backlog = Backlog::new(rt.alloc());
+    // Four of a quarter of its bound fill it to the last byte.
+    let length = BACKLOG / 4 - KEEPING;
+    for value in 1..5u8 {
+        assert!(rt; backlog.has_room(length) && !backlog.has_room(BACKLOG));
+        assert!(rt; backlog.push(datagram(rt.alloc(), value, length)?).is_ok());
+    }
+    assert_eq!(rt; backlog.bytes(), BACKLOG);
+    let refused = backlog.push(datagram(rt.alloc(), 5, 0)?);
+    assert!(rt; refused.is_err_and(|back| back.is_empty()));
+    assert_eq!(rt; backlog.bytes(), BACKLOG);
+    // What is taken makes room again.
+    assert!(rt; backlog.pop().is_some() && backlog.has_room(length));
+    assert!(rt; !backlog.has_room(length + 1));
+    Ok(())
+}
+
+// A stranger may send as many of them as he likes.
+#[test]
+fn empty_datagrams_have_a_bound_too(rt: HostRuntime) -> Result<(), Fail> {
+    let mut backlog = Backlog::new(rt.alloc());
+    let mut count: usize = 0;
+    for _i in 0..=BACKLOG / KEEPING {
+        if backlog.push(Vec::new(rt.alloc())).is_ok() {
+            count = count.saturating_add(1);
+        }
+    }
+    assert_eq!(rt; count, BACKLOG / KEEPING);
+    Ok(())
+}
+
+#[test]
+fn what_was_sent_and_not_taken_is_in_flight(rt: HostRuntime) -> Result<(), Fail> {
+    let flight = InFlight::new();
+    let long = LONGEST as u64 + CARRYING;
+    flight.enter(&rt, LONGEST);
+    assert_eq!(rt; (flight.load(), flight.is_crowded()), (long, false));
+    flight.enter(&rt, LONGEST);
+    assert_eq!(rt; (flight.load(), flight.is_crowded()), (2 * long, true));
+    flight.enter(&rt, 0);
+    flight.leave(LONGEST);
+    assert_eq!(rt;
+        (flight.load(), flight.is_crowded()),
+        (long + CARRYING, false)
+    );
+    // What is gone when the socket is empty counts no more, and what came since still does.
+    flight.settle(long);
+    assert_eq!(rt; flight.load(), CARRYING);
+    // A stranger's datagram takes off what is there.
+    flight.leave(LONGEST);
+    assert_eq!(rt; flight.load(), 0);
+    Ok(())
+}
+
+// Sends this many packets of the greatest length, and says how long that took and how many packets have arrived.
+fn sent<R: Wait + Clock>(
+    rt: &R,
+    alloc: Global,
+    link: &MemoryLink<'_, R>,
+    stations: &[Station],
+    count: u8,
+) -> Option<(Duration, usize)> {
+    let paced = PacedLink::new(rt, link, stations);
+    let node = NodeId::new(1)?;
+    let bytes = Vec::from_elem(alloc, b'x', LONGEST).ok()?;
+    let began = Instant::now(rt).ok()?;
+    for _ in 0..count {
+        paced.send(node, bytes.as_slice());
+    }
+    Some((began.elapsed(rt).ok()?, link.empty(node).len()))
+}
+
+// How long senders take whose receiver takes nothing: for as many packets as may be in flight, for one more, and for a hundred
+// that come then.
+fn waits<R: Wait + Clock + Net<Listener = TcpListener, Stream = TcpStream>>(
+    rt: &R,
+    alloc: Global,
+) -> Option<[(Duration, usize); 3]> {
+    let stations = vec![in alloc; Station::open(rt, 0, 0).ok()?].ok()?;
+    let stations = stations.as_slice();
+    let link = MemoryLink::new(rt, alloc).ok()?;
+    let fitting = sent(rt, alloc, &link, stations, 3)?;
+    let next = sent(rt, alloc, &link, stations, 1)?;
+    let others = sent(rt, alloc, &link, stations, 100)?;
+    Some([fitting, next, others])
+}
+
+#[test]
+fn nobody_waits_for_a_receiver_that_has_ended(rt: HostRuntime) -> Result<(), Fail> {
+    let flight = InFlight::new();
+    flight.give_up();
+    let began = Instant::now(&rt)?;
+    for _ in 0..100u8 {
+        flight.enter(&rt, LONGEST);
+    }
+    let took = began.elapsed(&rt)?;
+    assert!(rt; took < Duration::from_millis(50 * WAIT));
+    assert_eq!(rt; flight.load(), 100 * (LONGEST as u64 + CARRYING));
+    Ok(())
+}
+
+#[test]
+fn a_sender_waits_in_vain_once(rt: HostRuntime) -> Result<(), Fail> {
+    assert_eq!(rt; MOST_IN_FLIGHT / (LONGEST as u64 + CARRYING), 3);
+    let [(_, fitting), (wait, next), (meanwhile, others)] = waits(&rt, rt.alloc()).ok_or("memory")?;
+    assert_eq!(rt; (fitting, next, others), (3, 1, 100));
+    assert!(rt; Duration::from_millis(WAIT) <= wait);
+    assert!(rt; meanwhile < Duration::from_millis(50 * WAIT));
+    Ok(())
+}

@@ -1,0 +1,86 @@
+//! Groups of seven nodes: a tick whose outbox is full, and a message that comes to all.
+
+ghost use Rattle.std.specs.Prelude.{◌≡◌};
+ghost use Rattle.urb_show.specs.Lists.{lists_in};
+
+use super::{hub_of, opened, submit};
+use std::alloc::Global;
+use std::marker::Brand;
+use std::sync::Wait;
+use std::sync::ledger::Blank;
+use std::test::Fail;
+use urb_group::{MemStable, Reply};
+use urb_names::NodeId;
+use urb_show::{HouseName, Opened};
+use urb_worker::{Hub, HubName, Job, OpenGate, Tally};
+
+// How many packets a tick's reply hands out.
+fn sent(reply: &Reply) -> usize {
+    match reply {
+        Reply::Sent(packets) => packets.len(),
+        _ => 0,
+    }
+}
+
+// Has the node of seven that comes last accept so many messages, of which nobody hears, and then says how many packets its tick
+// sends.
+fn tick_sends<K: HouseName, L: HubName, R: Wait>(
+    rt: &R,
+    alloc: Global,
+    hub: &Hub<K, L>,
+    messages: u32,
+    tally: Tally<L>,
+) -> (usize, Tally<L>) {
+    let node = NodeId::new(7).unwrap();
+    let mut store = MemStable::new(alloc);
+    let mut tally = tally;
+    for number in 0..messages {
+        if let Some(job) = submit(alloc, node, number.saturating_add(1)) {
+            let (_, counted) = hub.work(rt, alloc, node, job, &mut store, &OpenGate, tally);
+            tally = counted;
+        }
+    }
+    let (finished, tally) = hub.work(
+        rt,
+        alloc,
+        node,
+        Job::Tick(node),
+        &mut store,
+        &OpenGate,
+        tally,
+    );
+    (sent(finished.reply()), tally)
+}
+
+// The same at a new group of seven.
+fn played<K: HouseName, L: HubName, R: Wait>(
+    rt: &R,
+    alloc: Global,
+    opened: Opened,
+    blank: Blank,
+    messages: u32,
+) -> Option<usize>
+    requires names { (opened.book ≡ K.book) × (lists_in opened.group ≡ K.base) }
+    requires name { blank.name ≡ L.name }
+    requires parts { (blank.parts ≡ L.parts) × (L.parts ≡ 7) × (opened.group.size.n ≡ 7) }
+    requires start { L.start ≡ 0 }
+{
+    let (hub, mut tallies, readers) = hub_of::<K, L, R>(rt, alloc, opened, blank)?;
+    drop(readers);
+    let tally = tallies.pop().unwrap();
+    let (packets, tally) = tick_sends(rt, alloc, &hub, messages, tally);
+    tallies.push_reserved(tally);
+    drop(hub.close(tallies).close(rt));
+    Some(packets)
+}
+
+#[test]
+fn a_tick_of_seven_nodes_sends_sixteen_names_to_six(rt: HostRuntime) -> Result<(), Fail> {
+    let full = opened(rt.alloc(), 7).ok_or("memory")?;
+    let full = played::<Brand, Brand, _>(&rt, rt.alloc(), full, Blank::new(7), 17);
+    assert_eq!(rt; full, Some(96));
+    let few = opened(rt.alloc(), 7).ok_or("memory")?;
+    let few = played::<Brand, Brand, _>(&rt, rt.alloc(), few, Blank::new(7), 2);
+    assert_eq!(rt; few, Some(12));
+    Ok(())
+}

@@ -1,0 +1,166 @@
+//! Workers that give a desk no answer, or the outcome of another job.
+
+ghost use Rattle.std.specs.Prelude.{◌≡◌, ◌≤◌, length};
+ghost use Rattle.urb_client.specs.Requests.{IsAsked, asked_by};
+ghost use Rattle.urb_show.specs.Lists.{lists_in};
+
+use super::opened;
+use crossbeam_channel::{Receiver, Sender};
+use std::alloc::Global;
+use std::marker::Brand;
+use std::sync::Wait;
+use std::test::Fail;
+use std::thread;
+use std::thread::Threads;
+use urb_client::{Desk, Request, Response};
+use urb_names::{ClientId, NodeId};
+use urb_show::{HouseName, LogReader, Opened};
+use urb_worker::{Finished, Job, NodeDesk, Ticket};
+
+// What a worker does with a ticket: it drops it, answers with what came of another job, or of just this one, which did not run.
+#[derive(Clone, Copy)]
+enum Fault {
+    Silent,
+    Stray,
+    Misrouted,
+}
+
+// A job that is like another one, and isn't it.
+fn stray_of(job: Job) -> Job {
+    match job {
+        Job::Submit {
+            node,
+            client,
+            number,
+            payload,
+        } => {
+            let mut payload = payload;
+            let _ = payload.pop();
+            Job::Submit {
+                node,
+                client,
+                number,
+                payload,
+            }
+        }
+        Job::Crash(node) => Job::Restart(node),
+        Job::Restart(node) | Job::Status(node) | Job::Tick(node) => Job::Crash(node),
+        Job::Arrive { node, bytes } => Job::Arrive { node, bytes },
+    }
+}
+
+// The job of which a worker with this fault tells; none if it gives no answer.
+fn told_job(fault: Fault, job: Job) -> Option<Job> {
+    match fault {
+        Fault::Silent => None,
+        Fault::Stray => Some(stray_of(job)),
+        Fault::Misrouted => Some(job),
+    }
+}
+
+// A worker with this fault, until its channel closes.
+fn serve_wrongly<K: HouseName, R: Wait>(rt: &R, jobs: Receiver<Ticket<K>>, fault: Fault) {
+    for _ in rt.forever() {
+        let Ok(Ticket { job, answer }) = jobs.recv(rt) else {
+            break;
+        };
+        if let (Some(job), Some(answer)) = (told_job(fault, job), answer) {
+            let _ = answer.send(rt, Finished::misrouted(job));
+        }
+    }
+}
+
+// Whether a request is told this refusal, with nothing that goes with it.
+fn is_refused<K: HouseName, R: Wait>(
+    desk: &mut NodeDesk<'_, K, R>,
+    request: &Request,
+    refusal: u8,
+) -> bool
+    requires { IsAsked (asked_by request.now) }
+{
+    match desk.answer(request) {
+        Ok(Response::Refused { number, detail }) => number == refusal && detail == 0,
+        _ => false,
+    }
+}
+
+// Whether a submit, a status, a crash and a restart are each told this refusal.
+fn are_refused<K: HouseName, R: Wait>(
+    rt: &R,
+    alloc: Global,
+    line: &Sender<Ticket<K>>,
+    reader: LogReader<K>,
+    refusal: u8,
+) -> Option<bool>
+    requires { 1 ≤ length K.base }
+{
+    let node = NodeId::new(1)?;
+    let mut desk = NodeDesk::new(rt, alloc, node, line, reader);
+    let submit = Request::Submit {
+        client: ClientId::new(7)?,
+        number: 1,
+        payload: Vec::from_slice(alloc, b"hi").ok()?,
+    };
+    Some(
+        is_refused(&mut desk, &submit, refusal)
+            && is_refused(&mut desk, &Request::Status, refusal)
+            && is_refused(&mut desk, &Request::Crash, refusal)
+            && is_refused(&mut desk, &Request::Restart, refusal),
+    )
+}
+
+// A desk whose worker has this fault, and whether it refuses all so.
+fn asked<K: HouseName + Send + Sync, R: Threads + Wait + Sync>(
+    rt: &R,
+    alloc: Global,
+    opened: Opened,
+    fault: Fault,
+    refusal: u8,
+) -> Option<bool>
+    requires names { (opened.book ≡ K.book) × (lists_in opened.group ≡ K.base) }
+    requires nodes { opened.group.size.n ≡ 1 }
+{
+    let (house, mut readers) = match opened.parts::<K, R>(rt, alloc) {
+        Ok(parts) => parts,
+        Err((opened, _)) => {
+            drop(opened.close());
+            return None;
+        }
+    };
+    house.promise();
+    drop(house.close(rt));
+    let (line, jobs) = crossbeam_channel::bounded(alloc, 64).ok()?;
+    let reader = readers.pop()?;
+    let ((), refused) = thread::join(
+        rt,
+        move || serve_wrongly(rt, jobs, fault),
+        move || -> Option<bool>
+            requires { 1 ≤ length K.base }
+        { are_refused(rt, alloc, &line, reader, refusal) },
+    );
+    refused
+}
+
+#[test]
+fn a_desk_without_an_answer_says_down(rt: HostRuntime) -> Result<(), Fail> {
+    let opened = opened(rt.alloc(), 1).ok_or("memory")?;
+    let refused = asked::<Brand, _>(&rt, rt.alloc(), opened, Fault::Silent, 3);
+    assert_eq!(rt; refused, Some(true));
+    Ok(())
+}
+
+#[test]
+fn a_desk_tells_nothing_of_another_job(rt: HostRuntime) -> Result<(), Fail> {
+    let opened = opened(rt.alloc(), 1).ok_or("memory")?;
+    let refused = asked::<Brand, _>(&rt, rt.alloc(), opened, Fault::Stray, 3);
+    assert_eq!(rt; refused, Some(true));
+    Ok(())
+}
+
+#[test]
+fn a_desk_tells_of_a_job_that_did_not_run(rt: HostRuntime) -> Result<(), Fail> {
+    let opened = opened(rt.alloc(), 1).ok_or("memory")?;
+    let refused = asked::<Brand, _>(&rt, rt.alloc(), opened, Fault::Misrouted, 2);
+    assert_eq!(rt; refused, Some(true));
+    Ok(())
+}
