@@ -1,11 +1,11 @@
 #!/usr/bin/env python3
-"""daemon.py PROGRAM [--rounds R] [--seconds S] [--messages M] [--dir D]     the daemon beside redis and etcd, in one run on one disk
+"""daemon.py PROGRAM [--rounds R] [--seconds S] [--messages M] [--dir D] [--bursts]     the daemon beside redis and etcd, on one disk
 
 PROGRAM is the built urbd. Needs a C compiler, for its clients and for the floor: a program that stores and sends what the daemon
 does for a message, and nothing else (floor.c). Measures redis (Debian's redis-server, with appendonly yes and appendfsync always)
 and a group of three of etcd on loopback (etcd-server, golang-go, golang-etcd-server-dev) where they are installed. Each figure is the
-median of R rounds (5; with 0 of them there is the last line alone), in which all servers take turns, S seconds (2) a measurement. The
-last line is of M messages (100,000). Every server listens on 127.0.0.1 and is
+median of R rounds (5; with 0 of them there is none), in which all servers take turns, S seconds (2) a measurement. Then come a history
+of M messages (100,000; with 0 there is none), and with --bursts a burst, a kill, pauses and ticks (bursts.py). Every server listens on 127.0.0.1 and is
 stopped at the end. Files are made in a folder below D (the system's folder for such files), which is removed.
 """
 import argparse
@@ -21,6 +21,8 @@ import sys
 import tempfile
 import time
 from pathlib import Path
+
+import bursts
 
 HERE = Path(__file__).resolve().parent
 PAYLOAD = 16
@@ -379,6 +381,7 @@ def main():
     words.add_argument("--seconds", type=float, default=2.0)
     words.add_argument("--messages", type=int, default=100000)
     words.add_argument("--dir")
+    words.add_argument("--bursts", action="store_true")
     options = words.parse_args()
     program = str(Path(options.program).resolve())
     room = Path(tempfile.mkdtemp(dir=options.dir))
@@ -397,7 +400,10 @@ def main():
             measure_etcd(table, bench, room, options.seconds)
         if options.rounds:
             show(table, options.rounds)
-        history(program, room, options.messages, 100)
+        if options.messages:
+            history(program, room, options.messages, 100)
+        if options.bursts:
+            bursts.measure(lambda folder, tick: Daemon(program, folder, 3, tick), load, room, options.seconds)
     finally:
         shutil.rmtree(room, ignore_errors=True)
 

@@ -1,16 +1,19 @@
 // Closed-loop clients over TCP on 127.0.0.1, one connection a thread.
 //
-//   load KIND PORT CLIENTS SECONDS [PAYLOAD] [CLIENT]
+//   load KIND PORT CLIENTS SECONDS [PAYLOAD] [CLIENT] [MESSAGES]
 //
 // KIND  submit   urbd's SUBMIT, each thread with a client number of its own, from CLIENT on
+//       killed   the same, until the connections break: what counts then is what was answered
 //       read     urbd's READ of 8 entries from place 1 (fewer come where payloads are over 8,178 bytes)
 //       visible  SUBMIT at PORT, then READ until each node shows the entry: at PORT + 1 .. PORT + CLIENTS - 1, and at PORT,
 //                where it is shown last; one thread
 //       xadd     redis' XADD of one field
 //       xrange   redis' XRANGE of 8 entries from the beginning
 //
-// PAYLOAD is 0 to 16384 bytes (16), as many as a message may have, and CLIENT the first number of a client (1000).
-// Prints operations a second, the median and the 99th percentile in microseconds, and how many were refused.
+// PAYLOAD is 0 to 16384 bytes (16), as many as a message may have, and CLIENT the first number of a client (1000). A thread ends
+// after SECONDS, or once it has its share of MESSAGES (no end), rounded up.
+// Prints operations a second, the median and the 99th percentile in microseconds, and how many were refused; for `killed` also
+// how many were not.
 #define _GNU_SOURCE
 #include <arpa/inet.h>
 #include <netinet/tcp.h>
@@ -26,7 +29,8 @@
 enum { MOST_CLIENTS = 256, MOST_TIMES = 4000000, LONGEST = 16384, ROOM = 70000 };
 
 static const char *kind;
-static int port, clients, payload_length = 16, first_client = 1000;
+static int port, clients, payload_length = 16, first_client = 1000, may_break;
+static uint32_t share = UINT32_MAX;
 static double seconds;
 static unsigned char payload[ROOM];
 
@@ -57,7 +61,8 @@ static int opened(int number) {
 
 static void write_all(int it, const void *bytes, size_t length) {
   for (size_t k = 0; k < length;) {
-    ssize_t sent = send(it, (const char *)bytes + k, length - k, 0);
+    ssize_t sent = send(it, (const char *)bytes + k, length - k, MSG_NOSIGNAL);
+    if (sent <= 0 && may_break) pthread_exit(0);
     if (sent <= 0) {
       perror("send");
       exit(1);
@@ -69,6 +74,7 @@ static void write_all(int it, const void *bytes, size_t length) {
 static int next_byte(struct session *s) {
   if (s->begin == s->end) {
     ssize_t got = recv(s->socket, s->in, sizeof s->in, 0);
+    if (got <= 0 && may_break) pthread_exit(0);
     if (got <= 0) {
       perror("recv");
       exit(1);
@@ -137,7 +143,7 @@ static void redis_reply(struct session *s) {
 static void once(struct session *s, uint32_t *number) {
   unsigned char body[ROOM];
   char text[ROOM + 100];
-  if (!strcmp(kind, "submit")) {
+  if (!strcmp(kind, "submit") || may_break) {
     submit(s, *number + 1, first_client + s->index);
     read_frame(s, body);
     if (body[0] == 0x81) ++*number;
@@ -161,7 +167,7 @@ static void *run(void *given) {
   struct session *s = given;
   uint32_t number = 0;
   s->socket = opened(port);
-  for (double end = now() + seconds, begin; (begin = now()) < end;) {
+  for (double end = now() + seconds, begin; (begin = now()) < end && number < share;) {
     once(s, &number);
     if (s->done < MOST_TIMES) s->times[s->done++] = now() - begin;
   }
@@ -213,13 +219,15 @@ static int rising(const void *a, const void *b) {
 
 int main(int count, char **words) {
   if (count < 5) {
-    fprintf(stderr, "usage: load KIND PORT CLIENTS SECONDS [PAYLOAD] [CLIENT]\n");
+    fprintf(stderr, "usage: load KIND PORT CLIENTS SECONDS [PAYLOAD] [CLIENT] [MESSAGES]\n");
     return 2;
   }
   kind = words[1], port = atoi(words[2]), clients = atoi(words[3]), seconds = atof(words[4]);
   if (count > 5) payload_length = atoi(words[5]);
   if (count > 6) first_client = atoi(words[6]);
+  may_break = !strcmp(kind, "killed");
   if (clients < 1 || clients > MOST_CLIENTS || payload_length < 0 || payload_length > LONGEST) return 2;
+  if (count > 7) share = (atoi(words[7]) + clients - 1) / clients;
   memset(payload, 'x', payload_length);
   int is_visible = !strcmp(kind, "visible"), threads = is_visible ? 1 : clients;
   struct session *sessions = calloc(threads, sizeof *sessions);
@@ -243,6 +251,8 @@ int main(int count, char **words) {
   }
   if (!done) return 1;
   qsort(all, done, sizeof(double), rising);
-  printf("%.1f %.2f %.2f %ld\n", done / took, all[done / 2] * 1e6, all[done * 99 / 100] * 1e6, refused);
+  printf("%.1f %.2f %.2f %ld", done / took, all[done / 2] * 1e6, all[done * 99 / 100] * 1e6, refused);
+  if (may_break) printf(" %ld", done - refused);
+  printf("\n");
   return 0;
 }

@@ -1,10 +1,19 @@
 #!/usr/bin/env python3
-"""A client of a running group, by docs/FORMATS.md alone (Python 3.8 or later).
+"""A client of a running group, by docs/FORMATS.md alone (Python 3.8 or later). Copy it: it needs nothing else.
+
+As a module: a `Publisher` has each message accepted once, a `Follower` reads each message once, a `Node` asks one thing.
+As a command, where PORT is a node's port for clients:
 
     client.py PORT submit CLIENT NUMBER TEXT    submits until the message is accepted, and prints its number at the node
+    client.py PORT publish CLIENT FILE          publishes each line of standard input once; FILE keeps the one under way
     client.py PORT read PLACE                   prints the log's entries from this place on, as far as it goes today
-    client.py PORT follow PLACE                 the same, and goes on with what comes
+    client.py PORT[,PORT..] follow [FILE]       prints each entry, for ever; FILE keeps the position
+    client.py PORT status|crash|restart         asks for a node's state, has it go down, or has it come back
 """
+import fcntl
+import hashlib
+import json
+import os
 import socket
 import struct
 import sys
@@ -12,88 +21,340 @@ import time
 from collections import namedtuple
 
 Entry = namedtuple("Entry", "sender seq client number payload")
+Status = namedtuple("Status", "state sent logged")
+STATES = ("down", "ready", "storing")
 AGAIN = {1, 3, 4, 11, 15, 16}  # refusals after which the same submit may be accepted
+TOO_LONG, CONFLICT, GAP, FULL = 5, 6, 7, 8
 LONGEST = 16384  # bytes of a payload
+PAGE = 8  # entries of a READ, at most
+MOST_PAGES = 16  # READs in one write
+LEAST_PAUSE, MOST_PAUSE = 0.001, 0.2  # seconds between polls that bring nothing
 
 
 class Refused(Exception):
+    """A node's refusal, by its number and detail."""
+
     def __init__(self, number, detail):
         super().__init__(f"refused {number} {detail}")
         self.number, self.detail = number, detail
 
 
-class Node:
-    """A connection to one node, made when it is needed and made anew after a fault."""
+class Stopped(Exception):
+    """To go on could repeat, lose or mix messages: somebody has to look first."""
 
-    def __init__(self, port, timeout=10.0):
-        self.port, self.timeout, self.socket = port, timeout, None
 
-    def close(self):
-        if self.socket is not None:
-            self.socket.close()
-            self.socket = None
-
-    def take(self, count):
-        taken = b""
-        while len(taken) < count:
-            more = self.socket.recv(count - len(taken))
-            if not more:
-                raise ConnectionError("the node has closed the connection")
-            taken += more
-        return taken
-
-    def ask(self, body):
-        """Sends one request and gives its response, opcode and fields, unless that is a refusal."""
+def until(call, patience=None):
+    """What the call gives in the end: it is made again after each fault that may pass, for so many seconds or for ever."""
+    pause, end = LEAST_PAUSE, None if patience is None else time.monotonic() + patience
+    while True:
         try:
-            if self.socket is None:
-                self.socket = socket.create_connection(("127.0.0.1", self.port), self.timeout)
-            self.socket.sendall(struct.pack(">H", len(body)) + body)
-            response = self.take(struct.unpack(">H", self.take(2))[0])
-        except OSError:
-            self.close()
-            raise
-        if response[0] == 0xEE:
-            raise Refused(*struct.unpack(">BI", response[1:]))
-        return response[0], response[1:]
+            return call()
+        except (OSError, Refused) as fault:
+            is_final = isinstance(fault, Refused) and fault.number not in AGAIN
+            if is_final or end is not None and time.monotonic() > end:
+                raise
+        time.sleep(pause)
+        pause = min(2 * pause, MOST_PAUSE)
 
-    def submit(self, client, number, payload, pause=0.02, tries=500):
-        """Submits until the message is accepted: what isn't answered is submitted again, under the same number."""
+
+def receive(connection, count, end):
+    """So many bytes, until this moment."""
+    taken = bytearray()
+    while len(taken) < count:
+        connection.settimeout(max(end - time.monotonic(), 0.001))
+        more = connection.recv(count - len(taken))
+        if not more:
+            raise ConnectionError("the node has closed the connection")
+        taken += more
+    return bytes(taken)
+
+
+def fields_of(response, opcode):
+    """What stands behind this opcode; a refusal is raised."""
+    if response[0] == 0xEE:
+        raise Refused(*struct.unpack(">BI", response[1:]))
+    if response[0] != opcode:
+        raise ConnectionError(f"opcode {response[0]:02x}")
+    return response[1:]
+
+
+def reading(place, most=PAGE):
+    return struct.pack(">BIB", 2, place, most)
+
+
+def entries_of(response):
+    fields, entries, at = fields_of(response, 0x82), [], 1
+    for _ in range(fields[0]):
+        *name, length = struct.unpack_from(">BIHIH", fields, at)
+        at += 13 + length
+        entries.append(Entry(*name, fields[at - length : at]))
+    return entries
+
+
+def status_of(response):
+    state, sent, logged = struct.unpack(">BII", fields_of(response, 0x83))
+    return Status(STATES[state], sent, logged)
+
+
+class Node:
+    """One node, by its port for clients. Each call has a connection of its own, and holds none of the node's four in between."""
+
+    def __init__(self, port, timeout=2.0):
+        self.port, self.timeout = port, timeout
+
+    def ask(self, *requests):
+        """The responses to these requests, which go in one write. OSError if they don't all come in time."""
+        end = time.monotonic() + self.timeout
+        with socket.create_connection(("127.0.0.1", self.port), self.timeout) as connection:
+            connection.sendall(b"".join(struct.pack(">H", len(it)) + it for it in requests))
+            connection.shutdown(socket.SHUT_WR)
+            return [receive(connection, *struct.unpack(">H", receive(connection, 2, end)), end) for _ in requests]
+
+    def submit(self, client, number, payload):
+        """Submits once; the number under which the node has accepted the message."""
         if len(payload) > LONGEST:
-            raise Refused(5, 0)  # as a node answers; it isn't sent
-        for left in range(tries, 0, -1):
-            try:
-                opcode, fields = self.ask(struct.pack(">BHI", 1, client, number) + payload)
-                assert opcode == 0x81, f"opcode {opcode:02x}"
-                return struct.unpack(">I", fields)[0]
-            except (OSError, Refused) as fault:
-                if left == 1 or isinstance(fault, Refused) and fault.number not in AGAIN:
-                    raise
-            time.sleep(pause)
+            raise Refused(TOO_LONG, 0)  # as a node answers; it isn't sent
+        return struct.unpack(">I", fields_of(*self.ask(struct.pack(">BHI", 1, client, number) + payload), 0x81))[0]
 
-    def read(self, place, most=8):
-        """The entries from this place on, at most so many, and fewer where a frame has no room for more."""
-        opcode, fields = self.ask(struct.pack(">BIB", 2, place, most))
-        assert opcode == 0x82, f"opcode {opcode:02x}"
-        entries, at = [], 1
-        for _ in range(fields[0]):
-            *name, length = struct.unpack_from(">BIHIH", fields, at)
-            at += 13 + length
-            entries.append(Entry(*name, fields[at - length:at]))
-        return entries
+    def next_number(self, client):
+        """The number that the node expects next of this client: it tells it when it is given 0."""
+        try:
+            raise ConnectionError(f"number 0 was accepted as {self.submit(client, 0, b'')}")
+        except Refused as refused:
+            if refused.number != GAP:
+                raise
+            return refused.detail
 
-    def log(self, place, follow=False, pause=0.05):
-        """Each entry from this place on; to the end of today, or for ever."""
-        while (page := self.read(place)) or follow:
+    def read(self, place, most=PAGE):
+        """The entries from this place on, at most so many, and fewer if a frame has no room for more."""
+        return entries_of(*self.ask(reading(place, most)))
+
+    def log(self, place=1):
+        """Each entry from this place on, to the end of today."""
+        while page := self.read(place):
             yield from page
             place += len(page)
-            if not page:
+
+    def status(self):
+        return status_of(*self.ask(b"\x03"))
+
+    def crash(self):
+        fields_of(*self.ask(b"\x04"), 0x84)
+
+    def restart(self):
+        fields_of(*self.ask(b"\x05"), 0x84)
+
+
+def keep(path, value):
+    """Puts this value into a file. Whatever stops on the way, the file has the old value or the new one."""
+    with open(path + ".new", "w") as file:
+        json.dump(value, file)
+        file.flush()
+        os.fsync(file.fileno())
+    os.replace(path + ".new", path)
+    folder = os.open(os.path.dirname(os.path.abspath(path)), os.O_RDONLY)
+    try:
+        os.fsync(folder)
+    finally:
+        os.close(folder)
+
+
+def kept(path):
+    """What `keep` put there; None if it never did."""
+    try:
+        with open(path) as file:
+            return json.load(file)
+    except FileNotFoundError:
+        return None
+
+
+class Publisher:
+    """Publishes at one node as one client. Each message is accepted once, whatever stops on either side.
+
+    A file keeps the message under way, with its number, before it is sent. If the program stops, the next one with this file
+    sends that message first: the node accepts a repeat under the name that it has. A file serves one program at a time.
+    `Stopped` is raised, now and at each later call, if another program uses this client's number, or if the node no longer has
+    what it accepted (its folder was begun anew, or put back from a backup)."""
+
+    def __init__(self, port, client, path, patience=None, timeout=2.0):
+        self.node, self.client, self.path, self.patience = Node(port, timeout), client, path, patience
+        self.reason = None
+        self.lock = open(path + ".lock", "w")
+        fcntl.flock(self.lock, fcntl.LOCK_EX | fcntl.LOCK_NB)  # BlockingIOError: another program has this file
+        self.now = kept(path)
+        if self.now and (self.now["port"], self.now["client"]) != (port, client):
+            if not self.now["done"]:
+                self._stop("its file keeps a message of client {client} at port {port}: finish it there".format(**self.now))
+            self.now = None  # all that was sent there is accepted there: it begins here
+
+    def publish(self, payload):
+        """The number under which the node has accepted this message. If `patience` ends before that, the fault is raised, and
+        the message stays under way: the next call, or `finish`, goes on with it. A message that a full node refuses doesn't."""
+        if len(payload) > LONGEST:
+            raise Refused(TOO_LONG, 0)
+        self.finish()
+        self._keep(self._next(), payload, False)
+        return self.finish()
+
+    def finish(self):
+        """Has the message under way accepted; its number at the node, or None if there is none."""
+        if self.reason:
+            raise Stopped(self.reason)
+        if self.now is None or self.now["done"]:
+            return None
+        number, payload = self.now["number"], bytes.fromhex(self.now["payload"])
+        try:
+            seq = until(lambda: self.node.submit(self.client, number, payload), self.patience)
+        except Refused as refused:
+            if refused.number == CONFLICT:
+                self._stop(f"number {number} of client {self.client} was used by another program")
+            if refused.number == GAP:
+                self._stop(f"the node expects number {refused.detail}, and had accepted {number - 1}: its folder is another one")
+            if refused.number == FULL:
+                self._keep(number - 1, b"", True)
+            raise
+        self.now["done"] = True  # the file says so at the next message, or by `close`: a repeat does no harm
+        return seq
+
+    def close(self):
+        """Finishes the message under way, and has the file say so: then it may begin at another node, or in another folder."""
+        self.finish()
+        if self.now:
+            keep(self.path, self.now)
+        self.lock.close()
+
+    def _next(self):
+        return until(lambda: self.node.next_number(self.client), self.patience) if self.now is None else self.now["number"] + 1
+
+    def _keep(self, number, payload, done):
+        now = {"port": self.node.port, "client": self.client, "number": number, "payload": payload.hex(), "done": done}
+        keep(self.path, now)
+        self.now = now
+
+    def _stop(self, reason):
+        self.reason = reason
+        raise Stopped(reason)
+
+
+def digest_of(entry):
+    return hashlib.sha256(struct.pack(">BIHI", *entry[:4]) + entry.payload).hexdigest()
+
+
+class Follower:
+    """Reads each message of a group once: at one node while it answers and is up, then at the next.
+
+    `position` says what was read. Keep it, as JSON, together with what came of the entries, and give it to the next Follower:
+    that one goes on behind them, at whatever node. It has the last number of each sender, and for each port the place up to
+    which it was read there, with a digest of the entry before it. `Stopped` is raised if that entry has changed: the node's
+    folder was begun anew, or put back from a backup."""
+
+    def __init__(self, ports, position=None, timeout=2.0):
+        self.nodes = [Node(port, timeout) for port in ports]
+        self.at, self.pages = 0, 1
+        self.position = position or {"seen": {}, "places": {}}
+
+    def poll(self):
+        """The entries that came since the last poll, maybe none."""
+        node = self.nodes[self.at]
+        place, digest = self.position["places"].get(str(node.port), (1, None))
+        first = place if digest is None else place - 1
+        try:
+            *pages, status = node.ask(*(reading(first + PAGE * page) for page in range(self.pages)), b"\x03")
+            entries, is_down = self._joined([entries_of(page) for page in pages]), status_of(status).state == "down"
+        except (OSError, Refused):
+            self._turn()
+            return []
+        if digest is not None:
+            if not entries or digest_of(entries[0]) != digest:
+                raise Stopped(f"the log at port {node.port} isn't the one that was read up to place {place - 1}")
+            entries = entries[1:]
+        new = self._unseen(entries)
+        if entries:
+            self.position["places"][str(node.port)] = [place + len(entries), digest_of(entries[-1])]
+        if is_down and not entries:
+            self._turn()
+        return new
+
+    def __iter__(self):
+        """For ever: the entries of each poll that brings some. While nothing comes, the pauses between polls grow."""
+        pause = LEAST_PAUSE
+        while True:
+            entries = self.poll()
+            if entries:
+                pause = LEAST_PAUSE
+                yield entries
+            else:
                 time.sleep(pause)
+                pause = min(2 * pause, MOST_PAUSE)
+
+    def _joined(self, pages):
+        """The entries of these pages up to the first that isn't full: what follows it begins further behind."""
+        entries = []
+        for page in pages:
+            entries += page
+            if len(page) < PAGE:
+                self.pages = 1
+                return entries
+        self.pages = min(2 * self.pages, MOST_PAGES)
+        return entries
+
+    def _unseen(self, entries):
+        """Those of these entries that were not read at another node before."""
+        new, seen = [], dict(self.position["seen"])
+        for entry in entries:
+            last = seen.get(str(entry.sender), 0)
+            if entry.seq > last + 1:
+                raise Stopped(f"the log has {entry.sender}.{entry.seq} after {entry.sender}.{last}: it is another group's")
+            if entry.seq == last + 1:
+                seen[str(entry.sender)] = entry.seq
+                new.append(entry)
+        self.position["seen"] = seen
+        return new
+
+    def _turn(self):
+        self.at, self.pages = (self.at + 1) % len(self.nodes), 1
+
+
+WORDS = {"submit": 3, "publish": 2, "read": 1, "follow": 0, "status": 0, "crash": 0, "restart": 0}  # behind each command, at least
+
+
+def shown(entry):
+    return f"{entry.sender}.{entry.seq} {entry.client} {entry.number} {entry.payload.hex() or '-'}"
+
+
+def main(ports, command, *words):
+    ports = [int(port) for port in ports.split(",")]
+    node = Node(ports[0])
+    if command == "submit":
+        client, number, text = int(words[0]), int(words[1]), words[2].encode()
+        print("accepted", until(lambda: node.submit(client, number, text)))
+    elif command == "publish":
+        publisher = Publisher(ports[0], int(words[0]), words[1])
+        for line in sys.stdin.buffer:
+            print("accepted", publisher.publish(line.rstrip(b"\n")), flush=True)
+        publisher.close()
+    elif command == "read":
+        for entry in node.log(int(words[0])):
+            print(shown(entry))
+    elif command == "follow":
+        follower = Follower(ports, kept(words[0]) if words else None)
+        for entries in follower:
+            print("\n".join(map(shown, entries)), flush=True)
+            if words:
+                keep(words[0], follower.position)
+    elif command == "status":
+        print(*node.status())
+    else:
+        {"crash": node.crash, "restart": node.restart}[command]()
+        print("done")
 
 
 if __name__ == "__main__":
-    node, command, words = Node(int(sys.argv[1])), sys.argv[2], sys.argv[3:]
-    if command == "submit":
-        print("accepted", node.submit(int(words[0]), int(words[1]), words[2].encode()))
-    else:
-        for e in node.log(int(words[0]), follow=command == "follow"):
-            print(f"{e.sender}.{e.seq} {e.client} {e.number} {e.payload.hex() or '-'}", flush=True)
+    if len(sys.argv) < 3 or len(sys.argv) - 3 < WORDS.get(sys.argv[2], len(sys.argv)):
+        sys.exit(__doc__)
+    try:
+        main(*sys.argv[1:])
+    except (Refused, Stopped, OSError) as fault:
+        sys.exit(str(fault))
+    except KeyboardInterrupt:
+        pass

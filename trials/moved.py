@@ -70,7 +70,7 @@ def end_of(program, base, closed):
         for stream in closed:
             os.close(stream)
 
-    words = ["serve", "--nodes", "1", "--cap", "10", "--dir", folder, "--base-port", str(base), "--tick-ms", "50"]
+    words = ["serve", "--nodes", "1", "--cap", "10", "--dir", folder, "--base-port", str(base), "--tick-ms", "20"]
     process = subprocess.Popen([program] + words, stdin=subprocess.PIPE, stdout=subprocess.PIPE, stderr=subprocess.PIPE, preexec_fn=close)
     try:
         process.wait(PATIENCE)

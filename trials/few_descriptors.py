@@ -19,7 +19,7 @@ HAS_STATUS = 0x83
 
 
 def start(program, nodes, folder, base, limit):
-    words = ["serve", "--nodes", str(nodes), "--cap", "1000", "--dir", folder, "--base-port", str(base), "--tick-ms", "50"]
+    words = ["serve", "--nodes", str(nodes), "--cap", "1000", "--dir", folder, "--base-port", str(base), "--tick-ms", "20"]
 
     def few():
         resource.setrlimit(resource.RLIMIT_NOFILE, (limit, limit))

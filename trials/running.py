@@ -68,7 +68,7 @@ class Session:
         self.socket.close()
 
 
-def start(program, nodes, folder, base, millis=50):
+def start(program, nodes, folder, base, millis=20):
     words = ["serve", "--nodes", str(nodes), "--cap", "1000000", "--dir", folder, "--base-port", str(base), "--tick-ms", str(millis)]
     return subprocess.Popen([program] + words, stdin=subprocess.PIPE, stdout=subprocess.PIPE, stderr=subprocess.PIPE)
 
@@ -76,7 +76,7 @@ def start(program, nodes, folder, base, millis=50):
 class Daemon:
     """The program, running a group on a folder."""
 
-    def __init__(self, program, nodes, folder, base, millis=50):
+    def __init__(self, program, nodes, folder, base, millis=20):
         self.base = base
         self.process = start(program, nodes, folder, base, millis)
         line = self.process.stdout.readline()

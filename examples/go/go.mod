@@ -1,0 +1,3 @@
+module urbd.example/client
+
+go 1.19
