@@ -1,4 +1,4 @@
--- The two parts with one more name.
+-- The two parts after one more name.
 use Rattle.std.proofs.Common.{◌≡◌, ℕ, suc, ◌+◌, ◌-◌, ◌<◌, ◌≤◌, ◌^◌, ◌||◌, ◌&&◌, ◌==◌, Bool, true, false, not, nat_le, IsTrue, List, ◌∷◌, ◌≢◌, filter, length, get_or, slice_set, refl, sym, ap, ◌∙◌, subst, inl, inr, ◌⊎◌, arith}
 use Rattle.std.proofs.lemmas.Bool.{and_from, and_parts, cases_Bool, cases_eq, cases_lt, cases_order, eq-eqb, eqb-true, false_from_ne_true, false≢true, le-leb, leb-true, not-false, not-true, or_cases, or_left, or_right, true_from_ne_false}
 use Rattle.std.proofs.lemmas.List.{get_or-set_other, get_or-set_same, length-set}
@@ -129,7 +129,7 @@ module _ (low : List ℕ) (above : List Label) (x : Label) (end : ℕ) (parts : 
           at (inl f) = subst (λ z. has_name (all_names new_low new_above) z ≡ true) (same_name-true x y f) (low_in_new x label.seq.0 refl from)
           at (inr f) = in_new y (all_true low above y f)
 
--- where the names of a sender all stand behind a number, none up to it is there to be taken out
+-- if a sender's names above all come after a number, no name up to that number needs removal
 pub all_left : (s from end : ℕ) (above : List Label) → ((y : Label) → has_name above y ≡ true → y.sender ≡ s → from < y.seq) → end ≤ from → above ≡ filter (is_left s end) above
 all_left s from end above behind few =
     sym (filter_all name_lt same_name names_in_order (is_left s end) above (λ y e. true_from_ne_false _ (λ f.

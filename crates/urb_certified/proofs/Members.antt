@@ -1,4 +1,4 @@
--- Which names are in the two parts.
+-- Which names the two parts hold.
 use Rattle.std.proofs.Common.{◌≡◌, ℕ, zero, suc, ◌+◌, ◌-◌, ◌<◌, ◌≤◌, true, false, List, [], ◌∷◌, ◌++◌, ◌||◌, map, get_or, refl, sym, ap, ◌∙◌, subst, inl, inr, ◌⊎◌, arith}
 use Rattle.std.proofs.lemmas.Bool.{cases_eq, false≢true, or_cases, or_left, or_right}
 use Rattle.std.proofs.lemmas.List.Folds.{list_any-append}
@@ -10,13 +10,13 @@ use Rattle.urb_names.proofs.Released.{has-row}
 use Rattle.urb_certified.proofs.Sets.{both_ways}
 use Rattle.urb_certified.specs.Parts.{all_names, low_of, rows_from}
 
--- a name of the row of k numbers from a on
+-- a name in the row of k numbers from a on
 pub record IsInRow (s a k : ℕ) (y : Label) : Type 0 where
   pub sender : y.sender ≡ s
   pub first : a ≤ y.seq
   pub last : y.seq < a + k
 
--- a name of the rows of the senders from one on
+-- a name in the rows of the senders from one on
 pub record IsInRows (first : ℕ) (ks : List ℕ) (y : Label) : Type 0 where
   pub sender : first ≤ y.sender
   pub seq : 1 ≤ y.seq
@@ -74,7 +74,7 @@ rows_hold first (k ∷ ks) y h = list_any-append (λ z. same_name z y) (names fi
         let later : y.sender - first ≡ suc (y.sender - suc first) = omega arith in
         or_right (has_name (names first k) y) _ (ih (record { sender = behind; seq = h.seq; low = subst (λ i. y.seq ≤ get_or (k ∷ ks) i 0) later h.low }))
 
--- a name is in the upper part, or in the lower
+-- a name is in the upper part or in the lower part
 pub all_true : (low : List ℕ) (above : List Label) (y : Label) → has_name (all_names low above) y ≡ true → (has_name above y ≡ true) ⊎ IsInRows 1 low y
 all_true low above y e = at (or_cases (has_name above y) (has_name (rows_from 1 low) y) (sym (list_any-append (λ z. same_name z y) above (rows_from 1 low)) ∙ e))
   where
@@ -88,7 +88,7 @@ all_above low above y e = list_any-append (λ z. same_name z y) above (rows_from
 pub all_low : (low : List ℕ) (above : List Label) (y : Label) → IsInRows 1 low y → has_name (all_names low above) y ≡ true
 all_low low above y h = list_any-append (λ z. same_name z y) above (rows_from 1 low) ∙ or_right (has_name above y) _ (rows_hold 1 low y h)
 
--- behind the lower part only the upper one counts
+-- after the lower part only the upper part matters
 pub upper_only : (low : List ℕ) (above : List Label) (y : Label) → low_of low y.sender < y.seq → has_name above y ≡ has_name (all_names low above) y
 upper_only low above y l = both_ways _ _ (all_above low above y) (λ e. at (all_true low above y e))
   where

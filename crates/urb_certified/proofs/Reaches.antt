@@ -13,7 +13,7 @@ use Rattle.urb_certified.proofs.Sets.{set_has}
 use Rattle.urb_certified.proofs.Orders.{names_in_order}
 use Rattle.urb_certified.proofs.Members.{IsInRows, all_above, all_low, all_true}
 
--- the names that the two parts hold, in order
+-- the names of the two parts, in order
 abbrev pub held : List ℕ → List Label → List Label
 held low above = set_of name_lt same_name (all_names low above)
 
@@ -26,7 +26,7 @@ length-beginning s certified = ap length (beginning_is s certified) ∙ length-r
 pub in_low : (low : List ℕ) (above : List Label) (s i : ℕ) → 1 ≤ s → 1 ≤ i → i ≤ low_of low s → has_name (held low above) (name s i) ≡ true
 in_low low above s i h l u = held_has low above (name s i) ∙ all_low low above (name s i) (record { sender = h; seq = l; low = u })
 
--- the next number behind the lower part is not there
+-- the number after the lower part is not there
 pub not_next : (low : List ℕ) (above : List Label) (s : ℕ) → IsParts low above → has_name (held low above) (name s (suc (low_of low s))) ≡ false
 not_next low above s parts = false_from_ne_true _ (λ e. at (all_true low above (name s (suc (low_of low s))) (sym (held_has low above (name s (suc (low_of low s)))) ∙ e)))
   where
@@ -34,7 +34,7 @@ not_next low above s parts = false_from_ne_true _ (λ e. at (all_true low above 
     at (inl f) = let l : low_of low s + 1 < suc (low_of low s) = (parts.gap (name s (suc (low_of low s))) f).1 in omega arith
     at (inr f) = let l : suc (low_of low s) ≤ low_of low s = f.low in omega arith
 
--- the lower part of a sender is how far its names go
+-- a sender's lower part is exactly how far its names go
 pub reach_low : (low : List ℕ) (above : List Label) (s : ℕ) → IsParts low above → 1 ≤ s → length (beginning s (held low above)) ≡ low_of low s
 reach_low low above s parts h =
     length-beginning s (held low above) ∙ reach-is s (low_of low s) (held low above) (λ i l u. in_low low above s i h l u) (not_next low above s parts)
@@ -50,7 +50,7 @@ reach_stays low above x parts h other =
     apart : same_name x (name x.sender (suc (low_of low x.sender))) ≡ false
     apart = false_from_ne_true _ (λ e. let same : x.seq ≡ suc (low_of low x.sender) = ap (λ (z : Label). z.seq) (same_name-true x (name x.sender (suc (low_of low x.sender))) e) in other (omega arith))
 
--- the next name joins the parts up to the end of its run
+-- the next name extends the reach to the end of its run
 pub reach_joins : (low : List ℕ) (above : List Label) (x : Label) (end : ℕ) → IsParts low above → 1 ≤ x.sender → x.seq ≡ low_of low x.sender + 1 → x.seq ≤ end
     → ((i : ℕ) → x.seq < i → i ≤ end → has_name above (name x.sender i) ≡ true) → (end < 2 ^ 32 - 1 → has_name above (name x.sender (suc end)) ≡ false)
     → length (beginning x.sender (x ∷ held low above)) ≡ end

@@ -1,4 +1,4 @@
--- Two parts that hold the same names are the same.
+-- Two pairs of parts that hold the same names are equal.
 use Rattle.std.proofs.Common.{◌≡◌, ℕ, zero, suc, ◌+◌, ◌-◌, ◌<◌, ◌≤◌, true, List, [], ◌∷◌, length, get_or, refl, sym, ap, ap₂, ◌∙◌, subst, inl, inr, ◌⊎◌, arith}
 use Rattle.urb_names.specs.Naming.{Label, IsLabel}
 use Rattle.urb_names.specs.Names.{has_name, name_lt, same_name}

@@ -1,4 +1,4 @@
--- Lists in rising order that have the same elements are the same.
+-- Rising lists with the same elements are equal.
 use Rattle.std.proofs.Common.{◌≡◌, Bool, true, false, cond, ◌||◌, ◌&&◌, List, [], ◌∷◌, refl, sym, ap, ap₂, ◌∙◌, subst, inl, inr, ◌⊎◌}
 use Rattle.std.proofs.lemmas.Bool.{and_from, and_parts, cases_Bool, cond-true, cond-false, false≢true, false_from_ne_true, or_cases, or_from, or_left, or_right}
 use Rattle.std.specs.List.{list_all, list_any}
@@ -6,7 +6,7 @@ use Rattle.urb_names.specs.Ordered.{is_rising, placed}
 use Rattle.urb_names.proofs.Ordered.{IsStrictOrder, any_insert, rising_placed}
 use Rattle.urb_certified.specs.Sets.{IsOrder, set_of}
 
--- two answers are the same where each follows from the other
+-- two answers are equal if each follows from the other
 pub both_ways : (a b : Bool) → (a ≡ true → b ≡ true) → (b ≡ true → a ≡ true) → a ≡ b
 both_ways true b f g = sym (f refl)
 both_ways false true f g = g refl
@@ -16,7 +16,7 @@ module _ {X : Type 0} (before same : X → X → Bool) (laws : IsOrder before sa
   strict_order : IsStrictOrder before same
   strict_order = record { transitive = laws.transitive; one_way = laws.one_way }
 
-  -- what stands behind an element in order comes after it
+  -- in a sorted list, later elements come after earlier ones
   pub comes_after : (x z : X) (xs : List X) → list_all (before x) xs ≡ true → list_any (λ y. same y z) xs ≡ true → before x z ≡ true
   comes_after x z [] h e = absurd (false≢true e)
   comes_after x z (y ∷ ys) h e = at (comes_after x z ys) (and_parts (before x y) (list_all (before x) ys) h) (or_cases (same y z) (list_any (λ w. same w z) ys) e)
@@ -30,11 +30,11 @@ module _ {X : Type 0} (before same : X → X → Bool) (laws : IsOrder before sa
   pub not_behind : (x : X) (xs : List X) → list_all (before x) xs ≡ true → list_any (λ y. same y x) xs ≡ false
   not_behind x xs h = false_from_ne_true _ (λ e. false≢true (sym (laws.strict x) ∙ comes_after x x xs h e))
 
-  -- two that come before each other: none do
+  -- no two elements come before each other
   never_both : (x y : X) → before x y ≡ true → before y x ≡ true → ⊥
   never_both x y e f = false≢true (sym (laws.strict x) ∙ laws.transitive x y x e f)
 
-  -- the first of two lists in order with the same elements is the same
+  -- two sorted lists with the same elements have the same first element
   same_first : (x y : X) (xs ys : List X) → list_all (before x) xs ≡ true → list_all (before y) ys ≡ true
       → list_any (λ z. same z x) (y ∷ ys) ≡ true → list_any (λ z. same z y) (x ∷ xs) ≡ true → x ≡ y
   same_first x y xs ys h k e f = at (or_cases (same y x) (list_any (λ z. same z x) ys) e) (or_cases (same x y) (list_any (λ z. same z y) xs) f)
@@ -44,7 +44,7 @@ module _ {X : Type 0} (before same : X → X → Bool) (laws : IsOrder before sa
       at (inr g) (inl l) = laws.equal x y l
       at (inr g) (inr l) = absurd (never_both x y (comes_after x y xs h l) (comes_after y x ys k g))
 
-  -- lists in order with the same elements are the same
+  -- sorted lists with the same elements are equal
   pub rising_same : (xs ys : List X) → is_rising before xs ≡ true → is_rising before ys ≡ true → ((x : X) → list_any (λ y. same y x) xs ≡ list_any (λ y. same y x) ys) → xs ≡ ys
   rising_same [] [] h k e = refl
   rising_same [] (y ∷ ys) h k e = absurd (false≢true (e y ∙ or_left (same y y) (list_any (λ z. same z y) ys) (laws.itself y)))
@@ -91,7 +91,7 @@ module _ {X : Type 0} (before same : X → X → Bool) (laws : IsOrder before sa
       at ih true e = there e (same y x) refl ∙ ap (λ b. same y x || b) ih
       at ih false e = any_insert (λ z. same z x) old _ y ∙ ap (λ b. same y x || b) ih
 
-  -- it stands in order
+  -- the set is sorted
   pub set_rises : (xs : List X) → is_rising before (set_of before same xs) ≡ true
   set_rises [] = refl
   set_rises (y ∷ ys) = at (set_rises ys) (list_any (λ z. same z y) (set_of before same ys)) refl

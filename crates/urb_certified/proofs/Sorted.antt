@@ -1,4 +1,4 @@
--- What halving finds among elements in rising order.
+-- What a binary search finds among elements in rising order.
 use Rattle.std.proofs.Common.{◌≡◌, ℕ, zero, suc, ◌+◌, ◌<◌, ◌≤◌, Bool, true, false, cond, ◌||◌, ◌&&◌, List, [], ◌∷◌, length, get_or, filter, refl, sym, ap, ◌∙◌, subst, inl, inr, ◌⊎◌, arith}
 use Rattle.std.specs.List.{list_all, list_any, prefix_len}
 use Rattle.std.specs.List.Sorted.{IsPartitionedBy, IsPartitionPoint}
@@ -13,7 +13,7 @@ module _ {X : Type 0} (before same : X → X → Bool) (laws : IsOrder before sa
   all_at test (y ∷ ys) zero d h l = (and_parts (test y) (list_all test ys) h).0
   all_at test (y ∷ ys) (suc j) d h l = all_at test ys j d (and_parts (test y) (list_all test ys) h).1 (omega arith)
 
-  -- those that come before an element stand in front
+  -- the elements that come before a given one are at the front
   pub parted : (xs : List X) (x : X) → is_rising before xs ≡ true → IsPartitionedBy (λ y. before y x) xs
   parted [] x h i j d l m e = absurd (omega arith)
   parted (y ∷ ys) x h zero zero d l m e = e
@@ -21,7 +21,7 @@ module _ {X : Type 0} (before same : X → X → Bool) (laws : IsOrder before sa
   parted (y ∷ ys) x h (suc i) zero d l m e = absurd (omega arith)
   parted (y ∷ ys) x h (suc i) (suc j) d l m e = parted ys x (and_parts (list_all (before y) ys) (is_rising before ys) h).1 i j d (omega arith) (omega arith) e
 
-  -- a partition point is the number of those in front
+  -- a partition point is the number of elements at the front
   pub point_is : (test : X → Bool) (xs : List X) (i : ℕ) (d : X) → i ≤ length xs → IsPartitionPoint (λ y. test y ≡ true) (λ y. test y ≡ false) xs i → i ≡ prefix_len test xs
   point_is test [] i d l h = omega arith
   point_is test (y ∷ ys) zero d l h = sym (ap (λ (b : Bool). cond b (1 + prefix_len test ys) 0) (h.1 0 d (omega arith) (omega arith)))
@@ -30,7 +30,7 @@ module _ {X : Type 0} (before same : X → X → Bool) (laws : IsOrder before sa
       let one : suc i ≡ 1 + prefix_len test ys = omega arith in
       one ∙ sym (ap (λ (b : Bool). cond b (1 + prefix_len test ys) 0) (h.0 0 d (omega arith) (omega arith)))
 
-  -- at its place an element stands, or another
+  -- the element found at the place is the one sought, or another
   pub found_is : (xs : List X) (x d : X) → is_rising before xs ≡ true → prefix_len (λ z. before z x) xs < length xs → list_any (λ z. same z x) xs ≡ same (get_or xs (prefix_len (λ z. before z x) xs) d) x
   found_is [] x d h l = absurd (omega arith)
   found_is (z ∷ zs) x d h l = at (found_is zs x d (and_parts (list_all (before z) zs) (is_rising before zs) h).1) (before z x) refl l
@@ -59,7 +59,7 @@ module _ {X : Type 0} (before same : X → X → Bool) (laws : IsOrder before sa
           ∙ (ih (omega arith) ∙ ap (λ (i : ℕ). same (get_or (z ∷ zs) i d) x) (one_more (prefix_len (λ w. before w x) zs)))
       at ih false f m = here (same z x) (none f)
 
-  -- and where none stands there, it isn't among them
+  -- if the place is past the end, the element is not in the list
   pub absent_is : (xs : List X) (x : X) → is_rising before xs ≡ true → length xs ≤ prefix_len (λ z. before z x) xs → list_any (λ z. same z x) xs ≡ false
   absent_is [] x h l = refl
   absent_is (z ∷ zs) x h l = at (absent_is zs x (and_parts (list_all (before z) zs) (is_rising before zs) h).1) (before z x) refl l
@@ -73,7 +73,7 @@ module _ {X : Type 0} (before same : X → X → Bool) (laws : IsOrder before sa
       at ih true f m = ap (λ b. b || list_any (λ w. same w x) zs) (apart f) ∙ ih (omega arith)
       at ih false f m = absurd (omega arith)
 
-  -- a filter leaves those that pass it
+  -- a filter keeps the elements that pass it
   pub filter_has : (keep : X → Bool) (xs : List X) (x : X) → list_any (λ y. same y x) (filter keep xs) ≡ (keep x && list_any (λ y. same y x) xs)
   filter_has keep [] x = sym (and_right (keep x) false refl)
   filter_has keep (y ∷ ys) x = at (filter_has keep ys x) (keep y) refl (same y x) refl
@@ -89,7 +89,7 @@ module _ {X : Type 0} (before same : X → X → Bool) (laws : IsOrder before sa
           ih ∙ (and_left (keep x) _ fails ∙ sym (and_left (keep x) _ fails))
       at ih false f false g = ih ∙ ap (λ b. keep x && (b || list_any (λ z. same z x) ys)) (sym g)
 
-  -- where all pass, it leaves all
+  -- if all elements pass, the filter keeps all
   pub filter_all : (keep : X → Bool) (xs : List X) → ((x : X) → list_any (λ y. same y x) xs ≡ true → keep x ≡ true) → filter keep xs ≡ xs
   filter_all keep [] h = refl
   filter_all keep (y ∷ ys) h =
@@ -107,7 +107,7 @@ module _ {X : Type 0} (before same : X → X → Bool) (laws : IsOrder before sa
       at ih true = and_from (test y) _ parts.0 ih
       at ih false = ih
 
-  -- what is left stays in order
+  -- what the filter keeps stays in order
   pub filter_rises : (keep : X → Bool) (xs : List X) → is_rising before xs ≡ true → is_rising before (filter keep xs) ≡ true
   filter_rises keep [] h = refl
   filter_rises keep (y ∷ ys) h = at (filter_rises keep ys parts.1) (keep y)

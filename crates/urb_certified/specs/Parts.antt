@@ -1,15 +1,15 @@
--- The two parts in which certified names are kept: how far each sender's go without a gap, and those above the gap.
+-- The two parts that hold certified names: those without a gap, and those above it.
 use Rattle.std.specs.Prelude.{◌≡◌, ℕ, suc, ◌+◌, ◌-◌, ◌<◌, ◌||◌, ◌&&◌, ◌==◌, not, nat_le, Bool, true, IsTrue, List, [], ◌∷◌, ◌++◌, length, slice_index_or}
 use Rattle.urb_names.specs.Naming.{Label, IsLabel}
 use Rattle.urb_names.specs.Names.{has_name, name_lt, names, same_name}
 use Rattle.urb_names.specs.Ordered.{is_rising}
 
--- the names 1 to k of each sender from the first on, where its k stands in the list
+-- for each sender from the first on, its names 1 to k; the list has the k of each sender
 abbrev pub rows_from : ℕ → List ℕ → List Label
 rows_from first [] = []
 rows_from first (k ∷ ks) = names first k ++ rows_from (suc first) ks
 
--- up to which number the sender's names stand without a gap
+-- the number up to which the sender's names have no gap
 abbrev pub low_of : List ℕ → ℕ → ℕ
 low_of low sender = slice_index_or low (sender - 1) 0
 
@@ -17,17 +17,18 @@ low_of low sender = slice_index_or low (sender - 1) 0
 abbrev pub all_names : List ℕ → List Label → List Label
 all_names low above = above ++ rows_from 1 low
 
--- seven senders; those above stand in order, and each is a name behind a gap
+-- there are seven senders; the names above are in order, and each is separated from the lower part
+-- by a gap
 pub record IsParts (low : List ℕ) (above : List Label) : Type 0 where
   pub seven : length low ≡ 7
   pub order : IsTrue (is_rising name_lt above)
   pub gap : (x : Label) → has_name above x ≡ true → IsLabel x × (low_of low x.sender + 1 < x.seq)
 
--- what stays above once a sender's names go without a gap up to a number
+-- which names stay above once a sender's names have no gap up to number end
 abbrev pub is_left : ℕ → ℕ → Label → Bool
 is_left sender end y = not ((y.sender == sender) && nat_le y.seq end)
 
--- two parts that hold one name more
+-- the two parts once they hold one more name
 pub record IsJoined (low : List ℕ) (above : List Label) (x : Label) (new_low : List ℕ) (new_above : List Label) : Type 0 where
   pub parts : IsParts new_low new_above
   pub has : (y : Label) → has_name (all_names new_low new_above) y ≡ (same_name x y || has_name (all_names low above) y)

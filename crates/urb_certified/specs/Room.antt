@@ -1,4 +1,4 @@
--- What contracts see of the fields of certified names, and what these keep.
+-- What contracts see of the fields of certified names, and the invariant of the fields.
 use Rattle.std.specs.Prelude.{nat_lt}
 use Rattle.std.specs.Vec.{vec_len, vec_capacity}
 use Rattle.urb_names.specs.Names.{name_lt, same_name}
@@ -7,7 +7,7 @@ use Rattle.urb_certified.specs.Certificates.{Certificates}
 use Rattle.urb_certified.specs.Parts.{IsParts, all_names}
 use Rattle.urb_certified.specs.declared.certified.Certified.TheInside.{Inside}
 
--- the names of both parts in order, and whether the upper one has room
+-- the names of both parts in order, and whether the upper part has space
 abbrev pub view_of : {A : Type 0} → Inside A → Certificates
 view_of a = record { names = set_of name_lt same_name (all_names a.low a.above.items); room = nat_lt (vec_len a.above) (vec_capacity a.above) }
 

@@ -1,4 +1,4 @@
--- A set as a list in rising order, and which set a list makes.
+-- A set as a list in rising order, and the set that a list makes.
 use Rattle.std.specs.Prelude.{◌≡◌, Bool, true, false, if◌then◌else◌, List, [], ◌∷◌, ◌⊎◌}
 use Rattle.std.specs.List.{list_any}
 use Rattle.urb_names.specs.Ordered.{placed}
@@ -10,7 +10,7 @@ set_of before same (x ∷ xs) =
     if list_any (λ y. same y x) (set_of before same xs) then set_of before same xs
     else placed before (set_of before same xs) x
 
--- the laws of a strict order, for elements of which same says when they are the same
+-- The laws of a strict order. The test `same` says when two elements are the same.
 pub record IsOrder {X : Type 0} (before same : X → X → Bool) : Type 0 where
   pub transitive : (x y z : X) → before x y ≡ true → before y z ≡ true → before x z ≡ true
   pub one_way : (x y : X) → same x y ≡ false → (before x y ≡ true) ⊎ (before y x ≡ true)

@@ -1,4 +1,4 @@
-//! The certified names of a group's senders, which no history makes slow to look up.
+//! The set of certified names, whose look-ups stay fast however long the history is.
 
 ghost use Rattle.std.specs.Prelude.{◌≡◌, ℕ, suc, ◌+◌, ◌-◌, ◌<◌, ◌≤◌, ◌^◌, true, false, [], ◌∷◌, None, Some, length, slice_index_or, vec_len, vec_capacity, OnOk, OnErr, IfOk, IsOk};
 ghost use Rattle.std.specs.Bool.{Decides};
@@ -12,7 +12,8 @@ use std::alloc::{Allocator, Global};
 use std::marker::Model;
 use urb_names::{Name, NoMemory, NodeId};
 
-/// Certified names, each once: for each sender how far they go from 1 on without a gap, and those above the gap in order.
+/// Certified names, each once. For each sender it keeps the number up to which its names have no
+/// gap, and the names above the gap in order.
 #[derive(Drop)]
 #[derive_where(Debug)]
 pub struct Certified<A: Allocator = Global> {
@@ -33,7 +34,7 @@ impl<A: Allocator> Model for Certified<A> {
 }
 
 impl<A: Allocator + Copy> Certified<A> {
-    /// No name is certified. Takes no memory; what grows later is taken from `alloc`.
+    /// An empty set. Allocates no memory; later growth comes from `alloc`.
     pub fn new(alloc: A) -> Certified<A>
         ensures { result.names ≡ [] }
     {
@@ -43,7 +44,7 @@ impl<A: Allocator + Copy> Certified<A> {
         }
     }
 
-    /// What always holds of certified names: for proofs alone, since it does nothing.
+    /// States what always holds of certified names. It does nothing; only proofs use it.
     pub fn limits(&self)
         ensures { IsCertificates self.now }
     {
@@ -57,22 +58,23 @@ impl<A: Allocator + Copy> Certified<A> {
         has(&self.low, &self.above, name)
     }
 
-    /// How many names of a sender are certified from 1 on without a gap.
+    /// How many of a sender's names, from 1 on, are certified without a gap.
     pub fn reach(&self, sender: NodeId) -> u32
         ensures { result ≡ length (beginning sender self.now.names) }
     {
         low_of(&self.low, sender)
     }
 
-    /// How many of the sender's names would be certified from 1 on without a gap, were this name certified too.
+    /// How many of the sender's names, from 1 on, would be certified without a gap if this name
+    /// were certified too.
     pub fn reach_with(&self, name: Name) -> u32
         ensures { result ≡ length (beginning name.sender (name ∷ self.now.names)) }
     {
         reach_with(&self.low, &self.above, name)
     }
 
-    /// Makes room for any one name more, so that its `add` takes no memory. `NoMemory` means that a growth was refused: the
-    /// call may be made again.
+    /// Reserves space for any one more name, so that its `add` allocates nothing. `NoMemory` means
+    /// that an allocation was refused; the caller may make the call again.
     pub fn make_room(&mut self) -> Result<(), NoMemory>
         ensures names { self.new.names ≡ self.old.names }
         ensures ok { OnOk result (self.new.room ≡ true) }
@@ -82,13 +84,13 @@ impl<A: Allocator + Copy> Certified<A> {
         Ok(())
     }
 
-    /// One more name is certified. Where it closes a gap, those that follow it stand without a gap too.
-    /// `NoMemory` means that a growth was refused: the call may be made again.
+    /// Certifies one more name. If it closes a gap, the names that follow it join the part without
+    /// a gap. `NoMemory` means that an allocation was refused; the caller may make the call again.
     pub fn add(&mut self, name: Name) -> Result<(), NoMemory>
         ensures ok { OnOk result (self.new.names ≡ with_name self.old.names name) }
         ensures err { OnErr result
             ((self.new.names ≡ self.old.names) × (self.old.room ≡ true → self.new.room ≡ true)) }
-        // Want of memory comes only where the name is new, and never where there is room.
+        // `NoMemory` comes only if the name is new, and never if space is reserved.
         ensures again { has_name self.old.names name ≡ true → IsOk result }
         ensures roomy { self.old.room ≡ true → IsOk result }
     {
@@ -99,7 +101,7 @@ impl<A: Allocator + Copy> Certified<A> {
         Ok(())
     }
 
-    /// No name is certified any more. The memory stays.
+    /// Removes all names. The memory stays allocated.
     pub fn clear(&mut self)
         ensures { self.new.names ≡ [] }
     {
@@ -107,7 +109,7 @@ impl<A: Allocator + Copy> Certified<A> {
         self.above.clear();
     }
 
-    /// The same names. Its memory comes from `alloc`.
+    /// A copy with the same names. Its memory comes from `alloc`.
     pub fn copy(&self, alloc: A) -> Result<Certified<A>, NoMemory>
         ensures { IfOk result (λ copy. copy.names ≡ self.now.names) }
     {
@@ -119,7 +121,7 @@ impl<A: Allocator + Copy> Certified<A> {
         })
     }
 
-    /// Whether both have the same names.
+    /// Whether both sets have the same names.
     pub fn is_same(&self, other: &Certified<A>) -> bool
         ensures { Decides result (self.now.names ≡ other.now.names) }
     {

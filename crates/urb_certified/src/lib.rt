@@ -1,13 +1,15 @@
-//! Certified names: for each sender how far they go without a gap, and those above the gap.
+//! Certified names: for each sender the number up to which they have no gap, and the names above
+//! it.
 //!
 //! ```text
 //! certified.make_room()?;
-//! certified.add(name)?;                                  // doesn't fail where room was made
+//! certified.add(name)?;                                  // doesn't fail once space is reserved
 //! let there = certified.has(name);
-//! let reach = certified.reach(sender);                   // the numbers 1 to reach of this sender are all there
+//! let reach = certified.reach(sender);                   // this sender's numbers 1 to reach are all certified
 //! ```
 //!
-//! What it costs grows with the names above a gap, not with those below. Nothing leaves it but by `clear`.
+//! Its cost grows with the number of names above a gap, not with those below. Only `clear` removes
+//! names.
 #![tactic(auto)]
 
 mod certified;

@@ -1,4 +1,4 @@
-//! The two parts of certified names, as plain fields: how far each sender's go without a gap, and those above the gap.
+//! The two parts of the certified names, as plain fields: those without a gap, and those above it.
 
 ghost use Rattle.std.specs.Prelude.{◌≡◌, ℕ, suc, ◌+◌, ◌-◌, ◌<◌, ◌≤◌, ◌^◌, true, false, ◌∷◌, filter, length, slice_index_or, vec_len, vec_capacity, OnOk, OnErr, IfOk, IsOk, IsTrue};
 ghost use Rattle.urb_names.specs.Naming.{Label};
@@ -12,10 +12,10 @@ use crate::row::{drop_to, holds, place_of, run_end};
 use std::alloc::Allocator;
 use urb_names::{Name, NoMemory, NodeId};
 
-// The greatest number of senders that there may be.
+// The greatest possible number of senders.
 pub(crate) const MOST_SENDERS: usize = 7;
 
-// Up to which number a sender's names stand without a gap.
+// The number up to which a sender's names have no gap.
 pub(crate) fn low_of(low: &[u32; MOST_SENDERS], sender: NodeId) -> u32
     ensures { result ≡ low_of low.now sender }
 {
@@ -31,7 +31,7 @@ pub(crate) fn has(low: &[u32; MOST_SENDERS], above: &[Name], name: Name) -> bool
     name.seq <= low_of(low, name.sender) || holds(above, name)
 }
 
-// Whether a name is the next one of its sender behind those without a gap.
+// Whether a name is its sender's next one after those without a gap.
 pub(crate) fn is_next(low: &[u32; MOST_SENDERS], name: Name) -> bool
     ensures cases { result ≡ true → name.seq ≡ low_of low.now name.sender + 1 }
     ensures other { result ≡ false → name.seq ≡ low_of low.now name.sender + 1 → ⊥ }
@@ -40,7 +40,7 @@ pub(crate) fn is_next(low: &[u32; MOST_SENDERS], name: Name) -> bool
     name.seq - 1 == low_of(low, name.sender)
 }
 
-// How far the sender's names would go without a gap, were this name among them.
+// How far the sender's names would go without a gap if this name were among them.
 pub(crate) fn reach_with(low: &[u32; MOST_SENDERS], above: &[Name], name: Name) -> u32
     requires { IsParts low.now above.now }
     ensures { result
@@ -54,7 +54,7 @@ pub(crate) fn reach_with(low: &[u32; MOST_SENDERS], above: &[Name], name: Name) 
     low_of(low, name.sender)
 }
 
-// The next name joins the lower part, and with it those that follow it without a gap.
+// Adds the next name to the lower part, together with the names that follow it without a gap.
 pub(crate) fn close_gap<A: Allocator>(
     low: &mut [u32; MOST_SENDERS],
     above: &mut Vec<Name, A>,
@@ -70,7 +70,7 @@ pub(crate) fn close_gap<A: Allocator>(
     low[name.sender.number() as usize - 1] = end;
 }
 
-// Takes out the names behind this one up to a number, where there are any.
+// Removes the names after this one up to number `end`, if there are any.
 fn drop_run<A: Allocator>(above: &mut Vec<Name, A>, name: Name, end: u32)
     requires from { name.seq ≤ end }
     requires behind { (y : Label)
@@ -84,7 +84,8 @@ fn drop_run<A: Allocator>(above: &mut Vec<Name, A>, name: Name, end: u32)
     }
 }
 
-// A name goes to its place above the gap. `NoMemory` means that the growth was refused, and nothing has changed.
+// Inserts a name at its place above the gap. `NoMemory` means that the allocation was refused, and
+// nothing has changed.
 pub(crate) fn put_above<A: Allocator>(above: &mut Vec<Name, A>, name: Name) -> Result<(), NoMemory>
     requires { IsTrue (is_rising name_lt above.old.items) }
     ensures ok { OnOk result (above.new.items ≡ placed name_lt above.old.items name) }
@@ -98,8 +99,8 @@ pub(crate) fn put_above<A: Allocator>(above: &mut Vec<Name, A>, name: Name) -> R
     Ok(())
 }
 
-// A name that is in neither part joins the one where it belongs. `NoMemory` means that the growth was refused, and nothing
-// has changed.
+// Adds a name that is in neither part to the part where it belongs. `NoMemory` means that the
+// allocation was refused, and nothing has changed.
 pub(crate) fn join<A: Allocator>(
     low: &mut [u32; MOST_SENDERS],
     above: &mut Vec<Name, A>,

@@ -1,4 +1,4 @@
-//! Names in rising order, in a vector: looked up by halving.
+//! Names in rising order, in a vector, found by binary search.
 
 ghost use Rattle.std.specs.Prelude.{◌≡◌, ℕ, suc, ◌+◌, ◌^◌, ◌≤◌, ◌<◌, ◌-◌, true, false, not, ◌&&◌, ◌==◌, IsTrue, length, filter, vec_len, vec_capacity, nat_le};
 ghost use Rattle.std.specs.Bool.{Decides};
@@ -16,7 +16,7 @@ fn precedes(first: &Name, second: Name) -> bool
     *first < second
 }
 
-// Where a name stands among names in order, or would stand.
+// The place of a name among sorted names, or the place where it would be inserted.
 pub(crate) fn place_of(names: &[Name], name: Name) -> usize
     requires { IsTrue (is_rising name_lt names.now) }
     ensures place { result ≡ prefix_len (λ other. name_lt other name) names.now }
@@ -25,7 +25,7 @@ pub(crate) fn place_of(names: &[Name], name: Name) -> usize
     names.partition_point(|other| precedes(other, name))
 }
 
-// Whether a name stands among names in order.
+// Whether a name is among sorted names.
 pub(crate) fn holds(names: &[Name], name: Name) -> bool
     requires { IsTrue (is_rising name_lt names.now) }
     ensures { result ≡ has_name names.now name }
@@ -34,7 +34,7 @@ pub(crate) fn holds(names: &[Name], name: Name) -> bool
     place < names.len() && names[place] == name
 }
 
-// Up to which number the names behind this one stand among names in order.
+// The last number of the unbroken run of names that begins at `start`.
 pub(crate) fn run_end(names: &[Name], start: Name) -> u32
     requires { IsTrue (is_rising name_lt names.now) }
     ensures from { start.seq ≤ result }
@@ -52,7 +52,7 @@ pub(crate) fn run_end(names: &[Name], start: Name) -> u32
     end
 }
 
-// Whether the number behind this one of a name's sender stands among names in order.
+// Whether the same sender's name with number `end + 1` is among sorted names.
 fn holds_next(names: &[Name], start: Name, end: u32) -> bool
     requires order { IsTrue (is_rising name_lt names.now) }
     requires last { end < 2 ^ 32 - 1 }
@@ -72,7 +72,7 @@ fn is_left(name: &Name, sender: NodeId, end: u32) -> bool
     !(name.sender == sender && name.seq <= end)
 }
 
-// Takes out the names of a sender up to a number.
+// Removes a sender's names up to number `end`.
 pub(crate) fn drop_to<A: Allocator>(names: &mut Vec<Name, A>, sender: NodeId, end: u32)
     ensures items { names.new.items ≡ filter (is_left sender end) names.old.items }
     ensures len { vec_len names.new ≤ vec_len names.old }

@@ -1,4 +1,4 @@
-//! Certified names in several orders, and refused growth.
+//! Certified names in several orders, and refused allocations.
 
 ghost use Rattle.std.specs.Prelude.{◌≤◌, ◌<◌};
 
@@ -8,7 +8,7 @@ use std::test::Fail;
 use urb_names::{Name, NoMemory, NodeId};
 use urb_refusing::Refusing;
 
-// A name; none where there is no such sender or number.
+// A name, or `None` if there is no such sender or number.
 fn name(sender: u8, seq: u32) -> Option<Name> {
     if seq == 0 {
         return None;
@@ -17,8 +17,8 @@ fn name(sender: u8, seq: u32) -> Option<Name> {
     Some(Name { sender, seq })
 }
 
-// Adds a name that is new. Where the growth was refused, nothing has changed, and the same call goes through the second time.
-// Whether all is so.
+// Adds a new name. If the allocation is refused, nothing has changed, and the same call succeeds
+// the second time. Returns whether all of this holds.
 fn adds<A: Allocator + Copy>(names: &mut Certified<A>, name: Name) -> bool {
     if names.has(name) {
         return false;
@@ -33,7 +33,7 @@ fn adds<A: Allocator + Copy>(names: &mut Certified<A>, name: Name) -> bool {
     names.has(name) && names.reach(name.sender) == foretold
 }
 
-// Adds names so, one after the other.
+// Adds names in this way, one after the other.
 fn adds_all<A: Allocator + Copy>(names: &mut Certified<A>, added: &[(u8, u32)]) -> bool {
     for (sender, seq) in added {
         match name(*sender, *seq) {
@@ -44,7 +44,7 @@ fn adds_all<A: Allocator + Copy>(names: &mut Certified<A>, added: &[(u8, u32)]) 
     true
 }
 
-// The k-th of the numbers 1 to 40 in some order.
+// An order of the numbers 1 to 40.
 #[derive(Clone, Copy)]
 enum Order {
     Rising,
@@ -64,7 +64,7 @@ fn number_in(order: Order, k: u32) -> u32
     }
 }
 
-// Adds the names of node 2 with the numbers 1 to 40 in this order.
+// Adds node 2's names 1 to 40 in this order.
 fn adds_forty<A: Allocator + Copy>(names: &mut Certified<A>, order: Order) -> bool {
     for k in 1..41 {
         match name(2, number_in(order, k)) {
@@ -75,7 +75,7 @@ fn adds_forty<A: Allocator + Copy>(names: &mut Certified<A>, order: Order) -> bo
     true
 }
 
-// Whether the names of a sender go so far without a gap.
+// Whether a sender's names go exactly this far without a gap.
 fn reaches<A: Allocator + Copy>(names: &Certified<A>, sender: u8, reach: u32) -> bool {
     match NodeId::new(sender) {
         Some(sender) => names.reach(sender) == reach,
@@ -83,7 +83,7 @@ fn reaches<A: Allocator + Copy>(names: &Certified<A>, sender: u8, reach: u32) ->
     }
 }
 
-// Whether a name is there.
+// Whether a name is in the set.
 fn has<A: Allocator + Copy>(names: &Certified<A>, sender: u8, seq: u32) -> bool {
     match name(sender, seq) {
         Some(name) => names.has(name),
@@ -91,7 +91,7 @@ fn has<A: Allocator + Copy>(names: &Certified<A>, sender: u8, seq: u32) -> bool 
     }
 }
 
-// Whether there are the forty names, and no others near them.
+// Whether the set has the forty names and no others near them.
 fn has_forty<A: Allocator + Copy>(names: &Certified<A>) -> bool {
     reaches(names, 2, 40)
         && reaches(names, 1, 0)
@@ -100,7 +100,7 @@ fn has_forty<A: Allocator + Copy>(names: &Certified<A>) -> bool {
         && !has(names, 1, 1)
 }
 
-// Whether the names are the same as the forty, once they were added in this order, and so is a copy, until it is cleared.
+// Whether adding the forty names in this order gives the same set.
 fn is_the_same_in<A: Allocator + Copy>(alloc: A, rising: &Certified<A>, order: Order) -> bool {
     let mut names = Certified::new(alloc);
     let is_added = adds_forty(&mut names, order) && has_forty(&names);
@@ -162,7 +162,7 @@ fn each_growth_may_be_refused(rt: HostRuntime) -> Result<(), Fail> {
     Ok(())
 }
 
-// Whether two names are added without asking for memory, once there is room.
+// Whether two names are added without an allocation once space is reserved.
 fn asks_for_nothing<'a, A: Allocator>(
     names: &mut Certified<&'a Refusing<A>>,
     heap: &'a Refusing<A>,

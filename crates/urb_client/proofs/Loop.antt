@@ -21,7 +21,7 @@ goes_on front count i bytes entry after total lt h so_far =
     let one : with_front front (entries_at (count - i) bytes) ≡ with_front (front ++ entry ∷ []) (entries_at (count - (i + 1)) after) = rw (k, h) (regroup front entry (entries_at (count - (i + 1)) after)) in
     sym one ∙ so_far
 
--- no entry stands there
+-- there is no entry
 pub stops : (front : List (Label × Content)) (count i : ℕ) (bytes : List ℕ) (total : Option (List (Label × Content) × List ℕ)) → i < count → entry_at bytes ≡ None
     → with_front front (entries_at (count - i) bytes) ≡ total → total ≡ None
 unfolding entries_at

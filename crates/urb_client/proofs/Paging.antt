@@ -37,7 +37,7 @@ size-longer entries i k below =
     let split : take i (take k entries) ++ drop i (take k entries) ≡ take k entries = take-append-drop i (take k entries) in
     omega (arith, size-beginning (take i (take k entries)) (drop i (take k entries)), ap size split, ap size (take-take i k entries below))
 
--- where one entry more has no room, no longer beginning has
+-- if there is no room for one entry more, no longer beginning has room
 pub no_more : (entries : List (Label × Content)) (i used more : ℕ) → LISTING_HEAD + size (take i entries) ≡ used → size (take (i + 1) entries) ≡ size (take i entries) + more → LONGEST_FRAME < used + more
     → (count : ℕ) → length (listing_body (take count entries)) ≤ LONGEST_FRAME → count ≤ i
 no_more entries i used more is next over count fits = elim (cases_lt i count) [

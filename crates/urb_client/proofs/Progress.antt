@@ -11,21 +11,21 @@ use Rattle.urb_client.specs.Requests.{Asked, request_of}
 use Rattle.urb_client.specs.Responses.{Said, Refused, encoding, frame}
 use Rattle.urb_client.specs.Sessions.{Event, Asks, Fault, Says, Begins, IsBroken, Replies, Answers, GoesUnanswered, WholeSession, Served, Leaves, Meets, TakesFrame, PartRead, BreaksOff}
 
--- a whole frame is taken, of which this holds
+-- a whole frame is taken, and this holds of it
 whole_taken : (P : Event → Type 0) (known left : Option (List ℕ)) (body : List ℕ) (event : Event) → Consumes known left (frame body) → 0 < length body → length body ≤ LONGEST_REQUEST → Says body event → P event
     → IfSome known (λ bytes. IsSomeAnd left (TakesFrame P bytes))
 whole_taken P None left body event c some small is holds = tt
 whole_taken P (Some bytes) None body event c some small is holds = absurd c
 whole_taken P (Some bytes) (Some rest) body event c some small is holds = inl (event, (body, rest, some, small, c, is, refl), holds)
 
--- a broken frame is taken, of which this holds
+-- a broken frame is taken, and this holds of it
 pub broken_taken : (P : Event → Type 0) (known left : Option (List ℕ)) (code : ℕ) → IfSome known (λ bytes. IsSomeAnd left (IsBroken bytes code)) → P (Fault code) → IfSome known (λ bytes. IsSomeAnd left (TakesFrame P bytes))
 broken_taken P None left code b holds = tt
 broken_taken P (Some bytes) None code b holds = absurd b
 broken_taken P (Some bytes) (Some rest) code b holds = inr (code, b, holds)
 
 module _ {S : Type 0} (answers : S → Asked → Said → S → Type 0) where
-  -- what of the input is known to be answered
+  -- the part of the input that is known to be answered
   abbrev pub Going : Option (List ℕ) → Option (List ℕ) → S → S → Option (List ℕ) → Option (List ℕ) → Type 0
   Going from known old new before after = IfSome from (λ input. IsSomeAnd known (λ rest. Served answers input rest old new before after))
 
@@ -170,7 +170,7 @@ module _ {S : Type 0} (answers : S → Asked → Said → S → Type 0) where
     read_refused old new known left body (Ok asked) is c some small (inr r) = whole_taken (λ event. Leaves answers refuses old event new) known left body (Asks asked) c some small is (inr (inr r))
     read_refused old new known left body (Err code) is c some small same = whole_taken (λ event. Leaves answers refuses old event new) known left body (Fault code) c some small is same
 
-    -- a whole frame is taken, for which memory is refused
+    -- a whole frame is taken, and memory is refused for it
     pub whole_refused : (old new : S) (known left : Option (List ℕ)) (body : List ℕ) → Consumes known left (frame body) → 0 < length body → length body ≤ LONGEST_REQUEST
         → GoesUnanswered refuses old (request_of body) new → IfSome known (λ bytes. IsSomeAnd left (TakesFrame (λ event. Leaves answers refuses old event new) bytes))
     whole_refused old new known left body = read_refused old new known left body (request_of body) refl

@@ -1,4 +1,4 @@
--- What is read as a request is spelled so, and what is spelled so is read.
+-- What is read as a request has its spelling, and what has the spelling is read.
 use Rattle.std.proofs.Common.{◌≡◌, ℕ, ◌<◌, ◌≤◌, true, false, cond, Bool, List, [], ◌∷◌, ◌++◌, length, drop, Result, Ok, Err, refl, sym, ap, subst, ◌∙◌, arith, drop-cons}
 use Rattle.std.specs.Prelude.{nat_lt, ◌==◌, slice_index, IfOk}
 use Rattle.std.proofs.lemmas.Bool.{eqb-true, ltb-false}
@@ -13,7 +13,7 @@ use Rattle.urb_client.proofs.Parts.{IsBytes, IsBytes-rest, IsBytes-drop, by_test
 pub is_submit : (fields : List ℕ) → 6 ≤ length fields → 0 < big_number 2 fields → IsSubmit (submit_fields fields)
 is_submit fields long client = (big_number 2 fields, big_number 4 (drop 2 fields), drop 6 fields, grind (arith, nat_tests))
 
--- whose bytes these are
+-- these bytes spell this request
 record Spells (fields : List ℕ) (opcode : ℕ) (asked : Asked) : Type 0 where
   pub is : IsAsked asked
   pub bytes : opcode ∷ fields ≡ request_body asked

@@ -1,4 +1,4 @@
--- What is read as a response is spelled so, and what is spelled so is read.
+-- What is read as a response has its spelling, and what has the spelling is read.
 use Rattle.std.proofs.Common.{◌≡◌, ℕ, zero, suc, ◌^◌, ◌<◌, ◌≤◌, true, false, cond, Bool, List, [], ◌∷◌, ◌++◌, length, Option, Some, None, Result, Ok, Err, refl, sym, ap, subst, ◌∙◌, append_assoc, arith}
 use Rattle.std.specs.Prelude.{nat_lt, ◌==◌, IfSome, IfOk}
 use Rattle.std.specs.List.{flat_map, AllByRecursion}
@@ -41,7 +41,7 @@ entries_again (entry ∷ entries) rest fits =
     ap (λ (x : List ℕ). x ++ rest) (flat_map-cons entry_bytes entry entries) ∙ append_assoc (entry_bytes entry) (flat_map entry_bytes entries) rest in
     ap (entries_at (suc (length entries))) regrouped ∙ rw (entry_again entry (flat_map entry_bytes entries ++ rest) fits.0, entries_again entries rest fits.1) refl
 
--- entries that nothing is behind are as long as they are spelled
+-- entries with nothing behind them are as long as they are spelled
 pub entries_length : (n : ℕ) (bytes : List ℕ) (x : List (Label × Content) × List ℕ) → IsBytes bytes → entries_at n bytes ≡ Some x → length x.1 ≡ 0 → length (flat_map entry_bytes x.0) ≤ length bytes
 entries_length n bytes x fits e none = let parts = (entries_take n bytes x fits e).0.parts in rw (parts, nil_from_length x.1 none) (rw (append-nil (flat_map entry_bytes x.0)) (omega arith))
 
@@ -51,7 +51,7 @@ ended said other rest e =
     let g = cond_some (length rest == 0) said other e in
     (nil_from_length rest (eqb-true _ _ g.0), g.1)
 
--- whose bytes these are
+-- these bytes spell this response
 record Spells (fields : List ℕ) (opcode : ℕ) (said : Said) : Type 0 where
   pub is : IsSaid said
   pub bytes : opcode ∷ fields ≡ response_body said

@@ -9,7 +9,8 @@ use Rattle.urb_client.specs.declared.format.TheConstants.{SAY_ENTRIES}
 abbrev pub IsEntry : Label × Content → Type 0
 IsEntry entry = IsLabel entry.0 × IsContent entry.1
 
--- an entry before its payload: its name, the client, the number, and how long the payload is
+-- the bytes of an entry before its payload: its name, the client, the number, and the payload's
+-- length
 abbrev pub entry_head : Label → Content → List ℕ
 entry_head name m = name.sender ∷ (big_bytes 4 name.seq ++ (big_bytes 2 m.client ++ (big_bytes 4 m.number ++ big_bytes 2 (length m.payload))))
 
@@ -17,6 +18,6 @@ entry_head name m = name.sender ∷ (big_bytes 4 name.seq ++ (big_bytes 2 m.clie
 abbrev pub entry_bytes : Label × Content → List ℕ
 entry_bytes entry = entry_head entry.0 entry.1 ++ entry.1.payload
 
--- entries after the length of their frame: the opcode, their count, and each
+-- the bytes of entries, after the length of their frame: the opcode, their count, and each entry
 abbrev pub listing_body : List (Label × Content) → List ℕ
 listing_body entries = SAY_ENTRIES ∷ length entries ∷ flat_map entry_bytes entries

@@ -1,4 +1,5 @@
--- A response read from left to right: each part gives its value and the bytes behind it, or nothing.
+-- A response, read from left to right. Each part gives its value and the bytes behind it, or
+-- nothing.
 use Rattle.std.specs.Prelude.{ℕ, zero, suc, ◌==◌, ◌&&◌, nat_lt, nat_le, List, [], ◌∷◌, length, take, drop, Option, Some, None, if◌then◌else◌}
 use Rattle.byteorder.specs.Endian.{big_number}
 use Rattle.urb_names.specs.Naming.{Label, Content}
@@ -47,7 +48,7 @@ entry_at bytes = do
   message ← message_at name.1
   Some ((name.0, message.0), message.1)
 
--- so many entries
+-- n entries
 unfoldable pub entries_at : ℕ → List ℕ → Option (List (Label × Content) × List ℕ)
 entries_at zero bytes = Some ([], bytes)
 entries_at (suc n) bytes = do
@@ -63,7 +64,7 @@ state_of byte =
     else if byte == 2 then Some state.Storing
     else None
 
--- a response, where nothing is left behind it
+-- a response, if nothing is left behind it
 abbrev pub at_end : Said → List ℕ → Option Said
 at_end said rest = if length rest == 0 then Some said else None
 

@@ -1,4 +1,4 @@
--- What a client may be sent.
+-- What comes to a client.
 use Rattle.std.specs.Prelude.{◌≡◌, ℕ, ◌<◌, ◌^◌, List, ◌++◌, length}
 use Rattle.urb_client.specs.Responses.{Said, IsSaid, frame, encoding}
 

@@ -1,4 +1,4 @@
--- What the bytes of a request frame say, after their length.
+-- What the bytes of a request's frame say, after its length.
 use Rattle.std.specs.Prelude.{◌≡◌, ◌<◌, ◌≤◌, ◌^◌, ◌⊎◌, ◌++◌, ◌==◌, ℕ, List, [], ◌∷◌, length, slice_index, drop, Result, Ok, Err, nat_lt, if◌then◌else◌}
 use Rattle.byteorder.specs.Endian.{big_number, big_bytes}
 use Rattle.urb_names.specs.declared.refusal.Refusal.{Refusal}
@@ -8,7 +8,9 @@ use Rattle.urb_client.specs.declared.request.Request.TheVariants as code
 use Rattle.urb_client.specs.declared.format.TheConstants.{ASK_SUBMIT, ASK_READ, ASK_STATUS, ASK_CRASH, ASK_RESTART, UNKNOWN_OPCODE, WRONG_LENGTH, BAD_VALUE, SUBMIT_HEAD, READ_FIELDS, MOST_ENTRIES}
 use Rattle.urb_names.specs.declared.message.TheConstants.{MAX_PAYLOAD}
 
--- what a client asks, wherever it lies in memory: to broadcast a payload under its number, to read so many entries of the log from a place on, the state of the node, a crash, or a restart
+-- What a client asks, wherever it lies in memory. It may ask to broadcast a payload under its
+-- number. It may ask for entries of the log from a place on, up to a number of them. Or it asks for
+-- the state of the node, a crash, or a restart.
 pub data Asked : Type 0 where
   Submit : ℕ → ℕ → List ℕ → Asked
   Read : ℕ → ℕ → Asked
@@ -55,7 +57,7 @@ submit_fields fields =
     else if big_number 2 fields == 0 then Err BAD_VALUE
     else Ok (Submit (big_number 2 fields) (big_number 4 (drop 2 fields)) (drop SUBMIT_HEAD fields))
 
--- behind the opcode of a read: a place, and how many entries at most
+-- behind the opcode of a read: a place, and the greatest number of entries
 abbrev pub read_fields : List ℕ → Result Asked ℕ
 read_fields fields =
     if length fields == READ_FIELDS then
@@ -65,7 +67,7 @@ read_fields fields =
     else Ok (Read (big_number 4 fields) (slice_index fields 4)))
     else Err WRONG_LENGTH
 
--- behind an opcode that stands alone: nothing
+-- behind an opcode without fields: nothing
 abbrev pub no_fields : Asked → List ℕ → Result Asked ℕ
 no_fields asked fields = if length fields == 0 then Ok asked else Err WRONG_LENGTH
 
@@ -80,15 +82,16 @@ request_of (opcode ∷ fields) =
     else if opcode == ASK_RESTART then no_fields Restart fields
     else Err UNKNOWN_OPCODE
 
--- the request is a submit: the only one that takes memory
+-- the request is a submit, the only request that takes memory
 abbrev pub IsSubmit : Result Asked ℕ → Type 0
 IsSubmit read = (client number : ℕ) × (payload : List ℕ) × (read ≡ Ok (Submit client number payload))
 
--- a refusal of bytes that read so: the code of their fault, or no memory for the payload of a submit
+-- A refusal of bytes with this reading: the code of their fault, or no memory for the payload of a
+-- submit.
 abbrev pub Refuses : Refusal → Result Asked ℕ → Type 0
 Refuses refusal read = ((code : ℕ) × (refusal ≡ Frame code) × (read ≡ Err code)) ⊎ ((refusal ≡ NoMemory) × IsSubmit read)
 
--- what a call gave is what reading gives, where no memory was refused
+-- what a call returned is what reading gives, if no memory was refused
 abbrev pub Gives : {X : Type 0} → (X → Asked) → Result X Refusal → Result Asked ℕ → Type 0
 Gives view (Ok x) read = read ≡ Ok (view x)
 Gives view (Err refusal) read = Refuses refusal read

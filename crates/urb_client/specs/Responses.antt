@@ -1,4 +1,4 @@
--- The bytes of a response frame.
+-- The bytes of a response's frame.
 use Rattle.std.specs.Prelude.{◌≡◌, ℕ, ◌<◌, ◌≤◌, ◌^◌, List, [], ◌∷◌, ◌++◌, length}
 use Rattle.std.specs.List.{AllByRecursion}
 use Rattle.byteorder.specs.Endian.{big_bytes}
@@ -10,7 +10,9 @@ use Rattle.urb_client.specs.declared.response.Response.{Response}
 use Rattle.urb_client.specs.declared.response.Response.TheVariants as code
 use Rattle.urb_client.specs.declared.format.TheConstants.{LONGEST_FRAME, MOST_ENTRIES, SAY_ACCEPTED, SAY_ENTRIES, SAY_STATUS, SAY_DONE, SAY_REFUSED}
 
--- what a client is answered, wherever it lies in memory: the number that its message got, entries of the log, the node's state with how many messages it has sent and logged, that it is done, or a refusal's number and detail
+-- A response to a client, wherever it lies in memory. It may have the number that its message got,
+-- or entries of the log. It may have the node's state, and how many messages it has sent and
+-- logged. Or it says that the request is done, or has a refusal's number and detail.
 pub data Said : Type 0 where
   Accepted : ℕ → Said
   Listing : List (Label × Content) → Said
@@ -40,7 +42,8 @@ response_body (Status state own logged) = SAY_STATUS ∷ state_byte state ∷ (b
 response_body Done = SAY_DONE ∷ []
 response_body (Refused number detail) = SAY_REFUSED ∷ number ∷ big_bytes 4 detail
 
--- a response's values: numbers that their fields hold, and at most eight entries, which a frame has room for
+-- a response's values: numbers that their fields can hold, and at most eight entries that a frame
+-- has room for
 abbrev pub IsSaid : Said → Type 0
 IsSaid (Accepted seq) = seq < 2 ^ 32
 IsSaid (Listing entries) = (length entries ≤ MOST_ENTRIES) × AllByRecursion IsEntry entries × (length (listing_body entries) ≤ LONGEST_FRAME)
@@ -52,7 +55,7 @@ IsSaid (Refused number detail) = (number < 2 ^ 8) × (detail < 2 ^ 32)
 abbrev pub IsListing : List ℕ → Type 0
 IsListing bytes = (rest : List ℕ) × (bytes ≡ SAY_ENTRIES ∷ rest)
 
--- a frame: a length, and that many bytes
+-- a frame: a length, and as many bytes
 abbrev pub frame : List ℕ → List ℕ
 frame body = big_bytes 2 (length body) ++ body
 

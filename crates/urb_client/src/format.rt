@@ -3,22 +3,22 @@
 /// The greatest length that a request's frame may have.
 pub const LONGEST_REQUEST: usize = 16_600;
 
-/// The greatest length that a frame can have: its two bytes say no more.
+/// The greatest length that a frame can have: its two length bytes can't say more.
 pub const LONGEST_FRAME: usize = 65_535;
 
-/// The greatest number of entries that are asked for and answered at once.
+/// The greatest number of entries that one read asks for and one response has.
 pub const MOST_ENTRIES: usize = 8;
 
-/// The bytes of a submit between its opcode and its payload: a client and a number.
+/// The number of bytes of a submit between its opcode and its payload: a client and a number.
 pub const SUBMIT_HEAD: usize = 6;
 
-/// The bytes of a read after its opcode: a place, and how many entries at most.
+/// The number of bytes of a read after its opcode: a place, and the greatest number of entries.
 pub const READ_FIELDS: usize = 5;
 
-/// The bytes of entries before the first of them: the opcode, and their count.
+/// The number of bytes before the first of some entries: the opcode, and their count.
 pub const LISTING_HEAD: usize = 2;
 
-/// The bytes of an entry before its payload.
+/// The number of bytes of an entry before its payload.
 pub const ENTRY_HEAD: usize = 13;
 
 /// The opcode of a submit.
@@ -45,7 +45,7 @@ pub const SAY_ENTRIES: u8 = 0x82;
 /// The opcode of a node's state.
 pub const SAY_STATUS: u8 = 0x83;
 
-/// The opcode of an answer that says only that it is done.
+/// The opcode of a response that says only that the request is done.
 pub const SAY_DONE: u8 = 0x84;
 
 /// The opcode of a refusal.

@@ -1,4 +1,4 @@
-//! Whole pieces of what a reader has.
+//! Reading a whole piece of what a reader has.
 
 ghost use Rattle.std.specs.Prelude.{◌≡◌, ℕ, ◌<◌, ◌≤◌, take, length, IfOk, OnErr};
 ghost use Rattle.std.specs.Io.KnownBytes.{Consumes, IsAtEnd};
@@ -10,7 +10,8 @@ use std::io::{ErrorKind, Read};
 #[derive(Clone, Copy, Debug)]
 pub struct ReadFailed;
 
-/// Fills the buffer as far as the input goes, and says how far. A read that a signal interrupts is tried again.
+/// Fills the buffer as far as the input goes, and returns how many bytes it read. A read that a
+/// signal interrupts is tried again.
 pub fn read_full<R: Read>(reader: &mut R, buffer: &mut [u8]) -> Result<usize, ReadFailed>
     requires { 0 < length buffer.old }
     ensures bound { IfOk result (λ n. n ≤ length buffer.old) }

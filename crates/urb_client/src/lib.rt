@@ -1,13 +1,25 @@
-//! What clients ask a node and are answered, as frames of bytes, and sessions over a reader and a writer.
+//! The protocol between clients and a node.
+//!
+//! Requests and responses are frames of bytes. A session is the loop that serves one connection.
 //!
 //! ```text
-//! let ended = session(alloc, &mut reader, &mut writer, &mut desk)?;    // the node's side: reads, asks the desk, writes
-//! let frame = encode_request(alloc, &request)?;          // the client's side
+//! // The node's side.
+//! let ended = session(alloc, &mut reader, &mut writer, &mut desk)?;
+//!
+//! // The client's side.
+//! let frame = encode_request(alloc, &request)?;
 //! let response = parse_response(alloc, &bytes)?;
 //! ```
 //!
-//! A `Desk` answers requests; `urb_worker` has the one of a running node. A session reads a frame, writes its answer and flushes
-//! before it reads the next one. It never answers what was not asked, and takes no more memory than one frame and its answer.
+//! A `Desk` is what answers the requests. `NodeDesk` of `urb_worker` is the desk of a running node.
+//! A session runs over the input and the output of a connection (`reader`, `writer`). It reads a
+//! frame, asks the desk, writes the response and flushes it. Then it reads the next frame. It sends
+//! one response for each frame and nothing else, and holds at most one frame and its response in
+//! memory. It ends when the client closes the connection, after bytes that are no frame, or at a
+//! fault.
+//!
+//! `one_reading` and `one_page_after_another` are laws: functions that do nothing, and whose
+//! contracts are proved statements.
 #![tactic(auto)]
 
 mod format;

@@ -1,4 +1,4 @@
-//! Pages of entries, and how far a frame has room for them.
+//! Pages of entries, and how many of them a frame has room for.
 
 ghost use Rattle.std.specs.Prelude.{◌≡◌, ◌≤◌, ℕ, [], length, take};
 ghost use Rattle.urb_client.specs.Listings.{listing_body};
@@ -8,7 +8,7 @@ use crate::format::{ENTRY_HEAD, LISTING_HEAD, LONGEST_FRAME};
 use std::alloc::Allocator;
 use urb_names::{Message, Name};
 
-// How many entries, from the first on, a frame has room for.
+// Returns how many entries a frame has room for, from the first on.
 pub(crate) fn longest_beginning<A: Allocator>(entries: &[(Name, Message<A>)]) -> usize
     ensures within { result ≤ length entries.now }
     ensures fits { length (listing_body (take result entries.now)) ≤ LONGEST_FRAME }
@@ -31,8 +31,8 @@ pub(crate) fn longest_beginning<A: Allocator>(entries: &[(Name, Message<A>)]) ->
     count
 }
 
-/// That a reader who asks for the entries behind those that it has, again and again, gets every entry of a log once: for
-/// proofs alone, since it does nothing.
+/// States that a reader gets every entry of a log once if it asks for the entries after those that
+/// it has, again and again. This call does nothing: it is for proofs only.
 pub fn one_page_after_another()
     ensures { IsReadWhole }
 {}

@@ -210,21 +210,22 @@ fn response_of<A: Allocator + Copy>(alloc: A, bytes: &[u8]) -> Result<Option<Res
     }
 }
 
-/// The response that the bytes of a frame, after its length, spell; None where they spell no response. For a
-/// client that was sent them: None means that the other side is no node of this kind.
+/// Returns the response that the bytes of a frame, after its length, spell, or `None` if they spell
+/// no response. For a client to which these bytes were sent: `None` means that the other side is no
+/// node of this kind.
 pub fn parse_response<A: Allocator + Copy>(
     alloc: A,
     bytes: &[u8],
 ) -> Result<Option<Response<A>>, NoMemory>
-    // What is read is spelled so, each byte of it.
+    // What is read has this spelling, with each of its bytes.
     ensures found { IfOk result (λ read. IfSome read (λ response.
         IsSaid (said_by response) × (bytes.now ≡ response_body (said_by response)))) }
-    // What is spelled so is read: so None comes exactly where there is no response.
+    // What has this spelling is read. So the result is `None` exactly if the bytes are no response.
     ensures only { IfOk result (λ read. (said : Said)
         → IsSaid said
         → bytes.now ≡ response_body said
         → option_map said_by read ≡ Some said) }
-    // Entries alone take memory.
+    // Only entries take memory.
     ensures memory { OnErr result (IsListing bytes.now) }
 {
     if LONGEST_FRAME < bytes.len() {

@@ -13,7 +13,7 @@ use std::io::Read;
 use thiserror::Error;
 use urb_names::NoMemory;
 
-/// Why there is no response: the reader failed, memory was refused, or what came is none.
+/// Why there is no response: the reader failed, memory was refused, or what came is no response.
 #[derive(Clone, Copy, Debug, PartialEq, Eq, Error)]
 pub enum ResponseFault {
     #[error("read failed")]
@@ -46,14 +46,14 @@ impl From<ReadFailed> for ResponseFault {
     }
 }
 
-// So many bytes of room, all 0.
+// Returns `len` bytes of room, all 0.
 fn room<A: Allocator>(alloc: A, len: usize) -> Result<Vec<u8, A>, NoMemory>
     ensures { IfOk result (λ room. length room.items ≡ len) }
 {
     Ok(vec![in alloc; 0u8; len]?)
 }
 
-// Reads the bytes of one frame behind its length; none where no whole frame comes, or one of no byte.
+// Reads the bytes of one frame after its length. `None` if no whole frame comes, or an empty one.
 fn read_body<A: Allocator, R: Read>(
     alloc: A,
     reader: &mut R,
@@ -81,17 +81,19 @@ fn read_body<A: Allocator, R: Read>(
     Ok(Some(body))
 }
 
-/// Reads one response from the front of a reader, for a client that has sent its request. `Read`: the reader failed.
-/// `NoMemory`: memory was refused; the response may have come, so the request may have been done. `NoResponse`: what
-/// came is no response, or ended before it was whole.
+/// Reads one response from the front of a reader, for a client that has sent its request.
+///
+/// `Read`: the reader failed. `NoMemory`: memory was refused; the response may have come, so the
+/// request may have been done. `NoResponse`: what came is no response, or ended before it was
+/// whole.
 pub fn read_response<A: Allocator + Copy, R: Read>(
     alloc: A,
     reader: &mut R,
 ) -> Result<Response<A>, ResponseFault>
-    // What is read is the whole frame of this response, and no byte behind it.
+    // What is read is the whole frame of this response, and no byte after it.
     ensures read { IfOk result (λ response.
         Consumes (R.remaining reader.old) (R.remaining reader.new) (encoding (said_by response))) }
-    // There is none only where the reader had none at its front.
+    // There is no response only if the reader had none at its front.
     ensures none { result ≡ Err ResponseFault.NoResponse
         → IfSome (R.remaining reader.old) HasNoResponse }
 {

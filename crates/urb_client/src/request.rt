@@ -13,7 +13,7 @@ use byteorder::{BigEndian, ByteOrder};
 use std::alloc::{Allocator, Global};
 use urb_names::{ClientId, NoMemory, Refusal};
 
-/// What a client asks of a node.
+/// A request of a client to a node.
 #[derive(Drop)]
 #[derive_where(Debug)]
 pub enum Request<A: Allocator = Global> {
@@ -23,12 +23,12 @@ pub enum Request<A: Allocator = Global> {
         number: u32,
         payload: Vec<u8, A>,
     },
-    /// Show the entries of the node's log from this place on (from 1), at most so many (1 to 8).
+    /// Show the entries of the node's log from `place` on (from 1), at most `max` of them (1 to 8).
     Read {
         place: u32,
         max: u8,
     },
-    /// Say how the node is.
+    /// Show the node's state.
     Status,
     /// Stop the node, as if it crashed.
     Crash,
@@ -36,17 +36,19 @@ pub enum Request<A: Allocator = Global> {
     Restart,
 }
 
-/// The request that the bytes of a frame, after its length, spell. `Refusal::Frame` has the code of the first
-/// fault: 2 for an unknown opcode, also where there are no bytes at all, 3 for a length that the opcode doesn't
-/// have, 4 for a value outside its range. `Refusal::NoMemory` comes only where a submit's payload found no place.
-/// A payload of any length and a number 0 are passed on, for the node to refuse.
+/// Returns the request that the bytes of a frame, after its length, spell.
+///
+/// `Refusal::Frame` has the code of the first fault. 2: an unknown opcode, or no bytes at all. 3: a
+/// length that the opcode doesn't have. 4: a value outside its range. `Refusal::NoMemory` comes
+/// only if there was no memory for a submit's payload. A payload of any length and a number 0 are
+/// passed on, for the node to refuse.
 pub fn parse_request<A: Allocator>(alloc: A, bytes: &[u8]) -> Result<Request<A>, Refusal>
-    // It is the request that the bytes are, or the first fault.
+    // The result is the request that the bytes are, or the first fault.
     ensures exact { Gives asked_by result (request_of bytes.now) }
-    // What is read is spelled so, each byte of it.
+    // What is read has this spelling, with each of its bytes.
     ensures found { IfOk result
         (λ request. IsAsked (asked_by request) × (bytes.now ≡ request_body (asked_by request))) }
-    // What is spelled so is read.
+    // What has this spelling is read.
     ensures only { (asked : Asked)
         → IsAsked asked
         → bytes.now ≡ request_body asked
@@ -113,13 +115,13 @@ fn alone<A: Allocator>(request: Request<A>, fields: &[u8]) -> Result<Request<A>,
     Ok(request)
 }
 
-/// The whole frame of a request, for a client to send. Its place is from 1, its `max` 1 to 8, and its payload
-/// has at most 16,384 bytes.
+/// Returns the whole frame of a request, for a client to send. Its place is from 1, its `max` is 1
+/// to 8, and its payload has at most 16,384 bytes.
 pub fn encode_request<A: Allocator>(alloc: A, request: &Request<A>) -> Result<Vec<u8, A>, NoMemory>
     requires values { IsAsked (asked_by request.now) }
     requires short { IsShort (asked_by request.now) }
     ensures bytes { IfOk result (λ v. v.items ≡ frame (request_body (asked_by request.now))) }
-    // A session that reads these bytes reads this one request, and nothing behind it.
+    // A session that reads these bytes reads this one request, and nothing after it.
     ensures reads { IfOk result (λ v. Begins v.items (Asks (asked_by request.now) ∷ []) []) }
 {
     encoded(alloc, request)

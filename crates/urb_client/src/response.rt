@@ -16,7 +16,8 @@ use std::alloc::{Allocator, Global};
 use std::marker::Model;
 use urb_names::{Message, Name, NoMemory, Refusal};
 
-/// At most 8 entries of a log, in its order, as many as a frame has room for: each a name and its message.
+/// At most 8 entries of a log, in its order, and no more than a frame has room for. Each entry is a
+/// name and its message.
 #[derive(Drop)]
 #[derive_where(Debug)]
 pub struct Entries<A: Allocator = Global> {
@@ -38,7 +39,7 @@ impl<A: Allocator> Model for Entries<A> {
 }
 
 impl<A: Allocator> Entries<A> {
-    // These entries.
+    // Makes a list of these entries.
     pub(crate) fn of(entries: Vec<(Name, Message<A>), A>) -> Entries<A>
         requires limit { length entries.items ≤ MOST_ENTRIES }
         requires room { length (listing_body entries.items) ≤ LONGEST_FRAME }
@@ -47,7 +48,7 @@ impl<A: Allocator> Entries<A> {
         Entries { entries }
     }
 
-    /// The entries, in the order of the log.
+    /// Returns the entries, in the order of the log.
     pub fn as_slice(&self) -> &[(Name, Message<A>)]
         ensures value { result.now ≡ self.now }
         ensures limit { length self.now ≤ MOST_ENTRIES }
@@ -56,7 +57,8 @@ impl<A: Allocator> Entries<A> {
         self.entries.as_slice()
     }
 
-    // That they are entries of a log, and fit in a frame: for proofs alone, since it does nothing.
+    // States that these are entries of a log, and fit in a frame. This call does nothing: it is for
+    // proofs only.
     fn limits(&self)
         ensures { IsSaid (Listing self.now) }
     {
@@ -64,7 +66,7 @@ impl<A: Allocator> Entries<A> {
     }
 }
 
-/// Where a node stands: down, ready for the next event, or storing a record.
+/// The state of a node: down, ready for the next event, or storing a record.
 #[derive(Clone, Copy, Debug, PartialEq, Eq)]
 pub enum NodeState {
     Down,
@@ -84,11 +86,11 @@ impl NodeState {
     }
 }
 
-/// What a client is answered.
+/// A response to a client.
 #[derive(Drop)]
 #[derive_where(Debug)]
 pub enum Response<A: Allocator = Global> {
-    /// The message is stored, as this one of those that the node sent.
+    /// The message is stored. The number is its place among the messages that the node sent.
     Accepted(u32),
     /// Entries of the node's log.
     Entries(Entries<A>),
@@ -112,9 +114,10 @@ impl<A: Allocator> Response<A> {
     ghost use Rattle.urb_names.specs.Refusing.{number_of, detail_of};
     ghost use Rattle.urb_client.specs.Responses.{Refused};
 
-    /// The response to a read, of a page of at most 8 entries: it lists as many of them, from the first on, as a frame
-    /// has room for. It moves these and takes no memory. A page that isn't empty has at least one: a client that reads on
-    /// behind them gets every entry once (`one_page_after_another`).
+    /// Returns the response to a read, with a page of at most 8 entries. It lists as many of them,
+    /// from the first on, as a frame has room for. It moves the entries and allocates no memory. A
+    /// page that isn't empty gives at least one entry. So a client that reads on after them gets
+    /// every entry once (`one_page_after_another`).
     pub fn entries(page: Vec<(Name, Message<A>), A>) -> Result<Response<A>, NoMemory>
         requires { vec_len page ≤ MOST_ENTRIES }
         ensures { IsOkAnd result (λ response. SaysPage page.items (said_by response)) }
@@ -125,7 +128,7 @@ impl<A: Allocator> Response<A> {
         Ok(Response::Entries(Entries::of(entries)))
     }
 
-    /// The response to a request that was refused.
+    /// Returns the response to a request that was refused.
     pub fn refused(refusal: &Refusal) -> Response<A>
         ensures { said_by result ≡ Refused (number_of refusal.now) (detail_of refusal.now) }
     {
@@ -135,7 +138,8 @@ impl<A: Allocator> Response<A> {
         }
     }
 
-    /// That every response is one that can be said, and fits in a frame: for proofs alone, since it does nothing.
+    /// States that every response is one that can be said, and fits in a frame. This call does
+    /// nothing: it is for proofs only.
     pub fn limits(&self)
         ensures said { IsSaid (said_by self.now) }
         ensures short { length (response_body (said_by self.now)) ≤ LONGEST_FRAME }
@@ -143,7 +147,8 @@ impl<A: Allocator> Response<A> {
         self.values();
     }
 
-    // That the values of a response are within their ranges: for proofs alone, since it does nothing.
+    // States that the values of a response are within their ranges. This call does nothing: it is
+    // for proofs only.
     fn values(&self)
         ensures { IsSaid (said_by self.now) }
     {
@@ -163,7 +168,7 @@ impl<A: Allocator> Response<A> {
     }
 }
 
-/// The whole frame of a response. Each response has one, by its `limits`.
+/// Returns the whole frame of a response. Each response has one, by its `limits`.
 pub fn encode_response<A: Allocator + Copy>(
     alloc: A,
     response: &Response<A>,
@@ -235,7 +240,7 @@ fn push_entry<A: Allocator, B: Allocator>(
     Ok(())
 }
 
-// That each is an entry of a log: for proofs alone, since it does nothing.
+// States that each of these is an entry of a log. This call does nothing: it is for proofs only.
 fn limits_of<A: Allocator>(entries: &[(Name, Message<A>)])
     ensures { All IsEntry entries.now }
 {
@@ -245,7 +250,7 @@ fn limits_of<A: Allocator>(entries: &[(Name, Message<A>)])
     }
 }
 
-// What stands before the payload.
+// Returns the bytes before the payload.
 fn entry_head<A: Allocator>(name: Name, message: &Message<A>) -> [u8; ENTRY_HEAD]
     ensures { result ≡ entry_head name message.now }
 {

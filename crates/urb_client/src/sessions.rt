@@ -56,20 +56,20 @@ impl From<ReadFailed> for SessionFault {
     }
 }
 
-/// Who answers the requests of a session.
+/// What answers the requests of a session.
 pub trait Desk {
-    /// Where payloads and entries lie.
+    /// The allocator of payloads and entries.
     type Alloc: Allocator + Copy;
 
-    /// In the first state it may answer a request so, and is in the second state then.
+    /// In the first state it may give a request this answer. It is in the second state then.
     ghost answers: { Self → Asked → Said → Self → Type 0 };
 
-    /// Where memory is refused for a request in the first state, it may be in the second state then.
+    /// If memory is refused for a request in the first state, it may be in the second state then.
     ghost refuses: { Self → Asked → Self → Type 0 };
 
-    /// Answers one request, whose values are in range: but its payload may be too long for a message, and its
-    /// number may be 0. `NoMemory` ends the session: nothing more is asked of the desk in that session, and the
-    /// next session may get the same desk.
+    /// Answers one request. The request's values are in range, except that its payload may be too
+    /// long for a message, and its number may be 0. `NoMemory` ends the session: the desk is asked
+    /// nothing more in that session, and the next session may get the same desk.
     fn answer(&mut self, request: &Request<Self::Alloc>) -> Result<Response<Self::Alloc>, NoMemory>
         requires { IsAsked (asked_by request.now) }
         ensures answered { IfOk result
@@ -77,17 +77,17 @@ pub trait Desk {
         ensures refused { OnErr result (refuses self.old (asked_by request.now) self.new) };
 }
 
-// What stands at the front of the input.
+// The front of the input.
 pub enum Piece {
     // Nothing.
     End,
-    // No whole frame, by the code of the fault.
+    // No whole frame, with the code of the fault.
     Broken(u8),
-    // A frame with so many bytes after its length.
+    // A frame, with the number of bytes after its length.
     Whole(usize),
 }
 
-/// The number in the two bytes of a length.
+/// Returns the number in the two bytes of a length.
 pub fn length_of(bytes: &[u8]) -> u16
     requires { length bytes.now ≡ 2 }
     ensures { bytes.now ≡ big_bytes 2 result }
@@ -148,7 +148,7 @@ fn reply<A: Allocator + Copy, W: Write>(
     write_frame(writer, frame.as_slice())
 }
 
-// What the bytes of a whole frame are answered.
+// Returns the answer to the bytes of a whole frame.
 fn respond<D: Desk>(
     alloc: D::Alloc,
     desk: &mut D,
@@ -166,19 +166,22 @@ fn respond<D: Desk>(
     }
 }
 
-/// Answers the requests of a client until the input ends, or is no frame. It flushes each response. After
-/// 18,446,744,073,709,551,615 frames it ends with `Read`. After a fault no further byte is read or written.
+/// Answers the requests of a client until the input ends, or is no frame. It flushes each response.
+/// After 18,446,744,073,709,551,615 frames it ends with `Read`. After a fault it reads and writes
+/// no further byte.
 pub fn session<R: Read, W: Write, D: Desk>(
     alloc: D::Alloc,
     reader: &mut R,
     writer: &mut W,
     desk: &mut D,
 ) -> Result<Ended, SessionFault>
-    // All that the reader held is read as these requests and faults, and they are answered in order.
+    // All that the reader held is read as these requests and faults, and they are answered in
+    // order.
     ensures ended { IfOk result (λ ended. IfSome (R.remaining reader.old) (λ input.
         IsSomeAnd (R.remaining reader.new) (λ left. WholeSession D.answers input ended left
         desk.old desk.new (W.contents writer.old) (W.contents writer.new)))) }
-    // The frames that were read whole are answered, but at most the last; the desk is as that one leaves it.
+    // The frames that were read whole are answered, except perhaps the last one. The desk is as
+    // that one leaves it.
     ensures broken_off { IfErr result (λ fault. IfSome (R.remaining reader.old) (λ input.
         IsSomeAnd (R.remaining reader.new) (λ left. BreaksOff D.answers D.refuses input fault left
         desk.old desk.new (W.contents writer.old) (W.contents writer.new)))) }
@@ -201,7 +204,7 @@ pub fn session<R: Read, W: Write, D: Desk>(
     Err(SessionFault::Read)
 }
 
-/// That an input is read in one way: for proofs alone, since it does nothing.
+/// States that an input is read in only one way. This call does nothing: it is for proofs only.
 pub fn one_reading()
     ensures { IsReadOnce }
 {}

@@ -1,4 +1,4 @@
-//! Sessions at the port of node 1 of a group of one, where everything is stored at once.
+//! Sessions at the port of node 1 of a group of one, which stores everything at once.
 
 mod failing;
 mod frames;
@@ -13,7 +13,8 @@ use urb_client::*;
 use urb_names::{ClientId, MAX_PAYLOAD, NoMemory};
 use urb_refusing::FailingWriter;
 
-/// What the client of the worked session sends, a frame a line: it ends at the eighth, which has a bad length.
+/// The frames that the client of the worked session sends, one per line. The session ends at the
+/// eighth, which has a bad length.
 const SENT: &[u8] = b"\x00\x09\x01\x00\x07\x00\x00\x00\x01hi\
 \x00\x06\x02\x00\x00\x00\x01\x08\
 \x00\x01\x03\
@@ -24,7 +25,7 @@ const SENT: &[u8] = b"\x00\x09\x01\x00\x07\x00\x00\x00\x01hi\
 \x00\x00\
 \x00\x01\x03";
 
-/// What it is answered, a frame a line.
+/// The answers, one frame per line.
 const ANSWERED: &[u8] = b"\x00\x05\x81\x00\x00\x00\x01\
 \x00\x11\x82\x01\x01\x00\x00\x00\x01\x00\x07\x00\x00\x00\x01\x00\x02hi\
 \x00\x0a\x83\x01\x00\x00\x00\x01\x00\x00\x00\x01\
@@ -34,7 +35,7 @@ const ANSWERED: &[u8] = b"\x00\x05\x81\x00\x00\x00\x01\
 \x00\x02\x82\x00\
 \x00\x06\xee\x13\x00\x00\x00\x01";
 
-// The first frame of these bytes, which is short, and what is behind it.
+// Returns the first frame of these bytes, which is short, and the bytes after it.
 fn first_frame(bytes: &[u8]) -> (&[u8], &[u8]) {
     match bytes {
         [_, length, ..] => bytes.split_at((2 + usize::from(*length)).min(bytes.len())),
@@ -45,7 +46,7 @@ fn first_frame(bytes: &[u8]) -> (&[u8], &[u8]) {
 // What a client sends, what it is answered, and how the session ends.
 type Line<'a> = (&'a [u8], &'a [u8], Ended);
 
-// Whether a session at the desk goes so.
+// Says whether a session at the desk goes as this line says.
 fn goes_so(alloc: Global, desk: &mut OneNode<Global>, line: Line<'_>) -> bool {
     let (sent, answered, end) = line;
     let mut input = sent;
@@ -55,7 +56,7 @@ fn goes_so(alloc: Global, desk: &mut OneNode<Global>, line: Line<'_>) -> bool {
     ended == Ok(end) && output.written() == answered
 }
 
-// How many lines of the worked session go so, each in a session of its own at one desk.
+// Returns how many lines of the worked session go as they say, each in its own session at one desk.
 fn lines_that_go_so(alloc: Global) -> usize {
     let mut desk = OneNode::new(alloc);
     let (mut sent, mut answered) = (SENT, ANSWERED);
@@ -75,7 +76,8 @@ fn lines_that_go_so(alloc: Global) -> usize {
     count
 }
 
-// The first of these sessions at one desk, one after the other, that doesn't go so.
+// Runs these sessions at one desk, one after the other. Returns the first that doesn't go as its
+// line says.
 fn first_other(alloc: Global, lines: &[Line<'_>]) -> Option<usize> {
     let mut desk = OneNode::new(alloc);
     for (place, line) in lines.iter().enumerate() {
@@ -91,10 +93,10 @@ fn each_line_of_the_worked_session(rt: HostRuntime) {
     assert_eq!(rt; lines_that_go_so(rt.alloc()), 8);
 }
 
-/// What a session that is cut inside a frame is answered.
+/// The answer to a session that is cut inside a frame.
 const CUT: &[u8] = b"\x00\x06\xee\x13\x00\x00\x00\x05";
 
-/// A submit that is cut behind each byte of it; and a question that shows an empty log.
+/// A submit that is cut after each of its bytes, and a read that shows an empty log.
 const CUTS: [Line<'_>; 12] = [
     (b"", b"", Ended::Closed),
     (b"\x00", CUT, Ended::BadFrame),
@@ -127,7 +129,7 @@ fn an_input_that_ends_inside_a_frame_is_refused(rt: HostRuntime) {
     assert_eq!(rt; first_other(rt.alloc(), &CUTS), None);
 }
 
-/// Frames with a fault, and its code.
+/// Frames with a fault, and the fault's code.
 const FAULTS: [(&[u8], u8); 18] = [
     (b"\x00\x00", 1),
     (b"\x40\xd9", 1),
@@ -149,8 +151,8 @@ const FAULTS: [(&[u8], u8); 18] = [
     (b"\x00\x02\x09", 5),
 ];
 
-// The first of these frames whose fault, alone in a session, hasn't this code. The session ends at it, unless the frame is whole
-// and its fault is inside.
+// Sends each of these frames alone in a session. Returns the first whose fault doesn't have this
+// code. The session ends at the fault, unless the frame is whole and the fault is inside.
 fn first_other_fault(alloc: Global, faults: &[(&[u8], u8)]) -> Option<usize> {
     let mut desk = OneNode::new(alloc);
     for (place, (frame, code)) in faults.iter().enumerate() {
@@ -173,7 +175,8 @@ fn each_fault_of_a_frame_has_its_code(rt: HostRuntime) {
     assert_eq!(rt; first_other_fault(rt.alloc(), &FAULTS), None);
 }
 
-// How many entries the desk answers to a read from each of these places on, where its log has eight of the longest.
+// Returns how many entries the desk gives to a read from each of these places on. Its log has eight
+// of the longest entries.
 fn counts_from(alloc: Global, places: [u32; 4]) -> Option<[usize; 4]> {
     let client = ClientId::new(7)?;
     let mut desk = OneNode::new(alloc);
@@ -193,7 +196,8 @@ fn a_reader_goes_on_behind_what_a_frame_had_room_for(rt: HostRuntime) {
     assert_eq!(rt; counts_from(rt.alloc(), [1, 4, 7, 9]), Some([3, 3, 2, 0]));
 }
 
-// A submit with the longest payload that a frame has room for, which is too long for a message, and one of number 0.
+// Returns two submits: one with the longest payload that a frame has room for, which is too long
+// for a message, and one with the number 0.
 fn bad_submits(alloc: Global) -> Result<Vec<u8>, NoMemory> {
     let mut sent = Vec::with_capacity(alloc, 16_611)?;
     sent.extend_from_slice(b"\x40\xd8\x01\x00\x07\x00\x00\x00\x01")?;

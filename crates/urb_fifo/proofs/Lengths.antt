@@ -1,4 +1,4 @@
--- A log is short, since it has few names of each of seven senders.
+-- A log's length is limited, because it has a limited number of names of each of seven senders.
 use Rattle.std.proofs.Common.{◌≡◌, ℕ, suc, ◌+◌, ◌*◌, ◌<◌, ◌≤◌, Bool, true, false, cond, ◌==◌, nat_lt, List, [], ◌∷◌, length, filter, refl, sym, ap, ◌∙◌, arith, ltb-true, ltb-false, lt-ltb}
 use Rattle.std.proofs.lemmas.Bool.{eqb-false, or_left, or_right}
 use Rattle.urb_names.specs.Naming.{Label}
@@ -6,11 +6,11 @@ use Rattle.urb_names.specs.Names.{has_name, same_name}
 use Rattle.urb_names.specs.Release.{part_of}
 use Rattle.urb_names.proofs.SameNames.{same_name-same}
 
--- the names of the senders below one number
+-- the names of the senders below m
 below : ℕ → List Label → List Label
 below m names = filter (λ x. nat_lt x.sender m) names
 
--- one sender more
+-- one more sender
 below_more : (m : ℕ) (names : List Label) → length (below (suc m) names) ≤ length (below m names) + length (part_of m names)
 unfolding below
 below_more m [] = omega arith
@@ -47,7 +47,7 @@ all_below m (x ∷ xs) h =
     ap suc (all_below m xs (λ y e. h y (or_right (same_name x y) (has_name xs y) e)))
     ∙ sym (ap (λ (b : Bool). length (cond b (x ∷ below m xs) (below m xs))) (lt-ltb x.sender m (h x (or_left (same_name x x) (has_name xs x) (same_name-same x)))))
 
--- at most so many names of each of the senders 0 to 7, none of them of 0
+-- at most cap names of each of the senders 0 to 7, and none of sender 0
 pub seven_parts : (names : List Label) (cap : ℕ) → ((x : Label) → has_name names x ≡ true → x.sender < 8) → length (part_of 0 names) ≡ 0 → ((s : ℕ) → length (part_of s names) ≤ cap) → length names ≤ 7 * cap
 seven_parts names cap senders none few =
     omega (

@@ -1,4 +1,4 @@
--- The log is the release of certificates, and stays so as they come.
+-- The log is the release of certificates, and stays so as more come.
 use Rattle.std.proofs.Common.{◌≡◌, ℕ, suc, ◌+◌, ◌-◌, ◌<◌, ◌≤◌, ◌||◌, Bool, true, false, not, List, ◌∷◌, ◌++◌, length, filter, refl, sym, ap, subst, ◌∙◌, ⊎_elim, arith, append-nil}
 use Rattle.std.proofs.lemmas.Bool.{cond-false, cases_lt, or_right}
 use Rattle.urb_names.specs.Naming.{Label}
@@ -12,7 +12,7 @@ use Rattle.urb_names.proofs.Reached.{reach-certified, reach-same, released-more}
 use Rattle.urb_fifo.specs.Delivery.{Delivery, IsDelivery, IsNameOf, IsReleaseOf}
 use Rattle.urb_fifo.specs.Releasing.{certifying, newly_released}
 
--- of each sender, the release of certificates has the certified names from 1 on without a gap
+-- the release of certificates holds each sender's certified names from 1 on without a gap
 pub parts_of_release : (certificates : List Label) (d : Delivery) → IsReleaseOf certificates d → (s : ℕ) → part_of s d.log ≡ beginning s d.certified
 parts_of_release certificates d h s =
     ap (part_of s) h.log
@@ -20,15 +20,15 @@ parts_of_release certificates d h s =
     ∙ (ap (row s 1) (reach-same s certificates d.certified (λ x. sym (h.certified x)))
     ∙ sym (beginning_is s d.certified)))
 
--- how many names of a sender the log has
+-- how many names of a sender the log holds
 pub part_reaches : (d : Delivery) → ((s : ℕ) → part_of s d.log ≡ beginning s d.certified) → (s : ℕ) → length (part_of s d.log) ≡ reach s d.certified
 part_reaches d parts s = ap length (parts s ∙ beginning_is s d.certified) ∙ length-row s 1 (reach s d.certified)
 
--- they are within the cap
+-- this is within the cap
 pub reach_within : (d : Delivery) → ((x : Label) → has_name d.certified x ≡ true → IsNameOf d.limits x) → (s : ℕ) → reach s d.certified ≤ d.limits.cap
 reach_within d within s = ⊎_elim (λ (h : reach s d.certified < 1). omega arith) (λ (h : 1 ≤ reach s d.certified). (within (name s (reach s d.certified)) (reach-certified s (reach s d.certified) d.certified h (omega arith))).seq) (cases_lt (reach s d.certified) 1)
 
--- the certified names with one more in its place
+-- the certified names with one more at its place
 pub certified_with : (certified : List Label) (x y : Label) → has_name (placed name_lt certified x) y ≡ has_name (x ∷ certified) y
 certified_with certified x y = any_insert (λ z. same_name z y) certified _ x
 
@@ -70,7 +70,7 @@ release_stays certificates d x there h = record {
 pub part_within : (d : Delivery) → IsDelivery d → (s : ℕ) → length (part_of s d.log) ≤ d.limits.cap
 part_within d h s = subst (λ (n : ℕ). n ≤ d.limits.cap) (sym (part_reaches d h.parts s)) (reach_within d h.within s)
 
--- a delivery with one more name certified, field by field
+-- a delivery with one more certified name, field by field
 pub certifying_new : (d new : Delivery) (x : Label) → has_name d.certified x ≡ false → new.limits ≡ d.limits → new.certified ≡ placed name_lt d.certified x
     → new.log ≡ d.log ++ newly_released d.log d.certified x → new.reserved ≡ reserved_for d.reserved x → new ≡ certifying d x
 certifying_new d new x none limits certified log reserved =

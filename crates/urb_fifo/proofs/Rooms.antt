@@ -1,4 +1,4 @@
--- What always holds of a release, and room, as a certificate comes.
+-- What always holds of a release, and its space, when a certificate comes.
 use Rattle.std.proofs.Common.{◌≡◌, ℕ, suc, ◌+◌, ◌-◌, ◌<◌, ◌≤◌, true, false, not, List, ◌∷◌, ◌++◌, filter, length, map, Some, refl, sym, ap, ap₂, subst, ◌∙◌, ⊎_elim, inl, inr, ◌⊎◌, arith, eq-eqb, vec_len, vec_capacity}
 use Rattle.std.proofs.lemmas.Bool.{cases_Bool, cases_lt, false≢true, or_cases, or_left}
 use Rattle.std.specs.Bool.{IsTrue}
@@ -18,7 +18,7 @@ use Rattle.urb_fifo.specs.declared.fifo.Fifo.TheInside.{Inside}
 use Rattle.urb_fifo.proofs.Lengths.{seven_parts}
 use Rattle.urb_fifo.proofs.Release.{certified_with, part_reaches, parts_of_release, reach_within, release_goes_on}
 
--- what always holds follows from order, limits and the certificates
+-- what always holds follows from the order, the limits and the certificates
 pub delivery_of : (d : Delivery) (certificates : List Label) → IsLimits d.limits → IsTrue (is_rising name_lt d.certified) → ((x : Label) → has_name d.certified x ≡ true → IsNameOf d.limits x) → IsReleaseOf certificates d → IsDelivery d
 delivery_of d certificates limits order within h = record {
   limits = limits;
@@ -45,7 +45,7 @@ delivery_of d certificates limits order within h = record {
         (λ (l : 1 ≤ reach 0 d.certified). let first : 0 < 0 = (within (name 0 1) (reach-certified 0 1 d.certified (omega arith) l)).label.sender.0 in absurd (omega arith))
         (cases_lt (reach 0 d.certified) 1)
 
--- where there is only more room
+-- if only the space grows
 pub kept_bigger : {A : Type 0} (a b : Inside A) → b.config ≡ a.config → b.reserved ≡ a.reserved → b.certified.names ≡ a.certified.names → (a.certified.room ≡ true → b.certified.room ≡ true)
     → b.log.items ≡ a.log.items → vec_len b.log ≡ vec_len a.log → vec_capacity a.log ≤ vec_capacity b.log
     → IsKept a → IsKept b
@@ -66,7 +66,7 @@ kept_bigger a b config reserved certified certified_room log log_len log_room ke
     same : view_of b ≡ view_of a
     same = λ i. record { limits = config i; certified = certified i; log = log i; reserved = reserved i }
 
--- where one more name of the group is certified
+-- if one more name of the group is certified
 pub kept_certified : {A : Type 0} (a b : Inside A) (x : Label) → IsNameOf a.config x → has_name a.certified.names x ≡ false
     → b.config ≡ a.config → b.reserved ≡ reserved_for a.reserved x
     → b.certified.names ≡ placed name_lt a.certified.names x
@@ -91,7 +91,8 @@ kept_certified a b x is none config reserved certified log kept = record {
     names y (inl e) = subst (IsNameOf a.config) (same_name-true x y e) is
     names y (inr e) = kept.delivery.within y e
 
--- what a certificate releases: the names of its sender behind those in the log, up to where they will be certified
+-- what a certificate releases: its sender's names after those in the log, up to where they will be
+-- certified
 pub newly_kept : {A : Type 0} (a : Inside A) (x : Label) (k end : ℕ) → IsKept a → k ≡ length (beginning x.sender a.certified.names) → end ≡ length (beginning x.sender (x ∷ a.certified.names))
     → (k ≤ end) × (newly_released a.log.items a.certified.names x ≡ map (name x.sender) (numbers_from (suc k) (end - k)))
 newly_kept a x k end kept old new =
@@ -109,7 +110,7 @@ newly_kept a x k end kept old new =
 pub newly_count : (d : Delivery) (x : Label) (from end : ℕ) → newly_released d.log d.certified x ≡ map (name x.sender) (numbers_from (suc from) (end - from)) → length (newly_released d.log d.certified x) ≡ end - from
 newly_count d x from end names = ap length names ∙ length-row x.sender (suc from) (end - from)
 
--- where room was made for a name
+-- if space was reserved for a name
 pub kept_reserved : {A : Type 0} (a b : Inside A) (x : Label) (from end : ℕ) → newly_released a.log.items a.certified.names x ≡ map (name x.sender) (numbers_from (suc from) (end - from))
     → b.config ≡ a.config → b.reserved ≡ Some x
     → b.certified.names ≡ a.certified.names → b.certified.room ≡ true

@@ -1,15 +1,15 @@
--- The names of one sender, from one number to another, as a loop releases them.
+-- One sender's names, from one number to another, as a loop releases them.
 use Rattle.std.proofs.Common.{◌≡◌, ℕ, suc, ◌+◌, ◌-◌, ◌<◌, ◌≤◌, [], ◌∷◌, map, refl, arith}
 use Rattle.urb_names.specs.Names.{name}
 use Rattle.urb_names.specs.Nodes.{numbers_from}
 
--- the next name, and those behind it
+-- the next name, and those after it
 pub row_next : (s k end : ℕ) → k < end → map (name s) (numbers_from (suc k) (end - k)) ≡ name s (k + 1) ∷ map (name s) (numbers_from (suc (k + 1)) (end - (k + 1)))
 row_next s k end h =
     let left : end - k ≡ suc (end - (k + 1)) = omega arith in
     let next : suc k ≡ k + 1 = omega arith in
     rw (left, next) refl
 
--- there is none behind the last
+-- none comes after the last
 pub row_none : (s k end : ℕ) → end ≤ k → map (name s) (numbers_from (suc k) (end - k)) ≡ []
 row_none s k end h = let left : end - k ≡ 0 = omega arith in rw left refl

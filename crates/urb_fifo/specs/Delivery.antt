@@ -1,11 +1,11 @@
--- What contracts see of the certified names and the log, and what always holds of them.
+-- The certified names and the log, as contracts see them, and what always holds of them.
 use Rattle.std.specs.Prelude.{◌≡◌, ℕ, ◌*◌, ◌≤◌, true, IsTrue, List, length, Option}
 use Rattle.urb_names.specs.Naming.{Limits, IsLimits, Label, IsLabel}
 use Rattle.urb_names.specs.Names.{has_name, name_lt}
 use Rattle.urb_names.specs.Ordered.{is_rising}
 use Rattle.urb_names.specs.Release.{beginning, part_of, released}
 
--- the certified names in order, the log in its order, and the name for which room is reserved
+-- the certified names in order, the log in its order, and the name for which space is reserved
 pub record Delivery : Type 0 where
   pub limits : Limits
   pub certified : List Label
@@ -18,13 +18,15 @@ pub record IsNameOf (limits : Limits) (x : Label) : Type 0 where
   pub sender : x.sender ≤ limits.n
   pub seq : x.seq ≤ limits.cap
 
--- the log is the release of these certificates, the newest first, and they are all that is certified
+-- the log is the release of these certificates, the newest first, and exactly these names are
+-- certified
 pub record IsReleaseOf (certificates : List Label) (d : Delivery) : Type 0 where
   pub log : d.log ≡ released certificates
   pub certified : (x : Label) → has_name d.certified x ≡ has_name certificates x
 
--- what always holds: the certified names stand in order, each once; each is a name of the group; the log is the release
--- of certificates; of each sender it has the certified names from 1 on without a gap; and it stays short
+-- The invariant. The certified names are in strictly rising order, and each is a name of the group.
+-- The log is the release of certificates. For each sender it holds the certified names from 1 on
+-- without a gap. Its length is at most seven times the cap.
 pub record IsDelivery (d : Delivery) : Type 0 where
   pub limits : IsLimits d.limits
   pub order : IsTrue (is_rising name_lt d.certified)

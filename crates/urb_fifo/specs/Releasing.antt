@@ -6,12 +6,13 @@ use Rattle.urb_names.specs.Ordered.{placed, reserved_for}
 use Rattle.urb_names.specs.Release.{beginning}
 use Rattle.urb_fifo.specs.Delivery.{Delivery}
 
--- what a certificate adds to this log: of its sender's names, those from 1 on that are now certified without a gap and
--- aren't in the log
+-- What a certificate adds to this log. These are the names of its sender that are now certified
+-- from 1 on without a gap, and are not in the log yet.
 abbrev pub newly_released : List Label → List Label → Label → List Label
 newly_released log certified x = filter (λ y. not (has_name log y)) (beginning x.sender (x ∷ certified))
 
--- with the name certified: it goes to its place, and the log goes on with what is released; nothing changes where it is there
+-- the value with the name certified: it goes to its place, and the released names are appended to
+-- the log; nothing changes if it is there already
 abbrev pub certifying : Delivery → Label → Delivery
 certifying d x =
     if has_name d.certified x then d

@@ -1,4 +1,4 @@
--- What the fields of a release keep: what always holds, and room in the log for the name that is reserved.
+-- The invariant of the fields: what always holds, and space in the log for the reserved name.
 use Rattle.std.specs.Prelude.{◌≡◌, true, false, ◌≤◌, ◌+◌, length}
 use Rattle.std.specs.Vec.{vec_len, vec_capacity}
 use Rattle.std.specs.Option.{ForSome}
@@ -12,12 +12,13 @@ use Rattle.urb_fifo.specs.declared.fifo.Fifo.TheInside.{Inside}
 abbrev pub view_of : {A : Type 0} → Inside A → Delivery
 view_of a = record { limits = a.config; certified = a.certified.names; log = a.log.items; reserved = a.reserved }
 
--- where the name is not certified yet, there is room for it, and for all that its certificate would release
+-- if the name is not certified yet, there is space for it and for all that its certificate would
+-- release
 pub record HasRoom {A : Type 0} (a : Inside A) (x : Label) : Type 0 where
   pub certified : has_name a.certified.names x ≡ false → a.certified.room ≡ true
   pub log : has_name a.certified.names x ≡ false → vec_len a.log + length (newly_released a.log.items a.certified.names x) ≤ vec_capacity a.log
 
--- what the fields keep: their value, and the room that is promised
+-- the invariant of the fields: their value, and the space that is promised
 pub record IsKept {A : Type 0} (a : Inside A) : Type 0 where
   pub delivery : IsDelivery (view_of a)
   pub room : ForSome a.reserved (HasRoom a)

@@ -15,8 +15,8 @@ use std::marker::Model;
 use urb_certified::Certified;
 use urb_names::{Config, Name, NoMemory, NodeId};
 
-/// The certified names, and the log of those that are released: a name is released once it and all lower numbers of its
-/// sender are certified (broadcast with sequence number, section 3.9 of the book).
+/// The certified names, and the log of the released ones. A name is released once it and all lower
+/// numbers of its sender are certified (broadcast with sequence number, section 3.9 of the book).
 #[derive(Drop)]
 #[derive_where(Debug)]
 pub struct Fifo<A: Allocator = Global> {
@@ -38,7 +38,7 @@ impl<A: Allocator> Model for Fifo<A> {
     ghost invariant = { IsKept };
 }
 
-// That every configuration is within its limits: for proofs alone, since it does nothing.
+// States that every configuration is within its limits. It does nothing; only proofs use it.
 fn limits_of(config: Config)
     ensures { IsLimits config }
 {
@@ -46,7 +46,7 @@ fn limits_of(config: Config)
     let _cap = config.cap();
 }
 
-// What is left of a reservation once a name was added.
+// The reservation left once this name has been added.
 fn reserved_for(reserved: Option<Name>, name: Name) -> Option<Name>
     ensures { result ≡ reserved_for reserved name }
 {
@@ -63,7 +63,7 @@ fn are_same(first: &[Name], second: &[Name]) -> bool
 }
 
 #[tactic(auto, using(crate::proofs::Rows::row_next, crate::proofs::Rows::row_none))]
-// Appends the names of a sender behind one number, up to another.
+// Appends a sender's names with the numbers `from + 1` to `end`.
 fn release<A: Allocator>(log: &mut Vec<Name, A>, sender: NodeId, from: u32, end: u32)
     requires range { from ≤ end }
     requires room { vec_len log.old + (end - from) ≤ vec_capacity log.old }
@@ -80,7 +80,7 @@ fn release<A: Allocator>(log: &mut Vec<Name, A>, sender: NodeId, from: u32, end:
 }
 
 impl<A: Allocator + Copy> Fifo<A> {
-    /// Nothing is certified and nothing released.
+    /// Nothing is certified and nothing is released.
     pub fn new(alloc: A, config: Config) -> Fifo<A>
         ensures { result ≡ record { limits = config; certified = []; log = []; reserved = None } }
     {
@@ -93,7 +93,8 @@ impl<A: Allocator + Copy> Fifo<A> {
         }
     }
 
-    /// What always holds of the certified names and the log: for proofs alone, since it does nothing.
+    /// States what always holds of the certified names and the log. It does nothing; only proofs
+    /// use it.
     pub fn limits(&self)
         ensures { IsDelivery self.now }
     {
@@ -107,14 +108,14 @@ impl<A: Allocator + Copy> Fifo<A> {
         self.certified.has(name)
     }
 
-    /// The names that are released, in the order of their release.
+    /// The released names, in the order of their release.
     pub fn log(&self) -> &[Name]
         ensures { result.now ≡ self.now.log }
     {
         self.log.as_slice()
     }
 
-    /// How many names of a sender are released: they are its numbers 1, 2, 3, .. up to this one.
+    /// How many names of a sender are released: its numbers 1, 2, 3, .. up to this one.
     pub fn count(&self, sender: NodeId) -> u32
         ensures count { result ≡ length (part_of sender self.now.log) }
         ensures most { result ≤ self.now.limits.cap }
@@ -122,7 +123,8 @@ impl<A: Allocator + Copy> Fifo<A> {
         self.certified.reach(sender)
     }
 
-    /// The same names certified and released, with no room reserved. Its memory comes from `alloc`.
+    /// A copy with the same certified names and log, and no reservation. Its memory comes from
+    /// `alloc`.
     pub fn copy(&self, alloc: A) -> Result<Fifo<A>, NoMemory>
         ensures { IfOk result (λ copy. copy ≡ record self.now { reserved = None }) }
     {
@@ -138,7 +140,7 @@ impl<A: Allocator + Copy> Fifo<A> {
         })
     }
 
-    /// Whether both have the same names certified, and have released the same log.
+    /// Whether both have the same certified names and the same log.
     pub fn is_same(&self, other: &Fifo<A>) -> bool
         ensures { Decides result
             ((self.now.certified ≡ other.now.certified) × (self.now.log ≡ other.now.log)) }
@@ -146,7 +148,8 @@ impl<A: Allocator + Copy> Fifo<A> {
         self.certified.is_same(&other.certified) && are_same(&self.log, &other.log)
     }
 
-    // The number behind which names of a certificate's sender would be released by it, and the last that would be.
+    // The names of its sender that a certificate would release: those after the first number
+    // returned, up to the second.
     fn released_by(&self, certificate: Name) -> (u32, u32)
         requires sender { certificate.sender ≤ self.now.limits.n }
         requires seq { certificate.seq ≤ self.now.limits.cap }
@@ -161,9 +164,9 @@ impl<A: Allocator + Copy> Fifo<A> {
         (from, end)
     }
 
-    /// Makes room for a name of the group and for all that its certificate would release.
-    /// The room is promised until another name is certified or reserved. `NoMemory` means that a growth was refused: the
-    /// call may be made again.
+    /// Reserves space for a name of the group and for all names that its certificate would release.
+    /// The space is promised until another name is certified or reserved. `NoMemory` means that an
+    /// allocation was refused; the caller may make the call again.
     pub fn reserve(&mut self, name: Name) -> Result<(), NoMemory>
         requires sender { name.sender ≤ self.old.limits.n }
         requires seq { name.seq ≤ self.old.limits.cap }
@@ -177,21 +180,24 @@ impl<A: Allocator + Copy> Fifo<A> {
         Ok(())
     }
 
-    /// Certifies a name of the group, and says how many names are released by it: 0 where it was certified before.
-    /// `NoMemory` means that a growth was refused: the call may be made again.
+    /// Certifies a name of the group and returns how many names this releases: 0 if it was
+    /// certified before. `NoMemory` means that an allocation was refused; the caller may make the
+    /// call again.
     pub fn certify(&mut self, name: Name) -> Result<u32, NoMemory>
         requires sender { name.sender ≤ self.old.limits.n }
         requires seq { name.seq ≤ self.old.limits.cap }
         ensures ok { OnOk result (self.new ≡ certifying self.old name) }
         ensures count { IfOk result
             (λ released. length self.new.log ≡ length self.old.log + released) }
-        // Where the log is the release of certificates, it is now the release of these and the new one.
+        // If the log is the release of some certificates, it is now the release of these and the
+        // new one.
         ensures release { OnOk result ((older : List Label)
             → IsReleaseOf older self.old
             → IsReleaseOf (name ∷ older) self.new) }
         ensures err { OnErr result (self.new ≡ self.old) }
         ensures limits { self.new.limits ≡ self.old.limits }
-        // Want of memory comes only where the name is new, and never for the name for which room is reserved.
+        // `NoMemory` comes only if the name is new, and never for the name for which space is
+        // reserved.
         ensures again { has_name self.old.certified name ≡ true → IsOk result }
         ensures roomy { self.old.reserved ≡ Some name → IsOk result }
     {

@@ -1,5 +1,7 @@
-//! Release by sequence number (broadcast with sequence number, section 3.9 of the book): certified names go to the log once all
-//! lower numbers of their sender are there.
+//! Release by sequence number: a name joins the log once it and all lower ones are certified.
+//!
+//! This is broadcast with sequence number, section 3.9 of the book. The lower names are those of
+//! the same sender.
 //!
 //! ```text
 //! fifo.reserve(name)?;
@@ -7,7 +9,7 @@
 //! let log = fifo.log();
 //! ```
 //!
-//! A log only grows, at its end.
+//! A log only grows, and only at its end.
 #![tactic(auto)]
 
 mod fifo;

@@ -1,4 +1,4 @@
-//! Release of names in and out of order, refused growth, and certificates with room reserved for them.
+//! Names released in and out of order, refused allocations, and certificates with reserved space.
 
 ghost use Rattle.std.specs.Prelude.{◌≡◌, ◌<◌, ◌≤◌, IfSome};
 
@@ -11,18 +11,18 @@ use urb_refusing::Refusing;
 #[derive(Clone, Copy)]
 enum Step {
     Reserve(u8, u32),
-    /// Its certificate releases so many names.
+    /// Certifies the name, which releases this many names.
     Certify(u8, u32, u32),
 }
 
-/// Calls, and what is told then.
+/// Calls, and the expected state afterwards.
 #[derive(Clone, Copy)]
 struct Script<'a> {
     steps: &'a [Step],
-    /// Steps after these, which ask for no memory.
+    /// Steps after these, which must not allocate.
     calm: &'a [Step],
     log: &'a [(u8, u32)],
-    /// How many names of each sender are released.
+    /// The number of released names of each sender.
     counts: &'a [(u8, u32)],
 }
 
@@ -40,8 +40,8 @@ fn config() -> Option<Config>
     Config::new(3, 40)
 }
 
-// Reserves room for a name, and once more where a growth was refused, which has changed nothing then. Whether it was refused;
-// none where that is not so.
+// Reserves space for a name. If an allocation is refused, nothing has changed, and it tries again.
+// Returns whether it was refused, or `None` if that isn't so.
 fn reserve<A: Allocator + Copy>(fifo: &mut Fifo<A>, name: Name) -> Option<bool>
     requires sender { name.sender ≤ fifo.old.limits.n }
     requires seq { name.seq ≤ fifo.old.limits.cap }
@@ -61,7 +61,8 @@ fn reserve<A: Allocator + Copy>(fifo: &mut Fifo<A>, name: Name) -> Option<bool>
     }
 }
 
-// Certifies a name, in the same way. How many names it releases, and whether a call was refused.
+// Certifies a name, in the same way. Returns how many names it releases, and whether a call was
+// refused.
 fn certify<A: Allocator + Copy>(fifo: &mut Fifo<A>, certificate: Name) -> Option<(u32, bool)>
     requires sender { certificate.sender ≤ fifo.old.limits.n }
     requires seq { certificate.seq ≤ fifo.old.limits.cap }
@@ -80,7 +81,7 @@ fn certify<A: Allocator + Copy>(fifo: &mut Fifo<A>, certificate: Name) -> Option
     }
 }
 
-// Does a step for its name. Whether a call was refused; none where a number differs.
+// Performs a step for its name. Returns whether a call was refused, or `None` if a number differs.
 fn is_step_refused<A: Allocator + Copy>(fifo: &mut Fifo<A>, step: Step, name: Name) -> Option<bool>
     requires sender { name.sender ≤ fifo.old.limits.n }
     requires seq { name.seq ≤ fifo.old.limits.cap }
@@ -105,7 +106,7 @@ fn parts_of(step: Step) -> (u8, u32) {
     }
 }
 
-// Its name; none where it is none of the group.
+// The step's name, or `None` if the group has no such name.
 fn name_of(step: Step) -> Option<Name>
     ensures { IfSome result (λ name. (name.sender ≤ 3) × (name.seq ≤ 40)) }
 {
@@ -116,7 +117,7 @@ fn name_of(step: Step) -> Option<Name>
     name(sender, seq)
 }
 
-// Does steps, one after the other.
+// Performs steps one after the other.
 fn is_refused_in<A: Allocator + Copy>(fifo: &mut Fifo<A>, steps: &[Step]) -> Option<bool>
     requires { fifo.old.limits ≡ record { n = 3; cap = 40 } }
     ensures { fifo.new.limits ≡ fifo.old.limits }
@@ -129,7 +130,7 @@ fn is_refused_in<A: Allocator + Copy>(fifo: &mut Fifo<A>, steps: &[Step]) -> Opt
     Some(refused)
 }
 
-// Whether this is the log.
+// Whether the log has exactly these names.
 fn has_log<A: Allocator + Copy>(fifo: &Fifo<A>, names: &[(u8, u32)]) -> bool {
     let log = fifo.log();
     if log.len() != names.len() {
@@ -143,7 +144,7 @@ fn has_log<A: Allocator + Copy>(fifo: &Fifo<A>, names: &[(u8, u32)]) -> bool {
     true
 }
 
-// Whether each sender has so many released names, and the next is not certified.
+// Whether each sender has exactly this many released names, and its next name is not certified.
 fn has_counts<A: Allocator + Copy>(fifo: &Fifo<A>, counts: &[(u8, u32)]) -> bool {
     for (sender, count) in counts {
         match name(*sender, count.saturating_add(1)) {
@@ -154,7 +155,8 @@ fn has_counts<A: Allocator + Copy>(fifo: &Fifo<A>, counts: &[(u8, u32)]) -> bool
     true
 }
 
-// Plays a script. Whether a call was refused; none where something is otherwise.
+// Plays a script. Returns whether a call was refused, or `None` if the outcome is not the expected
+// one.
 fn is_refused<A: Allocator + Copy>(
     alloc: A,
     heap: &Refusing<Global>,
@@ -175,7 +177,8 @@ fn is_refused<A: Allocator + Copy>(
     }
 }
 
-// The same where the growth of this number is refused, and none at 0. Whether it was; none also where another call was refused.
+// The same with growth number `refused` refused; with 0 none is. Also `None` if another call was
+// refused.
 fn play(alloc: Global, refused: u64, script: Script) -> Option<bool> {
     let heap = Refusing::new(alloc, refused);
     let told = is_refused(&heap, &heap, script);
@@ -268,7 +271,7 @@ fn each_growth_may_be_refused(rt: HostRuntime) {
     assert!(rt; 2 <= most, "a growth was refused");
 }
 
-/// Orders of the numbers 1 to 40.
+/// An order of the numbers 1 to 40.
 #[derive(Clone, Copy)]
 enum Order {
     Rising,
@@ -276,7 +279,7 @@ enum Order {
     OddFirst,
 }
 
-// The certificate in this place of the order, from 0, and how many names it releases.
+// The certificate at this place of the order, from 0, and how many names it releases.
 fn step_in(order: Order, place: u32) -> Step
     requires { place < 40 }
 {

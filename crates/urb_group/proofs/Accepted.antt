@@ -44,7 +44,7 @@ module _ (w : World) (kept : NodesKept w) (p : ℕ) (m : Content) (x : Label) wh
   abbrev test : Content → Bool
   test = is_numbered m.client m.number
 
-  -- where the outcome accepts x, the message is stored under it
+  -- if the outcome accepts x, the message is stored under it
   abbrev OnlyStored : Reply × Node → Type 0
   OnlyStored outcome = outcome.0 ≡ Same (Accepted x) → HasStored w p x m
 
@@ -94,7 +94,7 @@ same_record-true (Cert x) (PendCert y o) h = absurd (false≢true h)
 same_record-true (Cert x) (Cert y) h = ap Cert (same_name-true x y h)
 
 module _ (w : World) (p position : ℕ) (entry : Entry) (told : Done) where
-  -- where the outcome stores an own record, its message is stored under the name that is told
+  -- if the outcome stores an own record, its message is stored under the name in the reply
   abbrev OnlyOwn : Reply × World → Type 0
   OnlyOwn outcome = outcome.0 ≡ Stored told → told.accepted ≡ true → StoresOwn outcome.1 p entry told
 

@@ -1,4 +1,4 @@
--- Acts of lists of events behind one another; and events that proceed don't disturb.
+-- Acts of lists of events, one list after another. Events that proceed don't disturb.
 use Rattle.std.proofs.Common.{Err, List, None, Ok, Result, Some, [], ap, append_assoc, refl, subst, sym, ℕ, ◌&&◌, ◌+◌, ◌++◌, ◌==◌, ◌∙◌, ◌∷◌, ◌≡◌}
 use Rattle.std.proofs.lemmas.Bool.{cond_both}
 use Rattle.urb_group.proofs.Plans.{after-none}

@@ -35,7 +35,7 @@ ticks-arrival p (Ok packet) (WentDown q) rest = refl
 ticks-arrival p (Ok packet) (Up q) rest = refl
 ticks-arrival p (Ok packet) (Refused r) rest = refl
 
--- how often the event is a tick of p, added to this number
+-- this count, plus one if the event is a tick of p
 abbrev plus_tick : ℕ → Event → ℕ → ℕ
 plus_tick p event count = if is_tick_of p event then suc count else count
 
@@ -86,7 +86,7 @@ module _ (packet : Carried) where
   arrival-or-later (Ok other) (Up q) rest h = inr h
   arrival-or-later (Ok other) (Refused r) rest h = inr h
 
-  -- the event is its arrival at its target, or it comes later
+  -- the event is the packet's arrival at its target, or the packet arrives later
   first-or-later : (w : World) (event : Event) (rest : List Act) → IsDone (step w event).0 → DoesArrive packet (act_of event (step w event).0 ++ rest)
       → (event ≡ Arrive packet.target (Ok packet)) ⊎ DoesArrive packet rest
   first-or-later w (Submit q m) rest d h = inr (skip-disturbance (step w (Submit q m)).0 rest h)
@@ -100,7 +100,7 @@ module _ (packet : Carried) where
   first-or-later w (Crash q) rest d h = inr (skip-disturbance (step w (Crash q)).0 rest h)
   first-or-later w (Restart q image) rest d h = inr (skip-disturbance (step w (Restart q image)).0 rest h)
 
-  -- what counts as arriving arrives among the events
+  -- a packet whose arrival counts arrives among the events
   pub does-arrive : (events : List Event) (w : World) → Proceeds w events → DoesArrive packet (acts_of w events) → IsAmong (Arrive packet.target (Ok packet)) events
   does-arrive [] w g h = subst (DoesArrive packet) (acts-none w) h
   does-arrive (event ∷ events) w g h =
@@ -110,7 +110,8 @@ module _ (packet : Carried) where
 -- ---- what ticks send
 
 module _ (among : ℕ → Bool) where
-  -- what a tick of one of these nodes hands out to another arrives among the events behind it
+  -- what a tick of one of these nodes hands out to another of them arrives among the events behind
+  -- it
   abbrev pub SentArrive : List Carried → List Event → Type 0
   SentArrive packets events = AllByRecursion (λ packet. (among packet.source && among packet.target) ≡ true → IsAmong (Arrive packet.target (Ok packet)) events) packets
 

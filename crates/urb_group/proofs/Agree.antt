@@ -1,4 +1,5 @@
--- Of what two nodes deliver from one sender one begins the other; and what is delivered only grows at its end.
+-- Take what two nodes deliver from one sender: one list begins the other. What is delivered only
+-- grows at its end.
 use Rattle.std.proofs.Common.{List, Option, Some, [], ap, ap₂, arith, inl, inr, length, length-append, length-take, map, refl, subst, suc, sym, take, true, zero, ℕ, ⊎_elim, ◌++◌, ◌∙◌, ◌∷◌, ◌≡◌, ◌≤◌}
 use Rattle.std.proofs.lemmas.Bool.{cases_lt, or_left, or_right}
 use Rattle.std.proofs.lemmas.List.{length-map, take-append-le}
@@ -152,7 +153,8 @@ module _ (w : World) (safe : Safe w) (p : ℕ) (behind : List Entry) (begins : B
   messages-stay (x ∷ xs) h =
       ap₂ (λ (m : Option Content) (es : List (Label × Option Content)). (x, m) ∷ es) (message-stays x (h x (or_left (same_name x x) _ (same_name-same x)))) (messages-stay xs (λ y e. h y (or_right (same_name x y) _ e)))
 
-  -- a safe node's log, its names with their messages, begins that of any records that begin with its own
+  -- a safe node's log, its names with their messages, begins the log of any records that begin with
+  -- its own
   pub entries-begin : Begins (entries (stored w p)) (entries behind)
   entries-begin =
       subst (λ (es : List (Label × Option Content)). Begins es (entries behind)) (messages-stay (log (stored w p)) (λ x h. h))

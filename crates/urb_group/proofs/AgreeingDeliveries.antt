@@ -1,4 +1,4 @@
--- What the nodes of a sound group have delivered agrees.
+-- The deliveries of a sound group's nodes agree.
 use Rattle.std.proofs.Common.{Bool, List, Option, [], ap, arith, cond, eq-eqb, false, filter, inl, inr, le-ltb, length, lt-ltb, map, nat_lt, ne_eqb, refl, subst, suc, sym, true, zero, ℕ, ⊎_elim, ◌+◌, ◌<◌, ◌==◌, ◌^◌, ◌∙◌, ◌∷◌, ◌≡◌, ◌≤◌, ◌⊎◌}
 use Rattle.std.proofs.lemmas.Bool.{and_parts, cases_eq, cases_lt, or_left, or_right}
 use Rattle.std.proofs.lemmas.List.{length-map}
@@ -81,7 +81,7 @@ module _ (group : GroupView) (sound : IsSound group) where
 
 -- ---- a log is short
 
--- so many numbers of at most this size come to
+-- the sum of n numbers of at most this size
 abbrev times : ℕ → ℕ → ℕ
 times zero c = 0
 times (suc n) c = times n c + c

@@ -1,4 +1,5 @@
--- What one world of a group keeps, each world that the group shows keeps; and a step keeps a group sound.
+-- What one world of a group keeps, each world that the group shows keeps. A step keeps a group
+-- sound.
 use Rattle.std.proofs.Common.{Bool, List, None, Option, Some, [], ap, ap₂, cond, false, is_none, is_some, not, refl, subst, suc, sym, true, ℕ, ⊎_elim, ◌&&◌, ◌++◌, ◌==◌, ◌∙◌, ◌∷◌, ◌≡◌}
 use Rattle.urb_group.proofs.Runs.{step-keeps}
 use Rattle.urb_group.proofs.ShortPayloads.{step-short}
@@ -23,7 +24,7 @@ use Rattle.urb_stable.specs.Records.{cert, pend}
 use Rattle.urb_stable.specs.declared.record.Record.TheVariants.{Cert, Pend, PendCert}
 use Rattle.urb_node.specs.declared.cause.Cause.{Cause}
 
--- the two are as one for what a group holds in memory
+-- the two don't differ in what a group holds in memory
 pub record Alike (size : Limits) (p : ℕ) (a b : Node) : Type 0 where
   pub pairs : (x : Label) (m : Content) → has_pair (pend a.records) x m ≡ has_pair (pend b.records) x m
   pub certified : (x : Label) → has_name (cert a.records) x ≡ has_name (cert b.records) x
@@ -128,7 +129,7 @@ module _ (size : Limits) (node new : ℕ → Node) (alike : (p : ℕ) → Alike 
 
 -- ---- payloads
 
--- of the one as of the other the payloads are within the limit
+-- if the payloads of the one node are within the limit, so are those of the other
 alike-short : (size : Limits) (p : ℕ) (old new : Node) → Alike size p old new → NodeShort old → NodeShort new
 alike-short size p old new alike short =
     record {

@@ -1,4 +1,4 @@
--- What the node in one place answers is what the group answers of every world that it shows.
+-- What the node in one place answers is what the group answers in every world that it shows.
 use Rattle.std.proofs.Common.{Bool, List, None, Option, Some, arith, cond, false, is_some, length, option_map, refl, slice_index_or, subst, suc, sym, true, ℕ, ◌&&◌, ◌<◌, ◌∙◌, ◌≡◌}
 use Rattle.std.proofs.lemmas.Bool.{cond-false, cond-true}
 use Rattle.std.proofs.lemmas.Option.{slice_get_read}
@@ -12,7 +12,7 @@ use Rattle.urb_group.specs.declared.places.Node.{Node as Place}
 use Rattle.urb_group.proofs.Lifting.{place_shows}
 use Rattle.urb_group.proofs.Shows.{is-node, no-node}
 
--- what stands in a place, by its index
+-- the item in a place, by its index
 pub was_read : {X : Type 0} (xs : List X) (i n : ℕ) (x : X) → length xs ≡ n → i < n → x ≡ slice_index_or xs i x → slice_get xs i ≡ Some x
 was_read xs i n x e low at = let within : i < length xs = omega (arith, e) in slice_get_read _ _ _ _ refl within at
 

@@ -32,7 +32,7 @@ module _ (size : Limits) (images : ℕ → List Entry) (all : AllKept size image
   abbrev with_record : Entry → ℕ → List Entry
   with_record r = updated images p (records ++ r ∷ [])
 
-  -- what a node holds it holds when the record has joined
+  -- what a node holds, it still holds when the record has joined
   with_record-grows : (r : Entry) → Grows images (with_record r)
   with_record-grows r i y o = at (i == p) refl
     where
@@ -49,7 +49,7 @@ module _ (size : Limits) (images : ℕ → List Entry) (all : AllKept size image
     other_a : (in_range size x && is_none (message_of (pend records) x)) ≡ true
     other_a = and_from (in_range size x) _ ranges (ap is_none none)
 
-    -- its sender would hold it
+    -- otherwise its sender would hold it
     not_own : (x.sender == p) ≡ true → ⊥
     not_own e =
         no_pair (pend records) x m none
@@ -145,7 +145,7 @@ leads-arrives size images all p q x m flags node e k t =
     found : is_none (message_of (pend node.records) x) ≡ false → (o : Content) × (message_of (pend node.records) x ≡ Some o)
     found h = some_found (message_of (pend node.records) x) (not-false (is_some (message_of (pend node.records) x)) h)
 
-    -- the node with other certificates heard, and these counted
+    -- the node, with other certificates heard and these nodes counted
     told_kept : (acks heard : List (Label × ℕ)) → AcksKept images node.records acks → NodeKept size images p (told_node node acks heard)
     told_kept acks heard after = record { kept = k.kept; state = k.state; acks = after; broadcast = k.broadcast }
 
@@ -159,7 +159,7 @@ leads-arrives size images all p q x m flags node e k t =
         (λ _. leads-same size images p (Same (Again x), told_node node (with_ack node.acks x q) heard) e kept tt)
         (λ _. leads-same size images p (Same (Noted x), told_node node (with_ack node.acks x q) heard) e kept tt))
 
-    -- the answer is of the pair that is stored here, and of its certificate
+    -- the answer is about the pair that is stored here, and its certificate
     certified : has_name (cert node.records) x ≡ true → (o : Content) × (message_of (pend node.records) x ≡ Some o) → (flags : Option Flags) (heard : List (Label × ℕ))
         → Leads size images p (answers p q x m flags (record node { heard = heard }))
     certified c o None heard = leads-same size images p (Same (Again x), told_node node node.acks heard) e (told_kept node.acks heard k.acks) tt

@@ -1,4 +1,4 @@
--- What an arrival at a ready node may lead to, whatever was counted and heard before.
+-- The cases of an arrival at a ready node, whatever was counted and heard before.
 use Rattle.std.proofs.Common.{Bool, List, None, Option, Some, false, is_none, not, true, ℕ, ◌==◌, ◌||◌, ◌≡◌}
 use Rattle.std.proofs.lemmas.Bool.{cond_both}
 use Rattle.urb_names.specs.Acknowledged.{acked, with_ack}
@@ -17,7 +17,7 @@ use Rattle.urb_node.specs.declared.cause.Cause.{Cause}
 use Rattle.urb_stable.specs.Records.{cert, pend}
 use Rattle.urb_stable.specs.declared.record.Record.TheVariants.{Cert, Pend, PendCert}
 
--- what holds whichever certificates were heard holds once one was
+-- what holds for all certificates that may have been heard, holds once one was heard
 pub any-heard : (P : Node → Type 0) (q : ℕ) (x : Label) (flags : Option Flags) (node : Node) → ((heard : List (Label × ℕ)) → P (record node { heard = heard })) → P (hears q x flags node)
 any-heard P q x flags node h = cond_both (says_certified flags) _ _ P (λ _. h (with_ack node.heard x q)) (λ _. h node.heard)
 
@@ -25,7 +25,8 @@ any-heard P q x flags node h = cond_both (says_certified flags) _ _ P (λ _. h (
 abbrev pub told_node : Node → List (Label × ℕ) → List (Label × ℕ) → Node
 told_node node acks heard = record node { acks = acks; heard = heard }
 
--- The pair is drafted, with or without a certificate of it; or a certificate is; or it is answered at once.
+-- The pair is drafted, with or without a certificate of it. Or only a certificate is drafted. Or
+-- the packet is answered at once.
 pub arrive-cases : (P : Reply × Node → Type 0) (size : Limits) (p q : ℕ) (x : Label) (m : Content) (flags : Option Flags) (node : Node)
     → ((cause : Option Cause) → P (drafts node (Pend x m) cause)) → ((cause : Option Cause) → P (drafts node (PendCert x m) cause))
     → ((acks heard : List (Label × ℕ)) (cause : Option Cause) → P (drafts (told_node node acks heard) (Cert x) cause))

@@ -34,7 +34,7 @@ longer : {S : Type 0} (xs : List S) (x : S) → length (xs ++ x ∷ []) ≡ suc 
 longer [] x = refl
 longer (y ∷ xs) x = ap suc (longer xs x)
 
--- what stands behind some elements, and what is put there
+-- the item after some elements, and the item that is put there
 read-behind : {S : Type 0} (xs ys : List S) (y d : S) → slice_index_or (xs ++ y ∷ ys) (length xs) d ≡ y
 read-behind [] ys y d = refl
 read-behind (x ∷ xs) ys y d = read-behind xs ys y d
@@ -54,13 +54,13 @@ next-of [] [] less = absurd (omega arith)
 next-of [] (y ∷ ys) less = record { next = y; rest = ys; is = refl }
 next-of (x ∷ gave) later less = next-of gave later (omega (arith, less))
 
--- none is left behind the last one
+-- nothing is left behind the last one
 none-behind : {S : Type 0} (gave later : List S) → length (gave ++ later) ≤ length gave → later ≡ []
 none-behind [] [] less = refl
 none-behind [] (y ∷ ys) less = absurd (omega arith)
 none-behind (x ∷ gave) later less = none-behind gave later (omega (arith, less))
 
--- one more element, each taken so
+-- a map of one more element
 pub map-more : {T U : Type 0} (f : T → U) (xs : List T) (x : T) → map f (xs ++ x ∷ []) ≡ map f xs ++ f x ∷ []
 map-more f [] x = refl
 map-more f (y ∷ xs) x = ap (λ zs. f y ∷ zs) (map-more f xs x)
@@ -69,7 +69,7 @@ module _ {S A : Type 0} (g : Ghosts S A) (stores now : List S) (images : List (L
   within : index < length now → length h.gave < length (h.gave ++ h.later)
   within less = subst (λ (n : ℕ). n < length (h.gave ++ h.later)) (sym h.count) (subst (λ (xs : List S). index < length xs) h.are less)
 
-  -- where the next store stands, and what is read there
+  -- the place of the next store, and what is read there
   is-next : (before : S) → index < length now → before ≡ slice_index_or now index before → (rest : List S) × (h.later ≡ before ∷ rest)
   is-next before less read =
       let next = next-of h.gave h.later (within less) in
@@ -96,7 +96,7 @@ module _ {S A : Type 0} (g : Ghosts S A) (stores now : List S) (images : List (L
         are = put-next before after next.0 next.1 ∙ moved h.gave next.0 after;
       }
 
-  -- it answered a fault
+  -- the next store answered with a fault
   pub next-fails : (before after : S) (fault : StoreFault) → index < length now → before ≡ slice_index_or now index before → Gives g (slice_index_or now index before) (Err fault) after → FirstFails g stores fault (slice_set now index after)
   next-fails before after fault less read gives =
       let next = is-next before less read in
@@ -113,7 +113,7 @@ module _ {S A : Type 0} (g : Ghosts S A) (stores now : List S) (images : List (L
         are = put-next before after next.0 next.1;
       }
 
-  -- all were asked
+  -- all stores were asked
   pub all-asked : length now ≤ index → AllGive g stores images now
   all-asked most =
       let none : h.later ≡ [] = none-behind h.gave h.later (subst (λ (xs : List S). length xs ≤ length h.gave) h.are (subst (λ (n : ℕ). length now ≤ n) (sym h.count) most)) in

@@ -1,5 +1,5 @@
--- A world beside a cluster: its group shows it, and something holds of each of its nodes and that node's store. What a command
--- keeps of it.
+-- A world beside a cluster, and what a command keeps of it. The cluster's group shows the world,
+-- and something holds of each of its nodes and that node's store.
 use Rattle.std.proofs.Common.{Bool, Err, List, None, Ok, Option, Result, Some, [], ap, arith, false, inl, inr, length, refl, subst, suc, sym, true, zero, ℕ, ◌&&◌, ◌-◌, ◌<◌, ◌∙◌, ◌∷◌, ◌≡◌, ◌≢◌, ◌⊎◌, ⊎_elim, ◌++◌, ne_eqb}
 use Rattle.std.specs.Prelude.{slice_get, slice_set}
 use Rattle.std.proofs.lemmas.Bool.{and_parts, false≢true}
@@ -34,8 +34,9 @@ pub record Beside {S : Type 0} (P : Node → S → Type 0) (cluster : Clustered 
   pub shows : Shows cluster.group world
   pub stores : (i : ℕ) (store : S) → slice_get cluster.stores i ≡ Some store → P (world.node (suc i)) store
 
--- What lasts of a node and its store whatever happens, as far as the store answers as stores do: where the node stays, where the
--- store took its draft, and where it didn't, where the store gave its records, and where it didn't.
+-- What lasts of a node and its store whatever happens, as far as the store answers as stores do.
+-- The cases: the node stays; the store took its draft, or didn't; the store gave its records, or
+-- didn't.
 pub record Lasts {S A : Type 0} (g : Ghosts S A) (P : Node → S → Type 0) : Type 0 where
   pub stays : (old new : Node) (store : S) → Stays old new → P old store → P new store
   pub took : (node new : Node) (before after : S) (draft : Placed) → Keeps g before draft (Ok tt) after → P node before → is_down node.state ≡ false → new.records ≡ node.records ++ draft.entry ∷ [] → new.state ≡ Ready → P new after
@@ -60,7 +61,7 @@ reacts-either old new event (Refused r) h = inr h.1
 pub one-store : {S : Type 0} {a b : S} (stores : List S) (i : ℕ) → slice_get stores i ≡ Some a → slice_get stores i ≡ Some b → a ≡ b
 one-store stores i e f = cc
 
--- what stands at a place of a list in which one place was set
+-- the item at a place of a list in which one place was set
 pub set-cases : {X : Type 0} (xs : List X) (j : ℕ) (y : X) (i : ℕ) (x : X) → slice_get (slice_set xs j y) i ≡ Some x → ((i ≡ j) × (x ≡ y)) ⊎ ((i ≢ j) × (slice_get xs i ≡ Some x))
 set-cases [] j y i x e = cc
 set-cases (z ∷ xs) zero y zero x e = (let f : y ≡ x = cc in inl (refl, sym f))
@@ -122,7 +123,7 @@ module _ {S : Type 0} (P : Node → S → Type 0) where
           let apart : suc i ≢ event_node event = λ f. e.0 (omega (arith, f, here)) in
           subst (λ (node : Node). P node s) (sym (step-elsewhere h.world event (suc i) (ne_eqb (suc i) (event_node event) apart))) (h.stores i s e.1)
 
-  -- the same world, where the event was refused
+  -- the same world, if the event was refused
   same-beside : (old new : Clustered S) (p : ℕ) (before after : S) → 0 < p → StoreMoves old.stores p before after new.stores → new.group ≡ old.group
       → (h : Beside P old) → P (h.world.node p) after → Beside P new
   same-beside old new p before after positive moves e h store =
@@ -156,7 +157,7 @@ module _ {S : Type 0} (P : Node → S → Type 0) where
       (left (h.world.node draft.node) ((step h.world (Fail draft.node)).1.node draft.node) (store-before old draft.node before h held.positive moves.was) (ap is_down held.storing) node.0 node.1)
 
 module _ {S A : Type 0} (g : Ghosts S A) (P : Node → S → Type 0) (rules : Lasts g P) where
-  -- an event by which no record joins a list, and no store was asked
+  -- an event that adds no record to a list, and for which no store was asked
   pub quiet-beside : (old new : Clustered S) (event : Event) (reply : Reply) → IsQuiet event → Alone old event reply new → Beside P old → Beside P new
   quiet-beside old new event reply quiet alone h = ⊎_elim happened (λ same. stays-beside P old new same alone.1 h) (reacts-either old.group new.group event reply alone.0)
     where
@@ -187,7 +188,7 @@ module _ {S A : Type 0} (g : Ghosts S A) (P : Node → S → Type 0) (rules : La
   held-beside old new p reply None e alone h = quiet-beside old new (Fail p) reply tt alone h
   held-beside old new p reply (Some draft) e stores h = stored-beside old new p draft reply e stores h
 
-  -- ---- a store was to give its records
+  -- ---- a store was asked for its records
 
   asked-beside : (old new : Clustered S) (p : ℕ) (reply : Reply) → is_fallen old.group p ≡ true → AsksStore g old p reply new → Beside P old → Beside P new
   asked-beside old new p reply fallen asks h = at asks.reads.answer asks.reads.gives asks.reads.returns

@@ -20,7 +20,7 @@ use Rattle.urb_stable.specs.declared.memory.Failure.TheVariants as failure
 use Rattle.urb_stable.specs.declared.stable.StoreFault.{StoreFault}
 use Rattle.urb_stable.specs.declared.stable.StoreFault.TheVariants as fault
 
--- what an armed store in memory says by its cases is what it leaves
+-- an armed store in memory leaves what its cases say
 pub breaks-so : (out : Bool) (how : Failure) (m : Memory) (entry : Entry) (after : Memory) (answer : Result (Unit {0}) StoreFault)
     → (out ≡ true → after ≡ m)
     → (out ≡ false → how ≡ failure.Old → m.failures < 2 ^ 64 - 1 → (answer ≡ Err fault.Device) × (after ≡ after_failure None m))
@@ -49,7 +49,7 @@ none-opened group size images p s =
     cond_both (is_node group.size.n p) (held_in (view_of group p).state p (view_of group p).count) None (λ (d : Option Placed). d ≡ None)
     (λ _. ap (λ (t : State). held_in t p (view_of group p).count) (s.nodes p).state) (λ _. refl)
 
--- in what is opened from images every node is ready, so no draft is held
+-- every node of a world that is opened from images is ready, so no draft is held
 pub opened-tied : (group : GroupView) (size : Limits) (images : ℕ → List Entry) (stores : ℕ) (drafts : List (Option Placed)) → IsSound group → Shows group (opened size images) → stores ≡ size.n → drafts ≡ replicate size.n None
     → IsTied group stores drafts
 opened-tied group size images stores drafts sound s count e =

@@ -65,7 +65,7 @@ step-size w (Fail p) = at_node-size w p _
 step-size w (Crash p) = at_node-size w p _
 step-size w (Restart p image) = at_node-size w p _
 
--- ---- who is told of an event
+-- ---- which node an event concerns
 
 -- an event at no node of the group is refused
 abbrev IsAt : World → ℕ → Reply × World → Type 0
@@ -73,8 +73,9 @@ IsAt w p outcome = (is_node w.size.n p ≡ true) ⊎ ((r : Refusal) × (outcome.
 
 -- ---- the node itself
 
--- by the reply, whether a node held a draft before and after: where it answers at once or sends, it held none and holds none;
--- where its draft is stored, or it goes down or comes up, it holds none
+-- By the reply: whether a node held a draft before, and holds one after. If it answers at once or
+-- sends, it held no draft and holds none. If its draft is stored, or it goes down or comes up, it
+-- holds none.
 abbrev pub CalmAs : Reply → Bool → Bool → Type 0
 CalmAs (Drafted x position) before after = Unit {0}
 CalmAs (Same answer) before after = (before ≡ false) × (after ≡ false)
@@ -154,7 +155,7 @@ bytes-calm w p (Ok packet) =
     cond_both (is_for w p packet) (at_node w p (packet_arrives w p packet)) (Refused refusal.BadNode, w) (CalmWorld w p)
     (λ _. calm_after w p (packet_arrives w p packet) (packet-calm w p packet)) (λ _. tt)
 
--- what the reply tells of the drafts of the event's node
+-- what the reply says of the drafts of the event's node
 pub step-calm : (w : World) (event : Event) → CalmAs (step w event).0 (is_storing (w.node (event_node event)).state) (is_storing ((step w event).1.node (event_node event)).state)
 unfolding step
 step-calm w (Submit p m) = calm_after w p _ (submit-calm w.size p m (w.node p))

@@ -1,5 +1,5 @@
--- A packet that was sent arrives at its ready target, and the record that it may draft is stored: the target knows the name then,
--- and has counted the packet's source or certified the name.
+-- A packet that was sent arrives at its ready target, and the record that it may draft is stored.
+-- The target then knows the name, and has counted the packet's source or certified the name.
 use Rattle.std.proofs.Common.{List, Ok, Option, [], ap, eq-eqb, eqb-true, false, not, refl, subst, sym, true, ℕ, ⊎_elim, ◌&&◌, ◌==◌, ◌∙◌, ◌∷◌, ◌≡◌}
 use Rattle.std.proofs.lemmas.Bool.{and_from, cases_Bool, cond-false, cond-true, false≢true, not_from_true}
 use Rattle.std.specs.List.{AllByRecursion}
@@ -82,7 +82,8 @@ stores-reaches u q node (Storing entry cause) e f up is =
 
 -- ---- a packet arrives
 
--- a packet that may be carried: it was sent and tells the truth, between nodes, of a name of a node
+-- a packet that may be carried: it was sent and is truthful, goes between nodes, and has a node's
+-- name
 pub record Carriable (w : World) (packet : Carried) : Type 0 where
   pub source : is_node w.size.n packet.source ≡ true
   pub target : is_node w.size.n packet.target ≡ true
@@ -209,7 +210,7 @@ carrying =
       after = told-stays;
     }
 
--- packets that may be carried are carried one after the other, and each target is told
+-- packets that may be carried are carried one after the other, and each target hears of its packet
 pub all-carried : (packets : List Carried) (w : World) → Calm w → AllByRecursion (Carriable w) packets
     → Reaches (λ v. Calm v × Onward w v × AllByRecursion (λ packet. IsToldBy packet v) packets) w (each carries packets w)
 all-carried packets w calm h = reaches-each carries Calm Onward (λ packet v. Carriable v packet) (λ packet v. IsToldBy packet v) carrying packets w calm h

@@ -1,5 +1,5 @@
--- A node that has certified each name of a sender up to some number has delivered them; and one that has certified all names has
--- delivered all.
+-- If a node has certified each name of a sender up to some number, it has delivered them. If it has
+-- certified all names, it has delivered all.
 use Rattle.std.proofs.Common.{List, Option, Some, [], ap, arith, eqb-true, false, is_some, length, map, refl, slice_get, suc, sym, take, true, zero, ℕ, ⊎_elim, ◌&&◌, ◌+◌, ◌<◌, ◌==◌, ◌∙◌, ◌∷◌, ◌≡◌, ◌≤◌}
 use Rattle.std.proofs.lemmas.Bool.{and_parts, cases_lt, false≢true, or_cases}
 use Rattle.std.proofs.lemmas.List.{length-map}

@@ -1,4 +1,5 @@
--- All nodes come back: a held record is stored, and a node that is down restarts with what its storage holds.
+-- All nodes come back: a held record is stored, and a node that is down restarts with what its
+-- storage holds.
 use Rattle.std.proofs.Common.{Bool, List, None, Option, Some, [], ap, eq-eqb, false, length, refl, subst, sym, true, ℕ, ⊎_elim, ◌++◌, ◌∙◌, ◌∷◌, ◌≡◌}
 use Rattle.std.proofs.lemmas.Bool.{and_from, and_parts, cond-true, cond_both, false≢true, or_cases, or_left, or_right}
 use Rattle.std.specs.List.{list_all}
@@ -73,7 +74,7 @@ whole-joined records r w h x m k =
 
 -- ---- a node comes up
 
--- it is ready then; and where it is whole, so is what it has stored
+-- it is ready then; and if it was whole, so is what it has stored
 pub record Up (old : Node) (outcome : Reply × Node) : Type 0 where
   pub done : IsDone outcome.0
   pub ready : outcome.1.state ≡ Ready
@@ -106,7 +107,7 @@ back-still w s = record { size = refl; ready = λ p h. h; whole = λ h. h }
 back-further : (u v w : World) → Back u v → Back v w → Back u w
 back-further u v w a b = record { size = b.size ∙ a.size; ready = λ p h. b.ready p (a.ready p h); whole = λ h. b.whole (a.whole h) }
 
--- node p became ready, and is whole where it was
+-- node p became ready, and is whole if it was whole
 moved-back : (w : World) (p : ℕ) (node : Node) (v : World) → Moved w p node v → node.state ≡ Ready → (w.size.n ≡ 1 → Whole (stored w p) → Whole node.records) → Back w v × ((v.node p).state ≡ Ready)
 moved-back w p node v moved ready whole = (
   record {

@@ -1,4 +1,4 @@
--- A store that succeeded or failed, a crash and a restart keep what all nodes keep.
+-- A store that succeeded or failed, a crash and a restart all keep what all nodes keep.
 use Rattle.std.proofs.Common.{List, None, Option, Some, [], ℕ, ◌&&◌, ◌++◌, ◌==◌, ◌∷◌, ◌≡◌}
 use Rattle.std.proofs.lemmas.Bool.{cond_both, false≢true}
 use Rattle.urb_group.proofs.Drafting.{leads-refuses}

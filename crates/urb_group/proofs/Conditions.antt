@@ -15,7 +15,7 @@ use Rattle.urb_stable.specs.Entries.{Entry}
 use Rattle.urb_stable.specs.Fitting.{Fits, KeepsOwn}
 use Rattle.urb_stable.specs.Records.{pend}
 
--- a pair that one node holds may come to each other
+-- a pair that one node holds may come to any other
 pub arrival-meets : (group : GroupView) → IsSound group → (p q : ℕ) (x : Label) (m : Content) → has_pair (view_of group q).pairs x m ≡ true → MayArrive group.size p (view_of group p).pairs x m
 arrival-meets group sound p q x m h =
     let range = and_parts (nat_lt x.sender (suc w.size.n)) (nat_lt x.seq (suc w.size.cap)) (kept-range w.size (stored w) q (stored w q) (all q) x m there) in
@@ -37,6 +37,6 @@ arrival-meets group sound p q x m h =
     there : has_pair (pend (stored w q)) x m ≡ true
     there = sym ((sound.shows.nodes q).pairs x m) ∙ h
 
--- each of the images that fit keeps the rules about its own
+-- each of the images that fit keeps the rules about its own pairs
 pub fitting-own : (limits : Limits) (images : List (List Entry)) → AreImages limits images → Fits limits (image_of images) → (p : ℕ) → KeepsOwn limits p [] (image_of images p)
 fitting-own limits images are fits p = kept-own limits (image_of images) p [] (image_of images p) (fitting-kept limits images are.one_each fits p)

@@ -12,7 +12,7 @@ use Rattle.urb_node.specs.declared.cause.Cause.{Cause}
 
 -- ---- one node more
 
--- who is counted stays counted
+-- a node that is counted stays counted
 pub acked-stays : (acks : List (Label × ℕ)) (x : Label) (q : ℕ) (y : Label) (z : ℕ) → acked acks y z ≡ true → acked (with_ack acks x q) y z ≡ true
 acked-stays acks x q y z h = cond_both (acked acks x q) acks ((x, q) ∷ acks) (λ a. acked a y z ≡ true) (λ _. h) (λ _. or_right (same_name x y && (q == z)) (acked acks y z) h)
 
@@ -22,7 +22,7 @@ acked-itself acks x q =
     cond_both (acked acks x q) acks ((x, q) ∷ acks) (λ a. acked a x q ≡ true) (λ h. h)
     (λ _. or_left (same_name x x && (q == q)) (acked acks x q) (and_from (same_name x x) (q == q) (same_name-same x) (eq-eqb q q refl)))
 
--- who is counted was counted before, or is that node
+-- a node that is counted was counted before, or is the new one
 pub acked-cases : (acks : List (Label × ℕ)) (x : Label) (q : ℕ) (y : Label) (z : ℕ) → acked (with_ack acks x q) y z ≡ true → (acked acks y z ≡ true) ⊎ ((x ≡ y) × (q ≡ z))
 acked-cases acks x q y z = cond_both (acked acks x q) acks ((x, q) ∷ acks) (λ a. acked a y z ≡ true → (acked acks y z ≡ true) ⊎ ((x ≡ y) × (q ≡ z))) (λ _ h. inl h) (λ _ h. new h)
   where
@@ -33,12 +33,12 @@ acked-cases acks x q y z = cond_both (acked acks x q) acks ((x, q) ∷ acks) (λ
 
 -- ---- a record that is stored
 
--- who is counted stays so when the causing node is
+-- a node that is counted stays so when the causing node is counted
 pub cause-stays : (acks : List (Label × ℕ)) (x : Label) (cause : Option Cause) (y : Label) (z : ℕ) → acked acks y z ≡ true → acked (with_cause acks x cause) y z ≡ true
 cause-stays acks x None y z h = h
 cause-stays acks x (Some cause) y z h = acked-stays acks x cause.source y z h
 
--- a certificate heard was heard before, or is that of the causing node
+-- a certificate that is heard was heard before, or belongs to the causing node
 pub heard-cases : (heard : List (Label × ℕ)) (x : Label) (node : Option ℕ) (y : Label) (z : ℕ) → acked (with_heard heard x node) y z ≡ true → (acked heard y z ≡ true) ⊎ ((x ≡ y) × (node ≡ Some z))
 heard-cases heard x None y z h = inl h
 heard-cases heard x (Some q) y z h = ⊎_elim (λ e. inl e) (λ e. inr (e.0, some_same e.1)) (acked-cases heard x q y z h)

@@ -1,5 +1,5 @@
--- What a node has counted, with the record that it holds taken as stored, through events that are quiet and not refused; and that
--- a packet that arrives is counted.
+-- What a node has counted, through events that are quiet and not refused. The record that it holds
+-- is taken as stored. A packet that arrives is counted.
 use Rattle.std.proofs.Common.{Err, List, Ok, Option, [], ap, eqb-true, false, is_some, not, refl, subst, sym, true, ℕ, ⊎_elim, ◌&&◌, ◌++◌, ◌==◌, ◌∙◌, ◌∷◌, ◌≡◌}
 use Rattle.std.proofs.lemmas.Bool.{and_parts, not-false, cases_Bool, cond_both, false≢true}
 use Rattle.urb_group.proofs.CalmSteps.{event_node, step-elsewhere, step-size}
@@ -31,7 +31,7 @@ use Rattle.urb_stable.specs.Records.{pend}
 abbrev pub whole : ℕ → Node → Node
 whole p node = settled p node node.state
 
--- what one has counted and knows, so has the other
+-- what the old node has counted and knows, the new one has too
 pub record Further (n : ℕ) (old new : Node) : Type 0 where
   pub counts : (x : Label) (z : ℕ) → Counts n old.records old.acks x z → Counts n new.records new.acks x z
   pub records : Begins old.records new.records

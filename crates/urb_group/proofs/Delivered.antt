@@ -1,4 +1,5 @@
--- After two rounds every node has certified every name, so that all is delivered: no state is a dead end.
+-- After two rounds every node has certified every name, so everything is delivered: no state is a
+-- dead end.
 use Rattle.std.proofs.Common.{Bool, List, Option, Some, [], ap, arith, count_by, eqb-true, false, filter, is_some, length, lt-ltb, ltb-true, map, nat_lt, refl, slice_get, subst, suc, sym, take, true, zero, ℕ, ⊎_elim, ◌&&◌, ◌*◌, ◌+◌, ◌<◌, ◌==◌, ◌∙◌, ◌∷◌, ◌≡◌, ◌≤◌}
 use Rattle.std.proofs.lemmas.Bool.{and_from, and_parts, cases_Bool, cases_eq, cases_lt, cond-true, false≢true, or_cases}
 use Rattle.std.proofs.lemmas.List.{length-map}
@@ -103,7 +104,7 @@ module _ (v : World) (calm : Calm v) (free : IsNotStranded v) where
         pair : (m : Content) × (has_pair (pend (stored v x.sender)) x m ≡ true)
         pair = known-pair (stored v x.sender) x h
 
-    -- else another node told q, and all are counted
+    -- otherwise another node reported it to q, and all are counted
     others : (q : ℕ) → is_node z.size.n q ≡ true → 1 < v.size.n → (x : Label) → IsName x → has_name (cert (stored z q)) x ≡ false → ⊥
     others q is many x h e =
         false≢true

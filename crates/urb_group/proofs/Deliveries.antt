@@ -1,4 +1,5 @@
--- What a group has delivered, by what it holds in memory, is what its worlds have; and what an event makes of it.
+-- What a group has delivered, by what it holds in memory, is what its worlds have delivered. And
+-- what an event makes of it.
 use Rattle.std.proofs.Common.{List, Option, Some, [], ap, ap₂, arith, filter_map, length, map, ne_eqb, option_map, refl, subst, sym, true, ℕ, ◌++◌, ◌∙◌, ◌∷◌, ◌≡◌, ◌≢◌, ◌+◌}
 use Rattle.std.proofs.lemmas.Bool.{or_left, or_right}
 use Rattle.std.proofs.lemmas.List.{length-map}
@@ -27,7 +28,7 @@ use Rattle.urb_stable.specs.Records.{pend}
 
 -- ---- what is held is what the worlds have
 
--- names whose messages are found by the one are with them what the other finds
+-- names whose messages the first function finds, paired with what the second one finds
 found-known : (f g : Label → Option Content) (xs : List Label) → ((x : Label) → has_name xs x ≡ true → (m : Content) × (f x ≡ Some m) × (g x ≡ Some m))
     → map known (filter_map (λ x. option_map (λ m. (x, m)) (f x)) xs) ≡ map (λ x. (x, g x)) xs
 found-known f g [] h = refl
@@ -47,7 +48,7 @@ deliveries-known group w p sound shows =
 pub entries-alike : (group : GroupView) (v w : World) (p : ℕ) → IsSound group → Shows group v → Shows group w → entries (stored v p) ≡ entries (stored w p)
 entries-alike group v w p sound one other = sym (deliveries-known group v p sound one) ∙ deliveries-known group w p sound other
 
--- ---- and they tell it whole
+-- ---- deliveries determine what they say
 
 same_delivery : (d e : Delivery) → known d ≡ known e → d ≡ e
 same_delivery d e h =

@@ -1,4 +1,4 @@
--- Two nodes hold one message under a name; and a node that refuses or drafts keeps what all nodes keep.
+-- Two nodes hold one message under a name. A node that refuses or drafts keeps what all nodes keep.
 use Rattle.std.proofs.Common.{Bool, List, Option, Some, [], eqb-true, false, refl, subst, sym, true, ℕ, ◌==◌, ◌∙◌, ◌≡◌}
 use Rattle.urb_group.proofs.NodesSteps.{Leads, leads-same}
 use Rattle.urb_group.specs.Invariant.{IsCaused, MayJoin, NodeKept}
@@ -17,7 +17,7 @@ use Rattle.urb_node.specs.declared.cause.Cause.{Cause}
 abbrev pub AllKept : Limits → (ℕ → List Entry) → Type 0
 AllKept size images = (q : ℕ) → Kept size images q [] (images q)
 
--- a held pair is its sender's
+-- a pair that a node holds, its sender holds too
 pub to_sender : (size : Limits) (images : ℕ → List Entry) → AllKept size images → (q : ℕ) (x : Label) (m : Content) → has_pair (pend (images q)) x m ≡ true → has_pair (pend (images x.sender)) x m ≡ true
 to_sender size images all q x m h = at (x.sender == q) refl
   where

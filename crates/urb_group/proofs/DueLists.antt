@@ -1,4 +1,5 @@
--- What stays due has its turn: due pairs are those of all pairs that pass a test, and each tick that leaves one out passes sixteen.
+-- A pair that stays due gets its turn. Due pairs are those of all pairs that pass a test, and each
+-- tick that leaves one out passes sixteen.
 use Rattle.std.proofs.Common.{Bool, List, Option, [], ap, arith, cond, false, filter, inl, inr, length, not, refl, subst, sym, true, ⊎_elim, ◌*◌, ◌+◌, ◌++◌, ◌<◌, ◌||◌, ◌∙◌, ◌∷◌, ◌≡◌, ◌≤◌, ◌⊎◌}
 use Rattle.std.proofs.lemmas.Bool.{and_parts, cases_Bool, cond-false, cond-true, false≢true, or_left, or_right}
 use Rattle.std.proofs.lemmas.List.{length-append}
@@ -53,7 +54,7 @@ in-either : (d : Label × Content) (ps qs : Pairs) → IsIn d (ps ++ qs) → IsI
 in-either d [] qs h = inr h
 in-either d (p ∷ ps) qs h = ⊎_elim (λ e. inl (inl e)) (λ e. ⊎_elim (λ a. inl (inr a)) (λ a. inr a) (in-either d ps qs e)) h
 
--- what stands in cyclic order is there
+-- an element of the cyclic order is an element of the list
 from-cyclic : (cursor : Option Label) (d : Label × Content) (ps : Pairs) → IsIn d (cyclic cursor ps) → IsIn d ps
 from-cyclic cursor d ps h =
     ⊎_elim (in-unfilter (λ p. is_after cursor p.0) d ps) (in-unfilter (λ p. not (is_after cursor p.0)) d ps)
@@ -111,7 +112,7 @@ filter-is (p ∷ ps) (q ∷ qs) h k f =
     others : (list_all (λ r. name_lt q.0 r.0) qs ≡ true) × (are_rising qs ≡ true)
     others = and_parts _ (are_rising qs) k
 
-    -- what stands behind p in order isn't p
+    -- an element after p in order isn't p
     inside : (d : Label × Content) → name_lt p.0 d.0 ≡ true → IsIn d (p ∷ ps) → IsIn d ps
     inside d l i = ⊎_elim (λ e. absurd (false≢true (sym (not_before_itself p.0) ∙ (ap (λ (w : Label × Content). name_lt p.0 w.0) e ∙ l)))) (λ e. e) i
 
@@ -163,7 +164,7 @@ module _ (all : Pairs) (rises : are_rising all ≡ true) (x : Label) (m : Conten
 
 -- ---- the turn of a name, as a number
 
--- where the pairs of this name begin
+-- the beginning of the pairs of this name
 record FirstOf (test : Label × Content → Bool) (ps : Pairs) : Type 0 where
   us : Pairs
   d : Label × Content
@@ -210,7 +211,7 @@ module _ (all : Pairs) (rises : are_rising all ≡ true) (x : Label) (m : Conten
   itself : other (x, m) ≡ false
   itself = ap not (same_name-same x)
 
-  -- the pair stands where its turn is
+  -- the pair is where its turn says
   pub record AtTurn (cursor : Option Label) : Type 0 where
     pub us : Pairs
     pub vs : Pairs

@@ -1,4 +1,5 @@
--- The pairs that are due: they stand in rising order, and one that some node was not heard of is among them.
+-- The pairs that are due are in rising order. A pair is among them if the certificate of some node
+-- was not heard.
 use Rattle.std.proofs.Common.{Bool, List, None, [], ap, arith, false, filter, length, not, refl, subst, suc, sym, true, ℕ, ⊎_elim, ◌&&◌, ◌||◌, ◌∙◌, ◌∷◌, ◌≡◌, ◌≤◌}
 use Rattle.std.proofs.lemmas.Bool.{and_from, cases_Bool, cond_both, or_left, or_right}
 use Rattle.std.specs.List.{list_all, list_any}
@@ -89,7 +90,7 @@ pub any-in : {A : Type 0} (test : A → Bool) (x : A) (xs : List A) → IsIn x x
 any-in test x [] h e = absurd h
 any-in test x (y ∷ xs) h e = ⊎_elim (λ f. or_left (test y) _ (ap test f ∙ e)) (λ f. or_right (test y) _ (any-in test x xs f e)) h
 
--- one that some other node was not heard of is due
+-- a pair is due if the certificate of some other node was not heard
 pub in-due : (n p q : ℕ) (heard : List (Label × ℕ)) (ps : Pairs) (x : Label) (m : Content) → IsIn q (others n p) → acked heard x q ≡ false → has_pair ps x m ≡ true → IsIn (x, m) (due_of n p heard (rising ps))
 in-due n p q heard ps x m is unheard h =
     in-filter (λ pair. is_due n p heard pair.0) (x, m) (rising ps) (any-in (λ i. not (acked heard x i)) q (others n p) is (ap not unheard)) (in-rising (x, m) ps (in-pairs ps x m h))

@@ -1,4 +1,4 @@
--- Where a packet's source and the node that it is for stand.
+-- The places of a packet's source and of the node that it is for.
 use Rattle.std.proofs.Common.{ap, eq-eqb, false, subst, suc, sym, true, ℕ, ◌&&◌, ◌<◌, ◌==◌, ◌≡◌}
 use Rattle.std.proofs.lemmas.Bool.{and_from, and_right}
 use Rattle.urb_names.specs.Carried.{Carried}

@@ -1,5 +1,5 @@
--- Rounds among nodes that are up: what one of them knew or held is known to all of them after one round, and certified after the next;
--- and so two rounds deliver.
+-- Rounds among nodes that are up. After one round, what one of them knew or held is known to all of
+-- them. After the next it is certified. So two rounds deliver.
 use Rattle.std.proofs.Common.{Bool, List, [], ap, arith, count_by, eqb-true, false, filter, inl, inr, is_some, length, ltb-true, nat_lt, refl, subst, suc, sym, true, zero, ℕ, ⊎_elim, ◌&&◌, ◌*◌, ◌+◌, ◌++◌, ◌-◌, ◌<◌, ◌==◌, ◌∙◌, ◌∷◌, ◌≡◌, ◌≤◌, ◌⊎◌}
 use Rattle.std.proofs.lemmas.Bool.{and_parts, cases_Bool, cond-false, cond-true, false≢true}
 use Rattle.std.proofs.lemmas.List.Sums.{length-filter}
@@ -34,14 +34,14 @@ use Rattle.urb_node.specs.Steps.{is_down}
 use Rattle.urb_stable.specs.Log.{log}
 use Rattle.urb_stable.specs.Records.{cert, pend}
 
--- ---- a majority has another node, but in a group of one
+-- ---- a majority has another node, except in a group of one
 
 module _ (among : ℕ → Bool) (q : ℕ) where
   -- one of them other than q
   abbrev Other : Type 0
   Other = (p : ℕ) × (among p ≡ true) × ((q == p) ≡ false)
 
-  -- or there is none, or q alone
+  -- or there is no such node, or q alone
   abbrev AtMost : ℕ → ℕ → Type 0
   AtMost first count = (length (filter among (numbers_from first count)) ≡ 0) ⊎ ((length (filter among (numbers_from first count)) ≡ 1) × (first ≤ q))
 
@@ -87,7 +87,7 @@ module _ (among : ℕ → Bool) (w : World) (sound : Sound w) (up : AreUp among 
   whole-end : (p : ℕ) → among p ≡ true → whole p (z.node p) ≡ z.node p
   whole-end p is = ap (settled p (z.node p)) (round.settled p is)
 
-  -- each has counted another one for each name that this knew at first, or held
+  -- each has counted another node for each name that the other knew at first, or held
   tells : (p q : ℕ) → among p ≡ true → among q ≡ true → (q == p) ≡ false → (x : Label) → knows (whole p (w.node p)).records x ≡ true → IsCountedAt z q x p
   tells p q from to other x k =
       let pair = known-pair (whole p (w.node p)).records x k in
@@ -169,7 +169,7 @@ module _ (among : ℕ → Bool) (w : World) (sound : Sound w) (free : IsNotStran
       (subst (λ (size : Limits). majority_passes size.n among ≡ true) (sym (run-size first w)) most) (run-free w first sound.live free) x
       (λ i is. spreads among w sound up first goes_first one p i from is x k) q to
 
-  -- so those that are held among them are delivered
+  -- so the names that are held among them are delivered
   pub held-delivered : HaveDeliveredHeld among w v
   held-delivered q s count to held =
       (names-behind, sym split ∙ sym (in_order v ends q s).numbers)
@@ -234,7 +234,7 @@ module _ (w : World) (sound : Sound w) (free : IsNotStranded w) (up : AllUp w)
 
 -- ---- the laws
 
--- the rounds of lists that may have refused events among them
+-- rounds of lists of events, of which some may be refused
 module _ (among : ℕ → Bool) (w : World) (events : List Event) (round : IsRoundAmong among (acts_of w events) (after w events)) where
   pub rest : Proceeding w events
   rest = proceeding events w round.undisturbed

@@ -20,7 +20,7 @@ use Rattle.urb_group.specs.declared.taken.Taken.{Taken}
 use Rattle.urb_group.specs.declared.taken.Taken.TheVariants as taken
 use Rattle.urb_group.proofs.Lifting.{holds_draft, lifted, place_shows, still_group}
 
--- ---- the step of each event, where there is such a node
+-- ---- the step of each event, if there is such a node
 
 pub submit-step : (w : World) (p : ℕ) (m : Content) → step w (Submit p m) ≡ at_node w p (submits w.size p m (w.node p))
 unfolding step
@@ -107,7 +107,7 @@ module _ {A : Type 0} (size : Limits) (places : List (Place A)) (group : IsGroup
 
 -- ---- the calls
 
--- the place of one more than its index
+-- the place whose number is one more than its index
 abbrev IsIn : ℕ → ℕ → Type 0
 IsIn p i = p ≡ suc i
 

@@ -1,4 +1,5 @@
--- Certificates are heard of pending names alone, in every world of a run; so a stored record's packets tell of what was heard.
+-- Only certificates of pending names are heard, in every world of a run. So a stored record's
+-- packets report what was heard.
 use Rattle.std.proofs.Common.{Bool, Err, List, None, Ok, Option, Result, Some, [], ap, bytes_eq, cond, eq-eqb, eqb-true, false, find, is_none, is_some, length, map, nat_lt, not, refl, subst, sym, true, ℕ, ⊎_elim, ◌&&◌, ◌++◌, ◌==◌, ◌||◌, ◌∙◌, ◌∷◌, ◌≡◌}
 use Rattle.std.proofs.lemmas.Bool.{and_parts, cond-true, cond_both, false_from_ne_true, false≢true}
 use Rattle.std.specs.List.{AllByRecursion}
@@ -51,7 +52,7 @@ pair_pending ps x m = at (message_of ps x) refl
 
 -- ---- one node
 
--- what the node has heard after it is of pending names
+-- what the node has heard after it belongs to pending names
 abbrev Goes : Reply × Node → Type 0
 Goes outcome = HearsOfPending outcome.1
 
@@ -68,7 +69,7 @@ submit-hears size p m node h =
     (λ _. cond_both (nat_lt MAX_PAYLOAD (length m.payload)) _ _ Goes (λ _. h)
     (λ _. submits-hears size p m (find (is_numbered m.client m.number) node.broadcast) node h)))
 
--- one that heard a certificate of a pending name
+-- a node that heard a certificate of a pending name
 hears-hears : (q : ℕ) (x : Label) (flags : Option Flags) (node : Node) → is_none (message_of (pend node.records) x) ≡ false → HearsOfPending node → HearsOfPending (hears q x flags node)
 hears-hears q x flags node there h =
     cond_both (says_certified flags) _ _ HearsOfPending
@@ -104,7 +105,7 @@ packet-hears w p packet h =
     (λ _. cond_both (not (truthful w packet)) _ _ Goes (λ _. h)
     (λ _. arrive-hears w.size p packet.source packet.name packet.message packet.flags (w.node p) h)))
 
--- a record that is stored: of a pair, its own certificate may be heard
+-- a record is stored: if it is a pair's, its own certificate may be heard with it
 record-hears : (records : List Entry) (heard : List (Label × ℕ)) (r : Entry) (cause : Option Cause)
     → ((x : Label) (q : ℕ) → acked heard x q ≡ true → IsPending records x)
     → (x : Label) (q : ℕ) → acked (heard_after r cause heard) x q ≡ true → IsPending (records ++ r ∷ []) x
@@ -128,7 +129,7 @@ commit-hears n p position entry node (Storing held cause) h =
     cond_both ((position == next_position node) && same_record entry held) _ _ Goes (λ _. record-hears node.records node.heard held cause h) (λ _. h)
 commit-hears n p position entry node (Down doubtful) h = h
 
--- who has heard nothing has heard of no name
+-- a node that has heard nothing has heard of no name
 nothing_heard : (records : List Entry) (x : Label) (q : ℕ) → acked [] x q ≡ true → IsPending records x
 nothing_heard records x q k = absurd (false≢true k)
 
@@ -184,13 +185,13 @@ start-hears : (w : World) → IsStart w → (q : ℕ) → HearsOfPending (w.node
 start-hears w (Of_new size) q = nothing_heard []
 start-hears w (Of_images size images are fit) q = nothing_heard (image_of images q)
 
--- in every world of a run, what was heard is of pending names
+-- in every world of a run, what was heard belongs to pending names
 pub reached-hears : (w : World) → IsReached w → (q : ℕ) → HearsOfPending (w.node q)
 reached-hears w r q = subst (λ (v : List Reply × World). HearsOfPending (v.1.node q)) r.ran (run-hears r.start r.events (start-hears r.start r.is_start) q)
 
 -- ---- what a stored record's packets say
 
--- of a name of which nothing was heard: afterwards a node is heard of exactly if it is the one that was
+-- nothing was heard of this name before: afterwards a node is heard of exactly if it is the new one
 heard-exact : (heard : List (Label × ℕ)) (x : Label) (node : Option ℕ) (q : ℕ) → ((z : ℕ) → acked heard x z ≡ true → ⊥) → is_heard_of node q ≡ acked (with_heard heard x node) x q
 heard-exact heard x None q h = sym (false_from_ne_true (acked heard x q) (h q))
 heard-exact heard x (Some z) q h = at (q == z) refl
@@ -239,7 +240,8 @@ outcome-tells w p outcome d h =
     cond_both (is_node w.size.n p) (world_after w p outcome) (Refused refusal.BadNode, w) (λ o. o.0 ≡ Stored d → AllByRecursion (SaysWhatWasHeard (o.1.node p)) d.sent)
     (λ _ e. subst (λ (node : Node). AllByRecursion (SaysWhatWasHeard node) d.sent) (sym (cond-true (p == p) _ _ (eq-eqb p p refl))) (h e)) (λ _ e. absurd (cc (e)))
 
--- in every world of a run, the packets of a record that is stored tell each node whether its certificate was heard
+-- in every world of a run, the packets of a record that is stored say to each node whether its
+-- certificate was heard
 pub reached-tells : (w : World) (p position : ℕ) (entry : Entry) (d : Done) → IsReached w → (step w (Commit p position entry)).0 ≡ Stored d
     → AllByRecursion (SaysWhatWasHeard ((step w (Commit p position entry)).1.node p)) d.sent
 unfolding step

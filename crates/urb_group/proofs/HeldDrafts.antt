@@ -77,7 +77,7 @@ module _ (old new : GroupView) (event : Event) (IsTold : Reply → Type 0) (soun
       ∙ same-draft (step sound.world event).1 sound.world q (step-size sound.world event) (step-elsewhere sound.world event q e)
       ∙ sym (held-shown old sound.world q sound.shows)
 
--- what its reply tells of the drafts of its node
+-- what its reply says of the drafts of its node
 pub steps-calm : (old new : GroupView) (event : Event) (reply : Reply) → IsSound old → Steps old event (λ told. told ≡ reply) new
     → CalmDrafts reply (held_draft old (event_node event)) (held_draft new (event_node event))
 steps-calm old new event reply sound steps =

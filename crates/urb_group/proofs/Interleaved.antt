@@ -1,5 +1,5 @@
--- Ticks among other events: what a node had pending, and what stays unheard of another one, is sent to that. So whatever follows from
--- sending it holds.
+-- Ticks among other events. What a node had pending is sent to another node if it stays unheard
+-- there. So whatever follows from sending it holds.
 use Rattle.std.proofs.Common.{List, Option, Some, [], ap, arith, eq-eqb, false, filter, flat_map, inl, inr, length, not, refl, subst, suc, sym, true, ℕ, ⊎_elim, ◌*◌, ◌++◌, ◌<◌, ◌==◌, ◌∙◌, ◌∷◌, ◌≡◌, ◌≤◌, ◌⊎◌}
 use Rattle.std.proofs.lemmas.Bool.{cases_Bool, cond-false, cond-true, cond_both, false≢true}
 use Rattle.std.specs.List.{AllByRecursion}
@@ -53,14 +53,16 @@ pub record Sends (p q : ℕ) (x : Label) (m : Content) (w : World) (events : Lis
   pub up : is_down (w.node p).state ≡ false
   pub sent : IsIn (packet_to w p q x m) (resent_in (step w (Tick p)).0)
 
--- A claim that follows from sending: it holds when p sends, and if it holds of the events behind an event, it holds of all.
+-- A claim that follows from sending. It holds when p sends. If it holds for the events behind an
+-- event, it holds for all of them.
 pub record Comes (p q : ℕ) (x : Label) (m : Content) (Claim : World → List Event → Type 0) : Type 0 where
   pub sends : (w : World) (events : List Event) → Sends p q x m w events → Claim w (Tick p ∷ events)
   pub later : (w : World) (event : Event) (events : List Event) → Claim (step w event).1 events → Claim w (event ∷ events)
 
 module _ (all : Pairs) (rises : are_rising all ≡ true) (p q : ℕ) (x : Label) (m : Content) (other : (q == p) ≡ false) where
-  -- Node p is up and has the pair pending, with the record that it holds, and it is to tick often enough; all that is due at its ticks is
-  -- among these, and q's certificate of the name isn't heard even at the end.
+  -- Node p is up and has the pair pending, also by the record that it holds, and it is to tick
+  -- often enough. All that is due at its ticks is among these pairs. q's certificate of the name
+  -- isn't heard even at the end.
   pub record Begun (w : World) (events : List Event) : Type 0 where
     pub sound : Sound w
     pub goes : Proceeds w events
@@ -207,8 +209,8 @@ dues-within all p (event ∷ events) w h =
         cond_both (is_tick_of p event) (due ∷ dues_among p (step w event).1 events) (dues_among p (step w event).1 events) (AllByRecursion (AreAmong all))
         (λ _. (all-in (λ pair. has_pair all pair.0 pair.1 ≡ true) due (λ d i. h d.0 d.1 (later d (now d i))), rest)) (λ _. rest)
 
--- Node p, which is up and has the pair pending or holds its record, ticks often enough, and is ready at the end. Then it has heard q's
--- certificate by then, or what follows from sending holds.
+-- Node p is up, and has the pair pending or holds its record. It ticks often enough, and is ready
+-- at the end. Then it has heard q's certificate by then, or what follows from sending holds.
 pub comes-about : (p q : ℕ) (x : Label) (m : Content) (Claim : World → List Event → Type 0) → Comes p q x m Claim → (w : World) (events : List Event) → Sound w → is_node w.size.n q ≡ true
     → (q == p) ≡ false → is_down (w.node p).state ≡ false → has_pair (pend (whole p (w.node p)).records) x m ≡ true → Proceeds w events → ((after w events).node p).state ≡ Ready
     → length (pend (stored (after w events) p)) ≤ 16 * ticks_among p events → (acked ((after w events).node p).heard x q ≡ true) ⊎ Claim w events

@@ -37,7 +37,7 @@ acks-with images records acks x m q h found held y z c = at (acked acks x q)
         (λ f. h y z c f)
         (or_cases (same_name x y && (q == z)) (acked acks y z) e)
 
--- a node's own acknowledgements of what is pending
+-- a node's own acknowledgements of its pending pairs
 own_acked : (ps : List (Label × Content)) (p : ℕ) (x : Label) (q : ℕ) → acked (map (λ pair. (pair.0, p)) ps) x q ≡ true → (m : Content) × (message_of ps x ≡ Some m) × (p ≡ q)
 own_acked [] p x q h = absurd (false≢true h)
 own_acked (pair ∷ ps) p x q h = at (own_acked ps p x q) (same_name pair.0 x) h

@@ -1,4 +1,5 @@
--- A run from any world that keeps the rules: its packets are truthful, and what two nodes deliver agrees.
+-- A run from any world that keeps the rules: its packets are truthful, and what two nodes deliver
+-- agrees.
 use Rattle.std.proofs.Common.{List, subst, true, ◌≡◌}
 use Rattle.urb_group.proofs.Agree.{agree-later, entries-all_grow}
 use Rattle.urb_group.proofs.Growth.{run-goes_on}

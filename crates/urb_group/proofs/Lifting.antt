@@ -1,4 +1,5 @@
--- What one node's move is to the whole group: a step of each world that it shows, after which it is a sound group again.
+-- What one node's move is to the whole group. It is a step of each world that the group shows, and
+-- the group is sound after it.
 use Rattle.std.proofs.Common.{Err, List, Ok, Some, ap, arith, get_or-set_same, length, map, refl, set, slice_index_or, subst, suc, sym, ℕ, ⊎_elim, ◌<◌, ◌∙◌, ◌≡◌}
 use Rattle.std.proofs.lemmas.List.{length-map, length-set, map-set}
 use Rattle.std.specs.Prelude.{slice_get}
@@ -25,7 +26,7 @@ use Rattle.urb_group.proofs.Replaced.{read_after_write, read_mapped, read_within
 use Rattle.urb_group.proofs.Runs.{step-keeps}
 use Rattle.urb_group.proofs.Shows.{at_no_node, at_some_node, shows-after}
 
--- what is told of an event in every world that a group shows
+-- the result of an event in every world that a group shows
 abbrev pub StepsTo : GroupView → Event → Told → GroupView → Type 0
 StepsTo old event (Ok reply) new = Steps old event (λ r. r ≡ reply) new
 StepsTo old event (Err r) new = IsRefused old event r new
@@ -35,7 +36,7 @@ pub happens : (old new : GroupView) (event : Event) (IsTold : Reply → Type 0) 
 happens old new event IsTold w sound s t n =
     record { told = t; shows = n; truth = (step-goes_on w event).truth; sent = (step-keeps w event (sound-kept old w sound s).nodes).told }
 
--- an event of a node that is none is refused
+-- an event at a node that the group doesn't have is refused
 pub nowhere : {A : Type 0} (size : Limits) (places : List (Place A)) (p : ℕ) (event : Event) (outcome : World → Reply × Node) → size.n < p
     → ((w : World) → step w event ≡ at_node w p (outcome w)) → IsRefused (shown size places) event refusal.BadNode (shown size places)
 nowhere size places p event outcome past is =
@@ -82,7 +83,7 @@ module _ {A : Type 0} (size : Limits) (places : List (Place A)) (group : IsGroup
         let stays : moved ≡ node = (leads_in (Err r) leads group.sound.world group.sound.shows).1 in
         (ap (λ (p : Place A). (memory_in p).limits) stays, ap (λ (p : Place A). (memory_in p).node) stays)
 
-    -- where it is refused, the group is the same
+    -- if it is refused, the group is the same
     unmoved : (r : Refusal) → LeadsAt outcome node (Err r) moved → set places i moved ≡ places
     unmoved r leads = ap (λ (p : Place A). set places i p) (leads_in (Err r) leads group.sound.world group.sound.shows).1 ∙ set_same places i node was
 

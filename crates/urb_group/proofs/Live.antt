@@ -1,4 +1,5 @@
--- In every world of a run: what nodes have heard is so, each that is up counts itself, and no records stand at a node 0.
+-- In every world of a run, what nodes have heard is true, and each node that is up counts itself.
+-- No records belong to a node 0.
 use Rattle.std.proofs.Common.{Bool, Err, List, Ok, Result, [], cond, eqb-true, false, ltb-true, nat_lt, not, refl, subst, suc, sym, true, ℕ, ◌==◌, ◌||◌, ◌∷◌, ◌≡◌, ◌≤◌, arith}
 use Rattle.std.proofs.lemmas.Bool.{and_parts, cond_both, not-false}
 use Rattle.urb_group.proofs.Growth.{certificate-begins, step-goes_on}
@@ -24,7 +25,7 @@ StepLive outcome = WorldLive outcome.1
 
 -- ---- one step
 
--- the nodes are live by what was stored before; then they are by what is stored now
+-- if the nodes are live by what was stored before, they are live by what is stored now
 module _ (w : World) (live : WorldLive w) where
   abbrev NodesLive : Reply × World → Type 0
   NodesLive outcome = ((q : ℕ) → NodeLive outcome.1.size.n (stored w) q (outcome.1.node q)) × (stored outcome.1 0 ≡ [])

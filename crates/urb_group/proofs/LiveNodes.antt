@@ -1,4 +1,4 @@
--- What a node has heard is so, and it counts itself: kept by each part of a step.
+-- What a node has heard is true, and the node counts itself. Each part of a step keeps this.
 use Rattle.std.proofs.Common.{List, None, Option, Some, [], ap, append-nil, bytes_eq, eq-eqb, false, find, is_none, length, nat_lt, not, subst, sym, true, ℕ, ⊎_elim, ◌&&◌, ◌++◌, ◌==◌, ◌||◌, ◌∙◌, ◌∷◌, ◌≡◌}
 use Rattle.std.proofs.lemmas.Bool.{cond_both, false≢true}
 use Rattle.urb_group.proofs.CountedNodes.{acked-cases, acked-itself, acked-stays, cause-stays, heard-cases, itself-acked}
@@ -20,11 +20,11 @@ use Rattle.urb_stable.specs.Entries.{Entry, name_of}
 use Rattle.urb_stable.specs.Records.{cert, pend}
 use Rattle.urb_stable.specs.declared.record.Record.TheVariants.{Cert, Pend, PendCert}
 
--- each certificate heard is stored where it was heard of
+-- each certificate that was heard is stored at the node that it was heard of
 abbrev pub HeardTrue : (ℕ → List Entry) → List (Label × ℕ) → Type 0
 HeardTrue images heard = (x : Label) (q : ℕ) → acked heard x q ≡ true → has_name (cert (images q)) x ≡ true
 
--- and so is that which came with the packet that caused a draft
+-- so is the certificate that came with the packet that caused a draft
 abbrev pub CauseTrue : (ℕ → List Entry) → Label → Option Cause → Type 0
 CauseTrue images x None = Unit {0}
 CauseTrue images x (Some cause) = cause.certified ≡ true → has_name (cert (images cause.source)) x ≡ true
@@ -34,14 +34,15 @@ DraftTrue images Ready = Unit {0}
 DraftTrue images (Storing r cause) = CauseTrue images (name_of r) cause
 DraftTrue images (Down doubtful) = Unit {0}
 
--- the record is a certificate too, where there is one
+-- the record, if there is one, is a certificate too
 abbrev pub IsWhole : Option Entry → Type 0
 IsWhole None = Unit {0}
 IsWhole (Some (Pend x m)) = ⊥
 IsWhole (Some (PendCert x m)) = Unit {0}
 IsWhole (Some (Cert x)) = Unit {0}
 
--- What a node has heard is so; while it is up it counts itself for each pair; and alone it holds no pair without its certificate.
+-- What a node has heard is true. While it is up, it counts itself for each pair. If it is alone, it
+-- holds no pair without its certificate.
 pub record NodeLive (n : ℕ) (images : ℕ → List Entry) (p : ℕ) (node : Node) : Type 0 where
   pub heard : HeardTrue images node.heard
   pub draft : DraftTrue images node.state
@@ -153,7 +154,7 @@ module _ (size : Limits) (images : ℕ → List Entry) (p : ℕ) where
   heard-stored (Pend x m) cause heard h c = heard-with x cause heard h c
   heard-stored (PendCert x m) cause heard h c = heard-with x cause heard h c
 
-  -- of each pair that is stored then the node is counted
+  -- the node is counted for each pair that is then stored
   counts-stored : (records : List Entry) (r : Entry) (cause : Option Cause) (acks : List (Label × ℕ)) → ((x : Label) (m : Content) → has_pair (pend records) x m ≡ true → acked acks x p ≡ true)
       → (x : Label) (m : Content) → has_pair (pend (records ++ r ∷ [])) x m ≡ true → acked (acks_after p r cause acks) x p ≡ true
   counts-stored records r cause acks h x m k = at r (subst (λ (ps : List (Label × Content)). has_pair ps x m ≡ true) (pend-append records (r ∷ [])) k)

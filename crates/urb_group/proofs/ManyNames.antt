@@ -28,7 +28,7 @@ use Rattle.urb_stable.specs.Records.{pend}
 abbrev Pairs : Type 0
 Pairs = List (Label × Content)
 
--- ---- names that rise are no more than the list that has them all
+-- ---- rising names are no more than the list that has all of them
 
 pub in-list_all : {A : Type 0} (test : A → Bool) (x : A) (xs : List A) → list_all test xs ≡ true → IsIn x xs → test x ≡ true
 in-list_all test x [] h k = absurd k
@@ -77,7 +77,7 @@ numbered size images p rs h = pairs-all size images p (Numbered p) (λ x m k e. 
             let longer = ap length (own-push p (pend e) x m is) in
             (omega (arith, next, same), omega (arith, next, same, longer, length-append (own p (pend e)) (m ∷ [])))
 
--- ---- so many are taken
+-- ---- how many are taken
 
 module _ (w : World) (sound : Sound w) where
   -- the names of all messages that storages took
@@ -105,7 +105,7 @@ module _ (w : World) (sound : Sound w) where
           let kept = sound.kept.nodes x.sender in
           subst (λ (ms : List Content). (1 ≤ x.seq) × (x.seq ≤ length ms)) (sym kept.broadcast) (numbered w.size (stored w) x.sender (stored w x.sender) kept.kept x theirs.0 theirs.1 refl)
 
-  -- the pairs of records of which each sender knows the name are no more
+  -- if each sender knows the names of these records' pairs, there are no more pairs than messages
   pub names-taken : (size : Limits) (images : ℕ → List Entry) (p : ℕ) (rs : List Entry) → Kept size images p [] rs
       → ((x : Label) → knows rs x ≡ true → knows (stored w x.sender) x ≡ true) → length (pend rs) ≤ taken w
   names-taken size images p rs kept known =

@@ -39,7 +39,8 @@ dues_among p w (event ∷ events) =
 abbrev pub AreAmong : List (Label × Content) → List (Label × Content) → Type 0
 AreAmong all pairs = AllByRecursion (λ pair. has_pair all pair.0 pair.1 ≡ true) pairs
 
--- Node p knows the name, and has certified it; or it has counted z for it, and all that it has counted are no majority yet.
+-- Node p knows the name. It has certified it, or it has counted z for it, and all that it has
+-- counted are no majority yet.
 pub record IsCountedAt (w : World) (p : ℕ) (x : Label) (z : ℕ) : Type 0 where
   pub known : is_some (message_of (pend (stored w p)) x) ≡ true
   pub counted : has_name (cert (stored w p)) x ≡ false → acked (w.node p).acks x z ≡ true

@@ -16,7 +16,7 @@ abbrev pub first_places : {A : Type 0} → Limits → ℕ → List (Place A)
 first_places size zero = []
 first_places size (suc k) = first_places size k ++ place.Ready (new_memory size (suc k)) ∷ []
 
--- what is read of a list with one more
+-- what is read from a list with one more element
 pub read_more : {X : Type 0} (xs : List X) (y z : X) (k : ℕ) → slice_get (xs ++ y ∷ []) k ≡ Some z → (slice_get xs k ≡ Some z) ⊎ ((k ≡ length xs) × (z ≡ y))
 read_more [] y z zero e = inr (refl, cc)
 read_more [] y z (suc k) e = absurd cc
@@ -68,12 +68,12 @@ first-group A size =
 pub next-places : (A : Type 0) (size : Limits) (n : ℕ) (places new : List (Place A)) (a : Memory) → places ≡ first_places size n → a ≡ new_memory size (suc n) → new ≡ places ++ place.Ready a ∷ [] → new ≡ first_places size (suc n)
 next-places A size n places new a e f g = g ∙ (ap (λ (ps : List (Place A)). ps ++ place.Ready a ∷ []) e ∙ ap (λ (b : Memory). first_places {A = A} size n ++ place.Ready b ∷ []) f)
 
--- a value that is some exactly under a condition is some where it holds
+-- a value that is some exactly under a condition is some if the condition holds
 pub some_from : {T P : Type 0} (o : Option T) (v : T) → SomeIff o P v → P → IsSome o
 some_from None v h p = absurd (h p)
 some_from (Some x) v h p = refl
 
--- the value of what is some exactly under a condition
+-- the value, if it is some exactly under a condition
 pub value_from : {T : Type 0} (o : Option T) (P : Type 0) (v x : T) → SomeIff o P v → o ≡ Some x → x ≡ v
 value_from None P v x h e = absurd cc
 value_from (Some y) P v x h e = let is : y ≡ v = h.1 in cc

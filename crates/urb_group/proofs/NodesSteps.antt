@@ -68,14 +68,15 @@ node-grows size old new p node g h =
 
 -- ---- one node's step
 
--- the outcome keeps all pairs and certificates, what holds of a node, and sends packets of what is stored alone
+-- the outcome keeps all pairs and certificates and what holds of a node, and sends only packets of
+-- what is stored
 pub record Leads (size : Limits) (images : ℕ → List Entry) (p : ℕ) (outcome : Reply × Node) : Type 0 where
   pub grows : (x : Label) (m : Content) → has_pair (pend (images p)) x m ≡ true → has_pair (pend outcome.1.records) x m ≡ true
   pub certified : (x : Label) → has_name (cert (images p)) x ≡ true → has_name (cert outcome.1.records) x ≡ true
   pub kept : NodeKept size (updated images p outcome.1.records) p outcome.1
   pub sent : AreFrom p (pend outcome.1.records) (cert outcome.1.records) (packets_in outcome.0)
 
--- where the records stay
+-- if the records stay
 pub leads-same : (size : Limits) (images : ℕ → List Entry) (p : ℕ) (outcome : Reply × Node) → images p ≡ outcome.1.records → NodeKept size images p outcome.1
     → AreFrom p (pend outcome.1.records) (cert outcome.1.records) (packets_in outcome.0) → Leads size images p outcome
 leads-same size images p outcome e k s =

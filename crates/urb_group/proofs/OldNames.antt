@@ -1,4 +1,5 @@
--- No name is new where nothing is submitted: what a node knows, with the record that it holds, its sender knew so.
+-- No name is new if nothing is submitted: every name that a node knows, also by the record that it
+-- holds, its sender knew already.
 use Rattle.std.proofs.Common.{Bool, Err, List, Ok, Option, Result, [], ap, append-nil, eqb-true, false, if◌then◌else◌, is_some, refl, subst, sym, true, ℕ, ⊎_elim, ◌++◌, ◌==◌, ◌∙◌, ◌∷◌, ◌≡◌, ◌⊎◌}
 use Rattle.std.proofs.lemmas.Bool.{cases_Bool, cond-false, false≢true}
 use Rattle.urb_group.proofs.CalmSteps.{event_node, step-elsewhere, step-size}
@@ -28,7 +29,7 @@ use Rattle.urb_stable.specs.Fitting.{keeps_c}
 use Rattle.urb_stable.specs.Records.{pend}
 use Rattle.urb_stable.specs.declared.record.Record.TheVariants.{Cert, Pend, PendCert}
 
--- ---- what nodes hold, their senders do
+-- ---- what nodes hold, their senders hold
 
 module _ (w : World) (sound : Sound w) (p : ℕ) (x : Label) where
   -- the sender knows the name, with the record that it holds
@@ -62,7 +63,7 @@ module _ (w : World) (sound : Sound w) (p : ℕ) (x : Label) where
     by_state (Down doubtful) h k = there k
     by_state (Storing r cause) h k = by_record r k h.0.c
 
-  -- a name that a node knows, with the record that it holds, its sender does
+  -- if a node knows a name, also by the record that it holds, the name's sender knows it
   pub whole-sender : knows (whole p (w.node p)).records x ≡ true → SenderKnows
   whole-sender k =
       ⊎_elim (λ e. subst (λ (i : ℕ). knows (whole i (w.node i)).records x ≡ true) (sym (eqb-true x.sender p e)) k)
@@ -71,7 +72,7 @@ module _ (w : World) (sound : Sound w) (p : ℕ) (x : Label) where
 -- ---- no name is new
 
 module _ (Known : Label → Type 0) where
-  -- each node is up, and what it knows, with the record that it holds, is among these names
+  -- each node is up, and the names that it knows, also by the record that it holds, are among these
   pub record Names (u : World) : Type 0 where
     pub sound : Sound u
     pub up : (p : ℕ) → is_node u.size.n p ≡ true → is_down (u.node p).state ≡ false

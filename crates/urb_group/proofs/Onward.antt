@@ -39,7 +39,7 @@ pub record Calm (w : World) : Type 0 where
 abbrev pub CountsAt : World → ℕ → Label → ℕ → Type 0
 CountsAt w p x z = Counts w.size.n (w.node p).records (w.node p).acks x z
 
--- The second world goes on from the first: more is stored, counted and sent; and no name is new.
+-- The second world goes on from the first: more is stored, counted and sent, and no name is new.
 pub record Onward (w v : World) : Type 0 where
   pub size : v.size ≡ w.size
   pub records : (p : ℕ) → Begins (stored w p) (stored v p)
@@ -47,7 +47,7 @@ pub record Onward (w v : World) : Type 0 where
   pub sent : Begins w.sent v.sent
   pub only : (p : ℕ) (x : Label) → knows (stored v p) x ≡ true → knows (stored w x.sender) x ≡ true
 
--- a name of which a pair is stored is known
+-- if a pair of a name is stored, the name is known
 pub knows-pair : (records : List Entry) (x : Label) (m : Content) → has_pair (pend records) x m ≡ true → knows records x ≡ true
 knows-pair records x m k = at (message_of (pend records) x) refl
   where
@@ -55,7 +55,7 @@ knows-pair records x m k = at (message_of (pend records) x) refl
     at (Some o) e = refl
     at None e = absurd (no_pair (pend records) x m e k)
 
--- and of a name that is known one is
+-- if a name is known, a pair of it is stored
 pub known-pair : (records : List Entry) (x : Label) → knows records x ≡ true → (m : Content) × (has_pair (pend records) x m ≡ true)
 known-pair records x h = let found = some_found (message_of (pend records) x) h in (found.0, has_pair-found (pend records) x found.0 found.1)
 

@@ -1,5 +1,5 @@
--- What a group needs that opens from images: where they have no misfit they fit, each keeps the rules about itself, and a
--- group whose nodes show their images shows the opened world.
+-- What a group needs to open from images. Images without a misfit fit, and each keeps the rules
+-- about itself. A group whose nodes show their images shows the opened world.
 use Rattle.std.proofs.Common.{List, None, Some, [], arith, length, refl, slice_index_or, subst, suc, sym, zero, ℕ, ⊎_elim, ◌<◌, ◌∷◌, ◌≡◌, ◌≤◌, ◌⊎◌}
 use Rattle.std.proofs.lemmas.Bool.{cases_lt}
 use Rattle.urb_group.proofs.Conditions.{fitting-own}
@@ -16,7 +16,7 @@ use Rattle.urb_stable.specs.declared.fitting.Misfit.{Misfit}
 
 -- ---- no misfit
 
--- images of which none is told fit together
+-- images without a misfit fit together
 pub no_misfit-fits : (limits : Limits) (images : ℕ → List Entry) → first_misfit limits images ≡ None → Fits limits images
 no_misfit-fits limits images e = at (misfits limits images) e
   where
@@ -24,7 +24,7 @@ no_misfit-fits limits images e = at (misfits limits images) e
     at [] f = refl
     at (m ∷ ms) f = absurd (cc)
 
--- and those of which one is told do not
+-- images with a misfit do not
 pub misfit-unfit : (limits : Limits) (images : ℕ → List Entry) (m : Misfit) → first_misfit limits images ≡ Some m → Fits limits images → ⊥
 misfit-unfit limits images m e fits = at (misfits limits images) e fits
   where
@@ -43,7 +43,7 @@ past [] i d l = refl
 past (x ∷ xs) zero d l = absurd (omega arith)
 past (x ∷ xs) (suc i) d l = past xs i d (omega arith)
 
--- a group shows the opened world where each of its nodes shows the one that is opened from its image
+-- a group shows the opened world if each of its nodes shows the node that is opened from its image
 pub opened-shows : (group : GroupView) (limits : Limits) (images : List (List Entry)) → group.size ≡ limits → length group.nodes ≡ length images
     → ((i : ℕ) → i < length images → ShowsNode limits (suc i) (slice_index_or group.nodes i no_view) (opened_node (suc i) (slice_index_or images i [])))
     → Shows group (opened limits (image_of images))

@@ -20,7 +20,7 @@ use Rattle.urb_group.specs.World.{AreImages, opened}
 use Rattle.urb_group.specs.declared.places.Node.{Node as Place}
 use Rattle.urb_group.specs.declared.places.Node.TheVariants as place
 
--- a node in a place of the group shows what is opened from its image
+-- a node in a place of the group shows the node that is opened from its image
 pub record IsOpened {A : Type 0} (size : Limits) (images : List (List Entry)) (i : ℕ) (node : Place A) : Type 0 where
   pub numbered : IsNumbered size i node
   pub shows : ShowsAt node (opened_node (suc i) (slice_index_or images i []))
@@ -35,7 +35,7 @@ pub record HasOpened {T A : Type 0} (items : T → List Entry) (size : Limits) (
 pub none-opened : {T A : Type 0} (items : T → List Entry) (size : Limits) (images : List T) → HasOpened {A = A} items size images [] images 0 []
 none-opened items size images = record { all = refl; taken = refl; count = refl; each = λ i node e. absurd (cc) }
 
--- what stands behind some elements
+-- the item after some elements
 behind : {T : Type 0} (items : T → List Entry) (yielded left : List T) (image : T) → slice_index_or (map items (yielded ++ image ∷ left)) (length yielded) [] ≡ items image
 behind items [] left image = refl
 behind items (x ∷ yielded) left image = behind items yielded left image

@@ -37,18 +37,18 @@ filter-swap f g (p ∷ ps) = go (filter-swap f g ps) (cases_Bool (f p)) (cases_B
         ap (filter f) (cond-false (g p) (p ∷ filter g ps) (filter g ps) b)
         ∙ (ih ∙ sym (ap (filter g) (cond-false (f p) (p ∷ filter f ps) (filter f ps) a)))
 
--- those that pass a test stand in cyclic order as they do among all
+-- the pairs that pass a test are in cyclic order as they are among all pairs
 cyclic-filter : (test : Label × Content → Bool) (cursor : Option Label) (ps : Pairs) → cyclic cursor (filter test ps) ≡ filter test (cyclic cursor ps)
 cyclic-filter test cursor ps =
     ap₂ (λ (x y : Pairs). x ++ y) (filter-swap (λ p. is_after cursor p.0) test ps) (filter-swap (λ p. not (is_after cursor p.0)) test ps)
     ∙ sym (filter-append test (filter (λ p. is_after cursor p.0) ps) (filter (λ p. not (is_after cursor p.0)) ps))
 
--- of pairs that are there the last one alone counts
+-- if there are pairs, only the last one matters
 last-any : (c d : Option Label) (ps : Pairs) → 0 < length ps → last_name c ps ≡ last_name d ps
 last-any c d [] l = absurd (omega arith)
 last-any c d (p ∷ ps) l = refl
 
--- the first k that pass a test stand among the first k or more, up to the last of them
+-- the first k pairs that pass a test are among the first k or more, up to the last of them
 record Firsts (test : Label × Content → Bool) (k : ℕ) (ps : Pairs) : Type 0 where
   firsts : Pairs
   rest : Pairs
@@ -89,7 +89,7 @@ firsts-of test (suc k) (p ∷ ps) l = ⊎_elim (passing (firsts-of test k ps)) (
 
 -- ---- one tick
 
--- where the pair stands once a tick left it out: at least sixteen fewer are before it
+-- the place of the pair once a tick left it out: at least sixteen fewer are before it
 pub record Nearer (all : Pairs) (cursor : Option Label) (d : Label × Content) (before : ℕ) : Type 0 where
   pub us : Pairs
   pub vs : Pairs

@@ -1,4 +1,4 @@
--- What a node's own clauses say of its calls, said of the node in its place.
+-- What a node's own clauses say of its calls, stated for the node in its place.
 use Rattle.std.proofs.Common.{Bool, Err, List, Ok, Result, ap, eqb-true, false, not, refl, subst, suc, sym, true, ℕ, ◌&&◌, ◌==◌, ◌∙◌, ◌≡◌}
 use Rattle.std.proofs.lemmas.Bool.{and_parts, cond-false}
 use Rattle.urb_names.specs.Carried.{Carried}
@@ -32,7 +32,7 @@ at_storing A h = place.Storing h
 abbrev at_down : (A : Type 0) → Fallen → Place A
 at_down A f = place.Down f
 
--- where a ready node's step leads, in its place
+-- the place of a ready node after its step
 abbrev pub after_step : {A : Type 0} → Result (Step A) (Memory × Refusal) → Place A × Result (Taken A) Refusal
 after_step (Ok (step.Same ready answer)) = (place.Ready ready, Ok (taken.Same answer))
 after_step (Ok (step.Store storing draft)) = (place.Storing storing, Ok (taken.Store draft))
@@ -79,7 +79,7 @@ stale h receipt node s e other = subst (λ (state : State). (commits h.memory.li
     is_false true n = absurd (n refl)
     is_false false n = refl
 
--- where a receipt leads a storing node, in its place
+-- the place of a storing node after a receipt
 abbrev pub after_confirm : {A : Type 0} → Result (Memory × Done) (Holding × Placed) → Place A × Result Done (Placed × Refusal)
 after_confirm (Ok r) = (place.Ready r.0, Ok r.1)
 after_confirm (Err e) = (place.Storing e.0, Err (e.1, refusal.Stale))
@@ -102,7 +102,7 @@ crash_ready_at A node a f e c = subst (λ (p : Place A). CrashesAt p (at_down A 
 pub crash_storing_at : (A : Type 0) (node : Place A) (h : Holding) (f : Fallen) → node ≡ place.Storing h → Crashes (ShowsStoring h) h.memory f → CrashesAt node (place.Down f, Ok tt)
 crash_storing_at A node h f e c = subst (λ (p : Place A). CrashesAt p (at_down A f, Ok tt)) (sym e) (λ n s. record { told = (c.1 n s).0; shows = (c.1 n s).1; same = c.0 })
 
--- where a tick leads a ready node, in its place
+-- the place of a ready node after a tick
 abbrev pub after_tick : {A : Type 0} → Memory × Result (List Carried) NoMemory → Place A × Result (List Carried) Refusal
 after_tick (a, Ok packets) = (place.Ready a, Ok packets)
 after_tick (a, Err e) = (place.Ready a, Err refusal.NoMemory)
@@ -117,7 +117,7 @@ tick_at A node a r e t = subst (λ (p : Place A). TicksAt p (after_tick {A = A} 
     at (new, Ok packets) t = λ n s. record { told = (t.1 n s).0; shows = (t.1 n s).1; same = t.0 }
     at (new, Err e) t = λ n s. (sends a.limits.n a.node n s.state, ap place.Ready t)
 
--- where a restart leads a node that is down, in its place
+-- the place of a node that is down after a restart
 abbrev pub after_restart : {A : Type 0} → Result Memory (Fallen × Refusal) → Place A × Result (Unit {0}) Refusal
 after_restart (Ok a) = (place.Ready a, Ok tt)
 after_restart (Err e) = (place.Down e.0, Err e.1)

@@ -24,7 +24,7 @@ unfolding run
 goes-append w [] ys h k = k
 goes-append w (event ∷ xs) ys h k = (h.0, h.1, goes-append (step w event).1 xs ys h.2 k)
 
--- these events go, and the world after them is so
+-- these events go, and the world after them has this property
 pub record Reaches (Q : World → Type 0) (w : World) (events : List Event) : Type 0 where
   pub goes : Goes w events
   pub leads : Q (after w events)
@@ -50,8 +50,8 @@ reaches-weaker Q R w events f h = record { goes = h.goes; leads = f (after w eve
 
 -- ---- a plan for each of many
 
--- Each world is one to go on in, each plan goes where its condition holds, and brings about what it is for; conditions, what was
--- brought about, and worlds to go on in, stay while one goes onward.
+-- Good worlds are those to go on in. From each of them, each plan whose condition holds goes, and
+-- reaches a good world in which its result holds. Conditions and results stay while one goes onward.
 pub record Course {A : Type 0} (plan : A → Plan) (Good : World → Type 0) (Onward : World → World → Type 0) (Before After : A → World → Type 0) : Type 0 where
   pub one : (x : A) (w : World) → Good w → Before x w → Reaches (λ v. Good v × Onward w v × After x v) w (plan x w)
   pub still : (w : World) → Good w → Onward w w

@@ -1,4 +1,4 @@
--- What commands count for is what their events count for; so two rounds that are played deliver.
+-- What commands count for is what their events count for. So two rounds that are played deliver.
 use Rattle.std.proofs.Common.{List, [], ap, inl, inr, refl, subst, sym, ℕ, ⊎_elim, ◌++◌, ◌∙◌, ◌∷◌, ◌≡◌}
 use Rattle.urb_group.proofs.Counting.{run-size}
 use Rattle.urb_group.proofs.FairRounds.{two-rounds}

@@ -280,7 +280,7 @@ module _ {S A : Type 0} (g : Ghosts S A) where
         agree = kept-agree w is.after is.events is.seen kept is.ran;
       }
 
-  -- the group that stands when memory was refused is that of the last command that was applied
+  -- when memory was refused, the group is that of the last command that was applied
   last-group : (old new : Clustered S) (commands : List (Command A)) (replies : List (Reply A)) → (early : EndsEarly g old commands replies new) → IsSound early.last.group → new.group ≡ early.last.group
   last-group old new commands replies early sound =
       ⊎_elim (λ e. ap (λ (c : Clustered S). c.group) e) (λ h. applied-refused early.last new early.command refusal.NoMemory h sound) early.refused
@@ -343,7 +343,7 @@ module _ {S A : Type 0} (g : Ghosts S A) (old last new : Clustered S) (commands 
       subst (λ (cs : List (Command A)). Follows g old cs (replies ++ r ∷ []) new) (sym (take_more commands i what within ∙ ap (λ (c : Command A). take i commands ++ c ∷ []) (sym is)))
       (follows-push g old last new (take i commands) replies what r (count ∙ sym (length-take-le i commands (omega arith))) follows applies told_is)
 
--- what every world that a sound group shows is
+-- every world that a sound group shows is promised (`IsPromised`)
 pub sound-holds : (group : GroupView) (w : World) → IsSound group → Shows group w → IsPromised w
 sound-holds group w sound s =
     record {

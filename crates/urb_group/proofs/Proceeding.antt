@@ -1,5 +1,5 @@
--- Lists of events that proceed: none disturbs, and none is refused. Each undisturbed list does, once what counts for nothing and leaves the
--- world is left out.
+-- Lists of events that proceed: none of them disturbs, and none is refused. Every undisturbed list
+-- proceeds once the events that count for nothing and leave the world as it is are left out.
 use Rattle.std.proofs.Common.{Bool, Err, List, None, Ok, Option, Result, Some, [], ap, ap₂, append-nil, eq-eqb, eqb-true, false, find, inl, inr, length, bytes_eq, nat_lt, not, refl, subst, suc, sym, true, ℕ, ⊎_elim, ◌&&◌, ◌++◌, ◌==◌, ◌∙◌, ◌∷◌, ◌≡◌, ◌⊎◌}
 use Rattle.std.proofs.lemmas.Bool.{and_parts, cases_Bool, cond-false, cond-true, cond_both, false≢true}
 use Rattle.std.specs.List.{AllByRecursion}
@@ -159,7 +159,7 @@ quiet-or-idle w (Restart p image) u = quiet-done w (Restart p image) tt
 
 -- ---- whole lists
 
--- those of the events that proceed: they lead to the same world, and count for the same
+-- the events of these that proceed: they lead to the same world, and count for the same
 pub record Proceeding (w : World) (events : List Event) : Type 0 where
   pub list : List Event
   pub proceeds : Proceeds w list

@@ -60,7 +60,7 @@ no_pair_held node packet finds n s = at (has_pair (pend n.records) packet.name p
     at false e = sym e
     at true e = absurd (nothing (finds n s ∙ own-unique (memory_in node).limits (memory_in node).node n.records s.rules packet.name packet.message e))
 
--- both together bear the packet out
+-- both together confirm the packet
 pub both_true : {A : Type 0} (node : Place A) (packet : Carried) (b : Bool) → HoldsPair node packet true → IsAsCertified node packet b → TellsTruth node packet b
 both_true node packet b pair certified n s = certified n s ∙ ap (λ (c : Bool). c && (not (says_certified packet.flags) || has_name (cert n.records) packet.name)) (pair n s)
 

@@ -1,4 +1,4 @@
--- A refused event leaves the world.
+-- A refused event leaves the world as it is.
 use Rattle.std.proofs.Common.{Bool, Err, List, None, Ok, Option, Result, Some, [], ap, append-nil, ap₂, bytes_eq, cond, eqb-true, false, find, length, nat_lt, not, refl, sym, true, ℕ, ◌&&◌, ◌++◌, ◌==◌, ◌||◌, ◌∙◌, ◌∷◌, ◌≡◌}
 use Rattle.std.proofs.Math.Path.{fun_ext}
 use Rattle.std.proofs.lemmas.Bool.{cond_both}
@@ -19,11 +19,11 @@ use Rattle.urb_node.specs.Steps.{arrives, commits, crashes, fails, is_down, is_s
 use Rattle.urb_stable.specs.Entries.{Entry}
 use Rattle.urb_names.specs.declared.refusal.Refusal.TheVariants as refusal
 
--- where it refuses, the node stays
+-- if it refuses, the node stays
 abbrev Quiet : Node → Reply × Node → Type 0
 Quiet node outcome = (r : Refusal) → outcome.0 ≡ Refused r → outcome.1 ≡ node
 
--- where it refuses, the world stays
+-- if it refuses, the world stays
 abbrev QuietWorld : World → Reply × World → Type 0
 QuietWorld w outcome = (r : Refusal) → outcome.0 ≡ Refused r → outcome.1 ≡ w
 
@@ -98,7 +98,7 @@ bytes-quiet w p (Ok packet) =
     cond_both (is_for w p packet) (at_node w p (packet_arrives w p packet)) (Refused refusal.BadNode, w) (QuietWorld w)
     (λ _. quiet_after w p (packet_arrives w p packet) (packet-quiet w p packet)) (λ _ r e. refl)
 
--- where the reply is a refusal, the world after is the world before
+-- if the reply is a refusal, the world after is the world before
 pub refused-stays : (w : World) (event : Event) (r : Refusal) → (step w event).0 ≡ Refused r → (step w event).1 ≡ w
 unfolding step
 refused-stays w (Submit p m) = quiet_after w p _ (submit-quiet w.size p m (w.node p))

@@ -1,4 +1,4 @@
--- What a cluster that is opened over stores comes to: it is stocked, and where its stores are honest it goes on from the
+-- A cluster that is opened over stores is stocked. If its stores are honest, it goes on from the
 -- cluster that was stocked with them.
 use Rattle.std.proofs.Common.{Err, IfOk, List, Ok, Option, Result, Some, [], ap, false, inl, inr, length, refl, subst, suc, sym, zero, ℕ, ⊎_elim, ◌++◌, ◌∙◌, ◌∷◌, ◌≡◌, ◌⊎◌}
 use Rattle.std.specs.List.{All, AllByRecursion}
@@ -65,7 +65,7 @@ given-at g (s ∷ stores) (im ∷ images) [] h i store e = absurd h
 given-at g (s ∷ stores) (im ∷ images) (a ∷ asked) h zero store e = (let f : a ≡ store = cc in (s, refl, subst (λ (t : _). Gives g s (Ok im) t) f h.0))
 given-at g (s ∷ stores) (im ∷ images) (a ∷ asked) h (suc i) store e = given-at g stores images asked h.1 i store e
 
--- where all are honest then, each list is one that its store may have held
+-- if all are honest then, each list is one that its store may have held
 given-chosen : {S A : Type 0} (g : Ghosts S A) (stores : List S) (images : List (List Entry)) (asked : List S) → AllGive g stores images asked → AllByRecursion g.is_honest asked
     → (i : ℕ) (store : S) (image : List Entry) → slice_get stores i ≡ Some store → slice_get images i ≡ Some image → g.is_honest store × IsContents (g.certain store) (g.doubt store) image
 given-chosen g [] [] [] h honest i store image e f = absurd (cc)
@@ -81,7 +81,7 @@ given-chosen g (s ∷ stores) (im ∷ images) (a ∷ asked) h honest (suc i) sto
 
 -- ---- the opened cluster is stocked
 
--- a store that gave this list is that of the node that is opened from it
+-- a store that gave this list belongs to the node that is opened from it
 pub given-store : {S A : Type 0} (g : Ghosts S A) (p : ℕ) (image : List Entry) (before after : S) → Gives g before (Ok image) after → IsStoreOf g (opened_node p image) after
 given-store g p image before after gives =
     record {
@@ -104,8 +104,8 @@ opens-stocked g size stores (Err e) h = tt
 
 -- ---- stores that were asked still hold what a stop may leave of their nodes
 
--- Of whichever node the one store holds it, the other does; and a stop inside the call leaves of the other what it might have
--- left of the one.
+-- If the store holds what a stop may leave of a node, it still does after the call. A stop inside
+-- the call leaves of it what a stop might have left of it before.
 record StaysOf {S A : Type 0} (g : Ghosts S A) (before after : S) : Type 0 where
   pub holds : (node : Node) → HoldsOf g node before → HoldsOf g node after
   pub leaves : (node : Node) → HoldsOf g node before → (g.is_honest before → LeavesOf g node before) → g.is_honest before → g.is_clean after → LeavesOf g node after
@@ -120,7 +120,7 @@ gave-stays g before after image gives =
       leaves = λ node holds rest. asked-left g node before after gives.stop holds;
     }
 
--- it answered a fault
+-- it answered with a fault
 failed-stays : {S A : Type 0} (g : Ghosts S A) (before after : S) (fault : StoreFault) → Gives g before (Err fault) after → StaysOf g before after
 failed-stays g before after fault gives =
     record {
@@ -130,7 +130,7 @@ failed-stays g before after fault gives =
       leaves = λ node holds rest. asked-left g node before after gives.stop holds;
     }
 
--- each store stays so in its place
+-- each store in its place stays like this
 record StayIn {S A : Type 0} (g : Ghosts S A) (stores asked : List S) (i : ℕ) (store : S) : Type 0 where
   pub before : S
   pub was : slice_get stores i ≡ Some before
@@ -176,12 +176,12 @@ refused-stay {S} g stores asked why h = ⊎_elim first (λ short. subst (λ (xs 
         (subst (λ (xs : List S). AllStay g (f.1.earlier ++ f.1.before ∷ f.1.later) xs) (sym f.1.are)
         (given-stay g f.1.earlier f.1.images f.1.gave f.1.given (f.1.before ∷ f.1.later) (f.1.after ∷ f.1.later) (one-stays g f.1.before f.1.after f.1.later f.1.later (failed-stays g f.1.before f.1.after f.0 f.1.failed) (same-stay g f.1.later))))
 
--- so they all do
+-- so all of them do
 stay-held : {S A : Type 0} (g : Ghosts S A) (w : World) (stores asked : List S) → AllStay g stores asked → AllHold g w stores → AllHold g w asked
 unfolding AllStay
 stay-held g w stores asked all hold = λ i store got. (let one = all i store got in one.stays.holds (w.node (suc i)) (hold i one.before one.was))
 
--- and a stop inside the call leaves no more of them
+-- a stop inside the call leaves no more of them
 stay-left : {S A : Type 0} (g : Ghosts S A) (w : World) (stores asked : List S) → AllStay g stores asked → AllHold g w stores → RestLeaves g w stores → StopLeaves g w stores asked
 unfolding AllStay
 stay-left g w stores asked all hold rest =
@@ -269,7 +269,7 @@ module _ {S A : Type 0} (g : Ghosts S A) (old : GroupView) (w : World) (size : L
           let told = honest-fault f.0 f.1.failed.faults.0 (f.1.failed.faults.1 (every-behind g.is_honest f.1.gave f.1.later f.1.after was)) in
           subst (λ (r : Refusal). (r ≡ refusal.NoMemory) ⊎ (r ≡ refusal.Device)) (sym f.2) told
 
-  -- a store that answered this fault was honest, or shut
+  -- a store that answered with this fault was honest, or shut
   refused-known : (asked : List S) (why : Refusal) → AreRefused g stores why asked → All (IsKnown g) stores → All g.is_clean asked → (why ≡ refusal.NoMemory) ⊎ (why ≡ refusal.Device)
   refused-known asked why h known clean = ⊎_elim first (λ short. inl short.1) h
     where
@@ -281,7 +281,7 @@ module _ {S A : Type 0} (g : Ghosts S A) (old : GroupView) (w : World) (size : L
           let was = every-behind (IsKnown g) f.1.earlier f.1.later f.1.before were (f.1.failed.clean now) in
           subst (λ (r : Refusal). (r ≡ refusal.NoMemory) ⊎ (r ≡ refusal.Device)) (sym f.2) (honest-fault f.0 f.1.failed.faults.0 (f.1.failed.sound was now))
 
-  -- what gave its list is honest
+  -- a store that gave its list is honest
   all-honest : (images : List (List Entry)) (asked : List S) → AllGive g stores images asked → All (IsKnown g) stores → All g.is_clean asked → All g.is_honest asked
   all-honest images asked given known clean =
       All-from_recursion g.is_honest asked (given-honest g stores images asked given (recursion_from_All (IsKnown g) stores known) (recursion_from_All g.is_clean asked clean))

@@ -1,4 +1,4 @@
--- A list of which one element is taken out and another put in its place.
+-- A list from which one element is taken, and another one is put in its place.
 use Rattle.std.proofs.Common.{List, Some, [], ap, arith, inl, inr, length, map, refl, set, slice_index_or, suc, sym, zero, ℕ, ◌<◌, ◌∷◌, ◌≡◌, ◌⊎◌}
 use Rattle.std.specs.List.{insert, remove}
 use Rattle.std.specs.Prelude.{slice_get}
@@ -27,7 +27,7 @@ read_mapped f [] i x d e = absurd cc
 read_mapped f (y ∷ ys) zero x d e = ap f (same_some y x e)
 read_mapped f (y ∷ ys) (suc i) x d e = read_mapped f ys i x d e
 
--- what is read stands within the list
+-- what is read is within the list
 pub read_within : {X : Type 0} (xs : List X) (i : ℕ) (x : X) → slice_get xs i ≡ Some x → i < length xs
 read_within [] i x e = absurd cc
 read_within (y ∷ ys) zero x e = omega arith

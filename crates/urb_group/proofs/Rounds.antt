@@ -1,4 +1,5 @@
--- A round of one node: each other node knows then what it knew, and has counted it for each name or certified the name.
+-- A round of one node. Each other node then knows what it knew, and has counted it for each name or
+-- certified the name.
 use Rattle.std.proofs.Common.{List, Some, ap, arith, eqb-true, false, filter, is_some, length, not, refl, slice_get, subst, sym, true, ℕ, ⊎_elim, ◌++◌, ◌==◌, ◌∙◌, ◌≡◌, ◌≤◌, ◌⊎◌, inl, inr}
 use Rattle.std.proofs.lemmas.Bool.{cases_Bool, false≢true}
 use Rattle.std.specs.List.{AllByRecursion}
@@ -97,9 +98,9 @@ module _ (w : World) (calm : Calm w) (p : ℕ) (is : is_node w.size.n p ≡ true
           bears : ℕ → Type 0
           bears i = bears_out (stored w i) packet ≡ true
 
-  -- ---- what the others are told
+  -- ---- what the others hear
 
-  -- a name whose certificate was heard of q is certified there
+  -- if q's certificate of a name was heard, the name is certified at q
   module _ (q : ℕ) (x : Label) (heard : acked (w.node p).heard x q ≡ true) where
     certified-there : has_name (cert (stored w q)) x ≡ true
     certified-there = (calm.sound.live.nodes p).heard x q heard
@@ -112,7 +113,7 @@ module _ (w : World) (calm : Calm w) (p : ℕ) (is : is_node w.size.n p ≡ true
     pub heard-counts : CountsAt w q x p
     heard-counts = certified-counts w.size.n (stored w q) (w.node q).acks x p certified-there
 
-  -- and one whose certificate was not is told to q
+  -- a name whose certificate was not heard from q is sent to q
   module _ (q : ℕ) (x : Label) (m : Content) (there : is_node w.size.n q ≡ true) (other : (q == p) ≡ false) (unheard : acked (w.node p).heard x q ≡ false) (held : has_pair (pend (stored w p)) x m ≡ true)
       (many : length (pend (stored w p)) ≤ count) where
     abbrev packet : Carried
@@ -140,14 +141,14 @@ module _ (w : World) (calm : Calm w) (p : ℕ) (is : is_node w.size.n p ≡ true
 abbrev count_of : World → ℕ → ℕ
 count_of w p = length (pend (stored w p))
 
--- these are the names that each node is to tell
+-- these are the names that each node is to send
 module _ (K : ℕ → Label → Type 0) where
   -- p is a node, and knows its names
   pub record KnowsNames (p : ℕ) (w : World) : Type 0 where
     pub node : is_node w.size.n p ≡ true
     pub names : (x : Label) → K p x → knows (stored w p) x ≡ true
 
-  -- every node knows them, and every other one has counted p for each or certified it
+  -- every node knows them, and every other node has counted p for each name or certified it
   pub record HasTold (p : ℕ) (v : World) : Type 0 where
     pub known : (q : ℕ) → is_node v.size.n q ≡ true → (x : Label) → K p x → knows (stored v q) x ≡ true
     pub counted : (q : ℕ) → is_node v.size.n q ≡ true → (q == p) ≡ false → (x : Label) → K p x → CountsAt v q x p
@@ -197,7 +198,7 @@ module _ (K : ℕ → Label → Type 0) where
   telling : Course round_of Calm Onward (λ p w. KnowsNames p w) (λ p w. HasTold p w)
   telling = record { one = λ p w calm h. round-reaches p w calm h; still = onward-still; further = onward-further; before = knows-stays; after = told-stays }
 
-  -- rounds of all nodes: each tells its names to all others
+  -- rounds of all nodes: each sends its names to all others
   pub rounds-reach : (w : World) → Calm w → ((p : ℕ) → is_node w.size.n p ≡ true → (x : Label) → K p x → knows (stored w p) x ≡ true)
       → Reaches (λ u. Calm u × Onward w u × ((p : ℕ) → is_node w.size.n p ≡ true → HasTold p u)) w (rounds w)
   rounds-reach w calm h =

@@ -1,4 +1,4 @@
--- Every world of a run keeps the rules; images that fit keep them, and those that keep them fit.
+-- Every world of a run keeps the rules. Images that fit keep them, and images that keep them fit.
 use Rattle.std.proofs.Common.{Bool, Err, List, Ok, Result, [], append-nil, ap₂, arith, cond, false, flat_map, length, map, not, refl, slice_index_or, subst, suc, sym, true, zero, ℕ, ⊎_elim, ◌++◌, ◌+◌, ◌<◌, ◌∷◌, ◌≡◌, ◌≤◌}
 use Rattle.std.proofs.lemmas.Bool.{cases_eq, cases_lt, cond_both, false≢true, not-false}
 use Rattle.std.specs.List.{AllByRecursion}
@@ -154,7 +154,7 @@ each_node f a (suc k) e p h l =
     let parts = nothing_left (f a) (flat_map f (numbers_from (suc a) k)) e in
     ⊎_elim (λ same. subst (λ (i : ℕ). f i ≡ []) same parts.0) (λ other. each_node f (suc a) k parts.1 p (omega arith) (omega arith)) (cases_eq a p)
 
--- no image stands behind the last
+-- no image is behind the last
 past_end : (images : List (List Entry)) (i : ℕ) → length images ≤ i → slice_index_or images i [] ≡ []
 past_end [] i h = refl
 past_end (x ∷ xs) zero h = absurd (omega arith)

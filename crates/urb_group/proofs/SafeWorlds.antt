@@ -1,4 +1,4 @@
--- A world that keeps the rules is safe, and has one message a name.
+-- A world that keeps the rules is safe, and has one message per name.
 use Rattle.std.proofs.Common.{List, Option, Some, ap, ap₂, arith, drop, length, map, refl, reverse, slice_get, suc, sym, take, true, zero, ℕ, ◌+◌, ◌<◌, ◌∙◌, ◌∷◌, ◌≡◌, ◌≤◌}
 use Rattle.urb_group.proofs.Drafting.{AllKept, agree, to_sender}
 use Rattle.urb_group.proofs.Runs.{all_kept}
@@ -35,7 +35,7 @@ module _ (w : World) (inv : NodesKept w) where
   delivered : (p : ℕ) (x : Label) → has_name (log (stored w p)) x ≡ true → IsHeld w.size.n (stored w) (pend (stored w p)) x
   delivered p x h = kept-held w.size (stored w) p (stored w p) (all p) x (logged_certified (stored w p) x h)
 
-  -- the name of this number, up to where the log reaches, has the message of that place
+  -- up to where the log reaches, the name of this number has the message of that place
   at_place : (p s i : ℕ) → i < reach s (certificates p) → (m : Content) × (message_of (pend (stored w p)) (name s (suc i)) ≡ Some m) × (slice_get (w.node s).broadcast i ≡ Some m)
   at_place p s i h =
       let in_row : has_name (row s 1 (reach s (certificates p))) (name s (suc i)) ≡ true = has-row s 1 (reach s (certificates p)) (suc i) (omega arith) (omega arith) in

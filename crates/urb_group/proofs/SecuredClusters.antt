@@ -1,4 +1,5 @@
--- Stores that last: what a stop leaves of each, also after a failure shut it, it may leave of its node; and commands keep it so.
+-- Stores that last. A stop leaves of each, also after a failure shut it, only what it may leave of
+-- its node. Commands keep this so.
 use Rattle.std.proofs.Common.{Bool, Err, List, None, Ok, Option, Result, Some, ap, false, inl, inr, refl, subst, suc, sym, true, ℕ, ◌-◌, ◌<◌, ◌∙◌, ◌∷◌, ◌≡◌, ◌⊎◌, ⊎_elim, ◌++◌, [], arith}
 use Rattle.std.specs.Prelude.{slice_get}
 use Rattle.std.proofs.lemmas.Bool.{and_parts, false≢true}
@@ -29,7 +30,7 @@ use Rattle.urb_group.specs.declared.command.Command.TheVariants as command
 abbrev pub IsLastingOf : {S A : Type 0} → Ghosts S A → Node → S → Type 0
 IsLastingOf g node store = IsStoreOf g node store × IsLasting g node store
 
--- a secured cluster, as one beside which a world stands
+-- a secured cluster, in the form of a world beside it
 abbrev pub beside-secured : {S A : Type 0} (g : Ghosts S A) (cluster : Clustered S) → IsSecured g cluster → Beside (IsLastingOf g) cluster
 beside-secured g cluster h = record { world = h.stocked.world; shows = h.stocked.shows; stores = λ i store got. (h.stocked.stores i store got, h.lasting i store got) }
 
@@ -42,7 +43,7 @@ secured-beside g cluster h =
 
 -- ---- one store
 
--- a node that stays is down if it was
+-- a node that stays is down if it was down
 still-down : (old new : Node) → Stays old new → is_down old.state ≡ true → is_down new.state ≡ true
 still-down old new s down = at (is_down new.state) refl
   where
@@ -57,15 +58,15 @@ honest-up g node store h up clean = ⊎_elim (λ honest. honest) (λ shut. absur
 pub lasting-known : {S A : Type 0} (g : Ghosts S A) (node : Node) (store : S) → IsLasting g node store → IsKnown g store
 lasting-known g node store h clean = ⊎_elim (λ honest. inl honest) (λ shut. inr shut.0) (h.known clean)
 
--- what gave its records is honest
+-- a store that gave its records is honest
 pub read-honest : {S A : Type 0} (g : Ghosts S A) (before after : S) (image : List Entry) → Gives g before (Ok image) after → IsKnown g before → g.is_clean after → g.is_honest after
 read-honest g before after image gives known clean = ⊎_elim (λ honest. gives.alive honest clean) (λ shut. absurd (gives.refuses shut clean).0) (known (gives.clean clean))
 
--- what is honest, if at all, lasts
+-- a store that is honest if it is clean, lasts
 pub lasting-honest : {S A : Type 0} (g : Ghosts S A) (node : Node) (store : S) → IsStoreOf g node store → (g.is_clean store → g.is_honest store) → IsLasting g node store
 lasting-honest g node store h honest = record { left = λ clean. h.left (honest clean); known = λ clean. inl (honest clean) }
 
--- where the store was asked for its records, a stop leaves no more than before
+-- if the store was asked for its records, a stop leaves no more than before
 asked-still : {S A : Type 0} (g : Ghosts S A) (node : Node) (before after : S) (answer : Result (List Entry) StoreFault) → Gives g before answer after → IsLasting g node before → g.is_clean after → LeavesOf g node after
 asked-still g node before after answer gives h clean = record { certain = was.certain; doubtful = was.doubtful; only = gives.lasts clean was.certain was.doubtful was.only; may = was.may }
   where
@@ -137,7 +138,7 @@ module _ {S A : Type 0} (g : Ghosts S A) (old new : Clustered S) (h : IsSecured 
   alone-left : new.stores ≡ old.stores → WouldLeave g h.stocked.world new.stores
   alone-left same i store got = (h.lasting i store (subst (λ stores. slice_get stores i ≡ Some store) same got)).left
 
-  -- one store was, and a stop inside the call leaves this of it
+  -- one store was asked, and a stop inside the call leaves this of it
   moved-left : (p : ℕ) (asked answered : S) → 0 < p → StoreMoves old.stores p asked answered new.stores → (g.is_clean answered → LeavesOf g (h.stocked.world.node p) answered) → WouldLeave g h.stocked.world new.stores
   moved-left p asked answered positive moves leaves i store got clean = at (set-cases old.stores (p - 1) answered i store (subst (λ stores. slice_get stores i ≡ Some store) moves.is got))
     where

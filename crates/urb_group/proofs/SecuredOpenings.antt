@@ -1,4 +1,4 @@
--- New clusters, and those that were opened, whose stores last.
+-- The stores of new clusters, and of clusters that were opened, last.
 use Rattle.std.proofs.Common.{Err, IfOk, List, Ok, Result, Some, [], length, suc, sym, subst, ℕ, ◌<◌, ◌≡◌}
 use Rattle.std.specs.List.{All}
 use Rattle.std.specs.Prelude.{Vec, slice_get, slice_index_or}

@@ -1,5 +1,5 @@
--- A packet that comes to a ready node, and the record that it may draft stored: the node knows the name then, and has counted
--- the packet's source for it or has certified it.
+-- A packet comes to a ready node, and the record that it may draft is stored. The node then knows
+-- the name, and has counted the packet's source for it or has certified it.
 use Rattle.std.proofs.Common.{Bool, List, None, Option, Some, [], ap, append-nil, eq-eqb, false, inl, inr, is_none, is_some, not, refl, subst, sym, true, ℕ, ⊎_elim, ◌++◌, ◌==◌, ◌||◌, ◌∙◌, ◌∷◌, ◌≡◌, ◌⊎◌}
 use Rattle.std.proofs.lemmas.Bool.{cases_Bool, cond_both, false_from_ne_true, false≢true, not-false, or_left, or_right}
 use Rattle.urb_group.proofs.ArriveCases.{any-heard}
@@ -30,7 +30,8 @@ use Rattle.urb_stable.specs.declared.record.Record.TheVariants.{Cert, Pend, Pend
 abbrev pub knows : List Entry → Label → Bool
 knows records x = is_some (message_of (pend records) x)
 
--- Of a name that it hasn't certified, a node with these records and acknowledgements has counted z, and those that it has counted are no majority yet.
+-- If the name isn't certified, a node with these records and acknowledgements has counted z. The
+-- nodes that it has counted are no majority yet.
 pub record Counts (n : ℕ) (records : List Entry) (acks : List (Label × ℕ)) (x : Label) (z : ℕ) : Type 0 where
   pub counted : has_name (cert records) x ≡ false → acked acks x z ≡ true
   pub few : has_name (cert records) x ≡ false → majority_passes n (acked acks x) ≡ false
@@ -193,7 +194,7 @@ module _ (size : Limits) (q p : ℕ) (x : Label) (m : Content) (flags : Option F
             cond_both f.heard _ _ (Took size.n q x p node.records node.acks) (λ _. took node.records node.acks (Again x) node ready same)
             (λ _. took node.records node.acks (Answered x (reply_to q p x m node ∷ [])) node ready same)
 
--- a packet of the name comes to a ready node, whatever it was told before
+-- a packet of the name comes to a ready node, whatever it heard before
 pub arrives-settles : (size : Limits) (images : ℕ → List Entry) (q p : ℕ) (x : Label) (m : Content) (flags : Option Flags) (node : Node) → node.state ≡ Ready → AcksKept images node.records node.acks
     → Took size.n q x p node.records node.acks (arrives size q p x m flags node)
 arrives-settles size images q p x m flags node ready kept =

@@ -60,7 +60,7 @@ entries-short (Cert y ∷ records) h = entries-short records h.1
 abbrev Keeps : Node → Reply × Node → Type 0
 Keeps node outcome = NodeShort node → NodeShort outcome.1
 
--- where the records and what is doubtful stay
+-- if the records and the doubtful record stay
 stays : (node new : Node) → node.records ≡ new.records → doubt node.state ≡ doubt new.state → NodeShort node → NodeShort new
 stays node new e f h = record { stored = subst (λ (rs : List Entry). AreShort (pend rs)) e h.stored; doubtful = subst (λ (d : Option Entry). DoubtShort d) f h.doubtful }
 

@@ -26,7 +26,7 @@ kept-own size images p earlier (r ∷ rs) h = (h.0.a, h.0.b, kept-own size image
 pub sound-opened : (group : GroupView) (size : Limits) (images : List (List Entry)) → AreImages size images → Fits size (image_of images) → Shows group (opened size (image_of images)) → IsSound group
 sound-opened group size images are fits s = record { world = opened size (image_of images); shows = s; kept = opened-kept size images are fits }
 
--- and so is one that shows the new world
+-- a group that shows the new world is sound too
 pub sound-new : (group : GroupView) (size : Limits) → Shows group (started size) → IsSound group
 sound-new group size s = record { world = started size; shows = s; kept = new-kept size }
 

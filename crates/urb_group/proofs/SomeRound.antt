@@ -1,5 +1,6 @@
--- From every world of a run there is a round: all nodes come back, and tick, one after the other, as often as there are messages; then
--- each packet arrives, and the record that it may draft is stored.
+-- There is a round from every world of a run. All nodes come back. They tick, one after the other,
+-- as often as there are messages. Then each packet arrives, and the record that it may draft is
+-- stored.
 use Rattle.std.proofs.Common.{Bool, Err, List, Ok, Result, [], ap, append-nil, append_assoc, arith, eq-eqb, false, if◌then◌else◌, inl, inr, length, refl, subst, suc, sym, true, zero, ℕ, ⊎_elim, ◌&&◌, ◌+◌, ◌++◌, ◌==◌, ◌∙◌, ◌∷◌, ◌≡◌, ◌≤◌, ◌⊎◌}
 use Rattle.std.proofs.lemmas.Bool.{cond-false, cond-true, cond_both}
 use Rattle.std.specs.List.{AllByRecursion}
@@ -260,7 +261,7 @@ module _ (among : ℕ → Bool) (bs : List Act) where
   put-event (Crash q) reply ls n h = put-disturbance reply ls h
   put-event (Restart q image) reply ls n h = put-disturbance reply ls h
 
-  -- in front of acts whose ticks arrive
+  -- events without ticks, in front of acts whose ticks arrive
   no_tick-then : (xs : List Event) (w : World) → AllByRecursion IsNoTick xs → TicksArrive among bs → TicksArrive among (acts_of w xs ++ bs)
   no_tick-then [] w n h = subst (λ (ls : List Act). TicksArrive among (ls ++ bs)) (sym (acts-none w)) h
   no_tick-then (event ∷ xs) w n h =

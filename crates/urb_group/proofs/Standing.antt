@@ -1,4 +1,4 @@
--- Elements that stand in a list, and in the lists that are made of it.
+-- Elements of a list, and of the lists that are made of it.
 use Rattle.std.proofs.Common.{Bool, List, Some, [], ap, ap₂, filter, flat_map, inl, inr, map, refl, slice_get, suc, sym, take, true, zero, ℕ, ⊎_elim, ◌&&◌, ◌++◌, ◌∙◌, ◌∷◌, ◌≡◌, ◌⊎◌, subst, length, arith, ◌<◌}
 use Rattle.std.proofs.lemmas.Bool.{and_parts, cond-true, cond_both, false≢true, or_cases}
 use Rattle.std.specs.List.{AllByRecursion}
@@ -8,7 +8,7 @@ use Rattle.urb_names.specs.Names.{name_lt, same_message, same_name}
 use Rattle.urb_names.specs.Naming.{Content, Label}
 use Rattle.urb_names.specs.Pairs.{has_pair}
 
--- the element stands in the list
+-- the element is in the list
 abbrev pub IsIn : {A : Type 0} → A → List A → Type 0
 IsIn x [] = ⊥
 IsIn x (y ∷ ys) = (y ≡ x) ⊎ IsIn x ys
@@ -36,12 +36,12 @@ in-flat_map f x [] y h k = absurd h
 in-flat_map f x (z ∷ xs) y h k =
     ⊎_elim (λ e. in-left y (f z) (flat_map f xs) (subst (λ (v : _). IsIn y (f v)) (sym e) k)) (λ e. in-right y (f z) (flat_map f xs) (in-flat_map f x xs y e k)) h
 
--- what holds of each element holds of one that stands there
+-- what holds of each element holds of this one
 pub in-all : {A : Type 0} (P : A → Type 0) (x : A) (xs : List A) → AllByRecursion P xs → IsIn x xs → P x
 in-all P x [] h k = absurd k
 in-all P x (y ∷ xs) h k = ⊎_elim (λ e. subst P e h.0) (λ e. in-all P x xs h.1 e) k
 
--- and holds of each where it holds of all that stand there
+-- it holds of each if it holds of all elements of the list
 pub all-in : {A : Type 0} (P : A → Type 0) (xs : List A) → ((x : A) → IsIn x xs → P x) → AllByRecursion P xs
 all-in P [] h = tt
 all-in P (x ∷ xs) h = (h x (inl refl), all-in P xs (λ y k. h y (inr k)))
@@ -51,12 +51,12 @@ pub in-place : {A : Type 0} (x : A) (xs : List A) → IsIn x xs → (i : ℕ) ×
 in-place x [] h = absurd h
 in-place x (y ∷ xs) h = ⊎_elim (λ e. (zero, ap Some e)) (λ e. let at = in-place x xs e in (suc at.0, at.1)) h
 
--- others stand before it, and others behind
+-- others are before it, and others behind
 pub in-split : {A : Type 0} (x : A) (xs : List A) → IsIn x xs → (us : List A) × (vs : List A) × (xs ≡ us ++ x ∷ vs)
 in-split x [] h = absurd h
 in-split x (y ∷ xs) h = ⊎_elim (λ e. ([], xs, ap (λ z. z ∷ xs) e)) (λ e. let at = in-split x xs e in (y ∷ at.0, at.1, ap (λ zs. y ∷ zs) at.2)) h
 
--- it stands among the first, where there are fewer before it
+-- it is among the first n, if fewer than n are before it
 pub in-take : {A : Type 0} (n : ℕ) (us : List A) (x : A) (vs : List A) → length us < n → IsIn x (take n (us ++ x ∷ vs))
 in-take zero us x vs l = absurd (omega arith)
 in-take (suc n) [] x vs l = inl refl

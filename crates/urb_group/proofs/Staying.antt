@@ -1,5 +1,5 @@
--- What a node that is up keeps through an event that is quiet and is not refused: it stays up, and what it heard it has heard; and
--- its cursor, but for its own ticks.
+-- What a node that is up keeps through an event that is quiet and not refused. It stays up, and
+-- still has heard what it heard. Its cursor stays, except at its own ticks.
 use Rattle.std.proofs.Common.{Err, List, [], None, Ok, Option, Result, Some, ap, eq-eqb, eqb-true, false, is_none, not, refl, subst, sym, true, ℕ, ⊎_elim, ◌&&◌, ◌==◌, ◌||◌, ◌∙◌, ◌∷◌, ◌≡◌}
 use Rattle.std.proofs.lemmas.Bool.{cases_Bool, cond_both, false≢true, or_right}
 use Rattle.urb_group.proofs.CalmSteps.{event_node, step-elsewhere}
@@ -123,7 +123,7 @@ here-stays w (Fail p) h t e = absurd h
 here-stays w (Crash p) h t e = absurd h
 here-stays w (Restart p image) h t e = at-node-stays w p _ e (restarts-stays (w.node p) e p image (w.node p).state e)
 
--- at any node that is up, where the event isn't its tick
+-- at any node that is up, if the event isn't its tick
 pub step-stays : (w : World) (event : Event) (p : ℕ) → IsQuiet event → is_tick_of p event ≡ false → is_down (w.node p).state ≡ false → Stays (w.node p) ((step w event).1.node p)
 step-stays w event p h t e = ⊎_elim here elsewhere (cases_Bool (p == event_node event))
   where

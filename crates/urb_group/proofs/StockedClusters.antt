@@ -1,4 +1,5 @@
--- The stores of a cluster stay those of a world that its group shows, whatever a command makes of them.
+-- The stores of a cluster stay those of a world that its group shows, whatever a command makes of
+-- them.
 use Rattle.std.proofs.Common.{Bool, Err, List, None, Ok, Option, Result, Some, [], ap, false, inl, inr, refl, subst, sym, true, ℕ, ◌∙◌, ◌∷◌, ◌≡◌, ◌⊎◌, ⊎_elim, ◌++◌}
 use Rattle.std.proofs.lemmas.Bool.{false≢true}
 use Rattle.urb_node.specs.Part.{Down, Node, Ready, State}
@@ -19,25 +20,26 @@ use Rattle.urb_group.specs.Stocked.{HoldsOf, IsStocked, IsStoreOf, LeavesOf}
 use Rattle.urb_group.specs.Stopping.{MayLeave}
 use Rattle.urb_group.specs.declared.command.Command.{Command}
 
--- a stocked cluster, as one beside which a world stands
+-- a stocked cluster, in the form of a world beside it
 abbrev pub beside-stocked : {S A : Type 0} (g : Ghosts S A) (cluster : Clustered S) → IsStocked g cluster → Beside (IsStoreOf g) cluster
 beside-stocked g cluster h = record { world = h.world; shows = h.shows; stores = h.stores }
 
 pub stocked-beside : {S A : Type 0} (g : Ghosts S A) (cluster : Clustered S) → Beside (IsStoreOf g) cluster → IsStocked g cluster
 stocked-beside g cluster h = record { world = h.world; shows = h.shows; stores = h.stores }
 
--- ---- a draft was to be kept
+-- ---- a store was asked to keep a draft
 
 -- at rest a stop leaves what the store may turn out to hold
 pub leaves-held : {S A : Type 0} (g : Ghosts S A) (node : Node) (store : S) → HoldsOf g node store → (g.is_honest store → g.leaves_only store (IsContents (g.certain store) (g.doubt store))) → g.is_honest store → LeavesOf g node store
 leaves-held g node store holds rest honest = record { certain = g.certain store; doubtful = g.doubt store; only = rest honest; may = holds honest }
 
--- inside a call that asks the store for its records, it leaves what the store might have turned out to hold before
+-- inside a call that asks the store for its records, a stop leaves what the store might have turned
+-- out to hold before
 pub asked-left : {S A : Type 0} (g : Ghosts S A) (node : Node) (before after : S) → (g.is_honest before → g.is_clean after → g.leaves_only after (IsContents (g.certain before) (g.doubt before))) → HoldsOf g node before
     → g.is_honest before → g.is_clean after → LeavesOf g node after
 asked-left g node before after stop holds honest clean = record { certain = g.certain before; doubtful = g.doubt before; only = stop honest clean; may = holds honest }
 
--- the store took it
+-- the store took the draft
 pub took : {S A : Type 0} (g : Ghosts S A) (node new : Node) (before after : S) (draft : Placed) → Keeps g before draft (Ok tt) after → IsStoreOf g node before → is_down node.state ≡ false
     → new.records ≡ node.records ++ draft.entry ∷ [] → new.state ≡ Ready → IsStoreOf g new after
 took g node new before after draft keeps store up records ready =
@@ -53,8 +55,8 @@ took g node new before after draft keeps store up records ready =
     holds : HoldsOf g new after
     holds honest image c = subst (λ (s : State). IsContents new.records (doubt s) image) (sym ready) (subst (λ (o : Option Entry). IsContents (g.certain after) o image) keeps.clear.1 c ∙ certain honest)
 
--- Its node fell while it held this record: the store has the node's records for certain, and of the held one it knows nothing,
--- or has it in doubt.
+-- Its node fell while it held this record. The store has the node's records for certain. Of the
+-- held record it knows nothing, or has it in doubt.
 pub fallen : {S A : Type 0} (g : Ghosts S A) (node new : Node) (after : S) (entry : Entry) → (g.is_honest after → g.certain after ≡ node.records) → (g.is_honest after → (g.doubt after ≡ None) ⊎ (g.doubt after ≡ Some entry))
     → (g.is_honest after → g.leaves_only after (IsContents (g.certain after) (g.doubt after))) → new.records ≡ node.records → new.state ≡ Down (Some entry) → IsStoreOf g new after
 fallen g node new after entry kept in_doubt rest records down =
@@ -74,7 +76,8 @@ fallen g node new after entry kept in_doubt rest records down =
     holds : HoldsOf g new after
     holds honest image c = subst (λ (s : State). IsContents new.records (doubt s) image) (sym down) (held honest image (in_doubt honest) c)
 
--- inside a call that asks the store of a node that is up to keep a draft, a stop leaves the node's records, or these with the draft's
+-- a store is asked to keep a draft, and its node is up: a stop inside the call leaves the node's
+-- records, or these with the draft's
 pub left-by-draft : {S A : Type 0} (g : Ghosts S A) (node : Node) (before after : S) (draft : Placed) (answer : Result (Unit {0}) StoreFault) → Keeps g before draft answer after → IsStoreOf g node before
     → is_down node.state ≡ false → g.is_honest before → g.is_clean after → g.leaves_only after (IsContents node.records (Some draft.entry))
 left-by-draft g node before after draft answer keeps store up honest clean =
@@ -91,7 +94,7 @@ lost g node new before after draft fault keeps store up records down =
     answer : Result (Unit {0}) StoreFault
     answer = Err fault
 
-    -- out of place, the store stayed; else the record is in doubt, or lost
+    -- if out of place, the store stayed; otherwise the record is in doubt, or lost
     in_doubt : (b : Bool) → is_place fault ≡ b → g.is_honest after → (g.doubt after ≡ None) ⊎ (g.doubt after ≡ Some draft.entry)
     in_doubt false e honest = keeps.doubt e
     in_doubt true e honest = at (is_out_of_place (g.is_doubtful before) (g.place before) draft.pos) refl
@@ -100,7 +103,7 @@ lost g node new before after draft fault keeps store up records down =
         at true out = inl (ap g.doubt (keeps.same out) ∙ (store.up (keeps.honest honest) up).1)
         at false out = absurd (false≢true (sym (subst (λ (b : Bool). IsPlaced b (g.place before) answer) out keeps.placed).0 ∙ e))
 
--- a node of this world holds the draft-- ---- a store was to give its records
+-- ---- a store was asked for its records
 
 -- the node that it was for
 pub rose : {S A : Type 0} (g : Ghosts S A) (node new : Node) (before after : S) (image : List Entry) → Gives g before (Ok image) after → (MayLeave node image → Rises image new) → IsStoreOf g node before → IsStoreOf g new after

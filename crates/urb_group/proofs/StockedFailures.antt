@@ -1,4 +1,4 @@
--- What a store in memory that fails as it was told makes of a stocked cluster.
+-- What a store in memory that was armed to fail makes of a stocked cluster.
 use Rattle.std.proofs.Common.{Bool, None, Option, Some, false, inl, inr, length, refl, true, ℕ, ◌+◌, ◌∙◌, ◌≡◌, ◌⊎◌, ⊎_elim, ap}
 use Rattle.urb_group.proofs.Beside.{fell-beside, quiet-beside}
 use Rattle.urb_group.proofs.StockedClusters.{beside-stocked, fallen, stock-lasts, stocked-beside}

@@ -1,4 +1,5 @@
--- A node whose record is stored, whose store fails, or that restarts, and what its store may hold then.
+-- A node whose record is stored, whose store fails, or that restarts, and what its store may hold
+-- then.
 use Rattle.std.proofs.Math.Path.{fun_ext}
 use Rattle.std.proofs.Common.{Bool, List, None, Option, Some, [], ap, arith, eq-eqb, false, length, length-append, refl, subst, suc, sym, true, ℕ, ◌&&◌, ◌+◌, ◌++◌, ◌==◌, ◌∙◌, ◌∷◌, ◌≡◌, ◌⊎◌, ⊎_elim, eqb-true}
 use Rattle.std.specs.List.{list_all}
@@ -83,8 +84,8 @@ fail-node w p entry cause there held =
 
 -- ---- a restart
 
--- what an image that a stop may leave makes of a node that is down: the image is what the node may leave then, and what it
--- has stored, where it is up
+-- A node that is down gets an image that a stop may leave. The image is then what the node may
+-- leave. If the node is up, it is what the node has stored.
 pub record Rises (image : List Entry) (new : Node) : Type 0 where
   pub may : MayLeave new image
   pub up : is_down new.state ≡ false → image ≡ new.records

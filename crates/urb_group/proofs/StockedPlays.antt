@@ -1,4 +1,5 @@
--- The stores of a new cluster, after a failure that was asked for, and after commands that were played; and what they come to.
+-- The stores of a new cluster, after a failure that was asked for, and after commands that were
+-- played.
 use Rattle.std.proofs.Common.{Err, List, None, Ok, Option, Result, Some, [], ap, arith, length, refl, subst, suc, sym, zero, ℕ, ◌<◌, ◌∙◌, ◌∷◌, ◌≡◌, ◌≤◌, ⊎_elim, IfOk}
 use Rattle.std.specs.Prelude.{slice_get}
 use Rattle.std.specs.List.{All, AllByRecursion}
@@ -39,7 +40,7 @@ all-at P [] h i store e = absurd (cc)
 all-at P (s ∷ stores) h zero store e = (let f : s ≡ store = cc in subst P f h.0)
 all-at P (s ∷ stores) h (suc i) store e = all-at P stores h.1 i store e
 
--- a store in which nothing was stored is that of a node that has stored nothing
+-- a store in which nothing was stored belongs to a node that has stored nothing
 pub blank-store : {S A : Type 0} (g : Ghosts S A) (size : Limits) (p : ℕ) (store : S) → IsBlank g store → IsStoreOf g ((started size).node p) store
 blank-store g size p store blank =
     record {
@@ -103,7 +104,7 @@ chosen-left g group w stores images shows hold places chosen (suc i) = ⊎_elim 
         let beyond : length group.nodes ≤ i = (let e = chosen.one_each in omega (arith, e, places, more)) in
         subst (λ (records : List Entry). MayLeave (w.node (suc i)) records) (sym (get_or_past images i [] more)) (no-place group w (suc i) shows (get_or_past group.nodes i no_view beyond))
 
--- and it goes on
+-- the group goes on from there
 pub held-fits : {S A : Type 0} (g : Ghosts S A) (group : GroupView) (w : World) (stores : List S) → IsSound group → Shows group w → AllHold g w stores → length stores ≡ length group.nodes → (images : List (List Entry)) → AreChosen g stores images → GoesOnIn w (image_of images)
 held-fits g group w stores sound shows hold places images chosen = survives w (sound-kept group w sound shows) (image_of images) (chosen-left g group w stores images shows hold places chosen)
 

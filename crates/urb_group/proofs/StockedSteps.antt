@@ -1,4 +1,5 @@
--- Events by which no record joins a node's list: what a stop may leave of the node stays, or grows by a held record.
+-- Events that add no record to a node's list: what a stop may leave of the node stays, or grows by
+-- a held record.
 use Rattle.std.proofs.Common.{Bool, Err, List, None, Ok, Option, Result, Some, bytes_eq, cond, eqb-true, false, find, inl, inr, length, nat_lt, not, refl, subst, sym, true, ℕ, ◌==◌, ◌||◌, ◌∙◌, ◌≡◌, ◌⊎◌, ⊎_elim}
 use Rattle.std.proofs.lemmas.Bool.{cond_both, false≢true}
 use Rattle.urb_group.proofs.ArriveCases.{arrive-cases}
@@ -21,7 +22,8 @@ use Rattle.urb_stable.specs.Entries.{Entry}
 use Rattle.urb_stable.specs.Storing.{IsContents}
 use Rattle.urb_stable.specs.declared.stable.Stable.{Ghosts}
 
--- the node has the same records, and if anything was held or in doubt, it still is; and it isn't up if it was down
+-- The node has the same records. If anything was held or in doubt, it still is. The node isn't up
+-- if it was down.
 pub record Stays (old new : Node) : Type 0 where
   pub records : new.records ≡ old.records
   pub doubt : (doubt old.state ≡ None) ⊎ (doubt new.state ≡ doubt old.state)
@@ -39,7 +41,7 @@ free Ready d e = refl
 free (Storing entry cause) d e = absurd (false≢true (sym e))
 free (Down o) d e = absurd (false≢true (sym d))
 
--- from a ready node on, with the same records
+-- a node that was ready, with the same records
 from_ready : (node new : Node) → is_down node.state ≡ false → is_storing node.state ≡ false → new.records ≡ node.records → Stays node new
 from_ready node new d e r = record { records = r; doubt = inl (free node.state d e); up = λ _. d }
 
@@ -98,7 +100,7 @@ bytes-stay w p (Ok packet) q =
     cond_both (is_for w p packet) (at_node w p (packet_arrives w p packet)) (Refused refusal.BadNode, w) (λ (o : Reply × World). Stays (w.node q) (o.1.node q))
     (λ _. at-stays w p (packet_arrives w p packet) (packet-stays w p packet) q) (λ _. same (w.node q))
 
--- no record joins a list by this event
+-- this event adds no record to a list
 abbrev pub IsQuiet : Event → Type 0
 IsQuiet (Submit p m) = Unit {0}
 IsQuiet (Arrive p bytes) = Unit {0}

@@ -1,4 +1,5 @@
--- A stop inside a call of a cluster: of each store that was honest before it leaves what a stop may leave of its node.
+-- A stop inside a call of a cluster. Of each store that was honest before, it leaves what a stop
+-- may leave of its node.
 use Rattle.std.proofs.Common.{Bool, Err, List, None, Ok, Option, Result, Some, ap, arith, false, inl, inr, refl, subst, suc, sym, true, ℕ, ◌+◌, ◌++◌, ◌-◌, ◌<◌, ◌∙◌, ◌∷◌, ◌≡◌, ◌⊎◌, ⊎_elim, []}
 use Rattle.std.specs.Prelude.{length, slice_get}
 use Rattle.std.proofs.lemmas.Bool.{and_parts}
@@ -32,7 +33,7 @@ alone-leaves g old new same h i before after was is honest clean = (h.stores i a
     there : slice_get old.stores i ≡ Some after
     there = subst (λ stores. slice_get stores i ≡ Some after) same is
 
--- one store was, and a stop inside the call leaves this of it
+-- one store was asked, and a stop inside the call leaves this of it
 moved-leaves : {S A : Type 0} (g : Ghosts S A) (old new : Clustered S) (p : ℕ) (asked answered : S) → 0 < p → StoreMoves old.stores p asked answered new.stores → (h : IsStocked g old)
     → (g.is_honest asked → g.is_clean answered → LeavesOf g (h.world.node p) answered) → StopLeaves g h.world old.stores new.stores
 moved-leaves {S} g old new p asked answered positive moves h leaves i before after was is honest clean = at (set-cases old.stores (p - 1) answered i after (subst (λ stores. slice_get stores i ≡ Some after) moves.is is))
@@ -45,9 +46,9 @@ moved-leaves {S} g old new p asked answered positive moves h leaves i before aft
         (subst (λ (s : S). LeavesOf g (h.world.node p) s) (sym e.1) (leaves (subst g.is_honest asked_is honest) (subst g.is_clean e.1 clean)))
     at (inr e) = (h.stores i after e.1).left (subst g.is_honest (one-store old.stores i was e.1) honest)
 
--- ---- a draft was to be kept
+-- ---- a store was asked to keep a draft
 
--- of a node that holds it: its records, or these with the draft's
+-- of a node that holds the draft: its records, or these with the draft's
 pub leaves-draft : {S A : Type 0} (g : Ghosts S A) (node : Node) (after : S) (entry : Entry) → doubt node.state ≡ Some entry → g.leaves_only after (IsContents node.records (Some entry)) → LeavesOf g node after
 leaves-draft g node after entry held only =
     record { certain = node.records; doubtful = Some entry; only = only; may = λ records c. subst (λ (o : Option Entry). IsContents node.records o records) (sym held) c }
@@ -70,7 +71,7 @@ held-leaves : {S A : Type 0} (g : Ghosts S A) (old new : Clustered S) (p : ℕ) 
 held-leaves g old new p reply None e alone h = alone-leaves g old new alone.1 h
 held-leaves g old new p reply (Some draft) e stores h = stored-leaves g old new p draft reply e stores h
 
--- ---- a store was to give its records
+-- ---- a store was asked for its records
 
 asked-leaves : {S A : Type 0} (g : Ghosts S A) (old new : Clustered S) (p : ℕ) (reply : Reply) → is_fallen old.group p ≡ true → AsksStore g old p reply new → (h : IsStocked g old) → StopLeaves g h.world old.stores new.stores
 asked-leaves g old new p reply fallen asks h =
@@ -94,7 +95,7 @@ applies-leaves g old new (command.Store p) reply stores h = held-leaves g old ne
 applies-leaves g old new (command.Crash p) reply alone h = alone-leaves g old new alone.1 h
 applies-leaves g old new (command.Restart p) reply restarts h = restarts-leaves g old new p reply (is_fallen old.group p) refl restarts h
 
--- ---- a store in memory that fails as it was told
+-- ---- a store in memory that was armed to fail
 
 broke-leaves : {A : Type 0} (node : Node) (before after : Memory) (draft : Placed) (failure : Failure) → BreaksArmed failure before draft after → IsStoreOf (in_memory A) node before → is_down node.state ≡ false → doubt node.state ≡ Some draft.entry → LeavesOf (in_memory A) node after
 broke-leaves {A} node before after draft failure breaks store up held = leaves-draft (in_memory A) node after draft.entry held only

@@ -1,4 +1,5 @@
--- What a stop leaves of a world that keeps the rules fits together, and opens a group that goes on from it.
+-- What a stop leaves of a world that keeps the rules fits together, and opens a group that goes on
+-- from it.
 use Rattle.std.proofs.Common.{Bool, List, None, Some, [], ap, ap₂, bytes_eq, cond, eq-eqb, eqb-true, false, find, inl, inr, le-ltb, length, nat_lt, refl, slice_get, subst, suc, sym, true, ℕ, ◌++◌, ◌==◌, ◌∙◌, ◌∷◌, ◌≡◌, ◌≤◌}
 use Rattle.std.proofs.lemmas.Bool.{cond-false, cond-true}
 use Rattle.std.proofs.lemmas.Slice.Eq.{bytes_eq-Decides}

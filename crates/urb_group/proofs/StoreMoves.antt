@@ -24,21 +24,21 @@ use Rattle.urb_stable.specs.declared.memory.Failure.{Failure}
 use Rattle.urb_stable.specs.declared.stable.Stable.{Ghosts}
 use Rattle.urb_stable.specs.declared.stable.StoreFault.{StoreFault}
 
--- a store that was lent is that of its place
+-- a store that was lent belongs to its place
 pub store-moves : {S : Type 0} (xs : List S) (p q : ℕ) (before after : S) → q ≡ p → q - 1 < length xs → before ≡ get_or xs (q - 1) before → StoreMoves xs p before after (slice_set xs (q - 1) after)
 store-moves xs p q before after e l h =
     subst (λ (i : ℕ). StoreMoves xs i before after (slice_set xs (q - 1) after)) e
     (record { was = slice_get_read xs (length xs) (q - 1) before refl l h; is = refl })
 
--- where a node's draft is in its place, it is one of the group
+-- if a node's draft is in its place, the node is one of the group
 pub held-bounds : (group : GroupView) (p : ℕ) (draft : Placed) → held_draft group p ≡ Some draft → (0 < p) × (p ≤ group.size.n)
 held-bounds group p draft h = node-bounds group.size.n p (held-as group p draft h).there
 
--- where a node of the group is down, it is one of the group
+-- if a node of the group is down, it is one of the group
 pub fallen-bounds : (group : GroupView) (p : ℕ) → is_fallen group p ≡ true → (0 < p) × (p ≤ group.size.n)
 fallen-bounds group p h = node-bounds group.size.n p (and_parts (is_node group.size.n p) (is_down (view_of group p).state) h).0
 
--- the draft is that of its own node
+-- the draft belongs to its own node
 pub held-self : (group : GroupView) (p : ℕ) (draft : Placed) → held_draft group p ≡ Some draft → held_draft group draft.node ≡ Some draft
 held-self group p draft h = subst (λ (i : ℕ). held_draft group i ≡ Some draft) (sym (held-as group p draft h).node) h
 
@@ -46,7 +46,7 @@ stored-at : (draft : Placed) (answer : Result (Unit {0}) StoreFault) → event_n
 stored-at draft (Ok done) = refl
 stored-at draft (Err fault) = refl
 
--- ---- a store that was to keep a draft
+-- ---- a store that was asked to keep a draft
 
 pub stored-tied : (old new : GroupView) (p stores : ℕ) (drafts : List (Option Placed)) (draft : Placed) (event : Event) (IsTold : Reply → Type 0)
     → IsTied old stores drafts → held_draft old p ≡ Some draft → event_node event ≡ draft.node → Steps old event IsTold new → held_draft new draft.node ≡ None → IsTied new stores (slice_set drafts (p - 1) None)
@@ -59,7 +59,7 @@ stored-tied old new p stores drafts draft event IsTold tied held e steps free =
     let within : p - 1 < length drafts = omega arith in
     tied-set old new event IsTold stores drafts tied steps p None (e ∙ node) low within (subst (λ (i : ℕ). held_draft new i ≡ None) node free)
 
--- a store that failed as it was told to
+-- a store that failed as it was armed to
 pub lost-tied : {S : Type 0} (old new : GroupView) (p q : ℕ) (stores : List S) (drafts places : List (Option Placed)) (draft : Placed) (after : S) (reply : Reply)
     → IsTied old (length stores) drafts → held_draft old p ≡ Some draft → Steps old (Fail draft.node) (λ told. told ≡ reply) new → held_draft new draft.node ≡ None → places ≡ slice_set drafts (p - 1) None
     → IsTied new (length (slice_set stores (q - 1) after)) places
@@ -121,7 +121,7 @@ module _ {S A : Type 0} (g : Ghosts S A) where
   pub unstored-stores : (old : Clustered S) (p : ℕ) (r : Refusal) → IsUnstored old.group p (Some r) → StoresHeld g old p (held_draft old.group p) (Refused r) old
   unstored-stores old p r h = subst (λ (o : Option Placed). StoresHeld g old p o (Refused r) old) (sym h.0) (h.1, refl)
 
-  -- ---- a store that was to give its records
+  -- ---- a store that was asked for its records
 
   returned-tied : (old new : GroupView) (p stores : ℕ) (drafts : List (Option Placed)) (answer : Result (List Entry) StoreFault) (reply : Reply)
       → IsTied old stores drafts → Returns old p answer reply new → held_draft old p ≡ None → held_draft new p ≡ None → IsTied new stores drafts

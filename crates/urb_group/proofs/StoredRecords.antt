@@ -89,7 +89,7 @@ step-stored w (Restart p image) quiet q = absurd quiet
 -- ---- a stored record
 
 module _ (told : Done) where
-  -- where it was stored, so much more was released
+  -- if a record was stored, the log grew by the number released
   abbrev Releases : Node → Reply × Node → Type 0
   Releases node outcome = outcome.0 ≡ Stored told → length (log outcome.1.records) ≡ length (log node.records) + told.released
 

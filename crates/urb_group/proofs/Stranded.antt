@@ -1,4 +1,5 @@
--- A group that is not stranded never is later: alone, a node stores no pair without its certificate.
+-- A group that is not stranded never becomes stranded: if a node is alone, it stores no pair
+-- without its certificate.
 use Rattle.std.proofs.Common.{Bool, Err, List, None, Ok, Result, Some, [], cond, eqb-true, false, refl, subst, sym, true, ℕ, ◌&&◌, ◌++◌, ◌==◌, ◌∷◌, ◌≡◌}
 use Rattle.std.proofs.lemmas.Bool.{cond_both, false≢true}
 use Rattle.urb_group.proofs.ComingBack.{Whole, whole-joined}

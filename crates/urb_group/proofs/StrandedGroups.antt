@@ -1,4 +1,5 @@
--- A group that is stranded stays so: alone, a node hears no packet, so that it drafts no certificate of what it has stored.
+-- A group that is stranded stays so: a node that is alone hears no packet, so it drafts no
+-- certificate of what it has stored.
 use Rattle.std.proofs.Common.{Err, List, None, Ok, Option, Result, Some, [], ap, append-nil, arith, bytes_eq, cond, false, filter, find, flat_map, is_none, is_some, length, ltb-true, nat_lt, not, refl, slice_get, subst, suc, sym, true, ℕ, ⊎_elim, ◌&&◌, ◌++◌, ◌==◌, ◌∙◌, ◌∷◌, ◌≡◌}
 use Rattle.std.proofs.lemmas.Bool.{and_parts, cond_both, false_from_ne_true, false≢true}
 use Rattle.urb_group.proofs.Runs.{opened-kept, step-keeps, step-sends}
@@ -31,14 +32,14 @@ use Rattle.urb_stable.specs.Fitting.{Fits, in_range, keeps_a}
 use Rattle.urb_stable.specs.Records.{cert, pend}
 use Rattle.urb_stable.specs.declared.record.Record.TheVariants.{Cert, Pend, PendCert}
 
--- the record, where there is one, is no certificate of an earlier pair
+-- the record, if there is one, is no certificate of an earlier pair
 abbrev IsNoCertificate : Option Entry → Type 0
 IsNoCertificate None = Unit {0}
 IsNoCertificate (Some (Pend x m)) = Unit {0}
 IsNoCertificate (Some (PendCert x m)) = Unit {0}
 IsNoCertificate (Some (Cert x)) = ⊥
 
--- what is so of a name that a node has stored alone, and not certified
+-- what holds of a name that a node has stored alone, and not certified
 record IsStuck (x : Label) (w : World) : Type 0 where
   alone : w.size.n ≡ 1
   silent : w.sent ≡ []
@@ -165,7 +166,7 @@ restart-open size images x p image node (Down (Some r)) k none h =
 -- ---- one step
 
 module _ (x : Label) (w : World) (stuck : IsStuck x w) where
-  -- what is to be so of the reply and the world after it
+  -- what has to hold of the reply and the world after it
   record StepQuiet (outcome : Reply × World) : Type 0 where
     sends : packets_in outcome.0 ≡ []
     drafts : IsNoCertificate (doubt (outcome.1.node 1).state)

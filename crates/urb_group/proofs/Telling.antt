@@ -1,4 +1,4 @@
--- A round in which what ticks hand out arrives: each other node is told what a node had pending.
+-- A round in which the packets of ticks arrive: each other node hears what a node had pending.
 use Rattle.std.proofs.Common.{Bool, List, Ok, Option, [], ap, eq-eqb, false, is_some, length, refl, subst, sym, true, ℕ, ⊎_elim, ◌&&◌, ◌*◌, ◌==◌, ◌∙◌, ◌∷◌, ◌≡◌, ◌≤◌}
 use Rattle.std.proofs.lemmas.Bool.{and_from}
 use Rattle.std.specs.List.{AllByRecursion}
@@ -23,7 +23,7 @@ use Rattle.urb_node.specs.Steps.{is_down}
 use Rattle.urb_stable.proofs.KeptRules.{kept-held}
 use Rattle.urb_stable.specs.Records.{cert, pend}
 
--- what arrives among these events is counted in the end
+-- a packet that arrives among these events is counted in the end
 arrive-among : (events : List Event) (u : World) (packet : Carried) → Sound u → Proceeds u events → IsAmong (Arrive packet.target (Ok packet)) events
     → ((after u events).node packet.target).state ≡ Ready → IsCountedAt (after u events) packet.target packet.name packet.source
 unfolding run
@@ -54,7 +54,7 @@ module _ (among : ℕ → Bool) (p q : ℕ) (x : Label) (m : Content) (from : am
   comes : Comes p q x m Claim
   comes = record { sends = sends; later = later }
 
--- a round of p and q, in which p knows the pair, or holds its record, at the beginning
+-- a round of p and q; at its beginning, p knows the pair, or holds its record
 pub sound-tells : (among : ℕ → Bool) (w : World) (p q : ℕ) (x : Label) (m : Content) (events : List Event) → among p ≡ true → among q ≡ true
     → Sound w → is_node w.size.n q ≡ true → (q == p) ≡ false → is_down (w.node p).state ≡ false → has_pair (pend (whole p (w.node p)).records) x m ≡ true → Proceeds w events → AllArrive among w events
     → length (pend (stored (after w events) p)) ≤ 16 * ticks_among p events → ((after w events).node p).state ≡ Ready → ((after w events).node q).state ≡ Ready → IsCountedAt (after w events) q x p

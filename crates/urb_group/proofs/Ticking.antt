@@ -1,4 +1,5 @@
--- A ready node's ticks: each pair that is due is sent to each node whose certificate of it was not heard.
+-- A ready node's ticks: each pair that is due is sent to each node whose certificate of it was not
+-- heard.
 use Rattle.std.proofs.Common.{List, ap, append-nil, append_assoc, flat_map, refl, replicate, subst, suc, sym, true, zero, ℕ, ◌++◌, ◌∙◌, ◌≡◌}
 use Rattle.std.proofs.lemmas.Bool.{cond-false, cond-true}
 use Rattle.std.proofs.lemmas.Grind.{flat_map-append}
@@ -23,7 +24,7 @@ use Rattle.urb_stable.specs.Records.{cert, pend}
 abbrev pub due_pairs : ℕ → ℕ → Node → List (Label × Content)
 due_pairs n p node = due_of n p node.heard (rising (pend node.records))
 
--- the packets of these pairs to nodes that were not heard
+-- the packets of these pairs to nodes whose certificates were not heard
 abbrev pub resent_packets : ℕ → ℕ → Node → List (Label × Content) → List Carried
 resent_packets n p node pairs = flat_map (to_unheard n p (cert node.records) node.heard) pairs
 

@@ -1,4 +1,4 @@
--- A tick keeps what all nodes keep, and sends stored pairs alone.
+-- A tick keeps what all nodes keep, and sends only stored pairs.
 use Rattle.std.proofs.Common.{List, ℕ, ◌≡◌}
 use Rattle.std.proofs.lemmas.Bool.{cond_both}
 use Rattle.urb_group.proofs.Drafting.{leads-refuses}

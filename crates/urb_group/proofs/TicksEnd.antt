@@ -1,5 +1,5 @@
--- Once every name that a node knows is certified everywhere, records stay as they are, answers make certificates heard, and no name is due
--- any more.
+-- What follows once every name that a node knows is certified everywhere. Records stay as they are,
+-- answers make certificates heard, and no name is due any more.
 use Rattle.std.proofs.Common.{Bool, Err, List, None, Ok, Option, Result, Some, [], ap, eqb-true, false, filter, flat_map, inl, inr, is_none, is_some, length, not, refl, subst, sym, true, ℕ, ⊎_elim, ◌&&◌, ◌*◌, ◌++◌, ◌==◌, ◌∙◌, ◌∷◌, ◌≡◌, ◌≤◌, ◌⊎◌}
 use Rattle.std.proofs.lemmas.Bool.{and_from, cases_Bool, cond-false, cond-true, cond_both, false≢true, or_from}
 use Rattle.std.specs.List.{list_any}
@@ -54,8 +54,8 @@ pub record Rests (old new : Node) : Type 0 where
 rests-itself : (node : Node) → Rests node node
 rests-itself node = record { records = refl; state = refl }
 
--- a packet of a name that its target has certified: it is answered, unless it says that the certificate was heard, or is of version one;
--- and a certificate that it tells of is heard
+-- A packet of a name that its target has certified. It is answered, unless it says that the
+-- certificate was heard, or is of version one. A certificate that it reports is heard.
 pub record Answers (p : ℕ) (packet : Carried) (old : Node) (o : Reply × Node) : Type 0 where
   pub rests : Rests old o.1
   pub heard : says_certified packet.flags ≡ true → acked o.1.heard packet.name packet.source ≡ true
@@ -104,7 +104,7 @@ arrives-answers size p packet node known certified =
     there None e = absurd (false≢true e)
 
 module _ (w : World) (c : AllCertified w) where
-  -- what comes to a node is of a name that it knows and has certified
+  -- a packet that comes to a node is of a name that the node knows and has certified
   module _ (p : ℕ) (packet : Carried) (is : is_node w.size.n p ≡ true) (done : IsDone (step w (Arrive p (Ok packet))).0) where
     source-knows : knows (stored w packet.source) packet.name ≡ true
     source-knows = knows-pair (stored w packet.source) packet.name packet.message (borne-pair (stored w packet.source) packet (arrive-done w p packet done).truth)
@@ -141,7 +141,7 @@ module _ (w : World) (c : AllCertified w) where
       at-node-done w p (restarts p image (w.node p) (w.node p).state) (Rests (w.node p))
       (λ k. absurd (restart-not p image (w.node p) (w.node p).state (ap is_down (c.ready p is)) k)) d
 
-  -- each node's do
+  -- each node's records and state stay
   step-rests : (event : Event) → IsQuiet event → IsDone (step w event).0 → (p : ℕ) → is_node w.size.n p ≡ true → Rests (w.node p) ((step w event).1.node p)
   step-rests event q d p is = ⊎_elim here elsewhere (cases_Bool (p == event_node event))
     where
@@ -181,7 +181,7 @@ run-rests (event ∷ events) w c goes p is =
 
 -- ---- answers
 
--- a packet that arrives among these events, and tells of a certificate: it is heard in the end
+-- a packet that arrives among these events, and reports a certificate: it is heard in the end
 hear-among : (events : List Event) (u : World) (packet : Carried) → AllCertified u → Proceeds u events → is_node u.size.n packet.target ≡ true → IsAmong (Arrive packet.target (Ok packet)) events
     → says_certified packet.flags ≡ true → acked ((after u events).node packet.target).heard packet.name packet.source ≡ true
 unfolding run
@@ -205,7 +205,8 @@ later-answers event reply rest h = skip (act_of event reply) rest h
     skip (Arrives packet answers ∷ ls) rest h = skip ls rest h.1
     skip (Disturbs ∷ ls) rest h = skip ls rest h
 
--- a packet that doesn't say that a certificate was heard, and arrives: its answer arrives too, and so its source hears
+-- A packet arrives that doesn't say that a certificate was heard. Its answer arrives too, and so
+-- its source hears the certificate.
 answer-among : (events : List Event) (u : World) (packet : Carried) (certified : Bool) → AllCertified u → Proceeds u events → is_node u.size.n packet.target ≡ true → is_node u.size.n packet.source ≡ true
     → packet.flags ≡ Some (record { certified = certified; heard = false }) → IsAmong (Arrive packet.target (Ok packet)) events → AnswersArrive (acts_of u events)
     → acked ((after u events).node packet.source).heard packet.name packet.target ≡ true
@@ -235,7 +236,8 @@ answer-among (event ∷ events) u packet certified c goes is from e h a =
 -- ---- the round
 
 module _ (among : ℕ → Bool) (p q : ℕ) (x : Label) (m : Content) (from : among p ≡ true) (to : among q ≡ true) where
-  -- if all is certified, and what ticks send and its answers arrive, p has heard q's certificate in the end
+  -- if everything is certified, and what ticks send and the answers arrive, p has heard q's
+  -- certificate in the end
   abbrev Claim : World → List Event → Type 0
   Claim w events = AllCertified w → is_node w.size.n p ≡ true → Proceeds w events → AllArrive among w events → AnswersArrive (acts_of w events) → acked ((after w events).node p).heard x q ≡ true
 
@@ -259,7 +261,7 @@ module _ (among : ℕ → Bool) (p q : ℕ) (x : Label) (m : Content) (from : am
   comes : Comes p q x m Claim
   comes = record { sends = sends; later = later }
 
--- each node has heard each other one's certificate of each name that it has pending
+-- each node has heard every other node's certificate of each name that it has pending
 abbrev pub AllHeard : World → Type 0
 AllHeard w = (p q : ℕ) → is_node w.size.n p ≡ true → is_node w.size.n q ≡ true → (q == p) ≡ false → (x : Label) (m : Content) → has_pair (pend (stored w p)) x m ≡ true → acked (w.node p).heard x q ≡ true
 

@@ -1,4 +1,4 @@
--- When records bear a packet out, and what they have then.
+-- When records confirm a packet, and what they have then.
 use Rattle.std.proofs.Common.{Bool, List, false, not, refl, true, ◌||◌, ◌≡◌}
 use Rattle.std.proofs.lemmas.Bool.{and_from, and_parts, false≢true}
 use Rattle.urb_group.specs.World.{bears_out}
@@ -8,7 +8,7 @@ use Rattle.urb_names.specs.Pairs.{has_pair}
 use Rattle.urb_stable.specs.Entries.{Entry}
 use Rattle.urb_stable.specs.Records.{cert, pend}
 
--- where the one holds, the other does
+-- if the first holds, the second does
 to_implied : (a b : Bool) → (a ≡ true → b ≡ true) → (not a || b) ≡ true
 to_implied true b h = h refl
 to_implied false b h = refl
@@ -17,7 +17,7 @@ implied : (a b : Bool) → (not a || b) ≡ true → a ≡ true → b ≡ true
 implied true b h e = h
 implied false b h e = absurd (false≢true e)
 
--- records that have its pair, and its certificate where it tells of one
+-- records that have its pair, and its certificate if it reports one
 pub to_borne : (records : List Entry) (packet : Carried) → has_pair (pend records) packet.name packet.message ≡ true
     → (says_certified packet.flags ≡ true → has_name (cert records) packet.name ≡ true) → bears_out records packet ≡ true
 to_borne records packet pair certificate =
@@ -27,7 +27,7 @@ to_borne records packet pair certificate =
 pub borne-pair : (records : List Entry) (packet : Carried) → bears_out records packet ≡ true → has_pair (pend records) packet.name packet.message ≡ true
 borne-pair records packet t = (and_parts (has_pair (pend records) packet.name packet.message) _ t).0
 
--- and the certificate that it tells of
+-- and the certificate that it reports
 pub borne-certificate : (records : List Entry) (packet : Carried) → bears_out records packet ≡ true → says_certified packet.flags ≡ true → has_name (cert records) packet.name ≡ true
 borne-certificate records packet t e =
     implied (says_certified packet.flags) (has_name (cert records) packet.name) (and_parts (has_pair (pend records) packet.name packet.message) _ t).1 e

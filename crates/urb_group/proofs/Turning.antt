@@ -1,4 +1,4 @@
--- Cyclic order of names: what stands first, and what does once the cursor is there.
+-- Cyclic order of names: the first name, and the first once the cursor is there.
 use Rattle.std.proofs.Common.{◌≡◌, Bool, true, false, cond, not, List, [], ◌∷◌, ◌++◌, filter, length, Option, None, Some, refl, sym, ap, ap₂, ◌∙◌, subst, append-nil, append_assoc, ⊎_elim}
 use Rattle.std.specs.List.{list_all}
 use Rattle.std.proofs.lemmas.Bool.{and_parts, and_from, cond-true, cond-false, cases_Bool, false≢true}
@@ -13,11 +13,11 @@ use Rattle.urb_names.proofs.RisingPairs.{name_lt-other_way, name_lt-trans}
 abbrev Pairs : Type 0
 Pairs = List (Label × Content)
 
--- no name stands before itself
+-- no name is before itself
 pub not_before_itself : (x : Label) → name_lt x x ≡ false
 not_before_itself x = ⊎_elim (λ e. name_lt-other_way x x e) (λ e. e) (cases_Bool (name_lt x x))
 
--- what stands behind a name stands behind each name before it
+-- what is behind a name is behind each name before it
 all_behind : (x y : Label) (ps : Pairs) → name_lt x y ≡ true → list_all (λ q. name_lt y q.0) ps ≡ true → list_all (λ q. name_lt x q.0) ps ≡ true
 all_behind x y [] e h = refl
 all_behind x y (q ∷ qs) e h = let parts = and_parts (name_lt y q.0) _ h in and_from (name_lt x q.0) _ (name_lt-trans x y q.0 e parts.0) (all_behind x y qs e parts.1)
@@ -34,14 +34,14 @@ none_pass test (p ∷ ps) h = let parts = and_parts (not (test p)) (list_all (λ
     step true e = absurd (false≢true e)
     step false e = refl
 
--- what all pass, all pass by a weaker test
+-- what all pass by a test, all pass by a weaker test
 weaker : (test other : Label × Content → Bool) (ps : Pairs) → ((p : Label × Content) → test p ≡ true → other p ≡ true) → list_all test ps ≡ true → list_all other ps ≡ true
 weaker test other [] k h = refl
 weaker test other (p ∷ ps) k h = let parts = and_parts (test p) (list_all test ps) h in and_from (other p) _ (k p parts.0) (weaker test other ps k parts.1)
 
 -- ---- around a pair
 
--- those in front of a pair stand before it, and those behind it after it
+-- the pairs in front are before this pair, and those behind it are after it
 record Around (front : Pairs) (q : Label × Content) (back : Pairs) : Type 0 where
   before : list_all (λ p. name_lt p.0 q.0) front ≡ true
   behind : list_all (λ p. name_lt q.0 p.0) back ≡ true
@@ -133,7 +133,7 @@ parted cursor (p ∷ ps) h = ⊎_elim (all_high) (some_low (parted cursor ps par
       below = cond-true (not (is_after cursor p.0)) (p ∷ filter (λ r. not (is_after cursor r.0)) ps) (filter (λ r. not (is_after cursor r.0)) ps) (ap not e) ∙ ap (λ qs. p ∷ qs) rest.below;
     }
 
--- where a pair stands that is the first in cyclic order
+-- the place of the pair that is first in cyclic order
 record First (ps : Pairs) (q : Label × Content) (rest : Pairs) : Type 0 where
   front : Pairs
   back : Pairs

@@ -1,4 +1,4 @@
--- Tick after tick: in as many turns as there are pairs, each has its turn.
+-- Tick after tick: in as many ticks as there are pairs, each pair has its turn.
 use Rattle.std.proofs.Common.{List, Option, Some, [], ap, append-nil, append_assoc, arith, drop, filter, length, not, subst, suc, sym, take, true, zero, ℕ, ⊎_elim, ◌++◌, ◌<◌, ◌∙◌, ◌∷◌, ◌≡◌, ◌≤◌}
 use Rattle.std.proofs.lemmas.Bool.{cases_Bool, cases_lt}
 use Rattle.std.proofs.lemmas.List.{length-append, length-drop, take-append-drop, take-append-le}
@@ -8,7 +8,7 @@ use Rattle.urb_names.specs.Cyclic.{are_rising, cyclic, is_after, last_name, rese
 use Rattle.urb_names.specs.Naming.{Content, Label}
 use Rattle.urb_group.proofs.Turning.{length-cyclic, turn}
 
--- the cursor after so many ticks
+-- the cursor after k ticks
 abbrev pub cursor_after : ℕ → Option Label → List (Label × Content) → Option Label
 cursor_after zero cursor pairs = cursor
 cursor_after (suc k) cursor pairs = cursor_after k (last_name cursor (resent cursor pairs)) pairs
@@ -31,14 +31,14 @@ in-turns all zero cursor pairs h = tt
 in-turns all (suc k) cursor pairs h = all_append _ (resent cursor pairs) _ (in_resent all cursor pairs h) (in-turns all k (last_name cursor (resent cursor pairs)) pairs h)
 
 module _ (pairs : List (Label × Content)) (rises : are_rising pairs ≡ true) where
-  -- once the cursor is behind the first ones, they stand last
+  -- once the cursor is behind the first ones, they come last
   pub turned : (cursor : Option Label) (firsts rest : List (Label × Content)) → cyclic cursor pairs ≡ firsts ++ rest → cyclic (last_name cursor firsts) pairs ≡ rest ++ firsts
   turned cursor [] rest e = e ∙ sym (append-nil rest)
   turned cursor (pair ∷ firsts) rest e =
       turned (Some pair.0) firsts (rest ++ pair ∷ []) (turn cursor pairs pair (firsts ++ rest) rises e ∙ append_assoc firsts rest (pair ∷ []))
       ∙ append_assoc rest (pair ∷ []) firsts
 
-  -- a pair with fewer before it than there are ticks has its turn
+  -- a pair gets its turn if fewer pairs are before it than there are ticks
   turn-comes : (k : ℕ) (cursor : Option Label) (us : List (Label × Content)) (d : Label × Content) (vs : List (Label × Content)) → cyclic cursor pairs ≡ us ++ d ∷ vs → length us < k → IsIn d (turns k cursor pairs)
   turn-comes zero cursor us d vs e l = absurd (omega arith)
   turn-comes (suc k) cursor us d vs e l = ⊎_elim now (later (turn-comes k (last_name cursor (take 16 us)) (drop 16 us) d (vs ++ take 16 us))) (cases_lt (length us) 16)
@@ -62,7 +62,7 @@ module _ (pairs : List (Label × Content)) (rises : are_rising pairs ≡ true) w
               (e ∙ (ap (λ ps. ps ++ d ∷ vs) (sym (take-append-drop 16 us)) ∙ append_assoc (take 16 us) (drop 16 us) (d ∷ vs)))
               ∙ append_assoc (drop 16 us) (d ∷ vs) (take 16 us)
 
-  -- In as many ticks as there are pairs each has its turn.
+  -- In as many ticks as there are pairs, each pair has its turn.
   pub all-turn : (k : ℕ) (cursor : Option Label) (d : Label × Content) → length pairs ≤ k → IsIn d pairs → IsIn d (turns k cursor pairs)
   all-turn k cursor d l h = let at = in-split d (cyclic cursor pairs) (in-cyclic cursor d pairs h) in turn-comes k cursor at.0 d at.1 at.2 (short at.0 at.1 at.2)
     where

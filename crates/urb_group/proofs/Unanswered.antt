@@ -21,14 +21,16 @@ use Rattle.urb_node.specs.Replies.{Refused, Reply, packets_in}
 use Rattle.urb_node.specs.Steps.{answers, arrives, counts, hears, is_down, is_storing, reply_to, says_heard}
 use Rattle.urb_stable.specs.Records.{cert, pend}
 
--- whether these flags ask for an answer: they are of version two, and don't say that the certificate was heard
+-- whether these flags ask for an answer: they are of version two, and don't say that the
+-- certificate was heard
 abbrev asks : Option Flags → Bool
 asks None = false
 asks (Some flags) = not flags.heard
 
 -- ---- one node
 
--- what holds of no packets, and of the one answer to a packet that asks for it, holds of all that an arrival hands out at once
+-- Let this hold of no packets, and of the one answer to a packet that asks for it. Then it holds of
+-- all that an arrival hands out at once.
 module _ (P : List Carried → Type 0) (none : P []) where
   answers-hand_out : (p q : ℕ) (x : Label) (m : Content) (flags : Option Flags) (node : Node) → (asks flags ≡ true → P (reply_to p q x m node ∷ [])) → P (packets_in (answers p q x m flags node).0)
   answers-hand_out p q x m None node one = none
@@ -76,7 +78,7 @@ module _ (P : List Carried → Type 0) (none : P []) (w : World) (p : ℕ) (pack
       (λ _. cond_both (is_node w.size.n p) (world_after w p (packet_arrives w p packet)) (Refused refusal.BadNode, w) (λ (o : Reply × World). P (packets_in o.0)) (λ _. packet-hands_out) (λ _. none))
       (λ _. none)
 
--- where it was heard, or the packet is of version one, none asks
+-- if it was heard, or the packet is of version one, the packet asks for no answer
 heard-asks_not : (flags : Option Flags) → says_heard flags ≡ true → asks flags ≡ false
 heard-asks_not None e = refl
 heard-asks_not (Some f) e = ap not e
@@ -90,7 +92,7 @@ heard-unanswered w p packet e = unasked w p packet (heard-asks_not packet.flags 
 pub first_version-unanswered : (w : World) (p : ℕ) (packet : Carried) → packet.flags ≡ None → answers_to w p packet ≡ []
 first_version-unanswered w p packet e = unasked w p packet (ap asks e)
 
--- answers tell of a certificate, and so say that it was heard where the packet told of one
+-- answers report a certificate
 answers-tell : (w : World) (p : ℕ) (packet : Carried) → AllByRecursion (λ answer. says_certified answer.flags ≡ true) (answers_to w p packet)
 answers-tell w p packet = step-hands_out (AllByRecursion (λ answer. says_certified answer.flags ≡ true)) tt w p packet (λ _. (refl, tt))
 

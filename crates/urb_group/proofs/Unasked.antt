@@ -27,7 +27,7 @@ use Rattle.urb_node.specs.declared.cause.Cause.{Cause}
 
 -- ---- replies by what the group holds
 
--- what is answered of a node's state is what the group holds of it
+-- the answer about a node's state is what the group holds of it
 pub answers-state : (group : GroupView) (p : ℕ) (result : Option State) → IsSound group → Answers (λ w. Some (state_of (w.node p).state)) group p result
     → result ≡ cond (is_node group.size.n p) (Some (state_of (view_of group p).state)) None
 answers-state group p result sound h =
@@ -95,7 +95,7 @@ unfallen-is group p result sound h = subst (λ (o : Option State). IsUnfallen gr
 
 -- ---- a draft that is held
 
--- where a draft is held, it is that of the state
+-- if a draft is held, it is that of the state
 pub record IsHeldAs (group : GroupView) (p : ℕ) (draft : Placed) : Type 0 where
   pub there : is_node group.size.n p ≡ true
   pub node : draft.node ≡ p
@@ -120,7 +120,7 @@ held-as group p draft h = at (is_node group.size.n p) (view_of group p).state re
         }
     at true (part.Down d) e f k = cc
 
--- a refusal is the reply's own, or for memory where that may be
+-- a refusal is the reply's own, or for memory if the call may need it
 pub refused-as : (reply : Reply) (r : Refusal) → IsRefusedAs reply r → MayGrow reply ⊎ (reply ≡ Refused r)
 refused-as reply refusal.NoMemory h = inl h
 refused-as reply r h = inr h
@@ -147,7 +147,7 @@ module _ (group : GroupView) (draft : Placed) (held : held_draft group draft.nod
   pub fail-down : (step w (Fail draft.node)).0 ≡ WentDown draft.node
   fail-down = fail-reply group draft.node w shows (part.Storing draft.entry is_as.cause) is_as.there is_as.state
 
-  -- and so does a crash, which leads to the same world
+  -- a crash does so too, and leads to the same world
   pub crash-fails : step w (Crash draft.node) ≡ step w (Fail draft.node)
   unfolding step
   crash-fails =
@@ -172,7 +172,7 @@ commit-taken old new draft (Err e) sound held h =
     never (inl g) told f = subst MayGrow f g
     never (inr g) told f = cc
 
--- nor is its failure, nor a crash
+-- its failure is never refused, nor is a crash
 pub down-taken : (old new : GroupView) (draft : Placed) (event : Event) (result : Result (Unit {0}) Refusal) → IsSound old → held_draft old draft.node ≡ Some draft
     → ((w : World) → Shows old w → (step w event).0 ≡ WentDown draft.node) → GoesDown old draft.node event result new → IsOk result
 down-taken old new draft event (Ok told) sound held downs h = refl
@@ -189,7 +189,7 @@ fail-taken old new p draft result sound e held =
     subst (λ (i : ℕ). GoesDown old i (Fail i) result new → IsOk result) e
     (down-taken old new draft (Fail draft.node) result sound held (λ w s. fail-down old draft held w s))
 
--- and so is its crash
+-- its crash is taken too
 pub crash-taken : (old new : GroupView) (p : ℕ) (draft : Placed) (result : Result (Unit {0}) Refusal) → IsSound old → draft.node ≡ p → held_draft old draft.node ≡ Some draft → GoesDown old p (Crash p) result new → IsOk result
 crash-taken old new p draft result sound e held =
     subst (λ (i : ℕ). GoesDown old i (Crash i) result new → IsOk result) e

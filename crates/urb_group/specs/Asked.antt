@@ -1,4 +1,4 @@
--- What a store was asked, what it answered, and what it holds then.
+-- What a store was asked, what it answered, and what it holds after that.
 use Rattle.std.specs.Prelude.{Err, IfErr, IfOk, IsTrue, List, None, OnErr, OnOk, Option, Result, Some, [], false, true, ◌++◌, ◌<◌, ◌∷◌, ◌≡◌, ◌≤◌, ◌⊎◌}
 use Rattle.urb_stable.specs.Entries.{Entry}
 use Rattle.urb_stable.specs.Placed.{Placed}
@@ -8,14 +8,16 @@ use Rattle.urb_stable.specs.declared.stable.StoreFault.{StoreFault}
 use Rattle.urb_stable.specs.declared.stable.StoreFault.TheVariants as fault
 
 module _ {S A : Type 0} (g : Ghosts S A) where
-  -- none is in doubt; and where the store is honest, it has no record, nor does a stop leave one
+  -- No record is in doubt. If the store is honest, it has no record, and a stop leaves no record of
+  -- it.
   pub record IsBlank (store : S) : Type 0 where
     pub certain : g.is_honest store → g.certain store ≡ []
     pub doubtful : g.is_doubtful store ≡ false
     pub doubt : g.doubt store ≡ None
     pub rest : g.is_honest store → g.leaves_only store (IsContents [] None)
 
-  -- The store was to keep the draft, and gave this answer: as a store promises of each record.
+  -- The store was asked to keep the draft, and gave this answer, as a store promises for each
+  -- record.
   pub record Keeps (before : S) (draft : Placed) (answer : Result (Unit {0}) StoreFault) (after : S) : Type 0 where
     pub answers : g.stores before draft.pos draft.entry answer
     pub placed : IsPlaced (is_out_of_place (g.is_doubtful before) (g.place before) draft.pos) (g.place before) answer
@@ -34,7 +36,7 @@ module _ {S A : Type 0} (g : Ghosts S A) where
     pub clean : g.is_clean after → g.is_clean before
     pub shut : g.is_honest before → g.is_clean after → g.is_honest after ⊎ g.is_shut after
 
-  -- The store was to give its records, and gave this answer: as a store promises.
+  -- The store was asked for its records, and gave this answer, as a store promises.
   pub record Gives (before : S) (answer : Result (List Entry) StoreFault) (after : S) : Type 0 where
     pub answers : g.answers before answer
     pub given : g.is_honest after → IfOk answer (λ records. (g.certain after ≡ records) × IsContents (g.certain before) (g.doubt before) records)

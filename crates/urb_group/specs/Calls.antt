@@ -22,8 +22,8 @@ use Rattle.urb_group.specs.declared.taken.Taken.{Taken}
 use Rattle.urb_group.specs.declared.taken.Taken.TheVariants as taken
 use Rattle.urb_node.specs.declared.cause.Cause.{Cause}
 
--- The event happened in this world, and its reply was told: the group shows the world after it. What was truthful is
--- truthful after it, and so is each packet that the reply hands out.
+-- The event happened in this world, and its reply was given. The group shows the world after it.
+-- What was truthful is truthful after it, and so is each packet that the reply hands out.
 pub record Happens (event : Event) (IsTold : Reply → Type 0) (new : GroupView) (w : World) : Type 0 where
   pub told : IsTold (step w event).0
   pub shows : Shows new (step w event).1
@@ -34,7 +34,8 @@ pub record Happens (event : Event) (IsTold : Reply → Type 0) (new : GroupView)
 abbrev pub Steps : GroupView → Event → (Reply → Type 0) → GroupView → Type 0
 Steps old event IsTold new = (w : World) → Shows old w → Happens event IsTold new w
 
--- the event is refused in every world that the group shows, or memory was refused where it may be; and the group stays
+-- The event is refused in every world that the group shows, or memory was refused to a call that
+-- may need it. The group stays as it was.
 abbrev pub IsRefused : GroupView → Event → Refusal → GroupView → Type 0
 IsRefused old event refusal new = ((w : World) → Shows old w → IsRefusedAs (step w event).0 refusal) × (new ≡ old)
 
@@ -44,7 +45,8 @@ pub record HoldsDraft (group : GroupView) (draft : Placed) : Type 0 where
   pub state : (view_of group draft.node).state ≡ Storing draft.entry cause
   pub position : draft.pos ≡ suc (view_of group draft.node).count
 
--- a submit or an arrival at p, by its event: an answer, a draft that the node holds then, or a refusal
+-- A submit or an arrival at p, by its event. It gives an answer, or a draft that the node then
+-- holds, or a refusal.
 abbrev pub Takes : {A : Type 0} → GroupView → ℕ → Event → Result (Taken A) Refusal → GroupView → Type 0
 Takes old p event (Ok (taken.Same answer)) new = Steps old event (λ reply. reply ≡ Same answer) new
 Takes old p event (Ok (taken.Store draft)) new =
@@ -56,32 +58,32 @@ abbrev pub Commits : GroupView → Placed → Result Done (Placed × Refusal) �
 Commits old receipt (Ok done) new = Steps old (Commit receipt.node receipt.pos receipt.entry) (λ reply. reply ≡ Stored done) new
 Commits old receipt (Err e) new = IsRefused old (Commit receipt.node receipt.pos receipt.entry) e.1 new × (e.0 ≡ receipt)
 
--- a tick, by its event: packets are sent, or it is refused
+-- a tick, by its event: it sends packets, or is refused
 abbrev pub Ticks : GroupView → Event → Result (List Carried) Refusal → GroupView → Type 0
 Ticks old event (Ok packets) new = Steps old event (λ reply. reply ≡ Sent packets) new
 Ticks old event (Err refusal) new = IsRefused old event refusal new
 
--- a failed store or a crash of p, by its event: the node goes down, or it is refused
+-- a failed store or a crash of p, by its event: the node goes down, or the event is refused
 abbrev pub GoesDown : GroupView → ℕ → Event → Result (Unit {0}) Refusal → GroupView → Type 0
 GoesDown old p event (Ok done) new = Steps old event (λ reply. reply ≡ WentDown p) new
 GoesDown old p event (Err refusal) new = IsRefused old event refusal new
 
--- a restart of p, by its event: the node comes up, or it is refused
+-- a restart of p, by its event: the node comes up, or the event is refused
 abbrev pub ComesUp : GroupView → ℕ → Event → Result (Unit {0}) Refusal → GroupView → Type 0
 ComesUp old p event (Ok done) new = Steps old event (λ reply. reply ≡ Up p) new
 ComesUp old p event (Err refusal) new = IsRefused old event refusal new
 
--- Images are opened: they fit together, and the group shows the world that is opened from them; or their first misfit is
--- told; or memory was refused.
+-- Images are opened. Either they fit together, and the group shows the world that is opened from
+-- them. Or the refusal says their first misfit. Or memory was refused.
 abbrev pub Opens : Limits → List (List Entry) → Result GroupView Refusal → Type 0
 Opens size images (Ok group) = Fits size (image_of images) × Shows group (opened size (image_of images))
 Opens size images (Err refusal.NoMemory) = Unit {0}
 Opens size images (Err (refusal.Inconsistent rule node name)) = first_misfit size (image_of images) ≡ Some (record { rule = rule; node = node; name = name })
 Opens size images (Err r) = ⊥
 
--- ---- questions: None where there is no such node, and else the world's answer
+-- ---- questions: None if there is no such node, otherwise the world's answer
 
--- what is answered of node p of every world that the group shows
+-- the answer for node p of every world that the group shows
 abbrev pub Answers : {T : Type 0} → (World → Option T) → GroupView → ℕ → Option T → Type 0
 Answers of group p result = (w : World) → Shows group w → result ≡ (if is_node w.size.n p then of w else None)
 
@@ -89,7 +91,7 @@ Answers of group p result = (w : World) → Shows group w → result ≡ (if is_
 abbrev pub TellsLog : GroupView → ℕ → Option (List Label) → Type 0
 TellsLog group p result = Answers (λ w. Some (log (stored w p))) group p result
 
--- the message that node p has stored under this name, where it has one
+-- the message that node p has stored under this name, if it has one
 abbrev pub FindsMessage : GroupView → ℕ → Label → Option Content → Type 0
 FindsMessage group p x result = Answers (λ w. message_of (pend (stored w p)) x) group p result
 

@@ -5,12 +5,12 @@ use Rattle.urb_stable.specs.Placed.{Placed}
 use Rattle.urb_node.specs.Part.{Down, Ready, State, Storing}
 use Rattle.urb_group.specs.Shown.{GroupView, IsSound, view_of}
 
--- a group, and the stores of the nodes 1, 2, ..; which drafts are held the group tells
+-- a group, and the stores of the nodes 1, 2, ..; the group says which drafts are held
 pub record Clustered (S : Type 0) : Type 0 where
   pub group : GroupView
   pub stores : List S
 
--- the draft that node p holds in this state, with this many records stored
+-- the draft that node p holds in this state, with `count` records stored
 abbrev pub held_in : State → ℕ → ℕ → Option Placed
 held_in Ready p count = None
 held_in (Storing entry cause) p count = Some (record { node = p; pos = suc count; entry = entry })
@@ -25,7 +25,7 @@ abbrev pub draft_at : List (Option Placed) → ℕ → Option Placed
 draft_at drafts zero = None
 draft_at drafts (suc before) = slice_index_or drafts before None
 
--- a store and a place for each node, and in its place the draft that it holds
+-- there is a store and a place for each node, and its place has the draft that it holds
 pub record IsTied (group : GroupView) (stores : ℕ) (drafts : List (Option Placed)) : Type 0 where
   pub sound : IsSound group
   pub all_stores : stores ≡ group.size.n

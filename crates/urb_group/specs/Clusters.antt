@@ -23,7 +23,8 @@ use Rattle.urb_group.specs.World.{started}
 use Rattle.urb_group.specs.declared.command.Command.{Command}
 use Rattle.urb_group.specs.declared.command.Command.TheVariants as command
 
--- the event happened in every world that the group showed, with this reply; or it is refused, and nothing changed
+-- The event happened in every world that the group showed, with this reply; or it is refused, and
+-- nothing changed.
 abbrev pub Reacts : GroupView → Event → Reply → GroupView → Type 0
 Reacts old event (Drafted x position) new = Steps old event (λ told. told ≡ Drafted x position) new
 Reacts old event (Same answer) new = Steps old event (λ told. told ≡ Same answer) new
@@ -33,7 +34,7 @@ Reacts old event (WentDown p) new = Steps old event (λ told. told ≡ WentDown 
 Reacts old event (Up p) new = Steps old event (λ told. told ≡ Up p) new
 Reacts old event (Refused refusal) new = IsRefused old event refusal new
 
--- an event for which no store is asked
+-- an event that asks no store
 abbrev pub Alone : {S : Type 0} → Clustered S → Event → Reply → Clustered S → Type 0
 Alone old event reply new = Reacts old.group event reply new.group × (new.stores ≡ old.stores)
 
@@ -42,54 +43,56 @@ pub record StoreMoves {S : Type 0} (old : List S) (p : ℕ) (before after : S) (
   pub was : slice_get old (p - 1) ≡ Some before
   pub is : new ≡ slice_set old (p - 1) after
 
--- the event that the answer of a store makes of a draft: it is stored where the store took it, and else its store failed
+-- The event that a store's answer makes of a draft: the draft is stored if the store took it, and
+-- otherwise its store failed.
 abbrev pub stored_as : Placed → Result (Unit {0}) StoreFault → Event
 stored_as draft (Ok done) = Commit draft.node draft.pos draft.entry
 stored_as draft (Err fault) = Fail draft.node
 
--- whether node p of the group is there, and is down
+-- whether the group has a node p that is down
 abbrev pub is_fallen : GroupView → ℕ → Bool
 is_fallen group p = is_node group.size.n p && is_down (view_of group p).state
 
--- what comes of a restart of p by what its store gave: the event with these records; or a refusal by the store's fault,
--- which is no event
+-- The result of a restart of p, by what its store gave. It is the event with these records; or a
+-- refusal by the store's fault, which is no event.
 abbrev pub Returns : GroupView → ℕ → Result (List Entry) StoreFault → Reply → GroupView → Type 0
 Returns old p (Ok image) reply new = Reacts old (Restart p image) reply new
 Returns old p (Err fault) reply new = (reply ≡ Refused (refusal_of fault)) × (new ≡ old)
 
 module _ {S A : Type 0} (g : Ghosts S A) where
-  -- a held draft went to its node's store: the event is what the store's answer makes of it, and it happened
+  -- A held draft went to its node's store. The store's answer makes the event, and it happened.
   pub record Stores (old : GroupView) (before : S) (draft : Placed) (reply : Reply) (new : GroupView) (after : S) : Type 0 where
     pub answer : Result (Unit {0}) StoreFault
     pub keeps : Keeps g before draft answer after
     pub event : Steps old (stored_as draft answer) (λ told. told ≡ reply) new
 
-  -- and the other stores stay
+  -- the draft went to its node's store in this way, and the other stores stay
   pub record StoresDraft (old : Clustered S) (draft : Placed) (reply : Reply) (new : Clustered S) : Type 0 where
     pub before : S
     pub after : S
     pub moves : StoreMoves old.stores draft.node before after new.stores
     pub stored : Stores old.group before draft reply new.group after
 
-  -- where p holds no draft, its store is not asked, and the refusal is that of a failed store
+  -- If p holds no draft, its store is not asked, and the refusal is that of a failed store.
   abbrev pub StoresHeld : Clustered S → ℕ → Option Placed → Reply → Clustered S → Type 0
   StoresHeld old p None reply new = Alone old (Fail p) reply new
   StoresHeld old p (Some draft) reply new = StoresDraft old draft reply new
 
-  -- p's store was asked for its records, and this came of it
+  -- p's store was asked for its records, and this is the result
   pub record Reads (old : GroupView) (before : S) (p : ℕ) (reply : Reply) (new : GroupView) (after : S) : Type 0 where
     pub answer : Result (List Entry) StoreFault
     pub gives : Gives g before answer after
     pub returns : Returns old p answer reply new
 
-  -- and the other stores stay
+  -- p's store was asked in this way, and the other stores stay
   pub record AsksStore (old : Clustered S) (p : ℕ) (reply : Reply) (new : Clustered S) : Type 0 where
     pub before : S
     pub after : S
     pub moves : StoreMoves old.stores p before after new.stores
     pub reads : Reads old.group before p reply new.group after
 
-  -- where p is no node, or isn't down, its store is not asked: whatever its records are, the restart is refused
+  -- If p is no node, or isn't down, its store is not asked. The restart is refused, whatever its
+  -- records are.
   abbrev pub RestartsBy : Bool → Clustered S → ℕ → Reply → Clustered S → Type 0
   RestartsBy false old p reply new = (image : List Entry) → Alone old (Restart p image) reply new
   RestartsBy true old p reply new = AsksStore old p reply new
@@ -104,24 +107,26 @@ module _ {S A : Type 0} (g : Ghosts S A) where
   Applies old (command.Crash p) reply new = Alone old (Crash p) reply new
   Applies old (command.Restart p) reply new = RestartsBy (is_fallen old.group p) old p reply new
 
--- a new cluster shows the new world, over these stores; refused for memory, they come back
+-- A new cluster shows the new world, over these stores. If it is refused for memory, they come
+-- back.
 abbrev pub Starts : {S T : Type 0} → Limits → List S → T → Result (Clustered S) (T × NoMemory) → Type 0
 Starts size stores passed (Ok cluster) = Shows cluster.group (started size) × (cluster.stores ≡ stores)
 Starts size stores passed (Err e) = e.0 ≡ passed
 
--- What a store in memory, armed to fail so, holds once it was to keep a record, by whether it was out of place: what it did
--- before, out of place; else nothing of the record, where it was to keep nothing; else the record in doubt, or nothing of it
--- where no memory was left. The count of failures doesn't rise where it is at its greatest.
+-- A store in memory was armed with this failure, and then asked to keep a record, which was out of
+-- place or not. If out of place, the store is as before. Otherwise, if it was to keep nothing, it
+-- holds nothing of the record. Otherwise it holds the record in doubt, or nothing of it if no
+-- memory was left. The count of failures doesn't rise if it is at its greatest value.
 abbrev pub Breaks : Bool → Failure → Memory → Entry → Memory → Type 0
 Breaks true failure m entry after = after ≡ m
 Breaks false failure.Old m entry after = (after ≡ after_failure None m) ⊎ (after ≡ without_memory m)
 Breaks false failure.New m entry after = (after ≡ after_failure (Some entry) m) ⊎ (after ≡ without_memory m)
 
--- the store was armed to fail so, and then it was to keep the draft
+-- the store was armed with this failure, and then asked to keep the draft
 abbrev pub BreaksArmed : Failure → Memory → Placed → Memory → Type 0
 BreaksArmed failure m draft after = Breaks (is_out_of_place m.doubtful (length m.certain + 1) draft.pos) failure (armed_with failure m) draft.entry after
 
--- the store of a held draft failed so, and that is the event
+-- the store of a held draft failed in this way, and that is the event
 pub record FailsDraft (old : Clustered Memory) (draft : Placed) (failure : Failure) (reply : Reply) (new : Clustered Memory) : Type 0 where
   pub before : Memory
   pub after : Memory
@@ -129,7 +134,7 @@ pub record FailsDraft (old : Clustered Memory) (draft : Placed) (failure : Failu
   pub breaks : BreaksArmed failure before draft after
   pub event : Steps old.group (Fail draft.node) (λ told. told ≡ reply) new.group
 
--- where p holds no draft nothing is armed, and the refusal is that of a failed store
+-- If p holds no draft, nothing is armed, and the refusal is that of a failed store.
 abbrev pub FailsHeld : Clustered Memory → ℕ → Option Placed → Failure → Reply → Clustered Memory → Type 0
 FailsHeld old p None failure reply new = Alone old (Fail p) reply new
 FailsHeld old p (Some draft) failure reply new = FailsDraft old draft failure reply new

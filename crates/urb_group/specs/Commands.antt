@@ -1,4 +1,4 @@
--- What a reply tells, and which event a command is.
+-- What a reply says, and which event a command is.
 use Rattle.std.specs.Prelude.{Bool, List, false, true, ℕ, ◌∷◌, ◌≡◌, ◌⊎◌, []}
 use Rattle.urb_names.specs.Packets.{packet_of}
 use Rattle.urb_names.specs.declared.refusal.Refusal.TheVariants as refusal
@@ -12,7 +12,7 @@ use Rattle.urb_group.specs.declared.command.Command.TheVariants as command
 use Rattle.urb_group.specs.declared.reply.Reply.{Reply}
 use Rattle.urb_group.specs.declared.reply.Reply.TheVariants as reply
 
--- what the reply tells
+-- what the reply says
 abbrev pub reply_of : {A : Type 0} → Reply A → told.Reply
 reply_of (reply.Drafted x position) = told.Drafted x position
 reply_of (reply.Same answer) = told.Same answer
@@ -22,12 +22,13 @@ reply_of (reply.WentDown p) = told.WentDown p
 reply_of (reply.Up p) = told.Up p
 reply_of (reply.Refused r) = told.Refused r
 
--- whether it tells that memory was refused to the command
+-- whether it says that memory was refused to the command
 abbrev pub is_no_memory : {A : Type 0} → Reply A → Bool
 is_no_memory (reply.Refused refusal.NoMemory) = true
 is_no_memory _ = false
 
--- the event is this command's: of a store what the store made of it, of a restart one with an image
+-- The event is this command's. For a store, it is what the store made of it. For a restart, it is
+-- one with an image.
 abbrev pub IsEventOf : {A : Type 0} → Command A → Event → Type 0
 IsEventOf (command.Submit p client number payload) event = event ≡ Submit p (record { client = client; number = number; payload = payload.items })
 IsEventOf (command.Arrive p bytes) event = event ≡ Arrive p (packet_of bytes.items)
@@ -36,13 +37,13 @@ IsEventOf (command.Store p) event = ((position : ℕ) × (entry : Entry) × (eve
 IsEventOf (command.Crash p) event = event ≡ Crash p
 IsEventOf (command.Restart p) event = (image : List Entry) × (event ≡ Restart p image)
 
--- a restart whose store gave no records, which is no event: it is refused with the store's fault
+-- a restart whose store gave no records: this is no event, and is refused with the store's fault
 abbrev pub IsUnread : {A : Type 0} → Command A → told.Reply → Type 0
 IsUnread (command.Restart p) reply = (fault : StoreFault) × (reply ≡ told.Refused (refusal_of fault))
 IsUnread _ reply = ⊥
 
--- Of the commands, as many as there are replies are these events, one after the other, each with its reply; those that are
--- no event are left out.
+-- There is a reply for each of the first commands. These commands are these events, one after the
+-- other, each with its reply. Commands that are no event are left out.
 pub data AreEvents {A : Type 0} : List (Command A) → List told.Reply → List Event → List told.Reply → Type 0 where
   At_end : (commands : List (Command A)) → AreEvents commands [] [] []
   By_event : (command : Command A) (commands : List (Command A)) (reply : told.Reply) (replies : List told.Reply) (event : Event) (events : List Event) (seen : List told.Reply)

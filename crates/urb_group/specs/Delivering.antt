@@ -1,4 +1,4 @@
--- What each node of a group has delivered, by what it holds in memory; and when nodes agree on it.
+-- What each node of a group has delivered, by what it holds in memory, and when nodes agree on it.
 use Rattle.std.specs.Prelude.{List, Option, Some, filter, filter_map, length, map, option_map, ℕ, ◌<◌, ◌==◌, ◌^◌, ◌≡◌}
 use Rattle.urb_names.specs.Beginnings.{OneBegins}
 use Rattle.urb_names.specs.Naming.{Content, Label}
@@ -13,7 +13,7 @@ use Rattle.urb_group.specs.World.{World}
 abbrev pub Delivery : Type 0
 Delivery = Label × Content
 
--- the name with its message among these pairs, where it has one
+-- the name with its message among these pairs, if it has one
 abbrev pub delivery_in : List (Label × Content) → Label → Option Delivery
 delivery_in pairs x = option_map (λ m. (x, m)) (message_of pairs x)
 
@@ -21,16 +21,16 @@ delivery_in pairs x = option_map (λ m. (x, m)) (message_of pairs x)
 abbrev pub deliveries : NodeView → List Delivery
 deliveries view = filter_map (delivery_in view.pairs) view.log
 
--- a delivery, as the entries of a list of records have it
+-- a delivery, in the form that the entries of a list of records have
 abbrev pub known : Delivery → Label × Option Content
 known delivery = (delivery.0, Some delivery.1)
 
--- those of one sender
+-- the deliveries of one sender
 abbrev pub sent_by : ℕ → List Delivery → List Delivery
 sent_by sender list = filter (λ delivery. delivery.0.sender == sender) list
 
--- In each list the numbers of each sender are 1, 2, 3, .. in order. Of two lists' parts of one sender one begins the other.
--- Each list has fewer than 2^32 deliveries.
+-- In each list the numbers of each sender are 1, 2, 3, .. in order. Take two lists' parts of one
+-- sender: one begins the other. Each list has fewer than 2^32 deliveries.
 pub record Agree (of : ℕ → List Delivery) : Type 0 where
   pub numbers : (p s : ℕ) → map (λ delivery. delivery.0.seq) (sent_by s (of p)) ≡ numbers_from 1 (length (sent_by s (of p)))
   pub one_begins : (p q s : ℕ) → OneBegins (sent_by s (of p)) (sent_by s (of q))
@@ -50,7 +50,7 @@ event_node (Fail p) = p
 event_node (Crash p) = p
 event_node (Restart p image) = p
 
--- it stores no record: all but a receipt and a restart
+-- the event stores no record: any event but a receipt and a restart
 abbrev pub StoresNothing : Event → Type 0
 StoresNothing (Submit p m) = Unit {0}
 StoresNothing (Arrive p bytes) = Unit {0}

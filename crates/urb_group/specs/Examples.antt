@@ -16,7 +16,7 @@ use Rattle.urb_stable.specs.declared.fitting.Misfit.{Misfit}
 use Rattle.urb_stable.specs.declared.record.Record.TheVariants.{Pend, PendCert}
 use Rattle.urb_stable.specs.declared.stable.Stable.{Ghosts}
 
--- a pair's record, its message the one of client 7 that has the name's number, with no payload
+-- a record of a pair with no payload, whose message is that of client 7 with the name's number
 abbrev pub pending : ℕ → ℕ → Entry
 pending sender number = Pend (name sender number) (message 7 number "")
 
@@ -24,11 +24,11 @@ pending sender number = Pend (name sender number) (message 7 number "")
 abbrev pub certified : ℕ → ℕ → Entry
 certified sender number = PendCert (name sender number) (message 7 number "")
 
--- a group of n nodes, each of which may broadcast as many messages as the cap
+-- a group of n nodes; each node may broadcast as many messages as the cap
 abbrev pub limits : ℕ → ℕ → Limits
 limits n cap = record { n = n; cap = cap }
 
--- this is told first of images of n nodes under a cap: a misfit, or none
+-- the first misfit of images of n nodes under a cap, or None
 abbrev pub Judged : ℕ → ℕ → List (List Entry) → Option Misfit → Type 0
 Judged n cap images answer = first_misfit (limits n cap) (image_of images) ≡ answer
 
@@ -44,11 +44,11 @@ node_in state records = record { records = records; state = state; acks = []; he
 abbrev pub world_of : Node → World
 world_of node = record (started (limits 1 10)) { node = λ p. node }
 
--- what a store in memory would say of itself that a failure shuts
+-- the ghost values of a store in memory, if a failure shut it
 abbrev pub shut_by_failures : Ghosts Memory (Unit {0})
 shut_by_failures = record (in_memory (Unit {0})) { is_honest = λ s. s.doubtful ≡ false; is_shut = λ s. s.doubtful ≡ true }
 
--- a message with a payload of this many letters x
+-- a message whose payload is `count` letters x
 abbrev pub filled : ℕ → ℕ → ℕ → Content
 filled client number count = record { client = client; number = number; payload = replicate count 120 }
 
@@ -60,12 +60,12 @@ carried q p sender number m = record { source = q; target = p; name = name sende
 abbrev pub flagged : ℕ → ℕ → ℕ → ℕ → ℕ → Content → Carried
 flagged flags q p sender number m = record (carried q p sender number m) { flags = Some (flags_of flags) }
 
--- node 1 of two submits as many messages as these, from this number on, and stores each
+-- node 1 of two submits `count` messages, from this number on, and stores each
 abbrev pub stored_from : ℕ → ℕ → List (Line × Told)
 stored_from first zero = []
 stored_from first (suc count) =
     submit 1 (message 7 first "a") ⇒ Drafts (name 1 first) first ∷ store 1 ⇒ Accepts (name 1 first) 1 0 ∷ stored_from (suc first) count
 
--- to node 2, as many names of node 1 as these, from this number on
+-- to node 2: `count` names of node 1, from this number on
 abbrev pub to_two : ℕ → ℕ → List (ℕ × Label)
 to_two first count = map (λ number. (2, name 1 number)) (numbers_from first count)

@@ -5,17 +5,19 @@ use Rattle.urb_names.specs.Beginnings.{Begins, OneBegins}
 use Rattle.urb_names.specs.Carried.{Carried}
 use Rattle.urb_stable.specs.Log.{entries, entries_of, log}
 
--- what the old world has of its nodes, the new one has too, with more behind it; and what was truthful is
+-- What the old world has of its nodes, the new one has too, perhaps with more behind it. What was
+-- truthful stays truthful.
 pub record GoesOn (old new : World) : Type 0 where
   pub records : (p : ℕ) → Begins (stored old p) (stored new p)
   pub broadcast : (p : ℕ) → Begins (old.node p).broadcast (new.node p).broadcast
   pub delivered : (p : ℕ) → Begins (log (stored old p)) (log (stored new p))
   pub truth : (packet : Carried) → IsTrue (truthful old packet) → IsTrue (truthful new packet)
 
--- each node's log, its names with their messages, has more behind it
+-- each node's log, its names with their messages, only grows at its end
 abbrev pub EntriesGrow : World → World → Type 0
 EntriesGrow old new = (p : ℕ) → Begins (entries (stored old p)) (entries (stored new p))
 
--- of what two nodes deliver from one sender, the one in the old world and the other in the new, one begins the other
+-- Take what one node delivers from a sender in the old world, and another node in the new world:
+-- one list begins the other.
 abbrev pub AgreeInTime : World → World → Type 0
 AgreeInTime old new = (p q s : ℕ) → OneBegins (entries_of s (stored old p)) (entries_of s (stored new q))

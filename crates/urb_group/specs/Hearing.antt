@@ -1,4 +1,4 @@
--- What nodes have heard of one another's certificates is of names that they have stored.
+-- The certificates that nodes have heard of belong to names that they have stored.
 use Rattle.std.specs.Prelude.{is_some, true, ℕ, ◌≡◌}
 use Rattle.urb_names.specs.Acknowledged.{acked}
 use Rattle.urb_names.specs.Carried.{Carried}
@@ -8,7 +8,7 @@ use Rattle.urb_node.specs.Part.{Node}
 use Rattle.urb_node.specs.Steps.{says_heard}
 use Rattle.urb_stable.specs.Records.{pend}
 
--- each certificate that the node has heard is of a name that is pending there
+-- each certificate that the node has heard belongs to a name that is pending there
 abbrev pub HearsOfPending : Node → Type 0
 HearsOfPending node = (x : Label) (q : ℕ) → acked node.heard x q ≡ true → is_some (message_of (pend node.records) x) ≡ true
 

@@ -1,11 +1,11 @@
--- A store in memory, as one of all stores.
+-- A store in memory, as one of all kinds of stores.
 use Rattle.std.specs.Prelude.{List, length, ◌+◌}
 use Rattle.urb_stable.specs.Entries.{Entry}
 use Rattle.urb_stable.specs.Memory.{Memory, Retrieves, Stores}
 use Rattle.urb_stable.specs.Storing.{IsContents}
 use Rattle.urb_stable.specs.declared.stable.Stable.{Ghosts}
 
--- what it says of itself
+-- the ghost values of a store in memory
 abbrev pub in_memory : (A : Type 0) → Ghosts Memory A
 in_memory A = record {
   certain = λ s. s.certain;

@@ -1,4 +1,4 @@
--- What every world of a run keeps of its nodes, so that it is safe.
+-- What every world of a run keeps of its nodes, which makes it safe.
 use Rattle.std.specs.Prelude.{List, None, Option, Some, [], false, length, true, ℕ, ◌++◌, ◌∷◌, ◌≡◌, ◌≤◌}
 use Rattle.urb_group.specs.World.{World, stored, updated}
 use Rattle.urb_names.specs.Acknowledged.{acked}
@@ -14,7 +14,7 @@ use Rattle.urb_stable.specs.Records.{cert, pend}
 use Rattle.urb_stable.specs.declared.record.Record.TheVariants.{Cert, Pend, PendCert}
 use Rattle.urb_node.specs.declared.cause.Cause.{Cause}
 
--- a pair whose storing an arrival caused is held by the node that it came from
+-- If an arrival caused the storing of a pair, the node that it came from holds the pair.
 abbrev pub IsCaused : (ℕ → List Entry) → Entry → Option Cause → Type 0
 IsCaused images r None = Unit {0}
 IsCaused images (Pend x m) (Some cause) = has_pair (pend (images cause.source)) x m ≡ true
@@ -30,17 +30,18 @@ abbrev pub DoubtKept : Limits → (ℕ → List Entry) → ℕ → List Entry �
 DoubtKept size images p records None = Unit {0}
 DoubtKept size images p records (Some r) = MayJoin size images p records r
 
--- and so would a held one, which is caused
+-- so would a held record, which also has its cause
 abbrev pub StateKept : Limits → (ℕ → List Entry) → ℕ → List Entry → State → Type 0
 StateKept size images p records Ready = Unit {0}
 StateKept size images p records (Storing r cause) = MayJoin size images p records r × IsCaused images r cause
 StateKept size images p records (Down doubtful) = DoubtKept size images p records doubtful
 
--- who is counted for a name that is not certified has the message that is pending here
+-- If a node is counted for a name that is not certified, it has the message that is pending here.
 abbrev pub AcksKept : (ℕ → List Entry) → List Entry → List (Label × ℕ) → Type 0
 AcksKept images records acks = (x : Label) (q : ℕ) → has_name (cert records) x ≡ false → acked acks x q ≡ true → (m : Content) × (message_of (pend records) x ≡ Some m) × (has_pair (pend (images q)) x m ≡ true)
 
--- a node's stored records keep the rules, and so does what it holds; what it counts and has broadcast is true
+-- A node's stored records keep the rules, and so does the record that it holds. What it counts and
+-- has broadcast is true.
 pub record NodeKept (size : Limits) (images : ℕ → List Entry) (p : ℕ) (node : Node) : Type 0 where
   pub kept : Kept size images p [] node.records
   pub state : StateKept size images p node.records node.state
@@ -55,7 +56,7 @@ NodesKept w = (p : ℕ) → NodeKept w.size (stored w) p (w.node p)
 abbrev pub AreShort : List (Label × Content) → Type 0
 AreShort pairs = (x : Label) (m : Content) → has_pair pairs x m ≡ true → length m.payload ≤ MAX_PAYLOAD
 
--- the doubtful record, where there is one, has one
+-- the doubtful record, if there is one, has such a payload
 abbrev pub DoubtShort : Option Entry → Type 0
 DoubtShort None = Unit {0}
 DoubtShort (Some r) = AreShort (pend (r ∷ []))
@@ -65,11 +66,11 @@ pub record NodeShort (node : Node) : Type 0 where
   pub stored : AreShort (pend node.records)
   pub doubtful : DoubtShort (doubt node.state)
 
--- that of every node is
+-- this is so for every node
 abbrev pub NodesShort : World → Type 0
 NodesShort w = (p : ℕ) → NodeShort (w.node p)
 
--- the world keeps its rules and its limits
+-- the world keeps its rules and its limits: the invariant of a run
 pub record IsKept (w : World) : Type 0 where
   pub nodes : NodesKept w
   pub short : NodesShort w

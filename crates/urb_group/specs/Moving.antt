@@ -1,4 +1,5 @@
--- What each call does with the node in one place, by the definition's outcome for every node that the place shows.
+-- What each call does with the node in one place, by the definition's outcome for every node that
+-- the place shows.
 use Rattle.std.specs.Prelude.{Bool, Err, List, Ok, Result, Some, if◌then◌else◌, not, slice_get, slice_set, true, ℕ, ◌≡◌}
 use Rattle.urb_names.specs.Carried.{Carried}
 use Rattle.urb_names.specs.Naming.{Content, Limits}
@@ -17,7 +18,7 @@ use Rattle.urb_group.specs.declared.places.Node.TheVariants as place
 use Rattle.urb_group.specs.declared.taken.Taken.{Taken}
 use Rattle.urb_group.specs.declared.taken.Taken.TheVariants as taken
 
--- what stands in this place moves, and the others stay
+-- the item in this place moves, and the others stay
 pub record Moved {T R : Type 0} (moves : T → T × R → Type 0) (old : List T) (at : ℕ) (result : R) (new : List T) : Type 0 where
   pub node : T
   pub moved : T
@@ -25,7 +26,7 @@ pub record Moved {T R : Type 0} (moves : T → T × R → Type 0) (old : List T)
   pub step : moves node (moved, result)
   pub is : new ≡ slice_set old at moved
 
--- what is told of a call that took an event: its reply, or a refusal
+-- the result of a call that took an event: its reply, or a refusal
 abbrev pub Told : Type 0
 Told = Result Reply Refusal
 
@@ -35,7 +36,7 @@ pub record Moves {A : Type 0} (outcome : Reply × Node) (reply : Reply) (old new
   pub shows : ShowsAt new outcome.1
   pub same : IsSameNode (memory_in old) (memory_in new)
 
--- the node moved by its outcome, or it is refused as the outcome is and stays as it was
+-- The node moved by its outcome; or it is refused as the outcome is, and stays as it was.
 abbrev pub Leads : {A : Type 0} → Reply × Node → Place A → Told → Place A → Type 0
 Leads outcome old (Ok reply) new = Moves outcome reply old new
 Leads outcome old (Err r) new = IsRefusedAs outcome.0 r × (new ≡ old)
@@ -44,34 +45,34 @@ Leads outcome old (Err r) new = IsRefusedAs outcome.0 r × (new ≡ old)
 abbrev pub Outcomes : Type 0
 Outcomes = Limits → ℕ → Node → Reply × Node
 
--- so it is for every node that the place shows
+-- this is so for every node that the place shows
 abbrev pub LeadsAt : {A : Type 0} → Outcomes → Place A → Told → Place A → Type 0
 LeadsAt outcome old told new = (node : Node) → ShowsAt old node → Leads (outcome (memory_in old).limits (memory_in old).node node) old told new
 
--- ---- what is told of each call
+-- ---- the result of each call
 
--- of a submit or an arrival
+-- the result of a submit or an arrival
 abbrev pub told_taken : {A : Type 0} → Result (Taken A) Refusal → Told
 told_taken (Ok (taken.Same answer)) = Ok (Same answer)
 told_taken (Ok (taken.Store draft)) = Ok (Drafted (name_of draft.entry) draft.pos)
 told_taken (Err r) = Err r
 
--- of a receipt
+-- the result of a receipt
 abbrev pub told_stored : Result Done (Placed × Refusal) → Told
 told_stored (Ok done) = Ok (Stored done)
 told_stored (Err e) = Err e.1
 
--- of a failed store or a crash
+-- the result of a failed store or a crash
 abbrev pub told_down : ℕ → Result (Unit {0}) Refusal → Told
 told_down p (Ok done) = Ok (WentDown p)
 told_down p (Err r) = Err r
 
--- of a restart
+-- the result of a restart
 abbrev pub told_up : ℕ → Result (Unit {0}) Refusal → Told
 told_up p (Ok done) = Ok (Up p)
 told_up p (Err r) = Err r
 
--- of a tick
+-- the result of a tick
 abbrev pub told_sent : Result (List Carried) Refusal → Told
 told_sent (Ok packets) = Ok (Sent packets)
 told_sent (Err r) = Err r
@@ -84,7 +85,7 @@ IsHeldAt (place.Ready a) draft = ⊥
 IsHeldAt (place.Storing h) draft = draft ≡ draft_of h
 IsHeldAt (place.Down f) draft = ⊥
 
--- where a draft was handed out, it is
+-- if a draft was handed out, the node holds it
 abbrev pub HoldsAt : {A : Type 0} → Place A → Result (Taken A) Refusal → Type 0
 HoldsAt new (Ok (taken.Same answer)) = Unit {0}
 HoldsAt new (Ok (taken.Store draft)) = IsHeldAt new draft
@@ -108,7 +109,7 @@ abbrev pub ArrivesAt : {A : Type 0} → Place A → Carried → Bool → Place A
 ArrivesAt old packet is_truthful r = (node : Node) → ShowsAt old node
     → Leads (arrives_as packet is_truthful (memory_in old).limits (memory_in old).node node) old (told_taken r.1) r.0 × HoldsAt r.0 r.1
 
--- a truthful packet may reach the node where it is ready
+-- a truthful packet may reach the node, if the node is ready
 abbrev pub MayReach : {A : Type 0} → Place A → Carried → Bool → Type 0
 MayReach (place.Ready a) packet is_truthful = is_truthful ≡ true → IsForNode a packet
 MayReach (place.Storing h) packet is_truthful = Unit {0}
@@ -118,7 +119,7 @@ MayReach (place.Down f) packet is_truthful = Unit {0}
 abbrev pub commits_as : Placed → Limits → ℕ → Node → Reply × Node
 commits_as receipt size p node = commits size.n p receipt.pos receipt.entry node node.state
 
--- where a receipt is refused, it is handed back
+-- if a receipt is refused, it is handed back
 abbrev pub HandsBack : Placed → Result Done (Placed × Refusal) → Type 0
 HandsBack receipt (Ok done) = Unit {0}
 HandsBack receipt (Err e) = e.0 ≡ receipt

@@ -28,7 +28,7 @@ view_at node = view_in (state_in node) (memory_in node)
 abbrev pub ShowsAt : {A : Type 0} → Place A → Node → Type 0
 ShowsAt place node = ShowsIn (state_in place) (memory_in place) node
 
--- what nodes in their places show, as one group
+-- what nodes in their places show, together as a group
 abbrev pub shown : {A : Type 0} → Limits → List (Place A) → GroupView
 shown size places = record { size = size; nodes = map view_at places }
 

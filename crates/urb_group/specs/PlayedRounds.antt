@@ -1,4 +1,5 @@
--- Rounds of a cluster that runs: what its commands count for by their replies, as `play` hands them back.
+-- Rounds of a cluster that runs: what its commands count for by their replies, as `play` returns
+-- them.
 use Rattle.std.specs.Prelude.{List, ℕ}
 use Rattle.urb_group.specs.Rounds.{Act, IsRoundAmong, acts_by, arrival_by, disturbance, tick_by}
 use Rattle.urb_group.specs.World.{World}
@@ -8,7 +9,7 @@ use Rattle.urb_names.specs.Nodes.{is_node}
 use Rattle.urb_names.specs.Packets.{packet_of}
 use Rattle.urb_node.specs.Replies.{Reply}
 
--- what a command that is answered so counts for
+-- what a command with this reply counts for
 abbrev pub act_of_command : {A : Type 0} → Command A → Reply → List Act
 act_of_command (command.Submit p client number payload) reply = disturbance reply
 act_of_command (command.Arrive p bytes) reply = arrival_by (packet_of bytes.items) reply

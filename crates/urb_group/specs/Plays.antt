@@ -19,14 +19,15 @@ use Rattle.urb_group.specs.declared.command.Command.{Command}
 use Rattle.urb_group.specs.declared.reply.Reply.{Reply}
 
 module _ {S A : Type 0} (g : Ghosts S A) where
-  -- of the commands, as many as there are replies were applied, one after the other, and none was refused for memory
+  -- There is a reply for each of the first commands. These were applied, one after the other, and
+  -- none of them was refused for memory.
   abbrev pub Follows : Clustered S → List (Command A) → List (Reply A) → Clustered S → Type 0
   Follows old commands [] new = new ≡ old
   Follows old [] (reply ∷ replies) new = ⊥
   Follows old (command ∷ commands) (reply ∷ replies) new =
       (next : Clustered S) × Applies g old command (reply_of reply) next × (is_no_memory reply ≡ false) × Follows next commands replies new
 
-  -- the first commands were applied; the one behind them was not, or it was refused for memory
+  -- The first commands were applied. The one after them was not, or it was refused for memory.
   pub record EndsEarly (old : Clustered S) (commands : List (Command A)) (replies : List (Reply A)) (new : Clustered S) : Type 0 where
     pub last : Clustered S
     pub command : Command A
@@ -34,13 +35,14 @@ module _ {S A : Type 0} (g : Ghosts S A) where
     pub behind : slice_get commands (length replies) ≡ Some command
     pub refused : (new ≡ last) ⊎ Applies g last command (told.Refused refusal.NoMemory) new
 
-  -- all commands were applied, or, where memory was refused, the first ones
+  -- All commands were applied, or, if memory was refused, the first ones.
   abbrev pub Plays : Clustered S → List (Command A) → Result (Vec (Reply A) A) (Vec (Reply A) A × NoMemory) → Clustered S → Type 0
   Plays old commands (Ok replies) new = Follows old commands replies.items new × (length replies.items ≡ length commands)
   Plays old commands (Err e) new = EndsEarly old commands e.0.items new
 
--- Of commands that were played with these replies: from this world their events are a run, with these replies, to a world
--- that the group shows then, in which each packet of a reply is truthful; logs only grew, and agree at both ends.
+-- Commands were played, with these replies. From this world, their events and replies are a run to
+-- a world that the group shows then. Each packet of a reply is truthful in that world. Logs only
+-- grew, and they agree at both ends.
 pub record Runs {A : Type 0} (w : World) (commands : List (Command A)) (replies : List told.Reply) (new : GroupView) : Type 0 where
   pub events : List Event
   pub seen : List told.Reply
@@ -52,13 +54,14 @@ pub record Runs {A : Type 0} (w : World) (commands : List (Command A)) (replies 
   pub grow : EntriesGrow w after
   pub agree : AgreeInTime w after
 
--- the replies that were handed back
+-- the replies that were returned
 abbrev pub told_in : {A : Type 0} → Result (Vec (Reply A) A) (Vec (Reply A) A × NoMemory) → List told.Reply
 told_in (Ok replies) = map reply_of replies.items
 told_in (Err e) = map reply_of e.0.items
 
--- The headline: each node's log holds, for each sender, the first messages that this sender's storage took, in order and
--- once, and the storages of a majority hold each delivered message; and of two nodes' logs for a sender one begins the other.
+-- The headline. Each node's log holds, for each sender, the first messages that this sender's
+-- storage took, in order and once. The storages of a majority hold each delivered message. Take two
+-- nodes' logs for one sender: one begins the other.
 pub record IsPromised (w : World) : Type 0 where
   pub safe : Safe w
   pub agree : (p q s : ℕ) → OneBegins (entries_of s (stored w p)) (entries_of s (stored w q))

@@ -10,7 +10,7 @@ use Rattle.urb_group.specs.Places.{ShowsAt}
 use Rattle.urb_group.specs.World.{bears_out}
 use Rattle.urb_group.specs.declared.places.Node.{Node as Place}
 
--- whether the packet is for node p of n nodes, and names only nodes of them
+-- whether the packet is for node p of n nodes, and names only nodes of these
 abbrev pub is_for_node : ℕ → ℕ → Carried → Bool
 is_for_node n p packet = ((is_node n packet.source && is_node n packet.name.sender) && (packet.target == p)) && is_node n p
 
@@ -24,11 +24,11 @@ pub record AreEnds (n p : ℕ) (packet : Carried) (ends : ℕ × ℕ) : Type 0 w
 abbrev pub HoldsPair : {A : Type 0} → Place A → Carried → Bool → Type 0
 HoldsPair place packet result = (node : Node) → ShowsAt place node → result ≡ has_pair (pend node.records) packet.name packet.message
 
--- whether it has stored a certificate of the packet's name, where the packet tells of one
+-- whether it has stored a certificate of the packet's name, if the packet reports one
 abbrev pub IsAsCertified : {A : Type 0} → Place A → Carried → Bool → Type 0
 IsAsCertified place packet result =
     (node : Node) → ShowsAt place node → result ≡ (not (says_certified packet.flags) || has_name (cert node.records) packet.name)
 
--- whether what the node in this place has stored bears the packet out
+-- whether what the node in this place has stored confirms the packet
 abbrev pub TellsTruth : {A : Type 0} → Place A → Carried → Bool → Type 0
 TellsTruth place packet result = (node : Node) → ShowsAt place node → result ≡ bears_out node.records packet

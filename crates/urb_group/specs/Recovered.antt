@@ -1,5 +1,5 @@
--- That no state is a dead end: what is stored can still be delivered at every node, by events that need no new message, no
--- crash and no failed store.
+-- No state is a dead end: what is stored can still be delivered at every node, by events that need
+-- no new message, no crash and no failed store.
 use Rattle.std.specs.Prelude.{Bool, Err, IsTrue, List, Ok, Result, Some, [], length, map, slice_get, ℕ, ◌∷◌, ◌≡◌}
 use Rattle.urb_group.specs.Growing.{GoesOn}
 use Rattle.urb_group.specs.Recovering.{after, recovery}
@@ -51,39 +51,42 @@ abbrev pub Goes : World → List Event → Type 0
 Goes w [] = Unit {0}
 Goes w (event ∷ events) = IsHarmless w event × IsDone (step w event).0 × Goes (step w event).1 events
 
--- node p is ready, and its log has of each sender the names of all messages that this sender's storage took, with these messages
+-- node p is ready, and its log has, for each sender, the names of all messages that this sender's
+-- storage took, with these messages
 pub record HasDelivered (w : World) (p : ℕ) : Type 0 where
   pub ready : (w.node p).state ≡ Ready
   pub names : (s : ℕ) → IsTrue (is_node w.size.n s) → part_of s (log (stored w p)) ≡ names s (length (w.node s).broadcast)
   pub messages : (s : ℕ) → IsTrue (is_node w.size.n s) → map (message_of (pend (stored w p))) (part_of s (log (stored w p))) ≡ map Some (w.node s).broadcast
 
--- every node is and has
+-- this is so for every node
 abbrev pub AllDelivered : World → Type 0
 AllDelivered w = (p : ℕ) → IsTrue (is_node w.size.n p) → HasDelivered w p
 
--- A group of more than one node; or its one node has certified all that it has stored. (Alone it certifies what it takes as it
--- takes it; but it may be opened from the image of one that was not alone.)
+-- The group has more than one node, or its one node has certified all that it has stored. (A node
+-- that is alone certifies a message as it takes it. But it may be opened from the image of a node
+-- that was not alone.)
 abbrev pub IsNotStranded : World → Type 0
 IsNotStranded w = w.size.n ≡ 1 → (x : Label) (m : Content) → IsTrue (has_pair (pend (stored w 1)) x m) → IsTrue (has_name (cert (stored w 1)) x)
 
--- These events go on from the world, each harmless and none refused; and after them all is delivered.
+-- These events go on from the world. Each is harmless, and none is refused. After them everything
+-- is delivered.
 pub record Delivers (w : World) (events : List Event) : Type 0 where
   pub goes : Goes w events
   pub onward : GoesOn w (after w events)
   pub delivered : AllDelivered (after w events)
 
--- the recovery does, whatever the storages of nodes that are down kept
+-- the recovery delivers everything, whatever the storages of nodes that are down kept
 abbrev pub CanDeliver : World → Type 0
 CanDeliver w = (keeps_doubtful : ℕ → Bool) → Delivers w (recovery keeps_doubtful w)
 
 -- ---- a group that is stranded
 
--- bytes that come are no packet, or one that was sent
+-- bytes that come are no packet, or a packet that was sent
 abbrev pub BytesAsSent : World → Result Carried PacketFault → Type 0
 BytesAsSent w (Err fault) = Unit {0}
 BytesAsSent w (Ok packet) = WasSent w packet
 
--- anything may happen, but that a packet comes which nobody sent
+-- anything may happen, except that a packet comes that nobody sent
 abbrev pub IsAsSent : World → Event → Type 0
 IsAsSent w (Submit p m) = Unit {0}
 IsAsSent w (Arrive p bytes) = BytesAsSent w bytes
@@ -93,7 +96,7 @@ IsAsSent w (Fail p) = Unit {0}
 IsAsSent w (Crash p) = Unit {0}
 IsAsSent w (Restart p image) = Unit {0}
 
--- each of these events, one after the other, is so
+-- this holds of each of these events, one after the other
 abbrev pub AreAsSent : World → List Event → Type 0
 AreAsSent w [] = Unit {0}
 AreAsSent w (event ∷ events) = IsAsSent w event × AreAsSent (step w event).1 events

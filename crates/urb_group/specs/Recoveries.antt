@@ -30,11 +30,12 @@ scene_after scene (line ∷ lines) = scene_after (line scene).1 lines
 abbrev pub logs : World → List (List Label)
 logs w = map (λ p. log (stored w p)) (nodes w.size.n)
 
--- after these lines the logs are so; and these are the logs once all that is stored was delivered
+-- the logs are `before` after these lines, and `delivered` once everything that is stored was
+-- delivered
 abbrev pub ComesTo : Scene → List Line → (ℕ → Bool) → List (List Label) → List (List Label) → Type 0
 ComesTo scene lines keeps_doubtful before delivered =
     let w = (scene_after scene lines).world in (logs w ≡ before) × (logs (after w (recovery keeps_doubtful w)) ≡ delivered)
 
--- after these lines, this is how all that is stored is delivered
+-- after these lines, these events deliver everything that is stored
 abbrev pub RecoversBy : Scene → List Line → (ℕ → Bool) → List Event → Type 0
 RecoversBy scene lines keeps_doubtful events = recovery keeps_doubtful (scene_after scene lines).world ≡ events

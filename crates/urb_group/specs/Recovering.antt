@@ -1,4 +1,5 @@
--- How a group comes to deliver all that is stored: a list of events for each world, made by going through it.
+-- How a group delivers everything that is stored: a list of events for each world, made by going
+-- through it.
 use Rattle.std.specs.Prelude.{Bool, List, None, Ok, Option, Some, [], flat_map, if◌then◌else◌, length, replicate, ℕ, ◌++◌, ◌∷◌}
 use Rattle.urb_group.specs.Step.{Arrive, Commit, Event, Restart, Tick, run}
 use Rattle.urb_group.specs.World.{World, stored}
@@ -10,7 +11,7 @@ use Rattle.urb_node.specs.Steps.{next_position}
 use Rattle.urb_stable.specs.Entries.{Entry}
 use Rattle.urb_stable.specs.Records.{pend}
 
--- a plan: the events that are to happen in a world
+-- a plan: the events to happen in a world
 abbrev pub Plan : Type 0
 Plan = World → List Event
 
@@ -29,7 +30,7 @@ each plan (x ∷ xs) w = let events = plan x w in events ++ each plan xs (after 
 
 -- ---- one node
 
--- the receipt of the record that node p in this state holds, where it holds one
+-- the receipt of the record that node p holds in this state, if it holds one
 abbrev pub receipt_of : ℕ → Node → State → List Event
 receipt_of p node Ready = []
 receipt_of p node (Storing entry cause) = Commit p (next_position node) entry ∷ []
@@ -39,18 +40,19 @@ receipt_of p node (Down doubtful) = []
 abbrev pub stores : ℕ → Plan
 stores p w = receipt_of p (w.node p) (w.node p).state
 
--- what the storage of a node that is down holds: its records, and the doubtful one where it kept it
+-- what the storage of a node that is down holds: its records, and the doubtful one if it kept that
 abbrev pub image_with : Bool → List Entry → Option Entry → List Entry
 image_with keeps_doubtful records None = records
 image_with keeps_doubtful records (Some r) = if keeps_doubtful then records ++ r ∷ [] else records
 
--- node p in this state is made ready: it stores what it holds, and one that is down restarts
+-- Node p in this state becomes ready. It stores the record that it holds; a node that is down
+-- restarts.
 abbrev pub readied : Bool → ℕ → Node → State → List Event
 readied keeps_doubtful p node Ready = []
 readied keeps_doubtful p node (Storing entry cause) = Commit p (next_position node) entry ∷ []
 readied keeps_doubtful p node (Down doubtful) = Restart p (image_with keeps_doubtful node.records doubtful) ∷ []
 
--- p comes back, where it isn't ready, with its doubtful record where its storage kept that
+-- p comes back if it isn't ready, with its doubtful record if its storage kept that
 abbrev pub comes_back : (ℕ → Bool) → ℕ → Plan
 comes_back keeps_doubtful p w = readied (keeps_doubtful p) p (w.node p) (w.node p).state
 
@@ -72,17 +74,17 @@ packets_of w events = flat_map packets_in (run w events).0
 abbrev pub round_of : ℕ → Plan
 round_of p w = both (ticks_of p) (each carries (packets_of w (ticks_of p w))) w
 
--- the same of each node in turn
+-- each node in turn does the same
 abbrev pub rounds : Plan
 rounds w = each round_of (nodes w.size.n) w
 
--- ---- all of it
+-- ---- everything
 
 -- all nodes come back
 abbrev pub all_back : (ℕ → Bool) → Plan
 all_back keeps_doubtful w = each (comes_back keeps_doubtful) (nodes w.size.n) w
 
--- All nodes come back; in a first round each message comes to every node, and in a second one each node is told by all others
--- that they have it.
+-- All nodes come back. In a first round each message comes to every node. In a second one each node
+-- hears from all others that they have it.
 abbrev pub recovery : (ℕ → Bool) → Plan
 recovery keeps_doubtful = both (all_back keeps_doubtful) (both rounds rounds)

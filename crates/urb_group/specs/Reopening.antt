@@ -1,4 +1,4 @@
--- What comes of a cluster that is opened over stores with records, and how it goes on from the cluster before.
+-- A cluster that is opened over stores with records, and how it goes on from the cluster before.
 use Rattle.std.specs.Prelude.{Err, List, Ok, Result, Vec, [], length, map, ℕ, ◌++◌, ◌∷◌, ◌≡◌, ◌⊎◌}
 use Rattle.std.specs.List.{All}
 use Rattle.urb_names.specs.Naming.{Limits}
@@ -29,7 +29,8 @@ module _ {S A : Type 0} (g : Ghosts S A) where
   AllGive (before ∷ stores) (image ∷ images) (after ∷ asked) = Gives g before (Ok image) after × AllGive stores images asked
   AllGive stores images asked = ⊥
 
-  -- the first stores gave their lists, the next one answered this fault, and those behind it were not asked
+  -- The first stores gave their lists. The next one answered with this fault, and those behind it
+  -- were not asked.
   pub record FirstFails (stores : List S) (fault : StoreFault) (asked : List S) : Type 0 where
     pub earlier : List S
     pub images : List (List Entry)
@@ -42,11 +43,12 @@ module _ {S A : Type 0} (g : Ghosts S A) where
     pub were : stores ≡ earlier ++ before ∷ later
     pub are : asked ≡ gave ++ after ∷ later
 
-  -- The stores did not give all their lists: this refusal tells the first fault, or memory was refused before one was asked.
+  -- The stores did not give all their lists. The refusal says the first fault; or memory was
+  -- refused before any store was asked.
   abbrev pub AreRefused : List S → Refusal → List S → Type 0
   AreRefused stores why asked = ((fault : StoreFault) × FirstFails stores fault asked × (why ≡ refusal_of fault)) ⊎ ((asked ≡ stores) × (why ≡ refusal.NoMemory))
 
-  -- what asking all stores comes to
+  -- the result of asking all stores
   abbrev pub RetrievesAll : List S → Result (Vec (Vec Entry A) A) Refusal → List S → Type 0
   RetrievesAll stores (Ok images) asked = AllGive stores (map (λ image. image.items) images.items) asked
   RetrievesAll stores (Err why) asked = AreRefused stores why asked
@@ -57,18 +59,20 @@ module _ {S A : Type 0} (g : Ghosts S A) where
     pub given : AllGive stores images asked
     pub opens : Opens size images result
 
-  -- a group is opened from what the stores give, or it is not: because of a store, or of the lists that were given
+  -- A group is opened from what the stores give. Or it is not, because of a store, or because of
+  -- the lists that the stores gave.
   abbrev pub OpensFrom : Limits → List S → Result GroupView Refusal → List S → Type 0
   OpensFrom size stores (Ok group) asked = OpensGiven size stores asked (Ok group)
   OpensFrom size stores (Err why) asked = AreRefused stores why asked ⊎ OpensGiven size stores asked (Err why)
 
-  -- A cluster of that group with its stores; or all stores come back in order.
+  -- a cluster of that group with its stores; or all stores come back in order
   abbrev pub OpensStores : Limits → List S → Result (Clustered S) (Vec S A × Refusal) → Type 0
   OpensStores size stores (Ok cluster) = OpensFrom size stores (Ok cluster.group) cluster.stores
   OpensStores size stores (Err e) = OpensFrom size stores (Err e.1) e.0.items
 
-  -- A process stopped whose group, with these limits, showed this world. The stores that are passed now are any that hold what
-  -- a stop may leave of its nodes: each one its node's records, or these with the held or the doubtful one.
+  -- A process stopped whose group, with these limits, showed this world. The stores that are passed
+  -- now may be any that hold what a stop may leave of its nodes. Each holds its node's records, or
+  -- these with the held or the doubtful record.
   pub record HasStopped (old : GroupView) (w : World) (limits : Limits) (passed : List S) : Type 0 where
     pub sound : IsSound old
     pub counted : length old.nodes ≡ limits.n
@@ -76,8 +80,9 @@ module _ {S A : Type 0} (g : Ghosts S A) where
     pub shows : Shows old w
     pub holds : AllHold g w passed
 
-  -- The new cluster goes on from this world: each of these lists is one that its store may have held, and they go on; the new
-  -- group shows what is opened from them, and all its nodes are ready.
+  -- The new cluster goes on from this world. Each of these lists is one that its store may have
+  -- held, and the lists go on from this world. The new group shows what is opened from them, and
+  -- all its nodes are ready.
   pub record ContinuesFrom (w : World) (passed : List S) (new : GroupView) : Type 0 where
     pub images : List (List Entry)
     pub chosen : AreChosen g passed images
@@ -85,8 +90,9 @@ module _ {S A : Type 0} (g : Ghosts S A) where
     pub opens : Shows new (opened w.size (image_of images))
     pub ready : (p : ℕ) → (view_of new p).state ≡ Ready
 
-  -- Over honest stores it goes on, unless memory is refused or a device fails: also where that failure, or one before, has shut
-  -- a store. Refused, the stores still hold what the stop may have left, so that it may be asked for again.
+  -- Over honest stores the cluster goes on, unless memory is refused or a device fails. This holds
+  -- also if that failure, or one before, has shut a store. After a refusal the stores still hold
+  -- what the stop may have left, so the opening may be asked for again.
   abbrev pub Continues : GroupView → World → Limits → List S → Result (Clustered S) (Vec S A × Refusal) → Type 0
   Continues old w limits passed (Ok new) = All g.is_honest new.stores → ContinuesFrom w passed new.group
   Continues old w limits passed (Err e) =

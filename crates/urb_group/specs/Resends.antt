@@ -1,4 +1,5 @@
--- Ticks over pairs that come and go: each tick resends of the pairs that are due at its time, and moves the cursor on.
+-- Ticks over pairs that come and go. Each tick resends some of the pairs that are due at its time,
+-- and moves the cursor on.
 use Rattle.std.specs.Prelude.{Option, List, [], not, ℕ, ◌++◌, ◌∷◌, ◌≡◌, true}
 use Rattle.std.specs.List.{AllByRecursion, prefix_len}
 use Rattle.urb_names.specs.Cyclic.{are_rising, cyclic, last_name, resent}
@@ -6,7 +7,7 @@ use Rattle.urb_names.specs.Names.{same_name}
 use Rattle.urb_names.specs.Naming.{Content, Label}
 use Rattle.urb_names.specs.Pairs.{has_pair}
 
--- the cursor after a tick at which these were due
+-- the cursor after a tick, if these pairs were due
 abbrev pub cursor_next : Option Label → List (Label × Content) → Option Label
 cursor_next cursor due = last_name cursor (resent cursor due)
 
@@ -19,7 +20,7 @@ resent_over cursor (due ∷ dues) = resent cursor due ++ resent_over (cursor_nex
 abbrev pub turn_of : List (Label × Content) → Option Label → Label → ℕ
 turn_of all cursor x = prefix_len (λ pair. not (same_name pair.0 x)) (cyclic cursor all)
 
--- pairs that are due, in rising order, each one of all, and the pair of x and m among them
+-- Some of all pairs are due, in rising order, and the pair of x and m is among them.
 pub record IsDueAmong (all : List (Label × Content)) (x : Label) (m : Content) (due : List (Label × Content)) : Type 0 where
   pub rises : are_rising due ≡ true
   pub among : AllByRecursion (λ pair. has_pair all pair.0 pair.1 ≡ true) due

@@ -1,4 +1,5 @@
--- Words of the worked examples of rounds: plans of ticks and arrivals, and tests of what a round asks for.
+-- Words of the worked examples of rounds: plans of ticks and arrivals, and tests of the things that
+-- a round asks for.
 use Rattle.std.specs.Prelude.{Bool, List, None, Ok, Option, Some, [], false, length, map, nat_lt, not, suc, true, ℕ, ◌&&◌, ◌*◌, ◌++◌, ◌==◌, ◌||◌, ◌∷◌, ◌≡◌}
 use Rattle.std.specs.List.{list_all}
 use Rattle.urb_group.specs.Recoveries.{logs, scene_after}
@@ -32,7 +33,8 @@ two_of_three_nodes_broadcast =
 abbrev pub arrivals : List Carried → List Event
 arrivals packets = map (λ packet. Arrive packet.target (Ok packet)) packets
 
--- nodes tick in this order; then those of their packets that are chosen arrive as chosen, and what they draft is stored
+-- Nodes tick in this order. Then their chosen packets arrive in the chosen order, and what they
+-- draft is stored.
 abbrev pub in_order : List ℕ → (List Carried → List Carried) → Plan
 in_order order choice w = let ticks = map Tick order in ticks ++ each carries (choice (packets_of w ticks)) (after w ticks)
 
@@ -40,7 +42,7 @@ in_order order choice w = let ticks = map Tick order in ticks ++ each carries (c
 abbrev pub as_sent : List Carried → List Carried
 as_sent packets = packets
 
--- none of them
+-- no packet
 abbrev pub none_of : List Carried → List Carried
 none_of packets = []
 
@@ -52,14 +54,16 @@ one_by_one order w = each (λ p. in_order (p ∷ []) as_sent) order w
 abbrev pub old_packets : Plan
 old_packets w = each carries (w.sent ++ w.sent) w
 
--- nodes tick in this order, and each packet arrives twice: first while no record is stored, so that some are refused as busy
+-- Nodes tick in this order, and each packet arrives twice. The first time no record is stored, so
+-- some packets are refused as busy.
 abbrev pub busy_at_first : List ℕ → Plan
 busy_at_first order w =
     let ticks = map Tick order in
     let packets = packets_of w ticks in
     let first = ticks ++ arrivals packets in first ++ each carries packets (after w first)
 
--- nodes tick in this order, and their packets arrive, and so do the packets that are handed out when these arrive
+-- Nodes tick in this order, and their packets arrive. The packets that are handed out on these
+-- arrivals arrive too.
 abbrev pub with_answers : List ℕ → Plan
 with_answers order w =
     let ticks = map Tick order in
@@ -77,7 +81,7 @@ abbrev pub same_bit : Bool → Bool → Bool
 same_bit true other = other
 same_bit false other = not other
 
--- whether two packets have the same flags, or both none
+-- whether two packets have the same flags, or both have no flags
 abbrev pub same_flags : Option Flags → Option Flags → Bool
 same_flags None None = true
 same_flags None (Some g) = false
@@ -104,7 +108,7 @@ does_arrive packet (Ticks p packets ∷ acts) = does_arrive packet acts
 does_arrive packet (Arrives other answers ∷ acts) = same_packet other packet || does_arrive packet acts
 does_arrive packet (Disturbs ∷ acts) = does_arrive packet acts
 
--- whether all that ticks send arrives later
+-- whether everything that ticks send arrives later
 abbrev pub ticks_arrive : List Act → Bool
 ticks_arrive [] = true
 ticks_arrive (Ticks p packets ∷ acts) = list_all (λ packet. does_arrive packet acts) packets && ticks_arrive acts
@@ -117,14 +121,14 @@ is_ready Ready = true
 is_ready (Storing entry cause) = false
 is_ready (Down doubtful) = false
 
--- what is met of that which a round asks for
+-- which of the things that a round asks for are met
 pub record Verdict : Type 0 where
   pub undisturbed : Bool
   pub ticks : Bool
   pub arrive : Bool
   pub settled : Bool
 
--- of these events in this world
+-- which of them these events meet in this world
 abbrev pub judged : World → List Event → Verdict
 judged w events =
     let acts = acts_of w events in
@@ -136,33 +140,33 @@ judged w events =
       settled = list_all (λ p. is_ready (end.node p).state) (nodes w.size.n);
     }
 
--- all of it is met: it is a round
+-- all of them are met: it is a round
 abbrev pub a_round : Verdict
 a_round = record { undisturbed = true; ticks = true; arrive = true; settled = true }
 
--- all but that nothing disturbs
+-- all but one: something disturbs
 abbrev pub disturbed : Verdict
 disturbed = record a_round { undisturbed = false }
 
--- all but that each node ticks often enough
+-- all but one: some node ticks too seldom
 abbrev pub ticks_too_seldom : Verdict
 ticks_too_seldom = record a_round { ticks = false }
 
--- all but that what ticks send arrives
+-- all but one: a packet that a tick sends doesn't arrive
 abbrev pub loses_a_packet : Verdict
 loses_a_packet = record a_round { arrive = false }
 
--- all but that every node is ready at the end
+-- all but one: some node isn't ready at the end
 abbrev pub leaves_a_draft : Verdict
 leaves_a_draft = record a_round { settled = false }
 
--- behind this plan a tick of each node sends these packets, each told by its target and its name
+-- after this plan a tick of each node sends these packets, each given by its target and its name
 abbrev pub TicksSend : Scene → Plan → List (ℕ × Label) → Type 0
 TicksSend scene plan sends =
     let w = scene.world in
     map (λ packet. (packet.target, packet.name)) (packets_of (after w (plan w)) (map Tick (nodes w.size.n))) ≡ sends
 
--- in this scene two plans are so judged, and these are the logs of all nodes behind them
+-- in this scene the two plans have these verdicts, and these are the logs of all nodes after them
 abbrev pub RoundsCome : Scene → Plan → Verdict → Plan → Verdict → List (List Label) → Type 0
 RoundsCome scene first one second two delivered =
     let w = scene.world in

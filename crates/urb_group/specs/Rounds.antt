@@ -1,5 +1,6 @@
--- Rounds: what has to happen, in whatever order, for a group to deliver all that its storages took. The laws of src/fairness.rt
--- rest on this file. A round is told from what happens and from how it is answered; nothing here says that rounds come.
+-- Rounds: what has to happen, in whatever order, for a group to deliver all that its storages took.
+-- The laws of src/fairness.rt rest on this file. Whether events are a round follows from the events
+-- and their replies. Nothing here says that rounds come.
 use Rattle.std.specs.Prelude.{Bool, Err, List, Ok, Result, [], false, if◌then◌else◌, is_some, length, suc, true, ℕ, ◌&&◌, ◌*◌, ◌++◌, ◌==◌, ◌∷◌, ◌≡◌, ◌≤◌, ◌⊎◌}
 use Rattle.std.specs.List.{AllByRecursion, sum_by}
 use Rattle.urb_group.specs.Recovering.{after}
@@ -22,15 +23,15 @@ use Rattle.urb_stable.specs.Records.{pend}
 
 -- ---- what counts
 
--- What counts in a round: a tick of a node, with the packets that it sends; a packet that arrives, with the packets that answer
--- it; and a disturbance.
+-- What counts in a round: a tick of a node, with the packets that it sends; a packet that arrives,
+-- with the packets that answer it; and a disturbance.
 pub data Act : Type 0 where
   Ticks : (p : ℕ) (packets : List Carried) → Act
   Arrives : (packet : Carried) (answers : List Carried) → Act
   Disturbs : Act
 
--- A new message, a crash and a failed store disturb. A repeated submit, a receipt, a restart and what is refused count for
--- nothing.
+-- A new message, a crash and a failed store disturb. A repeated submit, a receipt, a restart and a
+-- refused event count for nothing.
 abbrev pub disturbance : Reply → List Act
 disturbance (Drafted x position) = Disturbs ∷ []
 disturbance (Same told) = []
@@ -50,7 +51,8 @@ tick_by p (WentDown q) = []
 tick_by p (Up q) = []
 tick_by p (Refused refusal) = []
 
--- bytes that come count where they are a packet, unless it is refused, as by a node that stores a record
+-- Bytes that come count if they are a packet, unless it is refused, as by a node that stores a
+-- record.
 abbrev pub arrival_by : Result Carried PacketFault → Reply → List Act
 arrival_by (Err fault) reply = []
 arrival_by (Ok packet) (Drafted x position) = Arrives packet [] ∷ []
@@ -61,7 +63,7 @@ arrival_by (Ok packet) (WentDown q) = []
 arrival_by (Ok packet) (Up q) = []
 arrival_by (Ok packet) (Refused refusal) = []
 
--- what an event that is answered so counts for
+-- what an event with this reply counts for
 abbrev pub act_of : Event → Reply → List Act
 act_of (Submit p m) reply = disturbance reply
 act_of (Arrive p bytes) reply = arrival_by bytes reply
@@ -104,7 +106,7 @@ DoesArrive packet (Ticks p packets ∷ acts) = DoesArrive packet acts
 DoesArrive packet (Arrives other answers ∷ acts) = (other ≡ packet) ⊎ DoesArrive packet acts
 DoesArrive packet (Disturbs ∷ acts) = DoesArrive packet acts
 
--- those of the packets that go from one of these nodes to another arrive
+-- the packets that go from one of these nodes to another arrive
 abbrev pub DoArrive : (ℕ → Bool) → List Carried → List Act → Type 0
 DoArrive among packets acts =
     AllByRecursion (λ packet. (among packet.source && among packet.target) ≡ true → DoesArrive packet acts) packets
@@ -116,17 +118,17 @@ TicksArrive among (Ticks p packets ∷ acts) = DoArrive among packets acts × Ti
 TicksArrive among (Arrives packet answers ∷ acts) = TicksArrive among acts
 TicksArrive among (Disturbs ∷ acts) = TicksArrive among acts
 
--- A round among these nodes: nothing disturbs; each of them ticks a sixteenth as often at least as it has pending names at the
--- end, since a tick resends sixteen; what they send each other at ticks arrives later; and at the end each of them is ready,
--- so that none holds a record that isn't stored. All else is free: the order, what other packets come, what is refused, and
--- receipts.
+-- A round among these nodes. Nothing disturbs. Each of the nodes ticks at least a sixteenth as
+-- often as it has pending names at the end, since a tick resends sixteen. What they send each other
+-- at ticks arrives later. At the end each of them is ready, so none holds a record that isn't
+-- stored. All else is free: the order, which other packets come, what is refused, and receipts.
 pub record IsRoundAmong (among : ℕ → Bool) (acts : List Act) (end : World) : Type 0 where
   pub undisturbed : IsUndisturbed acts
   pub ticks : (p : ℕ) → among p ≡ true → length (pend (stored end p)) ≤ 16 * ticks_of p acts
   pub arrive : TicksArrive among acts
   pub settled : (p : ℕ) → among p ≡ true → (end.node p).state ≡ Ready
 
--- from this world on these events are a round of all nodes
+-- from this world on, these events are a round of all nodes
 abbrev pub IsRound : World → List Event → Type 0
 IsRound w events = IsRoundAmong (is_node w.size.n) (acts_of w events) (after w events)
 
@@ -140,7 +142,7 @@ AllUp w = (p : ℕ) → is_node w.size.n p ≡ true → is_down (w.node p).state
 abbrev pub taken : World → ℕ
 taken w = sum_by (λ s. length (w.node s).broadcast) (nodes w.size.n)
 
--- each node ticks this often at least
+-- each node ticks at least this often
 abbrev pub TickAtLeast : ℕ → World → List Act → Type 0
 TickAtLeast count w acts = (p : ℕ) → is_node w.size.n p ≡ true → count ≤ ticks_of p acts
 
@@ -150,12 +152,13 @@ TickAtLeast count w acts = (p : ℕ) → is_node w.size.n p ≡ true → count �
 abbrev pub AreUp : (ℕ → Bool) → World → Type 0
 AreUp among w = (p : ℕ) → among p ≡ true → (is_node w.size.n p ≡ true) × (is_down (w.node p).state ≡ false)
 
--- one of these has stored a message under the name
+-- one of these nodes has stored a message under the name
 abbrev pub IsHeldAmong : (ℕ → Bool) → World → Label → Type 0
 IsHeldAmong among w x = (p : ℕ) × (among p ≡ true) × (is_some (message_of (pend (stored w p)) x) ≡ true)
 
--- Each of these nodes has delivered, of each sender, the longest beginning of its messages each of which one of them had
--- stored in the old world: what the log has of the sender begins with the names 1 to count if each of these was stored.
+-- Each of these nodes has delivered, of each sender, at least the longest beginning of messages that
+-- one of them had stored in the old world. So if each of the names 1 to count was stored there, the
+-- log's part of the sender begins with these names.
 abbrev pub HaveDeliveredHeld : (ℕ → Bool) → World → World → Type 0
 HaveDeliveredHeld among old new =
     (q s count : ℕ) → among q ≡ true → ((i : ℕ) → 1 ≤ i → i ≤ count → IsHeldAmong among old (name s i))
@@ -170,7 +173,8 @@ AnswersArrive (Ticks p packets ∷ acts) = AnswersArrive acts
 AnswersArrive (Arrives packet answers ∷ acts) = AllByRecursion (λ answer. DoesArrive answer acts) answers × AnswersArrive acts
 AnswersArrive (Disturbs ∷ acts) = AnswersArrive acts
 
--- no name is due at any node: each has heard of each other one's certificate of each name that it has pending
+-- no name is due at any node: each node has heard every other node's certificate of each name that
+-- it has pending
 abbrev pub NoneDue : World → Type 0
 NoneDue w = (p : ℕ) → is_node w.size.n p ≡ true → due_of w.size.n p (w.node p).heard (rising (pend (stored w p))) ≡ []
 

@@ -1,4 +1,5 @@
--- What makes a world safe: FIFO order, no creation, no duplication, uniform agreement; and one message a name.
+-- What makes a world safe: FIFO order, no creation, no duplication, uniform agreement, and one
+-- message per name.
 use Rattle.std.specs.Prelude.{AllPairs, IsTrue, Some, length, map, take, ℕ, ◌≡◌, ◌≢◌}
 use Rattle.urb_group.specs.World.{World, stored}
 use Rattle.urb_names.specs.Names.{has_name, names}
@@ -9,7 +10,8 @@ use Rattle.urb_names.specs.Release.{part_of}
 use Rattle.urb_stable.specs.Log.{log}
 use Rattle.urb_stable.specs.Records.{pend}
 
--- FIFO order and no creation: a sender's part of a log is its names 1, 2, 3, .., and their messages are the first that it broadcast
+-- FIFO order and no creation: a sender's part of a log is its names 1, 2, 3, .., and their messages
+-- are the first that it broadcast
 pub record IsInOrder (w : World) (p s : ℕ) : Type 0 where
   pub numbers : part_of s (log (stored w p)) ≡ names s (length (part_of s (log (stored w p))))
   pub messages : map (message_of (pend (stored w p))) (part_of s (log (stored w p))) ≡ map Some (take (length (part_of s (log (stored w p)))) (w.node s).broadcast)

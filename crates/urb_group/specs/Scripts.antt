@@ -1,4 +1,4 @@
--- Scripts: lines that a group is run by, each beside its answer.
+-- Scripts: the lines that drive a group, each beside its answer.
 use Prim.Native.String.{String}
 use Rattle.std.specs.Prelude.{Bool, Err, List, None, Ok, Option, Some, [], codes, false, filter, if◌then◌else◌, is_some, length, map, nat_lt, true, ℕ, ◌++◌, ◌==◌, ◌||◌, ◌∷◌, ◌≡◌}
 use Rattle.urb_group.specs.Step.{Arrive, Commit, Crash, Event, Fail, Restart, Submit, Tick, step}
@@ -27,7 +27,7 @@ use Rattle.urb_stable.specs.declared.record.Record.TheVariants.{Cert}
 
 -- ---- answers
 
--- what a line is answered
+-- the answer to a line
 pub data Told : Type 0 where
   Drafts : (x : Label) (position : ℕ) → Told
   Accepts : (x : Label) (sent released : ℕ) → Told  -- a record of an own message is stored: how many packets went out, and how many names were released
@@ -50,15 +50,16 @@ accepted sender number = Answers (Accepted (name sender number))
 abbrev pub noted : ℕ → ℕ → Told
 noted sender number = Answers (Noted (name sender number))
 
--- nothing new of this name
+-- a packet said nothing new of this name
 abbrev pub again : ℕ → ℕ → Told
 again sender number = Answers (Again (name sender number))
 
--- the flags of this number: 1 where a certificate is told of, 2 where one was heard, 3 for both, and 0 for neither
+-- The flags of this number: 1 if a certificate is reported, 2 if one was heard, 3 for both, 0 for
+-- neither.
 abbrev pub flags_of : ℕ → Flags
 flags_of number = record { certified = (number == 1) || (number == 3); heard = (number == 2) || (number == 3) }
 
--- this name is certified, which q is told by a packet with these flags
+-- this name is certified, and a packet with these flags says so to q
 abbrev pub answered : ℕ → ℕ → ℕ → ℕ → Told
 answered sender number q flags = Answers (Answered (name sender number) ((q, Some (flags_of flags)) ∷ []))
 
@@ -103,16 +104,16 @@ pub record Scene : Type 0 where
 abbrev pub Line : Type 0
 Line = Scene → Told × Scene
 
--- a new group of n nodes, each of which may broadcast cap messages
+-- a new group of n nodes; each node may broadcast cap messages
 abbrev pub new_group : ℕ → ℕ → Scene
 new_group n cap = record { world = started (record { n = n; cap = cap }); storage = λ p. [] }
 
--- an event, with this in storage from then on
+-- an event, after which storage holds this
 abbrev pub happens_with : (ℕ → List Entry) → Event → Line
 happens_with storage event scene =
     let outcome = step scene.world event in (told outcome.0, record { world = outcome.1; storage = storage })
 
--- an event, with storage as it was
+-- an event that leaves storage as it was
 abbrev pub happens : Event → Line
 happens event scene = happens_with scene.storage event scene
 
@@ -134,7 +135,7 @@ held_by (Down doubtful) = []
 abbrev pub keeping : ℕ → Scene → ℕ → List Entry
 keeping p scene = updated scene.storage p (scene.storage p ++ held_by (scene.world.node p).state)
 
--- the receipt of the held record, or of some record where none is held
+-- the receipt of the held record, or of some record if none is held
 abbrev pub receipt : ℕ → Node → State → Event
 receipt p node Ready = Commit p 1 (Cert (name 1 1))
 receipt p node (Storing entry cause) = Commit p (next_position node) entry
@@ -169,31 +170,35 @@ abbrev pub or_nothing : Option Content → Content
 or_nothing None = record { client = 1; number = 1; payload = [] }
 or_nothing (Some m) = m
 
--- the flags of a packet of a message: these, or none; but 0 where there are none and the payload is too long for version one
+-- The flags of a packet of a message: these, or none. If none are given and the payload is too long
+-- for version one, they are 0.
 abbrev pub flags_with : Option Flags → Content → Option Flags
 flags_with None m = if nat_lt MAX_PLAIN_PAYLOAD (length m.payload) then Some (flags_of 0) else None
 flags_with (Some flags) m = Some flags
 
--- what q has stored under the name comes to p, with these flags; where there is none, a message that q doesn't hold
+-- What q has stored under the name comes to p, with these flags. If q has stored no message, one
+-- comes that q doesn't hold.
 abbrev pub arrive_with : Option Flags → ℕ → ℕ → ℕ → ℕ → Line
 arrive_with flags q p sender number scene =
     let m = or_nothing (message_of (pend (stored scene.world q)) (name sender number)) in
     happens (Arrive p (Ok (record { source = q; target = p; name = name sender number; message = m; flags = flags_with flags m }))) scene
 
--- in a packet of version one, or of version two with flags 0 where the payload is too long for that
+-- What q has stored under the name comes to p, in a packet of version one. If the payload is too
+-- long for that, it comes in one of version two with flags 0.
 abbrev pub arrive : ℕ → ℕ → ℕ → ℕ → Line
 arrive q p sender number = arrive_with None q p sender number
 
--- in a packet of version two, with the flags of this number
+-- what q has stored under the name comes to p, in a packet of version two with the flags of this
+-- number
 abbrev pub arrive2 : ℕ → ℕ → ℕ → ℕ → ℕ → Line
 arrive2 q p sender number flags = arrive_with (Some (flags_of flags)) q p sender number
 
--- a group that is opened, or the first misfit
+-- the group is opened, or the first misfit is given
 abbrev pub told_open : Option Misfit → Scene → Told × Scene
 told_open None scene = (Opens, record scene { world = opened scene.world.size scene.storage })
 told_open (Some misfit) scene = (Refuses (refusal.Inconsistent misfit.rule misfit.node misfit.name), scene)
 
--- the process stops, and opens the group of what storage holds
+-- the process stops, and opens the group with what storage holds
 abbrev pub reopen : Line
 reopen scene = told_open (first_misfit scene.world.size scene.storage) scene
 
@@ -206,7 +211,7 @@ abbrev pub held : ℕ → ℕ → Line
 held sender number scene =
     (Holds (filter (λ p. is_some (message_of (pend (stored scene.world p)) (name sender number))) (nodes scene.world.size.n)), scene)
 
--- ---- lines that say what no storage and no link would
+-- ---- lines that no storage and no link would give
 
 -- a receipt for any record at any position
 abbrev pub commit : ℕ → ℕ → Entry → Line
@@ -235,19 +240,19 @@ infix 70 ◌⇒◌
 abbrev pub ◌⇒◌ : Line → Told → Line × Told
 line ⇒ answer = (line, answer)
 
--- what these lines are answered, one after the other
+-- the answers to these lines, one after the other
 abbrev pub answers : Scene → List Line → List Told
 answers scene [] = []
 answers scene (line ∷ lines) = let outcome = line scene in outcome.0 ∷ answers outcome.1 lines
 
--- from this scene on, each line is answered so
+-- from this scene on, each line has this answer
 abbrev pub PlaysFrom : Scene → List (Line × Told) → Type 0
 PlaysFrom scene script = answers scene (map (λ row. row.0) script) ≡ map (λ row. row.1) script
 
--- in a new group of n nodes and this cap, each line is answered so
+-- in a new group of n nodes and this cap, each line has this answer
 abbrev pub Plays : ℕ → ℕ → List (Line × Told) → Type 0
 Plays n cap script = PlaysFrom (new_group n cap) script
 
--- in the group that these images of the nodes 1, 2, .. open, each line is answered so
+-- in the group that these images of the nodes 1, 2, .. open, each line has this answer
 abbrev pub PlaysOpened : Limits → (ℕ → List Entry) → List (Line × Told) → Type 0
 PlaysOpened size images script = PlaysFrom (record { world = opened size images; storage = images }) script

@@ -12,7 +12,8 @@ use Rattle.urb_stable.specs.Entries.{Entry}
 use Rattle.urb_stable.specs.Fitting.{Fits}
 use Rattle.urb_names.specs.declared.refusal.Refusal.TheVariants as refusal
 
--- What may happen. Whether a draft is stored or fails, and which image a restart gets, are parts of it.
+-- What may happen: a submit, an arrival, a tick, a commit, a failed store, a crash, or a restart.
+-- Whether a draft is stored or fails, and which image a restart gets, is part of the event.
 pub data Event : Type 0 where
   Submit : (p : ℕ) (m : Content) → Event
   Arrive : (p : ℕ) (bytes : Result Carried PacketFault) → Event  -- what the bytes are
@@ -27,11 +28,11 @@ abbrev pub world_after : World → ℕ → Reply × Node → Reply × World
 world_after w p outcome =
     (outcome.0, record { size = w.size; node = updated w.node p outcome.1; sent = w.sent ++ packets_in outcome.0 })
 
--- an event of node p, where there is such a node
+-- an event of node p, if there is such a node
 abbrev pub at_node : World → ℕ → Reply × Node → Reply × World
 at_node w p outcome = if is_node w.size.n p then world_after w p outcome else (Refused refusal.BadNode, w)
 
--- whether all nodes that a packet names are nodes, and it is for p
+-- whether the packet names only nodes of the group, and is for p
 abbrev pub is_for : World → ℕ → Carried → Bool
 is_for w p packet = (is_node w.size.n packet.source && is_node w.size.n packet.name.sender) && (packet.target == p)
 

@@ -16,12 +16,13 @@ use Rattle.urb_stable.specs.Log.{entries, log}
 use Rattle.urb_stable.specs.Records.{pend}
 use Rattle.urb_stable.specs.Storing.{IsContents}
 
--- what a stop may leave of a node's storage: its records, or these with the held or doubtful one
+-- what a stop may leave of a node's storage: its records, or these with the held or doubtful record
 abbrev pub MayLeave : Node → List Entry → Type 0
 MayLeave node image = IsContents node.records (doubt node.state) image
 
--- These images of the nodes open a group that goes on from this world: they fit together, each log begins with the log
--- before, its names with their messages, and a submit of an own pair that the node had stored is accepted under its name.
+-- These images of the nodes open a group that goes on from this world. They fit together. Each log
+-- begins with the log before, its names with their messages. A submit of an own pair that the node
+-- had stored is accepted under its name.
 pub record GoesOnIn (w : World) (images : ℕ → List Entry) : Type 0 where
   pub fits : Fits w.size images
   pub delivered : (p : ℕ) → Begins (log (stored w p)) (log (images p))
@@ -29,6 +30,6 @@ pub record GoesOnIn (w : World) (images : ℕ → List Entry) : Type 0 where
   pub again : (p : ℕ) (x : Label) (m : Content) → IsTrue (is_node w.size.n p) → x.sender ≡ p
       → IsTrue (has_pair (pend (stored w p)) x m) → (step (opened w.size images) (Submit p m)).0 ≡ Same (Accepted x)
 
--- whatever a stop leaves of each node does
+-- whatever a stop leaves of each node, the group that opens from it goes on from this world
 abbrev pub SurvivesStop : World → Type 0
 SurvivesStop w = (images : ℕ → List Entry) → ((p : ℕ) → MayLeave (w.node p) (images p)) → GoesOnIn w images

@@ -1,4 +1,5 @@
--- Packets that tell the truth: their source has stored the message that they carry, and the certificate that they tell of.
+-- Packets that are truthful: their source has stored the message that they carry, and the
+-- certificate that they report.
 use Rattle.std.specs.List.{AllByRecursion}
 use Rattle.std.specs.Prelude.{IsTrue, List}
 use Rattle.urb_group.specs.World.{World, truthful}
@@ -9,10 +10,10 @@ use Rattle.urb_node.specs.Replies.{Reply, packets_in}
 abbrev pub AreTruthful : World → List Carried → Type 0
 AreTruthful w packets = AllByRecursion (λ packet. IsTrue (truthful w packet)) packets
 
--- each packet ever sent is
+-- each packet that was ever sent is truthful
 abbrev pub AllTruthful : World → Type 0
 AllTruthful w = AreTruthful w w.sent
 
--- each packet that these replies hand out is
+-- each packet that these replies hand out is truthful
 abbrev pub ToldTruth : World → List Reply → Type 0
 ToldTruth w replies = AllByRecursion (λ reply. AreTruthful w (packets_in reply)) replies

@@ -32,16 +32,16 @@ opened size images = record { size = size; node = λ p. opened_node p (images p)
 abbrev pub started : Limits → World
 started size = opened size (λ p. [])
 
--- images of all nodes: one for each, of records within their limits
+-- images of all nodes: one for each node, with records within their limits
 pub record AreImages (size : Limits) (images : List (List Entry)) : Type 0 where
   pub one_each : length images ≡ size.n
   pub limits : All (All IsEntry) images
 
--- whether these records bear a packet out: they have its pair, and its certificate where it tells of one
+-- whether these records confirm a packet: they have its pair, and its certificate if it reports one
 abbrev pub bears_out : List Entry → Carried → Bool
 bears_out records packet =
     has_pair (pend records) packet.name packet.message && (not (says_certified packet.flags) || has_name (cert records) packet.name)
 
--- whether the source has stored the packet's pair, and its certificate where the packet tells of one
+-- whether the source has stored the packet's pair, and its certificate if the packet reports one
 abbrev pub truthful : World → Carried → Bool
 truthful w packet = bears_out (stored w packet.source) packet

@@ -13,8 +13,8 @@ use crate::{Group, Taken};
 use std::alloc::Allocator;
 use urb_names::{Config, Message, NodeId, PacketView, Refusal, parse};
 
-// The places of a packet's source and of the node that it is for, where it is for this node and names only nodes of the
-// group.
+// Returns the places of a packet's source and of the node that it is for. `None` if the packet is
+// for another node, or names a node that the group doesn't have.
 fn ends_of(config: Config, node: NodeId, packet: &PacketView<'_>) -> Option<(usize, usize)>
     ensures { MatchOption result (is_for_node config.n node packet.now ≡ false)
         (λ ends. AreEnds config.n node packet.now ends) }
@@ -28,7 +28,7 @@ fn ends_of(config: Config, node: NodeId, packet: &PacketView<'_>) -> Option<(usi
     Some((source, at))
 }
 
-// Whether a message is the one that a packet carries.
+// Says whether a message is the one that a packet carries.
 fn is_carried<A: Allocator>(message: &Message<A>, packet: &PacketView<'_>) -> bool
     ensures { MatchBool result (message.now ≡ packet.now.message)
         (¬ (message.now ≡ packet.now.message)) }
@@ -38,7 +38,7 @@ fn is_carried<A: Allocator>(message: &Message<A>, packet: &PacketView<'_>) -> bo
         && message.payload() == packet.payload()
 }
 
-// Whether a node has stored the message that a packet carries, under its name.
+// Says whether a node has stored the message that a packet carries, under its name.
 fn holds_pair<A: Allocator + Copy>(node: &Node<A>, packet: &PacketView<'_>) -> bool
     ensures { HoldsPair node.now packet.now result }
 {
@@ -48,7 +48,7 @@ fn holds_pair<A: Allocator + Copy>(node: &Node<A>, packet: &PacketView<'_>) -> b
     }
 }
 
-// Whether a node has stored a certificate of a packet's name, where the packet tells of one.
+// Says whether a node has stored a certificate of a packet's name, if the packet claims one.
 fn is_as_certified<A: Allocator + Copy>(node: &Node<A>, packet: &PacketView<'_>) -> bool
     ensures { IsAsCertified node.now packet.now result }
 {
@@ -58,15 +58,15 @@ fn is_as_certified<A: Allocator + Copy>(node: &Node<A>, packet: &PacketView<'_>)
     }
 }
 
-// Whether a node's storage bears a packet out.
+// Says whether a node's storage confirms what a packet claims.
 fn tells_truth<A: Allocator + Copy>(node: &Node<A>, packet: &PacketView<'_>) -> bool
     ensures { TellsTruth node.now packet.now result }
 {
     holds_pair(node, packet) && is_as_certified(node, packet)
 }
 
-// The message that a packet carries, sharing the payload that the packet's source has stored. `None` if the source holds
-// another message, or if sharing fails.
+// Returns the message that a packet carries, sharing the payload that the packet's source has
+// stored. `None` if the source holds another message, or if sharing fails.
 fn known_at<A: Allocator + Copy>(
     alloc: A,
     node: &Node<A>,
@@ -82,12 +82,14 @@ fn known_at<A: Allocator + Copy>(
 }
 
 impl<A: Allocator + Copy> Group<A> {
-    /// Bytes come to a node, as a datagram brings them, from wherever: only a packet for this node is taken, of a message
-    /// that the packet's source has stored, and which tells of a certificate only where its source has stored one.
+    /// Delivers bytes to a node, as a datagram brings them, from anywhere. The node takes a packet
+    /// only if it is for this node and its source has stored the message. A packet that claims a
+    /// certificate is taken only if its source has stored that certificate.
     ///
-    /// `Packet`: the bytes are no packet. `BadNode`: it names a node that is none, or another than this one. `Down`,
-    /// `Busy`: the node takes none now; a later tick may send the packet again. `Forged`: its source has not stored its
-    /// message, or not the certificate that it tells of. `NoMemory`: the packet is lost; a later tick may send it again.
+    /// `Packet`: the bytes are no packet. `BadNode`: the packet names a node that the group doesn't
+    /// have, or is for another node. `Down`, `Busy`: the node takes no packet now; a later tick may
+    /// send it again. `Forged`: the source has not stored the message, or not the certificate that
+    /// the packet claims. `NoMemory`: the packet is lost; a later tick may send it again.
     pub fn arrive(&mut self, alloc: A, node: NodeId, bytes: &[u8]) -> Result<Taken<A>, Refusal>
         ensures { Takes self.old node (Arrive node (packet_of bytes.now)) result self.new }
     {

@@ -1,4 +1,4 @@
-//! A group with its stores.
+//! A cluster: a group with its stores.
 
 ghost use Rattle.std.specs.List.{All};
 ghost use Rattle.std.specs.Prelude.{◌≡◌, length, IfOk};
@@ -40,7 +40,8 @@ impl<S: Stable> Model for Cluster<S> {
 }
 
 impl<S: Stable> Cluster<S> {
-    /// A cluster of a new group, with a store for each node that nothing was stored in. Refused, the stores come back.
+    /// Makes a cluster of a new group. Takes a store for each node; nothing was stored in any of
+    /// them. A refusal gives the stores back.
     pub fn new(
         alloc: S::Alloc,
         config: Config,
@@ -56,7 +57,7 @@ impl<S: Stable> Cluster<S> {
         Cluster::started(alloc, config, stores)
     }
 
-    // The same, as far as the group is concerned.
+    // Does the same; its contract speaks of the group only.
     fn started(
         alloc: S::Alloc,
         config: Config,
@@ -78,7 +79,7 @@ impl<S: Stable> Cluster<S> {
         }
     }
 
-    /// The group: its logs, messages and states.
+    /// Returns the group: its logs, messages and states.
     pub fn group(&self) -> &Group<S::Alloc>
         ensures value { result.now ≡ self.now.group }
         ensures sound { IsSound self.now.group }
@@ -86,16 +87,18 @@ impl<S: Stable> Cluster<S> {
         &self.group
     }
 
-    /// That whatever the stores of a stocked cluster may turn out to hold fits together, and opens a group that goes on from
-    /// this one: so a stop of the process loses nothing (sections 2.2 and 3.7 of the book). A new cluster is stocked, and
-    /// each call keeps it so. For proofs alone, since it does nothing.
+    /// States that a stop of the process loses nothing (sections 2.2 and 3.7 of the book).
+    ///
+    /// Whatever the stores of a stocked cluster may turn out to hold fits together, and opens a
+    /// group that goes on from this one. A new cluster is stocked, and each call keeps it so. This
+    /// call does nothing: it is for proofs only.
     pub fn contents_fit(&self)
         ensures { IsStocked S.Stable self.now → ContentsFit S.Stable self.now }
     {
         self.group.promise();
     }
 
-    // A client's message.
+    // Submits a client's message.
     fn submit(
         &mut self,
         alloc: S::Alloc,
@@ -112,7 +115,7 @@ impl<S: Stable> Cluster<S> {
         noted(&mut self.drafts, taken)
     }
 
-    // Bytes come.
+    // Delivers bytes to a node.
     fn arrive(&mut self, alloc: S::Alloc, node: NodeId, bytes: &[u8]) -> Reply<S::Alloc>
         ensures { Alone self.old (Arrive node (packet_of bytes.now)) (reply_of result) self.new }
     {
@@ -120,7 +123,7 @@ impl<S: Stable> Cluster<S> {
         noted(&mut self.drafts, taken)
     }
 
-    // A timeout.
+    // Makes a node send again.
     fn tick(&mut self, alloc: S::Alloc, node: NodeId) -> Reply<S::Alloc>
         ensures { Alone self.old (Tick node) (reply_of result) self.new }
     {
@@ -130,7 +133,7 @@ impl<S: Stable> Cluster<S> {
         }
     }
 
-    // A node stops, and a draft that it holds is dropped.
+    // Stops a node, and drops the draft that it holds.
     fn crash(&mut self, node: NodeId) -> Reply<S::Alloc>
         ensures { Alone self.old (Crash node) (reply_of result) self.new }
     {
@@ -143,7 +146,7 @@ impl<S: Stable> Cluster<S> {
         }
     }
 
-    // The store of a node is to keep the draft that the node holds.
+    // Asks a node's store to keep the draft that the node holds.
     fn store(&mut self, node: NodeId) -> Reply<S::Alloc>
         ensures { StoresHeld S.Stable self.old node (held_draft self.old.group node)
             (reply_of result) self.new }
@@ -156,7 +159,7 @@ impl<S: Stable> Cluster<S> {
         stored(&mut self.group, draft, &mut self.stores[at])
     }
 
-    // A node comes back with what its store gives.
+    // Brings a node back with the records that its store gives.
     fn restart(&mut self, alloc: S::Alloc, node: NodeId) -> Reply<S::Alloc>
         ensures { RestartsBy S.Stable (is_fallen self.old.group node) self.old node
             (reply_of result) self.new }
@@ -168,16 +171,16 @@ impl<S: Stable> Cluster<S> {
         read(&mut self.group, alloc, node, &mut self.stores[at])
     }
 
-    /// Does what a command says, with the store of its node: a `Store` has it keep the draft that the node holds, a `Restart`
-    /// has it give its records. One that is refused changes nothing, but for what a restart's store did; a store that fails
-    /// takes its node down.
+    /// Does one command, with the store of its node. On `Store`, the store is asked to keep the
+    /// draft that the node holds. On `Restart`, it is asked for its records. A refused command
+    /// changes nothing, except what a restart's store did. A store that fails takes its node down.
     pub fn apply(&mut self, alloc: S::Alloc, command: &Command<S::Alloc>) -> Reply<S::Alloc>
         ensures applied { Applies S.Stable self.old command.now (reply_of result) self.new }
-        // A stop after the call leaves what the opening goes on from, and so does one inside it.
+        // A stop after the call, or inside it, leaves what the opening goes on from.
         ensures stocked { IsStocked S.Stable self.old → IsStocked S.Stable self.new }
         ensures stop { (stocked : IsStocked S.Stable self.old)
             → StopLeaves S.Stable stocked.world self.old.stores self.new.stores }
-        // The same also while failures have shut some stores, before the call or inside it.
+        // The same holds while failures have shut some stores, before the call or inside it.
         ensures secured { IsSecured S.Stable self.old → IsSecured S.Stable self.new }
         ensures leaves { (secured : IsSecured S.Stable self.old)
             → WouldLeave S.Stable secured.stocked.world self.new.stores }
@@ -185,7 +188,7 @@ impl<S: Stable> Cluster<S> {
         self.applied(alloc, command)
     }
 
-    // A command, by its kind.
+    // Does a command, by its kind.
     fn applied(&mut self, alloc: S::Alloc, command: &Command<S::Alloc>) -> Reply<S::Alloc>
         ensures { Applies S.Stable self.old command.now (reply_of result) self.new }
     {
@@ -206,12 +209,12 @@ impl<S: Stable> Cluster<S> {
 }
 
 impl<A: Allocator + Copy> Cluster<MemStable<A>> {
-    /// Has the store of a node fail while it is to keep the draft that the node holds: for tests, and for scripts that play
-    /// failures.
+    /// Makes the store of a node fail when it is asked to keep the draft that the node holds. For
+    /// tests, and for scripts that play failures.
     pub fn fail(&mut self, node: NodeId, failure: Failure) -> Reply<A>
         ensures failed { FailsHeld self.old node (held_draft self.old.group node) failure
             (reply_of result) self.new }
-        // A stop after the call leaves what the opening goes on from, and so does one inside it.
+        // A stop after the call, or inside it, leaves what the opening goes on from.
         ensures stocked { IsStocked (in_memory A) self.old → IsStocked (in_memory A) self.new }
         ensures stop { (stocked : IsStocked (in_memory A) self.old)
             → StopLeaves (in_memory A) stocked.world self.old.stores self.new.stores }
@@ -219,7 +222,7 @@ impl<A: Allocator + Copy> Cluster<MemStable<A>> {
         self.failed(node, failure)
     }
 
-    // The same, as far as the group and the one store are concerned.
+    // Does the same; its contract speaks of the group and the one store only.
     fn failed(&mut self, node: NodeId, failure: Failure) -> Reply<A>
         ensures { FailsHeld self.old node (held_draft self.old.group node) failure (reply_of result)
             self.new }

@@ -1,4 +1,4 @@
-//! What a cluster may be told to do.
+//! The commands of a cluster.
 
 use std::alloc::{Allocator, Global};
 use urb_names::{ClientId, NodeId};
@@ -14,17 +14,17 @@ pub enum Command<A: Allocator = Global> {
         number: u32,
         payload: Vec<u8, A>,
     },
-    /// Bytes come to a node, whatever they are.
+    /// Bytes come to a node: any bytes.
     Arrive {
         node: NodeId,
         bytes: Vec<u8, A>,
     },
     /// A timeout at a node.
     Tick(NodeId),
-    /// The store of a node is to keep the draft that the node holds.
+    /// The store of a node is asked to keep the draft that the node holds.
     Store(NodeId),
-    /// A node stops, and loses what it has not stored; a draft that it holds is dropped.
+    /// A node stops, and loses what it has not stored. A draft that it holds is dropped.
     Crash(NodeId),
-    /// A node that is down comes back with what its store gives.
+    /// A node that is down comes back with the records that its store gives.
     Restart(NodeId),
 }

@@ -1,5 +1,7 @@
-//! What the nodes of a group have delivered, for readers of their logs: laws, each as the contract of a function that
-//! does nothing, and what every group promises.
+//! What the nodes of a group have delivered, for readers of their logs.
+//!
+//! Most functions here are laws: each is the contract of a function that does nothing. The methods
+//! of `Group` state what every group promises.
 
 ghost use Rattle.std.specs.Prelude.{◌≡◌, ◌≢◌, ◌+◌, ℕ, length, map};
 ghost use Rattle.urb_names.specs.Beginnings.{Begins};
@@ -16,8 +18,8 @@ ghost use Rattle.urb_group.specs.World.{World, stored};
 use crate::{Config, Group};
 use std::alloc::Allocator;
 
-/// What a sound group holds of a node's deliveries is what every world that it shows has of them: the names of the node's
-/// log, each with its message. So two worlds that one group shows have the same.
+/// A sound group holds the deliveries of each node that every world it shows has: the names of the
+/// node's log, each with its message. So two worlds that one group shows have the same deliveries.
 pub fn a_group_holds_what_its_worlds_deliver()
     ensures held { (group : GroupView) (w : World) (p : ℕ) →
         IsSound group → Shows group w → map known (delivered_at group p) ≡ entries (stored w p) }
@@ -28,8 +30,9 @@ pub fn a_group_holds_what_its_worlds_deliver()
         → entries (stored v p) ≡ entries (stored w p) }
 {}
 
-/// An event leaves the other nodes as they are; and only a receipt and a restart store a record, so that a submit, an
-/// arrival, a tick, a failed store and a crash leave every node's records, and with them its log.
+/// An event leaves the other nodes as they are. Only a receipt and a restart store a record. A
+/// submit, an arrival, a tick, a failed store and a crash leave every node's records, and so its
+/// log.
 pub fn an_event_changes_one_node()
     ensures others { (w : World) (event : Event) (q : ℕ) →
         event_node event ≢ q → (step w event).1.node q ≡ w.node q }
@@ -37,7 +40,7 @@ pub fn an_event_changes_one_node()
         StoresNothing event → stored (step w event).1 q ≡ stored w q }
 {}
 
-/// With a stored record the node's log grows by as many names as are told to be released.
+/// When a record is stored, the node's log grows by as many names as the reply says were released.
 pub fn a_log_grows_by_what_is_released()
     ensures { (w : World) (p position : ℕ) (entry : Entry) (done : Done)
         → (step w (Commit p position entry)).0 ≡ Stored done
@@ -45,8 +48,9 @@ pub fn a_log_grows_by_what_is_released()
         ≡ length (log (stored w p)) + done.released }
 {}
 
-/// What a sound group's nodes have delivered only grows at its end: with an event that of its node alone, with one that
-/// stores nothing that of none, and with a stored record by as many as are told to be released.
+/// The deliveries of a sound group's nodes only grow at their end. An event changes the deliveries
+/// of its own node only. An event that stores nothing changes no deliveries. A stored record adds
+/// as many deliveries as the reply says were released.
 pub fn deliveries_only_grow()
     ensures grow { (old new : GroupView) (event : Event) (p : ℕ) →
         IsSound old → Follows old event new → Begins (delivered_at old p) (delivered_at new p) }
@@ -61,8 +65,9 @@ pub fn deliveries_only_grow()
         length (delivered_at new p) ≡ length (delivered_at old p) + done.released }
 {}
 
-/// What the nodes of a sound group have delivered agrees (uniform agreement and FIFO order of the logs, sections 3.7 and
-/// 3.9 of the book), and is short, since each of seven senders has at most a million names.
+/// The deliveries of a sound group's nodes agree: uniform agreement and FIFO order of the logs
+/// (sections 3.7 and 3.9 of the book). They are short, since each of seven senders has at most a
+/// million names.
 pub fn deliveries_agree()
     ensures { (group : GroupView)
         → IsSound group
@@ -71,15 +76,15 @@ pub fn deliveries_agree()
 {}
 
 impl<A: Allocator + Copy> Group<A> {
-    /// How many nodes the group has, and how many messages each may broadcast.
+    /// Returns how many nodes the group has, and how many messages each may broadcast.
     pub fn config(&self) -> Config
         ensures { result ≡ self.now.size }
     {
         self.config
     }
 
-    /// That every group's size is within its limits, and that what its nodes have delivered agrees: for proofs alone,
-    /// since it does nothing.
+    /// States that every group's size is within its limits, and that the deliveries of its nodes
+    /// agree. This call does nothing: it is for proofs only.
     pub fn deliveries(&self)
         ensures limits { IsLimits self.now.size }
         ensures counted { length self.now.nodes ≡ self.now.size.n }

@@ -1,4 +1,4 @@
-//! The places for the drafts that the nodes of a cluster hold, one a node.
+//! The drafts that the nodes of a cluster hold, in one place per node.
 
 ghost use Rattle.std.specs.Prelude.{◌≡◌, ◌<◌, ◌≤◌, ◌-◌, ℕ, IfOk, None, Some, length, replicate, slice_set};
 ghost use Rattle.urb_stable.specs.Placed.{Placed};
@@ -11,7 +11,7 @@ use std::alloc::Allocator;
 use urb_names::{NoMemory, NodeId, Refusal};
 use urb_stable::Draft;
 
-// A place for each node, and no draft.
+// Makes an empty place for each node.
 pub(crate) fn no_drafts<A: Allocator>(
     alloc: A,
     count: u8,
@@ -25,7 +25,7 @@ pub(crate) fn no_drafts<A: Allocator>(
     Ok(drafts)
 }
 
-// The reply to a submit or an arrival. A draft goes into the place of its node.
+// Returns the reply to a submit or an arrival, and puts a draft into its node's place.
 pub(crate) fn noted<A: Allocator>(
     drafts: &mut Vec<Option<Draft<A>>, A>,
     taken: Result<Taken<A>, Refusal>,
@@ -47,7 +47,7 @@ pub(crate) fn noted<A: Allocator>(
     }
 }
 
-// A draft that a node holds is dropped.
+// Drops the draft that a node holds.
 pub(crate) fn dropped<A: Allocator>(drafts: &mut Vec<Option<Draft<A>>, A>, node: NodeId)
     requires { (0 < node) × (node ≤ length drafts.old.items) }
     ensures { drafts.new.items ≡ slice_set drafts.old.items (node - 1) None }
@@ -55,7 +55,7 @@ pub(crate) fn dropped<A: Allocator>(drafts: &mut Vec<Option<Draft<A>>, A>, node:
     drafts[usize::from(node.number()) - 1] = None;
 }
 
-// The draft that a node holds leaves its place.
+// Takes the draft that a node holds out of its place.
 pub(crate) fn taken_out<A: Allocator>(
     drafts: &mut Vec<Option<Draft<A>>, A>,
     node: NodeId,

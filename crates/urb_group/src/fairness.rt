@@ -1,7 +1,8 @@
-//! That a group whose packets get through delivers all that its storages took, in whatever order things happen. Laws, each as
-//! the contract of a function that does nothing.
+//! Laws of delivery: if packets get through, a group delivers all that its storages took.
 //!
-//! They are no promise that packets arrive, nor that nodes tick: they say what follows once that happened (`specs/Rounds.antt`).
+//! The order of events doesn't matter. Each law is the contract of a function that does nothing.
+//! The laws don't promise that packets arrive, nor that nodes tick. They say what follows once both
+//! have happened (`specs/Rounds.antt`).
 
 ghost use Rattle.std.specs.Prelude.{◌≡◌, Bool, List, Option, true, ℕ, ◌⊎◌, ◌≤◌, ◌<◌, ◌*◌, ◌+◌, length};
 ghost use Rattle.std.specs.List.{AllByRecursion};
@@ -24,9 +25,10 @@ ghost use Rattle.urb_stable.specs.Records.{pend};
 
 use std::alloc::Allocator;
 
-/// Two rounds deliver, in whatever order their events come and whatever else arrives or is refused among them: from any world
-/// of a run, but for a stranded group, in which every node is ready or holds a record. After the second round every node has
-/// delivered all that each sender's storage took. Nodes that are down come back before.
+/// Two rounds deliver, in whatever order their events come, and whatever else arrives or is refused
+/// among them. They start from any world of a run, if every node is ready or holds a record there.
+/// The group must not be stranded. After the second round, every node has delivered all that each
+/// sender's storage took. Nodes that were down must have come back before the first round.
 pub fn two_fair_rounds_deliver()
     ensures { (w : World) (first second : List Event)
         → IsReached w
@@ -37,8 +39,9 @@ pub fn two_fair_rounds_deliver()
         → AllDelivered (after (after w first) second) }
 {}
 
-/// The same of what runs: of two lists of commands that were played, each with the replies that came back. Where they are
-/// rounds by these replies, every node has delivered all that each sender's storage took. `Runs` is what `play` promises.
+/// Two played rounds deliver: the same law for two lists of commands that were played, each with
+/// the replies that came back. If these replies make both lists rounds, every node has delivered
+/// all that each sender's storage took. `Runs` is what `play` promises.
 pub fn two_played_rounds_deliver<A: Allocator>()
     ensures { (w : World) (first second : List (Command A)) (told answered : List Reply) (between behind : GroupView)
         → (one : Runs w first told between)
@@ -51,9 +54,10 @@ pub fn two_played_rounds_deliver<A: Allocator>()
         → AllDelivered two.after }
 {}
 
-/// While nodes are down, a majority of nodes that are up delivers what it holds: after two rounds among them each has
-/// delivered, of each sender, the longest beginning of its messages each of which one of them had stored. What nodes that are
-/// down alone have stored nobody else can know.
+/// While some nodes are down, a majority of nodes that are up delivers what it holds. This takes
+/// two rounds among these nodes. Then each of them has delivered, of each sender, at least the
+/// longest beginning of messages that one of them had stored. No other node can know what only
+/// nodes that are down have stored.
 pub fn a_majority_delivers_what_it_holds()
     ensures { (among : ℕ → Bool) (w : World) (first second : List Event)
         → IsReached w
@@ -65,14 +69,15 @@ pub fn a_majority_delivers_what_it_holds()
         → HaveDeliveredHeld among w (after (after w first) second) }
 {}
 
-/// There are rounds: from every world of a run, whatever was lost and whichever nodes are down, some list of events is one. So
-/// what the laws of rounds ask for can be met.
+/// Rounds exist. From every world of a run, whatever was lost and whichever nodes are down, some
+/// list of events is a round. So the conditions of the laws of rounds can be met.
 pub fn rounds_exist()
     ensures { (w : World) → IsReached w → (events : List Event) × IsRound w events }
 {}
 
-/// Ticks by number: where each node ticks so often that sixteen times as many names are at least the messages that the storages
-/// of all nodes took, each ticks often enough for a round.
+/// Says how many ticks are enough. Let each node tick at least `count` times. If 16 times `count`
+/// is at least the number of messages that all storages took, each node ticks often enough for a
+/// round.
 pub fn so_many_ticks_are_enough()
     ensures { (count : ℕ) (w : World) (acts : List Act)
         → IsReached w
@@ -83,8 +88,9 @@ pub fn so_many_ticks_are_enough()
         → length (pend (stored w p)) ≤ 16 * ticks_of p acts }
 {}
 
-/// Ticks end: after two rounds, and a third in which the answers arrive too, no name is due at any node. So long as no new
-/// message is drafted, nothing crashes and no store fails it stays so, and no tick sends anything.
+/// Ticks end. After two rounds, and a third one whose answers arrive too, no name is due at any
+/// node. This stays so, and no tick sends anything, as long as no new message is drafted, no node
+/// crashes and no store fails.
 pub fn ticks_end()
     ensures { (w : World) (first second third later : List Event)
         → IsReached w
@@ -109,8 +115,9 @@ pub fn a_tick_passes_sixteen()
         ⊎ (turn_of all (cursor_next cursor due) x + 16 ≤ turn_of all cursor x) }
 {}
 
-/// A pair that stays due has its turn, whatever others come and go between ticks: once there were more ticks than a sixteenth
-/// of the pairs that stood before it at first, or as many as a sixteenth of all that were due at any of them.
+/// A pair that stays due gets its turn, whatever other pairs come and go between ticks. It is
+/// resent once the ticks number more than a sixteenth of the pairs that stood before it at first.
+/// It is also resent once they number a sixteenth of all pairs that were due at any of these ticks.
 pub fn what_stays_due_is_resent()
     ensures turn { (all : List (Label × Content)) (cursor : Option Label) (x : Label) (m : Content)
         (dues : List (List (Label × Content)))

@@ -1,4 +1,4 @@
-//! The group: all nodes, one event a call.
+//! A group: all its nodes, and one event per call.
 
 ghost use Rattle.std.specs.Prelude.{◌≡◌, IfOk};
 ghost use Rattle.urb_group.specs.Calls.{ComesUp, Commits, GoesDown, Takes, Ticks};
@@ -19,8 +19,8 @@ use urb_node::{Done, Ready};
 use urb_stable::{Doubt, Receipt, Record};
 use urb_stubborn::Outbox;
 
-/// All nodes of a group, 1 to `Config::n`, as one process holds them. A call is one event at one node: it changes that
-/// node alone.
+/// All nodes of a group, 1 to `Config::n`, held by one process. Each call is one event at one node,
+/// and changes that node only.
 #[derive(Drop)]
 #[derive_where(Debug)]
 pub struct Group<A: Allocator = Global> {
@@ -40,7 +40,7 @@ impl<A: Allocator> Model for Group<A> {
 }
 
 impl<A: Allocator + Copy> Group<A> {
-    /// A group whose nodes are ready and have stored nothing.
+    /// Makes a group whose nodes are ready and have stored nothing.
     pub fn new(alloc: A, config: Config) -> Result<Group<A>, NoMemory>
         ensures { IfOk result (λ group. Shows group (started config)) }
     {
@@ -54,11 +54,13 @@ impl<A: Allocator + Copy> Group<A> {
         Ok(Group { config, nodes })
     }
 
-    /// A client gives a node a message to broadcast, with the next of its numbers at this node.
+    /// Submits a client's message to a node for broadcast, with the client's next number at this
+    /// node.
     ///
-    /// `BadNode`: there is no such node. `Down`, `Busy`: ask again when it is up, or has stored. `TooLong`: over 16,384
-    /// bytes. `Conflict`: the number was used with another payload. `Gap`: it is not the next one, which is told. `Full`:
-    /// the node has broadcast as many messages as it may. `NoMemory`: ask again.
+    /// `BadNode`: the group has no such node. `Down`, `Busy`: ask again when the node is up, or has
+    /// stored its record. `TooLong`: the payload has over 16,384 bytes. `Conflict`: the number was
+    /// used with another payload. `Gap`: the number isn't the next one; the refusal says which is.
+    /// `Full`: the node has broadcast as many messages as it may. `NoMemory`: ask again.
     pub fn submit(
         &mut self,
         alloc: A,
@@ -79,10 +81,11 @@ impl<A: Allocator + Copy> Group<A> {
         })
     }
 
-    /// A node's store took the record of its draft: the node goes on, and its packets may be sent. Takes no memory.
+    /// Takes the receipt for a draft: the node's store has kept the draft's record. The node goes
+    /// on, and its packets may be sent. Allocates no memory.
     ///
-    /// `BadNode`: it is of no node of this group. `Down`: the node crashed in between. `Stale`: the node holds no draft, or
-    /// another one. A receipt that is refused comes back.
+    /// `BadNode`: the receipt belongs to no node of this group. `Down`: the node crashed in
+    /// between. `Stale`: the node holds no draft, or another one. A refused receipt comes back.
     pub fn commit(&mut self, receipt: Receipt<A>) -> Result<Done<A>, (Receipt<A>, Refusal)>
         ensures { Commits self.old receipt result self.new }
     {
@@ -92,10 +95,11 @@ impl<A: Allocator + Copy> Group<A> {
         move_at(&mut self.nodes, at, move |node| committed(node, receipt))
     }
 
-    /// A node's store did not take the record of its draft for certain: the node goes down, and the record is in doubt.
-    /// Takes no memory.
+    /// Takes the doubt about a draft: the node's store may or may not have kept the draft's record.
+    /// The node goes down, and the record is in doubt. Allocates no memory.
     ///
-    /// `BadNode`: it is of no node of this group. `Down`: the node crashed in between. `Stale`: it holds no draft.
+    /// `BadNode`: the doubt belongs to no node of this group. `Down`: the node crashed in between.
+    /// `Stale`: the node holds no draft.
     pub fn fail(&mut self, doubt: Doubt) -> Result<(), Refusal>
         ensures { GoesDown self.old doubt.node (Fail doubt.node) result self.new }
     {
@@ -105,10 +109,10 @@ impl<A: Allocator + Copy> Group<A> {
         move_at(&mut self.nodes, at, failed)
     }
 
-    /// A node sends pending messages again, as on each timeout of its links.
+    /// Makes a node send pending messages again, as on each timeout of its links.
     ///
-    /// `BadNode`: there is no such node. `Down`, `Busy`: the node is down, or stores. `NoMemory`: nothing is sent; the next
-    /// tick sends the same.
+    /// `BadNode`: the group has no such node. `Down`, `Busy`: the node is down, or is storing a
+    /// record. `NoMemory`: nothing is sent; the next tick sends the same.
     pub fn tick(&mut self, alloc: A, node: NodeId) -> Result<Outbox<A>, Refusal>
         ensures { Ticks self.old (Tick node) result self.new }
     {
@@ -118,9 +122,9 @@ impl<A: Allocator + Copy> Group<A> {
         move_at(&mut self.nodes, at, |node| ticked(node, alloc))
     }
 
-    /// A node stops, and loses what it has not stored. Takes no memory.
+    /// Stops a node, which loses what it has not stored. Allocates no memory.
     ///
-    /// `BadNode`: there is no such node. `Down`: it is down already.
+    /// `BadNode`: the group has no such node. `Down`: the node is down already.
     pub fn crash(&mut self, node: NodeId) -> Result<(), Refusal>
         ensures { GoesDown self.old node (Crash node) result self.new }
     {
@@ -130,11 +134,12 @@ impl<A: Allocator + Copy> Group<A> {
         move_at(&mut self.nodes, at, crashed)
     }
 
-    /// A node comes up again with what its storage gave back, all of it. Nothing is sent. A message that another node has
-    /// stored too shares its payload.
+    /// Brings a node up again with all the records that its storage gave back. The node sends
+    /// nothing. If another node has stored the same message too, the two share one payload, unless
+    /// memory for that is refused.
     ///
-    /// `NotDown`: it is up. `BadImage`: the image is neither what the node had stored nor that with the record in doubt.
-    /// `NoMemory`: ask again, with the image read again.
+    /// `BadNode`: the group has no such node. `NotDown`: the node is up. `BadImage`: the image is neither what the node had stored, nor
+    /// that plus the record in doubt. `NoMemory`: read the image again, and ask again.
     pub fn restart(
         &mut self,
         alloc: A,

@@ -1,4 +1,4 @@
-//! What holds of the certificates that nodes have heard, each law as the contract of a function that does nothing.
+//! Laws of the certificates that nodes have heard.
 
 ghost use Rattle.std.specs.Prelude.{◌≡◌, ℕ};
 ghost use Rattle.std.specs.List.{AllByRecursion};
@@ -8,9 +8,10 @@ ghost use Rattle.urb_group.specs.World.{World};
 ghost use Rattle.urb_group.specs.Step.{Commit, step, IsReached};
 ghost use Rattle.urb_group.specs.Hearing.{HearsOfPending, SaysWhatWasHeard};
 
-/// In every world of a run, each certificate that a node has heard is of a name that is pending there. So of a pair that a node
-/// stores only the packet that caused it can have told a certificate, and the pair's packets tell each node exactly whether its
-/// certificate was heard.
+/// In every world of a run, each certificate that a node has heard belongs to a name that is
+/// pending there. So when a node stores a pair, only the packet that caused it can have reported a
+/// certificate of that name. The pair's packets tell each node exactly whether its certificate was
+/// heard.
 pub fn what_is_heard_is_pending()
     ensures heard { (w : World) (p : ℕ) → IsReached w → HearsOfPending (w.node p) }
     ensures told { (w : World) (p position : ℕ) (entry : Entry) (done : Done) →

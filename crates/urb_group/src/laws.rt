@@ -1,8 +1,8 @@
-//! What holds in every world of a group, each law as the contract of a function that does nothing.
+//! What holds in every world of a group; each law is the contract of a function that does nothing.
 //!
-//! The book is C. Cachin, R. Guerraoui and L. Rodrigues, Introduction to Reliable and Secure Distributed Programming
-//! (second edition, 2011). Uniform FIFO order is that of V. Hadzilacos and S. Toueg, A Modular Approach to
-//! Fault-Tolerant Broadcasts and Related Problems (1994).
+//! The book is C. Cachin, R. Guerraoui and L. Rodrigues, Introduction to Reliable and Secure
+//! Distributed Programming (second edition, 2011). Uniform FIFO order is that of V. Hadzilacos and
+//! S. Toueg, A Modular Approach to Fault-Tolerant Broadcasts and Related Problems (1994).
 
 ghost use Rattle.std.specs.Prelude.{◌≡◌, ℕ, IsTrue, List, None, [], true};
 ghost use Rattle.urb_names.specs.Carried.{Carried};
@@ -25,17 +25,18 @@ ghost use Rattle.urb_group.specs.Accepting.{HasStored, StoresOwn};
 ghost use Rattle.urb_group.specs.Stopping.{SurvivesStop};
 ghost use Rattle.urb_group.specs.Shown.{GroupView, Shows, IsSound};
 
-/// Whatever was lost, repeated or reordered, and whatever crashed, each node's log holds for each sender the first
-/// messages that this sender's storage took, in order and once, and a majority's storages hold each of them: no creation,
-/// no duplication and the reason of uniform agreement of logged uniform reliable broadcast (section 3.7), and FIFO
+/// Every run is safe, whatever was lost, repeated or reordered, and whatever crashed. Each node's
+/// log holds, for each sender, the first messages that this sender's storage took, in order and
+/// once. A majority's storages hold each of them. This is no creation, no duplication and the
+/// reason of uniform agreement of logged uniform reliable broadcast (section 3.7). It is also FIFO
 /// delivery (section 3.9; Hadzilacos and Toueg 1994, uniform FIFO order).
 pub fn every_run_is_safe()
     ensures { (w : World) → IsReached w → Safe w }
 {}
 
-/// Each packet that was ever sent is of a message that its source has stored, and tells of a certificate only where its
-/// source has stored that too, at the moment of its sending and for good: the links and the broadcast create nothing (no
-/// creation, sections 2.4 and 3.7).
+/// Every packet that was ever sent is truthful, at the moment of its sending and for good. Its
+/// source has stored its message. If the packet reports a certificate, its source has stored that
+/// too. So the links and the broadcast create nothing (no creation, sections 2.4 and 3.7).
 pub fn every_packet_is_truthful()
     ensures sent { (w : World) → IsReached w → AllTruthful w }
     ensures for_good { (old new : World) (events : List Event) (replies : List Reply) →
@@ -44,8 +45,9 @@ pub fn every_packet_is_truthful()
         IsReached old → Run old events replies new → ToldTruth new replies }
 {}
 
-/// A packet that says that the certificate of its target was heard is not answered at once, nor is one of version one; and
-/// whatever happens in between, the answer to an answer is not. So no two nodes answer each other for ever.
+/// Answers end: no two nodes answer each other for ever. A packet is not answered at once if it
+/// says that the certificate of its target was heard, nor if it is of version one. Whatever happens
+/// in between, the answer to an answer is not answered either.
 pub fn answers_end()
     ensures heard { (w : World) (p : ℕ) (packet : Carried) →
         says_heard packet.flags ≡ true → answers_to w p packet ≡ [] }
@@ -62,15 +64,17 @@ pub fn a_name_has_one_message()
     ensures { (w : World) → IsReached w → OneMessage w }
 {}
 
-/// Of what two nodes have delivered from one sender, at one moment or at two, one begins the other: uniform agreement and
-/// FIFO order of the logs (sections 3.7 and 3.9; Hadzilacos and Toueg 1994, uniform FIFO order).
+/// Take what two nodes have delivered from one sender, at one moment or at two: one of the lists
+/// begins the other. This is uniform agreement and FIFO order of the logs (sections 3.7 and 3.9;
+/// Hadzilacos and Toueg 1994, uniform FIFO order).
 pub fn logs_agree()
     ensures { (old new : World) (events : List Event) (replies : List Reply) →
         IsReached old → Run old events replies new → AgreeInTime old new }
 {}
 
-/// What is stored, broadcast and delivered only grows at its end, and what is truthful stays truthful, from any world;
-/// and with each delivered name its message stays (stable storage, section 2.2; the variable `delivered` of section 3.7).
+/// From any world, what is stored, broadcast and delivered only grows at its end, and what is
+/// truthful stays truthful. From a reached world, each delivered name keeps its message (stable
+/// storage, section 2.2; the variable `delivered` of section 3.7).
 pub fn everything_grows()
     ensures stored { (old new : World) (events : List Event) (replies : List Reply) →
         Run old events replies new → GoesOn old new }
@@ -78,21 +82,24 @@ pub fn everything_grows()
         IsReached old → Run old events replies new → EntriesGrow old new }
 {}
 
-/// A stop of the whole process at any moment: whatever it leaves of each node's storage, the list with or without the
-/// record that was held or is doubtful, opens a group whose logs begin with the logs before, and where a repeated submit
-/// of a message that its node had stored is accepted under its name (recovery, sections 2.2 and 3.7).
+/// The whole process may stop at any moment. A stop leaves each node's list of records, with or
+/// without the record that was held or is doubtful. Whatever it leaves opens a group whose logs
+/// begin with the logs before. A repeated submit of a message that its node had stored is accepted
+/// under its name (recovery, sections 2.2 and 3.7).
 pub fn every_stop_is_survived()
     ensures { (w : World) → IsReached w → SurvivesStop w }
 {}
 
-/// The log of any records is exactly what their certificates release: a name is delivered exactly when it and all before
-/// it of its sender are certified (broadcast with sequence number, section 3.9).
+/// The log of any records is exactly what their certificates release. A name is delivered exactly
+/// when it and all earlier names of its sender are certified (broadcast with sequence number,
+/// section 3.9).
 pub fn a_log_is_the_release_of_its_certificates()
     ensures { (records : List Entry) → DeliversExactly records }
 {}
 
-/// A submit is accepted only when its sender's storage holds its message under the name that is told: at once where it is a
-/// repeat, else with the reply that the record is stored (a broadcast counts from then on, section 3.7).
+/// A submit is accepted only when its sender's storage holds its message under the name in the
+/// reply. A repeat is accepted at once. A new message is accepted by the reply that the record is
+/// stored (a broadcast counts from then on, section 3.7).
 pub fn an_accepted_message_is_stored()
     ensures again { (w : World) (p : ℕ) (m : Content) (x : Label) →
         IsReached w → (step w (Submit p m)).0 ≡ Same (Accepted x) → HasStored w p x m }
@@ -107,8 +114,9 @@ pub fn a_refusal_changes_nothing()
         (step w event).0 ≡ Refused refusal → (step w event).1 ≡ w }
 {}
 
-/// A group that shows a new world is sound, and so is one that shows the opened world of images that fit; and a group
-/// that shows, for each world that it showed, the world after an event stays sound.
+/// Groups stay sound. A group that shows a new world is sound, and so is one that shows the opened
+/// world of images that fit. Let a sound group change so that, for each world that it showed, it
+/// shows the world after an event. Then it is still sound.
 pub fn groups_stay_sound()
     ensures new { (group : GroupView) (limits : Limits) →
         Shows group (started limits) → IsSound group }
@@ -119,8 +127,8 @@ pub fn groups_stay_sound()
         IsSound old → ((w : World) → Shows old w → Shows new (step w event).1) → IsSound new }
 {}
 
-/// Every world that a sound group shows is safe, has one message a name, survives a stop, and accepts a repeat only of what
-/// is stored (sections 3.7 and 3.9).
+/// Every world that a sound group shows is safe, has one message per name, and survives a stop. It
+/// accepts a repeat only of what is stored (sections 3.7 and 3.9).
 pub fn every_sound_group_is_safe()
     ensures safe { (group : GroupView) (w : World) → IsSound group → Shows group w → Safe w }
     ensures one_message { (group : GroupView) (w : World) →
@@ -134,8 +142,8 @@ pub fn every_sound_group_is_safe()
         → HasStored w p x m }
 {}
 
-/// A run from any world that a sound group shows hands out packets that are truthful at its end, and those that were
-/// truthful before stay so (no creation, sections 2.4 and 3.7).
+/// A run from any world that a sound group shows hands out packets that are truthful at its end.
+/// Packets that were truthful before stay so (no creation, sections 2.4 and 3.7).
 pub fn every_sound_group_tells_the_truth()
     ensures told { (group : GroupView) (old new : World) (events : List Event)
         (replies : List Reply)
@@ -152,8 +160,9 @@ pub fn every_sound_group_tells_the_truth()
         → AllTruthful new }
 {}
 
-/// From any world that a sound group shows, of what two nodes have delivered from one sender, at one moment or at two, one
-/// begins the other; and each node's log, its names with their messages, only grows at its end (sections 3.7 and 3.9).
+/// Start from any world that a sound group shows. Take what two nodes have delivered from one
+/// sender, at one moment or at two: one of the lists begins the other. Each node's log, its names
+/// with their messages, only grows at its end (sections 3.7 and 3.9).
 pub fn every_sound_groups_logs_agree()
     ensures agree { (group : GroupView) (old new : World) (events : List Event)
         (replies : List Reply)

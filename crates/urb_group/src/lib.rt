@@ -1,20 +1,24 @@
-//! All nodes of a group in one process: the group itself, the group with its stores, the laws that hold in every world that a
-//! run of it reaches, and worked examples.
+//! All nodes of a group in one process.
+//!
+//! The crate has the group itself, the group with its stores, laws, and worked examples. A *world*
+//! is the algorithm's own state: every node's storage and memory, and every packet that was ever
+//! sent. The laws hold in every world that a run reaches.
 //!
 //! ```text
 //! let mut group = Group::new(alloc, config)?;            // or Group::open(alloc, config, images)
 //! let taken = group.submit(alloc, node, client, number, payload)?;
 //! let done = group.commit(receipt)?;                     // or group.fail(doubt)
-//! group.promise();                                       // what holds of every group that there is
+//! group.promise();                                       // states what holds of every group
 //!
-//! let mut cluster = Cluster::new(alloc, config, stores)?;      // a group with a store for each node
-//! let reply = cluster.apply(alloc, &command);            // one event, with its store
-//! let cluster = Cluster::open(alloc, config, stores)?;   // after a stop: it goes on
+//! let mut cluster = Cluster::new(alloc, config, stores)?;  // a group with a store for each node
+//! let reply = cluster.apply(alloc, &command);            // one event, with the node's store
+//! let cluster = Cluster::open(alloc, config, stores)?;   // after a stop: the cluster goes on
 //! ```
 //!
-//! Each call is one step of every world that the group shows (`specs/Step.antt`), or is refused and changes nothing. `play`
-//! carries the headline, `laws` the theorems over all runs, `recovering` that no state is a dead end, and `fairness` that rounds
-//! deliver in whatever order. No call here waits, sends or looks at a clock.
+//! Each call is one step of every world that the group shows (`specs/Step.antt`), or is refused and
+//! changes nothing. `play` carries the headline theorem. `laws` has the theorems over all runs.
+//! `recovering` says that no state is a dead end, and `fairness` that rounds deliver in any order.
+//! No call here waits, sends, or reads a clock.
 #![tactic(auto)]
 
 mod arriving;

@@ -1,4 +1,4 @@
-//! A group that is opened from the images of its nodes.
+//! Opening a group from the images of its nodes.
 
 ghost use Rattle.std.specs.Prelude.{◌≡◌, ◌<◌, ◌≤◌, length, map, suc, slice_get, slice_index_or, Some, [], vec_capacity, vec_len, IfOk};
 ghost use Rattle.std.specs.List.{All};
@@ -14,7 +14,8 @@ use std::alloc::Allocator;
 use urb_names::{Config, Message, NoMemory, NodeId, Refusal};
 use urb_stable::{Images, Misfit, Record, limits_of};
 
-// That every record of the images is within its limits: for proofs alone, since it does nothing.
+// States that every record of the images is within its limits. This call does nothing: it is for
+// proofs only.
 fn limits_of_images<A: Allocator>(images: &[Vec<Record<Message<A>>, A>])
     ensures { All (All IsEntry) (map (λ image. image.items) images.now) }
 {
@@ -23,7 +24,8 @@ fn limits_of_images<A: Allocator>(images: &[Vec<Record<Message<A>>, A>])
     }
 }
 
-// The first misfit of the images. All memory that it takes to judge them comes from `alloc`, and is asked for first.
+// Returns the first misfit of the images. Everything that it needs to judge them is allocated from
+// `alloc` first.
 fn misfit_of<A: Allocator + Copy>(
     alloc: A,
     config: Config,
@@ -38,12 +40,14 @@ fn misfit_of<A: Allocator + Copy>(
 }
 
 impl<A: Allocator + Copy> Group<A> {
-    /// A group whose nodes come up with what their storages hold, as after a stop of the whole process: the recovery of
-    /// all processes (sections 2.2 and 3.7 of the book). The image of node 1 comes first. The records are taken as they
-    /// lie in memory, and messages that are the same under one name share one payload from then on.
+    /// Opens a group whose nodes come up with what their storages hold, as after a stop of the
+    /// whole process. This is the recovery of all processes (sections 2.2 and 3.7 of the book). The
+    /// image of node 1 comes first. The group takes the records as they lie in memory. Equal
+    /// messages under one name share one payload from then on, unless memory for that is refused.
     ///
-    /// `Inconsistent`: the images don't fit together, so some are not of this group, or a storage has lost a record or
-    /// made one up; the first record that breaks a fitting rule is told. `NoMemory`: ask again.
+    /// `Inconsistent`: the images don't fit together. Some are not of this group, or a storage has
+    /// lost a record or made one up. The refusal names the first record that breaks a fitting rule.
+    /// `NoMemory`: ask again.
     pub fn open(
         alloc: A,
         config: Config,

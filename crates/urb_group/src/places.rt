@@ -11,7 +11,7 @@ use urb_node::{Done, Down, Ready, Step, Storing};
 use urb_stable::{Receipt, Record};
 use urb_stubborn::Outbox;
 
-/// The place of a node in its group, where it is one of its nodes.
+/// Returns the place of a node in its group, if the group has this node.
 pub(crate) fn place_of(config: Config, node: NodeId) -> Option<usize>
     ensures { MatchOption result (config.n < node) (λ at. (at < config.n) × (node ≡ suc at)) }
 {
@@ -31,7 +31,7 @@ pub(crate) enum Node<A: Allocator = Global> {
     Down(Down<A>),
 }
 
-/// What stands in one place moves, and the others stay.
+/// Moves the item in one place, and leaves the other places as they are.
 pub(crate) fn move_at<T, A: Allocator, R, F: FnOnce(T) -> (T, R)>(
     nodes: &mut Vec<T, A>,
     at: usize,
@@ -46,7 +46,7 @@ pub(crate) fn move_at<T, A: Allocator, R, F: FnOnce(T) -> (T, R)>(
     result
 }
 
-/// A node moves by a client's message, or stays with a refusal.
+/// Applies a client's message to a node, which moves, or stays with a refusal.
 pub(crate) fn submitted<A: Allocator + Copy>(
     node: Node<A>,
     alloc: A,
@@ -68,7 +68,7 @@ pub(crate) fn submitted<A: Allocator + Copy>(
     }
 }
 
-/// A node moves by a packet that is for it, or stays with a refusal.
+/// Applies a packet that is for the node, which moves, or stays with a refusal.
 pub(crate) fn arrived<A: Allocator + Copy>(
     node: Node<A>,
     alloc: A,
@@ -98,7 +98,7 @@ pub(crate) fn arrived<A: Allocator + Copy>(
     }
 }
 
-/// A node takes a receipt, or stays and hands it back.
+/// Applies a receipt to a node, which takes it, or stays and hands it back.
 pub(crate) fn committed<A: Allocator + Copy>(
     node: Node<A>,
     receipt: Receipt<A>,
@@ -115,7 +115,7 @@ pub(crate) fn committed<A: Allocator + Copy>(
     }
 }
 
-/// A node's store did not take its record.
+/// Applies a failed store to a node: the store did not take the node's record.
 pub(crate) fn failed<A: Allocator + Copy>(node: Node<A>) -> (Node<A>, Result<(), Refusal>)
     ensures { FailsAt node result }
 {
@@ -126,7 +126,7 @@ pub(crate) fn failed<A: Allocator + Copy>(node: Node<A>) -> (Node<A>, Result<(),
     }
 }
 
-/// A node crashes, where it isn't down.
+/// Crashes a node that isn't down.
 pub(crate) fn crashed<A: Allocator + Copy>(node: Node<A>) -> (Node<A>, Result<(), Refusal>)
     ensures { CrashesAt node result }
 {
@@ -137,7 +137,7 @@ pub(crate) fn crashed<A: Allocator + Copy>(node: Node<A>) -> (Node<A>, Result<()
     }
 }
 
-/// A node sends again, where it is ready.
+/// Makes a node that is ready send again.
 pub(crate) fn ticked<A: Allocator + Copy>(
     node: Node<A>,
     alloc: A,
@@ -157,7 +157,7 @@ pub(crate) fn ticked<A: Allocator + Copy>(
     }
 }
 
-/// A node comes up with its image, where it is down.
+/// Brings a node that is down up with its image.
 pub(crate) fn restarted<A: Allocator + Copy>(
     node: Node<A>,
     alloc: A,

@@ -1,4 +1,4 @@
-//! Whole lists of commands.
+//! Lists of commands.
 
 ghost use Rattle.std.specs.Prelude.{◌≡◌};
 ghost use Rattle.urb_group.specs.Commands.{is_no_memory};
@@ -12,14 +12,14 @@ use std::alloc::Allocator;
 use urb_names::{NoMemory, Refusal};
 use urb_stable::Stable;
 
-// Whether memory was refused to the command.
+// Says whether memory was refused to the command.
 fn is_short<A: Allocator>(reply: &Reply<A>) -> bool
     ensures { result ≡ is_no_memory reply.now }
 {
     matches!(reply, Reply::Refused(Refusal::NoMemory))
 }
 
-// The commands one after the other, until memory is refused.
+// Plays the commands one after the other, until memory is refused.
 fn played<S: Stable>(
     alloc: S::Alloc,
     cluster: &mut Cluster<S>,
@@ -41,12 +41,13 @@ fn played<S: Stable>(
     Ok(replies)
 }
 
-/// Does what the commands say, one after the other. Where memory is refused to one of them, or to its reply before it is
-/// done, the replies of the commands before it come back. A store that has no memory takes its node down, and ends nothing.
+/// Plays the commands one after the other. If memory is refused to a command, or to its reply
+/// before the command is done, the replies of the commands before it come back. A store that has no
+/// memory takes its node down, and the play goes on.
 ///
-/// This is the whole promise of the broadcast: logged uniform reliable broadcast (section 3.7 of the book) with FIFO order
-/// (section 3.9; Hadzilacos and Toueg 1994, uniform FIFO order), whatever was lost, repeated or reordered, and whatever
-/// failed.
+/// This is the whole promise of the broadcast: logged uniform reliable broadcast (section 3.7 of
+/// the book) with FIFO order (section 3.9; Hadzilacos and Toueg 1994, uniform FIFO order). It holds
+/// whatever was lost, repeated or reordered, and whatever failed.
 pub fn play<S: Stable>(
     alloc: S::Alloc,
     cluster: &mut Cluster<S>,

@@ -16,9 +16,9 @@ use crate::Group;
 use std::alloc::Allocator;
 
 impl<A: Allocator + Copy> Group<A> {
-    /// That every group is sound, and so every world that it shows is safe, has one message a name, has logs that agree,
-    /// survives a stop, and accepts a repeat only of what is stored (sections 3.7 and 3.9 of the book): for proofs alone,
-    /// since it does nothing.
+    /// States that every group is sound. So every world that it shows is safe, has one message per
+    /// name, has logs that agree, and survives a stop. It also accepts a repeat only of what is
+    /// stored (sections 3.7 and 3.9 of the book). This call does nothing: it is for proofs only.
     pub fn promise(&self)
         ensures counted { length self.now.nodes ≡ self.now.size.n }
         ensures sound { IsSound self.now }

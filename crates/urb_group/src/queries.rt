@@ -1,4 +1,4 @@
-//! What a group tells of its nodes, in whatever state each of them is.
+//! Queries about a node of a group, whatever state the node is in.
 
 ghost use Rattle.std.specs.Prelude.{◌≡◌, Some, option_map};
 ghost use Rattle.urb_node.specs.Moves.{CountsOwn as CountsOwnAt, FindsMessage as FindsMessageAt, IsCertified, TellsLog as TellsLogAt};
@@ -12,7 +12,7 @@ use std::alloc::Allocator;
 use urb_names::{Message, Name, NodeId};
 
 impl<A: Allocator + Copy> Node<A> {
-    // How the node is.
+    // Returns the node's state.
     fn state(&self) -> State
         ensures { result ≡ state_of (state_in self.now) }
     {
@@ -23,7 +23,7 @@ impl<A: Allocator + Copy> Node<A> {
         }
     }
 
-    // The names that the node has delivered.
+    // Returns the names that the node has delivered.
     fn log(&self) -> &[Name]
         ensures { TellsLogAt (ShowsAt self.now) result.now }
     {
@@ -34,7 +34,7 @@ impl<A: Allocator + Copy> Node<A> {
         }
     }
 
-    /// The message that the node has stored under a name.
+    /// Returns the message that the node has stored under a name.
     pub(crate) fn message(&self, name: Name) -> Option<&Message<A>>
         ensures { FindsMessageAt (ShowsAt self.now) name (option_map (λ m. m.now) result) }
     {
@@ -45,7 +45,7 @@ impl<A: Allocator + Copy> Node<A> {
         }
     }
 
-    /// Whether the node has stored a certificate of a name.
+    /// Says whether the node has stored a certificate for a name.
     pub(crate) fn certified(&self, name: Name) -> bool
         ensures { IsCertified (ShowsAt self.now) name result }
     {
@@ -56,7 +56,7 @@ impl<A: Allocator + Copy> Node<A> {
         }
     }
 
-    // How many messages of its own the node has stored.
+    // Returns how many messages of its own the node has stored.
     fn own_len(&self) -> u32
         ensures { CountsOwnAt (ShowsAt self.now) result }
     {
@@ -69,7 +69,7 @@ impl<A: Allocator + Copy> Node<A> {
 }
 
 impl<A: Allocator + Copy> Group<A> {
-    /// How a node is; none where there is no such node.
+    /// Returns a node's state, or `None` if the group has no such node.
     pub fn state(&self, node: NodeId) -> Option<State>
         ensures { Answers (λ w. Some (state_of (w.node node).state)) self.now node result }
     {
@@ -77,8 +77,9 @@ impl<A: Allocator + Copy> Group<A> {
         Some(self.nodes[at].state())
     }
 
-    /// The names that a node has delivered, in the order of their delivery, down or not; none where there is no such
-    /// node. A record that is held or in doubt doesn't count.
+    /// Returns the names that a node has delivered, in the order of their delivery. This works for
+    /// a node that is down too. Returns `None` if the group has no such node. A record that the
+    /// node's store hasn't confirmed, or that is in doubt, doesn't count.
     pub fn log(&self, node: NodeId) -> Option<&[Name]>
         ensures { TellsLog self.now node (option_map (λ names. names.now) result) }
     {
@@ -86,8 +87,9 @@ impl<A: Allocator + Copy> Group<A> {
         Some(self.nodes[at].log())
     }
 
-    /// The message that a node has stored under a name; none where it has stored none, or there is no such node. A record
-    /// that is held or in doubt doesn't count.
+    /// Returns the message that a node has stored under a name. Returns `None` if the node has
+    /// stored no such message, or the group has no such node. A record that the node's store hasn't
+    /// confirmed, or that is in doubt, doesn't count.
     pub fn message(&self, node: NodeId, name: Name) -> Option<&Message<A>>
         ensures { FindsMessage self.now node name (option_map (λ m. m.now) result) }
     {
@@ -95,14 +97,16 @@ impl<A: Allocator + Copy> Group<A> {
         self.nodes[at].message(name)
     }
 
-    /// Whether a node has stored a message under a name.
+    /// Says whether a node has stored a message under a name. `false` also means that the group has
+    /// no such node.
     pub fn holds(&self, node: NodeId, name: Name) -> bool
         ensures { Holds self.now node name result }
     {
         self.message(node, name).is_some()
     }
 
-    /// How many messages a node has broadcast, that is, stored as its own; none where there is no such node.
+    /// Returns how many messages of its own clients a node has stored. Returns `None` if the group
+    /// has no such node.
     pub fn own_len(&self, node: NodeId) -> Option<u32>
         ensures { CountsOwn self.now node result }
     {

@@ -1,7 +1,7 @@
-//! That no state is a dead end: what is stored can always still be delivered. Laws, each as the contract of a function that
-//! does nothing.
+//! No state is a dead end: what is stored can always still be delivered.
 //!
-//! It is no promise that it will be: that rests on links and stores, of which nothing is assumed.
+//! Each law is the contract of a function that does nothing. The laws don't promise that it will be
+//! delivered. That depends on links and stores, and nothing is assumed of these.
 
 ghost use Rattle.std.specs.Prelude.{◌≡◌, List, false, true};
 ghost use Rattle.urb_names.specs.Names.{has_name};
@@ -16,16 +16,19 @@ ghost use Rattle.urb_group.specs.Recovering.{after};
 ghost use Rattle.urb_group.specs.Step.{Event, IsReached, Run};
 ghost use Rattle.urb_group.specs.World.{AreImages, World, image_of, opened, started, stored};
 
-/// From every world that a run leads to, whatever was lost, whatever crashed, and whatever the storages of the nodes that are
-/// down turn out to hold, there are events, none of them refused, after which every node is ready and has delivered all that
-/// each sender's storage took: nodes that come back, receipts, ticks, and packets that were sent. No submit, no crash and no
-/// failed store is among them. The one exception is a group of one node that was opened from an image with a record that isn't
-/// certified, as a node that is not alone leaves it.
+/// From every world that a run leads to, some events deliver everything. After them, every node is
+/// ready and has delivered all that each sender's storage took. None of these events is refused.
+/// They are nodes that come back, receipts, ticks, and arrivals of packets that were sent. No
+/// submit, no crash and no failed store is among them.
+///
+/// This holds whatever was lost, whatever crashed, and whatever the storages of nodes that are down
+/// turn out to hold. There is one exception: a group of one node that was opened from an image with
+/// a record that isn't certified. A node that was not alone leaves such an image.
 pub fn no_state_is_a_dead_end()
     ensures { (w : World) → IsReached w → IsNotStranded w → CanDeliver w }
 {}
 
-/// No run strands a group: a new one never is, and one that isn't stays so.
+/// No run strands a group: a new group is never stranded, and one that isn't stranded stays so.
 pub fn no_run_strands_a_group()
     ensures new { (size : Limits) (events : List Event) (replies : List Reply) (w : World) →
         Run (started size) events replies w → IsNotStranded w }
@@ -33,8 +36,9 @@ pub fn no_run_strands_a_group()
         IsReached old → IsNotStranded old → Run old events replies new → IsNotStranded new }
 {}
 
-/// A group that is stranded stays so, whatever happens but for packets that nobody sent: what its one node was opened with and had
-/// not certified, it never certifies. So the exception is one.
+/// A stranded group stays stranded, whatever happens, unless packets arrive that nobody sent. Its
+/// one node never certifies what it was opened with and had not certified. So it is a true
+/// exception.
 pub fn a_stranded_group_stays_so()
     ensures { (size : Limits) (images : List (List Entry))
         → AreImages size images

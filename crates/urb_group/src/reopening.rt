@@ -1,4 +1,4 @@
-//! A cluster over stores that hold records: after a stop of the whole process.
+//! A cluster over stores that hold records, after a stop of the whole process.
 
 ghost use Rattle.std.specs.Prelude.{◌≡◌, IfOk, length};
 ghost use Rattle.std.specs.List.{All};
@@ -12,7 +12,7 @@ use crate::{Cluster, Group};
 use urb_names::{Config, Message, Refusal};
 use urb_stable::{Record, Stable};
 
-// The lists of all stores, asked in order. The first fault ends it.
+// Asks all stores for their lists, in order. The first fault ends it.
 fn retrieved<S: Stable>(
     alloc: S::Alloc,
     stores: &mut [S],
@@ -29,7 +29,7 @@ fn retrieved<S: Stable>(
     Ok(images)
 }
 
-// The group of what the stores give.
+// Opens the group of the records that the stores give.
 fn group_of<S: Stable>(
     alloc: S::Alloc,
     config: Config,
@@ -43,13 +43,15 @@ fn group_of<S: Stable>(
 }
 
 impl<S: Stable> Cluster<S> {
-    /// A cluster over stores that hold what a cluster of these limits stored, as after a stop of the whole process at any
-    /// moment, also inside a store: the recovery of all processes (sections 2.2 and 3.7 of the book). Each store, that of
-    /// node 1 first, is asked for its records, which are certain from then on, and the nodes come up with them. Drafts that
-    /// were held are lost.
+    /// Opens a cluster over stores that hold what a cluster of these limits stored. The whole
+    /// process may have stopped at any moment, also inside a store. This is the recovery of all
+    /// processes (sections 2.2 and 3.7 of the book). Each store is asked for its records, that of
+    /// node 1 first. The records are certain from then on, and the nodes come up with them. Drafts
+    /// that were held are lost.
     ///
-    /// Refused, all stores come back. `Device`, `BadRow`: a store failed, and those behind it were not asked.
-    /// `Inconsistent`: the stores' records don't fit together, as of `Group::open`. `NoMemory`: ask again.
+    /// A refusal gives all stores back. `Device`, `BadRow`: a store failed, and the stores behind
+    /// it were not asked. `Inconsistent`: the stores' records don't fit together, as for
+    /// `Group::open`. `NoMemory`: ask again.
     pub fn open(
         alloc: S::Alloc,
         config: Config,
@@ -60,20 +62,20 @@ impl<S: Stable> Cluster<S> {
         ensures goes_on { (old : GroupView) (w : World)
             → HasStopped S.Stable old w config stores.items
             → Continues S.Stable old w config stores.items result }
-        // A stop inside the call leaves what one before it would have left.
+        // A stop inside the call leaves what a stop before it would have left.
         ensures stop { (w : World)
             → AllHold S.Stable w stores.items
             → RestLeaves S.Stable w stores.items
             → StopLeaves S.Stable w stores.items (stores_in result) }
         ensures stocked { IfOk result (λ cluster. IsStocked S.Stable cluster) }
-        // A failure may have shut some stores; where they opened, none had.
+        // A failure may have shut some stores. If they opened, none was shut.
         ensures secured { All (IsKnown S.Stable) stores.items
             → IfOk result (λ cluster. IsSecured S.Stable cluster) }
     {
         Cluster::opened(alloc, config, stores)
     }
 
-    // The same, as far as its stores and its group are concerned.
+    // Does the same; its contract speaks of the stores and the group only.
     fn opened(
         alloc: S::Alloc,
         config: Config,
@@ -99,8 +101,9 @@ impl<S: Stable> Cluster<S> {
         }
     }
 
-    /// Stops all nodes at once and opens the cluster again over its stores: what was stored comes back, held drafts and
-    /// acknowledgements are lost. Refused, the stores come back alone, as of `Cluster::open`.
+    /// Stops all nodes at once, and opens the cluster again over its stores. What was stored comes
+    /// back. Held drafts and acknowledgements are lost. A refusal gives the stores back alone, as
+    /// for `Cluster::open`.
     pub fn reopen(self, alloc: S::Alloc) -> Result<Cluster<S>, (Vec<S, S::Alloc>, Refusal)>
         ensures opened { OpensStores S.Stable self.group.size self.stores result }
         ensures goes_on { (stocked : IsStocked S.Stable self)
@@ -116,7 +119,8 @@ impl<S: Stable> Cluster<S> {
         Cluster::open(alloc, group.config, stores)
     }
 
-    /// The stores, that of node 1 first. The group and its drafts are gone. Takes no memory.
+    /// Returns the stores, that of node 1 first. The group and its drafts are gone. Allocates no
+    /// memory.
     pub fn into_stores(self) -> Vec<S, S::Alloc>
         ensures value { result.items ≡ self.stores }
         // One for each node.

@@ -1,17 +1,17 @@
-//! What a command led to.
+//! Replies to the commands of a cluster.
 
 use std::alloc::{Allocator, Global};
 use urb_names::{Name, NodeId, Refusal};
 use urb_node::{Answer, Done};
 use urb_stubborn::Outbox;
 
-/// What a command of a cluster led to.
+/// The outcome of a command of a cluster.
 #[derive(Drop)]
 #[derive_where(Debug)]
 pub enum Reply<A: Allocator = Global> {
     /// The node holds a draft of a record of this name, for this position in its store.
     Drafted { name: Name, pos: u32 },
-    /// Nothing is to be stored. An answer with packets: the node sends them.
+    /// Nothing has to be stored. If the answer has packets, the node sends them.
     Same(Answer<Outbox<A>>),
     /// The node's store took its draft.
     Stored(Done<A>),
@@ -21,6 +21,6 @@ pub enum Reply<A: Allocator = Global> {
     WentDown(NodeId),
     /// The node is ready again.
     Up(NodeId),
-    /// The command was refused. But for what a restart had its store do before, nothing has changed.
+    /// The command was refused. Nothing has changed, except what a restart had its store do before.
     Refused(Refusal),
 }

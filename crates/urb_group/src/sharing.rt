@@ -1,4 +1,4 @@
-//! Messages of an image that share the payloads of nodes that are open.
+//! Messages of an image that share their payloads with open nodes.
 
 ghost use Rattle.std.specs.Prelude.{◌≡◌, ◌≤◌, [], IfOk};
 ghost use Rattle.std.specs.Option.{ForSome};
@@ -12,8 +12,8 @@ use urb_names::{Config, Message, Name, NoMemory, NodeId};
 use urb_node::Ready;
 use urb_stable::Record;
 
-// Another message of the same content, which shares the payload that a node has stored under this name. `None` if the node has
-// not stored the same message, or if sharing fails.
+// Returns another message of the same content, which shares the payload that a node has stored
+// under this name. `None` if the node has not stored the same message, or if sharing fails.
 fn known_in<A: Allocator + Copy>(
     node: &Node<A>,
     alloc: A,
@@ -29,7 +29,7 @@ fn known_in<A: Allocator + Copy>(
     known.share(alloc).ok()
 }
 
-// The same of the first of these nodes that has one.
+// Does the same with the first of these nodes that has one.
 fn known_among<A: Allocator + Copy>(
     nodes: &[Node<A>],
     alloc: A,
@@ -46,7 +46,7 @@ fn known_among<A: Allocator + Copy>(
     None
 }
 
-// The message gives up its own payload for that of a node which has stored the same.
+// Replaces the message's own payload by that of a node which has stored the same message.
 fn share_payload<A: Allocator + Copy>(
     nodes: &[Node<A>],
     alloc: A,
@@ -60,7 +60,7 @@ fn share_payload<A: Allocator + Copy>(
     }
 }
 
-// The same for the message of a record, if it has one.
+// Does the same for the message of a record, if it has one.
 fn share_payload_of<A: Allocator + Copy>(
     nodes: &[Node<A>],
     alloc: A,
@@ -75,7 +75,7 @@ fn share_payload_of<A: Allocator + Copy>(
     }
 }
 
-// The same for each record of an image.
+// Does the same for each record of an image.
 fn share_payloads<A: Allocator + Copy>(
     nodes: &[Node<A>],
     alloc: A,
@@ -88,7 +88,8 @@ fn share_payloads<A: Allocator + Copy>(
     }
 }
 
-/// The same image. Its messages share the payloads that one of these nodes has stored under the same names.
+/// Returns the same image. Its messages share the payloads that one of these nodes has stored under
+/// the same names.
 pub(crate) fn share_image<A: Allocator + Copy>(
     nodes: &[Node<A>],
     alloc: A,
@@ -101,8 +102,8 @@ pub(crate) fn share_image<A: Allocator + Copy>(
     image
 }
 
-/// Opens a node beside those that are open already: a payload that one of them has stored under the same name stays once in
-/// memory.
+/// Opens a node beside those that are open already. If one of them has stored the same message under
+/// the same name, both share its payload, unless memory for that is refused.
 pub(crate) fn opened_beside<A: Allocator + Copy>(
     nodes: &[Node<A>],
     alloc: A,

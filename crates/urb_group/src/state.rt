@@ -1,12 +1,13 @@
 //! The states of a node.
 
-/// What a node of a group does, as it is seen from outside.
+/// A node's state, without its contents.
 #[derive(Clone, Copy, Debug, PartialEq, Eq)]
 pub enum State {
-    /// It has crashed, or its store has failed: it takes a restart alone.
+    /// The node has crashed, or its store has failed. It takes no event but a restart. Queries
+    /// about it still work.
     Down,
-    /// It takes submits, packets and ticks.
+    /// The node takes submits, packets and ticks.
     Ready,
-    /// It holds a draft, and waits for what its store did with it.
+    /// The node has handed out a draft of a record, and waits for its store's receipt or doubt.
     Storing,
 }

@@ -15,7 +15,7 @@ use std::alloc::Allocator;
 use urb_names::{Message, NodeId, Refusal};
 use urb_stable::{Doubt, Draft, Failure, MemStable, Receipt, Record, Stable};
 
-// Why a node in this state has nothing for its store.
+// Says why a node in this state has nothing for its store.
 fn unstored_by(state: Option<State>) -> Option<Refusal>
     ensures { result ≡ unstored_in state }
 {
@@ -27,7 +27,7 @@ fn unstored_by(state: Option<State>) -> Option<Refusal>
     }
 }
 
-// Why a node in this state can't be restarted.
+// Says why a node in this state can't be restarted.
 fn unfallen_by(state: Option<State>) -> Option<Refusal>
     ensures { result ≡ unfallen_in state }
 {
@@ -38,7 +38,7 @@ fn unfallen_by(state: Option<State>) -> Option<Refusal>
     }
 }
 
-// Why a node has nothing for its store; none where it holds a draft.
+// Says why a node has nothing for its store. `None` if it holds a draft.
 pub(crate) fn unstored<A: Allocator + Copy>(group: &Group<A>, node: NodeId) -> Option<Refusal>
     requires { IsSound group.now }
     ensures { IsUnstored group.now node result }
@@ -46,7 +46,7 @@ pub(crate) fn unstored<A: Allocator + Copy>(group: &Group<A>, node: NodeId) -> O
     unstored_by(group.state(node))
 }
 
-// Why a node can't be restarted; none where it is down.
+// Says why a node can't be restarted. `None` if it is down.
 pub(crate) fn unfallen<A: Allocator + Copy>(group: &Group<A>, node: NodeId) -> Option<Refusal>
     requires { IsSound group.now }
     ensures { IsUnfallen group.now node result }
@@ -54,7 +54,7 @@ pub(crate) fn unfallen<A: Allocator + Copy>(group: &Group<A>, node: NodeId) -> O
     unfallen_by(group.state(node))
 }
 
-// The store took the draft that the node holds.
+// Commits the draft that the node holds, since the store took it.
 fn committed<A: Allocator + Copy>(group: &mut Group<A>, receipt: Receipt<A>) -> Reply<A>
     requires sound { IsSound group.old }
     requires held { held_draft group.old receipt.node ≡ Some receipt }
@@ -65,7 +65,7 @@ fn committed<A: Allocator + Copy>(group: &mut Group<A>, receipt: Receipt<A>) -> 
     Reply::Stored(group.commit(receipt).unwrap())
 }
 
-// The store failed, and the node holds a draft.
+// Takes the node down: the store failed, and the node holds a draft.
 fn failed<A: Allocator + Copy>(group: &mut Group<A>, doubt: Doubt) -> Reply<A>
     requires sound { IsSound group.old }
     requires held { (draft : Placed)
@@ -79,7 +79,7 @@ fn failed<A: Allocator + Copy>(group: &mut Group<A>, doubt: Doubt) -> Reply<A>
     Reply::WentDown(node)
 }
 
-// A store is to keep the draft that its node holds.
+// Asks a store to keep the draft that its node holds.
 pub(crate) fn stored<S: Stable>(
     group: &mut Group<S::Alloc>,
     draft: Draft<S::Alloc>,
@@ -97,7 +97,7 @@ pub(crate) fn stored<S: Stable>(
     }
 }
 
-// A node comes back with these records.
+// Brings a node back with these records.
 fn restarted<A: Allocator + Copy>(
     group: &mut Group<A>,
     alloc: A,
@@ -115,7 +115,7 @@ fn restarted<A: Allocator + Copy>(
     }
 }
 
-// A node comes back with what its store gives.
+// Brings a node back with the records that its store gives.
 pub(crate) fn read<S: Stable>(
     group: &mut Group<S::Alloc>,
     alloc: S::Alloc,
@@ -133,7 +133,8 @@ pub(crate) fn read<S: Stable>(
     }
 }
 
-// The store of a node's draft failed. To a node that holds a draft a crash is the same.
+// Takes a node down whose store failed on its draft. For a node that holds a draft, a crash is the
+// same.
 pub(crate) fn lost<A: Allocator + Copy>(group: &mut Group<A>, draft: Draft<A>) -> Reply<A>
     requires sound { IsSound group.old }
     requires held { held_draft group.old draft.node ≡ Some draft }
@@ -145,7 +146,7 @@ pub(crate) fn lost<A: Allocator + Copy>(group: &mut Group<A>, draft: Draft<A>) -
     Reply::WentDown(node)
 }
 
-// A store in memory is to keep a draft, and to fail so.
+// Asks a store in memory to keep a draft, and makes it fail in this way.
 pub(crate) fn broken<A: Allocator + Copy>(
     store: &mut MemStable<A>,
     draft: &Draft<A>,

@@ -5,13 +5,14 @@ use urb_node::Answer;
 use urb_stable::Draft;
 use urb_stubborn::Outbox;
 
-/// What a submit or an arrival led to that was not refused.
+/// The outcome of a submit or an arrival that was not refused.
 #[derive(Drop)]
 #[derive_where(Debug)]
 pub enum Taken<A: Allocator = Global> {
-    /// It is answered at once, and nothing has to be stored. An answer with packets: they are to be sent.
+    /// No record has to be stored: the node's records stay the same, and the answer is given at
+    /// once. If the answer has packets, send them.
     Same(Answer<Outbox<A>>),
-    /// The node holds a record, which its store is to keep first: the draft goes there, and what came of it to `commit` or
-    /// to `fail`.
+    /// The node waits until its store has kept a record. Call `Draft::keep` with the node's store.
+    /// Then pass the receipt to `Group::commit`, or the doubt to `Group::fail`.
     Store(Draft<A>),
 }

@@ -1,4 +1,5 @@
-//! Worked examples of the definitions: small lists of records, images and scripts, each with what it comes to.
+//! Worked examples of the definitions: small lists of records, images and scripts, each with its
+//! result.
 #![tactic(auto, unfolding(crate::specs::Step::step, crate::specs::Step::run))]
 
 pub mod clients;

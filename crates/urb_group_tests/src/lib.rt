@@ -1,4 +1,6 @@
-//! Tests of `urb_group`, in a crate of their own: what they call is proved once, and they see what its users see.
+//! Tests of `urb_group`, in a crate of their own.
+//!
+//! What the tests call is proved once, and the tests see what users of the crate see.
 #![tactic(auto)]
 
 #[cfg(test)]

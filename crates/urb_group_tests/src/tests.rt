@@ -1,4 +1,5 @@
-//! What no script says of groups and clusters: `urb_script` runs scripts, and its tests hold worked ones.
+//! What no script says of groups and clusters; `urb_script` runs scripts, and its tests have worked
+//! ones.
 ghost use Rattle.std.specs.Prelude.{◌≡◌};
 
 mod clusters;
@@ -9,22 +10,22 @@ mod stops;
 
 use urb_group::{ClientId, Config, Name, NodeId};
 
-// Node 1, to which the client sends.
+// Returns node 1, to which the client sends.
 fn one() -> NodeId {
     NodeId::new(1).unwrap()
 }
 
-// Node 2, which relays.
+// Returns node 2, which relays.
 fn two() -> NodeId {
     NodeId::new(2).unwrap()
 }
 
-// The client whose messages are sent.
+// Returns the client whose messages are sent.
 fn client() -> ClientId {
     ClientId::new(7).unwrap()
 }
 
-// The name of its first message.
+// Returns the name of the client's first message.
 fn first() -> Name {
     Name {
         sender: one(),
@@ -32,7 +33,7 @@ fn first() -> Name {
     }
 }
 
-// The limits of a group of three.
+// Returns the limits of a group of three.
 fn three() -> Config
     ensures { result.n ≡ 3 }
 {

@@ -10,7 +10,7 @@ use Rattle.urb_names.proofs.Ordered.{any_insert}
 use Rattle.urb_majority.specs.Acks.{AckSet, ack_lt}
 use Rattle.urb_majority.specs.Counting.{certifying, counting}
 
--- a node is counted for a name exactly where it was, or is the one that joined
+-- a node is counted for a name exactly if it was counted before or was added
 pub acked_counting : (a : AckSet) (x : Label) (q : ℕ) (y : Label) (r : ℕ) → acked (counting a x q).counted y r ≡ acked (with_ack a.counted x q) y r
 acked_counting a x q y r = at (acked a.counted x q) refl
   where
@@ -23,7 +23,7 @@ acked_counting a x q y r = at (acked a.counted x q) refl
         ∙ (any_insert (λ ack. same_name ack.0 y && (ack.1 == r)) a.counted _ (x, q)
         ∙ sym (ap (λ (acks : List (Label × ℕ)). acked acks y r) (cond-false (acked a.counted x q) a.counted ((x, q) ∷ a.counted) e)))
 
--- a name is certified exactly where it was, or is the one that joined
+-- a name is certified exactly if it was certified before or was added
 pub has_name_certifying : (a : AckSet) (x y : Label) → has_name (certifying a x).certified y ≡ has_name (x ∷ a.certified) y
 has_name_certifying a x y = at (has_name a.certified x) refl
   where

@@ -1,4 +1,4 @@
--- The nodes that are counted for a name, once one more is.
+-- The nodes counted for a name, after one more is counted.
 use Rattle.std.proofs.Common.{◌≡◌, ℕ, suc, ◌+◌, ◌<◌, ◌≤◌, Bool, true, false, ◌&&◌, ◌||◌, ◌==◌, List, ◌∷◌, count_by, ne_eqb, not, refl, ap, ◌∙◌, arith}
 use Rattle.std.specs.Prelude.{if◌then◌else◌}
 use Rattle.std.proofs.lemmas.Bool.{cond-true, cond-false, cond_both, and_from, and_left, and_right}
@@ -12,7 +12,7 @@ use Rattle.urb_majority.specs.Counting.{answer_of, has_majority, has_majority_wi
 use Rattle.urb_majority.specs.declared.acks.Noted.TheVariants.{Again, Counted, Reached}
 use Rattle.urb_window.proofs.Counts.{count_alike, count_one_more}
 
--- one node more is counted
+-- one more node is counted
 pub count_with : (acks : List (Label × ℕ)) (x : Label) (q n : ℕ) → 0 < q → q ≤ n → acked acks x q ≡ false → count_by (acked ((x, q) ∷ acks) x) (nodes n) ≡ suc (count_by (acked acks x) (nodes n))
 count_with acks x q n l u e =
     count_alike (acked ((x, q) ∷ acks) x) (λ r. (q == r) || acked acks x r) 1 n (λ r m v. ap (λ (b : Bool). (b && (q == r)) || acked acks x r) (same_name-same x))
@@ -23,7 +23,7 @@ with_new a x q l u e =
     ap (λ (acks : List (Label × ℕ)). is_majority (count_by (acked acks x) (nodes a.limits.n)) a.limits.n) (cond-false (acked a.counted x q) a.counted ((x, q) ∷ a.counted) e)
     ∙ ap (λ (m : ℕ). is_majority m a.limits.n) (count_with a.counted x q a.limits.n l u e ∙ omega arith)
 
--- a node over n makes no difference
+-- a node above n makes no difference
 pub with_other : (a : AckSet) (x : Label) (q : ℕ) → a.limits.n < q → has_majority_with a x q ≡ is_majority (count_by (acked a.counted x) (nodes a.limits.n)) a.limits.n
 with_other a x q h =
     cond_both (acked a.counted x q) a.counted ((x, q) ∷ a.counted) (λ acks. is_majority (count_by (acked acks x) (nodes a.limits.n)) a.limits.n ≡ is_majority (count_by (acked a.counted x) (nodes a.limits.n)) a.limits.n)
@@ -35,7 +35,7 @@ pub with_counted : (a : AckSet) (x : Label) (q : ℕ) → acked a.counted x q �
 with_counted a x q e =
     ap (λ (acks : List (Label × ℕ)). is_majority (count_by (acked acks x) (nodes a.limits.n)) a.limits.n) (cond-true (acked a.counted x q) a.counted ((x, q) ∷ a.counted) e)
 
--- ---- what an acknowledgement answers
+-- ---- what an acknowledgement returns
 
 pub answer_again : (a : AckSet) (x : Label) (q : ℕ) → acked a.counted x q ≡ true → answer_of a x q ≡ Again
 answer_again a x q e = cond-true (acked a.counted x q) Again (if has_majority_with a x q && not (has_majority a x) then Reached else Counted) e

@@ -1,4 +1,4 @@
--- Room stays, as acknowledgements and certificates join.
+-- The promised space remains when acknowledgements and certificates are added.
 use Rattle.std.proofs.Common.{◌≡◌, true, false, Some, sym, ap, subst, ◌∙◌}
 use Rattle.std.proofs.lemmas.Bool.{false≢true, or_left}
 use Rattle.urb_names.specs.Naming.{Label}
@@ -9,7 +9,7 @@ use Rattle.urb_names.proofs.Ordered.{any_insert, reserved_for-some}
 use Rattle.urb_majority.specs.Room.{HasRoom, IsKept}
 use Rattle.urb_majority.specs.declared.acks.Acks.TheInside.{Inside}
 
--- where there is only more room for certificates
+-- if only the space for certificates grows
 pub kept_bigger : {A : Type 0} (a b : Inside A) → b.reserved ≡ a.reserved → b.counted ≡ a.counted → b.certified.names ≡ a.certified.names → (a.certified.room ≡ true → b.certified.room ≡ true)
     → IsKept a → IsKept b
 kept_bigger a b reserved counted certified certified_room kept = λ x e.
@@ -19,7 +19,7 @@ kept_bigger a b reserved counted certified certified_room kept = λ x e.
       certified = λ none. certified_room (room.certified (ap (λ xs. has_name xs x) (sym certified) ∙ none));
     }
 
--- where one more node is counted for a name
+-- if one more node is counted for a name
 pub kept_noted : {A : Type 0} (a b : Inside A) (x : Label) → has_name b.counted.roomy x ≡ true → b.reserved ≡ reserved_for a.reserved x → b.certified ≡ a.certified
     → IsKept a → IsKept b
 kept_noted a b x there reserved certified kept = λ y e.
@@ -30,7 +30,7 @@ kept_noted a b x there reserved certified kept = λ y e.
       certified = subst (λ s. has_name s.names x ≡ false → s.room ≡ true) (sym certified) room.certified;
     })
 
--- where one more name is certified
+-- if one more name is certified
 pub kept_certified : {A : Type 0} (a b : Inside A) (x : Label) → b.reserved ≡ reserved_for a.reserved x → b.certified.names ≡ placed name_lt a.certified.names x → b.counted ≡ a.counted
     → IsKept a → IsKept b
 kept_certified a b x reserved certified counted kept = λ y e.

@@ -1,4 +1,4 @@
--- What contracts see of the fields of acknowledgements, and the room that is promised.
+-- What contracts see of the fields of acknowledgements, and the space that is promised.
 use Rattle.std.specs.Prelude.{◌≡◌, true, false, Some}
 use Rattle.std.specs.Option.{ForSome}
 use Rattle.urb_names.specs.Naming.{Label}
@@ -10,11 +10,12 @@ use Rattle.urb_majority.specs.declared.acks.Acks.TheInside.{Inside}
 abbrev pub view_of : {A : Type 0} → Inside A → AckSet
 view_of a = record { limits = a.config; counted = a.counted.marks; certified = a.certified.names; reserved = a.reserved }
 
--- where no node is counted for the name yet, there is room for its mask, and where it isn't certified yet, for its certificate
+-- If the name has no mask yet, there is space for one. If it isn't certified yet, there is space
+-- for its certificate.
 pub record HasRoom {A : Type 0} (a : Inside A) (x : Label) : Type 0 where
   pub counted : has_name a.counted.roomy x ≡ false → a.counted.reserved ≡ Some x
   pub certified : has_name a.certified.names x ≡ false → a.certified.room ≡ true
 
--- what the fields keep: the room that is promised
+-- the invariant of the fields: the space that is promised
 abbrev pub IsKept : {A : Type 0} → Inside A → Type 0
 IsKept a = ForSome a.reserved (HasRoom a)

@@ -13,19 +13,20 @@ use urb_certified::Certified;
 use urb_names::{Config, Name, NoMemory, NodeId, is_majority};
 use urb_window::Marks;
 
-/// What an acknowledgement does.
+/// The effect of an acknowledgement.
 #[derive(Clone, Copy, Debug, PartialEq, Eq)]
 pub enum Noted {
-    /// The node was counted for the name before.
+    /// The node was already counted for the name.
     Again,
     /// The node is counted for the name from now on.
     Counted,
-    /// It is counted, and by it the nodes became a majority: the name may be certified.
+    /// The node is counted, and it completes a majority: the name may be certified.
     Reached,
 }
 
-/// The nodes that hold each message, as far as one node knows, and the names of the messages that a majority holds
-/// (`ack` and `delivered` of logged majority-ack uniform reliable broadcast, section 3.7 of the book).
+/// What one node knows: which nodes hold each message, and which names a majority holds. The book
+/// calls them `ack` and `delivered`, in logged majority-ack uniform reliable broadcast (section
+/// 3.7).
 #[derive(Drop)]
 #[derive_where(Debug)]
 pub struct Acks<A: Allocator = Global> {
@@ -47,7 +48,7 @@ impl<A: Allocator> Model for Acks<A> {
     ghost invariant = { IsKept };
 }
 
-// What is left of a reservation once a name was added.
+// The reservation left once this name has been added.
 fn reserved_for(reserved: Option<Name>, name: Name) -> Option<Name>
     ensures { result ≡ reserved_for reserved name }
 {
@@ -58,7 +59,7 @@ fn reserved_for(reserved: Option<Name>, name: Name) -> Option<Name>
 }
 
 impl<A: Allocator + Copy> Acks<A> {
-    /// Nothing is counted and nothing certified.
+    /// Nothing is counted and nothing is certified.
     pub fn new(alloc: A, config: Config) -> Acks<A>
         ensures { result
             ≡ record { limits = config; counted = []; certified = []; reserved = None } }
@@ -71,7 +72,7 @@ impl<A: Allocator + Copy> Acks<A> {
         }
     }
 
-    /// That all stands in order: for proofs alone, since it does nothing.
+    /// States that all lists are in order. It does nothing; only proofs use it.
     pub fn limits(&self)
         ensures { IsAckSet self.now }
     {
@@ -86,7 +87,7 @@ impl<A: Allocator + Copy> Acks<A> {
         self.counted.has(name, node)
     }
 
-    // Whether the nodes that are counted for a name are a majority.
+    // Whether the nodes counted for a name are a majority.
     fn has_majority(&self, name: Name) -> bool
         ensures { result ≡ has_majority self.now name }
     {
@@ -95,8 +96,8 @@ impl<A: Allocator + Copy> Acks<A> {
     }
 
     #[tactic(auto, using(crate::proofs::Majorities::with_counted))]
-    /// Whether the nodes that are counted for a name are a majority once this node is counted too, that is, whether its
-    /// acknowledgement lets the name be certified.
+    /// Whether the nodes counted for a name are a majority once this node is counted too. If so,
+    /// this node's acknowledgement allows the name to be certified.
     pub fn majority_with(&self, name: Name, node: NodeId) -> bool
         ensures { result ≡ has_majority_with self.now name node }
     {
@@ -112,7 +113,7 @@ impl<A: Allocator + Copy> Acks<A> {
     }
 
     #[tactic(auto, using(crate::proofs::Majorities::answer_again, crate::proofs::Majorities::answer_reached, crate::proofs::Majorities::answer_few, crate::proofs::Majorities::answer_more))]
-    /// What `note` would answer.
+    /// What `note` would return.
     pub fn answer(&self, name: Name, node: NodeId) -> Noted
         ensures { result ≡ answer_of self.now name node }
     {
@@ -125,9 +126,9 @@ impl<A: Allocator + Copy> Acks<A> {
         }
     }
 
-    /// Makes room for a name: for a certificate of it, and for an acknowledgement of it by each node.
-    /// The room is promised until another name is added or reserved, or all is forgotten. `NoMemory` means that a growth was
-    /// refused: the call may be made again.
+    /// Reserves space for a name: for its certificate, and for an acknowledgement of it by each
+    /// node. The space is promised until another name is added or reserved, or `forget` is called.
+    /// `NoMemory` means that an allocation was refused; the caller may make the call again.
     pub fn reserve(&mut self, name: Name) -> Result<(), NoMemory>
         ensures ok { OnOk result (self.new ≡ record self.old { reserved = Some name }) }
         ensures err { OnErr result (self.new ≡ self.old) }
@@ -138,13 +139,15 @@ impl<A: Allocator + Copy> Acks<A> {
         Ok(())
     }
 
-    /// Counts the acknowledgement of a node for a name. It certifies nothing: whoever is told that the nodes became a majority
-    /// has the certificate stored first. `NoMemory` means that a growth was refused: the call may be made again.
+    /// Counts a node's acknowledgement of a name. It certifies nothing: after `Reached`, the caller
+    /// first has the certificate stored. `NoMemory` means that an allocation was refused; the
+    /// caller may make the call again.
     pub fn note(&mut self, name: Name, node: NodeId) -> Result<Noted, NoMemory>
         ensures ok { OnOk result (self.new ≡ counting self.old name node) }
         ensures answer { IfOk result (λ noted. noted ≡ answer_of self.old name node) }
         ensures err { OnErr result (self.new ≡ self.old) }
-        // Want of memory comes only where the pair is new, and never for the name for which room is reserved.
+        // `NoMemory` comes only if the pair is new, and never for the name for which space is
+        // reserved.
         ensures again { acked self.old.counted name node ≡ true → IsOk result }
         ensures roomy { self.old.reserved ≡ Some name → IsOk result }
     {
@@ -171,11 +174,13 @@ impl<A: Allocator + Copy> Acks<A> {
         self.certified.has(name)
     }
 
-    /// Certifies a name, once its certificate is stored. `NoMemory` means that a growth was refused: the call may be made again.
+    /// Certifies a name; call it once the certificate is stored. `NoMemory` means that an
+    /// allocation was refused; the caller may make the call again.
     pub fn certify(&mut self, name: Name) -> Result<(), NoMemory>
         ensures ok { OnOk result (self.new ≡ certifying self.old name) }
         ensures err { OnErr result (self.new ≡ self.old) }
-        // Want of memory comes only where the name is new, and never for the name for which room is reserved.
+        // `NoMemory` comes only if the name is new, and never for the name for which space is
+        // reserved.
         ensures again { has_name self.old.certified name ≡ true → IsOk result }
         ensures roomy { self.old.reserved ≡ Some name → IsOk result }
     {
@@ -187,7 +192,7 @@ impl<A: Allocator + Copy> Acks<A> {
         Ok(())
     }
 
-    /// All acknowledgements are lost, as in a crash, and what was reserved; the certificates stay.
+    /// Drops all acknowledgements, as a crash does, and the reservation; the certificates stay.
     pub fn forget(&mut self)
         ensures { self.new ≡ record self.old { counted = []; reserved = None } }
     {

@@ -1,15 +1,16 @@
-//! Acknowledgements and certificates: which nodes hold a message, and which messages a majority holds.
+//! Acknowledgements and certificates: which nodes hold a message, and which ones a majority holds.
 //!
 //! ```text
-//! acks.reserve(name)?;                                   // room for acknowledgements of a name, and for its certificate
+//! acks.reserve(name)?;                                   // space for a name's acknowledgements and its certificate
 //! match acks.note(name, node)? {
-//!     Noted::Reached => { /* the certificate goes to the store, and then: acks.certify(name)?; */ }
+//!     Noted::Reached => { /* store the certificate, then: acks.certify(name)?; */ }
 //!     Noted::Counted | Noted::Again => {}
 //! }
-//! acks.forget();                                         // a crash: certificates stay, since they are stored
+//! acks.forget();                                         // a crash: certificates stay, because they are stored
 //! ```
 //!
-//! It certifies nothing by itself: that the nodes became a majority is told, and what is stored counts.
+//! The crate certifies nothing by itself. It reports that a majority was reached; only a stored
+//! certificate counts.
 #![tactic(auto)]
 
 mod acks;

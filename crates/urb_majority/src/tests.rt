@@ -1,4 +1,4 @@
-//! Counting to a majority, refused growth, and calls with room reserved for them.
+//! Counting to a majority, refused allocations, and calls with space reserved for them.
 
 use super::*;
 use std::alloc::Allocator;
@@ -6,7 +6,7 @@ use std::test::Fail;
 use urb_names::{Config, Name, NoMemory, NodeId};
 use urb_refusing::Refusing;
 
-// The name of node 1 with this number.
+// Node 1's name with this number.
 fn name(seq: u32) -> Option<Name> {
     if seq == 0 {
         return None;
@@ -15,8 +15,9 @@ fn name(seq: u32) -> Option<Name> {
     Some(Name { sender, seq })
 }
 
-// Counts a node for a name. Where the growth was refused, nothing has changed, and the same call goes through the second time.
-// Whether the first was refused; none where the answer is another.
+// Counts a node for a name. If the allocation is refused, nothing has changed, and the same call
+// succeeds the second time. Returns whether the first call was refused, or `None` if the answer
+// isn't `want`.
 fn note<A: Allocator + Copy>(
     acks: &mut Acks<A>,
     name: Name,
@@ -36,7 +37,7 @@ fn note<A: Allocator + Copy>(
     Some(refused)
 }
 
-// Counts nodes for names so, one after the other. Whether a call was refused.
+// Counts nodes for names in this way, and returns whether a call was refused.
 fn note_all<A: Allocator + Copy>(acks: &mut Acks<A>, steps: &[(u32, u8, Noted)]) -> Option<bool> {
     let mut refused = false;
     for (seq, number, want) in steps {
@@ -75,7 +76,7 @@ fn is_certified<A: Allocator + Copy>(acks: &Acks<A>, seq: u32) -> bool {
     }
 }
 
-// Whether a node was counted for a name.
+// Whether a node is counted for a name.
 fn is_noted<A: Allocator + Copy>(acks: &Acks<A>, seq: u32, number: u8) -> bool {
     match (name(seq), NodeId::new(number)) {
         (Some(name), Some(node)) => acks.noted(name, node),
@@ -110,7 +111,8 @@ fn the_third_of_five_nodes_makes_a_majority(rt: HostRuntime) -> Result<(), Fail>
     Ok(())
 }
 
-// Whether each node, counted from 1 on, makes a majority exactly where it comes behind this half.
+// Whether each node, counted from 1 on, completes or extends a majority exactly if its number is
+// above `half`.
 fn is_enough_behind<A: Allocator + Copy>(acks: &mut Acks<A>, half: u8) -> Option<bool> {
     let name = name(1)?;
     let mut is_so = true;
@@ -152,8 +154,8 @@ fn acknowledgements_are_lost_and_certificates_stay(rt: HostRuntime) -> Result<()
     Ok(())
 }
 
-// Whether all nodes are counted for the first name, and it is certified before and after, without asking for memory, once room
-// is reserved for it.
+// Reserves space for the first name. Returns whether certifying it, counting all nodes for it, and
+// certifying it again allocate nothing.
 fn asks_for_nothing<'a, A: Allocator>(
     acks: &mut Acks<&'a Refusing<A>>,
     heap: &'a Refusing<A>,
@@ -181,7 +183,8 @@ fn what_was_reserved_takes_no_memory(rt: HostRuntime) -> Result<(), Fail> {
     Ok(())
 }
 
-// Counts and certifies, where growths may be refused. Whether a call was refused; none where a refused one changed something.
+// Counts and certifies while an allocation may be refused. Returns whether a call was refused, or
+// `None` if a refused call changed something.
 fn counts_on<A: Allocator + Copy>(acks: &mut Acks<A>) -> Option<bool> {
     let mut told = note_all(acks, &[(2, 2, Noted::Counted)])?;
     if acks.reserve(name(1)?).is_err() {

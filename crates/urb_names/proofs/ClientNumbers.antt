@@ -1,4 +1,4 @@
--- Messages whose clients number them 1, 2, 3, ..: a message is found by its client's number at its place.
+-- Messages whose clients number them 1, 2, 3, ..: its client's number finds a message at its place.
 use Rattle.std.proofs.Common.{Bool, List, None, Some, [], ap, arith, cond, count_by, eq-eqb, eqb-true, false, find, inl, inr, length, ne_eqb, not, refl, slice_get, subst, suc, sym, true, ℕ, ⊎_elim, ◌++◌, ◌+◌, ◌<◌, ◌==◌, ◌∙◌, ◌∷◌, ◌≡◌, ◌≤◌, ◌⊎◌}
 use Rattle.std.proofs.lemmas.Bool.{and_from, and_parts, cases_order, cond-false, cond-true, false_from_ne_true, false≢true, or_cases, or_parts}
 use Rattle.std.proofs.lemmas.List.Folds.{find-append, list_any-append, position_or_len_push}
@@ -26,7 +26,8 @@ none_places test (m ∷ ms) e =
     let rest : position_or_len test ms ≡ length ms = none_places test ms parts.1 in
     cond-true (not (test m)) _ _ (ap not parts.0) ∙ omega arith
 
--- Of each client the numbers run 1, 2, 3, ..: no number is above the count, and each message is found by its own.
+-- Each client's numbers run 1, 2, 3, ..: no number is above the count, and each message is found by
+-- its own number.
 pub record Numbers (ms : List Content) : Type 0 where
   pub bounded : (c k : ℕ) → list_any (is_numbered c k) ms ≡ true → k ≤ count_by (λ o. o.client == c) ms
   pub found : (j : ℕ) (m : Content) → slice_get ms j ≡ Some m → (find (is_numbered m.client m.number) ms ≡ Some m) × (position_or_len (is_numbered m.client m.number) ms ≡ j)

@@ -3,7 +3,7 @@ use Rattle.std.proofs.Common.{◌≡◌, ◌<◌, ℕ, suc, zero, Bool, true, fa
 use Rattle.urb_names.specs.declared.flags.Flags.{Flags}
 use Rattle.urb_names.specs.Packets.{flags_number, flags_said}
 
--- a number of at most three is that of the flags that it says
+-- a number of at most three is the number of the flags that it encodes
 pub number_again : (number : ℕ) → number < 4 → number ≡ flags_number (flags_said number)
 number_again zero h = refl
 number_again (suc zero) h = refl
@@ -11,7 +11,7 @@ number_again (suc (suc zero)) h = refl
 number_again (suc (suc (suc zero))) h = refl
 number_again (suc (suc (suc (suc more)))) h = absurd (omega (arith, h))
 
--- flags are those that their number says
+-- flags are those that their number encodes
 pub said_again : (flags : Flags) → flags_said (flags_number flags) ≡ flags
 said_again flags = at flags.certified flags.heard
   where
@@ -21,7 +21,7 @@ said_again flags = at flags.certified flags.heard
     at false true = refl
     at false false = refl
 
--- it is at most three
+-- the number is at most three
 pub number_below : (flags : Flags) → flags_number flags < 4
 number_below flags = at flags.certified flags.heard
   where
@@ -31,6 +31,6 @@ number_below flags = at flags.certified flags.heard
     at false true = omega arith
     at false false = omega arith
 
--- flags of the same number are the same
+-- flags with the same number are the same
 pub same_flags : (flags other : Flags) → flags_number flags ≡ flags_number other → flags ≡ other
 same_flags flags other e = sym (said_again flags) ∙ ap flags_said e ∙ said_again other

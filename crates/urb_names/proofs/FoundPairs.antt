@@ -1,4 +1,4 @@
--- What is found under a name among pairs, also when a pair joins them.
+-- The message found under a name among pairs, also after a pair is added.
 use Rattle.std.proofs.Common.{Bool, List, None, Option, Some, [], ap, append-nil, cond, false, inl, inr, is_none, is_some, refl, subst, sym, true, ℕ, ⊎_elim, ◌&&◌, ◌++◌, ◌==◌, ◌||◌, ◌∙◌, ◌∷◌, ◌≡◌, ◌⊎◌}
 use Rattle.std.proofs.lemmas.Bool.{and_parts, cond-false, cond-true, false≢true, or_cases, or_left, or_right}
 use Rattle.std.proofs.lemmas.List.Folds.{list_any-append}
@@ -15,7 +15,7 @@ own-append s (p ∷ ps) qs = step (own-append s ps qs) (p.0.sender == s)
     step ih true = ap (λ ms. p.1 ∷ ms) ih
     step ih false = ih
 
--- what is found stays found
+-- what is found stays found when pairs are appended
 pub message_of-more : (ps qs : List (Label × Content)) (x : Label) (m : Content) → message_of ps x ≡ Some m → message_of (ps ++ qs) x ≡ Some m
 message_of-more [] qs x m e = cc
 message_of-more (p ∷ ps) qs x m e = step (message_of-more ps qs x m) (same_name p.0 x) e
@@ -24,7 +24,7 @@ message_of-more (p ∷ ps) qs x m e = step (message_of-more ps qs x m) (same_nam
     step ih true h = h
     step ih false h = ih h
 
--- what is not found in front is sought behind
+-- what is not found in the first list is looked up in the second
 pub message_of-behind : (ps qs : List (Label × Content)) (x : Label) → message_of ps x ≡ None → message_of (ps ++ qs) x ≡ message_of qs x
 message_of-behind [] qs x e = refl
 message_of-behind (p ∷ ps) qs x e = step (message_of-behind ps qs x) (same_name p.0 x) e
@@ -33,7 +33,7 @@ message_of-behind (p ∷ ps) qs x e = step (message_of-behind ps qs x) (same_nam
     step ih true h = cc
     step ih false h = ih h
 
--- the pair of what is found is there
+-- if a message is found, its pair is in the list
 pub has_pair-found : (ps : List (Label × Content)) (x : Label) (m : Content) → message_of ps x ≡ Some m → has_pair ps x m ≡ true
 has_pair-found [] x m e = cc
 has_pair-found (p ∷ ps) x m e = step (has_pair-found ps x m) (same_name p.0 x) e
@@ -44,7 +44,7 @@ has_pair-found (p ∷ ps) x m e = step (has_pair-found ps x m) (same_name p.0 x)
         or_left _ _ (subst (λ (o : Content). same_message p.1 o ≡ true) same (same_message-same p.1))
     step ih false h = ih h
 
--- a name of which no pair is found has none
+-- if no message is found under a name, no pair has that name
 pub no_pair : (ps : List (Label × Content)) (x : Label) (m : Content) → message_of ps x ≡ None → has_pair ps x m ≡ true → ⊥
 no_pair [] x m e h = false≢true h
 no_pair (p ∷ ps) x m e h = step (no_pair ps x m) (same_name p.0 x) e h
@@ -62,7 +62,7 @@ has_pair-right ps qs x m h = any_right _ ps qs h
 pub has_pair-cases : (ps qs : List (Label × Content)) (x : Label) (m : Content) → has_pair (ps ++ qs) x m ≡ true → (has_pair ps x m ≡ true) ⊎ (has_pair qs x m ≡ true)
 has_pair-cases ps qs x m h = or_cases (has_pair ps x m) (has_pair qs x m) (sym (list_any-append (λ pair. same_name pair.0 x && same_message pair.1 m) ps qs) ∙ h)
 
--- ---- what a pair's record keeps
+-- ---- whether anything is found
 
 pub none_found : {A : Type 0} (o : Option A) → is_none o ≡ true → o ≡ None
 none_found None e = refl
@@ -72,7 +72,7 @@ pub some_found : {A : Type 0} (o : Option A) → is_some o ≡ true → (a : A) 
 some_found None e = absurd (false≢true e)
 some_found (Some a) e = (a, refl)
 
--- ---- a pair behind others
+-- ---- a pair after others
 
 message_of-itself : (x : Label) (m : Content) → message_of ((x, m) ∷ []) x ≡ Some m
 message_of-itself x m = cond-true (same_name x x) _ _ (same_name-same x)
@@ -80,7 +80,7 @@ message_of-itself x m = cond-true (same_name x x) _ _ (same_name-same x)
 pub message_of-another : (x y : Label) (m : Content) → same_name x y ≡ false → message_of ((x, m) ∷ []) y ≡ None
 message_of-another x y m e = cond-false (same_name x y) _ _ e
 
--- another name is found as before
+-- other names are found as before
 pub message_of-other : (ps : List (Label × Content)) (x y : Label) (m : Content) → same_name x y ≡ false → message_of (ps ++ (x, m) ∷ []) y ≡ message_of ps y
 message_of-other ps x y m e = at (message_of ps y) refl
   where
@@ -91,7 +91,7 @@ message_of-other ps x y m e = at (message_of ps y) refl
 pub has_pair-itself : (ps : List (Label × Content)) (x : Label) (m : Content) → has_pair (ps ++ (x, m) ∷ []) x m ≡ true
 has_pair-itself ps x m = has_pair-right ps ((x, m) ∷ []) x m (has_pair-found ((x, m) ∷ []) x m (message_of-itself x m))
 
--- it stood there, or it is the last
+-- the pair was there before, or it is the last one
 pub has_pair-last : (ps : List (Label × Content)) (x y : Label) (m o : Content) → has_pair (ps ++ (x, m) ∷ []) y o ≡ true → (has_pair ps y o ≡ true) ⊎ ((x ≡ y) × (m ≡ o))
 has_pair-last [] x y m o h =
     ⊎_elim (λ e. let parts = and_parts (same_name x y) (same_message m o) e in inr (same_name-true x y parts.0, same_message-true m o parts.1)) (λ e. absurd (false≢true e))
@@ -101,7 +101,7 @@ has_pair-last (p ∷ ps) x y m o h =
     (λ e. ⊎_elim (λ f. inl (or_right (same_name p.0 y && same_message p.1 o) _ f)) (λ f. inr f) (has_pair-last ps x y m o e))
     (or_cases (same_name p.0 y && same_message p.1 o) (has_pair (ps ++ (x, m) ∷ []) y o) h)
 
--- a new name's pair is found
+-- the pair of a new name is found
 pub message_of-new : (ps : List (Label × Content)) (x : Label) (m : Content) → message_of ps x ≡ None → message_of (ps ++ (x, m) ∷ []) x ≡ Some m
 message_of-new ps x m e = message_of-behind ps ((x, m) ∷ []) x e ∙ message_of-itself x m
 
@@ -121,7 +121,7 @@ own-push p ps x m e = own-append p ps ((x, m) ∷ []) ∙ ap (λ ms. own p ps ++
 pub own-other : (p : ℕ) (ps : List (Label × Content)) (x : Label) (m : Content) → (x.sender == p) ≡ false → own p (ps ++ (x, m) ∷ []) ≡ own p ps
 own-other p ps x m e = own-append p ps ((x, m) ∷ []) ∙ (ap (λ ms. own p ps ++ ms) (own-no p x m e) ∙ append-nil (own p ps))
 
--- a name is certified already, or by the last record
+-- a name was certified already, or the last record certifies it
 pub has_name-last : (xs : List Label) (x y : Label) → has_name (xs ++ x ∷ []) y ≡ true → (has_name xs y ≡ true) ⊎ (x ≡ y)
 has_name-last [] x y h = ⊎_elim (λ e. inr (same_name-true x y e)) (λ e. absurd (false≢true e)) (or_cases (same_name x y) false h)
 has_name-last (z ∷ xs) x y h =
@@ -129,7 +129,7 @@ has_name-last (z ∷ xs) x y h =
     (λ e. ⊎_elim (λ f. inl (or_right (same_name z y) _ f)) (λ f. inr f) (has_name-last xs x y e))
     (or_cases (same_name z y) (has_name (xs ++ x ∷ []) y) h)
 
--- ---- one world from the other
+-- ---- two lists with the same pairs
 
 pub same_found : (ps qs : List (Label × Content)) → ((x : Label) (m : Content) → has_pair ps x m ≡ has_pair qs x m) → Unique ps → Unique qs → (x : Label) → message_of ps x ≡ message_of qs x
 same_found ps qs same u v x = at (message_of ps x) (message_of qs x) refl refl

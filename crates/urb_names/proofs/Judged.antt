@@ -1,4 +1,4 @@
--- What a judgement of fields says of them.
+-- What the judgement of fields says about them.
 use Rattle.std.proofs.Common.{◌≡◌, ◌∙◌, sym, ℕ, ◌≤◌, ◌==◌, ◌||◌, not, nat_lt, ltb-true, lt-ltb, Bool, true, false, length, Option, Some, None, is_some, List, Result, Ok, Err, refl, ap, arith, if◌then◌else◌}
 use Rattle.std.proofs.lemmas.Bool.Decides.{nat_tests}
 use Rattle.urb_names.specs.Carried.{Carried}
@@ -9,7 +9,7 @@ use Rattle.urb_names.specs.declared.refusal.PacketFault.TheVariants as fault
 use Rattle.urb_names.proofs.FlagNumbers.{number_again, number_below, said_again}
 use Rattle.urb_names.specs.Packets.{Fields, FitsVersion, IsFields, IsPacket, are_flags, carried_of, fields_of, flags_byte, flags_number, flags_of, has_flags, is_in_range, judged, longest_payload, version_of}
 
--- a test that didn't end in its fault
+-- the test passed, because the result is not its fault
 passed : {X E : Type 0} (b : Bool) (e : E) (y : Result X E) (p : X) → (if b then Err e else y) ≡ Ok p → (b ≡ false) × (y ≡ Ok p)
 passed true e y p h = absurd (cc)
 passed false e y p h = (refl, h)
@@ -18,22 +18,22 @@ last_passed : {X E : Type 0} (b : Bool) (x : X) (e : E) (p : X) → (if b then O
 last_passed true x e p h = (refl, cc)
 last_passed false x e p h = absurd (cc)
 
--- no payload is longer than the longest
+-- no payload limit exceeds the greatest one
 longest_below : (flags : Option ℕ) → longest_payload flags ≤ MAX_PAYLOAD
 longest_below None = omega arith
 longest_below (Some byte) = omega arith
 
--- what is within its greatest length fits its version
+-- a payload within the limit of its flags fits its version
 fits_version : (flags : Option ℕ) (payload : List ℕ) → length payload ≤ longest_payload flags → FitsVersion (flags_of flags) payload
 fits_version None payload h = h
 fits_version (Some byte) payload h = tt
 
--- and the other way round
+-- and the converse
 within_version : (flags : Option Flags) (payload : List ℕ) → FitsVersion flags payload → length payload ≤ MAX_PAYLOAD → length payload ≤ longest_payload (flags_byte flags)
 within_version None payload fits h = fits
 within_version (Some flags) payload fits h = h
 
--- what passes each test
+-- what holds of fields that pass every test
 pub record Sound (f : Fields) : Type 0 where
   pub magic : f.magic ≡ 0x5542
   pub version : ((f.version == 1) || (f.version == 2)) ≡ true
@@ -41,7 +41,7 @@ pub record Sound (f : Fields) : Type 0 where
   pub short : f.size ≤ longest_payload f.flags
   pub range : is_in_range f ≡ true
 
--- what is judged after each test
+-- the judgement that remains after the earlier tests
 abbrev in_range : Fields → Result Carried PacketFault
 in_range f = if is_in_range f then Ok (carried_of f) else Err fault.Range
 
@@ -68,18 +68,18 @@ sound f p h =
       range.1,
     )
 
--- the version is that of the flags
+-- the version is determined by the flags
 version_again : (flags : Option ℕ) (magic version : ℕ) → magic ≡ 0x5542 → ((version == 1) || (version == 2)) ≡ true → is_some flags ≡ has_flags magic version →
     version ≡ version_of (flags_of flags)
 version_again None magic version is one_of as_flags = grind (arith, nat_tests, is, one_of, as_flags)
 version_again (Some byte) magic version is one_of as_flags = grind (arith, nat_tests, is, one_of, as_flags)
 
--- a byte of at most three is that of the flags that it says
+-- a byte of at most three is the byte of the flags that it encodes
 byte_again : (flags : Option ℕ) → are_flags flags ≡ true → flags ≡ flags_byte (flags_of flags)
 byte_again None h = refl
 byte_again (Some byte) h = ap (λ (n : ℕ). Some n) (number_again byte (ltb-true byte 4 h))
 
--- sound fields are those of a packet
+-- sound fields are the fields of a packet
 pub fields_again : (f : Fields) → IsFields f → Sound f → f ≡ fields_of (carried_of f)
 fields_again f fit s =
     let version = version_again f.flags f.magic f.version s.magic s.version fit.has_flags in
@@ -97,7 +97,7 @@ is_packet f fit s =
       version = fits_version f.flags f.payload (omega (arith, s.size, s.short));
     }
 
--- the version and the flags of a packet pass, and say its flags again
+-- the version and the flags of a packet pass, and give its flags back
 version_passes : (flags : Option Flags) → ((version_of flags == 1) || (version_of flags == 2)) ≡ true
 version_passes None = refl
 version_passes (Some flags) = refl
@@ -139,7 +139,7 @@ last : (b : Bool) (x : Carried) → tells_short (if b then Ok x else Err fault.R
 last true x = refl
 last false x = refl
 
--- no field makes bytes short
+-- no judgement of fields is Short
 pub never_short : (f : Fields) → judged f ≡ Err fault.Short → ⊥
 unfolding judged
 never_short f h =

@@ -1,9 +1,9 @@
--- Bytes that are read as a number and spelled again.
+-- Bytes that are read as a number and encoded again.
 use Rattle.std.proofs.Common.{◌≡◌, ◌∙◌, sym, ℕ, ◌+◌, ◌%◌, ◌/◌, ◌≤◌, ◌<◌, List, [], ◌∷◌, ◌++◌, length, drop, slice_index, ap, arith, length-drop}
 use Rattle.std.proofs.lemmas.List.{drop-drop, get_or-drop}
 use Rattle.byteorder.specs.Endian.{big_number, big_bytes}
 
--- each is a byte
+-- each number is a byte
 abbrev pub AreBytes : List ℕ → Type 0
 AreBytes xs = (i : ℕ) → slice_index xs i < 256
 
@@ -29,17 +29,17 @@ front_four (a ∷ b ∷ c ∷ d ∷ rest) long fit =
     let last : x % 256 ≡ d = omega (arith, fit 0, fit 1, fit 2, fit 3) in
     λ i. first i ∷ second i ∷ third i ∷ last i ∷ rest
 
--- what is left of bytes are bytes
+-- bytes stay bytes when the first k are dropped
 pub left_are_bytes : (k : ℕ) (xs : List ℕ) → AreBytes xs → AreBytes (drop k xs)
 left_are_bytes k xs fit = λ i. rw (get_or-drop k xs i 0) (fit (k + i))
 
--- two bytes at a place, and what is behind them
+-- two bytes at a place, and the rest after them
 pub two_at : (k : ℕ) (xs : List ℕ) → k + 2 ≤ length xs → AreBytes xs → drop k xs ≡ big_bytes 2 (big_number 2 (drop k xs)) ++ drop (k + 2) xs
 two_at k xs long fit =
     let again = front_two (drop k xs) (omega (arith, length-drop k xs)) (left_are_bytes k xs fit) in
     sym again ∙ ap (λ rest. big_bytes 2 (big_number 2 (drop k xs)) ++ rest) (drop-drop 2 k xs)
 
--- four bytes at a place, and what is behind them
+-- four bytes at a place, and the rest after them
 pub four_at : (k : ℕ) (xs : List ℕ) → k + 4 ≤ length xs → AreBytes xs → drop k xs ≡ big_bytes 4 (big_number 4 (drop k xs)) ++ drop (k + 4) xs
 four_at k xs long fit =
     let again = front_four (drop k xs) (omega (arith, length-drop k xs)) (left_are_bytes k xs fit) in

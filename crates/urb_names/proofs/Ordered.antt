@@ -1,4 +1,4 @@
--- Elements that go to their places in lists in rising order.
+-- Putting elements at their places in rising lists.
 use Rattle.std.proofs.Common.{◌≡◌, ℕ, suc, ◌+◌, Bool, true, false, cond, ◌||◌, List, [], ◌∷◌, Option, Some, None, take, drop, refl, sym, ap, ◌∙◌, inl, inr, ◌⊎◌, arith}
 use Rattle.std.proofs.lemmas.Bool.{and_from, and_parts, false≢true, or_parts}
 use Rattle.std.proofs.lemmas.List.{take-append-drop}
@@ -16,19 +16,19 @@ or_swap true false c = refl
 or_swap false true c = refl
 or_swap false false c = refl
 
--- one more element, wherever it stands, is one more that may pass a test
+-- wherever an element is inserted, the test sees exactly one more element
 pub any_insert : {X : Type 0} (test : X → Bool) (xs : List X) (i : ℕ) (x : X) → list_any test (insert xs i x) ≡ (test x || list_any test xs)
 any_insert test xs i x =
     list_any-append test (take i xs) (x ∷ drop i xs)
     ∙ (or_swap (list_any test (take i xs)) (test x) (list_any test (drop i xs))
     ∙ ap (λ b. test x || b) (sym (list_any-append test (take i xs) (drop i xs)) ∙ ap (list_any test) (take-append-drop i xs)))
 
--- the laws of a strict order, for elements of which same says when they are the same
+-- The laws of a strict order. The test `same` says when two elements are the same.
 pub record IsStrictOrder {X : Type 0} (before same : X → X → Bool) : Type 0 where
   pub transitive : (x y z : X) → before x y ≡ true → before y z ≡ true → before x z ≡ true
   pub one_way : (x y : X) → same x y ≡ false → (before x y ≡ true) ⊎ (before y x ≡ true)
 
--- an element goes behind the first one, where that comes before it
+-- an element goes after the first one if that comes before it
 pub placed_behind : {X : Type 0} (before : X → X → Bool) (x y : X) (xs : List X) → before y x ≡ true → placed before (y ∷ xs) x ≡ y ∷ placed before xs x
 placed_behind before x y xs e =
     let k = prefix_len (λ z. before z x) xs in
@@ -38,7 +38,7 @@ placed_behind before x y xs e =
     one_more : (n : ℕ) → 1 + n ≡ suc n
     one_more n = omega arith
 
--- else it goes to the front
+-- otherwise it goes to the front
 pub placed_front : {X : Type 0} (before : X → X → Bool) (x y : X) (xs : List X) → before y x ≡ false → placed before (y ∷ xs) x ≡ x ∷ y ∷ xs
 placed_front before x y xs e = ap (λ (b : Bool). insert (y ∷ xs) (cond b (1 + prefix_len (λ z. before z x) xs) 0) x) e
 
@@ -56,7 +56,7 @@ all_grows f g (x ∷ xs) h e =
     let parts = and_parts (f x) (list_all f xs) e in
     and_from (g x) (list_all g xs) (h x parts.0) (all_grows f g xs h parts.1)
 
--- an element that is not there, put in its place, leaves the list in order
+-- a new element, put at its place, keeps the list in order
 pub rising_placed : {X : Type 0} (before same : X → X → Bool) → IsStrictOrder before same → (xs : List X) (x : X) → list_any (λ y. same y x) xs ≡ false → is_rising before xs ≡ true → is_rising before (placed before xs x) ≡ true
 rising_placed before same laws [] x none rises = refl
 rising_placed before same laws (y ∷ xs) x none rises =
@@ -78,7 +78,7 @@ rising_placed before same laws (y ∷ xs) x none rises =
 pub names_ordered : IsStrictOrder name_lt same_name
 names_ordered = record { transitive = name_lt-trans; one_way = name_lt-one_way }
 
--- a reservation that is left once a name was added is for this name, and was there before
+-- a reservation left after a name was added is for that name, and existed before
 pub reserved_for-some : (reserved : Option Label) (x y : Label) → reserved_for reserved x ≡ Some y → (reserved ≡ Some y) × (x ≡ y)
 reserved_for-some None x y e = absurd cc
 reserved_for-some (Some z) x y e = at (same_name z x) refl e

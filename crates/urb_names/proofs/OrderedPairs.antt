@@ -1,4 +1,4 @@
--- Pairs that stand in rising order of their names: there is one such list of any pairs.
+-- Pairs in rising order of their names: any set of pairs has only one such list.
 use Rattle.std.proofs.Common.{Bool, List, [], ap, ap₂, cond, false, inl, inr, refl, subst, sym, true, ℕ, ⊎_elim, ◌&&◌, ◌++◌, ◌==◌, ◌||◌, ◌∙◌, ◌∷◌, ◌≡◌, ◌⊎◌}
 use Rattle.std.proofs.lemmas.Bool.{and_from, and_parts, cases_Bool, cond-false, cond-true, false≢true, or_cases, or_left, or_right}
 use Rattle.std.specs.List.{list_all}
@@ -9,12 +9,12 @@ use Rattle.urb_names.specs.Names.{name_lt, same_message, same_name}
 use Rattle.urb_names.specs.Naming.{Content, Label}
 use Rattle.urb_names.specs.Pairs.{has_pair, own}
 
--- each name stands before all names behind it
+-- each name comes before all later names
 abbrev pub Rises : List (Label × Content) → Type 0
 Rises [] = Unit {0}
 Rises (pair ∷ pairs) = ((x : Label) (m : Content) → has_pair pairs x m ≡ true → name_lt pair.0 x ≡ true) × Rises pairs
 
--- the one that stands in a list, or one behind it
+-- the pair is the first of the list, or a later one
 pub has_pair-first : (pair : Label × Content) (pairs : List (Label × Content)) (x : Label) (m : Content) → has_pair (pair ∷ pairs) x m ≡ true → ((pair.0 ≡ x) × (pair.1 ≡ m)) ⊎ (has_pair pairs x m ≡ true)
 has_pair-first pair pairs x m h =
     ⊎_elim (λ e. let parts = and_parts (same_name pair.0 x) (same_message pair.1 m) e in inl (same_name-true pair.0 x parts.0, same_message-true pair.1 m parts.1)) (λ e. inr e)
@@ -26,7 +26,7 @@ has_pair-head pair pairs = or_left (same_name pair.0 pair.0 && same_message pair
 pub has_pair-behind : (pair : Label × Content) (pairs : List (Label × Content)) (x : Label) (m : Content) → has_pair pairs x m ≡ true → has_pair (pair ∷ pairs) x m ≡ true
 has_pair-behind pair pairs x m h = or_right (same_name pair.0 x && same_message pair.1 m) _ h
 
--- no name stands before itself
+-- no name comes before itself
 pub name_lt-itself : (x : Label) → name_lt x x ≡ true → ⊥
 name_lt-itself x h = false≢true (sym (name_lt-other_way x x h) ∙ h)
 
@@ -43,7 +43,7 @@ rising-rises (pair ∷ pairs) h =
     let parts = and_parts (list_all (λ later. name_lt pair.0 later.0) pairs) (are_rising pairs) h in
     (all_before pair pairs parts.0, rising-rises pairs parts.1)
 
--- two rising lists of the same pairs are one list
+-- two rising lists of the same pairs are equal
 pub rises-same : (ps qs : List (Label × Content)) → Rises ps → Rises qs → ((x : Label) (m : Content) → has_pair ps x m ≡ has_pair qs x m) → ps ≡ qs
 rises-same [] [] h k e = refl
 rises-same [] (q ∷ qs) h k e = absurd (false≢true (e q.0 q.1 ∙ has_pair-head q qs))
@@ -84,7 +84,7 @@ has_pair-inserted q (p ∷ ps) x m = go (has_pair-inserted q ps x m) (name_lt p.
         swap false false c = refl
     go ih false = refl
 
--- a pair of a new name, at its place among rising ones
+-- inserting a pair with a new name keeps the list rising
 pub rises-inserted : (q : Label × Content) (ps : List (Label × Content)) → Rises ps → ((x : Label) (m : Content) → has_pair ps x m ≡ true → same_name x q.0 ≡ false) → Rises (inserted q ps)
 rises-inserted q [] h k = (λ x m e. absurd (false≢true e), tt)
 rises-inserted q (p ∷ ps) h k = go (rises-inserted q ps h.1 (λ x m e. k x m (has_pair-behind p ps x m e))) (name_lt p.0 q.0) refl
@@ -96,9 +96,9 @@ rises-inserted q (p ∷ ps) h k = go (rises-inserted q ps h.1 (λ x m e. k x m (
         before : name_lt q.0 p.0 ≡ true
         before = ⊎_elim (λ g. absurd (false≢true (sym e ∙ g))) (λ g. g) (name_lt-one_way p.0 q.0 (k p.0 p.1 (has_pair-head p ps)))
 
--- ---- its sender's messages
+-- ---- the messages of a pair's sender
 
--- another sender's messages stay
+-- the messages of other senders stay
 pub own-inserted_other : (s : ℕ) (q : Label × Content) (ps : List (Label × Content)) → (q.0.sender == s) ≡ false → own s (inserted q ps) ≡ own s ps
 own-inserted_other s q [] e = cond-false (q.0.sender == s) _ _ e
 own-inserted_other s q (p ∷ ps) e = go (own-inserted_other s q ps e) (name_lt p.0 q.0)
@@ -111,12 +111,12 @@ own-inserted_other s q (p ∷ ps) e = go (own-inserted_other s q ps e) (name_lt 
         at false = ih
     go ih false = cond-false (q.0.sender == s) _ _ e
 
--- where no pair is of the sender
+-- if no pair is of the sender, it has no messages
 own-none : (s : ℕ) (ps : List (Label × Content)) → ((x : Label) (m : Content) → has_pair ps x m ≡ true → (x.sender == s) ≡ false) → own s ps ≡ []
 own-none s [] h = refl
 own-none s (p ∷ ps) h = cond-false (p.0.sender == s) _ _ (h p.0 p.1 (has_pair-head p ps)) ∙ own-none s ps (λ x m e. h x m (has_pair-behind p ps x m e))
 
--- its own go behind the others, where its name comes after theirs
+-- its own message comes last if its name comes after the others
 pub own-inserted_last : (s : ℕ) (q : Label × Content) (ps : List (Label × Content)) → (q.0.sender == s) ≡ true → Rises ps
     → ((x : Label) (m : Content) → has_pair ps x m ≡ true → (x.sender == s) ≡ true → name_lt x q.0 ≡ true) → own s (inserted q ps) ≡ own s ps ++ q.1 ∷ []
 own-inserted_last s q [] e r h = cond-true (q.0.sender == s) _ _ e
@@ -130,7 +130,7 @@ own-inserted_last s q (p ∷ ps) e r h = go (own-inserted_last s q ps e r.1 (λ 
         at false = ih
     go ih false f = cond-true (q.0.sender == s) _ _ e ∙ ap (λ ms. q.1 ∷ ms) nothing ∙ sym (ap (λ ms. ms ++ q.1 ∷ []) nothing)
       where
-        -- no name of the sender stands from here on
+        -- from here on no name is of the sender
         other : (x : Label) (m : Content) → has_pair (p ∷ ps) x m ≡ true → (x.sender == s) ≡ false
         other x m k = ⊎_elim (λ g. absurd (late g)) (λ g. g) (cases_Bool (x.sender == s))
           where

@@ -1,4 +1,4 @@
--- What a judgement of the fields of bytes says of the bytes.
+-- What the judgement of the fields of bytes says about the bytes.
 use Rattle.std.proofs.Common.{Bool, if◌then◌else◌, ◌≡◌, ◌∙◌, sym, ◌<◌, ◌≤◌, ◌^◌, false, nat_lt, ltb-true, ℕ, List, length, Option, Some, None, is_some, Result, Ok, Err, refl, ap, arith, lit<}
 use Rattle.std.proofs.lemmas.Bool.Decides.{nat_tests}
 use Rattle.std.specs.Prelude.{IfErr, IfOk, IfSome}
@@ -11,7 +11,7 @@ use Rattle.urb_names.proofs.Numbers.{AreBytes}
 use Rattle.urb_names.proofs.Judged.{accepted, fields_again, flags_pass, is_packet, never_short, sound}
 use Rattle.urb_names.proofs.Spelled.{fields_fit, read_again, spelled_again, spelled_long}
 
--- what is read is spelled so
+-- what is parsed encodes to these bytes
 pub found : (bytes : List ℕ) → header_length bytes ≤ length bytes → AreBytes bytes → (r : Result Carried PacketFault) → r ≡ judged (fields_at bytes) → IfOk r (λ p. IsPacket p × (bytes ≡ spelling p))
 found bytes long fit (Err e) is = tt
 found bytes long fit (Ok p) is =
@@ -47,18 +47,18 @@ packet_fits p h = record {
     flags_fit None = tt
     flags_fit (Some flags) = let low = ltb-true (flags_number flags) 4 (flags_pass (Some flags)) in omega (arith, low)
 
--- what is spelled so is read
+-- every encoding is parsed
 pub only : (bytes : List ℕ) (p : Carried) → IsPacket p → bytes ≡ spelling p → judged (fields_at bytes) ≡ Ok p
 only bytes p h is = ap (λ b. judged (fields_at b)) is ∙ ap judged (read_again (fields_of p) (packet_fits p h)) ∙ accepted p h
 
--- the packet of a spelling
+-- the packet of an encoding
 pub packet_spelled : (bytes : List ℕ) (p : Carried) → IsPacket p → bytes ≡ spelling p → packet_of bytes ≡ Ok p
 packet_spelled bytes p h is =
     let s = spelling p in
     let long : nat_lt (length s) (header_length s) ≡ false = grind (arith, nat_tests, spelled_long (fields_of p) (packet_fits p h)) in
     ap packet_of is ∙ ap (λ (b : Bool). if b then Err fault.Short else judged (fields_at s)) long ∙ only s p h refl
 
--- a fault is the first
+-- an error is the first fault
 pub first_fault : (bytes : List ℕ) → header_length bytes ≤ length bytes → AreBytes bytes → (r : Result Carried PacketFault) → r ≡ judged (fields_at bytes) → IfErr r (IsFirstFault bytes)
 first_fault bytes long fit (Ok p) is = tt
 first_fault bytes long fit (Err fault.Short) is = absurd (never_short (fields_at bytes) (sym is))

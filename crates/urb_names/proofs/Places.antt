@@ -1,4 +1,4 @@
--- What stands at a place of a list, from 0.
+-- The element at a place of a list, from 0.
 use Rattle.std.proofs.Common.{List, None, Some, [], ap, ap₂, arith, drop, length, refl, slice_get, suc, zero, ℕ, ◌++◌, ◌<◌, ◌∷◌, ◌≡◌, ◌≤◌}
 
 pub get_none : {A : Type 0} (xs : List A) (j : ℕ) → length xs ≤ j → slice_get xs j ≡ None

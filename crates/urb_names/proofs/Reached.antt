@@ -1,4 +1,4 @@
--- How far the certificates of a sender reach, and that a log is exactly what they release.
+-- How far a sender's certificates reach; and a log is exactly what they release.
 use Rattle.std.proofs.Common.{Bool, List, [], ap, arith, cond, eq-eqb, false, filter, inl, inr, length, ne_eqb, not, refl, reverse, subst, suc, sym, true, zero, ℕ, ⊎_elim, ◌++◌, ◌+◌, ◌-◌, ◌<◌, ◌==◌, ◌↔◌, ◌∙◌, ◌∷◌, ◌≡◌, ◌≤◌, ◌⊎◌}
 use Rattle.std.proofs.lemmas.Bool.{and_parts, and_right, cases_lt, false_from_ne_true, false≢true, or_cases, or_left, or_right}
 use Rattle.std.proofs.lemmas.List.{reverse-append, reverse-reverse}
@@ -10,7 +10,7 @@ use Rattle.urb_names.specs.Names.{has_name, name, same_name}
 use Rattle.urb_names.specs.Naming.{Label}
 use Rattle.urb_names.specs.Release.{part_of, released}
 
--- ---- certified in any order
+-- ---- certificates in any order
 
 pub any-reverse : {X : Type 0} (test : X → Bool) (xs : List X) → list_any test (reverse xs) ≡ true → list_any test xs ≡ true
 any-reverse test [] h = h
@@ -20,7 +20,7 @@ any-reverse test (x ∷ xs) h =
     (or_cases (list_any test (reverse xs)) (list_any test (x ∷ []))
     (sym (ap (list_any test) (reverse-append (x ∷ []) xs) ∙ list_any-append test (reverse xs) (x ∷ [])) ∙ h))
 
--- ---- as many names, as many certificates
+-- ---- at least as many certificates as names
 
 without : Label → List Label → List Label
 without x xs = filter (λ y. not (same_name y x)) xs
@@ -37,7 +37,7 @@ has_name-without x y (z ∷ xs) e h = kept (has_name-without x y xs e) (same_nam
     kept ih false f (inl g) = or_left (same_name z y) _ g
     kept ih false f (inr g) = or_right (same_name z y) _ (ih g)
 
--- no part grows
+-- no sender's part grows
 part-without : (s : ℕ) (x : Label) (xs : List Label) → length (part_of s (without x xs)) ≤ length (part_of s xs)
 unfolding without
 part-without s x [] = omega arith
@@ -52,7 +52,7 @@ part-without s x (y ∷ xs) = at (part-without s x xs) (same_name y x) (y.sender
         both true = omega arith
         both false = ih
 
--- the name's own part shrinks
+-- the part of the name's own sender shrinks
 part-without_less : (x : Label) (xs : List Label) → has_name xs x ≡ true → length (part_of x.sender (without x xs)) < length (part_of x.sender xs)
 unfolding without
 part-without_less x [] h = absurd (false≢true h)
@@ -71,7 +71,7 @@ part-without_less x (y ∷ xs) h = at (part-without_less x xs) (part-without x.s
         both true k = omega arith
         both false k = k
 
--- where the names 1 to j of a sender are certified, there are as many certificates
+-- if a sender's names 1 to j are certified, it has at least j certificates
 certificates_enough : (s j : ℕ) (certified : List Label) → ((i : ℕ) → 1 ≤ i → i ≤ j → has_name certified (name s i) ≡ true) → j ≤ length (part_of s certified)
 certificates_enough s zero certified h = omega arith
 certificates_enough s (suc j) certified h =
@@ -108,26 +108,27 @@ reach-stops s certified = false_from_ne_true _ (λ e. too_far (reach-all s (suc 
         (λ f. let g : suc (reach s certified) ≡ i = omega arith in subst (λ (j : ℕ). has_name certified (name s j) ≡ true) g e)
         (cases_lt i (suc (reach s certified)))
 
--- a place where all before it are certified and the next one is not
+-- a place such that all names up to it are certified and the next one is not
 pub reach-is : (s k : ℕ) (certified : List Label) → ((i : ℕ) → 1 ≤ i → i ≤ k → has_name certified (name s i) ≡ true) → has_name certified (name s (suc k)) ≡ false → reach s certified ≡ k
 reach-is s k certified h e =
     let low : k ≤ reach s certified = reach-all s k certified h in
     ⊎_elim (λ f. absurd (false≢true (sym e ∙ reach-certified s (suc k) certified (omega arith) (omega arith)))) (λ f. omega arith) (cases_lt k (reach s certified))
 
--- the set of the certificates decides
+-- only the set of the certificates matters
 pub reach-same : (s : ℕ) (xs ys : List Label) → ((x : Label) → has_name xs x ≡ has_name ys x) → reach s xs ≡ reach s ys
 reach-same s xs ys h = reach-is s (reach s ys) xs (λ i l u. h (name s i) ∙ reach-certified s i ys l u) (h (name s (suc (reach s ys))) ∙ reach-stops s ys)
 
 -- ---- the log
 
--- one more certificate releases the names from where the log stood to where the certificates now reach
+-- one more certificate releases the names from the end of the log to where the certificates now
+-- reach
 pub released-more : (x : Label) (older : List Label) → released (x ∷ older) ≡ released older ++ row x.sender (1 + reach x.sender older) (reach x.sender (x ∷ older) - reach x.sender older)
 released-more x older =
     ap (λ ys. released older ++ filter (λ y. not (has_name (released older) y)) ys) (beginning_is x.sender (x ∷ older))
     ∙ ap (λ ys. released older ++ ys)
     (new_on_row x.sender (released older) (reach x.sender older) (reach x.sender (x ∷ older)) (reach-grows x.sender x older (eq-eqb x.sender x.sender refl)) (part-released x.sender older))
 
--- a name is released exactly when it and all before it are certified
+-- a name is released exactly if it and all before it are certified
 pub released-exactly : (s j : ℕ) (certified : List Label) → (has_name (released certified) (name s j) ≡ true) ↔ ((1 ≤ j) × ((i : ℕ) → 1 ≤ i → i ≤ j → has_name certified (name s i) ≡ true))
 released-exactly s j certified = (there, back)
   where
@@ -145,7 +146,7 @@ released-exactly s j certified = (there, back)
     back : (1 ≤ j) × ((i : ℕ) → 1 ≤ i → i ≤ j → has_name certified (name s i) ≡ true) → has_name (released certified) (name s j) ≡ true
     back h = in_row ∙ has-row s 1 (reach s certified) j h.0 (let u : j ≤ reach s certified = reach-all s j certified h.1 in omega arith)
 
--- ---- a log, by the set of the certificates
+-- ---- a log depends only on the set of the certificates
 
 pub reversed-same : (xs : List Label) (x : Label) → has_name (reverse xs) x ≡ true → has_name xs x ≡ true
 reversed-same xs x h = any-reverse _ xs h

@@ -1,4 +1,4 @@
--- What a log has of each sender: its names 1, 2, 3, .., each once.
+-- What a log holds of each sender: its names 1, 2, 3, .., each once.
 use Rattle.std.proofs.Common.{AllPairs, Bool, List, [], ap, append-nil, ap₂, arith, cond, eq-eqb, eqb-true, false, filter, inl, inr, length, map, ne_eqb, not, refl, subst, suc, sym, take, true, zero, ℕ, ⊎_elim, ◌&&◌, ◌++◌, ◌+◌, ◌-◌, ◌<◌, ◌==◌, ◌||◌, ◌∙◌, ◌∷◌, ◌≡◌, ◌≢◌, ◌≤◌, ◌⊎◌}
 use Rattle.std.proofs.lemmas.Bool.{and_from, and_right, cases_eq, cases_lt, cond-false, cond-true, false≢true, not-true, or_from, or_left, or_parts, or_right}
 use Rattle.std.proofs.lemmas.List.Elements.{filter-append}
@@ -12,7 +12,7 @@ use Rattle.urb_names.specs.Naming.{Label}
 use Rattle.urb_names.specs.Nodes.{numbers_from}
 use Rattle.urb_names.specs.Release.{beginning, part_of, released}
 
--- names a, a + 1, .. of a sender
+-- a sender's names a, a + 1, ..
 abbrev pub row : ℕ → ℕ → ℕ → List Label
 row s a k = map (name s) (numbers_from a k)
 
@@ -57,7 +57,7 @@ has-row-not s a (suc k) j h =
     farther (inl l) = inl (omega arith)
     farther (inr l) = inr (omega arith)
 
--- a test that fails on a row keeps nothing of it
+-- a test that fails on a whole row keeps nothing of it
 filter-row_none : (test : Label → Bool) (s a k : ℕ) → ((j : ℕ) → a ≤ j → j < a + k → test (name s j) ≡ false) → filter test (row s a k) ≡ []
 filter-row_none test s a zero h = refl
 filter-row_none test s a (suc k) h =
@@ -84,7 +84,7 @@ prefix_same : (p q : Label → Bool) (s a k : ℕ) → ((j : ℕ) → p (name s 
 prefix_same p q s a zero h = refl
 prefix_same p q s a (suc k) h = ap₂ (λ (b : Bool) (n : ℕ). cond b (1 + n) 0) (h a) (prefix_same p q s (suc a) k h)
 
--- how many of a sender's names from 1 on are certified
+-- how many of a sender's names, from 1 on, are certified
 abbrev pub reach : ℕ → List Label → ℕ
 reach s certified = prefix_len (has_name certified) (names s (length (part_of s certified)))
 
@@ -119,20 +119,20 @@ has_name-part s j (x ∷ xs) = kept (has_name-part s j xs) (x.sender == s) refl
     kept ih true e = ap (λ r. same_name x (name s j) || r) ih
     kept ih false e = ih ∙ ap (λ b. (b && (x.seq == j)) || has_name xs (name s j)) (sym e)
 
--- a further certificate of another sender changes nothing
+-- one more certificate of another sender changes nothing
 reach-other : (s : ℕ) (x : Label) (older : List Label) → (x.sender == s) ≡ false → reach s (x ∷ older) ≡ reach s older
 reach-other s x older e =
     ap (λ b. prefix_len (has_name (x ∷ older)) (names s (length (cond b (x ∷ part_of s older) (part_of s older))))) e
     ∙ prefix_same (has_name (x ∷ older)) (has_name older) s 1 (length (part_of s older)) (λ j. ap (λ b. (b && (x.seq == j)) || has_name older (name s j)) e)
 
--- one of this sender takes it no less far
+-- one more certificate of this sender never lowers the reach
 pub reach-grows : (s : ℕ) (x : Label) (older : List Label) → (x.sender == s) ≡ true → reach s older ≤ reach s (x ∷ older)
 reach-grows s x older e =
     prefix_grows (has_name older) (has_name (x ∷ older)) s 1 (length (part_of s older)) (length (part_of s (x ∷ older)))
     (λ j h. or_right (same_name x (name s j)) (has_name older (name s j)) h)
     (subst (λ (b : Bool). length (part_of s older) ≤ length (cond b (x ∷ part_of s older) (part_of s older))) (sym e) (omega arith))
 
--- what is new on a row whose front is in the log
+-- the new names of a row whose front is in the log
 pub new_on_row : (s : ℕ) (old : List Label) (k l : ℕ) → k ≤ l → part_of s old ≡ row s 1 k → filter (λ y. not (has_name old y)) (row s 1 l) ≡ row s (1 + k) (l - k)
 new_on_row s old k l h e =
     ap (filter test) (row-split s 1 k (l - k) l (1 + k) (omega arith) refl)
@@ -151,7 +151,7 @@ new_on_row s old k l h e =
     above : (j : ℕ) → 1 + k ≤ j → j < 1 + k + (l - k) → test (name s j) ≡ true
     above j l m = ap not (at j ∙ has-row-not s 1 k j (inr l))
 
--- a log has of each sender the names that reach from 1 on
+-- a log holds each sender's names from 1 up to its reach
 pub part-released : (s : ℕ) (certified : List Label) → part_of s (released certified) ≡ row s 1 (reach s certified)
 part-released s [] = refl
 part-released s (x ∷ older) =

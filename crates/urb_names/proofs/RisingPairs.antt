@@ -1,4 +1,4 @@
--- Pairs sorted by their names: the order of names, and where one more pair goes.
+-- Pairs sorted by name: the order of names, and the place of one more pair.
 use Rattle.std.proofs.Common.{Bool, List, None, Some, [], ap, arith, cond, eq-eqb, eqb-true, false, inl, inr, lt-ltb, ltb-true, nat_lt, refl, sym, true, ⊎_elim, ◌&&◌, ◌++◌, ◌<◌, ◌==◌, ◌∙◌, ◌∷◌, ◌≡◌, ◌⊎◌}
 use Rattle.std.proofs.lemmas.Bool.{and_from, and_parts, cases_Bool, cases_order, cond-false, cond-true, false≢true, or_cases, or_left, or_right}
 use Rattle.urb_names.specs.Cyclic.{inserted, rising}
@@ -6,7 +6,7 @@ use Rattle.urb_names.specs.Names.{name_lt, same_name}
 use Rattle.urb_names.specs.Naming.{Content, Label}
 use Rattle.urb_names.specs.Pairs.{message_of}
 
--- x stands before y
+-- x comes before y
 Before : Label → Label → Type 0
 Before x y = (x.sender < y.sender) ⊎ ((x.sender ≡ y.sender) × (x.seq < y.seq))
 
@@ -46,7 +46,7 @@ name_lt-other_way x y e = go (cases_Bool (name_lt y x))
     go (inl f) = absurd (both (before x y e) (before y x f))
     go (inr f) = f
 
--- of two names that differ one stands before the other
+-- of two different names, one comes before the other
 pub name_lt-one_way : (x y : Label) → same_name x y ≡ false → (name_lt x y ≡ true) ⊎ (name_lt y x ≡ true)
 unfolding Before
 name_lt-one_way x y e = by_sender (cases_order x.sender y.sender) (cases_order x.seq y.seq)
@@ -58,7 +58,7 @@ name_lt-one_way x y e = by_sender (cases_order x.sender y.sender) (cases_order x
     by_sender (inr (inl s)) q = inl (from_before x y (inl s))
     by_sender (inr (inr s)) q = inr (from_before y x (inl s))
 
--- two pairs may go in in either order
+-- two pairs may be inserted in either order
 inserted-swap : (a b : Label × Content) (ps : List (Label × Content)) → name_lt a.0 b.0 ≡ true → inserted a (inserted b ps) ≡ inserted b (inserted a ps)
 inserted-swap a b [] e =
     cond-false (name_lt b.0 a.0) (b ∷ inserted a []) (a ∷ b ∷ []) (name_lt-other_way a.0 b.0 e) ∙ sym (cond-true (name_lt a.0 b.0) (a ∷ inserted b []) (b ∷ a ∷ []) e)
@@ -85,7 +85,7 @@ inserted-swap a b (c ∷ cs) e = go (inserted-swap a b cs e) (cases_Bool (name_l
         ∙ (cond-true (name_lt a.0 b.0) (a ∷ inserted b (c ∷ cs)) (b ∷ a ∷ c ∷ cs) e
         ∙ ap (λ ps. a ∷ ps) (cond-false (name_lt c.0 b.0) (c ∷ inserted b cs) (b ∷ c ∷ cs) g))))
 
--- One more pair of a new name goes to its place.
+-- Appending a pair with a new name and sorting inserts it at its place.
 pub rising-push : (ps : List (Label × Content)) (q : Label × Content) → message_of ps q.0 ≡ None → rising (ps ++ q ∷ []) ≡ inserted q (rising ps)
 rising-push [] q e = refl
 rising-push (p ∷ ps) q e = go (rising-push ps q) (same_name p.0 q.0) refl e

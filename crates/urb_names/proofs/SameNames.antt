@@ -1,4 +1,4 @@
--- What the tests of names and messages say, and counts of nodes that pass a test.
+-- What the tests of names and messages mean, and counts of nodes that pass a test.
 use Rattle.std.proofs.Common.{Bool, List, [], ap, ap₂, arith, cond, count_by, eq-eqb, eqb-true, false, filter, length, lt-ltb, ltb-true, refl, true, ℕ, ⊎_elim, ◌*◌, ◌++◌, ◌<◌, ◌∙◌, ◌∷◌, ◌≡◌, ◌≤◌}
 use Rattle.std.proofs.lemmas.Bool.{and_from, and_parts, false≢true, or_cases, or_left, or_right}
 use Rattle.std.proofs.lemmas.List.Sums.{length-filter}
@@ -31,7 +31,7 @@ same_message-true m o e =
 pub same_message-same : (m : Content) → same_message m m ≡ true
 same_message-same m = and_from _ _ (and_from _ _ (eq-eqb m.client m.client refl) (eq-eqb m.number m.number refl)) ((bytes_eq-Decides m.payload m.payload).1 refl)
 
--- ---- a test of some element
+-- ---- a test that some element passes
 
 pub any_left : {X : Type 0} (test : X → Bool) (xs ys : List X) → list_any test xs ≡ true → list_any test (xs ++ ys) ≡ true
 any_left test [] ys e = absurd (false≢true e)
@@ -54,7 +54,7 @@ filter_grows f g (x ∷ xs) h = step (filter_grows f g xs h) (f x) (g x) (h x)
     step ih false true k = omega arith
     step ih false false k = ih
 
--- more passes, more are counted
+-- if more elements pass, the count is greater or the same
 pub count_grows : {X : Type 0} (f g : X → Bool) (xs : List X) → ((x : X) → f x ≡ true → g x ≡ true) → count_by f xs ≤ count_by g xs
 count_grows f g xs h = omega (arith, filter_grows f g xs h, length-filter f xs, length-filter g xs)
 

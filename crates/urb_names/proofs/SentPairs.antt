@@ -1,4 +1,4 @@
--- The packets of a broadcast and of a tick are of the sender's pairs.
+-- The packets of a broadcast and of a tick carry the sender's pairs.
 use Rattle.std.proofs.Common.{Bool, List, Option, Some, [], false, filter, flat_map, map, not, refl, suc, take, true, zero, ℕ, ◌++◌, ◌∷◌, ◌≡◌}
 use Rattle.std.proofs.lemmas.Bool.{cond_both}
 use Rattle.std.specs.List.{AllByRecursion}
@@ -11,7 +11,7 @@ use Rattle.urb_names.specs.Naming.{Content, Label}
 use Rattle.urb_names.specs.Pairs.{has_pair}
 use Rattle.urb_names.specs.declared.flags.Flags.{Flags}
 
--- ---- facts of each element
+-- ---- facts about each element
 
 pub all_append : {X : Type 0} (P : X → Type 0) (xs ys : List X) → AllByRecursion P xs → AllByRecursion P ys → AllByRecursion P (xs ++ ys)
 all_append P [] ys h k = k
@@ -36,7 +36,7 @@ all_take P (suc n) (x ∷ xs) h = (h.0, all_take P n xs h.1)
 
 -- ---- pairs of a list
 
--- each of these pairs stands among the others
+-- each of these pairs is among the others
 abbrev pub AllIn : List (Label × Content) → List (Label × Content) → Type 0
 AllIn all ps = AllByRecursion (λ pair. has_pair all pair.0 pair.1 ≡ true) ps
 
@@ -57,39 +57,39 @@ pub in_rising : (all ps : List (Label × Content)) → AllIn all ps → AllIn al
 in_rising all [] h = tt
 in_rising all (p ∷ ps) h = in_inserted all p (rising ps) h.0 (in_rising all ps h.1)
 
--- those that a tick resends
+-- the pairs that a tick resends
 pub in_resent : (all : List (Label × Content)) (cursor : Option Label) (ps : List (Label × Content)) → AllIn all ps → AllIn all (resent cursor ps)
 in_resent all cursor ps h =
     all_take _ 16 (cyclic cursor ps)
     (all_append _ (filter (λ pair. is_after cursor pair.0) ps) (filter (λ pair. not (is_after cursor pair.0)) ps) (all_kept_filter _ (λ pair. is_after cursor pair.0) ps h)
     (all_kept_filter _ (λ pair. not (is_after cursor pair.0)) ps h))
 
--- those of them that are due
+-- the pairs that are due
 pub in_due : (all : List (Label × Content)) (n p : ℕ) (heard : List (Label × ℕ)) (ps : List (Label × Content)) → AllIn all ps → AllIn all (due_of n p heard ps)
 in_due all n p heard ps h = all_kept_filter _ (λ pair. is_due n p heard pair.0) ps h
 
 -- ---- packets
 
--- the packets of one pair, whose flags tell of a certificate only where there is one
+-- the packets of one pair, if their flags claim a certificate only when there is one
 pub packets_to-from : (p : ℕ) (flags : ℕ → Flags) (targets : List ℕ) (pairs : List (Label × Content)) (certified : List Label) (pair : Label × Content) →
     has_pair pairs pair.0 pair.1 ≡ true → ((q : ℕ) → (flags q).certified ≡ true → has_name certified pair.0 ≡ true) → AreFrom p pairs certified (packets_to p flags targets pair)
 packets_to-from p flags targets pairs certified pair h k =
     all_map (IsFrom p pairs certified) (λ q. record { source = p; target = q; name = pair.0; message = pair.1; flags = Some (flags q) }) targets
     (λ q. record { source = refl; pair = h; certificate = k q })
 
--- those of a stored record
+-- the packets of a stored record
 pub to_others-from : (n p : ℕ) (pairs : List (Label × Content)) (certified : List Label) (is_certified : Bool) (heard : Option ℕ) (pair : Label × Content) →
     has_pair pairs pair.0 pair.1 ≡ true → (is_certified ≡ true → has_name certified pair.0 ≡ true) → AreFrom p pairs certified (to_others n p is_certified heard pair)
 to_others-from n p pairs certified is_certified heard pair h k =
     packets_to-from p (λ q. record { certified = is_certified; heard = is_heard_of heard q }) (others n p) pairs certified pair h (λ q. k)
 
--- those of a pair that is resent
+-- the packets of a resent pair
 pub to_unheard-from : (n p : ℕ) (pairs : List (Label × Content)) (certified : List Label) (heard : List (Label × ℕ)) (pair : Label × Content) →
     has_pair pairs pair.0 pair.1 ≡ true → AreFrom p pairs certified (to_unheard n p certified heard pair)
 to_unheard-from n p pairs certified heard pair h =
     packets_to-from p (λ q. record { certified = has_name certified pair.0; heard = false }) (filter (λ q. not (acked heard pair.0 q)) (others n p)) pairs certified pair h (λ q k. k)
 
--- the packets of many
+-- the packets of several pairs
 pub all-from : (n p : ℕ) (pairs : List (Label × Content)) (certified : List Label) (heard : List (Label × ℕ)) (ps : List (Label × Content)) →
     AllIn pairs ps → AreFrom p pairs certified (flat_map (to_unheard n p certified heard) ps)
 all-from n p pairs certified heard [] h = tt

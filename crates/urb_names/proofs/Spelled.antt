@@ -1,4 +1,4 @@
--- Bytes and the fields that they spell, both ways.
+-- Bytes and the fields that they encode, both ways.
 use Rattle.std.proofs.Common.{◌≡◌, ◌∙◌, sym, Bool, true, false, ℕ, ◌<◌, ◌≤◌, ◌^◌, List, ◌∷◌, ◌++◌, length, drop, slice_index, Option, Some, None, is_some, refl, ap, arith, drop-cons, length-drop, if◌then◌else◌}
 use Rattle.std.specs.Prelude.{IfSome}
 use Rattle.byteorder.specs.Endian.{big_bytes, big_number}
@@ -6,9 +6,9 @@ use Rattle.byteorder.specs.Numbers.{big_number-reads_back, big_from-lt}
 use Rattle.urb_names.specs.Packets.{Fields, IsFields, begins_with_flags, fields_at, fields_with, flags_spelled, has_flags, header_length, spelled}
 use Rattle.urb_names.proofs.Numbers.{AreBytes, left_are_bytes, two_at, four_at}
 
--- ---- bytes are spelled again
+-- ---- bytes are encoded again
 
--- the first five bytes, and what is behind them
+-- the first five bytes, and the rest after them
 front_again : (bytes : List ℕ) → 5 ≤ length bytes → AreBytes bytes →
     bytes ≡ big_bytes 2 (big_number 2 bytes) ++ slice_index bytes 2 ∷ slice_index bytes 3 ∷ slice_index bytes 4 ∷ drop 5 bytes
 front_again bytes long fit =
@@ -20,7 +20,7 @@ front_again bytes long fit =
     ∙ ap (λ (rest : List ℕ). big_bytes 2 (big_number 2 bytes) ++ rest)
     (version ∙ ap (λ (rest : List ℕ). slice_index bytes 2 ∷ rest) (source ∙ ap (λ (rest : List ℕ). slice_index bytes 3 ∷ rest) target))
 
--- the thirteen bytes behind the flags, and what is behind them
+-- the thirteen bytes after the flags, and the rest after them
 back_again : (rest : List ℕ) → 13 ≤ length rest → AreBytes rest →
     rest
     ≡ slice_index rest 0 ∷ big_bytes 4 (big_number 4 (drop 1 rest)) ++ big_bytes 2 (big_number 2 (drop 5 rest)) ++ big_bytes 4 (big_number 4 (drop 7 rest))
@@ -36,11 +36,11 @@ back_again rest long fit =
     (seq ∙ ap (λ (more : List ℕ). big_bytes 4 (big_number 4 (drop 1 rest)) ++ more)
     (client ∙ ap (λ (more : List ℕ). big_bytes 2 (big_number 2 (drop 5 rest)) ++ more) (number ∙ ap (λ (more : List ℕ). big_bytes 4 (big_number 4 (drop 7 rest)) ++ more) size)))
 
--- the fields of bytes, by whether they begin with flags
+-- the fields of bytes, depending on whether they begin with flags
 abbrev fields_where : Bool → List ℕ → Fields
 fields_where b bytes = if b then fields_with (Some (slice_index bytes 5)) bytes (drop 6 bytes) else fields_with None bytes (drop 5 bytes)
 
--- the fields of bytes spell these bytes
+-- the fields of bytes encode to these bytes
 pub spelled_again : (bytes : List ℕ) → header_length bytes ≤ length bytes → AreBytes bytes → bytes ≡ spelled (fields_at bytes)
 spelled_again bytes long fit = at (begins_with_flags bytes) long
   where
@@ -57,7 +57,7 @@ spelled_again bytes long fit = at (begins_with_flags bytes) long
         ∙ ap (λ (more : List ℕ). slice_index bytes 5 ∷ more) (back_again (drop 6 bytes) (omega (arith, long, length-drop 6 bytes)) (left_are_bytes 6 bytes fit)))
     at false long = front _ (omega (arith, long)) (back_again (drop 5 bytes) (omega (arith, long, length-drop 5 bytes)) (left_are_bytes 5 bytes fit))
 
--- and each fits
+-- and each field fits
 pub fields_fit : (bytes : List ℕ) → AreBytes bytes → IsFields (fields_at bytes)
 fields_fit bytes fit = at (begins_with_flags bytes) refl
   where
@@ -82,20 +82,20 @@ fields_fit bytes fit = at (begins_with_flags bytes) refl
     at true is = behind (Some (slice_index bytes 5)) 6 (sym is) (fit 5)
     at false is = behind None 5 (sym is) tt
 
--- ---- what fields spell is read again
+-- ---- what fields encode is decoded again
 
--- what fields spell behind the flags
+-- what fields encode after the flags
 abbrev behind : Fields → List ℕ
 behind f = f.sender ∷ big_bytes 4 f.seq ++ big_bytes 2 f.client ++ big_bytes 4 f.number ++ big_bytes 2 f.size ++ f.payload
 
--- whether flags stand in the fields is seen in the spelling
+-- the encoding shows whether the fields have flags
 pub begins_as : (f : Fields) → IsFields f → begins_with_flags (spelled f) ≡ is_some f.flags
 begins_as f fit =
     let after_magic = f.version ∷ f.source ∷ f.target ∷ (flags_spelled f.flags ++ (f.sender ∷ big_bytes 4 f.seq ++ big_bytes 2 f.client ++ big_bytes 4 f.number ++ big_bytes 2 f.size) ++ f.payload) in
     let magic = big_number-reads_back 2 f.magic after_magic fit.magic in
     ap (λ (m : ℕ). has_flags m f.version) magic ∙ sym fit.has_flags
 
--- the numbers are read again
+-- the numbers are decoded again
 read_with : (f : Fields) (flags : Option ℕ) → IsFields f → fields_with flags (spelled f) (behind f) ≡ record f { flags = flags }
 read_with f flags fit =
     let after_number = big_bytes 2 f.size ++ f.payload in
@@ -109,7 +109,7 @@ read_with f flags fit =
     let size = big_number-reads_back 2 f.size f.payload fit.size in
     λ i. record { magic = magic i; version = f.version; source = f.source; target = f.target; flags = flags; sender = f.sender; seq = seq i; client = client i; number = number i; size = size i; payload = f.payload }
 
--- what fields spell is read again
+-- what fields encode is decoded again
 pub read_again : (f : Fields) → IsFields f → fields_at (spelled f) ≡ f
 read_again f fit = at f.flags fit
   where
@@ -121,7 +121,7 @@ read_again f fit = at f.flags fit
         let g = record f { flags = Some byte } in
         ap (λ (b : Bool). fields_where b (spelled g)) (begins_as g fit) ∙ read_with g (Some byte) fit
 
--- what fields spell is as long as its header, or longer
+-- what fields encode is at least as long as its header
 pub spelled_long : (f : Fields) → IsFields f → header_length (spelled f) ≤ length (spelled f)
 spelled_long f fit = rw (begins_as f fit) (at f.flags)
   where

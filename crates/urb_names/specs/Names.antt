@@ -1,14 +1,14 @@
--- Names and messages: their order, and whether two are the same.
+-- Names and messages: their order, and when two are the same.
 use Rattle.std.specs.Prelude.{ℕ, Bool, ◌&&◌, ◌||◌, ◌==◌, nat_lt, List, map, bytes_eq}
 use Rattle.std.specs.List.{list_any}
 use Rattle.urb_names.specs.Naming.{Label, Content}
 use Rattle.urb_names.specs.Nodes.{numbers_from}
 
--- the name of this sender and number
+-- the name with this sender and number
 abbrev pub name : ℕ → ℕ → Label
 name sender number = record { sender = sender; seq = number }
 
--- the names 1 to count of this sender
+-- this sender's names 1 to count
 abbrev pub names : ℕ → ℕ → List Label
 names sender count = map (name sender) (numbers_from 1 count)
 
@@ -24,6 +24,6 @@ name_lt x y = nat_lt x.sender y.sender || ((x.sender == y.sender) && nat_lt x.se
 abbrev pub same_message : Content → Content → Bool
 same_message m o = (m.client == o.client) && (m.number == o.number) && bytes_eq m.payload o.payload
 
--- whether the name is one of these
+-- whether the name is in the list
 abbrev pub has_name : List Label → Label → Bool
 has_name names x = list_any (λ y. same_name y x) names

@@ -1,8 +1,8 @@
--- What contracts see of a configuration, a name and a message, wherever they lie in memory.
+-- A configuration, a name and a message, as contracts see them.
 use Rattle.std.specs.Prelude.{◌<◌, ◌≤◌, ◌^◌, ℕ, List, length}
 use Rattle.urb_names.specs.declared.message.TheConstants.{MAX_PAYLOAD}
 
--- how many nodes there are, and how many messages each may broadcast
+-- the number of nodes, and the number of messages that each may broadcast
 pub record Limits : Type 0 where
   pub n : ℕ
   pub cap : ℕ
@@ -11,23 +11,23 @@ pub record Limits : Type 0 where
 abbrev pub IsLimits : Limits → Type 0
 IsLimits l = (0 < l.n) × (l.n ≤ 7) × (0 < l.cap) × (l.cap ≤ 1000000)
 
--- a name: the sender, and the number among its messages
+-- a name: the sender, and the number among the sender's messages
 pub record Label : Type 0 where
   pub sender : ℕ
   pub seq : ℕ
 
--- what is broadcast: the client, the number that it gave, and the payload
+-- what is broadcast: the client, the number that the client gave, and the payload
 pub record Content : Type 0 where
   pub client : ℕ
   pub number : ℕ
   pub payload : List ℕ
 
--- a name has a sender of one to seven, and a number from one
+-- a name has a sender from 1 to 7 and a number from 1
 pub record IsLabel (x : Label) : Type 0 where
   pub sender : (0 < x.sender) × (x.sender ≤ 7)
   pub seq : (0 < x.seq) × (x.seq < 2 ^ 32)
 
--- a message has a client and a number that are not 0, and a payload of at most 16,384 bytes
+-- a message has a nonzero client and number, and a payload of at most 16,384 bytes
 pub record IsContent (m : Content) : Type 0 where
   pub client : (0 < m.client) × (m.client < 2 ^ 16)
   pub number : (0 < m.number) × (m.number < 2 ^ 32)

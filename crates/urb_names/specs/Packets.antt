@@ -1,4 +1,4 @@
--- The packet grammar, of two versions: what a packet spells, and the first fault of bytes that spell none.
+-- The packet grammar in two versions: the encoding of a packet, and the first fault of other bytes.
 use Rattle.std.specs.Prelude.{◌≡◌, ◌≢◌, ◌<◌, ◌≤◌, ◌^◌, ◌+◌, ◌/◌, ◌%◌, ◌==◌, ◌&&◌, ◌||◌, not, nat_lt, ℕ, Bool, true, List, [], ◌∷◌, ◌++◌, length, drop, slice_index, Option, Some, None, is_some, IfNone, IfSome, Result, Ok, Err, if◌then◌else◌}
 use Rattle.byteorder.specs.Endian.{big_bytes, big_number}
 use Rattle.urb_names.specs.Naming.{IsLabel, IsContent}
@@ -9,11 +9,12 @@ use Rattle.urb_names.specs.declared.refusal.PacketFault.TheVariants as fault
 use Rattle.urb_names.specs.Carried.{Carried}
 use Rattle.urb_names.specs.Nodes.{is_node}
 
--- without flags, in version one, a payload has at most 1,024 bytes
+-- without flags (version one), a payload has at most 1,024 bytes
 abbrev pub FitsVersion : Option Flags → List ℕ → Type 0
 FitsVersion flags payload = IfNone flags (length payload ≤ MAX_PLAIN_PAYLOAD)
 
--- a packet joins two different nodes, of one to seven, and its name and message are within their limits, the payload within its version's
+-- A packet joins two different nodes, each from 1 to 7. Its name and message are within their
+-- limits, and its payload is within the limit of its version.
 pub record IsPacket (p : Carried) : Type 0 where
   pub source : (0 < p.source) × (p.source ≤ 7)
   pub target : (0 < p.target) × (p.target ≤ 7)
@@ -22,8 +23,8 @@ pub record IsPacket (p : Carried) : Type 0 where
   pub message : IsContent p.message
   pub version : FitsVersion p.flags p.message.payload
 
--- What stands in the fields of a header, and the bytes behind it. A byte of flags stands in packets of version two alone, behind the
--- target.
+-- The values in the fields of a header, and the bytes after it. Only packets of version two have a
+-- byte of flags, after the target.
 pub record Fields : Type 0 where
   pub magic : ℕ
   pub version : ℕ
@@ -37,11 +38,13 @@ pub record Fields : Type 0 where
   pub size : ℕ
   pub payload : List ℕ
 
--- whether a byte of flags is to stand behind the target: where the magic bytes are 55 42, and the version is two
+-- whether a byte of flags must follow the target: if the magic bytes are 55 42 and the version is
+-- two
 abbrev pub has_flags : ℕ → ℕ → Bool
 has_flags magic version = (magic == 0x5542) && (version == 2)
 
--- each number fits its field: two bytes, one, one, one, the flags one where they are to stand, then one, four, two, four, two
+-- Each number fits its field. In bytes the fields take two, one, one, one, one for flags if they
+-- are present, then one, four, two, four, two.
 pub record IsFields (f : Fields) : Type 0 where
   pub magic : f.magic < 2 ^ 16
   pub version : f.version < 2 ^ 8
@@ -55,33 +58,35 @@ pub record IsFields (f : Fields) : Type 0 where
   pub number : f.number < 2 ^ 32
   pub size : f.size < 2 ^ 16
 
--- the byte of flags, where there is one
+-- the byte of flags, if there is one
 abbrev pub flags_spelled : Option ℕ → List ℕ
 flags_spelled None = []
 flags_spelled (Some flags) = flags ∷ []
 
--- the spelling of fields: their numbers in order, each with its highest byte first, and then the payload
+-- the encoding of fields: their numbers in order, each with its highest byte first, then the
+-- payload
 abbrev pub spelled : Fields → List ℕ
 spelled f =
     (big_bytes 2 f.magic ++ f.version ∷ f.source ∷ f.target ∷ flags_spelled f.flags)
     ++ (f.sender ∷ big_bytes 4 f.seq ++ big_bytes 2 f.client ++ big_bytes 4 f.number ++ big_bytes 2 f.size)
     ++ f.payload
 
--- the version of a packet: two where it tells of certificates, else one
+-- the version of a packet: two if it has flags, otherwise one
 abbrev pub version_of : Option Flags → ℕ
 version_of None = 1
 version_of (Some flags) = 2
 
--- the number of the flags: `certified` is worth 1, and `heard` 2
+-- the number of the flags: `certified` counts 1, and `heard` counts 2
 abbrev pub flags_number : Flags → ℕ
 flags_number flags = (if flags.certified then 1 else 0) + (if flags.heard then 2 else 0)
 
--- the byte of a packet's flags, where it has them
+-- the byte of a packet's flags, if it has them
 abbrev pub flags_byte : Option Flags → Option ℕ
 flags_byte None = None
 flags_byte (Some flags) = Some (flags_number flags)
 
--- the fields of a packet: the magic bytes 55 42, its version and its flags, and as size the length of the payload
+-- the fields of a packet: the magic bytes 55 42, its version and flags, and the payload's length as
+-- size
 abbrev pub fields_of : Carried → Fields
 fields_of p = record {
   magic = 0x5542;
@@ -97,20 +102,20 @@ fields_of p = record {
   payload = p.message.payload;
 }
 
--- the one spelling of a packet
+-- the only encoding of a packet
 abbrev pub spelling : Carried → List ℕ
 spelling p = spelled (fields_of p)
 
--- the flags that a number says which is at most three
+-- the flags that a number up to three encodes
 abbrev pub flags_said : ℕ → Flags
 flags_said number = record { certified = number % 2 == 1; heard = number / 2 == 1 }
 
--- the flags that a byte says, where there is one
+-- the flags that a byte encodes, if there is one
 abbrev pub flags_of : Option ℕ → Option Flags
 flags_of None = None
 flags_of (Some byte) = Some (flags_said byte)
 
--- the packet that fields say
+-- the packet that fields describe
 abbrev pub carried_of : Fields → Carried
 carried_of f = record {
   source = f.source;
@@ -120,23 +125,26 @@ carried_of f = record {
   flags = flags_of f.flags;
 }
 
--- whether flags, where there are any, are at most three
+-- whether the byte of flags, if there is one, is at most three
 abbrev pub are_flags : Option ℕ → Bool
 are_flags None = true
 are_flags (Some byte) = nat_lt byte 4
 
--- whether the nodes are such, source and target differ, no number is 0, and the flags are at most three
+-- whether the nodes are from 1 to 7, source and target differ, no number is 0, and the flags are at
+-- most three
 abbrev pub is_in_range : Fields → Bool
 is_in_range f =
     ((is_node 7 f.source && is_node 7 f.target) && (is_node 7 f.sender && not (f.source == f.target)))
     && ((nat_lt 0 f.seq && nat_lt 0 f.client) && (nat_lt 0 f.number && are_flags f.flags))
 
--- the greatest length of a payload: 16,384 behind a byte of flags, in version two, and 1,024 without one, in version one
+-- the greatest length of a payload: 16,384 with a byte of flags (version two), 1,024 without
+-- (version one)
 abbrev pub longest_payload : Option ℕ → ℕ
 longest_payload None = MAX_PLAIN_PAYLOAD
 longest_payload (Some flags) = MAX_PAYLOAD
 
--- the packet that fields say, or their first fault: in the magic bytes, the version, the size, or the range of a field
+-- the packet that fields describe, or their first fault: in the magic bytes, the version, the size,
+-- or the range of a field
 unfoldable pub judged : Fields → Result Carried PacketFault
 judged f =
     if not (f.magic == 0x5542) then Err fault.Magic
@@ -145,20 +153,22 @@ judged f =
     else if is_in_range f then Ok (carried_of f)
     else Err fault.Range
 
--- whether bytes begin so that a byte of flags is to stand behind the target
+-- whether bytes begin in such a way that a byte of flags must follow the target
 abbrev pub begins_with_flags : List ℕ → Bool
 begins_with_flags bytes = has_flags (big_number 2 bytes) (slice_index bytes 2)
 
--- how many bytes a header has that begins so: nineteen with a byte of flags, else eighteen
+-- the length of a header that begins like this: nineteen bytes with a byte of flags, otherwise
+-- eighteen
 abbrev pub header_length : List ℕ → ℕ
 header_length bytes = if begins_with_flags bytes then 19 else 18
 
--- the first fault of bytes: Short where there are fewer than their header has; else that of the fields that they spell
+-- The first fault of bytes. It is Short if they are fewer than their header has. Otherwise it is
+-- the first fault of the fields that the bytes encode.
 abbrev pub IsFirstFault : List ℕ → PacketFault → Type 0
 IsFirstFault bytes fault.Short = length bytes < header_length bytes
 IsFirstFault bytes e = (f : Fields) × IsFields f × (bytes ≡ spelled f) × (judged f ≡ Err e)
 
--- the fields that bytes spell with these flags, where the rest begins behind them
+-- the fields that bytes encode with these flags, if rest begins after the flags
 abbrev pub fields_with : Option ℕ → List ℕ → List ℕ → Fields
 fields_with flags bytes rest = record {
   magic = big_number 2 bytes;
@@ -174,12 +184,12 @@ fields_with flags bytes rest = record {
   payload = drop 13 rest;
 }
 
--- the fields that bytes spell, as many as their header has or more
+-- the fields that bytes encode, if they are at least as long as their header
 abbrev pub fields_at : List ℕ → Fields
 fields_at bytes =
     if begins_with_flags bytes then fields_with (Some (slice_index bytes 5)) bytes (drop 6 bytes)
     else fields_with None bytes (drop 5 bytes)
 
--- the packet that bytes spell, or their first fault
+-- the packet that bytes encode, or their first fault
 abbrev pub packet_of : List ℕ → Result Carried PacketFault
 packet_of bytes = if nat_lt (length bytes) (header_length bytes) then Err fault.Short else judged (fields_at bytes)

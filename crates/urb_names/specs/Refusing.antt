@@ -1,9 +1,9 @@
--- What a refusal tells of itself.
+-- What a refusal reports: its number and its detail.
 use Rattle.std.specs.Prelude.{ℕ}
 use Rattle.urb_names.specs.declared.refusal.Refusal.{Refusal}
 use Rattle.urb_names.specs.declared.refusal.Refusal.TheVariants as is
 
--- the number of a refusal
+-- the number of a refusal, from 1 to 19
 abbrev pub number_of : Refusal → ℕ
 number_of is.NoMemory = 1
 number_of is.BadNode = 2
@@ -25,7 +25,8 @@ number_of (is.BadRow place) = 17
 number_of (is.BadLine line) = 18
 number_of (is.Frame code) = 19
 
--- what goes with it: the number expected, the next place, the place or the code
+-- the detail of a refusal: the number expected, the next place, the place or the code; 0 for every
+-- other refusal
 abbrev pub detail_of : Refusal → ℕ
 detail_of (is.Gap expected) = expected
 detail_of (is.Place next) = next

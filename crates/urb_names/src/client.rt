@@ -1,10 +1,12 @@
-//! The numbers of clients.
+//! The numbers that identify clients.
 ghost use Rattle.std.specs.Prelude.{◌≡◌, ◌<◌};
 ghost use Rattle.std.specs.Option.{SomeIff};
 
 use std::marker::Model;
 
-/// A client's number, 1 to 65,535. Its messages are numbered 1, 2, 3, .. at each node by themselves.
+/// The number that identifies a client, 1 to 65,535. Each program chooses its own, and no two
+/// clients may share one. (A client's messages have numbers too: 1, 2, 3, .. at each node. They are
+/// not of this type.)
 #[derive(Clone, Copy, Debug, PartialEq, Eq, PartialOrd, Ord)]
 pub struct ClientId {
     number: u16,
@@ -23,7 +25,7 @@ impl Model for ClientId {
 }
 
 impl ClientId {
-    /// The client of this number; none where the number is 0.
+    /// The client with this number, or `None` if the number is 0.
     pub fn new(number: u16) -> Option<ClientId>
         ensures { SomeIff result (0 < number) number }
     {
@@ -33,7 +35,7 @@ impl ClientId {
         Some(ClientId { number })
     }
 
-    /// The number that it was made of.
+    /// The client's number, 1 to 65,535.
     pub fn number(self) -> u16
         ensures number { result ≡ self }
         ensures range { 0 < self }

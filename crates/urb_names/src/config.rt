@@ -1,12 +1,12 @@
-//! How many nodes a group has, and how many of them are a majority.
+//! The number of nodes in a group, and what counts as a majority of them.
 ghost use Rattle.std.specs.Prelude.{◌≡◌, ◌<◌, ◌≤◌};
 ghost use Rattle.std.specs.Option.{SomeIff};
 ghost use Rattle.urb_names.specs.Nodes.{is_majority};
 
 use std::marker::Model;
 
-/// How many nodes a group has, and how many messages each of them may broadcast. Both stay as they are for the life of
-/// a group.
+/// The number of nodes in a group, and how many messages each may broadcast. Both are fixed for the
+/// life of a group.
 #[derive(Clone, Copy, Debug, PartialEq, Eq)]
 pub struct Config {
     n: u8,
@@ -29,8 +29,8 @@ impl Model for Config {
 impl Config {
     ghost use Rattle.urb_names.specs.Naming.{IsLimits};
 
-    /// A group of `n` nodes, 1 to 7, each of which may broadcast `cap` messages, 1 to 1,000,000; none where one of the
-    /// two is outside of this.
+    /// A group of `n` nodes, 1 to 7, each of which may broadcast `cap` messages, 1 to 1,000,000.
+    /// `None` if either is out of range.
     pub fn new(n: u8, cap: u32) -> Option<Config>
         ensures { SomeIff result (IsLimits (record { n = n; cap = cap }))
             (record { n = n; cap = cap }) }
@@ -41,7 +41,7 @@ impl Config {
         Some(Config { n, cap })
     }
 
-    /// How many nodes there are: they are 1 to `n`.
+    /// The number of nodes; they are numbered 1 to `n`.
     pub fn n(self) -> u8
         ensures value { result ≡ self.n }
         ensures range { (0 < self.n) × (self.n ≤ 7) }
@@ -49,7 +49,7 @@ impl Config {
         self.n
     }
 
-    /// How many messages each node may broadcast.
+    /// The number of messages that each node may broadcast.
     pub fn cap(self) -> u32
         ensures value { result ≡ self.cap }
         ensures range { (0 < self.cap) × (self.cap ≤ 1000000) }
@@ -58,8 +58,8 @@ impl Config {
     }
 }
 
-/// Whether `count` of `n` nodes are more than half of them. When so many have acknowledged a message it may be
-/// delivered, since any two majorities have a node in common (section 3.4 of the book).
+/// Whether `count` is more than half of `n` nodes. A message may be delivered once a majority has
+/// acknowledged it, because any two majorities share a node (section 3.4 of the book).
 pub fn is_majority(count: u8, n: u8) -> bool
     ensures { result ≡ is_majority count n }
 {

@@ -1,19 +1,20 @@
-//! What a packet's source tells of certificates.
+//! What a packet's source says about certificates.
 ghost use Rattle.std.specs.Prelude.{◌≡◌, ◌<◌, IfSome};
 ghost use Rattle.std.specs.Option.{SomeIff};
 ghost use Rattle.urb_names.specs.Packets.{flags_number, flags_said};
 
-/// What a packet of version two tells of certificates, beside its message.
+/// What a packet of version two says about certificates, beside its message.
 #[derive(Clone, Copy, Debug, PartialEq, Eq)]
 pub struct Flags {
     /// The source has stored a certificate of the packet's name.
     pub certified: bool,
-    /// The source has heard that the target has stored one: nothing is to be answered.
+    /// The source has heard that the target has stored one, so the target need not answer.
     pub heard: bool,
 }
 
 impl Flags {
-    /// The flags of this number, 0 to 3, as a packet spells them; none where it is over 3.
+    /// The flags with this number, 0 to 3, as a packet encodes them; `None` if the number is over
+    /// 3.
     pub fn of_number(number: u8) -> Option<Flags>
         ensures value { SomeIff result (number < 4) (flags_said number) }
         ensures again { IfSome result (λ flags. flags_number flags ≡ number) }
@@ -27,7 +28,7 @@ impl Flags {
         })
     }
 
-    /// Their number, 0 to 3: `certified` is worth 1, and `heard` 2.
+    /// The number of the flags, 0 to 3: `certified` counts 1 and `heard` counts 2.
     pub fn number(self) -> u8
         ensures value { result ≡ flags_number self }
         ensures range { result < 4 }

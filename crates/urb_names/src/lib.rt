@@ -1,19 +1,20 @@
 //! Names, messages and refusals of a group of nodes, and the packets that nodes send each other.
 //!
-//! A name is a sender and a number: the third broadcast of node 2 is 2.3. A message is what a client gave: its client, that
-//! client's number, and a payload. All are within their limits by their types, so nobody above checks them again.
+//! A name is a sender and a number: node 2's third broadcast is 2.3. A message is what a client
+//! submits: its client, that client's number for it, and a payload. The types keep all of them
+//! within their limits, so no layer above checks them again.
 //!
 //! ```text
 //! let config = Config::new(3, 1000)?;                    // three nodes, each with up to a thousand messages
 //! let message = Message::copied(alloc, client, 1, b"hi")?;
-//! let flags = Flags { certified: true, heard: false };  // with no flags it is a packet of version one, of at most 1,024 bytes
+//! let flags = Flags { certified: true, heard: false };  // without flags: version one, at most 1,024 bytes of payload
 //! let packet = Packet::new(source, target, name, message, Some(flags));
-//! let bytes = encode(alloc, &packet)?;                   // its one spelling
-//! let view = parse(&bytes)?;                             // read without a copy; the first fault is told
+//! let bytes = encode(alloc, &packet)?;                   // its only encoding
+//! let view = parse(&bytes)?;                             // read without a copy; an error is the first fault
 //! ```
 //!
-//! `parse` takes no memory, so hostile bytes cost none. The crate knows nothing of nodes' states: a packet that it reads may be
-//! of a node that a group doesn't have.
+//! `parse` allocates no memory, so hostile bytes cost none. This crate knows nothing about the
+//! state of nodes: a packet that it reads may name a node that the group doesn't have.
 #![tactic(auto)]
 
 mod client;

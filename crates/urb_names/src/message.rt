@@ -1,4 +1,4 @@
-//! Messages of clients.
+//! Client messages.
 ghost use Rattle.std.specs.Prelude.{◌≡◌, ◌≤◌, ◌<◌, IfOk, IfErr, length, vec_len};
 ghost use Rattle.std.specs.Bool.{MatchBool};
 ghost use Rattle.urb_names.specs.Naming.{IsContent};
@@ -11,11 +11,11 @@ use std::sync::Arc;
 /// The greatest length of a payload, in bytes.
 pub const MAX_PAYLOAD: usize = 16384;
 
-/// The greatest length of a payload in a packet without flags, which is of version one, in bytes.
+/// The greatest length of a payload in a packet without flags (version one), in bytes.
 pub const MAX_PLAIN_PAYLOAD: usize = 1024;
 
-/// What a client broadcasts: the client, the number that it gave the message, 1 to 4,294,967,295, and the payload, at
-/// most `MAX_PAYLOAD` bytes.
+/// What a client broadcasts: the client, the number that the client gave the message, 1 to
+/// 4,294,967,295, and the payload, at most `MAX_PAYLOAD` bytes.
 #[derive(Drop)]
 #[derive_where(Debug)]
 pub struct Message<A: Allocator = Global> {
@@ -39,7 +39,7 @@ impl<A: Allocator> Model for Message<A> {
 }
 
 impl<A: Allocator> Message<A> {
-    /// Whose message it is.
+    /// The client that submitted it.
     pub fn client(&self) -> ClientId
         ensures { result ≡ self.now.client }
     {
@@ -62,8 +62,8 @@ impl<A: Allocator> Message<A> {
         (*self.payload).as_slice()
     }
 
-    /// The payload, moved out without a copy and without memory if no other message shares it. Else the message comes
-    /// back as it was.
+    /// The payload, moved out without copying or allocating, if no other message shares it.
+    /// Otherwise returns the message unchanged.
     pub fn into_payload(self) -> Result<Vec<u8, A>, Message<A>>
         ensures ok { IfOk result (λ bytes. bytes.items ≡ self.payload) }
         ensures shared { IfErr result (λ m. m ≡ self) }
@@ -83,7 +83,7 @@ impl<A: Allocator> Message<A> {
         }
     }
 
-    /// Whether the other is the same message: that of the same client, with the same number and payload.
+    /// Whether the two messages are the same: same client, same number, same payload.
     pub fn is_same(&self, other: &Message<A>) -> bool
         ensures { MatchBool result (self.now ≡ other.now) (¬ (self.now ≡ other.now)) }
     {
@@ -92,7 +92,7 @@ impl<A: Allocator> Message<A> {
             && (*self.payload).as_slice() == (*other.payload).as_slice()
     }
 
-    /// That every message is within its limits: for proofs alone, since it does nothing.
+    /// States that every message is within its limits. It does nothing; only proofs use it.
     pub fn limits(&self)
         ensures { IsContent self.now }
     {
@@ -103,8 +103,8 @@ impl<A: Allocator> Message<A> {
 }
 
 impl<A: Allocator + Copy> Message<A> {
-    /// The message of these parts. The payload stays where it is in memory; only the count of its owners is
-    /// allocated.
+    /// The message made of these parts. The payload stays where it is in memory; only its reference
+    /// count is allocated.
     pub fn new(
         alloc: A,
         client: ClientId,
@@ -126,7 +126,7 @@ impl<A: Allocator + Copy> Message<A> {
         }
     }
 
-    /// A message with a copy of the payload. Its memory comes from `alloc`.
+    /// A message with a copy of the payload, allocated from `alloc`.
     pub fn copied(
         alloc: A,
         client: ClientId,
@@ -141,8 +141,8 @@ impl<A: Allocator + Copy> Message<A> {
         Message::new(alloc, client, number, Vec::from_slice(alloc, payload)?)
     }
 
-    /// Another message with the same content, which shares the payload's memory. It copies the payload only
-    /// if the memory has no room for one more owner.
+    /// Another message with the same content, which shares the payload's memory. It copies the
+    /// payload only if the reference count has no room for one more owner.
     pub fn share(&self, alloc: A) -> Result<Message<A>, NoMemory>
         ensures { IfOk result (λ m. m ≡ self.now) }
     {

@@ -6,13 +6,13 @@ ghost use Rattle.urb_names.specs.Names.{name_lt};
 use crate::NodeId;
 use std::marker::Model;
 
-/// The name of a message: the node that broadcasts it, and its number among the messages of this sender, from 1. No
-/// two messages of a group have the same name. Names are ordered by sender, and then by number.
+/// A message's name: the node that broadcasts it, and its number among that sender's messages, from
+/// 1. No two messages of a group have the same name. Names are ordered by sender, then by number.
 #[derive(Clone, Copy, Debug, PartialEq, Eq, PartialOrd, Ord)]
 pub struct Name {
     /// The node that broadcasts it.
     pub sender: NodeId,
-    /// Its number among the messages of this sender: 1, 2, 3, ..
+    /// Its number among this sender's messages: 1, 2, 3, ..
     pub seq: u32,
 }
 
@@ -30,15 +30,15 @@ impl Model for Name {
 }
 
 impl Name {
-    /// Whether it comes before the other: that of a lower sender, or of the same sender with a lower number. It is what
-    /// `<` says of names.
+    /// Whether this name comes before the other: its sender is lower, or the sender is the same and
+    /// its number is lower. `<` on names means the same.
     pub fn is_before(self, other: Name) -> bool
         ensures { result ≡ name_lt self other }
     {
         self < other
     }
 
-    /// That every name is within its limits: for proofs alone, since it does nothing.
+    /// States that every name is within its limits. It does nothing; only proofs use it.
     pub fn limits(self)
         ensures { IsLabel self }
     {

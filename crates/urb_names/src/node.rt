@@ -1,10 +1,11 @@
-//! The numbers of nodes.
+//! Node numbers.
 ghost use Rattle.std.specs.Prelude.{◌≡◌, ◌<◌, ◌≤◌};
 ghost use Rattle.std.specs.Option.{SomeIff};
 
 use std::marker::Model;
 
-/// A node's number, 1 to 7. Whether the node is one of a group is for the group to say: its nodes are 1 to `Config::n`.
+/// A node's number, 1 to 7. The type doesn't say whether a group has this node: a group's nodes are
+/// 1 to `Config::n`.
 #[derive(Clone, Copy, Debug, PartialEq, Eq, PartialOrd, Ord)]
 pub struct NodeId {
     number: u8,
@@ -23,7 +24,7 @@ impl Model for NodeId {
 }
 
 impl NodeId {
-    /// The node of this number; none where the number is 0 or over 7.
+    /// The node with this number, or `None` if the number is 0 or over 7.
     pub fn new(number: u8) -> Option<NodeId>
         ensures { SomeIff result ((0 < number) × (number ≤ 7)) number }
     {
@@ -33,7 +34,7 @@ impl NodeId {
         Some(NodeId { number })
     }
 
-    /// The number that it was made of.
+    /// The number that it was made from.
     pub fn number(self) -> u8
         ensures number { result ≡ self }
         ensures range { (0 < self) × (self ≤ 7) }

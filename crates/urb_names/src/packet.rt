@@ -6,8 +6,8 @@ use crate::{Flags, Message, Name, NodeId};
 use std::alloc::{Allocator, Global};
 use std::marker::Model;
 
-/// A message under its name, from one node to another, and in version two what its source tells of certificates: what a
-/// datagram carries.
+/// What a datagram carries: a message under its name, from one node to another. A packet of version
+/// two also says what its source knows about certificates.
 #[derive(Drop)]
 #[derive_where(Debug)]
 pub struct Packet<A: Allocator = Global> {
@@ -37,8 +37,8 @@ impl<A: Allocator> Model for Packet<A> {
 }
 
 impl<A: Allocator> Packet<A> {
-    /// The packet of these parts: of version two where it has flags, else of version one, whose payload has at most
-    /// `MAX_PLAIN_PAYLOAD` bytes. Takes no memory.
+    /// The packet made of these parts. With flags it is of version two. Without flags it is of
+    /// version one, and its payload has at most `MAX_PLAIN_PAYLOAD` bytes. Allocates no memory.
     pub fn new(
         source: NodeId,
         target: NodeId,
@@ -73,7 +73,7 @@ impl<A: Allocator> Packet<A> {
         self.source
     }
 
-    /// The node that it is sent to, another one.
+    /// The node that receives it; never its source.
     pub fn target(&self) -> NodeId
         ensures value { result ≡ self.now.target }
         ensures apart { self.now.source ≢ self.now.target }
@@ -95,7 +95,7 @@ impl<A: Allocator> Packet<A> {
         &self.message
     }
 
-    /// What its source tells of certificates; none in a packet of version one.
+    /// What its source says about certificates; `None` in a packet of version one.
     pub fn flags(&self) -> Option<Flags>
         ensures { result ≡ self.now.flags }
     {
@@ -110,7 +110,7 @@ impl<A: Allocator> Packet<A> {
         message
     }
 
-    /// That every packet is one of the grammar: for proofs alone, since it does nothing.
+    /// States that every packet meets the grammar. It does nothing; only proofs use it.
     pub fn limits(&self)
         ensures { IsPacket self.now }
     {

@@ -6,7 +6,8 @@ use crate::{Name, NodeId};
 use std::alloc::{AllocError, AllocFailed};
 use thiserror::Error;
 
-/// A growth of memory was refused. What the call was made on is as it was before, so the same call may be made again.
+/// An allocation was refused. The value that the call worked on is unchanged, so the caller may
+/// make the same call again.
 #[derive(Clone, Copy, Debug, PartialEq, Eq, Error)]
 #[error("no memory")]
 pub struct NoMemory;
@@ -23,34 +24,37 @@ impl<T: Drop> From<AllocFailed<T>> for NoMemory {
     }
 }
 
-/// Why bytes are no packet: the first of these that holds.
+/// Why bytes are not a packet: the first of these that holds.
 #[derive(Clone, Copy, Debug, PartialEq, Eq, Error)]
 pub enum PacketFault {
-    /// There are fewer bytes than a header has: 19 where they begin as version two does, else 18.
+    /// There are fewer bytes than a header has: 19 if they begin as version two does, otherwise 18.
     #[error("the packet is too short")]
     Short,
-    /// The first two bytes are not 55 42: it is no packet of this program.
+    /// The first two bytes are not 55 42, so it is not a packet of this program.
     #[error("the packet begins with other bytes")]
     Magic,
-    /// The third byte is neither 01 nor 02: it is a packet of another version.
+    /// The third byte is neither 01 nor 02, so it is a packet of another version.
     #[error("the packet has another version")]
     Version,
-    /// The length of the payload is over the greatest of its version, or not the number of the bytes behind the header.
+    /// The payload's length is over the maximum of its version, or isn't the number of bytes after
+    /// the header.
     #[error("the packet has another length")]
     Length,
-    /// A node is not 1 to 7, a number is 0, source and target are the same, or the flags are over 3.
+    /// A node is not 1 to 7, a number is 0, source and target are the same, or the flags are over
+    /// 3.
     #[error("a field of the packet is out of range")]
     Range,
 }
 
-/// A rule that the stored records of a group's nodes, their images, have to meet together.
+/// A rule that the stored records of a group's nodes (their images) must meet together.
 #[derive(Clone, Copy, Debug, PartialEq, Eq)]
 pub enum Rule {
-    /// A record fits the group, names its message for the first time, or certifies once what is pending.
+    /// A record fits the group, and either names its message for the first time or is the first
+    /// certificate of a pending one.
     A,
     /// A node's own messages are numbered 1, 2, 3, .., and so are each client's among them.
     B,
-    /// What a node holds of another is pending at that one.
+    /// What a node holds of another node is pending at that node.
     C,
     /// What is certified is pending at a majority of the nodes.
     D,
@@ -59,47 +63,49 @@ pub enum Rule {
 /// Why a call was refused. A refused call changes nothing, unless the call says otherwise.
 #[derive(Clone, Copy, Debug, PartialEq, Eq, Error)]
 pub enum Refusal {
-    /// A growth of memory was refused. The same call may be made again.
+    /// An allocation was refused. The caller may make the same call again.
     #[error("no memory")]
     NoMemory,
-    /// The group has no such node, or the packet was sent to another one. Of a worker: the job is another node's.
+    /// The group has no such node, or the packet was sent to another one. From a worker: the job
+    /// belongs to another node.
     #[error("there is no such node")]
     BadNode,
-    /// The node is down: restart it first. Of a client's request: its node's worker has ended.
+    /// The node is down: restart it first. For a client's request: its node's worker has ended.
     #[error("the node is down")]
     Down,
-    /// The node waits for its storage: finish that record first.
+    /// The node is waiting for its storage: finish that record first.
     #[error("the node holds a draft")]
     Busy,
     /// The payload has more than `MAX_PAYLOAD` bytes.
     #[error("the payload is too long")]
     TooLong,
-    /// The client gave this number to another payload before.
+    /// The client used this number for another payload before.
     #[error("the number was used with another payload")]
     Conflict,
-    /// The client has to give this number next.
+    /// The client has to use this number next.
     #[error("the next number is {0}")]
     Gap(u32),
     /// The sender has broadcast as many messages as the group allows each node.
     #[error("the sender has sent all that it may")]
     Full,
-    /// The packet's source doesn't hold this message under this name, or not the certificate that the packet tells of, so it
-    /// can't have sent it.
+    /// The packet's source doesn't hold this message under this name, or doesn't hold the
+    /// certificate that the packet claims. So it can't have sent the packet.
     #[error("the source does not hold this message")]
     Forged,
-    /// The bytes are no packet, and this is their first fault.
+    /// The bytes are not a packet; this is their first fault.
     #[error("{0}")]
     Packet(PacketFault),
-    /// The node holds no draft, or another than that of the receipt.
+    /// The node holds no draft, or holds a different draft from the receipt's.
     #[error("the node holds no such draft")]
     Stale,
     /// Only a node that is down may be restarted.
     #[error("the node is not down")]
     NotDown,
-    /// The image is neither what the node stored nor that with its doubtful record.
+    /// The image is neither what the node stored nor that followed by its doubtful record.
     #[error("the image is not what was stored")]
     BadImage,
-    /// The images don't fit together: this is the first record that breaks a rule, by its node and its name.
+    /// The images don't fit together. This is the first record that breaks a rule, by its node and
+    /// its name.
     #[error("the images do not fit together")]
     Inconsistent {
         rule: Rule,
@@ -109,22 +115,23 @@ pub enum Refusal {
     /// The storage failed in this call.
     #[error("the storage failed")]
     Device,
-    /// The storage keeps a record at this position next, or has a doubtful record and wants a retrieve first.
+    /// The storage expects the next record at this position, or has a doubtful record and needs a
+    /// retrieve first.
     #[error("the next position is {0}")]
     Place(u32),
-    /// What stands at this place of the storage, counted from 1, is no record.
+    /// The row at this place of the storage, counted from 1, is not a record.
     #[error("row {0} is no record")]
     BadRow(u32),
-    /// This line of the script, counted from 1, is no command.
+    /// This line of the script, counted from 1, is not a command.
     #[error("line {0} is no command")]
     BadLine(u64),
-    /// The client's bytes are no request, and this is the fault's code.
+    /// The client's bytes are not a request; this is the fault's code.
     #[error("the frame has fault {0}")]
     Frame(u8),
 }
 
 impl Refusal {
-    /// The refusal's number in what clients are sent and programs print, 1 to 19.
+    /// The refusal's number, 1 to 19, in responses to clients and in what programs print.
     pub fn number(&self) -> u8
         ensures { result ≡ number_of self.now }
     {
@@ -151,8 +158,8 @@ impl Refusal {
         }
     }
 
-    /// What goes with the number: the number that a client has to give next, the next position, the place of a row or the
-    /// code of a frame's fault; else 0.
+    /// The detail that goes with the number: the number that a client has to use next, the next
+    /// position, the place of a row, or the code of a frame's fault. Otherwise 0.
     pub fn detail(&self) -> u32
         ensures { result ≡ detail_of self.now }
     {

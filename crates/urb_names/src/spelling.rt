@@ -1,4 +1,4 @@
-//! Packets as bytes: reading them, and writing them.
+//! Packets as bytes: decoding and encoding.
 ghost use Rattle.std.specs.Prelude.{◌≡◌, ◌≤◌, ◌⊎◌, length, Ok, Err, Some, None, IfNone, IfOk, IfErr, MatchResult, if◌then◌else◌, [], ◌∷◌, ◌++◌};
 ghost use Rattle.byteorder.specs.Endian.{big_bytes};
 ghost use Rattle.urb_names.specs.Carried.{Carried};
@@ -12,19 +12,20 @@ use byteorder::{BigEndian, ByteOrder};
 use std::alloc::Allocator;
 use std::marker::Model;
 
-// The first two bytes of each packet, and the third of those that have a byte of flags and of those that have none.
+// The first two bytes of every packet, and the third byte of packets with and without a byte of
+// flags.
 const MAGIC: u16 = 0x5542;
 
 const WITHOUT_FLAGS: u8 = 1;
 
 const WITH_FLAGS: u8 = 2;
 
-// How many bytes stand before the flags, and behind them before the payload.
+// The number of header bytes before the flags, and of header bytes after them.
 const FRONT: usize = 5;
 
 const BACK: usize = 13;
 
-// What stands in the fields of bytes that may be a packet.
+// The values in the fields of bytes that may be a packet.
 #[derive(Drop)]
 struct Fields<'a> {
     magic: u16,
@@ -60,14 +61,14 @@ impl<'a> Model for Fields<'a> {
     } };
 }
 
-// Whether bytes begin so that a byte of flags is to stand behind the target.
+// Whether bytes begin in such a way that a byte of flags must follow the target.
 fn begins_with_flags(bytes: &[u8]) -> bool
     ensures { result ≡ begins_with_flags bytes.now }
 {
     bytes.len() > 2 && BigEndian::read_u16(bytes) == MAGIC && bytes[2] == WITH_FLAGS
 }
 
-// How many bytes a header has that begins so.
+// The length in bytes of a header that begins like this.
 fn header_length(bytes: &[u8]) -> usize
     ensures { result ≡ header_length bytes.now }
 {
@@ -78,7 +79,7 @@ fn header_length(bytes: &[u8]) -> usize
     }
 }
 
-// The fields of bytes with these flags, where the rest begins behind them.
+// The fields of bytes with these flags, if `rest` begins after them.
 fn fields_with<'a>(flags: Option<u8>, bytes: &[u8], rest: &'a [u8]) -> Fields<'a>
     requires front { FRONT ≤ length bytes.now }
     requires back { BACK ≤ length rest.now }
@@ -99,7 +100,7 @@ fn fields_with<'a>(flags: Option<u8>, bytes: &[u8], rest: &'a [u8]) -> Fields<'a
     }
 }
 
-// The fields of as many bytes as their header has, or more.
+// The fields of bytes that are at least as long as their header.
 fn fields_at(bytes: &[u8]) -> Fields<'_>
     requires { header_length bytes.now ≤ length bytes.now }
     ensures { result ≡ fields_at bytes.now }
@@ -111,7 +112,8 @@ fn fields_at(bytes: &[u8]) -> Fields<'_>
     }
 }
 
-// The flags that a byte says, where there is one; an outer none where it is over three.
+// The flags that the byte encodes, if there is one. The outer option is `None` if the byte is over
+// three.
 fn flags_in(byte: Option<u8>) -> Option<Option<Flags>>
     ensures { result ≡ (if are_flags byte then Some (flags_of byte) else None) }
 {
@@ -121,7 +123,7 @@ fn flags_in(byte: Option<u8>) -> Option<Option<Flags>>
     }
 }
 
-// The packet that the fields say, where each is within its values.
+// The packet that the fields describe, if each field is in range.
 fn in_range<'a>(fields: &Fields<'a>) -> Option<PacketView<'a>>
     requires payload { length fields.now.payload ≤ MAX_PAYLOAD }
     requires version { IfNone fields.now.flags (length fields.now.payload ≤ MAX_PLAIN_PAYLOAD) }
@@ -150,7 +152,7 @@ fn in_range<'a>(fields: &Fields<'a>) -> Option<PacketView<'a>>
     ))
 }
 
-// The greatest length of a payload behind these flags.
+// The greatest length of a payload after these flags.
 fn longest_payload(flags: Option<u8>) -> usize
     ensures { result ≡ longest_payload flags }
 {
@@ -161,7 +163,7 @@ fn longest_payload(flags: Option<u8>) -> usize
 }
 
 #[tactic(auto, unfolding(crate::specs::Packets::judged))]
-// The packet that the fields say, or their first fault.
+// The packet that the fields describe, or their first fault.
 fn judged<'a>(fields: &Fields<'a>) -> Result<PacketView<'a>, PacketFault>
     ensures { result ≡ judged fields.now }
 {
@@ -178,14 +180,14 @@ fn judged<'a>(fields: &Fields<'a>) -> Result<PacketView<'a>, PacketFault>
     in_range(fields).ok_or(PacketFault::Range)
 }
 
-/// The packet that bytes spell, as they come in a datagram. Takes no memory. A fault is the first in the order of the
-/// variants of `PacketFault`; the bytes are then to be dropped.
+/// The packet that a datagram's bytes encode. Allocates no memory. An error is the first fault in
+/// the order of the variants of `PacketFault`; the caller should drop the bytes.
 pub fn parse(bytes: &[u8]) -> Result<PacketView<'_>, PacketFault>
-    // What is read is spelled so, each byte of it; and what is spelled so is read.
+    // What `parse` returns encodes to exactly these bytes, and every encoding is parsed.
     ensures found { IfOk result (λ p. IsPacket p × (bytes.now ≡ spelling p)) }
     ensures only { (p : Carried) → IsPacket p → bytes.now ≡ spelling p → result ≡ Ok p }
 
-    // A fault is the first that the bytes have.
+    // An error is the first fault of the bytes.
     ensures fault { IfErr result (λ e. IsFirstFault bytes.now e) }
     ensures exact { result ≡ packet_of bytes.now }
 {
@@ -195,17 +197,18 @@ pub fn parse(bytes: &[u8]) -> Result<PacketView<'_>, PacketFault>
     judged(&fields_at(bytes))
 }
 
-/// The packet that bytes spell, in memory of its own. `Packet` tells the first fault of bytes that are no packet;
-/// `NoMemory` comes only where they are one.
+/// The packet that bytes encode, in memory of its own. If the bytes are not a packet, the error is
+/// `Packet` with their first fault. `NoMemory` comes only if they are a packet.
 pub fn decode<A: Allocator + Copy>(alloc: A, bytes: &[u8]) -> Result<Packet<A>, Refusal>
-    // What is read is spelled so, each byte of it; and what is spelled so is read, unless memory was refused.
+    // What `decode` returns encodes to exactly these bytes. Every encoding is decoded, unless an
+    // allocation is refused.
     ensures found { IfOk result (λ p. IsPacket p × (bytes.now ≡ spelling p)) }
     ensures only { (p : Carried)
         → IsPacket p
         → bytes.now ≡ spelling p
         → (result ≡ Ok p) ⊎ (result ≡ Err Refusal.NoMemory) }
 
-    // The bytes' first fault comes before want of memory.
+    // A fault of the bytes takes precedence over a refused allocation.
     ensures refused { IfErr result (λ e. MatchResult (packet_of bytes.now)
         (λ p. e ≡ Refusal.NoMemory) (λ fault. e ≡ Refusal.Packet fault)) }
 {
@@ -229,7 +232,7 @@ fn front<A: Allocator>(packet: &Packet<A>) -> [u8; FRONT]
     bytes
 }
 
-// Those behind its flags, and before its payload.
+// The bytes after its flags and before its payload.
 fn back(name: Name, client: u16, number: u32, size: u16) -> [u8; BACK]
     ensures { result
         ≡ name.sender ∷ big_bytes 4 name.seq
@@ -246,7 +249,7 @@ fn back(name: Name, client: u16, number: u32, size: u16) -> [u8; BACK]
     bytes
 }
 
-/// The one spelling of a packet, for a datagram: at most 16,403 bytes.
+/// The only encoding of a packet, for a datagram: at most 16,403 bytes.
 pub fn encode<A: Allocator>(alloc: A, packet: &Packet<A>) -> Result<Vec<u8, A>, NoMemory>
     ensures { IfOk result (λ v. v.items ≡ spelling packet.now) }
 {

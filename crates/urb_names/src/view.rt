@@ -1,4 +1,4 @@
-//! Packets whose payload is lent.
+//! Packets whose payload is borrowed.
 ghost use Rattle.std.specs.Prelude.{◌≡◌, ◌≢◌, ◌<◌, ◌≤◌, length, IfOk};
 ghost use Rattle.urb_names.specs.Packets.{IsPacket, FitsVersion};
 
@@ -6,7 +6,7 @@ use crate::{ClientId, Flags, MAX_PAYLOAD, Message, Name, NoMemory, NodeId, Packe
 use std::alloc::Allocator;
 use std::marker::Model;
 
-/// A packet whose payload is lent: what `parse` finds in a datagram, without a copy.
+/// A packet whose payload is borrowed: what `parse` finds in a datagram, without a copy.
 #[derive(Debug, Drop)]
 pub struct PacketView<'a> {
     source: NodeId,
@@ -41,7 +41,7 @@ impl<'a> Model for PacketView<'a> {
 }
 
 impl<'a> PacketView<'a> {
-    // The packet of these parts.
+    // The packet made of these parts.
     pub(crate) fn new(
         source: NodeId,
         target: NodeId,
@@ -82,7 +82,7 @@ impl<'a> PacketView<'a> {
         self.source
     }
 
-    /// The node that it was sent to, another one.
+    /// The node that it was sent to; never its source.
     pub fn target(&self) -> NodeId
         ensures value { result ≡ self.now.target }
         ensures apart { self.now.source ≢ self.now.target }
@@ -97,7 +97,7 @@ impl<'a> PacketView<'a> {
         self.name
     }
 
-    /// Whose message it is.
+    /// The client that submitted its message.
     pub fn client(&self) -> ClientId
         ensures { result ≡ self.now.message.client }
     {
@@ -120,14 +120,14 @@ impl<'a> PacketView<'a> {
         self.payload
     }
 
-    /// What its source tells of certificates; none in a packet of version one.
+    /// What its source says about certificates; `None` in a packet of version one.
     pub fn flags(&self) -> Option<Flags>
         ensures { result ≡ self.now.flags }
     {
         self.flags
     }
 
-    /// The packet, with a copy of the payload. Its memory comes from `alloc`.
+    /// The packet, with a copy of the payload allocated from `alloc`.
     pub fn to_packet<A: Allocator + Copy>(&self, alloc: A) -> Result<Packet<A>, NoMemory>
         ensures { IfOk result (λ p. p ≡ self.now) }
     {
@@ -135,7 +135,7 @@ impl<'a> PacketView<'a> {
         Ok(Packet::new(self.source, self.target, self.name, message, self.flags))
     }
 
-    /// That every packet is one of the grammar: for proofs alone, since it does nothing.
+    /// States that every packet meets the grammar. It does nothing; only proofs use it.
     pub fn limits(&self)
         ensures { IsPacket self.now }
     {

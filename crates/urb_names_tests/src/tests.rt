@@ -1,4 +1,4 @@
-//! Worked bytes of the packet grammar, and memory that is refused.
+//! Worked examples of the packet grammar, and refused allocations.
 ghost use Rattle.std.specs.Prelude.{◌≡◌, ◌≢◌, ◌≤◌, length, IfSome};
 ghost use Rattle.urb_names.specs.Packets.{FitsVersion};
 
@@ -8,15 +8,15 @@ mod growth;
 use std::alloc::Global;
 use urb_names::*;
 
-// Node 1 sends node 2 its first message, `a` with number 1 of client 7.
+// The first test vector: node 1 sends its first message to node 2, `a`, number 1 of client 7.
 const WITH_PAYLOAD: &[u8] =
     b"\x55\x42\x01\x01\x02\x01\x00\x00\x00\x01\x00\x07\x00\x00\x00\x01\x00\x01a";
 
-// Node 2 sends node 1 the first message of node 1, which has no payload.
+// The second test vector: node 2 sends node 1's first message back; it has no payload.
 const WITHOUT_PAYLOAD: &[u8] =
     b"\x55\x42\x01\x02\x01\x01\x00\x00\x00\x01\x00\x07\x00\x00\x00\x01\x00\x00";
 
-// The first again, in version two: node 1 has stored a certificate of its name.
+// The third test vector: the first one in version two. Node 1 has stored a certificate of its name.
 const WITH_FLAGS: &[u8] =
     b"\x55\x42\x02\x01\x02\x01\x01\x00\x00\x00\x01\x00\x07\x00\x00\x00\x01\x00\x01a";
 
@@ -26,7 +26,7 @@ fn node(number: u8) -> Option<NodeId>
     NodeId::new(number)
 }
 
-// A name; none where there is no such sender or number.
+// A name, or `None` if there is no such sender or number.
 fn name(sender: u8, seq: u32) -> Option<Name> {
     if seq == 0 {
         return None;
@@ -35,7 +35,7 @@ fn name(sender: u8, seq: u32) -> Option<Name> {
     Some(Name { sender, seq })
 }
 
-// The first message of node 1, from client 7 with number 1.
+// A packet of node 1's first message, which client 7 gave number 1.
 fn first(
     alloc: Global,
     source: u8,
@@ -63,7 +63,7 @@ fn are_same(first: &Packet, second: &Packet) -> bool {
         && first.flags() == second.flags()
 }
 
-// Whether a packet is spelled so.
+// Whether a packet encodes to these bytes.
 fn is_spelled(alloc: Global, packet: &Packet, bytes: &[u8]) -> bool {
     match encode(alloc, packet) {
         Ok(spelled) => spelled.as_slice() == bytes,
@@ -71,7 +71,7 @@ fn is_spelled(alloc: Global, packet: &Packet, bytes: &[u8]) -> bool {
     }
 }
 
-// Whether these bytes are read as this packet.
+// Whether these bytes decode to this packet.
 fn is_read(alloc: Global, packet: &Packet, bytes: &[u8]) -> bool {
     match decode(alloc, bytes) {
         Ok(read) => are_same(&read, packet),
@@ -79,7 +79,7 @@ fn is_read(alloc: Global, packet: &Packet, bytes: &[u8]) -> bool {
     }
 }
 
-// Whether a view of these bytes is this packet without a copy.
+// Whether a view of these bytes, read without a copy, is this packet.
 fn is_viewed(alloc: Global, packet: &Packet, bytes: &[u8]) -> bool {
     let Ok(view) = parse(bytes) else {
         return false;
@@ -90,7 +90,8 @@ fn is_viewed(alloc: Global, packet: &Packet, bytes: &[u8]) -> bool {
     }
 }
 
-// Whether the first message of node 1 is spelled so from one node to another, and read back.
+// Whether a packet of node 1's first message, between these nodes, encodes to these bytes and
+// decodes from them.
 fn is_vector(
     alloc: Global,
     source: u8,
@@ -136,7 +137,7 @@ fn shows_parts(view: &PacketView) -> bool {
         && view.flags().is_none()
 }
 
-// Whether its packet has the payload.
+// Whether a packet made of the same parts has the payload.
 fn has_payload(alloc: Global) -> Option<bool> {
     let message = first(alloc, 1, 2, b"a", None)?.into_message();
     let payload = message.into_payload().ok()?;
@@ -153,7 +154,7 @@ fn a_view_is_the_packet_without_a_copy(rt: HostRuntime) {
     assert_eq!(rt; has_payload(rt.alloc()), Some(true));
 }
 
-// Whether flags have this number in the byte of a packet.
+// Whether flags have this number in a packet's byte of flags.
 fn are_numbered(alloc: Global, flags: Flags, byte: u8, bytes: &[u8]) -> bool {
     let read = match parse(bytes) {
         Ok(view) => view.flags(),

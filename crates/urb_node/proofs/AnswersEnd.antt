@@ -1,4 +1,4 @@
--- Answers end: a packet that says that a certificate was heard is not answered, and an answer to an answer says so.
+-- Answers end: a packet that says "heard" is not answered, and an answer to an answer says it.
 use Rattle.std.proofs.Common.{Bool, List, None, Option, Some, [], eq-eqb, false, is_none, not, refl, subst, sym, true, ℕ, ◌==◌, ◌&&◌, ◌∙◌, ◌∷◌, ◌≡◌, ◌||◌}
 use Rattle.std.proofs.lemmas.Bool.{and_from, false≢true, or_left}
 use Rattle.std.specs.List.{AllByRecursion}
@@ -21,7 +21,7 @@ use Rattle.urb_node.specs.Part.{Node, packet_from}
 use Rattle.urb_node.specs.Replies.{Reply, Same, packets_in}
 use Rattle.urb_node.specs.Steps.{answers, answers_of, arrives, counts, drafts, hears, reply_to, says_heard, takes}
 
--- ---- which packets an arrival hands out
+-- ---- the packets that an arrival returns
 
 takes-silent : (size : Limits) (p q : ℕ) (x : Label) (m : Content) (flags : Option Flags) (node : Node) → packets_in (takes size p q x m flags node).0 ≡ []
 takes-silent size p q x m flags node = at (majority_passes size.n (λ z. (z == p) || (z == q)))
@@ -44,7 +44,8 @@ counts-silent size q x flags node = at (majority_passes size.n (acked after.acks
     at false true = refl
     at false false = refl
 
--- what holds of no packet, and of those with which a certified name is answered, holds of those of an arrival
+-- what holds of no packet, and of the answer for a certified name, holds of the packets of an
+-- arrival
 arrives-hands : (P : List Carried → Type 0) (size : Limits) (p q : ℕ) (x : Label) (m : Content) (flags : Option Flags) (node : Node) → P [] → P (packets_in (answers p q x m flags (hears q x flags node)).0)
     → P (packets_in (arrives size p q x m flags node).0)
 arrives-hands P size p q x m flags node none some = at (is_none (message_of (pend node.records) x)) (not (has_name (cert node.records) x))
@@ -82,7 +83,7 @@ first_version-silent size packet node first =
 abbrev SayCertified : List Carried → Type 0
 SayCertified packets = AllByRecursion (λ packet. says_certified packet.flags ≡ true) packets
 
--- each says that the target's certificate was heard
+-- each packet says that the target's certificate was heard
 abbrev SayHeard : List Carried → Type 0
 SayHeard packets = AllByRecursion (λ packet. says_heard packet.flags ≡ true) packets
 
@@ -98,7 +99,7 @@ answers-certify size packet node =
         at true = tt
         at false = (refl, tt)
 
--- what a packet told is heard
+-- what a packet reported is heard
 heard-then : (q : ℕ) (x : Label) (flags : Option Flags) (node : Node) → says_certified flags ≡ true → acked (hears q x flags node).heard x q ≡ true
 heard-then q x flags node e =
     subst (λ (b : Bool). acked (if b then record node { heard = with_ack node.heard x q } else node).heard x q ≡ true) (sym e)
@@ -117,7 +118,7 @@ answers-hear size packet node certified =
         at true = tt
         at false = (e, tt)
 
--- after an answer comes at most one more
+-- after an answer there is at most one more
 pub answers-end : (size : Limits) (first : Carried) (here there last : Node) → AllByRecursion (λ second. AllByRecursion (λ third. answers_of size third last ≡ []) (answers_of size second there)) (answers_of size first here)
 answers-end size first here there last =
     all_weaker (λ second. says_certified second.flags ≡ true) _ (answers_of size first here)

@@ -1,4 +1,4 @@
--- What a memory finds out about a packet is what the definition says for every node that it shows.
+-- The outcome of a packet in a memory is the definition's for every node that the memory shows.
 use Rattle.std.proofs.Common.{◌≡◌, ◌≢◌, ℕ, zero, suc, ◌≤◌, Bool, true, false, not, ◌||◌, ◌&&◌, ◌==◌, List, [], ◌∷◌, count_by, Option, Some, None, is_none, refl, sym, ap, ◌∙◌, subst, arith, ne_eqb, eq-eqb, eqb-true}
 use Rattle.std.specs.Prelude.{if◌then◌else◌}
 use Rattle.urb_names.specs.Naming.{Label, Content}
@@ -52,7 +52,7 @@ either false true false false e f = f
 either false false false true e f = f
 either false false false false e f = refl
 
--- two nodes of n are a majority exactly where 2 of n are
+-- two nodes of n are a majority exactly if 2 of n are
 pub two-majority : (n p q : ℕ) → p ≢ q → 1 ≤ p → p ≤ n → 1 ≤ q → q ≤ n → majority_passes n (λ z. (z == p) || (z == q)) ≡ is_majority 2 n
 two-majority n p q apart pl pu ql qu = ap (λ (count : ℕ). is_majority count n) two
   where
@@ -64,7 +64,7 @@ two-majority n p q apart pl pu ql qu = ap (λ (count : ℕ). is_majority count n
 
 -- ---- one more acknowledgement
 
--- in its place in the order or in front, it is counted
+-- it is counted, whether it is at its place in the order or at the front
 pub counted-with : (acks : List (Label × ℕ)) (x : Label) (q : ℕ) (y : Label) (z : ℕ) → acked (counted_with acks x q) y z ≡ acked (with_ack acks x q) y z
 counted-with acks x q y z = at (acked acks x q)
   where
@@ -72,11 +72,11 @@ counted-with acks x q y z = at (acked acks x q)
     at true = refl
     at false = any_insert (λ ack. same_name ack.0 y && (ack.1 == z)) acks _ (x, q)
 
--- the memory that counts it shows the node that does
+-- the memory that counts it shows the node that counts it
 pub counted-says : (a : Memory) (node : Node) (x : Label) (q : ℕ) → ShowsReady a node → ShowsReady (with_counted a x q) (record node { acks = with_ack node.acks x q })
 counted-says a node x q s = counted-shows a.limits a.node (ready_view a) (counted_with a.acks x q) node x q s (λ y z l. counted-with a.acks x q y z)
 
--- the memory once it heard what a packet tells shows the node that did
+-- the memory after hearing what a packet reports shows the node that heard it
 pub hears-says : (a : Memory) (node : Node) (q : ℕ) (x : Label) (flags : Option Flags) → ShowsReady a node → ShowsReady (hearing a q x flags) (hears q x flags node)
 hears-says a node q x flags s = at (says_certified flags)
   where
@@ -84,7 +84,7 @@ hears-says a node q x flags s = at (says_certified flags)
     at true = heard-shows a.limits a.node (ready_view a) (counted_with a.heard x q) node x q s (counted-with a.heard x q)
     at false = s
 
--- what a memory finds out about a packet of a name that is not certified, once it heard what the packet tells
+-- the outcome of a packet whose name is not certified, after hearing what the packet reports
 abbrev pub counted_then : Memory → ℕ → Label → Option Flags → Outcome
 counted_then a q x flags =
     if majority_passes a.limits.n (acked (with_ack a.acks x q) x) then Wants (Cert x) (Some (packet_from q (says_certified flags))) (with_counted a x q)
@@ -121,7 +121,7 @@ counts-says a q x flags node s c =
         subst (λ (b : Bool). Says (if b then (Same (answer.Again x), after) else (Same (answer.Noted x), after)) (if acked a.acks x q then Answers (answer.Again x) a else Answers (answer.Noted x) (with_counted a x q))) before
         (again (acked a.acks x q) refl)
 
--- what it finds out about one of a certified name
+-- the outcome of a packet whose name is certified
 answers-says : (a : Memory) (q : ℕ) (x : Label) (m : Content) (flags : Option Flags) (node : Node) → ShowsReady a node → Says (answers a.node q x m flags node) (certified_outcome a q x m flags)
 answers-says a q x m None node s = (refl, s)
 answers-says a q x m (Some flags) node s = at flags.heard
@@ -131,7 +131,8 @@ answers-says a q x m (Some flags) node s = at flags.heard
     at true = (refl, s)
     at false = (ap (λ heard. Same (answer.Answered x (answer_with a.node q x m heard ∷ []))) (sym (s.heard x q)), s)
 
--- For every node that the memory shows, what it finds out is what the definition says of an arrival from another node.
+-- For every node that the memory shows, the outcome is what the definition says about an arrival
+-- from another node.
 pub arrive-says : (a : Memory) (q : ℕ) (x : Label) (m : Content) (flags : Option Flags) (node : Node) → ShowsReady a node → a.node ≢ q → 1 ≤ a.node → a.node ≤ a.limits.n → 1 ≤ q → q ≤ a.limits.n
     → Says (arrives a.limits a.node q x m flags node) (arrive_outcome a q x m flags)
 arrive-says a q x m flags node s apart pl pu ql qu =

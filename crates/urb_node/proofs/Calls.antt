@@ -1,4 +1,4 @@
--- A restart in the words of a node's memory: the reply, and the node that the memory shows after it.
+-- A restart in terms of a node's memory: the reply, and the node that the memory shows afterwards.
 use Rattle.std.proofs.Common.{List, None, Option, Some, [], ap, ap₂, false, refl, subst, sym, true, ℕ, ◌++◌, ◌-◌, ◌∙◌, ◌∷◌, ◌≡◌}
 use Rattle.std.proofs.lemmas.Bool.{and_from, and_parts, cond-false, cond-true, false≢true}
 use Rattle.urb_names.proofs.SameNames.{same_message-same, same_message-true, same_name-same, same_name-true}
@@ -17,7 +17,7 @@ use Rattle.urb_stable.specs.Entries.{Entry}
 use Rattle.urb_stable.specs.declared.record.Record.TheVariants.{Cert, Pend, PendCert}
 use Rattle.urb_names.specs.declared.refusal.Refusal.TheVariants as refusal
 
--- this is the reply of a node's part of a step, and what is held in memory is the node after it
+-- this is the reply of a node's part of a step, and the memory holds the node after it
 abbrev pub Gives : Limits → ℕ → Reply × Node → Reply → NodeView → Type 0
 Gives size p outcome reply view = (outcome.0 ≡ reply) × ShowsNode size p view outcome.1
 
@@ -56,7 +56,7 @@ restart-call size p view new node doubtful image s down told acks e =
     over None = cond-true (says image node.records) _ _ said
     over (Some r) = cond-true (says image node.records) _ _ said
 
--- what an image says of a memory with one more record
+-- what an image says about a memory with one more record
 joined-told : (size : Limits) (p : ℕ) (view joined : NodeView) (node : Node) (r : Entry) (image : List Entry) → ShowsNode size p view node → are_rising view.pairs ≡ true → IsNext size p view.pairs view.certified r
     → SaysMore view joined r → tells image joined.pairs joined.certified joined.log joined.count ≡ says image (node.records ++ r ∷ [])
 joined-told size p view joined node r image s rise next more =
@@ -65,7 +65,7 @@ joined-told size p view joined node r image s rise next more =
     after : Node
     after = record { records = node.records ++ r ∷ []; state = joined.state; acks = joined.acks; heard = joined.heard; cursor = joined.cursor; broadcast = broadcast_after p r node.broadcast }
 
--- the image says what is stored, and the doubtful record
+-- the image says what is stored, followed by the doubtful record
 pub restart-joined-call : (size : Limits) (p : ℕ) (view new : NodeView) (node : Node) (r : Entry) (image : List Entry) → ShowsNode size p view node → view.state ≡ Down (Some r)
     → are_rising view.pairs ≡ true → IsNext size p view.pairs view.certified r → SaysMore view new r
     → tells image view.pairs view.certified view.log view.count ≡ false → tells image new.pairs new.certified new.log new.count ≡ true
@@ -80,7 +80,7 @@ restart-joined-call size p view new node r image s down rise next more old told 
         ∙ (cond-false (says image node.records) _ _ (sym (shown-told size p view node s image) ∙ old)
         ∙ cond-true (says image (node.records ++ r ∷ [])) _ _ (sym (joined-told size p view new node r image s rise next more) ∙ told))
 
--- it says neither: where no record is doubtful, and where one is
+-- it says neither, with or without a doubtful record
 pub bad_image-call : (size : Limits) (p : ℕ) (view : NodeView) (node : Node) (image : List Entry) → ShowsNode size p view node → view.state ≡ Down None
     → tells image view.pairs view.certified view.log view.count ≡ false → Gives size p (restarts p image node node.state) (Refused refusal.BadImage) view
 bad_image-call size p view node image s down old =

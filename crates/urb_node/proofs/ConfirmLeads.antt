@@ -1,4 +1,4 @@
--- A receipt of the held draft: what the layers hold once the record is stored is what the definition says.
+-- A receipt of the held draft: after it, the layers hold what the definition says.
 use Rattle.std.proofs.Common.{◌≡◌, ℕ, suc, ◌+◌, ◌-◌, true, false, not, ◌&&◌, List, length, Option, None, is_none, is_some, Ok, sym, ap, ◌∙◌, subst, arith}
 use Rattle.std.proofs.lemmas.Bool.{and_parts, cases_Bool, false≢true, not-true}
 use Rattle.std.proofs.Common.{⊎_elim}
@@ -23,7 +23,7 @@ use Rattle.urb_node.specs.Values.{Memory, Holding, ShowsReady, draft_of}
 use Rattle.urb_node.proofs.RecordOutcomes.{IsFirst, IsReleased, commit-says, same_limits, told_of}
 use Rattle.urb_node.specs.declared.cause.Cause.{Cause}
 
--- a certified name is pending, so one that is not pending is not certified
+-- a certified name is pending, so a name that is not pending is not certified
 pub first_held : {A : Type 0} (h : Held A) (r : Entry) → IsHeld h → IsNextHeld h r → IsFirst (memory_of h) r
 first_held h (Pend x m) k next = tt
 first_held h (PendCert x m) k next = ⊎_elim (λ e. absurd (false≢true (sym (gone (none_found _ free)) ∙ k.pending x e))) (λ e. e) (cases_Bool (has_name h.acks.certified x))
@@ -37,7 +37,7 @@ first_held h (Cert x) k next =
     let parts = and_parts (in_range h.config x) (is_some (message_of h.pending.pairs x) && not (has_name h.acks.certified x)) next.new in
     not-true (has_name h.acks.certified x) (and_parts (is_some (message_of h.pending.pairs x)) (not (has_name h.acks.certified x)) parts.1).1
 
--- a certificate is next of a name that is pending
+-- a certificate is next only for a pending name
 pub certified_pending : {A : Type 0} (h : Held A) (x : Label) → IsNextHeld h (Cert x) → is_some (message_of h.pending.pairs x) ≡ true
 certified_pending h x next =
     let parts = and_parts (in_range h.config x) (is_some (message_of h.pending.pairs x) && not (has_name h.acks.certified x)) next.new in

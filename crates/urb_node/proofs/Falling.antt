@@ -1,4 +1,4 @@
--- A node that stops: a record that it holds is in doubt, and a crash is then as a failed store.
+-- A node that stops: a record that it holds is in doubt; a crash is like a failed store.
 use Rattle.std.proofs.Common.{◌≡◌, None, Some, refl, subst, sym}
 use Rattle.std.specs.Prelude.{if◌then◌else◌}
 use Rattle.std.specs.Option.{ForSome}
@@ -14,7 +14,7 @@ use Rattle.urb_node.specs.Values.{Fallen, Holding, Memory, ShowsDown, ShowsReady
 use Rattle.urb_node.proofs.Drafts.{down-shows}
 use Rattle.urb_node.proofs.JoinedLayers.{forgetful}
 
--- what is next stays so as a record in doubt
+-- a record that is next stays next when it becomes doubtful
 pub doubtful-next : {A : Type 0} (h : Held A) (entry : Entry) → IsNextHeld h entry → ForSome (Some entry) (IsNextHeld h)
 doubtful-next h entry next r is = (let same : entry ≡ r = cc in subst (λ (x : Entry). IsNextHeld h x) same next)
 

@@ -1,4 +1,4 @@
--- Certified names and logs: what an image says of them, by what its certificates release.
+-- Certified names and logs: what an image says about them, given what its certificates release.
 use Rattle.std.proofs.Common.{◌≡◌, ◌∙◌, Bool, List, [], ap, ap₂, false, refl, reverse, subst, sym, true, map, ◌&&◌, ◌||◌, ◌∷◌}
 use Rattle.std.specs.Bool.{Decides}
 use Rattle.std.specs.List.{list_all}
@@ -54,7 +54,7 @@ unpaired : (xs : List Label) → map (λ (pair : Label × Content). pair.0) (pai
 unpaired [] = refl
 unpaired (x ∷ xs) = ap (λ zs. x ∷ zs) (unpaired xs)
 
--- they are one list
+-- they are the same list
 rising_same : (xs ys : List Label) → is_rising name_lt xs ≡ true → is_rising name_lt ys ≡ true → ((x : Label) → has_name xs x ≡ has_name ys x) → xs ≡ ys
 rising_same xs ys up down h =
     sym (unpaired xs)
@@ -66,7 +66,8 @@ rising_same xs ys up down h =
 
 -- ---- what is certified and delivered
 
--- whether the image has the same names certified and the same log, the release of its certificates tells
+-- the release of an image's certificates decides whether the image has the same certified names and
+-- log
 pub names_judged : (image : List Entry) (its other : Delivery) (r : Bool) → IsDelivery its → IsDelivery other → IsReleaseOf (reverse (cert image)) its
     → Decides r ((its.certified ≡ other.certified) × (its.log ≡ other.log)) → r ≡ (same_names (cert image) other.certified && same_list (log image) other.log)
 names_judged image its other r kept held rel decides = both_ways r (same_names (cert image) other.certified && same_list (log image) other.log) to from

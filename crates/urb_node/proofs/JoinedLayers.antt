@@ -1,4 +1,4 @@
--- The layers of a node once one more record has joined them.
+-- The layers of a node after one more record.
 use Rattle.std.proofs.Common.{◌≡◌, ℕ, suc, ◌+◌, ◌≤◌, Bool, true, false, cond, ◌&&◌, ◌||◌, List, [], ◌∷◌, ◌++◌, length, Option, Some, None, is_some, refl, sym, ap, ◌∙◌, subst, arith, inl, inr, ◌⊎◌, ⊎_elim}
 use Rattle.std.specs.Prelude.{if◌then◌else◌}
 use Rattle.std.proofs.lemmas.Bool.{false≢true, or_left, or_right, or_cases, and_from, and_parts}
@@ -49,11 +49,11 @@ stays-pending pairs p x h =
     let found = some_found (message_of pairs x) h in
     named (inserted p pairs) x found.0 (has_pair-inserted p pairs x found.0 ∙ or_right (same_name p.0 x && same_message p.1 found.0) _ (has_pair-found pairs x found.0 found.1))
 
--- a pair that joins is pending
+-- a pair that is added is pending
 pub joined-pending : (pairs : List (Label × Content)) (x : Label) (m : Content) → is_some (message_of (inserted (x, m) pairs) x) ≡ true
 joined-pending pairs x m = named (inserted (x, m) pairs) x m (has_pair-inserted (x, m) pairs x m ∙ or_left (same_name x x && same_message m m) _ (and_from (same_name x x) _ (same_name-same x) (same_message-same m)))
 
--- what is pending with a pair is that pair's name, or was pending
+-- a name that is pending after a pair was added is that pair's, or was pending before
 pending-cases : (pairs : List (Label × Content)) (x : Label) (m : Content) (y : Label) → is_some (message_of (inserted (x, m) pairs) y) ≡ true → (same_name x y ≡ true) ⊎ (is_some (message_of pairs y) ≡ true)
 pending-cases pairs x m y h =
     let found = some_found (message_of (inserted (x, m) pairs) y) h in
@@ -68,9 +68,9 @@ length-inserted p (q ∷ pairs) = at (length-inserted p pairs) (name_lt q.0 p.0)
     at ih true = ap suc ih
     at ih false = refl
 
--- ---- room
+-- ---- space
 
--- what there is room for stays so with one name more
+-- what has space keeps it when a name is added
 roomy-more : (names : List Label) (x y : Label) → has_name names y ≡ true → has_name (with_name names x) y ≡ true
 roomy-more names x y h = at (has_name names x)
   where
@@ -78,7 +78,7 @@ roomy-more names x y h = at (has_name names x)
     at true = h
     at false = any_insert (λ z. same_name z y) names _ x ∙ or_right (same_name x y) (has_name names y) h
 
--- room is made for what a pending record adds
+-- space is reserved for what a pending record adds
 pub room-kept : {A : Type 0} (h : Held A) (pending : PendingSet) (acks : AckSet) (resend : Resending) (x : Label) (client : ℕ) → IsHeld h → pending ≡ record h.pending { reserved = Some (x, client) } → acks ≡ record h.acks { reserved = Some x }
     → resend ≡ record h.resend { roomy = with_name h.resend.roomy x } → IsHeld (record h { pending = pending; acks = acks; resend = resend })
 room-kept h pending acks resend x client k e f g =
@@ -147,7 +147,7 @@ fifo-certified d x = at (has_name d.certified x)
     at true = (refl, refl)
     at false = (refl, refl)
 
--- a name among those with one more is that one, or was there
+-- a name among those with one more is the new one, or was there before
 pub with-cases : (names : List Label) (x y : Label) → has_name (certified_with names x) y ≡ true → (has_name names y ≡ true) ⊎ (same_name x y ≡ true)
 with-cases names x y = at (has_name names x)
   where
@@ -204,7 +204,7 @@ counted-kept h k more =
 
 -- ---- down
 
--- the memory once its acknowledgements are forgotten, and what was heard
+-- the memory once its acknowledgements and what it heard are dropped
 abbrev pub forgetful : Memory → Memory
 forgetful a = record a { acks = []; heard = [] }
 
@@ -215,7 +215,8 @@ falls h = (
       (refl, down-shows h.memory.limits h.memory.node (view_in (Storing h.entry h.cause) h.memory) (view_in (Down (Some h.entry)) (forgetful h.memory)) node s refl),
 )
 
--- the layers once their acknowledgements are forgotten, and what was heard: the node is down, and a record may be in doubt
+-- The layers once their acknowledgements and what was heard are dropped: the node is down, and a
+-- record may be in doubt.
 pub down-kept : {A : Type 0} (h : Held A) (acks : AckSet) (resend : Resending) (doubt : Option Entry) → IsHeld h → ForSome doubt (IsNextHeld h)
     → acks ≡ record h.acks { counted = []; reserved = None } → resend ≡ record h.resend { heard = [] } → IsFallen (record h { acks = acks; resend = resend }) doubt
 down-kept h acks resend doubt k next e f =

@@ -1,4 +1,4 @@
--- What a node's memory has to say once one more record is stored.
+-- What a node's memory must say once one more record is stored.
 use Rattle.std.proofs.Common.{Bool, List, None, Option, Some, [], ap, ap₂, append-nil, arith, cond, false, length, length-append, refl, reverse, subst, suc, sym, true, ℕ, ◌++◌, ◌+◌, ◌-◌, ◌==◌, ◌||◌, ◌∙◌, ◌∷◌, ◌≡◌}
 use Rattle.urb_names.proofs.FoundPairs.{own-other, own-push}
 use Rattle.urb_names.specs.Acknowledged.{acked, with_ack}
@@ -32,12 +32,12 @@ pub record SaysMore (view new : NodeView) (r : Entry) : Type 0 where
 
 -- ---- the log
 
--- the log of a memory whose record certifies nothing stays
+-- the log stays if the record certifies nothing
 pub log-stays : (view : NodeView) (log_after : List Label) (r : Entry) → cert (r ∷ []) ≡ [] → log_after ≡ view.log
     → (records : List Entry) → view.log ≡ log records → ((x : Label) → has_name view.certified x ≡ has_name (cert records) x) → log_after ≡ log (records ++ r ∷ [])
 log-stays view log_after r nothing e records l h = e ∙ (l ∙ ap (λ xs. released (reverse xs)) (sym (cert-append records (r ∷ []) ∙ (ap (λ xs. cert records ++ xs) nothing ∙ append-nil (cert records)))))
 
--- the log of a memory that keeps its certificates, newest first, is what they release
+-- the log of a memory that keeps its certificates, newest first, is their release
 pub log-released : (view : NodeView) (log_after certificates : List Label) (r : Entry) (x : Label) → cert (r ∷ []) ≡ x ∷ [] → view.log ≡ released certificates
     → ((y : Label) → has_name certificates y ≡ has_name view.certified y) → log_after ≡ released (x ∷ certificates)
     → (records : List Entry) → view.log ≡ log records → ((y : Label) → has_name view.certified y ≡ has_name (cert records) y) → log_after ≡ log (records ++ r ∷ [])
@@ -49,13 +49,13 @@ cause-same : (a b : List (Label × ℕ)) (y : Label) (cause : Option Cause) (x :
 cause-same a b y None x q e = e
 cause-same a b y (Some cause) x q e = with-same a b y cause.source x q e
 
--- what is counted after a record depends on what was counted
+-- what is counted after a record depends only on what was counted before
 after-same : (p : ℕ) (r : Entry) (cause : Option Cause) (a b : List (Label × ℕ)) (x : Label) (q : ℕ) → acked a x q ≡ acked b x q → acked (acks_after p r cause a) x q ≡ acked (acks_after p r cause b) x q
 after-same p (Pend y m) cause a b x q e = cause-same (with_ack a y p) (with_ack b y p) y cause x q (with-same a b y p x q e)
 after-same p (PendCert y m) cause a b x q e = cause-same (with_ack a y p) (with_ack b y p) y cause x q (with-same a b y p x q e)
 after-same p (Cert y) cause a b x q e = e
 
--- and so is what is heard
+-- and so does what is heard
 with_heard-same : (a b : List (Label × ℕ)) (y : Label) (o : Option ℕ) (x : Label) (q : ℕ) → acked a x q ≡ acked b x q → acked (with_heard a y o) x q ≡ acked (with_heard b y o) x q
 with_heard-same a b y None x q e = e
 with_heard-same a b y (Some z) x q e = with-same a b y z x q e
@@ -84,8 +84,8 @@ own-after p records r messages e = ap (broadcast_after p r) e ∙ over r
 
 -- ---- the node
 
--- A memory that says more shows a node with one more record, where its state, its cursor, what it counted and what it heard are
--- that node's.
+-- A memory that says more shows a node with one more record. Its state, cursor, acknowledgements
+-- and what it heard must be that node's.
 pub joined-shows : (size : Limits) (p : ℕ) (view new : NodeView) (node after : Node) (r : Entry) → ShowsNode size p view node
     → are_rising view.pairs ≡ true → IsNext size p view.pairs view.certified r → SaysMore view new r
     → after.records ≡ node.records ++ r ∷ [] → after.broadcast ≡ broadcast_after p r node.broadcast
@@ -129,7 +129,7 @@ confirm-shows size p view new node r cause s rise next more state cursor acks he
         left true b g = g
         left false b g = refl
 
--- what is told of it
+-- the effect reported for it
 pub done-shown : (size : Limits) (n p : ℕ) (view new : NodeView) (node : Node) (r : Entry) (cause : Option Cause) → ShowsNode size p view node → SaysMore view new r
     → done n p r cause node ≡ record { accepted = is_accepted p r; name = name_of r; sent = packets_of n p r cause; released = length new.log - length view.log }
 done-shown size n p view new node r cause s more =
@@ -163,7 +163,7 @@ up-joined-shows size p view new node r s rise next more state cursor acks nothin
     joined-shows size p view new node (comes_up p (node.records ++ r ∷ []) (broadcast_after p r node.broadcast)).1 r s rise next more refl refl state cursor
     (λ x q c. acks x q c ∙ shown-self size p plain after shown x q) unheard
   where
-    -- the same memory, with the very acknowledgements
+    -- the same memory, with exactly these acknowledgements
     plain : NodeView
     plain = record new { acks = own_acks p (node.records ++ r ∷ []) }
 

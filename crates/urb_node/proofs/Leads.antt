@@ -1,4 +1,4 @@
--- From what a node's memory finds out to where its call leads.
+-- From the outcome in a node's memory to the result of its call.
 use Rattle.std.proofs.Common.{◌≡◌, ℕ, suc, true, List, Result, Ok, Err, refl, sym, ap, ◌∙◌, subst}
 use Rattle.std.specs.Prelude.{IfOk, OnOk, OnErr, if◌then◌else◌}
 use Rattle.urb_names.specs.Naming.{Label, Content}
@@ -25,7 +25,7 @@ use Rattle.urb_node.specs.Moves.{IsRefusedAs, LeadsTo, MayGrow, Ticks}
 use Rattle.urb_node.proofs.Drafts.{tick-shows}
 use Rattle.urb_node.proofs.Told.{Says}
 
--- an outcome that takes memory is one whose reply may
+-- an outcome that allocates memory has a reply that may be refused for it
 grows : (told : Reply × Node) (outcome : Outcome) → Says told outcome → TakesMemory outcome → MayGrow told.0
 grows told (Answers (answer.Noted x) a) says takes = subst MayGrow (sym says.0) tt
 grows told (Answers (answer.Answered x packets) a) says takes = subst MayGrow (sym says.0) tt
@@ -59,7 +59,7 @@ is-refused told outcome (refusal.BadRow place) says is = refused told outcome (r
 is-refused told outcome (refusal.BadLine line) says is = refused told outcome (refusal.BadLine line) says is
 is-refused told outcome (refusal.Frame code) says is = refused told outcome (refusal.Frame code) says is
 
--- what was found leads where the definition's outcome says
+-- what was found leads to what the definition's outcome says
 pub found-leads : {A : Type 0} (held : Held A) (told : Reply × Node) (outcome : Outcome) (old new : Memory) (f : Found A) → Says told outcome → Finds old outcome (Ok f) new → IsSameNode old new → IsFoundIn held f
     → LeadsTo told old (Ok (step_from new f))
 found-leads held told outcome old new (found.Known a) says finds same in_it =
@@ -101,12 +101,12 @@ tick-leads a old new (Ok packets) rise is sent moved stays = ((refl, refl), λ n
         )
 tick-leads a old new (Err e) rise is sent moved stays = ap (λ (r : Resending). record a { heard = r.heard; cursor = r.cursor }) (stays ∙ is)
 
--- a tick changes neither where it is nor the room to hear
+-- a tick changes neither the node nor the space for certificates heard
 pub tick_keeps : (old new : Resending) (pairs : List (Label × Content)) (result : Result (List Carried) NoMemory) → OnOk result (new ≡ ticked old pairs) → OnErr result (new ≡ old) → (new.limits ≡ old.limits) × (new.node ≡ old.node) × (new.roomy ≡ old.roomy)
 tick_keeps old new pairs (Ok packets) moved stays = (ap (λ (r : Resending). r.limits) moved, ap (λ (r : Resending). r.node) moved, ap (λ (r : Resending). r.roomy) moved)
 tick_keeps old new pairs (Err e) moved stays = (ap (λ (r : Resending). r.limits) stays, ap (λ (r : Resending). r.node) stays, ap (λ (r : Resending). r.roomy) stays)
 
--- so what is held stays such
+-- so the invariant of what the node holds is preserved
 pub resend-kept : {A : Type 0} (h : Held A) (new : Resending) → IsHeld h → (new.limits ≡ h.resend.limits) × (new.node ≡ h.resend.node) × (new.roomy ≡ h.resend.roomy) → IsHeld (record h { resend = new })
 resend-kept h new k same = record {
   node = k.node;

@@ -1,4 +1,4 @@
--- Which drafts are next: that of a submit, that of an arrival, a certificate, and each record of an image.
+-- Which drafts are next: of a submit, of an arrival, and of a certificate; and an image's records.
 use Rattle.std.proofs.Common.{Bool, List, None, Some, [], ap, append_assoc, arith, cond, eq-eqb, eqb-true, false, inr, is_none, is_some, length, lt-ltb, map, nat_lt, not, refl, subst, suc, sym, true, ℕ, ⊎_elim, ◌&&◌, ◌||◌, ◌++◌, ◌<◌, ◌==◌, ◌∙◌, ◌∷◌, ◌≡◌, ◌≤◌}
 use Rattle.std.proofs.lemmas.Bool.{and_from, cases_Bool, cond-false, cond-true, false≢true}
 use Rattle.urb_names.proofs.FoundPairs.{no_pair}
@@ -17,9 +17,9 @@ use Rattle.urb_stable.specs.Fitting.{KeepsOwn, in_range, is_in_turn, is_new_to, 
 use Rattle.urb_stable.specs.Records.{cert, pend}
 use Rattle.urb_stable.specs.declared.record.Record.TheVariants.{Cert, Pend, PendCert}
 
--- ---- whose name is new
+-- ---- new names
 
--- a name that is not among those of the pairs is not pending
+-- a name that no pair has is not pending
 pub not_pending : (pairs : List (Label × Content)) (x : Label) → has_name (map (λ pair. pair.0) pairs) x ≡ false → message_of pairs x ≡ None
 not_pending [] x h = refl
 not_pending (pair ∷ pairs) x h = at (not_pending pairs x) (same_name pair.0 x) h
@@ -28,7 +28,7 @@ not_pending (pair ∷ pairs) x h = at (not_pending pairs x) (same_name pair.0 x)
     at ih true k = absurd (false≢true (sym k))
     at ih false k = ih k
 
--- where a node's own names are numbered 1, 2, 3, .., the next one is not pending
+-- if a node's own names are numbered 1, 2, 3, .., the next one is not pending
 pub next_own-fresh : (p : ℕ) (pairs : List (Label × Content)) → part_of p (map (λ pair. pair.0) pairs) ≡ names p (length (own p pairs)) → message_of pairs (name p (suc (length (own p pairs)))) ≡ None
 next_own-fresh p pairs h =
     not_pending pairs (name p (suc (length (own p pairs))))
@@ -38,7 +38,7 @@ next_own-fresh p pairs h =
 
 -- ---- drafts
 
--- a submit's: the next own name, and the next number of its client
+-- a submit's draft: the node's next name, and the next number of its client
 pub submit-next : (size : Limits) (p : ℕ) (pairs : List (Label × Content)) (certified : List Label) (m : Content) → p ≤ size.n → length (own p pairs) < size.cap
     → m.number ≡ next_number m.client (own p pairs) → message_of pairs (name p (suc (length (own p pairs)))) ≡ None
     → IsNext size p pairs certified (Pend (name p (suc (length (own p pairs)))) m) × IsNext size p pairs certified (PendCert (name p (suc (length (own p pairs)))) m)
@@ -58,7 +58,8 @@ submit-next size p pairs certified m is room number fresh = (record { new = new;
 range-from : (size : Limits) (x : Label) → x.sender ≤ size.n → x.seq ≤ size.cap → in_range size x ≡ true
 range-from size x s q = and_from (nat_lt x.sender (suc size.n)) _ (lt-ltb x.sender (suc size.n) (omega arith)) (lt-ltb x.seq (suc size.cap) (omega arith))
 
--- an arrival's: the name is not pending; so it is no own one, since an own one comes with the message that is pending
+-- An arrival's draft: the name is not pending. So it is not the node's own, because an own name
+-- comes only with the message that is pending.
 pub arrival-next : (size : Limits) (p : ℕ) (pairs : List (Label × Content)) (certified : List Label) (x : Label) (m : Content) → MayArrive size p pairs x m → message_of pairs x ≡ None
     → IsNext size p pairs certified (Pend x m) × IsNext size p pairs certified (PendCert x m)
 arrival-next size p pairs certified x m may fresh = (record { new = new; in_turn = in_turn }, record { new = new; in_turn = in_turn })
@@ -72,7 +73,7 @@ arrival-next size p pairs certified x m may fresh = (record { new = new; in_turn
     in_turn : cond (x.sender == p) (is_next_own (own p pairs) x m) true ≡ true
     in_turn = cond-false (x.sender == p) _ _ other
 
--- a certificate's: the name is pending and not certified
+-- a certificate's draft: the name is pending and not certified
 pub certificate-next : (size : Limits) (p : ℕ) (pairs : List (Label × Content)) (certified : List Label) (x : Label) → x.sender ≤ size.n → x.seq ≤ size.cap
     → is_some (message_of pairs x) ≡ true → has_name certified x ≡ false → IsNext size p pairs certified (Cert x)
 certificate-next size p pairs certified x s q pending open_ =
@@ -81,7 +82,7 @@ certificate-next size p pairs certified x s q pending open_ =
       in_turn = refl;
     }
 
--- a record that is next keeps rules A and B behind the records of the node that the memory shows
+-- a record that is next keeps rules A and B after the records of the node that the memory shows
 pub next-keeps : (size : Limits) (p : ℕ) (view : NodeView) (node : Node) (r : Entry) → ShowsNode size p view node → are_rising view.pairs ≡ true → IsNext size p view.pairs view.certified r
     → (keeps_a size node.records r ≡ true) × (keeps_b p node.records r ≡ true)
 next-keeps size p view node r s rise next = (over r next.new, ap (λ ms. is_in_turn p ms r) (sym s.broadcast ∙ shown-broadcast size p view node s rise) ∙ next.in_turn)
@@ -93,7 +94,7 @@ next-keeps size p view node r s rise next = (over r next.new, ap (λ ms. is_in_t
         ap (λ o. in_range size x && (is_some o && not (has_name (cert node.records) x))) (sym (shown-found size p view node s x))
         ∙ (ap (λ b. in_range size x && (is_some (message_of view.pairs x) && not b)) (sym (s.certified x)) ∙ h)
 
--- and a record that keeps them there is next
+-- and a record that keeps these rules there is next
 pub keeps-next : (size : Limits) (p : ℕ) (view : NodeView) (node : Node) (r : Entry) → ShowsNode size p view node → are_rising view.pairs ≡ true
     → keeps_a size node.records r ≡ true → keeps_b p node.records r ≡ true → IsNext size p view.pairs view.certified r
 keeps-next size p view node r s rise a b = record { new = over r a; in_turn = ap (λ ms. is_in_turn p ms r) (sym (shown-broadcast size p view node s rise) ∙ s.broadcast) ∙ b }

@@ -1,4 +1,4 @@
--- A node that is opened from its image.
+-- A node opened from its image.
 use Rattle.std.proofs.Common.{List, None, [], ap, false, length, refl, subst, true, ℕ, ◌++◌, ◌∷◌, ◌≡◌}
 use Rattle.urb_names.specs.Acknowledged.{acked}
 use Rattle.urb_names.specs.Cyclic.{are_rising}
@@ -15,7 +15,7 @@ use Rattle.urb_stable.specs.Fitting.{KeepsOwn}
 use Rattle.urb_stable.specs.Log.{log}
 use Rattle.urb_stable.specs.Records.{cert, pend}
 
--- a node that shows its image has only to say what it holds of it
+-- to show the node opened from an image, a memory only has to say what it holds of the image
 pub shows-opened_node : (size : Limits) (p : ℕ) (view : NodeView) (records : List Entry) → KeepsOwn size p [] records
     → ((x : Label) (m : Content) → has_pair view.pairs x m ≡ has_pair (pend records) x m) → ((x : Label) → has_name view.certified x ≡ has_name (cert records) x)
     → view.log ≡ log records → view.count ≡ length records → view.state ≡ Ready → view.cursor ≡ None
@@ -23,7 +23,7 @@ pub shows-opened_node : (size : Limits) (p : ℕ) (view : NodeView) (records : L
     → view.heard ≡ [] → ShowsNode size p view (opened_node p records)
 shows-opened_node size p view records k pairs certified l n s c a h = record { pairs = pairs; certified = certified; log = l; count = n; state = s; cursor = c; acks = a; heard = λ x q. ap (λ heard. acked heard x q) h; rules = k; broadcast = refl }
 
--- a memory that holds nothing shows a node that has read nothing
+-- an empty memory shows a node that has read nothing
 pub nothing-shows : (size : Limits) (p : ℕ) → ShowsNode size p no_view (opened_node p [])
 nothing-shows size p = record { pairs = λ x m. refl; certified = λ x. refl; log = refl; count = refl; state = refl; cursor = refl; acks = λ x q c. refl; heard = λ x q. refl; rules = tt; broadcast = refl }
 

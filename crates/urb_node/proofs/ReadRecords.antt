@@ -24,7 +24,8 @@ use Rattle.urb_stable.specs.Fitting.{KeepsOwn}
 use Rattle.urb_stable.specs.Records.{cert}
 use Rattle.urb_stable.specs.declared.record.Record.TheVariants.{Cert, Pend, PendCert}
 
--- the layers are those of this node once it has read the records before, and these are behind them
+-- the layers are this node's once it has read the records before, and these records are still to
+-- read
 pub record HasRead {A : Type 0} (limits : Limits) (p : ℕ) (records before behind : List Entry) (h : Held A) : Type 0 where
   pub list : before ++ behind ≡ records
   pub held : IsHeld h
@@ -67,13 +68,13 @@ self-record a (Pend y m) x q h = counted-with a.acks y a.node x q ∙ (acked-wit
 self-record a (PendCert y m) x q h = counted-with a.acks y a.node x q ∙ (acked-with a.acks y a.node x q ∙ (ap (λ c. (same_name y x && (a.node == q)) || c) h ∙ sym (self-inserted a.node (y, m) a.pairs x q)))
 self-record a (Cert y) x q h = h
 
--- the rules of the image, as those of the layers' node
+-- the rules of the image hold for the layers' node
 own_rules : {A : Type 0} (limits : Limits) (p : ℕ) (records before behind : List Entry) (h : Held A) → HasRead limits p records before behind h → KeepsOwn limits p [] records → KeepsOwn h.config h.node [] (before ++ behind)
 own_rules limits p records before behind h read rules =
     subst (λ (rs : List Entry). KeepsOwn h.config h.node [] rs) (sym read.list)
     (subst (λ (l : Limits). KeepsOwn l h.node [] records) (sym read.limits_are) (subst (λ (i : ℕ). KeepsOwn limits i [] records) (sym read.node_is) rules))
 
--- the next record of the image is next behind what is held
+-- the next record of the image may come next after what is held
 pub read-next : {A : Type 0} (limits : Limits) (p : ℕ) (records before : List Entry) (r : Entry) (behind : List Entry) (h : Held A) → HasRead limits p records before (r ∷ behind) h → KeepsOwn limits p [] records → IsPendingSet h.pending
     → IsNextHeld h r
 read-next limits p records before r behind h read rules pending =

@@ -1,4 +1,4 @@
--- What a node's memory holds once its record is stored is what the definition says for every node that it shows.
+-- What a memory holds once its record is stored is the definition's for every node that it shows.
 use Rattle.std.proofs.Common.{◌≡◌, ℕ, suc, ◌-◌, Bool, true, false, not, ◌&&◌, ◌||◌, ◌==◌, List, ◌∷◌, ◌++◌, length, filter, Option, Some, None, refl, sym, ap, ap₂, ◌∙◌, subst, eq-eqb}
 use Rattle.std.specs.Prelude.{if◌then◌else◌}
 use Rattle.std.proofs.lemmas.Bool.{and_from, cond-true}
@@ -29,7 +29,7 @@ use Rattle.urb_node.proofs.JoinedMemory.{SaysMore, confirm-shows, done-shown, lo
 use Rattle.urb_node.proofs.ArriveOutcomes.{counted-with}
 use Rattle.urb_node.specs.declared.cause.Cause.{Cause}
 
--- the log is the release of certificates, the newest first, and they are all that is certified
+-- the log is the release of certificates, the newest first, and exactly these names are certified
 pub record IsReleased (a : Memory) : Type 0 where
   pub certificates : List Label
   pub log : a.log ≡ released certificates
@@ -58,7 +58,7 @@ named-with certified x y new =
     ap (λ (c : Bool). has_name (if c then certified else placed name_lt certified x) y) new
     ∙ (any_insert (λ z. same_name z y) certified _ x ∙ behind (same_name x y) (has_name certified y))
 
--- what a memory delivers by one more certificate
+-- what a memory delivers with one more certificate
 delivers-more : (a : Memory) (x : Label) (h : IsReleased a) → has_name a.certified x ≡ false → delivered_with a.log a.certified x ≡ released (x ∷ h.certificates)
 delivers-more a x h new =
     ap (λ (c : Bool). if c then a.log else a.log ++ newly_released a.log a.certified x) new
@@ -102,7 +102,7 @@ record-acks a (Cert x) cause y z = refl
 record-acks a (Pend x m) (Some cause) y z = counted-with (counted_with a.acks x a.node) x cause.source y z ∙ with-same (counted_with a.acks x a.node) (with_ack a.acks x a.node) x cause.source y z (counted-with a.acks x a.node y z)
 record-acks a (PendCert x m) (Some cause) y z = counted-with (counted_with a.acks x a.node) x cause.source y z ∙ with-same (counted_with a.acks x a.node) (with_ack a.acks x a.node) x cause.source y z (counted-with a.acks x a.node y z)
 
--- what was heard, with what the cause told
+-- what was heard, with what the cause reported
 heard-with : (heard : List (Label × ℕ)) (x : Label) (o : Option ℕ) (y : Label) (z : ℕ) → acked (heard_with heard x o) y z ≡ acked (with_heard heard x o) y z
 heard-with heard x None y z = refl
 heard-with heard x (Some q) y z = counted-with heard x q y z
@@ -119,7 +119,7 @@ same_limits a (Cert x) cause = (refl, refl)
 
 -- ---- the commit
 
--- what is told of the held record once it is stored
+-- the effect reported for the held record once it is stored
 abbrev pub told_of : Holding → Done
 told_of h =
     record {
@@ -129,8 +129,8 @@ told_of h =
       released = length (with_record h.memory h.entry h.cause).log - length h.memory.log;
     }
 
--- For every node that a node with a draft shows: the draft's receipt is committed, and the memory with the record shows
--- the node after it.
+-- For every node that a node with a draft shows: the draft's receipt is committed, and the memory
+-- with the record shows the node after it.
 pub commit-says : (h : Holding) (node : Node) → ShowsStoring h node → are_rising h.memory.pairs ≡ true
     → IsNext h.memory.limits h.memory.node h.memory.pairs h.memory.certified h.entry → IsReleased h.memory → IsFirst h.memory h.entry
     → ((commits h.memory.limits.n h.memory.node (suc h.memory.count) h.entry node node.state).0 ≡ Stored (told_of h))

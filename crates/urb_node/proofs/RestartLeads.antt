@@ -1,4 +1,4 @@
--- A restart: what the image says of a node's memory leads where the definition leads.
+-- A restart: what the image says about a node's memory leads to the definition's result.
 use Rattle.std.proofs.Common.{◌≡◌, ◌∙◌, Bool, Err, List, None, Ok, Option, Some, [], ap, cond, false, refl, subst, sym, true, ℕ, ◌&&◌, ◌==◌, ◌++◌, ◌∷◌, ◌||◌}
 use Rattle.std.specs.Prelude.{if◌then◌else◌}
 use Rattle.std.specs.Option.{ForSome}
@@ -32,7 +32,7 @@ stored-leads a doubt image acks nothing told counted = (
       (ap (λ (heard : List (Label × ℕ)). view_in Ready (record a { acks = acks; heard = heard; cursor = None })) nothing),
 )
 
--- ---- what is stored, and the doubtful record
+-- ---- what is stored, followed by the doubtful record
 
 turned : (a b c : Bool) → (a || (b || c)) ≡ (b || (a || c))
 turned true true c = refl
@@ -69,7 +69,7 @@ joined-more a r acks released first =
     same_first (PendCert x m) f = f
     same_first (Cert x) f = f
 
--- what it says does not depend on the acknowledgements
+-- what the image says does not depend on the acknowledgements
 says-joined : (image : List Entry) (a : Memory) (acks : List (Label × ℕ)) (r : Entry) → Says image (with_record a r None) → Says image (with_record (record a { acks = acks }) r None)
 says-joined image a acks (Pend x m) told = told
 says-joined image a acks (PendCert x m) told = told

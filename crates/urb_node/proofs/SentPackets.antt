@@ -1,4 +1,4 @@
--- The packets that a node hands out are of its stored pairs.
+-- The packets that a node returns carry its stored pairs.
 use Rattle.std.proofs.Common.{Bool, Err, List, None, Ok, Option, Result, Some, [], false, refl, subst, sym, true, ℕ, ◌∙◌, ◌∷◌, ◌≡◌}
 use Rattle.std.proofs.lemmas.Bool.{false≢true, or_left}
 use Rattle.std.specs.Prelude.{IfOk, if◌then◌else◌}
@@ -36,13 +36,13 @@ use Rattle.urb_node.specs.declared.found.Found.TheVariants as found
 use Rattle.urb_node.specs.declared.step.Step.{Step}
 use Rattle.urb_node.specs.declared.step.Step.TheVariants as step
 
--- packets of the pairs in memory are of the stored ones of each node that is shown
+-- packets of the pairs in memory carry stored pairs of each node that is shown
 pub of-stored : (state : State) (a : Memory) (packets : List Carried) → AreFrom a.node a.pairs a.certified packets → AreOfStored (ShowsIn state a) a.node packets
 of-stored state a packets from node s =
     all_weaker (IsFrom a.node a.pairs a.certified) _ packets
     (λ packet f. record { source = f.source; pair = sym (s.pairs packet.name packet.message) ∙ f.pair; certificate = λ says. sym (s.certified packet.name) ∙ f.certificate says }) from
 
--- the packets of a record are of the pairs in memory once it is stored
+-- the packets of a record carry pairs in memory once it is stored
 inserted-pair : (pairs : List (Label × Content)) (pair : Label × Content) → has_pair (inserted pair pairs) pair.0 pair.1 ≡ true
 inserted-pair pairs pair = has_pair-inserted pair pairs pair.0 pair.1 ∙ has_pair-head pair pairs
 
@@ -64,7 +64,7 @@ stored-from old new r cause packets after is =
     (subst (λ (a : Memory). AreFrom a.node a.pairs a.certified (packets_of old.limits.n old.node r cause)) (sym after)
     (subst (λ (p : ℕ). AreFrom p (with_record old r cause).pairs (with_record old r cause).certified (packets_of old.limits.n old.node r cause)) (sym (same_limits old r cause).1) (record-from old.limits.n old.node old r cause)))
 
--- the packets of a tick are of the pairs in memory
+-- the packets of a tick carry pairs in memory
 pub tick-from : (a : Memory) (old : Resending) (result : Result (List Carried) NoMemory) → old.node ≡ a.node → IfOk result (λ packets. packets ≡ tick_packets old a.pairs a.certified) → IfOk result (AreFrom a.node a.pairs a.certified)
 tick-from a old (Ok packets) is sent =
     subst (λ (ps : List Carried). AreFrom a.node a.pairs a.certified ps) (sym sent)
@@ -77,12 +77,12 @@ tick-of_stored state a (Err e) from = tt
 
 -- ---- answers
 
--- an answer is of a pair in memory whose name is certified there
+-- an answer carries a pair in memory whose name is certified there
 pub answer-from : (p q : ℕ) (pairs : List (Label × Content)) (certified : List Label) (x : Label) (m : Content) (heard : Bool) → has_pair pairs x m ≡ true → has_name certified x ≡ true
     → AreFrom p pairs certified (answer_with p q x m heard ∷ [])
 answer-from p q pairs certified x m heard h k = (record { source = refl; pair = h; certificate = λ says. k }, tt)
 
--- the packets of an outcome's answer are of the pairs in memory then
+-- the packets of an outcome's answer carry pairs that are then in memory
 abbrev pub AreAnswersFrom : Outcome → Type 0
 AreAnswersFrom (Answers told a) = AreFrom a.node a.pairs a.certified (packets_with told)
 AreAnswersFrom (Refuses r) = Unit {0}
@@ -121,7 +121,7 @@ arrive-from a q x m flags same = found (message_of a.pairs x) refl
     found None e = tt
     found (Some first) e = known first e (has_name a.certified x) refl
 
--- so is what a step hands out that leads from a packet
+-- so do the packets of the step that follows from a packet
 pub arrived-from : {A : Type 0} (a : Memory) (q : ℕ) (x : Label) (m : Content) (flags : Option Flags) (new : Memory) (f : Found A) → ((o : Content) → message_of a.pairs x ≡ Some o → o ≡ m)
     → Finds a (arrive_outcome a q x m flags) (Ok f) new → AnswersFrom (step_from new f)
 arrived-from a q x m flags new (found.Known told) same finds = subst (λ (outcome : Outcome). AreAnswersFrom outcome) finds (arrive-from a q x m flags same)

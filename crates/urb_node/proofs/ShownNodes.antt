@@ -1,4 +1,4 @@
--- What a node's memory says of the node that it shows.
+-- What a node's memory says about the node that it shows.
 use Rattle.std.proofs.Common.{Bool, List, Some, [], ap, ap₂, cond, eqb-true, false, length, is_some, refl, subst, suc, sym, true, ℕ, ⊎_elim, ◌&&◌, ◌==◌, ◌||◌, ◌∙◌, ◌∷◌, ◌≡◌}
 use Rattle.std.proofs.Math.Path.{fun_ext}
 use Rattle.std.proofs.lemmas.Bool.{and_from, and_parts, false≢true, or_cases, or_left, or_right}
@@ -31,7 +31,7 @@ found-some (p ∷ ps) x m h = at (found-some ps x m) (same_name p.0 x) h
     at ih true h = (p.1, refl)
     at ih false h = ih h
 
--- a list with the pairs of one that has one message a name
+-- a list has one message per name if it has the same pairs as such a list
 pub unique-same : (ps qs : List (Label × Content)) → ((x : Label) (m : Content) → has_pair ps x m ≡ has_pair qs x m) → Unique qs → Unique ps
 unique-same ps qs same u x m h =
     let f = found-some ps x m h in
@@ -41,7 +41,7 @@ unique-same ps qs same u x m h =
 pub shown-unique : (size : Limits) (p : ℕ) (view : NodeView) (node : Node) → ShowsNode size p view node → Unique view.pairs
 shown-unique size p view node s = unique-same view.pairs (pend node.records) s.pairs (own-unique size p node.records s.rules)
 
--- what the memory finds under a name, the records have
+-- the records have what the memory finds under a name
 pub shown-found : (size : Limits) (p : ℕ) (view : NodeView) (node : Node) → ShowsNode size p view node → (x : Label) → message_of view.pairs x ≡ message_of (pend node.records) x
 shown-found size p view node s = same_found view.pairs (pend node.records) s.pairs (shown-unique size p view node s) (own-unique size p node.records s.rules)
 
@@ -49,11 +49,11 @@ shown-found size p view node s = same_found view.pairs (pend node.records) s.pai
 pub shown-rising : (size : Limits) (p : ℕ) (view : NodeView) (node : Node) → ShowsNode size p view node → are_rising view.pairs ≡ true → rising (pend node.records) ≡ view.pairs
 shown-rising size p view node s r = rising-records size p node.records view.pairs s.rules r s.pairs
 
--- and its own ones are what the node has broadcast
+-- and the node's own messages among them are what it has broadcast
 pub shown-broadcast : (size : Limits) (p : ℕ) (view : NodeView) (node : Node) → ShowsNode size p view node → are_rising view.pairs ≡ true → node.broadcast ≡ own p view.pairs
 shown-broadcast size p view node s r = s.broadcast ∙ sym (own-records size p node.records view.pairs s.rules r s.pairs)
 
--- where its next record goes
+-- the position of the next record
 pub shown-position : (size : Limits) (p : ℕ) (view : NodeView) (node : Node) → ShowsNode size p view node → next_position node ≡ suc view.count
 shown-position size p view node s = ap suc (sym s.count)
 
@@ -71,11 +71,11 @@ acked-with acks y z x q = at (acked acks y z) refl (same_name y x) refl (z == q)
     at true e true f false g = sym (ap₂ (λ s t. (s && t) || acked acks x q) f g)
     at true e false f d g = sym (ap (λ s. (s && (z == q)) || acked acks x q) f)
 
--- it is counted whatever list the others stand in
+-- the result doesn't depend on the order of the list
 pub with-same : (a b : List (Label × ℕ)) (y : Label) (z : ℕ) (x : Label) (q : ℕ) → acked a x q ≡ acked b x q → acked (with_ack a y z) x q ≡ acked (with_ack b y z) x q
 with-same a b y z x q e = acked-with a y z x q ∙ (ap (λ c. (same_name y x && (z == q)) || c) e ∙ sym (acked-with b y z x q))
 
--- whether a node's acknowledgement makes the nodes of a name a majority, the memory tells
+-- the memory decides whether a node's acknowledgement completes a majority for a name
 pub shown-majority : (size : Limits) (p : ℕ) (view : NodeView) (node : Node) → ShowsNode size p view node → (x : Label) (q : ℕ) → has_name view.certified x ≡ false
     → majority_passes size.n (acked (with_ack view.acks x q) x) ≡ majority_passes size.n (acked (with_ack node.acks x q) x)
 shown-majority size p view node s x q c =
@@ -95,7 +95,7 @@ acked-self p (pair ∷ ps) x q = at (acked-self p ps x q) (same_name pair.0 x)
     at ih true = both (p == q) (is_some (message_of ps x)) (acked (self_acks p ps) x q) ih
     at ih false = ih
 
--- a node that comes up counts itself for the pairs that its memory has
+-- a node that comes up counts itself for the pairs in its memory
 pub shown-self : (size : Limits) (p : ℕ) (view : NodeView) (node : Node) → ShowsNode size p view node → (x : Label) (q : ℕ) → acked (self_acks p view.pairs) x q ≡ acked (own_acks p node.records) x q
 shown-self size p view node s x q =
     acked-self p view.pairs x q ∙ (ap (λ o. is_some o && (p == q)) (shown-found size p view node s x) ∙ sym (acked-self p (pend node.records) x q))
@@ -139,7 +139,7 @@ names-told zs xs ys h = both_ways (same_names zs xs) (same_names zs ys) (λ e. t
         let parts = and_parts (list_all (has_name xs) zs) (list_all (has_name zs) xs) e in
         and_from (list_all (has_name ys) zs) _ (from_named zs ys (λ x k. sym (h x) ∙ all_named zs xs parts.0 x k)) (from_named ys zs (λ x k. all_named xs zs parts.1 x (h x ∙ k)))
 
--- whether an image says what is stored, the memory tells
+-- the memory decides whether an image says what is stored
 pub shown-told : (size : Limits) (p : ℕ) (view : NodeView) (node : Node) → ShowsNode size p view node → (image : List Entry) → tells image view.pairs view.certified view.log view.count ≡ says image node.records
 shown-told size p view node s image =
     ap₂ (λ a b. a && (b && (same_list (log image) view.log && (length image == view.count)))) (pairs-told (pend image) view.pairs (pend node.records) s.pairs) (names-told (cert image) view.certified (cert node.records) s.certified)

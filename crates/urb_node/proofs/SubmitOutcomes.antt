@@ -1,4 +1,4 @@
--- What a memory finds out about a submit is what the definition says for every node that it shows.
+-- The outcome of a submit in a memory is the definition's for every node that the memory shows.
 use Rattle.std.proofs.Common.{◌≡◌, ℕ, zero, suc, ◌+◌, ◌*◌, ◌≤◌, Bool, true, false, cond, not, ◌==◌, nat_lt, List, [], ◌∷◌, length, find, bytes_eq, Option, Some, None, slice_get, refl, sym, ap, ◌∙◌, subst, arith, ne_eqb, le-ltb}
 use Rattle.std.specs.Prelude.{option_map, if◌then◌else◌}
 use Rattle.std.specs.List.{position_or_len, prefix_len}
@@ -24,7 +24,7 @@ use Rattle.urb_node.proofs.Drafts.{draft-shows}
 use Rattle.urb_node.proofs.Told.{Says}
 use Rattle.urb_node.specs.declared.cause.Cause.{Cause}
 
--- what is found first stands at its place
+-- what `find` finds is at its place
 pub find-place : {X : Type 0} (test : X → Bool) (xs : List X) (x : X) → find test xs ≡ Some x → slice_get xs (position_or_len test xs) ≡ Some x
 find-place test [] x e = cc
 find-place test (y ∷ xs) x e = at (find-place test xs x) (test y) e
@@ -34,7 +34,7 @@ find-place test (y ∷ xs) x e = at (find-place test xs x) (test y) e
     at ih true h = h
     at ih false h = let one : 1 + prefix_len (λ z. not (test z)) xs ≡ suc (prefix_len (λ z. not (test z)) xs) = omega arith in ap (slice_get (y ∷ xs)) one ∙ ih h
 
--- one of n nodes is a majority exactly where it is the only one
+-- one of n nodes is a majority exactly if it is the only one
 pub alone : (n : ℕ) → 1 ≤ n → (n == 1) ≡ is_majority 1 n
 alone zero h = absurd (omega arith)
 alone (suc zero) h = refl
@@ -97,7 +97,7 @@ again-says a m first node s b e = at (bytes_eq first.payload m.payload)
     at true = (ap (λ messages. Same (answer.Accepted (name a.node (suc (position_or_len (is_numbered m.client m.number) messages))))) b, s)
     at false = refl
 
--- For every node that the memory shows, what it finds out is what the definition says of a submit.
+-- For every node that the memory shows, the outcome is what the definition says about a submit.
 pub submit-says : (a : Memory) (m : Content) (node : Node) → ShowsReady a node → are_rising a.pairs ≡ true → 1 ≤ a.limits.n → Says (submits a.limits a.node m node) (submit_outcome a m)
 submit-says a m node s rise some =
     subst (λ (state : State). Says (

@@ -1,4 +1,4 @@
--- What a memory tells of a node's stored records is what the definition says of every node that it shows.
+-- What a memory answers about a node's records is the definition's for every node that it shows.
 use Rattle.std.proofs.Common.{◌≡◌, ◌∙◌, Bool, List, ap, length, sym, true, ℕ, Option}
 use Rattle.urb_names.specs.Names.{has_name}
 use Rattle.urb_names.specs.Naming.{Content, Label}

@@ -1,4 +1,4 @@
--- A definition's outcome for a node, and what the node's memory finds out, say the same.
+-- The definition's outcome for a node and the outcome in the node's memory say the same.
 use Rattle.std.proofs.Common.{◌≡◌, suc}
 use Rattle.urb_stable.specs.Entries.{name_of}
 use Rattle.urb_node.specs.Part.{Node}
@@ -6,8 +6,9 @@ use Rattle.urb_node.specs.Replies.{Reply, Drafted, Same, Refused}
 use Rattle.urb_node.specs.Values.{ShowsReady, ShowsStoring}
 use Rattle.urb_node.specs.Outcomes.{Outcome, Answers, Refuses, Wants}
 
--- the reply is the answer, and the memory shows the node after it; or the reply is the refusal; or it is a draft of the
--- record that is wanted, and the memory with that record shows the node after it
+-- The reply is the answer, and the memory shows the node after it. Or the reply is the refusal. Or
+-- it is a draft of the record that is wanted, and the memory with that record shows the node after
+-- it.
 abbrev pub Says : Reply × Node → Outcome → Type 0
 Says told (Answers answer a) = (told.0 ≡ Same answer) × ShowsReady a told.1
 Says told (Refuses refusal) = told.0 ≡ Refused refusal

@@ -1,4 +1,4 @@
--- What an image says of a memory, with and without a doubtful record.
+-- What an image says about a memory, with and without a doubtful record.
 use Rattle.std.proofs.Common.{◌≡◌, ◌∙◌, ◌≤◌, Bool, List, None, Option, Some, [], ap, ap₂, arith, false, length, refl, subst, suc, sym, true, ℕ, ◌&&◌, ◌+◌, ◌++◌, ◌==◌, ◌∷◌, ◌||◌, lt-ltb, nat_lt, ⊎_elim}
 use Rattle.std.specs.Bool.{MatchBool}
 use Rattle.std.specs.List.{list_all}
@@ -39,7 +39,7 @@ range_is size x h =
 in_range_is : (size : Limits) (x : Label) → x.sender ≤ size.n → x.seq ≤ size.cap → in_range size x ≡ true
 in_range_is size x sender seq = and_from (nat_lt x.sender (suc size.n)) _ (lt-ltb x.sender (suc size.n) (omega arith)) (lt-ltb x.seq (suc size.cap) (omega arith))
 
--- the name of a record that is next is the group's
+-- the group may have the name of a record that is next
 next_in_range : (a : Memory) (r : Entry) → IsNextIn a r → in_range a.limits (name_of r) ≡ true
 next_in_range a (Pend x m) next = (and_parts (in_range a.limits x) _ next.new).0
 next_in_range a (PendCert x m) next = (and_parts (in_range a.limits x) _ next.new).0
@@ -103,7 +103,7 @@ behind true false = refl
 behind false true = refl
 behind false false = refl
 
--- what an image says of the pairs in whatever order
+-- what an image says about the pairs doesn't depend on their order
 moved : (image : List Entry) (pairs : List (Label × Content)) (x : Label) (m : Content) (certified delivered : List Label) (count : ℕ) → tells image (pairs ++ (x, m) ∷ []) certified delivered count ≡ tells image (inserted (x, m) pairs) certified delivered count
 moved image pairs x m certified delivered count =
     ap (λ b. b && (same_names (cert image) certified && (same_list (log image) delivered && (length image == count)))) (pairs-told (pend image) (pairs ++ (x, m) ∷ []) (inserted (x, m) pairs) each)
@@ -118,7 +118,7 @@ none_more : (pairs : List (Label × Content)) → pairs ++ [] ≡ pairs
 none_more [] = refl
 none_more (pair ∷ pairs) = ap (λ ps. pair ∷ ps) (none_more pairs)
 
--- what it says with the doubtful record's pair, certificate and release
+-- what it says together with the doubtful record's pair, certificate and release
 pub told_with : (a : Memory) (r : Entry) (image : List Entry) → tells image (pairs_with a.pairs (Some r)) (certified_by a.certified (Some r)) (delivered_by a.log a.certified (Some r)) (a.count + 1)
     ≡ tells image (with_record a r None).pairs (with_record a r None).certified (with_record a r None).log (with_record a r None).count
 told_with a (Pend x m) image = ap (tells image (a.pairs ++ (x, m) ∷ []) a.certified a.log) (one a.count) ∙ moved image a.pairs x m a.certified a.log (suc a.count)
@@ -128,7 +128,7 @@ told_with a (PendCert x m) image =
 told_with a (Cert x) image =
     ap₂ (λ pairs count. tells image pairs (certified_by a.certified (Some (Cert x))) (delivered_by a.log a.certified (Some (Cert x))) count) (none_more a.pairs) (one a.count)
 
--- whether it says that, where the layers have it so
+-- whether it says that, if the layers hold these
 pub joined_decides : {A : Type 0} (h : Held A) (doubt : Option Entry) (r : Entry) (image : List Entry) (certified delivered : List Label) (result : Bool) → IsHeld h → doubt ≡ Some r
     → certified ≡ certified_by h.fifo.certified doubt → delivered ≡ delivered_by h.fifo.log h.fifo.certified doubt
     → result ≡ tells image (pairs_with h.pending.pairs doubt) certified delivered (h.stored + 1) → MatchBool result (SaysWith image (memory_of h) doubt) (IsOtherThan image (memory_of h) doubt)

@@ -1,4 +1,4 @@
--- Which drafts a ready node can hold: their records are next, and there is room for them.
+-- The drafts that a ready node can hold: their records are next, and there is space for them.
 use Rattle.std.proofs.Common.{◌≡◌, ℕ, suc, ◌+◌, ◌*◌, ◌<◌, ◌≤◌, ◌<◌, Bool, true, false, not, ◌==◌, nat_lt, List, [], ◌∷◌, length, map, Option, Some, None, refl, sym, ap, ap₂, ◌∙◌, subst, arith, eq-eqb, lt-ltb, le-ltb, Fits, w32}
 use Rattle.std.specs.Prelude.{if◌then◌else◌, is_some, nat_le, option_map}
 use Rattle.std.proofs.lemmas.List.{length-map}
@@ -85,7 +85,7 @@ submit-wants a m entry b short new number room alone is =
     ∙ (cond-false (not (nat_lt (length (own_of a)) a.limits.cap)) _ _ (ap not (lt-ltb _ _ room))
     ∙ ap (λ entry. Wants entry None a) (sym (is ∙ ap (λ b. pending_entry b (name a.node (suc (length (own_of a)))) m) alone)))))
 
--- what a submit found that wants a record stored: q is the node's number, as the pending set has it
+-- a submit's outcome that wants a record stored; q is the node's number in the pending set
 pub submit-told : (a : Memory) (q : ℕ) (m : Content) (entry : Entry) (cause : Option Cause) (b : Bool) (after : Memory) → q ≡ a.node → length m.payload ≤ MAX_PAYLOAD → name_given q m.client m.number (own q a.pairs) ≡ None
     → m.number ≡ next_number m.client (own q a.pairs) → length (own q a.pairs) < a.limits.cap → b ≡ is_majority 1 a.limits.n → entry ≡ pending_entry b (name a.node (length (own q a.pairs) + 1)) m → cause ≡ None → after ≡ a
     → submit_outcome a m ≡ Wants entry cause after
@@ -103,7 +103,7 @@ pub arrived-next : (limits : Limits) (p : ℕ) (pairs : List (Label × Content))
     → IsNext limits p pairs certified (pending_entry b x m)
 arrived-next limits p pairs certified x m b may fresh = either_next limits p pairs certified x m b (arrival-next limits p pairs certified x m may fresh)
 
--- what an arrival found that wants a record stored
+-- an arrival's outcome that wants a record stored
 pub arrive-told : (a : Memory) (q : ℕ) (x : Label) (m : Content) (flags : Option Flags) (entry : Entry) (cause : Option Cause) (b : Bool) (after : Memory) → message_of a.pairs x ≡ None → b ≡ is_majority 2 a.limits.n
     → entry ≡ pending_entry b x m → cause ≡ Some (packet_from q (says_certified flags)) → after ≡ a → arrive_outcome a q x m flags ≡ Wants entry cause after
 arrive-told a q x m flags entry cause b after fresh both entry_is some same =
@@ -111,16 +111,16 @@ arrive-told a q x m flags entry cause b after fresh both entry_is some same =
     ∙ (ap (λ c. Wants (pending_entry c x m) (Some (packet_from q (says_certified flags))) a) (sym both)
     ∙ (ap (λ e. Wants e (Some (packet_from q (says_certified flags))) a) (sym entry_is) ∙ ap₂ (λ cause after. Wants entry cause after) (sym some) (sym same)))
 
--- a packet of a pending name that is not certified
+-- a packet whose name is pending and not certified
 pub arrive-counts : (a : Memory) (q : ℕ) (x : Label) (m first : Content) (flags : Option Flags) → message_of a.pairs x ≡ Some first → has_name a.certified x ≡ false → arrive_outcome a q x m flags ≡ counted_outcome a q x flags
 arrive-counts a q x m first flags pending open_ = ap (pending_outcome a q x m flags) pending ∙ cond-false (has_name a.certified x) _ _ open_
 
--- a packet of a certified name
+-- a packet whose name is certified
 pub arrive-answers : (a : Memory) (q : ℕ) (x : Label) (m first : Content) (flags : Option Flags) → message_of a.pairs x ≡ Some first → has_name a.certified x ≡ true
     → arrive_outcome a q x m flags ≡ certified_outcome (hearing a q x flags) q x m flags
 arrive-answers a q x m first flags pending there = ap (pending_outcome a q x m flags) pending ∙ cond-true (has_name a.certified x) _ _ there
 
--- ---- how many records
+-- ---- the number of records
 
 paired : Content → List Label → List (Label × Content)
 paired m names = map (λ x. (x, m)) names
@@ -162,7 +162,7 @@ one_more_fits h held pending delivery =
     let same : length h.fifo.certified ≡ length h.acks.certified = ap length held.certified in
     omega (arith, pairs, names, most_pairs, most_names, same, held.count)
 
--- what is looked up and is there
+-- a look-up that succeeds
 pub some-pending : {X Y : Type 0} (f : X → Y) (o : Option X) (r : Option Y) → is_some o ≡ true → option_map f o ≡ r → (y : Y) × (r ≡ Some y)
 some-pending f None r e h = absurd (false≢true e)
 some-pending f (Some x) r e h = (f x, sym h)

@@ -1,4 +1,4 @@
--- What a ready node's look at a call found, and where it leads.
+-- The outcome of a call at a ready node, and the step that follows from it.
 use Rattle.std.specs.Prelude.{◌≡◌, suc, Result, Ok, Err}
 use Rattle.urb_names.specs.declared.refusal.Refusal.{Refusal}
 use Rattle.urb_names.specs.declared.refusal.Refusal.TheVariants as refusal
@@ -17,12 +17,13 @@ use Rattle.urb_node.specs.Values.{Memory}
 abbrev pub IsWanted : {A : Type 0} → Held A → Wanted A → Type 0
 IsWanted held w = IsDrafted held w.entry w.cause w.packets × (w.copy ≡ w.entry)
 
--- what was found of a request: nothing that needs a store, or a record that can be held
+-- the outcome of a request: nothing that needs a store, or a record that can be held
 abbrev pub IsFoundIn : {A : Type 0} → Held A → Found A → Type 0
 IsFoundIn held (found.Known told) = Unit {0}
 IsFoundIn held (found.New w) = IsWanted held w
 
--- an outcome that takes memory: a record to be stored, an acknowledgement counted, or a packet in answer
+-- an outcome that allocates memory: a record to store, an acknowledgement counted, or a packet in
+-- answer
 abbrev pub TakesMemory : Outcome → Type 0
 TakesMemory (Answers (answer.Accepted x) a) = ⊥
 TakesMemory (Answers (answer.Noted x) a) = Unit {0}
@@ -31,18 +32,19 @@ TakesMemory (Answers (answer.Answered x packets) a) = Unit {0}
 TakesMemory (Refuses r) = ⊥
 TakesMemory (Wants entry cause a) = Unit {0}
 
--- the refusal of an outcome, or of memory where it takes some
+-- the refusal of an outcome, or NoMemory if the outcome allocates memory
 abbrev pub IsRefusalOf : Outcome → Refusal → Type 0
 IsRefusalOf outcome refusal.NoMemory = TakesMemory outcome
 IsRefusalOf outcome r = outcome ≡ Refuses r
 
--- from this memory to that one, this was found by the outcome; a refusal leaves the memory
+-- from the old memory to the new one, the call had this outcome; a refusal leaves the memory
+-- unchanged
 abbrev pub Finds : {A : Type 0} → Memory → Outcome → Result (Found A) Refusal → Memory → Type 0
 Finds old outcome (Ok (found.Known told)) new = outcome ≡ Answers told new
 Finds old outcome (Ok (found.New w)) new = outcome ≡ Wants w.entry w.cause new
 Finds old outcome (Err r) new = IsRefusalOf outcome r × (new ≡ old)
 
--- where it leads
+-- the step that follows
 abbrev pub step_from : {A : Type 0} → Memory → Found A → Step A
 step_from a (found.Known told) = step.Same a told
 step_from a (found.New w) = step.Store (record { memory = a; entry = w.entry; cause = w.cause }) (record { node = a.node; pos = suc a.count; entry = w.copy })

@@ -1,4 +1,4 @@
--- What a node holds in memory, seen from the layers that keep it, and what holds of it in each state.
+-- What a node holds in memory, as its layers keep it, and the invariant in each state.
 use Rattle.std.specs.Prelude.{◌≡◌, ◌≤◌, ◌+◌, true, is_some, List, [], length, Some, Option}
 use Rattle.std.specs.Option.{ForSome}
 use Rattle.urb_names.specs.Naming.{Label}
@@ -28,8 +28,8 @@ memory_of h =
       cursor = h.resend.cursor;
     }
 
--- The layers are of one node of one group and agree on the certified names, which are all pending; and each record is a
--- pair or a certificate.
+-- The layers belong to one node of one group. They agree on the certified names, which are all
+-- pending. Each record is a pair or a certificate.
 pub record IsHeld {A : Type 0} (h : Held A) : Type 0 where
   pub node : (1 ≤ h.node) × (h.node ≤ h.config.n)
   pub pending_limits : h.pending.limits ≡ h.config
@@ -43,23 +43,23 @@ pub record IsHeld {A : Type 0} (h : Held A) : Type 0 where
   pub room_to_hear : (x : Label) → is_some (message_of h.pending.pairs x) ≡ true → has_name h.resend.roomy x ≡ true
   pub count : h.stored ≤ length h.pending.pairs + length h.acks.certified
 
--- the record is next behind this memory
+-- the record may come next after what this memory holds
 abbrev pub IsNextIn : Memory → Entry → Type 0
 IsNextIn a r = IsNext a.limits a.node a.pairs a.certified r
 
--- the record is next behind what the layers keep
+-- the record may come next after what the layers keep
 abbrev pub IsNextHeld : {A : Type 0} → Held A → Entry → Type 0
 IsNextHeld h r = IsNextIn (memory_of h) r
 
--- room is reserved for all that the record will add
+-- space is reserved for everything that the record will add
 abbrev pub HasRoom : {A : Type 0} → Held A → Entry → Type 0
 HasRoom h (Pend x m) = (h.pending.reserved ≡ Some (x, m.client)) × (h.acks.reserved ≡ Some x) × (has_name h.resend.roomy x ≡ true)
 HasRoom h (PendCert x m) =
     (h.pending.reserved ≡ Some (x, m.client)) × (h.acks.reserved ≡ Some x) × (h.fifo.reserved ≡ Some x) × (has_name h.resend.roomy x ≡ true)
 HasRoom h (Cert x) = (h.acks.reserved ≡ Some x) × (h.fifo.reserved ≡ Some x)
 
--- a draft of the record can be held: the record is next, there is room for it, a node of the group caused it if any did,
--- and these are its packets
+-- A draft of the record can be held. The record is next, there is space for it, and these are its
+-- packets. If a node caused it, that node belongs to the group.
 pub record IsDrafted {A : Type 0} (h : Held A) (entry : Entry) (cause : Option Cause) (packets : List Carried) : Type 0 where
   pub held : IsHeld h
   pub next : IsNextHeld h entry
@@ -72,7 +72,7 @@ pub record IsDown {A : Type 0} (h : Held A) (doubt : Option Entry) : Type 0 wher
   pub held : IsHeld h
   pub doubtful : ForSome doubt (IsNextHeld h)
 
--- .. once what it counted and heard is forgotten
+-- the same once what it counted and heard is dropped, which is how its restart begins
 pub record IsFallen {A : Type 0} (h : Held A) (doubt : Option Entry) : Type 0 where
   pub held : IsHeld h
   pub uncounted : h.acks.counted ≡ []

@@ -1,4 +1,4 @@
--- What an image is judged by: the pairs and certificates of a memory, with or without those of a doubtful record.
+-- What an image is compared with: a memory's pairs and certificates, and a doubtful record's.
 use Rattle.std.specs.Prelude.{◌≡◌, ℕ, List, [], ◌∷◌, ◌++◌, Option, None, Some, true, false}
 use Rattle.urb_fifo.specs.Delivery.{Delivery}
 use Rattle.urb_names.specs.Acknowledged.{acked}
@@ -13,26 +13,26 @@ use Rattle.urb_node.specs.Values.{Memory}
 use Rattle.urb_node.specs.declared.judging.Verdict.{Verdict}
 use Rattle.urb_node.specs.declared.judging.Verdict.TheVariants.{Stored, WithDoubtful, Neither}
 
--- these pairs, and the doubtful record's
+-- these pairs and the doubtful record's
 abbrev pub pairs_with : List (Label × Content) → Option Entry → List (Label × Content)
 pairs_with pairs None = pairs
 pairs_with pairs (Some r) = pairs ++ pend (r ∷ [])
 
--- these certified names, and the doubtful record's
+-- these certified names and the doubtful record's
 abbrev pub certified_by : List Label → Option Entry → List Label
 certified_by certified None = certified
 certified_by certified (Some (Pend x m)) = certified
 certified_by certified (Some (PendCert x m)) = certified_with certified x
 certified_by certified (Some (Cert x)) = certified_with certified x
 
--- this log, and what the doubtful record releases
+-- this log and what the doubtful record releases
 abbrev pub delivered_by : List Label → List Label → Option Entry → List Label
 delivered_by log certified None = log
 delivered_by log certified (Some (Pend x m)) = log
 delivered_by log certified (Some (PendCert x m)) = delivered_with log certified x
 delivered_by log certified (Some (Cert x)) = delivered_with log certified x
 
--- the certificates and the log with those of the doubtful record, where there is one
+-- the certificates and the log together with those of the doubtful record, if there is one
 abbrev pub IsJoined : Delivery → Option Entry → Option Delivery → Type 0
 IsJoined fifo None None = Unit {0}
 IsJoined fifo None (Some joined) = ⊥
@@ -44,26 +44,26 @@ IsJoined fifo (Some r) (Some joined) =
 abbrev pub Says : List Entry → Memory → Type 0
 Says image a = tells image a.pairs a.certified a.log a.count ≡ true
 
--- it doesn't
+-- the image says something else
 abbrev pub IsOther : List Entry → Memory → Type 0
 IsOther image a = tells image a.pairs a.certified a.log a.count ≡ false
 
--- nor what it would have with the doubtful record, where there is one
+-- the image doesn't say what the memory would have with the doubtful record, if there is one
 abbrev pub IsOtherThan : List Entry → Memory → Option Entry → Type 0
 IsOtherThan image a None = Unit {0}
 IsOtherThan image a (Some r) = IsOther image (with_record a r None)
 
--- the image says what it has with the doubtful record
+-- the image says what the memory would have with the doubtful record
 abbrev pub SaysWith : List Entry → Memory → Option Entry → Type 0
 SaysWith image a None = ⊥
 SaysWith image a (Some r) = Says image (with_record a r None)
 
--- what an image says of a memory and a doubtful record
+-- what an image says about a memory and a doubtful record
 abbrev pub IsVerdict : List Entry → Memory → Option Entry → Verdict → Type 0
 IsVerdict image a doubt Stored = Says image a
 IsVerdict image a doubt WithDoubtful = IsOther image a × SaysWith image a doubt
 IsVerdict image a doubt Neither = IsOther image a × IsOtherThan image a doubt
 
--- these acknowledgements are a node's own ones of its pending names, and no others
+-- these acknowledgements are exactly a node's own ones of its pending names
 abbrev pub CountsItself : Memory → List (Label × ℕ) → Type 0
 CountsItself a acks = (x : Label) (q : ℕ) → acked acks x q ≡ acked (self_acks a.node a.pairs) x q

@@ -1,4 +1,4 @@
--- What a ready node finds out about a call, from its memory, in the order in which it looks.
+-- The outcome of a call at a ready node, computed from its memory, with the checks in their order.
 use Rattle.std.specs.Prelude.{ℕ, Bool, suc, not, true, false, ◌==◌, nat_lt, bytes_eq, if◌then◌else◌, length, List, [], ◌∷◌, Option, None, Some}
 use Rattle.urb_names.specs.Naming.{Label, Content}
 use Rattle.urb_names.specs.Names.{name, has_name}
@@ -20,7 +20,8 @@ use Rattle.urb_node.specs.Part.{packet_from}
 use Rattle.urb_node.specs.Values.{Memory}
 use Rattle.urb_node.specs.Layers.{counted_with}
 
--- what a call leads to: an answer, a refusal, or a record to be stored, with the node that caused it; and the memory then
+-- The outcome of a call: an answer, a refusal, or a record to store together with the packet that
+-- caused it; and the memory afterwards.
 pub data Outcome : Type 0 where
   Answers : Answer (List Carried) → Memory → Outcome
   Refuses : Refusal → Outcome
@@ -38,19 +39,19 @@ own_record a m =
     let x = name a.node (suc (length (own_of a))) in
     if is_majority 1 a.limits.n then PendCert x m else Pend x m
 
--- a message whose number is new
+-- a message with a new number
 abbrev pub fresh_outcome : Memory → Content → Outcome
 fresh_outcome a m =
     if not (m.number == next_number m.client (own_of a)) then Refuses (refusal.Gap (next_number m.client (own_of a)))
     else if not (nat_lt (length (own_of a)) a.limits.cap) then Refuses refusal.Full
     else Wants (own_record a m) None a
 
--- a message whose number is that of one which is pending under this name
+-- a message with the number of a message that is pending under this name
 abbrev pub repeat_outcome : Memory → Content → Label → Option Content → Outcome
 repeat_outcome a m x None = Refuses refusal.Conflict
 repeat_outcome a m x (Some first) = if bytes_eq first.payload m.payload then Answers (answer.Accepted x) a else Refuses refusal.Conflict
 
--- a submit, by the name that has its client number, where there is one
+-- a submit, by the name of the message with its client number, if there is one
 abbrev pub numbered_outcome : Memory → Content → Option Label → Outcome
 numbered_outcome a m None = fresh_outcome a m
 numbered_outcome a m (Some x) = repeat_outcome a m x (message_of a.pairs x)
@@ -63,15 +64,15 @@ submit_outcome a m =
 
 -- ---- arrival
 
--- the memory with a node counted for a name
+-- the memory once a node is counted for a name
 abbrev pub with_counted : Memory → Label → ℕ → Memory
 with_counted a x q = record a { acks = counted_with a.acks x q }
 
--- the memory with the certificate heard that these flags tell of, where they do
+-- the memory once the certificate is heard that these flags report, if they report one
 abbrev pub hearing : Memory → ℕ → Label → Option Flags → Memory
 hearing a q x flags = record a { heard = if says_certified flags then counted_with a.heard x q else a.heard }
 
--- a packet of a name that is pending and not certified
+-- a packet whose name is pending and not certified
 abbrev pub counted_outcome : Memory → ℕ → Label → Option Flags → Outcome
 counted_outcome a q x flags =
     let after = hearing a q x flags in
@@ -79,22 +80,23 @@ counted_outcome a q x flags =
     else if acked a.acks x q then Answers (answer.Again x) after
     else Answers (answer.Noted x) (with_counted after x q)
 
--- the answer of p to q: that the name is certified at p, and whether the certificate of q was heard
+-- the answer of p to q: the name is certified at p, and whether p heard the certificate of q
 abbrev pub answer_with : ℕ → ℕ → Label → Content → Bool → Carried
 answer_with p q x m heard = record { source = p; target = q; name = x; message = m; flags = Some (record { certified = true; heard = heard }) }
 
--- whether a packet of a certified name is answered: one of version two that doesn't say that the certificate was heard
+-- whether a packet of a certified name is answered: if it is of version two and doesn't say that
+-- the certificate was heard
 abbrev pub wants_answer : Option Flags → Bool
 wants_answer None = false
 wants_answer (Some flags) = not flags.heard
 
--- a packet of a name that is certified
+-- a packet whose name is certified
 abbrev pub certified_outcome : Memory → ℕ → Label → Content → Option Flags → Outcome
 certified_outcome a q x m flags =
     if wants_answer flags then Answers (answer.Answered x (answer_with a.node q x m (acked a.heard x q) ∷ [])) a
     else Answers (answer.Again x) a
 
--- a packet from q, by the message that is pending under its name, where there is one
+-- a packet from q, by the message that is pending under its name, if there is one
 abbrev pub pending_outcome : Memory → ℕ → Label → Content → Option Flags → Option Content → Outcome
 pending_outcome a q x m flags None =
     Wants (if is_majority 2 a.limits.n then PendCert x m else Pend x m) (Some (packet_from q (says_certified flags))) a

@@ -1,4 +1,4 @@
--- One node's part of the world: what it has stored, its state, and what it holds beside that.
+-- One node's part of the world: what it has stored, its state, and what else it holds.
 use Rattle.std.specs.Prelude.{Bool, List, None, Option, [], map, ℕ}
 use Rattle.urb_names.specs.Naming.{Content, Label}
 use Rattle.urb_names.specs.Pairs.{own}
@@ -6,17 +6,20 @@ use Rattle.urb_node.specs.declared.cause.Cause.{Cause}
 use Rattle.urb_stable.specs.Entries.{Entry}
 use Rattle.urb_stable.specs.Records.{pend}
 
--- a draft that a packet from this node caused, which said that the node has stored its certificate, or didn't
+-- the cause of a draft: a packet from node q, and whether it said that q has stored a certificate
 abbrev pub packet_from : ℕ → Bool → Cause
 packet_from q certified = record { source = q; certified = certified }
 
--- ready; storing a record, with the packet that caused it, or none; down, perhaps with one doubtful record
+-- Ready; storing a record, with the packet that caused it, if any; down, perhaps with one doubtful
+-- record.
 pub data State : Type 0 where
   Ready : State
   Storing : (entry : Entry) (cause : Option Cause) → State
   Down : (doubtful : Option Entry) → State
 
--- one node's part of the world
+-- One node's part of the world: its stored records, its state, its cursor, and the messages that it
+-- has broadcast. Also the acknowledgements that it has counted, and the certificates that it has
+-- heard of.
 pub record Node : Type 0 where
   pub records : List Entry  -- what its storage holds
   pub state : State

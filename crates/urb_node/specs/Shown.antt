@@ -24,7 +24,8 @@ pub record NodeView : Type 0 where
 abbrev pub no_view : NodeView
 no_view = record { pairs = []; certified = []; log = []; count = 0; state = Ready; acks = []; heard = []; cursor = None }
 
--- what is held in memory is this node: pairs, certified names, acknowledgements and certificates heard are compared as sets
+-- The memory holds this node. Pairs, certified names, acknowledgements and certificates heard are
+-- compared as sets.
 pub record ShowsNode (size : Limits) (p : ℕ) (view : NodeView) (node : Node) : Type 0 where
   pub pairs : (x : Label) (m : Content) → has_pair view.pairs x m ≡ has_pair (pend node.records) x m
   pub certified : (x : Label) → has_name view.certified x ≡ has_name (cert node.records) x

@@ -1,4 +1,4 @@
--- What contracts see of a node in each of its three states, and which nodes of a world it shows.
+-- A node in each of its three states, as contracts see it, and the nodes of a world that it shows.
 use Rattle.std.specs.Prelude.{ℕ, suc, List, [], Option, None, ◌≡◌}
 use Rattle.urb_names.specs.Naming.{Limits, Label, Content}
 use Rattle.urb_stable.specs.Entries.{Entry}
@@ -19,7 +19,7 @@ pub record Memory : Type 0 where
   pub heard : List (Label × ℕ)  -- the certificates heard
   pub cursor : Option Label
 
--- a node that holds a record which its store is to take, and the node whose packet caused it
+-- a node that holds a record for its store to keep, and the packet that caused it
 pub record Holding : Type 0 where
   pub memory : Memory
   pub entry : Entry
@@ -56,15 +56,15 @@ ShowsIn state a node = ShowsNode a.limits a.node (view_in state a) node
 abbrev pub ShowsReady : Memory → Node → Type 0
 ShowsReady a node = ShowsIn Ready a node
 
--- a node that holds a draft does
+-- a node that holds a draft shows this node of a world
 abbrev pub ShowsStoring : Holding → Node → Type 0
 ShowsStoring h node = ShowsIn (Storing h.entry h.cause) h.memory node
 
--- a node that is down does
+-- a node that is down shows this node of a world
 abbrev pub ShowsDown : Fallen → Node → Type 0
 ShowsDown f node = ShowsIn (Down f.doubt) f.memory node
 
--- both are of one node in one group
+-- both belong to one node in one group
 abbrev pub IsSameNode : Memory → Memory → Type 0
 IsSameNode old new = (new.limits ≡ old.limits) × (new.node ≡ old.node)
 

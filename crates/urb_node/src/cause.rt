@@ -1,4 +1,4 @@
-//! What caused a draft.
+//! The packet that caused a draft.
 
 ghost use Rattle.std.specs.Prelude.{◌≡◌};
 ghost use Rattle.urb_names.specs.Carried.{says_certified};
@@ -11,13 +11,13 @@ use urb_names::{Flags, NodeId};
 /// The packet that caused a draft.
 #[derive(Clone, Copy, Debug)]
 pub(crate) struct Cause {
-    /// The node that it came from.
+    /// The node that sent it.
     pub(crate) source: NodeId,
-    /// Whether it said that this node has stored a certificate of its name.
+    /// Whether it said that its source has stored a certificate of its name.
     pub(crate) certified: bool,
 }
 
-/// The cause that a packet with these flags is.
+/// The cause recorded for a packet with this source and these flags.
 pub(crate) fn cause_of(source: NodeId, flags: Option<Flags>) -> Cause
     ensures { result ≡ packet_from source (says_certified flags) }
 {
@@ -27,7 +27,7 @@ pub(crate) fn cause_of(source: NodeId, flags: Option<Flags>) -> Cause
     }
 }
 
-/// The node whose certificate came with the packet that caused a draft, where one did.
+/// The source of the packet that caused a draft, if that packet reported a certificate.
 pub(crate) fn heard_of(cause: &Option<Cause>) -> Option<NodeId>
     ensures { result ≡ heard_of cause.now }
 {

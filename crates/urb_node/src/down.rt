@@ -15,8 +15,9 @@ use std::marker::Model;
 use urb_names::{Message, NoMemory, Refusal};
 use urb_stable::Record;
 
-/// A node that is down: it takes nothing until it is restarted with what its storage holds. What it had counted and heard
-/// counts for nothing any more; the room of that is handed back when it restarts, so a crash takes no time in its history.
+/// A node that is down. It takes no event until it is restarted with what its storage holds. What
+/// it had counted and heard no longer counts. The memory for that is handed back at the restart, so
+/// the time a crash takes doesn't grow with the history.
 #[derive(Drop)]
 #[derive_where(Debug)]
 pub struct Down<A: Allocator = Global> {
@@ -37,7 +38,7 @@ impl<A: Allocator> Model for Down<A> {
     ghost invariant = { λ a. IsDown a.held a.doubt };
 }
 
-// A node goes down: what it has counted and heard is lost, and a record may be in doubt.
+// Takes a node down: it loses what it has counted and heard, and a record may be in doubt.
 pub(crate) fn fallen<A: Allocator + Copy>(
     held: Held<A>,
     doubt: Option<Record<Message<A>>>,
@@ -50,7 +51,7 @@ pub(crate) fn fallen<A: Allocator + Copy>(
     Down { held, doubt }
 }
 
-// It forgets what it had counted and heard.
+// Drops what the node had counted and heard.
 fn unheard<A: Allocator + Copy>(mut held: Held<A>, doubt: &Option<Record<Message<A>>>) -> Held<A>
     requires kept { IsHeld held }
     requires next { ForSome doubt.now (IsNextHeld held) }
@@ -62,7 +63,7 @@ fn unheard<A: Allocator + Copy>(mut held: Held<A>, doubt: &Option<Record<Message
     held
 }
 
-// It comes up with what it holds: its resends begin anew.
+// Brings a node up with what it holds; its resends begin again.
 fn risen<A: Allocator + Copy>(mut held: Held<A>) -> Ready<A>
     requires { IsHeld held }
     ensures { result ≡ record (memory_of held) { cursor = None } }
@@ -71,7 +72,7 @@ fn risen<A: Allocator + Copy>(mut held: Held<A>) -> Ready<A>
     Ready { held }
 }
 
-// What it holds with the doubtful record, which counts as stored.
+// What the node holds once the doubtful record, if any, counts as stored.
 fn with_doubtful<A: Allocator + Copy>(held: Held<A>, doubt: Option<Record<Message<A>>>) -> Held<A>
     requires kept { IsHeld held }
     requires next { ForSome doubt (IsNextHeld held) }
@@ -85,7 +86,7 @@ fn with_doubtful<A: Allocator + Copy>(held: Held<A>, doubt: Option<Record<Messag
     }
 }
 
-// It comes up with its image, or stays down as it was.
+// Brings a node up with its image, or leaves it down as it was.
 fn recover<A: Allocator + Copy>(
     mut held: Held<A>,
     doubt: Option<Record<Message<A>>>,
@@ -95,7 +96,7 @@ fn recover<A: Allocator + Copy>(
     requires { IsFallen held doubt }
     ensures { Restarts (record { memory = memory_of held; doubt = doubt }) image.items result }
 {
-    // These do nothing: they give the proof what the layers always keep.
+    // Only the proof needs these calls: they state the invariants of the layers.
     held.pending.limits();
     held.fifo.limits();
     match judge(&mut held, alloc, &doubt, &image) {
@@ -109,10 +110,12 @@ fn recover<A: Allocator + Copy>(
 }
 
 impl<A: Allocator + Copy> Down<A> {
-    /// The node comes up again with its image: the recovery of the book's algorithm (section 3.7), which retrieves
-    /// `pending` and `delivered`. The image has to say what the node had stored, or that with the record in doubt, which
-    /// then counts as stored: else it is another node's, or storage has lost or made up a record (`BadImage`). Nothing is
-    /// sent. Refused, the node stays down as it was; `NoMemory` comes before the image is judged.
+    /// Restarts the node from its image. This is the recovery of the book's algorithm (section
+    /// 3.7), which retrieves `pending` and `delivered`. The image must say what the node had
+    /// stored, or that followed by the record in doubt, which then counts as stored. Otherwise the
+    /// image is another node's, or storage has lost or made up a record (`BadImage`). Nothing is
+    /// sent. If the restart is refused, the node stays down as it was. `NoMemory` comes before the
+    /// image is judged.
     pub fn restart(
         self,
         alloc: A,

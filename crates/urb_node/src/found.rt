@@ -1,4 +1,4 @@
-//! What a ready node finds out about a call, before it goes anywhere.
+//! What a ready node finds out about a call, before the node changes state.
 
 ghost use Rattle.std.specs.Prelude.{◌≡◌, ◌≢◌, ◌≤◌, true, false, [], ◌∷◌, Some, IsOk, OnOk, OnErr, IfOk, is_some, if◌then◌else◌};
 ghost use Rattle.std.specs.Option.{ForSome};
@@ -25,7 +25,8 @@ use urb_names::{
 use urb_stable::Record;
 use urb_stubborn::Outbox;
 
-/// A record to be stored, with its copy for the store, the packet that caused it, and the packets to send then.
+/// A record to store, with its copy for the store, the packet that caused it, and the packets to
+/// send once it is stored.
 #[derive(Drop)]
 #[derive_where(Debug)]
 pub(crate) struct Wanted<A: Allocator = Global> {
@@ -35,7 +36,7 @@ pub(crate) struct Wanted<A: Allocator = Global> {
     pub(crate) packets: Outbox<A>,
 }
 
-/// What a call found: an answer, or a record that it wants stored.
+/// The outcome of a call: an answer, or a record to store.
 #[derive(Drop)]
 #[derive_where(Debug)]
 pub(crate) enum Found<A: Allocator = Global> {
@@ -43,7 +44,7 @@ pub(crate) enum Found<A: Allocator = Global> {
     New(Wanted<A>),
 }
 
-// Makes room for all that a pending record of this name will add that certifies nothing.
+// Reserves space for everything that a pending record of this name adds, except for a certificate.
 fn make_room<A: Allocator + Copy>(
     held: &mut Held<A>,
     name: Name,
@@ -64,7 +65,7 @@ fn make_room<A: Allocator + Copy>(
     Ok(())
 }
 
-/// Makes room for all that a record will add.
+/// Reserves space for everything that a record will add.
 pub(crate) fn make_room_for<A: Allocator + Copy>(
     held: &mut Held<A>,
     entry: &Record<Message<A>>,
@@ -105,7 +106,7 @@ fn pending_record<A: Allocator>(
     }
 }
 
-// All copies of a pending message, and room for it.
+// Makes all copies of a pending message and reserves space for it.
 fn make_wanted<A: Allocator + Copy>(
     held: &mut Held<A>,
     alloc: A,
@@ -144,7 +145,8 @@ fn make_wanted<A: Allocator + Copy>(
     })
 }
 
-// What is found about a message whose client has numbered it as one that is pending under this name.
+// The outcome for a message whose client has already used its number for the message pending under
+// this name.
 fn repeated<A: Allocator + Copy>(
     held: &Held<A>,
     name: Name,
@@ -169,7 +171,7 @@ fn repeated<A: Allocator + Copy>(
     }
 }
 
-/// What a submit leads to: the checks of a submit at a ready node, in their order.
+/// The outcome of a submit: the checks of a submit at a ready node, in their order.
 pub(crate) fn submitted<A: Allocator + Copy>(
     held: &mut Held<A>,
     alloc: A,
@@ -200,7 +202,7 @@ pub(crate) fn submitted<A: Allocator + Copy>(
     if own >= held.config.cap() {
         return Err(Refusal::Full);
     }
-    // This does nothing: it gives the proof what the pending pairs always keep.
+    // Only the proof needs this call: it states the invariant of the pending pairs.
     held.pending.limits();
     let name = Name {
         sender: held.node,
@@ -228,7 +230,7 @@ pub(crate) fn note<A: Allocator + Copy>(
     Ok(())
 }
 
-// What is found about a packet of a name that is pending and not certified.
+// The outcome of a packet whose name is pending and not certified.
 fn counted<A: Allocator + Copy>(
     held: &mut Held<A>,
     alloc: A,
@@ -270,7 +272,7 @@ fn counted<A: Allocator + Copy>(
     Ok(Found::Known(Answer::Noted(name)))
 }
 
-// The message that a packet carries: the known one, or a copy out of the packet.
+// The message that a packet carries: the known message, or a copy from the packet.
 fn message_in<A: Allocator + Copy>(
     alloc: A,
     packet: &PacketView<'_>,
@@ -285,7 +287,8 @@ fn message_in<A: Allocator + Copy>(
     }
 }
 
-// The answer to a packet's source: that this node has stored a certificate of the name, and whether it heard of one there.
+// The answer to a packet's source. It says that this node has stored a certificate of the name, and
+// whether this node has heard of the source's certificate.
 fn reply_to<A: Allocator + Copy>(
     alloc: A,
     node: NodeId,
@@ -298,7 +301,7 @@ fn reply_to<A: Allocator + Copy>(
     ensures { IfOk result (λ outbox.
         outbox ≡ answer_with node packet.now.source packet.now.name packet.now.message heard ∷ []) }
 {
-    // This gives the proof that a packet's nodes differ.
+    // Only the proof needs this call: it states that a packet's nodes differ.
     let _apart = packet.target();
     let message = message_in(alloc, packet, known)?;
     let flags = Flags {
@@ -309,7 +312,8 @@ fn reply_to<A: Allocator + Copy>(
     Outbox::one(alloc, reply)
 }
 
-// Whether the source of a packet wants an answer where the name is certified: by version two, unless it heard it before.
+// Whether a packet's source wants an answer if the name is certified: if the packet is of version
+// two and its source hasn't heard of a certificate here.
 fn wants_answer(flags: Option<Flags>) -> bool
     ensures { result ≡ wants_answer flags }
 {
@@ -319,7 +323,7 @@ fn wants_answer(flags: Option<Flags>) -> bool
     }
 }
 
-// What is found about a packet of a name that is certified.
+// The outcome of a packet whose name is certified.
 fn answered<A: Allocator + Copy>(
     held: &mut Held<A>,
     alloc: A,
@@ -352,7 +356,7 @@ fn answered<A: Allocator + Copy>(
     Ok(Found::Known(Answer::Answered(name, packets)))
 }
 
-/// What a packet leads to, at a ready node.
+/// The outcome of a packet at a ready node.
 pub(crate) fn arrived<A: Allocator + Copy>(
     held: &mut Held<A>,
     alloc: A,
@@ -372,7 +376,7 @@ pub(crate) fn arrived<A: Allocator + Copy>(
     let name = packet.name();
     let source = packet.source();
     let flags = packet.flags();
-    // This gives the proof the range of a node's number.
+    // Only the proof needs this call: it states the range of a node's number.
     let _range = source.number();
     if held.pending.message(name).is_none() {
         let message = message_in(alloc, packet, known)?;

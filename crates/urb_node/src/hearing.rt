@@ -1,4 +1,4 @@
-//! What a node hears of other nodes' certificates.
+//! Recording what a node hears about other nodes' certificates.
 
 ghost use Rattle.std.specs.Prelude.{◌≡◌, true, is_some};
 ghost use Rattle.urb_names.specs.Carried.{says_certified};
@@ -23,7 +23,7 @@ pub(crate) fn says_certified(flags: Option<Flags>) -> bool
     }
 }
 
-/// The certificate of a node that told of one is heard, where there is such a node.
+/// Records the certificate of the node that reported one, if there is such a node.
 pub(crate) fn hear<A: Allocator + Copy>(resend: &mut Resend<A>, name: Name, node: Option<NodeId>)
     requires { has_name resend.old.roomy name ≡ true }
     ensures { resend.new ≡ record resend.old { heard = heard_with resend.old.heard name node } }
@@ -33,7 +33,7 @@ pub(crate) fn hear<A: Allocator + Copy>(resend: &mut Resend<A>, name: Name, node
     }
 }
 
-/// What a packet of a pending name tells of its source's certificate is heard.
+/// Records what a packet of a pending name says about its source's certificate.
 pub(crate) fn hear_packet<A: Allocator + Copy>(
     held: &mut Held<A>,
     source: NodeId,

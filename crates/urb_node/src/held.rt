@@ -1,4 +1,4 @@
-//! What a node holds in memory in each of its states.
+//! What a node keeps in memory in each of its states.
 
 ghost use Rattle.std.specs.Prelude.{◌≡◌, length, true};
 ghost use Rattle.urb_names.specs.Cyclic.{are_rising};
@@ -11,13 +11,13 @@ use urb_names::{Config, NodeId};
 use urb_pending::Pending;
 use urb_stubborn::Resend;
 
-/// What a node holds of what it has stored and counted.
+/// What a node keeps in memory of what it has stored and counted.
 #[derive(Drop)]
 #[derive_where(Debug)]
 pub(crate) struct Held<A: Allocator = Global> {
     pub(crate) config: Config,
     pub(crate) node: NodeId,
-    /// How many records are stored.
+    /// The number of stored records.
     pub(crate) stored: u32,
     pub(crate) pending: Pending<A>,
     pub(crate) acks: Acks<A>,
@@ -26,12 +26,12 @@ pub(crate) struct Held<A: Allocator = Global> {
 }
 
 impl<A: Allocator + Copy> Held<A> {
-    /// How many messages of the node's own are stored.
+    /// The number of the node's own messages that are stored.
     pub(crate) fn own_len(&self) -> u32
         ensures value { result ≡ length (own self.now.pending.node self.now.pending.pairs) }
         ensures rising { are_rising self.now.pending.pairs ≡ true }
     {
-        // This does nothing: it gives the proof what the pending pairs always keep.
+        // Only the proof needs this call: it states the invariant of the pending pairs.
         self.pending.limits();
         self.pending.own_len()
     }

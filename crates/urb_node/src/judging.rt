@@ -31,7 +31,7 @@ use urb_stable::{Index, Record};
 pub(crate) enum Verdict {
     /// What is stored.
     Stored,
-    /// What is stored, and the record in doubt.
+    /// What is stored, followed by the record in doubt.
     WithDoubtful,
     /// Neither.
     Neither,
@@ -39,14 +39,15 @@ pub(crate) enum Verdict {
 
 // ---- certificates
 
-// Whether a group of these limits may have the name.
+// Whether a group with these limits may have the name.
 fn is_in_range(config: Config, name: Name) -> bool
     ensures { result ≡ in_range config name }
 {
     name.sender.number() <= config.n() && name.seq <= config.cap()
 }
 
-// Certifies the name of a record that certifies one. False where the group can't have that name.
+// Certifies the name of a record that certifies one. Returns false if the group can't have that
+// name.
 fn certify_record<A: Allocator + Copy>(
     fifo: &mut Fifo<A>,
     config: Config,
@@ -73,7 +74,7 @@ fn certify_record<A: Allocator + Copy>(
     }
 }
 
-// What the certificates of an image release. None where the group can't have one of them.
+// The release of an image's certificates, or `None` if the group can't have one of them.
 fn released_by<A: Allocator + Copy>(
     alloc: A,
     config: Config,
@@ -93,7 +94,8 @@ fn released_by<A: Allocator + Copy>(
     Ok(Some(fifo))
 }
 
-// Whether the image, by what its certificates release, has the same names certified and delivered.
+// Whether the image has the same certified and delivered names, given the release of its
+// certificates.
 fn has_same_names<A: Allocator + Copy>(
     image: &Index<'_, A>,
     released: &Fifo<A>,
@@ -104,13 +106,13 @@ fn has_same_names<A: Allocator + Copy>(
         ≡ (same_names (cert image.now) fifo.now.certified && same_list (log image.now)
         fifo.now.log) }
 {
-    // These do nothing: they give the proof what the layers always keep.
+    // Only the proof needs these calls: they state the invariants of the layers.
     released.limits();
     fifo.limits();
     released.is_same(fifo)
 }
 
-// Whether the image says what is known, of so many records.
+// Whether the image says exactly what is known, in `count` records.
 #[tactic(auto, using(crate::proofs::ImageNames::parts_tell))]
 fn says<A: Allocator + Copy>(
     image: &Index<'_, A>,
@@ -151,7 +153,7 @@ fn certify_doubtful<A: Allocator + Copy>(
     }
 }
 
-// The certificates and the log of a node with the doubtful record's, where a record is in doubt.
+// A node's certificates and log together with the doubtful record's, if a record is in doubt.
 fn joined_with<A: Allocator + Copy>(
     alloc: A,
     fifo: &Fifo<A>,
@@ -192,7 +194,7 @@ fn count_itself<A: Allocator + Copy>(
     Ok(())
 }
 
-// Makes room for all that the doubtful record will add, where it counts as stored.
+// Reserves space for everything that the doubtful record adds if it counts as stored.
 fn make_room_for_doubt<A: Allocator + Copy>(
     held: &mut Held<A>,
     doubt: &Option<Record<Message<A>>>,
@@ -209,8 +211,8 @@ fn make_room_for_doubt<A: Allocator + Copy>(
     }
 }
 
-// Asks for all that a restart takes: the node is counted for its pending names, and there is room for what the doubtful
-// record will add.
+// Makes all allocations of a restart: it counts the node for its pending names, and reserves space
+// for what the doubtful record will add.
 fn prepare<A: Allocator + Copy>(
     held: &mut Held<A>,
     doubt: &Option<Record<Message<A>>>,
@@ -228,7 +230,7 @@ fn prepare<A: Allocator + Copy>(
     make_room_for_doubt(held, doubt)
 }
 
-// Whether an image, whose certificates release this, says what is stored.
+// Whether an image says what is stored, given the release of its certificates.
 fn says_stored<A: Allocator + Copy>(
     held: &Held<A>,
     image: &Index<'_, A>,
@@ -249,7 +251,8 @@ fn says_stored<A: Allocator + Copy>(
     )
 }
 
-// Whether it says what is stored and the doubtful record, which leads to these certificates and this log.
+// Whether an image says what is stored followed by the doubtful record. `joined` holds the
+// certificates and the log with that record.
 fn says_joined<A: Allocator + Copy>(
     held: &Held<A>,
     doubt: &Option<Record<Message<A>>>,
@@ -263,7 +266,7 @@ fn says_joined<A: Allocator + Copy>(
     ensures { MatchBool result (SaysWith image.now (memory_of held.now) doubt.now)
         (IsOtherThan image.now (memory_of held.now) doubt.now) }
 {
-    // These do nothing: they give the proof what the layers always keep.
+    // Only the proof needs these calls: they state the invariants of the layers.
     held.pending.limits();
     held.fifo.limits();
     match (doubt, joined) {
@@ -279,7 +282,8 @@ fn says_joined<A: Allocator + Copy>(
     }
 }
 
-// What an image says, whose certificates release this, where the doubtful record leads to that.
+// What an image says, given the release of its certificates and the certificates and log with the
+// doubtful record.
 fn verdict_of<A: Allocator + Copy>(
     held: &Held<A>,
     doubt: &Option<Record<Message<A>>>,
@@ -301,7 +305,7 @@ fn verdict_of<A: Allocator + Copy>(
     }
 }
 
-// What an image says of what is held.
+// What an image says about what the node holds.
 fn judged<A: Allocator + Copy>(
     held: &Held<A>,
     alloc: A,
@@ -312,7 +316,7 @@ fn judged<A: Allocator + Copy>(
     requires next { ForSome doubt.now (IsNextHeld held.now) }
     ensures { IfOk result (IsVerdict image.now (memory_of held.now) doubt.now) }
 {
-    // This does nothing: it gives the proof what the certificates and the log always keep.
+    // Only the proof needs this call: it states the invariant of the certificates and the log.
     held.fifo.limits();
     let joined = joined_with(alloc, &held.fifo, doubt)?;
     let index = Index::new(alloc, image)?;
@@ -322,7 +326,8 @@ fn judged<A: Allocator + Copy>(
     }
 }
 
-/// What an image says of a node that is down. All that a restart takes is asked for before the image is judged.
+/// What an image says about a node that is down. Everything that a restart needs is allocated
+/// before the image is judged.
 pub(crate) fn judge<A: Allocator + Copy>(
     held: &mut Held<A>,
     alloc: A,

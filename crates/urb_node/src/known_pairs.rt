@@ -1,4 +1,9 @@
-//! Whether an image has the pairs that are known: those that are pending, and the doubtful record's.
+//! Whether an image has exactly the pairs that a node knows.
+//!
+//! An image is the list of records that a storage gave back. A pair is a name with its message. A
+//! node knows the pairs that it has stored (the pending ones), and that of its doubtful record.
+//! `are_known` goes from the image to the node: each pair of the image is known. `has_known` goes
+//! the other way: the image has each known pair.
 
 ghost use Rattle.std.specs.Prelude.{◌≡◌, [], ◌∷◌};
 ghost use Rattle.std.specs.List.{list_all};
@@ -12,7 +17,7 @@ use urb_names::{Message, Name};
 use urb_pending::Pending;
 use urb_stable::{Index, Record};
 
-// Whether a record is of this pair.
+// Whether a record has this pair.
 fn is_of_pair<A: Allocator>(entry: &Record<Message<A>>, name: Name, message: &Message<A>) -> bool
     ensures { result ≡ has_pair (pend (entry.now ∷ [])) name message.now }
 {
@@ -24,7 +29,7 @@ fn is_of_pair<A: Allocator>(entry: &Record<Message<A>>, name: Name, message: &Me
     }
 }
 
-// Whether the pair is pending, or is the doubtful record's.
+// Whether the node knows this pair: it is pending, or it is the doubtful record's.
 #[tactic(auto, using(crate::proofs::ImagePairs::pair_with))]
 fn is_known<A: Allocator + Copy>(
     pending: &Pending<A>,
@@ -40,7 +45,7 @@ fn is_known<A: Allocator + Copy>(
     }
 }
 
-// Whether a record of the image has no pair, or a known one.
+// Whether a record of the image has no pair, or a known pair.
 fn is_record_known<A: Allocator + Copy>(
     entry: &Record<Message<A>>,
     pending: &Pending<A>,
@@ -77,7 +82,7 @@ fn are_known<A: Allocator + Copy>(
     true
 }
 
-// Whether a record has no pair, or one that the image has.
+// Whether a record has no pair, or a pair that the image has.
 fn is_record_in<A: Allocator + Copy>(entry: &Record<Message<A>>, image: &Index<'_, A>) -> bool
     ensures { result
         ≡ list_all (λ pair. has_pair (pend image.now) pair.0 pair.1) (pend (entry.now ∷ [])) }
@@ -122,7 +127,7 @@ fn has_known<A: Allocator + Copy>(
     }
 }
 
-// Whether the image has the known pairs, and no others.
+// Whether the image has exactly the known pairs.
 pub(crate) fn has_same_pairs<A: Allocator + Copy>(
     image: &Index<'_, A>,
     pending: &Pending<A>,

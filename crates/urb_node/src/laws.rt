@@ -1,4 +1,4 @@
-//! What holds of one node's drafts and packets, each law as the contract of a function that does nothing.
+//! Laws of one node's drafts and packets, each as the contract of a function that does nothing.
 
 ghost use Rattle.std.specs.Prelude.{◌≡◌, ◌<◌, ◌≤◌, ◌∷◌, [], ℕ, Bool, suc, true, false, List, Option, None, flat_map, is_some, length};
 ghost use Rattle.std.specs.List.{AllByRecursion};
@@ -13,8 +13,9 @@ ghost use Rattle.urb_node.specs.Outcomes.{answer_with};
 ghost use Rattle.urb_node.specs.Part.{Node};
 ghost use Rattle.urb_node.specs.Steps.{answers_of, says_heard};
 
-/// What a node drafts keeps the rules about its own image, behind what it holds: the next message of its own, a message
-/// that may arrive and isn't pending, and a certificate of a name that is pending and not certified.
+/// What a node drafts keeps the rules about its own image, following what it holds. A draft is one
+/// of three: the next message of the node's own; a message that may arrive and isn't pending; a
+/// certificate of a name that is pending and not certified.
 pub fn drafts_are_next()
     ensures submit { (size : Limits) (p : ℕ) (pairs : List (Label × Content))
         (certified : List Label) (m : Content)
@@ -38,8 +39,9 @@ pub fn drafts_are_next()
         → IsNext size p pairs certified (Cert x) }
 {}
 
-/// The packets of a stored pair, those of a tick and an answer are of the node's own pending pairs with the node as their source,
-/// and tell of a certificate only where the node has stored one: no creation by a link (sections 2.4 and 3.7 of the book).
+/// The packets of a stored pair, of a tick and of an answer have the node as their source. They
+/// carry pairs that are pending at the node. They claim a certificate only if the node has stored
+/// one. This is the property "no creation" of links (sections 2.4 and 3.7 of the book).
 pub fn packets_are_of_held_pairs()
     ensures pair { (n p : ℕ) (pairs : List (Label × Content)) (certified : List Label)
         (is_certified : Bool) (heard : Option ℕ) (pair : Label × Content)
@@ -57,8 +59,9 @@ pub fn packets_are_of_held_pairs()
         → AreFrom p pairs certified (answer_with p q x m heard ∷ []) }
 {}
 
-/// A packet that says that its target's certificate was heard is not answered, nor is one of version one. And the answer to an
-/// answer is not answered, so no two nodes answer each other for ever.
+/// A packet that says that its target's certificate was heard is not answered, and neither is a
+/// packet of version one. The answer to an answer is not answered. So no two nodes keep answering
+/// each other forever.
 pub fn answers_end()
     ensures heard { (size : Limits) (packet : Carried) (node : Node)
         → says_heard packet.flags ≡ true

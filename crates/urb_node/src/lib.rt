@@ -1,20 +1,22 @@
-//! One node of a group: logged majority-acknowledgement uniform reliable broadcast with sequence numbers, as a machine of three
-//! typed states that its calls move from one to the next.
+//! One node of a group, as a machine of three typed states that its calls move between.
+//!
+//! It implements logged majority-acknowledgement uniform reliable broadcast with sequence numbers.
 //!
 //! ```text
 //! let ready = Ready::new(alloc, config, node)?;
 //! match ready.submit(alloc, client, number, payload)? {  // or arrive(alloc, packet)
 //!     Step::Same(ready, answer) => ..,                   // nothing has to be stored
-//!     Step::Store(storing, draft) => ..,                 // the caller has its store keep the draft first
+//!     Step::Store(storing, draft) => ..,                 // the caller's store must keep the draft first
 //! }
 //! let receipt = draft.keep(&mut store)?;
 //! let (ready, done) = storing.confirm(receipt)?;         // it is stored: packets, and how many names were released
 //! let down = storing.fail();                             // or the store failed
-//! let ready = down.restart(alloc, image)?;               // over what the store holds
+//! let ready = down.restart(alloc, image)?;               // from what the store holds
 //! ```
 //!
-//! A node that stores takes no other event, and one that is down none but a restart: the types have no such call. A refused call
-//! gives the node back as it was. The node never touches a store, a socket or a clock.
+//! A node that is storing takes no other event, and a node that is down takes only a restart: the
+//! types have no such call. A refused call gives the node back as it was. The node never touches a
+//! store, a socket or a clock.
 #![tactic(auto)]
 
 mod answer;

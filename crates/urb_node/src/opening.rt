@@ -1,4 +1,4 @@
-//! A node that is opened from its image, the list of its stored records.
+//! Opening a node from its image, the list of its stored records.
 
 ghost use Rattle.std.specs.Prelude.{◌≡◌, ◌≤◌, [], None, IfOk};
 ghost use Rattle.urb_stable.specs.Fitting.{KeepsOwn};
@@ -15,7 +15,7 @@ use std::alloc::Allocator;
 use urb_names::{Config, Message, NoMemory, NodeId};
 use urb_stable::Record;
 
-// What a node holds once it has read one more record.
+// What the node knows (`Held`) after one more stored record.
 fn joined<A: Allocator + Copy>(
     mut held: Held<A>,
     entry: Record<Message<A>>,
@@ -31,8 +31,9 @@ fn joined<A: Allocator + Copy>(
 }
 
 impl<A: Allocator + Copy> Ready<A> {
-    /// A node that comes up with what its storage holds: the recovery of a process (sections 2.2 and 3.7 of the book). The
-    /// records are taken as they lie in memory.
+    /// Starts a node from its stored records: the recovery of a process (sections 2.2 and 3.7 of
+    /// the book). The payloads of the records are moved into the node, without a copy. `NoMemory`:
+    /// an allocation was refused, and the records are dropped.
     pub fn open(
         alloc: A,
         config: Config,
@@ -41,7 +42,7 @@ impl<A: Allocator + Copy> Ready<A> {
     ) -> Result<Ready<A>, NoMemory>
         requires node { node ≤ config.n }
 
-        // No record breaks the rules about its own image.
+        // The records keep the rules A and B of docs/FORMATS.md, which concern one image alone.
         requires rules { KeepsOwn config node [] records.items }
         ensures { IfOk result (λ ready. (ready.limits ≡ config)
             × (ready.node ≡ node)
@@ -50,7 +51,7 @@ impl<A: Allocator + Copy> Ready<A> {
         let ready = Ready::new(alloc, config, node)?;
         let Ready { mut held } = ready;
         for record in records {
-            // These do nothing: they give the proof what the layers always keep.
+            // These two calls do nothing. They tell the prover the invariants of the two layers.
             held.pending.limits();
             held.fifo.limits();
             held = joined(held, record)?;

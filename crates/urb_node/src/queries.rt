@@ -1,4 +1,4 @@
-//! What a node tells of its stored records, in whatever state it is: the records that it only holds or doubts don't count.
+//! Queries about a node's stored records, in every state; held or doubtful records don't count.
 
 mod down;
 mod ready;

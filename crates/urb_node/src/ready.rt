@@ -41,7 +41,7 @@ impl<A: Allocator> Model for Ready<A> {
     ghost invariant = { λ a. IsHeld a.held };
 }
 
-// Where a node goes with what was found.
+// The step that follows from a call's outcome.
 fn step_of<A: Allocator + Copy>(held: Held<A>, found: Found<A>) -> Step<A>
     requires kept { IsHeld held }
     requires wanted { IsFoundIn held found }
@@ -50,7 +50,7 @@ fn step_of<A: Allocator + Copy>(held: Held<A>, found: Found<A>) -> Step<A>
     match found {
         Found::Known(answer) => Step::Same(Ready { held }, answer),
         Found::New(wanted) => {
-            // These do nothing: they give the proof what the layers always keep.
+            // Only the proof needs these calls: they state the invariants of the layers.
             held.pending.limits();
             held.fifo.limits();
             let draft = Draft::new(held.node, held.stored + 1, wanted.copy);
@@ -65,7 +65,7 @@ fn step_of<A: Allocator + Copy>(held: Held<A>, found: Found<A>) -> Step<A>
     }
 }
 
-// What a tick sends, of these pending pairs and certificates.
+// The packets of a tick for these pending pairs and certificates.
 fn resent<A: Allocator + Copy>(
     resend: &mut Resend<A>,
     alloc: A,
@@ -81,16 +81,16 @@ fn resent<A: Allocator + Copy>(
 }
 
 impl<A: Allocator + Copy> Ready<A> {
-    /// A node of a group that has stored nothing: a process of the book's logged uniform reliable broadcast as it is initialized
-    /// (section 3.7).
+    /// A node of a group that has stored nothing: a process of the book's logged uniform reliable
+    /// broadcast right after its initialization (section 3.7).
     pub fn new(alloc: A, config: Config, node: NodeId) -> Result<Ready<A>, NoMemory>
         requires { node ≤ config.n }
         ensures memory { IfOk result (λ ready. ready ≡ new_memory config node) }
 
-        // It shows a node that has stored nothing.
+        // The result shows a node that has stored nothing.
         ensures shows { IfOk result (λ ready. ShowsReady ready (opened_node node [])) }
     {
-        // This gives the proof the range of a node's number.
+        // Only the proof needs this call: it states the range of a node's number.
         let _range = node.number();
         Ok(Ready {
             held: Held {
@@ -105,8 +105,9 @@ impl<A: Allocator + Copy> Ready<A> {
         })
     }
 
-    /// A client's message: the broadcast of the book's majority-ack algorithm with logging (section 3.7), under the node's
-    /// next number (broadcast with sequence number, section 3.9), as far as its store.
+    /// Takes a client's message, up to its store. This is the broadcast of the book's majority-ack
+    /// algorithm with logging (section 3.7), under the node's next number (broadcast with sequence
+    /// number, section 3.9).
     pub fn submit(
         self,
         alloc: A,
@@ -117,11 +118,11 @@ impl<A: Allocator + Copy> Ready<A> {
         ensures event { Submits self
             (record { client = client; number = number; payload = payload.now }) result }
 
-        // Refused, the node is as it was, whatever it shows.
+        // After a refusal the node is as it was, whatever it shows.
         ensures refused { IfErr result (λ e. e.0 ≡ self) }
     {
         let Ready { mut held } = self;
-        // This does nothing: it gives the proof what the pending pairs always keep.
+        // Only the proof needs this call: it states the invariant of the pending pairs.
         held.pending.limits();
         match submitted(&mut held, alloc, client, number, payload) {
             Ok(found) => Ok(step_of(held, found)),
@@ -129,24 +130,26 @@ impl<A: Allocator + Copy> Ready<A> {
         }
     }
 
-    /// A packet of another node of the group, of a message that its source holds: the delivery of a stubborn best-effort
-    /// broadcast in the book's majority-ack algorithm with logging (section 3.7), as far as its store.
+    /// Takes a packet of another node of the group, up to its store; its source holds the message.
+    /// This is the delivery of a stubborn best-effort broadcast in the book's majority-ack
+    /// algorithm with logging (section 3.7).
     pub fn arrive(self, alloc: A, packet: PacketView<'_>) -> Result<Step<A>, (Ready<A>, Refusal)>
         requires { IsForNode self packet }
         ensures event { Arrives self packet.entry.source packet.entry.name packet.entry.message
             packet.entry.flags result }
 
-        // What it answers is of the node's stored pairs, with the node as its source.
+        // Its answer carries one of the node's stored pairs, with the node as its source.
         ensures memory { IfOk result AnswersFrom }
         ensures stored { IfOk result AnswersOfStored }
 
-        // Refused, the node is as it was, whatever it shows.
+        // After a refusal the node is as it was, whatever it shows.
         ensures refused { IfErr result (λ e. e.0 ≡ self) }
     {
         self.arrive_sharing(alloc, packet, None)
     }
 
-    /// The same, where another message of the same content may be at hand, whose payload is shared then.
+    /// Does the same, but shares the payload of `known` if the caller has another message with the
+    /// same content.
     pub fn arrive_sharing(
         self,
         alloc: A,
@@ -158,15 +161,16 @@ impl<A: Allocator + Copy> Ready<A> {
         ensures event { Arrives self packet.entry.source packet.entry.name packet.entry.message
             packet.entry.flags result }
 
-        // What it answers is of the node's stored pairs, with the node as its source.
+        // Its answer carries one of the node's stored pairs, with the node as its source.
         ensures memory { IfOk result AnswersFrom }
         ensures stored { IfOk result AnswersOfStored }
 
-        // Refused, the node is as it was, whatever it shows.
+        // After a refusal the node is as it was, whatever it shows.
         ensures refused { IfErr result (λ e. e.0 ≡ self) }
     {
         let Ready { mut held } = self;
-        // These give the proof that a packet's nodes differ, and the range of their numbers.
+        // Only the proof needs these calls: they state that a packet's nodes differ, and the range
+        // of their numbers.
         let _apart = packet.target();
         let _range = packet.source().number();
         match arrived(&mut held, alloc, &packet, known) {
@@ -175,23 +179,24 @@ impl<A: Allocator + Copy> Ready<A> {
         }
     }
 
-    /// A timeout: sends pending messages again to the nodes whose certificates of them were not heard (stubborn links, section
-    /// 2.4 of the book). Refused for memory, the next tick sends what this one would have sent.
+    /// A timeout: sends pending messages again to the nodes whose certificates of them were not
+    /// heard (stubborn links, section 2.4 of the book). If memory is refused, the next tick sends
+    /// what this one would have sent.
     pub fn tick(self, alloc: A) -> (Ready<A>, Result<Outbox<A>, NoMemory>)
         ensures event { Ticks self result }
 
-        // What it sends is of the node's stored pairs, with the node as its source.
+        // Its packets carry the node's stored pairs, with the node as their source.
         ensures memory { IfOk result.1 (AreFrom self.node self.pairs self.certified) }
         ensures stored { IfOk result.1 (AreOfStored (ShowsReady self) self.node) }
     {
         let Ready { mut held } = self;
-        // This does nothing: it gives the proof what the pending pairs always keep.
+        // Only the proof needs this call: it states the invariant of the pending pairs.
         held.pending.limits();
         let sent = resent(&mut held.resend, alloc, &held.pending, &held.acks);
         (Ready { held }, sent)
     }
 
-    /// The node stops and loses what it has not stored.
+    /// Stops the node, which loses what it has not stored.
     pub fn crash(self) -> Down<A>
         ensures { Crashes (ShowsReady self) self result }
     {

@@ -1,4 +1,4 @@
-//! Where a call of a node leads.
+//! The results of a node's calls.
 
 use crate::{Answer, Ready, Storing};
 use std::alloc::{Allocator, Global};
@@ -7,27 +7,27 @@ use urb_names::Name;
 use urb_stable::Draft;
 use urb_stubborn::Outbox;
 
-/// Where a submit or an arrival leads that was not refused.
+/// The result of a submit or an arrival that was not refused.
 #[derive(Drop)]
 #[derive_where(Debug)]
 pub enum Step<A: Allocator = Global> {
     /// The node stays ready, and nothing has to be stored.
     Same(Ready<A>, Answer<Outbox<A>>),
-    /// The node holds a record, which its store is to keep first: the draft goes there.
+    /// The node holds a record that its store must keep first: give the draft to the store.
     Store(Storing<A>, Draft<A>),
 }
 
-/// What a stored record led to.
+/// The effect of a stored record.
 #[derive(Drop)]
 #[derive_where(Debug)]
 pub struct Done<A: Allocator = Global> {
-    /// Whether a client's message was accepted by it.
+    /// Whether this accepted a client's message.
     pub accepted: bool,
     /// The name that the record is about.
     pub name: Name,
     /// The packets to send now.
     pub sent: Outbox<A>,
-    /// How many names the log has gained.
+    /// How many names were added to the log.
     pub released: u32,
 }
 

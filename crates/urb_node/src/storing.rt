@@ -25,14 +25,14 @@ use urb_names::{Message, Name, NodeId};
 use urb_stable::{Receipt, Record};
 use urb_stubborn::Outbox;
 
-/// A node that holds a draft: it waits for its store, and takes nothing else.
+/// A node that holds a draft: it waits for its store and takes nothing else.
 #[derive(Drop)]
 #[derive_where(Debug)]
 pub struct Storing<A: Allocator = Global> {
     pub(crate) held: Held<A>,
     pub(crate) entry: Record<Message<A>>,
     pub(crate) cause: Option<Cause>,
-    // What is sent once the record is stored. It leaves this value by `confirm` alone.
+    // The packets to send once the record is stored. Only `confirm` gives them out.
     pub(crate) packets: Outbox<A>,
 }
 
@@ -47,7 +47,8 @@ impl<A: Allocator> Model for Storing<A> {
     ghost invariant = { λ a. IsDrafted a.held a.entry a.cause a.packets };
 }
 
-// A stored message is acknowledged by the node, and by the one that the packet which caused it came from.
+// Counts the acknowledgements of a stored message: the node's own, and that of the source of the
+// packet that caused it.
 fn count<A: Allocator + Copy>(acks: &mut Acks<A>, name: Name, node: NodeId, cause: Option<Cause>)
     requires { acks.old.reserved ≡ Some name }
     ensures counted { acks.new.counted
@@ -61,7 +62,7 @@ fn count<A: Allocator + Copy>(acks: &mut Acks<A>, name: Name, node: NodeId, caus
     }
 }
 
-// One more pending pair is stored.
+// Adds one more stored pending pair.
 fn join_pair<A: Allocator + Copy>(
     held: &mut Held<A>,
     name: Name,
@@ -86,7 +87,7 @@ fn join_pair<A: Allocator + Copy>(
     held.stored += 1;
 }
 
-// A pending name is certified; this says how many names are released.
+// Certifies a pending name and returns how many names this releases.
 fn join_certificate<A: Allocator + Copy>(held: &mut Held<A>, name: Name) -> u32
     requires kept { IsHeld held.old }
     requires range { (name.sender ≤ held.old.config.n) × (name.seq ≤ held.old.config.cap) }
@@ -102,7 +103,7 @@ fn join_certificate<A: Allocator + Copy>(held: &mut Held<A>, name: Name) -> u32
     held.fifo.certify(name).unwrap()
 }
 
-/// What a node holds once its record is stored, and how many names are released by it.
+/// What a node holds once its record is stored, and how many names this releases.
 pub(crate) fn stored<A: Allocator + Copy>(
     mut held: Held<A>,
     entry: Record<Message<A>>,
@@ -115,7 +116,7 @@ pub(crate) fn stored<A: Allocator + Copy>(
     ensures memory { memory_of result.0 ≡ with_record (memory_of held) entry cause }
     ensures released { length (memory_of result.0).log ≡ length (memory_of held).log + result.1 }
 {
-    // These do nothing: they give the proof what the layers always keep.
+    // Only the proof needs these calls: they state the invariants of the layers.
     held.pending.limits();
     held.fifo.limits();
     match entry {
@@ -136,7 +137,7 @@ pub(crate) fn stored<A: Allocator + Copy>(
     }
 }
 
-// Whether a receipt is of this record of this node at this position.
+// Whether a receipt belongs to this record of this node at this position.
 fn is_receipt_of<A: Allocator>(
     receipt: &Receipt<A>,
     node: NodeId,
@@ -163,15 +164,16 @@ fn is_own_message<A: Allocator>(entry: &Record<Message<A>>, node: NodeId) -> boo
 }
 
 impl<A: Allocator + Copy> Storing<A> {
-    /// The store took the record: the node goes on with it, and sends its packets. The receipt is the proof of that, so a
-    /// receipt of another draft comes back. Takes no memory.
+    /// Continues after the store kept the record, and returns the packets to send. The receipt is
+    /// the proof that it is stored, so a receipt of another draft comes back with the node.
+    /// Allocates no memory.
     pub fn confirm(
         self,
         receipt: Receipt<A>,
     ) -> Result<(Ready<A>, Done<A>), (Storing<A>, Receipt<A>)>
         ensures event { Confirms self receipt result }
 
-        // What it sends is of the node's stored pairs, with the node as its source.
+        // Its packets carry the node's stored pairs, with the node as their source.
         ensures memory { IfOk result (λ r. AreFrom r.0.node r.0.pairs r.0.certified r.1.sent) }
         ensures stored { IfOk result (λ r. AreOfStored (ShowsReady r.0) r.0.node r.1.sent) }
     {
@@ -181,7 +183,7 @@ impl<A: Allocator + Copy> Storing<A> {
             cause,
             packets,
         } = self;
-        // These do nothing: they give the proof what the layers always keep.
+        // Only the proof needs these calls: they state the invariants of the layers.
         held.pending.limits();
         held.fifo.limits();
         if !is_receipt_of(&receipt, held.node, held.stored + 1, &entry) {
@@ -205,7 +207,8 @@ impl<A: Allocator + Copy> Storing<A> {
         Ok((Ready { held }, done))
     }
 
-    /// The store did not take the record for certain: the node is down, and the record is in doubt. Takes no memory.
+    /// Takes the node down because the store didn't certainly keep the record, which is then in
+    /// doubt. Allocates no memory.
     pub fn fail(self) -> Down<A>
         ensures { Fails self result }
     {
@@ -213,7 +216,7 @@ impl<A: Allocator + Copy> Storing<A> {
         fallen(held, Some(entry))
     }
 
-    /// The node stops while it holds a draft: as `fail`.
+    /// Stops the node while it holds a draft; same as `fail`.
     pub fn crash(self) -> Down<A>
         ensures { Crashes (ShowsStoring self) self.memory result }
     {

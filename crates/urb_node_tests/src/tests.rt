@@ -25,7 +25,7 @@ use std::alloc::Allocator;
 use urb_names::{ClientId, MAX_PAYLOAD, Message, Name, NodeId};
 use urb_stable::Record;
 
-// The name of this sender with this number; none where there is no such one.
+// The name with this sender and number, or `None` if there is no such name.
 fn name(sender: u8, seq: u32) -> Option<Name>
     ensures { IfSome result (λ x. x ≡ name sender seq) }
 {
@@ -36,7 +36,8 @@ fn name(sender: u8, seq: u32) -> Option<Name>
     Some(Name { sender, seq })
 }
 
-// A message of this client, with a copy of the payload; none where there is no such one, or no memory.
+// A message of this client, with a copy of the payload. `None` if there is no such message, or no
+// memory.
 fn message<A: Allocator + Copy>(
     alloc: A,
     client: u16,
@@ -53,7 +54,7 @@ fn message<A: Allocator + Copy>(
     Message::copied(alloc, client, number, payload).ok()
 }
 
-// A record about a message of client 7, which has the number of its name.
+// A record about a message of client 7 whose number is that of its name.
 fn record_of<A: Allocator + Copy>(
     calm: A,
     form: &Form,
@@ -67,7 +68,7 @@ fn record_of<A: Allocator + Copy>(
     })
 }
 
-// The record of a row of an image.
+// The record for a row of an image.
 fn kept_record<A: Allocator + Copy>(
     calm: A,
     (form, sender, payload): &Kept,

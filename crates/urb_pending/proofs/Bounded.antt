@@ -1,4 +1,4 @@
--- How many pairs there can be.
+-- The greatest possible number of pairs.
 use Rattle.std.proofs.Common.{◌≡◌, ℕ, suc, ◌+◌, ◌*◌, ◌<◌, ◌≤◌, true, ◌&&◌, ◌==◌, List, [], ◌∷◌, length, ⊎_elim, arith, eqb-true, ltb-true, nat_lt, Fits, w32}
 use Rattle.std.specs.Prelude.{nat_le}
 use Rattle.std.specs.List.{list_all}
@@ -30,7 +30,7 @@ in_range limits x e =
       seq_high = leb-true x.seq limits.cap seq.1;
     }
 
--- the place of a name among all that the limits allow
+-- the place of a name among all names that the limits allow
 abbrev rank : ℕ → Label → ℕ
 rank cap x = x.sender * cap + x.seq
 
@@ -62,7 +62,7 @@ bounded_from limits p (q ∷ qs) h k =
     let more : rank limits.cap p.0 + 1 ≤ rank limits.cap q.0 = rank_grows limits p.0 q.0 (in_range limits p.0 within.0) (in_range limits q.0 next.0) first.0 in
     omega (arith, rest, more)
 
--- no more than n times cap
+-- at most n times cap
 pub bounded : (limits : Limits) (ps : List (Label × Content)) → are_rising ps ≡ true → list_all (λ pair. is_within limits pair.0) ps ≡ true → length ps ≤ limits.n * limits.cap
 bounded limits [] h k = omega arith
 bounded limits (p ∷ ps) h k =

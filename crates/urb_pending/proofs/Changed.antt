@@ -1,4 +1,4 @@
--- What rows tell once one client's row is another.
+-- What rows say once one client's row has changed.
 use Rattle.std.proofs.Common.{◌≡◌, ℕ, ◌<◌, Bool, true, false, cond, ◌==◌, List, [], ◌∷◌, ◌++◌, length, get_or, insert, None, Some, Option, slice_get, refl, sym, ap, ◌∙◌, is_some, eq-eqb, eqb-true}
 use Rattle.std.proofs.lemmas.Bool.{false≢true}
 use Rattle.urb_names.specs.Ordered.{placed}
@@ -16,7 +16,7 @@ module _ (client : ℕ) (new : Row) (rows after : List Row) (changed : (c : ℕ)
       at true f = e ∙ ap (λ (d : ℕ). given_to d rows) (sym (eqb-true c client f))
       at false f = refl
 
-  -- one number more
+  -- one more number
   pub given_pushed : (seq : ℕ) → new.given ≡ given_to client rows ++ seq ∷ [] → (c : ℕ) → given_to c after ≡ with_given client seq rows c
   given_pushed seq e c = ap numbers_in (changed c) ∙ at (c == client) refl
     where
@@ -24,11 +24,11 @@ module _ (client : ℕ) (new : Row) (rows after : List Row) (changed : (c : ℕ)
       at true f = e ∙ ap (λ (d : ℕ). given_to d rows ++ seq ∷ []) (sym (eqb-true c client f))
       at false f = refl
 
-  -- room for it
+  -- space for it
   pub room_made : new.room ≡ true → has_room client after ≡ true
   room_made e = ap is_roomy (changed client) ∙ (ap (λ (b : Bool). is_roomy (cond b (Some new) (row_of client rows))) (eq-eqb client client refl) ∙ e)
 
-  -- and where there was room, there is
+  -- and where there was space, there still is
   pub room_kept : new.room ≡ true → (c : ℕ) → has_room c rows ≡ true → has_room c after ≡ true
   room_kept e c h = ap is_roomy (changed c) ∙ at (c == client)
     where
@@ -36,7 +36,7 @@ module _ (client : ℕ) (new : Row) (rows after : List Row) (changed : (c : ℕ)
       at true = e
       at false = h
 
--- the row of a client that has room
+-- the row of a client that has space
 pub record HasRoom (client : ℕ) (rows : List Row) : Type 0 where
   pub row : Row
   pub held : IsHeld client rows row
@@ -49,7 +49,7 @@ roomy_row client rows h e = at (row_of client rows) refl e
     at None f g = absurd cc
     at (Some row) f g = record { row = row; held = held_in client rows row h f; room = g }
 
--- what stands in a client's place is its row
+-- the row at a client's place is the client's row
 pub row_read : (client : ℕ) (rows : List Row) (row here : Row) (i : ℕ) → IsHeld client rows row → i ≡ place_in client rows → here ≡ get_or rows i here → (i < length rows) × (here ≡ row)
 row_read client rows row here i h place read =
     let found = get_at rows i here row (ap (slice_get rows) place ∙ h.at) in
@@ -78,11 +78,11 @@ no_row client rows e = at (row_of client rows) e
     at None f = refl
     at (Some row) f = absurd cc
 
--- so it has no room
+-- so it has no space
 pub not_roomy : (client : ℕ) (rows : List Row) → is_some (row_of client rows) ≡ false → has_room client rows ≡ true → ⊥
 not_roomy client rows e f = false≢true (sym (ap is_roomy (no_row client rows e)) ∙ f)
 
--- a row put in its client's place goes behind those that come before it
+-- a row put at its client's place comes after those that precede it
 pub placed_at : (client : ℕ) (rows after : List Row) (new : Row) (i : ℕ) → new.client ≡ client → i ≡ place_in client rows → after ≡ insert rows i new → after ≡ placed row_lt rows new
 placed_at client rows after new i own place put =
     put ∙ (ap (λ (n : ℕ). insert rows n new) place ∙ ap (λ (n : ℕ). insert rows (place_in n rows) new) (sym own))

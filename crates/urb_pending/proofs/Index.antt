@@ -1,4 +1,4 @@
--- The index of own messages by client, with one message more.
+-- The index of a node's own messages by client, with one more message.
 use Rattle.std.proofs.Common.{◌≡◌, ℕ, zero, suc, ◌+◌, Bool, true, false, cond, not, ◌&&◌, ◌==◌, List, [], ◌∷◌, ◌++◌, length, count_by, find, None, Some, Option, slice_get, refl, sym, ap, ◌∙◌, arith, eq-eqb, eqb-true, ne_eqb}
 use Rattle.std.proofs.lemmas.Bool.{eqb-false}
 use Rattle.std.specs.Prelude.{option_map}
@@ -11,7 +11,7 @@ use Rattle.urb_names.specs.Pairs.{is_numbered, next_number}
 use Rattle.urb_pending.specs.Rows.{Row}
 use Rattle.urb_pending.specs.ClientIndex.{IsIndexOf, given_to, nth, place_given}
 
--- the place, from 1, of the first that passes
+-- the place, from 1, of the first message that passes
 abbrev first_place : (Content → Bool) → List Content → Option ℕ
 first_place test ms = option_map (λ m. suc (position_or_len test ms)) (find test ms)
 
@@ -29,7 +29,7 @@ place_step test m ms = at (test m)
     at true = refl
     at false = under (position_or_len test ms) (find test ms)
 
--- one message more is found where none before it is
+-- one more message is found if no earlier one passes
 place_push : (test : Content → Bool) (ms : List Content) (m : Content)
     → first_place test (ms ++ m ∷ []) ≡ option_or (first_place test ms) (cond (test m) (Some (suc (length ms))) None)
 place_push test [] m = place_step test m []
@@ -59,7 +59,7 @@ get_push (n ∷ ns) last (suc i) = get_push ns last i ∙ ap (λ b. option_or (s
         at true e = sym (eq-eqb (suc a) (suc b) (ap (λ n. suc n) (eqb-true a b e)))
         at false e = sym (ne_eqb (suc a) (suc b) (λ f. eqb-false a b e (omega arith)))
 
--- one number more stands in the next place
+-- one more number is at the next place
 nth_push : (numbers : List ℕ) (last number : ℕ) → nth (numbers ++ last ∷ []) number ≡ option_or (nth numbers number) (cond (suc (length numbers) == number) (Some last) None)
 nth_push numbers last zero = ap (λ b. cond b (Some last) None) (sym (ne_eqb (suc (length numbers)) zero (λ e. (let no : ⊥ = omega arith in no))))
 nth_push numbers last (suc i) = get_push numbers last i ∙ ap (λ b. option_or (slice_get numbers i) (cond b (Some last) None)) (same i (length numbers))
@@ -75,7 +75,7 @@ or_none : (found : Option ℕ) → option_or found None ≡ found
 or_none None = refl
 or_none (Some n) = refl
 
--- an index has as many numbers of each client, with one more for the client of a message more
+-- counts stay right when a message is added: its client has one more number
 counts_grow : (ms : List Content) (m : Content) (client : ℕ) → count_by (λ o. o.client == client) (ms ++ m ∷ []) ≡ count_by (λ o. o.client == client) ms + cond (m.client == client) 1 0
 counts_grow ms m client = sum_by-append (λ o. cond (o.client == client) 1 0) ms (m ∷ []) ∙ ap (λ n. count_by (λ o. o.client == client) ms + n) (at (cond (m.client == client) 1 0))
   where
@@ -89,11 +89,11 @@ turned a b = at (a == b) refl
     at true e = sym (eq-eqb b a (sym (eqb-true a b e)))
     at false e = sym (ne_eqb b a (λ f. eqb-false a b e (sym f)))
 
--- which numbers the client c has, once the client has this number too
+-- the numbers that client c has once this client has this number too
 abbrev pub with_given : ℕ → ℕ → List Row → ℕ → List ℕ
 with_given client seq rows c = cond (c == client) (given_to c rows ++ seq ∷ []) (given_to c rows)
 
--- with its number, an index is one of the messages with this one more
+-- with its number, an index of messages becomes one of the messages with this one added
 pub index_grows : (ms : List Content) (m : Content) (rows new : List Row) → IsIndexOf ms rows → m.number ≡ next_number m.client ms
     → ((c : ℕ) → given_to c new ≡ with_given m.client (suc (length ms)) rows c) → IsIndexOf (ms ++ m ∷ []) new
 index_grows ms m rows new h e given = record { counts = counts; finds = finds }
@@ -134,7 +134,7 @@ index_grows ms m rows new h e given = record { counts = counts; finds = finds }
             ap (λ b. option_or (nth (given_to c rows) number) (cond (b && (m.number == number)) (Some (suc (length ms))) None)) (turned m.client c ∙ f)
             ∙ or_none (nth (given_to c rows) number)
 
--- an index of the same numbers is one of the same messages
+-- an index with the same numbers is an index of the same messages
 pub index_same : (ms : List Content) (rows new : List Row) → IsIndexOf ms rows → ((c : ℕ) → given_to c new ≡ given_to c rows) → IsIndexOf ms new
 index_same ms rows new h given = record {
   counts = λ c. ap length (given c) ∙ h.counts c;

@@ -1,4 +1,4 @@
--- What a pending set's fields keep.
+-- The invariant of a pending set's fields.
 use Rattle.std.proofs.Common.{◌≡◌, ℕ, suc, ◌+◌, ◌≤◌, Bool, true, false, cond, ◌&&◌, ◌==◌, List, [], ◌∷◌, ◌++◌, length, None, refl, sym, ap, ◌∙◌, subst, arith, eqb-true}
 use Rattle.urb_names.specs.Naming.{Label, Content, IsLabel}
 use Rattle.urb_names.specs.Pairs.{message_of, own, next_number}
@@ -19,11 +19,11 @@ use Rattle.urb_pending.proofs.Index.{index_grows, index_same}
 pub placed_pair : (x : Label) (m : Content) (ps : List (Label × Content)) → placed entry_lt ps (x, m) ≡ inserted (x, m) ps
 placed_pair x m ps = sym (inserted_at (x, m) ps)
 
--- the rows with one number more, where the message is the node's own
+-- the rows with one more number, if the message is the node's own
 abbrev pub IsGiven : Bool → ℕ → ℕ → List Row → List Row → Type 0
 IsGiven mine client seq rows new = (c : ℕ) → given_to c new ≡ cond (mine && (c == client)) (given_to c rows ++ seq ∷ []) (given_to c rows)
 
--- the index follows one pair more
+-- the index stays right when a pair is added
 pub still_index : (set : PendingSet) → IsPendingSet set → (x : Label) (m : Content) (rows new : List Row) → IsIndexOf (own set.node set.pairs) rows
     → (x.sender ≡ set.node → (x.seq ≡ length (own set.node set.pairs) + 1) × (m.number ≡ next_number m.client (own set.node set.pairs)))
     → IsGiven (x.sender == set.node) m.client x.seq rows new → IsIndexOf (own set.node (inserted (x, m) set.pairs)) new
@@ -38,7 +38,7 @@ still_index set h x m rows new index next given = at (x.sender == set.node) refl
     at false e f = subst (λ ms. IsIndexOf ms new) (sym (own_kept set.node x m set.pairs e)) (index_same (own set.node set.pairs) rows new index f)
 
 module _ {A : Type 0} (a : Inside A) (clients : List Row) (kept : IsKept a) (given : (c : ℕ) → given_to c clients ≡ given_to c a.clients) (room : (c : ℕ) → has_room c a.clients ≡ true → has_room c clients ≡ true) where
-  -- more room in the index leaves all that is kept
+  -- more space in the index preserves the invariant
   pub roomier : IsKept (record a { clients = clients })
   roomier = record {
     set = kept.set;
@@ -46,11 +46,11 @@ module _ {A : Type 0} (a : Inside A) (clients : List Row) (kept : IsKept a) (giv
     room = λ x client e. let old = kept.room x client e in record { under = old.under; own = λ f. room client (old.own f) };
   }
 
-  -- also where the windows are as they were
+  -- also if the windows are unchanged
   pub roomier_same : (windows : WindowSet Content) → windows ≡ a.windows → IsKept (record a { windows = windows; clients = clients })
   roomier_same windows e = subst (λ w. IsKept (record a { windows = w; clients = clients })) (sym e) roomier
 
--- with one pair more, and its number in the index, all is kept; no room is promised
+-- adding a pair, and its number to the index, preserves the invariant; no space is promised
 pub kept_with : {A : Type 0} (a : Inside A) (x : Label) (m : Content) (windows : WindowSet Content) (clients new : List Row) → IsKept a → IsLabel x → message_of a.windows.entries x ≡ None → x.sender ≤ a.config.n → x.seq ≤ a.config.cap
     → (x.sender ≡ a.node → (x.seq ≡ length (own a.node a.windows.entries) + 1) × (m.number ≡ next_number m.client (own a.node a.windows.entries)))
     → windows.entries ≡ placed entry_lt a.windows.entries (x, m) → ((c : ℕ) → given_to c clients ≡ given_to c a.clients) → IsGiven (x.sender == a.node) m.client x.seq clients new

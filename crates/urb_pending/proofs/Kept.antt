@@ -1,4 +1,4 @@
--- What a pending set keeps, with one more pair.
+-- A pending set preserves its invariant when a pair is added.
 use Rattle.std.proofs.Common.{◌≡◌, ℕ, suc, ◌+◌, ◌≤◌, true, false, ◌==◌, List, [], ◌∷◌, ◌++◌, map, length, None, sym, ap, ◌∙◌, subst, ⊎_elim, arith, eqb-true, eq-eqb, lt-ltb, nat_lt}
 use Rattle.std.specs.Prelude.{nat_le}
 use Rattle.std.specs.List.{list_all}
@@ -20,7 +20,7 @@ within limits x h low high =
     (and_from (nat_lt 0 x.sender) (nat_lt x.sender (suc limits.n)) (lt-ltb 0 x.sender h.sender.0) (lt-ltb x.sender (suc limits.n) (omega (arith, low))))
     (and_from (nat_le 1 x.seq) (nat_le x.seq limits.cap) (le-leb 1 x.seq (omega (arith, h.seq.0))) (le-leb x.seq limits.cap high))
 
--- all of the node's names stand before its next
+-- all of the node's names come before its next one
 own_before : (set : PendingSet) → IsPendingSet set → list_all (λ q. name_lt q.0 (name set.node (length (own set.node set.pairs) + 1))) (mine set.node set.pairs) ≡ true
 own_before set h = mine_before set.node set.pairs (length (own set.node set.pairs) + 1) h.numbered (omega arith)
 
@@ -42,7 +42,7 @@ own_next set h x m e f =
     ∙ (ap (map (λ (q : Label × Content). q.1)) (mine_next set h x m e f)
     ∙ (map-append (λ (q : Label × Content). q.1) (mine set.node set.pairs) ((x, m) ∷ []) ∙ ap (λ ms. ms ++ m ∷ []) (sym (own_mine set.node set.pairs))))
 
--- another sender's message is none of them
+-- another sender's message is not one of them
 pub own_kept : (node : ℕ) (x : Label) (m : Content) (ps : List (Label × Content)) → (x.sender == node) ≡ false → own node (inserted (x, m) ps) ≡ own node ps
 own_kept node x m ps e = own_mine node (inserted (x, m) ps) ∙ (ap (map (λ (q : Label × Content). q.1)) (mine_other node (x, m) ps e) ∙ sym (own_mine node ps))
 
@@ -81,7 +81,7 @@ still_numbered set h x m high next = ⊎_elim mine_now others (cases_Bool (x.sen
           capped = subst (λ (ms : List Content). length ms ≤ set.limits.cap) (sym same) h.capped;
         }
 
--- one more pair of a new name leaves a pending set
+-- adding a pair with a new name gives a pending set
 pub still_pending_set : (set : PendingSet) → IsPendingSet set → (x : Label) (m : Content) → IsLabel x → message_of set.pairs x ≡ None → x.sender ≤ set.limits.n → x.seq ≤ set.limits.cap
     → (x.sender ≡ set.node → (x.seq ≡ length (own set.node set.pairs) + 1) × (m.number ≡ next_number m.client (own set.node set.pairs))) → IsPendingSet (added x m set)
 still_pending_set set h x m label absent low high next =

@@ -22,12 +22,12 @@ pub value_is : (ps : List (Label × Content)) (x : Label) → value_of ps x ≡ 
 value_is [] x = refl
 value_is (p ∷ ps) x = ap (λ o. cond (same_name p.0 x) (Some p.1) o) (value_is ps x)
 
--- whether a message that was found is this one
+-- whether a message was found and is this one
 abbrev pub is_that : Content → Option Content → Bool
 is_that m None = false
 is_that m (Some there) = same_message there m
 
--- behind a name in order there is no pair of it
+-- after a name in the order, no pair has that name
 none_later : (x : Label) (m : Content) (ps : List (Label × Content)) → list_all (λ q. name_lt x q.0) ps ≡ true → has_pair ps x m ≡ false
 none_later x m [] h = refl
 none_later x m (p ∷ ps) h = or_from (same_name p.0 x && same_message p.1 m) (has_pair ps x m) (differ (same_name p.0 x) refl) (none_later x m ps parts.1)
@@ -39,7 +39,7 @@ none_later x m (p ∷ ps) h = or_from (same_name p.0 x && same_message p.1 m) (h
     differ true e = absurd (false≢true (sym (not_before_itself x) ∙ (ap (name_lt x) (sym (same_name-true p.0 x e)) ∙ parts.0)))
     differ false e = refl
 
--- a pair is there where its message is found under its name
+-- a pair is there exactly if its message is found under its name
 pub pair_found : (ps : List (Label × Content)) (x : Label) (m : Content) → are_rising ps ≡ true → has_pair ps x m ≡ is_that m (message_of ps x)
 pair_found [] x m h = refl
 pair_found (p ∷ ps) x m h = at (pair_found ps x m parts.1) (same_name p.0 x) refl
@@ -55,12 +55,12 @@ pair_found (p ∷ ps) x m h = at (pair_found ps x m parts.1) (same_name p.0 x) r
         or_nothing false = refl
     at ih false e = ih
 
--- the first name is that of the pair in front
+-- the first name is the name of the first pair
 pub front_name : (ps : List (Label × Content)) → option_map (λ pair. pair.0) (slice_get ps 0) ≡ first_name ps
 front_name [] = refl
 front_name (p ∷ ps) = refl
 
--- a list's names of one sender are all in it
+-- all of one sender's names in a list are in the list
 part_has : (s : ℕ) (xs : List Label) (y : Label) → has_name (part_of s xs) y ≡ true → has_name xs y ≡ true
 part_has s [] y e = e
 part_has s (x ∷ xs) y e = at (part_has s xs y) (x.sender == s) e
@@ -73,7 +73,7 @@ part_has s (x ∷ xs) y e = at (part_has s xs y) (x.sender == s) e
         there (inr g) = or_right (same_name x y) _ (ih g)
     at ih false f = or_right (same_name x y) _ (ih f)
 
--- all are taken where each passes
+-- all elements are taken if each passes
 take_each : (test : Label → Bool) (ys : List Label) → ((y : Label) → has_name ys y ≡ true → test y ≡ true) → take_while test ys ≡ ys
 take_each test [] h = refl
 take_each test (y ∷ ys) h =
@@ -85,7 +85,7 @@ numbers_length : (first count : ℕ) → length (numbers_from first count) ≡ c
 numbers_length first zero = refl
 numbers_length first (suc count) = ap (λ n. suc n) (numbers_length (suc first) count)
 
--- where a sender's names are 1 to count, so far they go without a gap
+-- if a sender's names are 1 to count, they go that far without a gap
 pub beginning_full : (s count : ℕ) (xs : List Label) → part_of s xs ≡ names s count → length (beginning s xs) ≡ count
 beginning_full s count xs e =
     ap (λ n. length (take_while (has_name xs) (names s n))) (ap length e ∙ full)
@@ -98,11 +98,11 @@ beginning_full s count xs e =
 pub own_low : (set : PendingSet) → IsPendingSet set → low_of set.node set.pairs ≡ length (own set.node set.pairs)
 own_low set h = beginning_full set.node (length (own set.node set.pairs)) (names_of set.pairs) h.numbered
 
--- a pair is there where its message, found under its name, is the one
+-- a pair is there exactly if the message found under its name is its message
 pub found_is : (ps : List (Label × Content)) (x : Label) (m : Content) (found : Option Content) → are_rising ps ≡ true → found ≡ value_of ps x → is_that m found ≡ has_pair ps x m
 found_is ps x m found h e = ap (is_that m) (e ∙ value_is ps x) ∙ sym (pair_found ps x m h)
 
--- what tells whether two messages are the same
+-- what decides whether two messages are the same
 pub told_same : (b : Bool) (m o : Content) → MatchBool b (m ≡ o) (m ≡ o → ⊥) → b ≡ same_message m o
 told_same true m o h = sym (subst (λ x. same_message m x ≡ true) h (same_message-same m))
 told_same false m o h = sym (false_from_ne_true _ (λ e. h (same_message-true m o e)))

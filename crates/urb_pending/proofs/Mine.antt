@@ -1,4 +1,4 @@
--- A sender's own pairs among pairs in order.
+-- A sender's own pairs among sorted pairs.
 use Rattle.std.proofs.Common.{◌≡◌, ℕ, zero, suc, ◌+◌, ◌<◌, ◌≤◌, Bool, true, false, cond, ◌&&◌, ◌==◌, List, [], ◌∷◌, ◌++◌, map, filter, length, None, Some, refl, sym, ap, ◌∙◌, subst, arith, eq-eqb, lt-ltb, nat_lt}
 use Rattle.std.specs.List.{list_all}
 use Rattle.std.proofs.lemmas.Bool.{and_parts, and_from, false≢true, cond-true, cond-false, or_right}
@@ -39,7 +39,7 @@ part_mine s (p ∷ ps) = step (part_mine s ps) (p.0.sender == s)
     step ih true = ap (λ xs. p.0 ∷ xs) ih
     step ih false = ih
 
--- another sender's pair is none of them
+-- another sender's pair is not one of them
 pub mine_other : (s : ℕ) (p : Label × Content) (ps : List (Label × Content)) → is_of s p ≡ false → mine s (inserted p ps) ≡ mine s ps
 mine_other s p [] e = cond-false (is_of s p) _ _ e
 mine_other s p (q ∷ qs) e = step (mine_other s p qs e) (name_lt q.0 p.0)
@@ -48,7 +48,7 @@ mine_other s p (q ∷ qs) e = step (mine_other s p qs e) (name_lt q.0 p.0)
     step ih true = ap (λ ps. cond (is_of s q) (q ∷ ps) ps) ih
     step ih false = cond-false (is_of s p) (p ∷ mine s (q ∷ qs)) (mine s (q ∷ qs)) e
 
--- behind a name that all of them stand before there is none of them
+-- none of them comes after a name that they all precede
 none_behind : (s : ℕ) (x y : Label) (ps : List (Label × Content)) → name_lt y x ≡ false → list_all (λ q. name_lt y q.0) ps ≡ true → list_all (λ q. name_lt q.0 x) (mine s ps) ≡ true → mine s ps ≡ []
 none_behind s x y [] e h k = refl
 none_behind s x y (q ∷ qs) e h k = step (none_behind s x y qs e parts.1) (is_of s q) k
@@ -60,7 +60,7 @@ none_behind s x y (q ∷ qs) e h k = step (none_behind s x y qs e parts.1) (is_o
     step ih true l = absurd (false≢true (sym e ∙ name_lt-trans y q.0 x parts.0 (and_parts (name_lt q.0 x) _ l).0))
     step ih false l = ih l
 
--- a pair of the sender's, behind all that it has, becomes the last of them
+-- a pair of the sender that comes after all its pairs becomes the last of them
 pub mine_inserted : (s : ℕ) (p : Label × Content) (ps : List (Label × Content)) → is_of s p ≡ true → are_rising ps ≡ true → list_all (λ q. name_lt q.0 p.0) (mine s ps) ≡ true → mine s (inserted p ps) ≡ mine s ps ++ p ∷ []
 mine_inserted s p [] e h k = cond-true (is_of s p) _ _ e
 mine_inserted s p (q ∷ qs) e h k = step (mine_inserted s p qs e (and_parts _ (are_rising qs) h).1) (name_lt q.0 p.0) refl
@@ -84,7 +84,7 @@ mine_inserted s p (q ∷ qs) e h k = step (mine_inserted s p qs e (and_parts _ (
         cond-true (is_of s p) (p ∷ mine s (q ∷ qs)) (mine s (q ∷ qs)) e
         ∙ (ap (λ ps. p ∷ ps) (none (is_of s q) f k) ∙ sym (ap (λ ps. ps ++ p ∷ []) (none (is_of s q) f k)))
 
--- a name that all of the sender's stand before is new
+-- a name that comes after all of the sender's names is new
 pub new_behind : (x : Label) (ps : List (Label × Content)) → list_all (λ q. name_lt q.0 x) (mine x.sender ps) ≡ true → message_of ps x ≡ None
 new_behind x [] h = refl
 new_behind x (q ∷ qs) h = at (new_behind x qs) (same_name q.0 x) refl
@@ -101,7 +101,7 @@ new_behind x (q ∷ qs) h = at (new_behind x qs) (same_name q.0 x) refl
     at ih true e = absurd (not_here (same_name-true q.0 x e) (q.0.sender == x.sender) refl h)
     at ih false e = ih (further (q.0.sender == x.sender) h)
 
--- ---- own names are numbered 1, 2, 3, ..
+-- ---- the sender's own names are numbered 1, 2, 3, ..
 
 -- one more number
 pub numbers_more : (first count : ℕ) → numbers_from first (suc count) ≡ numbers_from first count ++ (first + count) ∷ []
@@ -114,7 +114,7 @@ numbers_more first (suc count) = ap (λ ns. first ∷ ns) (numbers_more (suc fir
     at : (m n : ℕ) → suc m + n ≡ m + suc n
     at m n = omega arith
 
--- the next name behind the first ones
+-- the name that follows the first ones
 pub names_more : (s count : ℕ) → names s (count + 1) ≡ names s count ++ name s (count + 1) ∷ []
 names_more s count =
     ap (λ n. map (name s) (numbers_from 1 n)) (more count)
@@ -133,7 +133,7 @@ before_next s first (suc count) next h =
     (or_right (nat_lt s s) ((s == s) && nat_lt first next) (and_from (s == s) (nat_lt first next) (eq-eqb s s refl) (lt-ltb first next (omega arith))))
     (before_next s (suc first) count next (omega arith))
 
--- all names that the sender has stand before its next
+-- all names of the sender come before its next one
 pub mine_before : (s : ℕ) (ps : List (Label × Content)) (next : ℕ) → part_of s (map (λ pair. pair.0) ps) ≡ names s (length (own s ps)) → length (own s ps) < next → list_all (λ q. name_lt q.0 (name s next)) (mine s ps) ≡ true
 mine_before s ps next e h =
     sym (list_all-map (λ x. name_lt x (name s next)) (λ (q : Label × Content). q.0) (mine s ps))

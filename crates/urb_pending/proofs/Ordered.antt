@@ -8,11 +8,11 @@ use Rattle.urb_names.specs.Pairs.{message_of}
 use Rattle.urb_names.specs.Cyclic.{are_rising, inserted}
 use Rattle.urb_names.proofs.RisingPairs.{name_lt-trans, name_lt-other_way, name_lt-one_way}
 
--- no name stands before itself
+-- no name comes before itself
 pub not_before_itself : (x : Label) → name_lt x x ≡ false
 not_before_itself x = ⊎_elim (λ e. name_lt-other_way x x e) (λ e. e) (cases_Bool (name_lt x x))
 
--- a pair goes in behind those that stand before it
+-- a pair is inserted after those that come before it
 pub inserted_at : (p : Label × Content) (ps : List (Label × Content)) → inserted p ps ≡ insert ps (prefix_len (λ q. name_lt q.0 p.0) ps) p
 inserted_at p [] = refl
 inserted_at p (q ∷ qs) = step (inserted_at p qs) (name_lt q.0 p.0)
@@ -27,7 +27,7 @@ inserted_at p (q ∷ qs) = step (inserted_at p qs) (name_lt q.0 p.0)
     step ih true = ap (λ ps. q ∷ ps) ih ∙ behind (prefix_len (λ q. name_lt q.0 p.0) qs)
     step ih false = refl
 
--- what each pair passes, and the new one, each passes then
+-- a test passed by each pair and by the new one is passed by all afterwards
 pub all_inserted : (test : Label × Content → Bool) (p : Label × Content) (ps : List (Label × Content)) → test p ≡ true → list_all test ps ≡ true → list_all test (inserted p ps) ≡ true
 all_inserted test p [] e h = and_from (test p) true e refl
 all_inserted test p (q ∷ qs) e h = let parts = and_parts (test q) (list_all test qs) h in step parts (all_inserted test p qs e parts.1) (name_lt q.0 p.0)
@@ -36,12 +36,12 @@ all_inserted test p (q ∷ qs) e h = let parts = and_parts (test q) (list_all te
     step parts ih true = and_from (test q) _ parts.0 ih
     step parts ih false = and_from (test p) _ e (and_from (test q) _ parts.0 parts.1)
 
--- what stands behind a name stands behind each name before it
+-- what comes after a name comes after each earlier name
 pub all_behind : (x y : Label) (ps : List (Label × Content)) → name_lt x y ≡ true → list_all (λ q. name_lt y q.0) ps ≡ true → list_all (λ q. name_lt x q.0) ps ≡ true
 all_behind x y [] e h = refl
 all_behind x y (q ∷ qs) e h = let parts = and_parts (name_lt y q.0) _ h in and_from (name_lt x q.0) _ (name_lt-trans x y q.0 e parts.0) (all_behind x y qs e parts.1)
 
--- pairs in order stay in order when one of a new name goes in
+-- sorted pairs stay sorted when a pair with a new name is inserted
 pub rising_inserted : (p : Label × Content) (ps : List (Label × Content)) → are_rising ps ≡ true → message_of ps p.0 ≡ None → are_rising (inserted p ps) ≡ true
 rising_inserted p [] h e = refl
 rising_inserted p (q ∷ qs) h e = by_name (rising_inserted p qs (and_parts (list_all (λ r. name_lt q.0 r.0) qs) (are_rising qs) h).1) (same_name q.0 p.0) refl e

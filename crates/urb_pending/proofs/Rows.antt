@@ -1,4 +1,4 @@
--- Rows in order of client: what halving finds, and one row more or changed.
+-- Rows in order of client: what a binary search finds, and one row added or changed.
 use Rattle.std.proofs.Common.{◌≡◌, ℕ, zero, suc, ◌+◌, ◌<◌, ◌≤◌, Bool, true, false, cond, ◌||◌, ◌==◌, List, [], ◌∷◌, length, get_or, None, Some, Option, is_some, slice_get, slice_set, refl, sym, ap, ◌∙◌, subst, inl, inr, ◌⊎◌, arith, nat_lt, eq-eqb, eqb-true, ne_eqb, lt-ltb, ltb-true}
 use Rattle.std.specs.List.{list_all, list_any, prefix_len}
 use Rattle.std.specs.List.Sorted.{IsPartitionedBy, IsPartitionPoint}
@@ -8,7 +8,7 @@ use Rattle.urb_names.specs.Ordered.{placed}
 use Rattle.urb_names.proofs.Ordered.{IsStrictOrder, rising_placed, placed_behind, placed_front}
 use Rattle.urb_pending.specs.Rows.{Row, row_lt, row_of, are_in_order}
 
--- whether a row stands before a client's place
+-- whether a row comes before a client's place
 abbrev pub stands_before : ℕ → Row → Bool
 stands_before client row = nat_lt row.client client
 
@@ -30,7 +30,7 @@ all_at test [] j d h l = absurd (omega arith)
 all_at test (r ∷ rs) zero d h l = (and_parts (test r) (list_all test rs) h).0
 all_at test (r ∷ rs) (suc j) d h l = all_at test rs j d (and_parts (test r) (list_all test rs) h).1 (omega arith)
 
--- those that stand before a client's place stand in front
+-- the rows that come before a client's place are at the front
 pub parted : (rows : List Row) (client : ℕ) → are_in_order rows ≡ true → IsPartitionedBy (stands_before client) rows
 parted [] client h i j d l m e = absurd (omega arith)
 parted (r ∷ rs) client h zero zero d l m e = e
@@ -39,7 +39,7 @@ parted (r ∷ rs) client h zero (suc j) d l m e =
 parted (r ∷ rs) client h (suc i) zero d l m e = absurd (omega arith)
 parted (r ∷ rs) client h (suc i) (suc j) d l m e = parted rs client (and_parts (list_all (row_lt r) rs) (are_in_order rs) h).1 i j d (omega arith) (omega arith) e
 
--- a partition point is the number of those in front
+-- a partition point is the number of elements at the front
 pub point_is : {X : Type 0} (test : X → Bool) (xs : List X) (i : ℕ) (d : X) → i ≤ length xs → IsPartitionPoint (λ y. test y ≡ true) (λ y. test y ≡ false) xs i → i ≡ prefix_len test xs
 point_is test [] i d l h = omega arith
 point_is test (y ∷ ys) zero d l h = sym (ap (λ (b : Bool). cond b (1 + prefix_len test ys) 0) (h.1 0 d (omega arith) (omega arith)))
@@ -63,12 +63,12 @@ none_behind client r (s ∷ ss) e h = at (none_behind client r ss e parts.1) (s.
     at ih true f = absurd (false≢true (sym f))
     at ih false f = ih
 
--- the row in a client's place is its own, or it has none
+-- the row at a client's place, if it is the client's own
 abbrev pub own_row : ℕ → Option Row → Option Row
 own_row client None = None
 own_row client (Some row) = cond (row.client == client) (Some row) None
 
--- halving finds the client's row
+-- a binary search finds the client's row
 pub row_found : (client : ℕ) (rows : List Row) → are_in_order rows ≡ true → row_of client rows ≡ own_row client (slice_get rows (place_in client rows))
 row_found client [] h = refl
 row_found client (r ∷ rs) h = at (row_found client rs parts.1) (nat_lt r.client client) refl
@@ -92,7 +92,7 @@ row_found client (r ∷ rs) h = at (row_found client rs parts.1) (nat_lt r.clien
         ∙ (ih ∙ ap (λ (n : ℕ). own_row client (slice_get (r ∷ rs) n)) (one_more (place_in client rs)))
     at ih false e = here e (r.client == client) refl
 
--- which row the client c has, once the client's is this one
+-- the row that client c has once this client has this row
 abbrev pub with_row : ℕ → Row → List Row → ℕ → Option Row
 with_row client row rows c = cond (c == client) (Some row) (row_of c rows)
 
@@ -114,7 +114,7 @@ same_other_way a b c e = at (a == b) refl
     at true f = sym (eq-eqb b c (sym (eqb-true a b f) ∙ e))
     at false f = sym (ne_eqb b c (λ g. eqb-false a b f (e ∙ sym g)))
 
--- one row more, in its place
+-- one more row, at its place
 pub row_placed : (client : ℕ) (row : Row) (rows : List Row) → row.client ≡ client → (c : ℕ) → row_of c (placed row_lt rows row) ≡ with_row client row rows c
 row_placed client row [] e c = ap (λ (b : Bool). cond b (Some row) None) (same_other_way row.client c client e)
 row_placed client row (r ∷ rs) e c = at (row_placed client row rs e c) (row_lt r row) refl
@@ -125,7 +125,7 @@ row_placed client row (r ∷ rs) e c = at (row_placed client row rs e c) (row_lt
         ∙ further client row r (placed row_lt rs row) rs c (subst (λ (n : ℕ). (r.client == n) ≡ false) e (not_same r.client row.client f)) ih
     at ih false f = ap (row_of c) (placed_front row_lt row r rs f) ∙ ap (λ (b : Bool). cond b (Some row) (row_of c (r ∷ rs))) (same_other_way row.client c client e)
 
--- the client's row changed, in its place
+-- the client's row changed, at its place
 pub row_changed : (client : ℕ) (row old : Row) (rows : List Row) → row.client ≡ client → old.client ≡ client → slice_get rows (place_in client rows) ≡ Some old
     → (c : ℕ) → row_of c (slice_set rows (place_in client rows) row) ≡ with_row client row rows c
 row_changed client row old [] e f g c = absurd cc
@@ -162,7 +162,7 @@ none_any client (r ∷ rs) e = at (none_any client rs) (r.client == client) e
     at ih true f = absurd cc
     at ih false f = ih f
 
--- one row more of a client that has none leaves rows in order
+-- adding a row for a client that has none keeps rows in order
 pub order_placed : (row : Row) (rows : List Row) → row_of row.client rows ≡ None → are_in_order rows ≡ true → are_in_order (placed row_lt rows row) ≡ true
 order_placed row rows e h = rising_placed row_lt (λ r s. r.client == s.client) client_laws rows row (none_any row.client rows e) h
 
@@ -176,7 +176,7 @@ all_get test [] i old h e = absurd cc
 all_get test (r ∷ rs) zero old h e = let same : r ≡ old = cc in ap test (sym same) ∙ (and_parts (test r) (list_all test rs) h).0
 all_get test (r ∷ rs) (suc i) old h e = all_get test rs i old (and_parts (test r) (list_all test rs) h).1 e
 
--- a row of the same client in its place leaves them in order
+-- replacing a row by one of the same client keeps them in order
 pub order_changed : (row old : Row) (rows : List Row) (i : ℕ) → row.client ≡ old.client → slice_get rows i ≡ Some old → are_in_order rows ≡ true → are_in_order (slice_set rows i row) ≡ true
 order_changed row old [] i e f h = absurd cc
 order_changed row old (r ∷ rs) zero e f h =
@@ -189,13 +189,13 @@ order_changed row old (r ∷ rs) (suc i) e f h =
     let before : row_lt r row ≡ true = ap (λ (n : ℕ). nat_lt r.client n) e ∙ all_get (row_lt r) rs i old parts.0 f in
     and_from (list_all (row_lt r) (slice_set rs i row)) (are_in_order (slice_set rs i row)) (all_set (row_lt r) rs i row parts.0 before) (order_changed row old rs i e f parts.1)
 
--- the client's row, standing in its place
+-- the client's row, at its place
 pub record IsHeld (client : ℕ) (rows : List Row) (row : Row) : Type 0 where
   pub at : slice_get rows (place_in client rows) ≡ Some row
   pub own : row.client ≡ client
   pub found : row_of client rows ≡ Some row
 
--- where a client has a row, it stands in its place
+-- if a client has a row, the row is at its place
 pub held_in : (client : ℕ) (rows : List Row) (row : Row) → are_in_order rows ≡ true → row_of client rows ≡ Some row → IsHeld client rows row
 held_in client rows row h e = at (slice_get rows (place_in client rows)) refl (sym (row_found client rows h) ∙ e)
   where
@@ -207,7 +207,7 @@ held_in client rows row h e = at (slice_get rows (place_in client rows)) refl (s
     at None f g = absurd cc
     at (Some r) f g = own r f (r.client == client) refl g
 
--- where the row in its place is the client's
+-- the row at its place is the client's
 pub held_at : (client : ℕ) (rows : List Row) (row : Row) → are_in_order rows ≡ true → slice_get rows (place_in client rows) ≡ Some row → row.client ≡ client → IsHeld client rows row
 held_at client rows row h e f = record {
   at = e;
@@ -215,7 +215,7 @@ held_at client rows row h e f = record {
   found = row_found client rows h ∙ (ap (own_row client) e ∙ ap (λ (b : Bool). cond b (Some row) None) (eq-eqb row.client client f));
 }
 
--- where it is another's, or none stands there, the client has none
+-- if the row at its place is another client's, or there is no row there, the client has none
 pub not_held : (client : ℕ) (rows : List Row) → are_in_order rows ≡ true → ((row : Row) → slice_get rows (place_in client rows) ≡ Some row → row.client ≡ client → ⊥) → row_of client rows ≡ None
 not_held client rows h never = row_found client rows h ∙ at (slice_get rows (place_in client rows)) refl
   where
@@ -227,7 +227,7 @@ not_held client rows h never = row_found client rows h ∙ at (slice_get rows (p
     at None f = refl
     at (Some r) f = other r f (r.client == client) refl
 
--- what stands at a place, read with a default
+-- the element at a place, read with a default
 pub get_at : {X : Type 0} (xs : List X) (i : ℕ) (d x : X) → slice_get xs i ≡ Some x → (i < length xs) × (get_or xs i d ≡ x)
 get_at [] i d x e = absurd cc
 get_at (y ∷ ys) zero d x e = let same : y ≡ x = cc in (omega arith, same)
@@ -238,26 +238,26 @@ get_within [] i d h = absurd (omega arith)
 get_within (y ∷ ys) zero d h = refl
 get_within (y ∷ ys) (suc i) d h = get_within ys i d (omega arith)
 
--- what halving finds at a client's place: its row
+-- the search at a client's place finds its row
 pub held_here : (client : ℕ) (rows : List Row) (row : Row) (i : ℕ) → are_in_order rows ≡ true → i ≡ place_in client rows → i < length rows → row ≡ get_or rows i row → row.client ≡ client → IsHeld client rows row
 held_here client rows row i h place within at own =
     held_at client rows row h (ap (slice_get rows) (sym place) ∙ (get_within rows i row within ∙ ap Some (sym at))) own
 
--- another's row
+-- it finds another client's row
 pub held_not : (client : ℕ) (rows : List Row) (row : Row) (i : ℕ) → are_in_order rows ≡ true → i ≡ place_in client rows → i < length rows → row ≡ get_or rows i row → (row.client ≡ client → ⊥) → row_of client rows ≡ None
 held_not client rows row i h place within at other = not_held client rows h (λ r e own. other (ap (λ (s : Row). s.client) (here r e) ∙ own))
   where
     here : (r : Row) → slice_get rows (place_in client rows) ≡ Some r → row ≡ r
     here r e = (let same : Some row ≡ Some r = ap Some at ∙ (sym (get_within rows i row within) ∙ (ap (slice_get rows) place ∙ e)) in cc)
 
--- none
+-- it finds no row
 pub held_past : (client : ℕ) (rows : List Row) (i : ℕ) → are_in_order rows ≡ true → i ≡ place_in client rows → length rows ≤ i → row_of client rows ≡ None
 held_past client rows i h place past = not_held client rows h (λ r e own. none r (ap (slice_get rows) place ∙ e))
   where
     none : (r : Row) → slice_get rows i ≡ Some r → ⊥
     none r e = (let f = get_none rows i past in let no : None ≡ Some r = sym f ∙ e in absurd cc)
 
--- whether the client has a row is told by what stands at its place
+-- the row at its place decides whether the client has one
 pub held_or_not : (client : ℕ) (rows : List Row) (row : Row) (i : ℕ) → are_in_order rows ≡ true → i ≡ place_in client rows → i < length rows → row ≡ get_or rows i row → (row.client == client) ≡ is_some (row_of client rows)
 held_or_not client rows row i h place within at = by_client (row.client == client) refl
   where

@@ -1,4 +1,4 @@
--- Cyclic order of names: the next one.
+-- Cyclic order of names: the next name.
 use Rattle.std.proofs.Common.{◌≡◌, Bool, true, false, cond, not, List, [], ◌∷◌, ◌++◌, filter, None, Some, refl, ◌∙◌}
 use Rattle.std.specs.Prelude.{find, option_map}
 use Rattle.std.specs.Option.{option_or}
@@ -7,7 +7,8 @@ use Rattle.urb_names.specs.Names.{name_lt}
 use Rattle.urb_names.specs.Cyclic.{cyclic, is_after}
 use Rattle.urb_pending.specs.PendingSet.{first_name}
 
--- the first that passes, or else the first of the rest, is the first where those that pass go in front of the rest
+-- the first that passes, or else the first of the rest, is the first once those that pass are put
+-- before the rest
 first_in_front : (test : Label × Content → Bool) (ps rest : List (Label × Content))
     → option_or (option_map (λ pair. pair.0) (find test ps)) (first_name rest) ≡ first_name (filter test ps ++ rest)
 first_in_front test [] rest = refl
@@ -18,7 +19,7 @@ first_in_front test (p ∷ ps) rest = step (first_in_front test ps rest) (test p
     step ih true = refl
     step ih false = ih
 
--- where none passes, the first is the first of those that don't
+-- if none passes, the first is the first of those that fail
 first_of_rest : (test : Label × Content → Bool) (ps : List (Label × Content))
     → option_or (option_map (λ pair. pair.0) (find test ps)) (first_name ps) ≡ option_or (option_map (λ pair. pair.0) (find test ps)) (first_name (filter (λ pair. not (test pair)) ps))
 first_of_rest test [] = refl
@@ -49,7 +50,7 @@ first_passing test (p ∷ ps) = step (first_passing test ps) (test p)
     step ih true = refl
     step ih false = ih
 
--- without a cursor all are behind it
+-- without a cursor all are after it
 pub all_behind_none : (ps : List (Label × Content)) → first_name ps ≡ first_name (filter (λ pair. is_after None pair.0) ps)
 all_behind_none [] = refl
 all_behind_none (p ∷ ps) = refl

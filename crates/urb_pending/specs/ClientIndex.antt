@@ -1,39 +1,40 @@
--- Which rows of clients are the index of a node's own messages.
+-- When the rows of clients are the index of a node's own messages.
 use Rattle.std.specs.Prelude.{◌≡◌, ℕ, zero, suc, ◌==◌, Bool, false, List, [], length, count_by, find, Option, Some, None, option_map, slice_get}
 use Rattle.std.specs.List.{position_or_len}
 use Rattle.urb_names.specs.Naming.{Content}
 use Rattle.urb_names.specs.Pairs.{is_numbered}
 use Rattle.urb_pending.specs.Rows.{Row, row_of}
 
--- the numbers in a row, and none where there is no row
+-- the numbers in a row; empty if there is no row
 abbrev pub numbers_in : Option Row → List ℕ
 numbers_in None = []
 numbers_in (Some row) = row.given
 
--- whether a row has room for one more
+-- whether there is a row with space for one more number
 abbrev pub is_roomy : Option Row → Bool
 is_roomy None = false
 is_roomy (Some row) = row.room
 
--- the numbers of the names that the client's messages were given
+-- the numbers of the names given to the client's messages
 abbrev pub given_to : ℕ → List Row → List ℕ
 given_to client rows = numbers_in (row_of client rows)
 
--- whether there is room for one message more of the client
+-- whether there is space for one more message of the client
 abbrev pub has_room : ℕ → List Row → Bool
 has_room client rows = is_roomy (row_of client rows)
 
--- what stands in this place, from 1
+-- the element at this place, from 1
 abbrev pub nth : List ℕ → ℕ → Option ℕ
 nth numbers zero = None
 nth numbers (suc before) = slice_get numbers before
 
--- the place, from 1, of the first message of this client and number
+-- the place, from 1, of the first message with this client and number
 abbrev pub place_given : ℕ → ℕ → List Content → Option ℕ
 place_given client number messages =
     option_map (λ m. suc (position_or_len (is_numbered client number) messages)) (find (is_numbered client number) messages)
 
--- Each client has as many numbers as messages, and of the message that it numbered so the number stands in that place.
+-- Each client has as many numbers as messages. The number at place k belongs to the message that
+-- the client numbered k.
 pub record IsIndexOf (messages : List Content) (rows : List Row) : Type 0 where
   pub counts : (client : ℕ) → length (given_to client rows) ≡ count_by (λ m. m.client == client) messages
   pub finds : (client number : ℕ) → place_given client number messages ≡ nth (given_to client rows) number

@@ -8,7 +8,8 @@ use Rattle.urb_names.specs.Release.{part_of}
 use Rattle.urb_names.specs.Pairs.{own, is_numbered}
 use Rattle.urb_names.specs.Cyclic.{are_rising, inserted}
 
--- the pending pairs of a node, in order of name, and the name and client for which there is room
+-- the pending pairs of a node, in order of name, and the name and client for which space is
+-- reserved
 pub record PendingSet : Type 0 where
   pub limits : Limits  -- of its group
   pub node : ℕ
@@ -19,11 +20,12 @@ pub record PendingSet : Type 0 where
 abbrev pub added : Label → Content → PendingSet → PendingSet
 added x m set = record set { pairs = inserted (x, m) set.pairs; reserved = None }
 
--- the name that the node gave the message of this client and number, where it is among its messages
+-- the name that the node gave to the message with this client and number, if it is among the node's
+-- messages
 abbrev pub name_given : ℕ → ℕ → ℕ → List Content → Option Label
 name_given node client number messages = option_map (λ m. name node (suc (position_or_len (is_numbered client number) messages))) (find (is_numbered client number) messages)
 
--- the name of the first pair, where there is one
+-- the name of the first pair, if there is one
 abbrev pub first_name : List (Label × Content) → Option Label
 first_name [] = None
 first_name (pair ∷ pairs) = Some pair.0
@@ -32,8 +34,8 @@ first_name (pair ∷ pairs) = Some pair.0
 abbrev pub is_within : Limits → Label → Bool
 is_within limits x = is_node limits.n x.sender && (nat_le 1 x.seq && nat_le x.seq limits.cap)
 
--- what each pending set keeps: every name once, in order, and within the limits; and the node's own names are numbered
--- 1, 2, 3, .., up to how many there are
+-- The invariant of every pending set. Names are in strictly rising order and within the limits. The
+-- node's own names are numbered 1, 2, 3, .., up to how many there are.
 pub record IsPendingSet (set : PendingSet) : Type 0 where
   pub limits : IsLimits set.limits
   pub rising : IsTrue (are_rising set.pairs)

@@ -1,8 +1,9 @@
--- What contracts see of a client's row.
+-- A client's row, as contracts see it.
 use Rattle.std.specs.Prelude.{ℕ, Bool, List, ◌==◌, nat_lt, Option, find}
 use Rattle.urb_names.specs.Ordered.{is_rising}
 
--- a client, the numbers of the names that the node gave its messages, and whether there is room for one more
+-- a client, the numbers of the names that the node gave to its messages, and whether there is space
+-- for one more
 pub record Row : Type 0 where
   pub client : ℕ
   pub given : List ℕ
@@ -12,10 +13,10 @@ pub record Row : Type 0 where
 abbrev pub row_lt : Row → Row → Bool
 row_lt row other = nat_lt row.client other.client
 
--- whether the rows stand in rising order of client, each client once
+-- whether the rows are in strictly rising order of client
 abbrev pub are_in_order : List Row → Bool
 are_in_order rows = is_rising row_lt rows
 
--- the client's row, where it has one
+-- the client's row, if it has one
 abbrev pub row_of : ℕ → List Row → Option Row
 row_of client rows = find (λ row. row.client == client) rows

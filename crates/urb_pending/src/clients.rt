@@ -1,4 +1,4 @@
-//! The index of a node's own messages by client, searched by halving.
+//! The index of a node's own messages by client, found by binary search.
 
 ghost use Rattle.std.specs.Prelude.{◌≡◌, ◌+◌, ◌<◌, ◌≤◌, ◌&&◌, ◌==◌, ℕ, true, false, nat_lt, IsTrue, IsOk, OnOk, OnErr, [], ◌∷◌, ◌++◌, length, if◌then◌else◌, Some, None, option_map, is_some};
 ghost use Rattle.std.specs.List.{prefix_len};
@@ -10,7 +10,7 @@ use std::alloc::{Allocator, Global};
 use std::marker::Model;
 use urb_names::{ClientId, NoMemory};
 
-/// The clients of a node with the numbers of the names that it gave their messages.
+/// The clients of a node, each with the numbers of the names that the node gave to its messages.
 #[derive(Drop)]
 #[derive_where(Debug)]
 pub(crate) struct Clients<A: Allocator = Global> {
@@ -29,7 +29,7 @@ impl<A: Allocator> Model for Clients<A> {
 }
 
 impl<A: Allocator + Copy> Clients<A> {
-    /// No client has a message. Takes no memory.
+    /// No client has a message yet. Allocates no memory.
     pub(crate) fn new(alloc: A) -> Clients<A>
         ensures { result ≡ [] }
     {
@@ -48,7 +48,7 @@ impl<A: Allocator + Copy> Clients<A> {
         }
     }
 
-    /// The number of the name that the client's message of this number was given.
+    /// The number of the name given to this client's message with this number.
     pub(crate) fn find(&self, client: ClientId, number: u32) -> Option<u32>
         ensures { result ≡ nth (given_to client self.now) number }
     {
@@ -59,7 +59,7 @@ impl<A: Allocator + Copy> Clients<A> {
         row.given().get(number as usize - 1).copied()
     }
 
-    /// Makes room for one message more of the client.
+    /// Reserves space for one more message of the client.
     pub(crate) fn make_room(&mut self, client: ClientId) -> Result<(), NoMemory>
         ensures given { (c : ℕ) → given_to c self.new ≡ given_to c self.old }
         ensures kept { (c : ℕ) → has_room c self.old ≡ true → has_room c self.new ≡ true }
@@ -77,7 +77,7 @@ impl<A: Allocator + Copy> Clients<A> {
         Ok(())
     }
 
-    /// The client's next message has the name of this number.
+    /// Records that the client's next message has the name with number `seq`.
     pub(crate) fn add(&mut self, client: ClientId, seq: u32)
         requires { has_room client self.old ≡ true }
         ensures { (c : ℕ)
@@ -88,7 +88,7 @@ impl<A: Allocator + Copy> Clients<A> {
         self.rows[place].push(seq);
     }
 
-    /// Makes room for one message more of the client, where it is the node's own.
+    /// Reserves space for one more message of the client if the message is the node's own.
     pub(crate) fn make_room_where(&mut self, own: bool, client: ClientId) -> Result<(), NoMemory>
         ensures given { (c : ℕ) → given_to c self.new ≡ given_to c self.old }
         ensures kept { (c : ℕ) → has_room c self.old ≡ true → has_room c self.new ≡ true }
@@ -101,7 +101,8 @@ impl<A: Allocator + Copy> Clients<A> {
         Ok(())
     }
 
-    /// The client's next message has the name of this number, where it is the node's own.
+    /// Records that the client's next message has the name with number `seq`, if it is the node's
+    /// own.
     pub(crate) fn add_where(&mut self, own: bool, client: ClientId, seq: u32)
         requires { own ≡ true → has_room client self.old ≡ true }
         ensures { (c : ℕ)
@@ -121,7 +122,7 @@ fn is_before<A: Allocator + Copy>(row: &ClientRow<A>, client: ClientId) -> bool
     row.client() < client
 }
 
-// Where a client's row stands among rows in order, or would stand.
+// The place of a client's row among sorted rows, or the place where it would be inserted.
 fn place_of<A: Allocator + Copy>(rows: &[ClientRow<A>], client: ClientId) -> usize
     requires { IsTrue (are_in_order rows.now) }
     ensures place { result ≡ prefix_len (λ row. nat_lt row.client client) rows.now }
@@ -130,7 +131,7 @@ fn place_of<A: Allocator + Copy>(rows: &[ClientRow<A>], client: ClientId) -> usi
     rows.partition_point(|row| is_before(row, client))
 }
 
-// The client's row, where it stands in its place.
+// The client's row, if it has one.
 fn row_of<A: Allocator + Copy>(rows: &[ClientRow<A>], client: ClientId) -> Option<&ClientRow<A>>
     requires { IsTrue (are_in_order rows.now) }
     ensures { option_map (λ row. row.now) result ≡ row_of client rows.now }
@@ -142,7 +143,7 @@ fn row_of<A: Allocator + Copy>(rows: &[ClientRow<A>], client: ClientId) -> Optio
     None
 }
 
-// Whether the client has a row, which then stands in its place.
+// Whether the client has a row; the row is then at `place`.
 fn is_at<A: Allocator + Copy>(rows: &[ClientRow<A>], place: usize, client: ClientId) -> bool
     requires order { IsTrue (are_in_order rows.now) }
     requires place { place ≡ prefix_len (λ row. nat_lt row.client client) rows.now }

@@ -13,8 +13,8 @@ use std::marker::Model;
 use urb_names::{ClientId, Config, Message, Name, NoMemory, NodeId};
 use urb_window::Windows;
 
-/// The pending messages of a node, each under its name: for each sender those of its numbers 1, 2, 3, .. without a gap lie in
-/// one vector, and those above the gap apart.
+/// The pending messages of a node, each under its name. For each sender, one vector holds those
+/// with numbers 1, 2, 3, .. without a gap. Those above the gap are kept separately.
 #[derive(Drop)]
 #[derive_where(Debug)]
 pub struct Pending<A: Allocator = Global> {
@@ -38,7 +38,7 @@ impl<A: Allocator> Model for Pending<A> {
 }
 
 impl<A: Allocator + Copy> Pending<A> {
-    /// The empty set of a node in a group. Takes no memory; what grows later is taken from `alloc`.
+    /// The empty set of a node in a group. Allocates no memory; later growth comes from `alloc`.
     pub fn new(alloc: A, config: Config, node: NodeId) -> Pending<A>
         ensures { result ≡ record { limits = config; node = node; pairs = []; reserved = None } }
     {
@@ -51,8 +51,8 @@ impl<A: Allocator + Copy> Pending<A> {
         }
     }
 
-    /// Makes room for a message of this client under this name, so that its `add` takes no memory, also where it closes a
-    /// gap. The room is kept until the next `add` or `reserve`.
+    /// Reserves space for a message of this client under this name, so that its `add` allocates
+    /// nothing, even if it closes a gap. The space is kept until the next `add` or `reserve`.
     pub fn reserve(&mut self, name: Name, client: ClientId) -> Result<(), NoMemory>
         ensures ok { OnOk result (self.new ≡ record self.old { reserved = Some (name, client) }) }
         ensures err { OnErr result (self.new ≡ self.old) }
@@ -64,14 +64,14 @@ impl<A: Allocator + Copy> Pending<A> {
         Ok(())
     }
 
-    /// Adds a message under a name that is not pending, as a node does once its record is stored (section 3.7 of the
-    /// book). Where memory is refused, the message comes back.
+    /// Adds a message under a name that is not pending, as a node does once it has stored the
+    /// record (section 3.7 of the book). If memory is refused, the message comes back.
     pub fn add(&mut self, name: Name, message: Message<A>) -> Result<(), (Message<A>, NoMemory)>
         requires absent { message_of self.old.pairs name ≡ None }
         requires sender { name.sender ≤ self.old.limits.n }
         requires cap { name.seq ≤ self.old.limits.cap }
 
-        // An own message takes the node's next name, and has its client's next number.
+        // A message of the node's own takes the node's next name and has its client's next number.
         requires own { name.sender ≡ self.old.node
             → (name.seq ≡ length (own self.old.node self.old.pairs) + 1)
             × (message.number ≡ next_number message.client (own self.old.node self.old.pairs)) }
@@ -116,7 +116,7 @@ impl<A: Allocator + Copy> Pending<A> {
         self.windows.entry(index)
     }
 
-    /// How many messages are pending.
+    /// The number of pending messages.
     pub fn count(&self) -> u32
         ensures value { result ≡ length self.now.pairs }
         ensures range { result ≤ self.now.limits.n * self.now.limits.cap }
@@ -124,7 +124,7 @@ impl<A: Allocator + Copy> Pending<A> {
         self.windows.count() as u32
     }
 
-    /// How many messages the node itself has broadcast.
+    /// The number of messages that the node itself has broadcast.
     pub fn own_len(&self) -> u32
         ensures value { result ≡ length (own self.now.node self.now.pairs) }
         ensures range { result ≤ self.now.limits.cap }
@@ -132,14 +132,14 @@ impl<A: Allocator + Copy> Pending<A> {
         self.windows.low(self.node)
     }
 
-    /// The number that a client is to give its next message at this node, from 1.
+    /// The number that a client must give its next message at this node, from 1.
     pub fn client_next(&self, client: ClientId) -> u32
         ensures { result ≡ next_number client (own self.now.node self.now.pairs) }
     {
         self.clients.count(client) as u32 + 1
     }
 
-    /// The name that the node gave the message that this client has numbered so.
+    /// The name that the node gave to this client's message with this number.
     pub fn find(&self, client: ClientId, number: u32) -> Option<Name>
         ensures { result
             ≡ name_given self.now.node client number (own self.now.node self.now.pairs) }
@@ -149,7 +149,8 @@ impl<A: Allocator + Copy> Pending<A> {
         Some(Name { sender, seq })
     }
 
-    /// The next pending name after a cursor, and behind the last one the first again. `None` only where nothing is pending.
+    /// The next pending name after a cursor; after the last name comes the first again. `None` only
+    /// if nothing is pending.
     pub fn after(&self, cursor: Option<Name>) -> Option<Name>
         ensures { result ≡ first_name (cyclic cursor self.now.pairs) }
     {
@@ -159,7 +160,8 @@ impl<A: Allocator + Copy> Pending<A> {
         }
     }
 
-    /// The first pending name behind a cursor, without going round. `None` where none is behind it.
+    /// The first pending name after a cursor, without starting over. `None` if there is no name
+    /// after it.
     pub fn behind(&self, cursor: Option<Name>) -> Option<Name>
         ensures { result ≡ first_name (filter (λ pair. is_after cursor pair.0) self.now.pairs) }
     {
@@ -169,28 +171,29 @@ impl<A: Allocator + Copy> Pending<A> {
         }
     }
 
-    /// How far the sender's names are pending from 1 on without a gap: the greatest k such that 1 to k are, or 0.
+    /// How far the sender's names are pending from 1 on without a gap: the greatest k such that 1
+    /// to k are pending, or 0.
     pub fn low(&self, sender: NodeId) -> u32
         ensures { result ≡ low_of sender self.now.pairs }
     {
         self.windows.low(sender)
     }
 
-    /// The messages of the sender's names 1 to `low` in order, lent as they stand.
+    /// The messages of the sender's names 1 to `low` in order, borrowed in place.
     pub fn window(&self, sender: NodeId) -> &[Message<A>]
         ensures { result.now ≡ window_of sender self.now.pairs }
     {
         self.windows.window(sender)
     }
 
-    /// How many of the sender's names are pending behind the first gap: those over `low`.
+    /// How many of the sender's names are pending after the first gap: those above `low`.
     pub fn above(&self, sender: NodeId) -> u32
         ensures { result ≡ above_of sender self.now.pairs }
     {
         self.windows.above(sender)
     }
 
-    /// What holds of every pending set: for proofs alone, since it does nothing.
+    /// States what holds of every pending set. It does nothing; only proofs use it.
     pub fn limits(&self)
         ensures { IsPendingSet self.now }
     {

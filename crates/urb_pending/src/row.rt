@@ -1,4 +1,4 @@
-//! A client's row: the numbers of the names that the node gave its messages, in order.
+//! A client's row: the numbers of the names that the node gave to its messages, in order.
 
 ghost use Rattle.std.specs.Prelude.{◌≡◌, ◌++◌, ◌∷◌, [], nat_lt, true, IsOk, OnOk, OnErr, length};
 ghost use Rattle.urb_pending.specs.Rows.{Row};
@@ -7,7 +7,8 @@ use std::alloc::{Allocator, Global};
 use std::marker::Model;
 use urb_names::{ClientId, NoMemory};
 
-/// A client with the numbers of the names that its messages were given, each in the place of the client's own number.
+/// A client and the numbers of the names given to its messages. The number at place k belongs to
+/// the message that the client numbered k.
 #[derive(Drop)]
 #[derive_where(Debug)]
 pub(crate) struct ClientRow<A: Allocator = Global> {
@@ -29,7 +30,7 @@ impl<A: Allocator> Model for ClientRow<A> {
 }
 
 impl<A: Allocator + Copy> ClientRow<A> {
-    // No message of the client has a name yet. Takes no memory.
+    // No message of the client has a name yet. Allocates no memory.
     pub(crate) fn new(alloc: A, client: ClientId) -> ClientRow<A>
         ensures client { result.client ≡ client }
         ensures given { result.given ≡ [] }
@@ -52,7 +53,7 @@ impl<A: Allocator + Copy> ClientRow<A> {
         &self.given
     }
 
-    // Makes room for one number more.
+    // Reserves space for one more number.
     pub(crate) fn make_room(&mut self) -> Result<(), NoMemory>
         ensures client { self.new.client ≡ self.old.client }
         ensures given { self.new.given ≡ self.old.given }
@@ -64,7 +65,7 @@ impl<A: Allocator + Copy> ClientRow<A> {
         Ok(())
     }
 
-    // The client's next message has this number.
+    // Appends the number of the name of the client's next message.
     pub(crate) fn push(&mut self, seq: u32)
         requires { self.old.room ≡ true }
         ensures client { self.new.client ≡ self.old.client }

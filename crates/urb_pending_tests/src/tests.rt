@@ -1,4 +1,4 @@
-//! The pending set by example, and with each growth refused in turn.
+//! The pending set by example, and with each allocation refused in turn.
 
 ghost use Rattle.std.specs.Prelude.{◌≡◌};
 
@@ -15,10 +15,11 @@ use urb_refusing::Refusing;
 
 const CAP: u32 = 40;
 
-/// A message to be added: the sender and number of its name, its client, and the client's number.
+/// A message to add: the sender and number of its name, its client, and the client's number for it.
 type Row = (u8, u32, u16, u32);
 
-/// What is added to the set of a node, with or without room reserved for each message, and what is told of it then.
+/// What is added to a node's set, whether space is reserved for each message first, and the checks
+/// to make then.
 #[derive(Clone, Copy)]
 struct Script<'a> {
     node: u8,
@@ -27,7 +28,7 @@ struct Script<'a> {
     checks: &'a [Check<'a>],
 }
 
-// A name; none where there is no such sender or number.
+// A name, or `None` if there is no such sender or number.
 fn name(sender: u8, seq: u32) -> Option<Name> {
     if seq == 0 {
         return None;
@@ -36,7 +37,7 @@ fn name(sender: u8, seq: u32) -> Option<Name> {
     Some(Name { sender, seq })
 }
 
-/// The pending set of a node of three, with what `add` asks for tested before it is called.
+/// The pending set of one of three nodes. It tests the preconditions of `add` before each call.
 #[derive(Drop)]
 struct Tested<A: Allocator> {
     config: Config,
@@ -57,9 +58,9 @@ impl<A: Allocator + Copy> Tested<A> {
         })
     }
 
-    // Adds a message, with its number as the payload, behind those before it. Where the growth was refused, nothing has changed
-    // and the message came back, which goes in the second time. Whether it was refused; none where that is not so, or the
-    // message can't be added.
+    // Adds a message, with its number as the payload, after those before it. If the allocation is
+    // refused, nothing has changed and the message comes back; the second try succeeds. Returns
+    // whether it was refused, or `None` if that isn't so or the message can't be added.
     fn add(&mut self, messages: A, row: Row, before: &[Row]) -> Option<bool> {
         let (sender, seq, client, number) = row;
         let (name, client) = (name(sender, seq)?, ClientId::new(client)?);
@@ -89,7 +90,7 @@ impl<A: Allocator + Copy> Tested<A> {
         }
     }
 
-    // Reserves room for a message, in the same way.
+    // Reserves space for a message, in the same way.
     fn reserve(&mut self, row: Row, before: &[Row]) -> Option<bool> {
         let (sender, seq, client, _number) = row;
         let (name, client) = (name(sender, seq)?, ClientId::new(client)?);
@@ -103,7 +104,7 @@ impl<A: Allocator + Copy> Tested<A> {
         Some(true)
     }
 
-    // Adds a message, where `reserving` once room is reserved, and then without asking for memory.
+    // Adds a message. If `reserving`, it reserves space first, and the add must not allocate.
     fn put(
         &mut self,
         messages: A,
@@ -121,7 +122,7 @@ impl<A: Allocator + Copy> Tested<A> {
         Some(refused || again)
     }
 
-    // Adds the messages one after the other. Whether a call was refused.
+    // Adds the messages one after the other, and returns whether a call was refused.
     fn put_all(&mut self, messages: A, heap: &Refusing<Global>, script: Script) -> Option<bool> {
         let mut refused = false;
         for (index, row) in script.rows.iter().enumerate() {
@@ -132,7 +133,7 @@ impl<A: Allocator + Copy> Tested<A> {
     }
 }
 
-// Plays a script on a new set. Whether a call was refused; none where something is told otherwise.
+// Plays a script on a new set. Returns whether a call was refused, or `None` if a check fails.
 fn is_refused<A: Allocator + Copy>(
     alloc: A,
     messages: A,
@@ -147,8 +148,8 @@ fn is_refused<A: Allocator + Copy>(
     if is_told { refused } else { None }
 }
 
-// Plays a script where the growth of this number is refused, and none at 0. Whether it was; none where something is told
-// otherwise, or another call was refused.
+// Plays a script with growth number `refused` refused; with 0 none is. Returns whether it was
+// refused. `None` means that a check failed or a different call was refused.
 fn play(alloc: Global, refused: u64, script: Script) -> Option<bool> {
     let calm = Refusing::new(alloc, 0);
     let heap = Refusing::new(alloc, refused);
@@ -159,7 +160,7 @@ fn play(alloc: Global, refused: u64, script: Script) -> Option<bool> {
     if told == Some(met) { told } else { None }
 }
 
-// The k-th of the numbers 1 to 40 in some order.
+// An order of the numbers 1 to 40.
 #[derive(Clone, Copy)]
 enum Way {
     Rising,
@@ -167,7 +168,7 @@ enum Way {
     OddFirst,
 }
 
-// The number behind so many others.
+// The number that comes after `before` others.
 fn number_in(way: Way, before: u32) -> u32 {
     match way {
         Way::Rising => before.saturating_add(1),
@@ -177,7 +178,7 @@ fn number_in(way: Way, before: u32) -> u32 {
     }
 }
 
-// The messages of node 2 with the numbers 1 to 40 in this order, all of client 7.
+// Node 2's messages 1 to 40 in this order, all from client 7.
 fn forty(way: Way) -> [Row; 40] {
     let mut rows = [(2, 0, 7, 0); 40];
     for before in 0..40u32 {

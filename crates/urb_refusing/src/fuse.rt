@@ -1,8 +1,9 @@
-//! A count of calls, one of which fails.
+//! A counter of calls, one of which fails.
 
 ghost use Rattle.std.specs.Prelude.{◌≡◌, ◌↔◌, IsTrue};
 
-/// How many calls were asked for, and which of them fails: by its number, counted from 1; at 0 none fails.
+/// The number of calls requested so far, and the number of the call that fails. Calls are counted
+/// from 1; with 0 no call fails.
 #[derive(Clone, Copy)]
 pub struct Fuse {
     asked: u64,
@@ -12,21 +13,21 @@ pub struct Fuse {
 impl Fuse {
     ghost use Rattle.urb_refusing.specs.Fuses.{IsLast, IsMet, one_more};
 
-    /// Nothing is asked for yet.
+    /// A counter with no call requested yet.
     pub fn new(refused: u64) -> Fuse
         ensures { result ≡ record { asked = 0; refused = refused } }
     {
         Fuse { asked: 0, refused }
     }
 
-    /// How many calls were asked for.
+    /// The number of calls requested so far.
     pub fn asked(self) -> u64
         ensures { result ≡ self.asked }
     {
         self.asked
     }
 
-    /// One call more is asked for.
+    /// The counter after one more call.
     pub fn next(self) -> Fuse
         ensures { result ≡ one_more self }
     {
@@ -36,14 +37,14 @@ impl Fuse {
         }
     }
 
-    /// Whether the call that fails was asked for.
+    /// Whether the failing call has been requested.
     pub fn met(self) -> bool
         ensures { IsTrue result ↔ IsMet self }
     {
         0 < self.refused && self.refused <= self.asked
     }
 
-    /// Whether the call that was asked for last is the one that fails.
+    /// Whether the call requested last is the one that fails.
     pub fn failed_last(self) -> bool
         ensures { IsTrue result ↔ IsLast self }
     {

@@ -1,11 +1,11 @@
-//! What no contract can say of the allocator, whose count lies in a cell; and one reader and one writer, call by call.
+//! Tests of the allocator's count, which no contract can name; and of the reader and the writer.
 
 use super::*;
 use std::alloc::{AllocError, Global};
 use std::io::{Read, Write};
 use std::test::Fail;
 
-/// Asks the allocator for one growth.
+/// Requests one growth from the allocator.
 fn grows(heap: &Refusing<Global>) -> Result<(), AllocError> {
     let _grown: Vec<u8, &Refusing<Global>> = Vec::with_capacity(heap, 8)?;
     Ok(())
@@ -44,7 +44,7 @@ fn a_reader_fails_at_the_read_of_its_number(rt: HostRuntime) {
 
 #[test]
 fn a_writer_fails_at_the_call_of_its_number(rt: HostRuntime) {
-    // A write of four bytes takes two calls, and a flush is the third.
+    // A write of four bytes takes two calls; the flush is the third.
     for (failing, written, flushed) in [
         (0, b"abcd".as_slice(), true),
         (1, b"", true),

@@ -1,4 +1,4 @@
--- What a cluster whose stores are in memory answers, a line of a script takes.
+-- A line of a script takes what a cluster, with stores in memory, answers.
 use Rattle.std.proofs.Common.{◌≡◌, ◌≢◌, ◌⊎◌, inl, inr, ℕ, zero, suc, ◌-◌, Bool, true, false, ◌&&◌, List, ◌∷◌, [], ◌++◌, Option, Some, None, Result, Ok, Err, refl, sym, ap, ap₂, ◌∙◌, subst, arith, ltb-true}
 use Rattle.urb_names.specs.Naming.{Limits}
 use Rattle.urb_names.specs.Nodes.{is_node}
@@ -50,11 +50,11 @@ use Rattle.urb_group.specs.declared.command.Command.TheVariants as act
 use Rattle.urb_script.proofs.SceneSteps.{IsQuiet}
 use Rattle.urb_script.proofs.Staging.{GoesTo, kept, lost, not_down, quiet_scene, read, sure_before, took}
 
--- the line is answered so, and a scene that it leads to is shown
+-- the line has this answer, and a scene that it leads to is shown
 abbrev pub TakesTo : Limits → Clustered Memory → Scene → Command → List ℕ → Type 0
 TakesTo size new scene asked text = (after : Scene) × ShowsScene size new after × Takes (Some scene) asked text after
 
--- by what it plays
+-- by what the command plays
 abbrev IsPlayed : Scene → Command → Type 0
 IsPlayed scene asked = (text : List ℕ) (new : Scene) → ◌≡◌ {A = List ℕ × Scene} (text, new) (answer scene asked) → Plays (Some scene) asked text new
 
@@ -63,7 +63,7 @@ as_asked size new scene asked text plays g = ((answer scene asked).1, g.1, inl (
 
 -- ---- stores
 
--- an answer of Err, by whether the store was out of place
+-- an `Err` answer, by whether the store was out of place
 failed_store : (size : Limits) (old new : Clustered Memory) (scene : Scene) (p : ℕ) (draft : Placed) (said : Reply) (before after : Memory)
     → ShowsScene size old scene → held_draft old.group p ≡ Some draft → StoreMoves old.stores draft.node before after new.stores → Steps old.group (event.Fail draft.node) (λ told. told ≡ said) new.group → after.certain ≡ before.certain
     → (after.doubt ≡ None) ⊎ (after.doubt ≡ Some draft.entry) → TakesTo size new scene (Stored p) (reply_text said)
@@ -101,9 +101,9 @@ pub takes_stored : (A : Type 0) (size : Limits) (old new : Clustered Memory) (sc
     → StoresHeld (in_memory A) old p (held_draft old.group p) said new → TakesTo size new scene (Stored p) (reply_text said)
 takes_stored A size old new scene p said s not r = by_draft A size old new scene p (held_draft old.group p) said s not refl r
 
--- ---- stores that are to fail
+-- ---- stores that are asked to fail
 
--- one that kept nothing
+-- a store that kept nothing
 fails_old : (size : Limits) (old new : Clustered Memory) (scene : Scene) (p : ℕ) (failure : Failure) (text : List ℕ) → GoesTo size new (answer scene (Fail p Old)) text → TakesTo size new scene (Fail p failure) text
 fails_old size old new scene p Old text g = as_asked size new scene (Fail p Old) text (λ said next is. is) g
 fails_old size old new scene p New text g = ((answer scene (Fail p Old)).1, g.1, inr (Fail p Old, refl, g.0))
@@ -165,7 +165,7 @@ takes_restart A size old new scene p said s not r =
 
 -- ---- commands
 
--- an event for which no store is asked, as the line that asks for it
+-- an event that asks no store, and the line for it
 alone : (size : Limits) (old new : Clustered Memory) (scene : Scene) (e : Event) (asked : Command) (said : Reply) → IsQuiet e → ShowsScene size old scene → said ≢ Refused refusal.NoMemory → Alone old e said new
     → happens e scene ≡ answer scene asked → IsPlayed scene asked → TakesTo size new scene asked (reply_text said)
 alone size old new scene e asked said i s not r same plays =

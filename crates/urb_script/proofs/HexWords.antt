@@ -102,12 +102,12 @@ are_pairs (byte ∷ bytes) digits d =
     let more = are_pairs bytes d.2 d.6 in
     subst ArePairs (sym d.3) (even_more (length d.2) more.0, (is_hex (byte / 16) d.0 d.4, (is_hex (byte % 16) d.1 d.5, more.1)))
 
--- no word but pairs of digits, and a hyphen alone, spells bytes
+-- only pairs of digits, or a hyphen alone, spell bytes
 pub only_pairs : (bytes word : List ℕ) → IsHexWord bytes word → (ArePairs word → ⊥) → (word ≡ 45 ∷ [] → ⊥) → ⊥
 only_pairs [] word w pairs hyphen = hyphen w
 only_pairs (byte ∷ bytes) word w pairs hyphen = pairs (are_pairs (byte ∷ bytes) word w)
 
--- no empty word does
+-- no empty word spells bytes
 pub no_word : (bytes word : List ℕ) → length word ≡ 0 → IsHexWord bytes word → ⊥
 no_word [] word e w = omega (arith, e, ap length w)
 no_word (byte ∷ bytes) word e w = omega (arith, e, ap length w.3)

@@ -111,7 +111,7 @@ logs_are_safe earlier later line output p state s a =
 
 -- ---- logs grow from line to line
 
--- each node's log, its names with their messages, has more behind it
+-- each node's log, its names with their messages, only grows at its end
 abbrev Grow : World → World → Type 0
 Grow old new = EntriesGrow old new
 
@@ -166,7 +166,7 @@ answers_grow old (line ∷ lines) output new k a = λ p.
 
 -- ---- logs that are shown agree
 
--- one sender's entries are those of its names among all
+-- one sender's entries are the entries of its names among all
 of_sender : (s : ℕ) (xs : List Label) (f : Label → Option Content) → map (λ x. (x, f x)) (part_of s xs) ≡ filter (λ (e : Label × Option Content). e.0.sender == s) (map (λ x. (x, f x)) xs)
 of_sender s [] f = refl
 of_sender s (x ∷ xs) f = at (of_sender s xs f) (x.sender == s) refl

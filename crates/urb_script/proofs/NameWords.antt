@@ -18,7 +18,7 @@ name_sender x y l k e =
 pub name_seq : (x y : Label) → IsLabel x → IsLabel y → name_text x ≡ name_text y → decimal x.seq ≡ decimal y.seq
 name_seq x y l k e = ap (λ (w : List ℕ). drop 2 w) (sym (spelled x l) ∙ e ∙ spelled y k)
 
--- a name's word is two bytes long at least, its second is a full stop
+-- a name's word has at least two bytes, and its second is a full stop
 pub name_long : (x : Label) (word : List ℕ) → IsLabel x → word ≡ name_text x → length word < 2 → ⊥
 name_long x word l e short = omega (arith, ap length (e ∙ spelled x l), short)
 
@@ -31,7 +31,7 @@ name_front x word l e = ap (λ (w : List ℕ). take 1 w) (e ∙ spelled x l) ∙
 name_back : (x : Label) (word : List ℕ) → IsLabel x → word ≡ name_text x → drop 2 word ≡ decimal x.seq
 name_back x word l e = ap (λ (w : List ℕ). drop 2 w) (e ∙ spelled x l)
 
--- and such a word is a name's
+-- such a word is a name's
 pub name_whole : (word : List ℕ) (sender seq : ℕ) → 2 ≤ length word → get_or word 1 0 ≡ 46 → take 1 word ≡ decimal sender → drop 2 word ≡ decimal seq → word ≡ decimal sender ++ (46 ∷ decimal seq)
 name_whole [] sender seq long stop front back = absurd (omega (arith, long))
 name_whole (a ∷ []) sender seq long stop front back = absurd (omega (arith, long))

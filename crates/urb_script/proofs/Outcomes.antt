@@ -1,4 +1,4 @@
--- A script has one outcome.
+-- A script has only one outcome.
 use Rattle.std.proofs.Common.{◌≡◌, ℕ, true, suc, ◌+◌, ◌≤◌, List, [], ◌∷◌, ◌++◌, length, get_or, Option, Some, None, refl, sym, ap, ap₂, ◌∙◌, subst, arith, append_assoc}
 use Rattle.std.specs.Fmt.{decimal}
 use Rattle.std.proofs.lemmas.Fmt.{decimal_injective}
@@ -38,7 +38,7 @@ same_payload (byte ∷ bytes) (first ∷ others) h k e = e
 word : (k : ℕ) {words others : List (List ℕ)} → words ≡ others → get_or words k [] ≡ get_or others k []
 word k e = ap (λ (words : List (List ℕ)). get_or words k []) e
 
--- equal words spell the same node alone
+-- equal words spell only the same node
 same_node : (f : ℕ → Command) (words : List (List ℕ)) (node p : ℕ) → IsNodeNumber node → IsNodeNumber p → words ≡ decimal node ∷ [] → words ≡ decimal p ∷ [] → f node ≡ f p
 same_node f words node p r s e g = ap f (same_number node p (omega (arith, r.1)) (omega (arith, s.1)) (word 0 (sym e ∙ g)))
 
@@ -142,7 +142,7 @@ ends_one state left number Whole (BadLine bad) last final e f = absurd (subst (�
 ends_one state left number (BadLine bad) Whole last final e f = absurd (subst (λ (s : Option Scene). IsBad s []) f.2.1 (subst (IsBad state) f.0 e.0))
 ends_one state left number (BadLine bad) (BadLine worse) last final e f = (ap BadLine (e.1 ∙ sym f.1), e.2 ∙ (ap bad_line (e.1 ∙ sym f.1) ∙ sym f.2))
 
--- a script doesn't end where a command stands that may come
+-- a script doesn't end before a command that may come
 goes_on : (state : Option Scene) (line : List ℕ) (lines : List (List ℕ)) (number : ℕ) (ended : Ended) (last : List ℕ) (asked : Command) → MayCome state asked → Spells line asked → Ends state (line ∷ lines) number ended last → ⊥
 goes_on state line lines number Whole last asked may s e = absurd (cc (e.0))
 goes_on state line lines number (BadLine bad) last asked may s e = e.0 asked may s

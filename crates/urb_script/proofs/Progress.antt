@@ -168,15 +168,15 @@ between_here P None before after known count state p none = tt
 between_here P (Some input) before after None count state p none = absurd (none_some p.at)
 between_here P (Some input) before after (Some bytes) count state p none = off_here P (Some input) before after (Some bytes) (Some bytes) count state p ([], bytes, refl, refl, none)
 
--- ---- the same, by what a run holds
+-- ---- the same, by the state of a run
 
--- a script so far, in a scene that what the run holds shows
+-- a script so far, in a scene that the state of the run shows
 pub record Going {S : Type 0} (shows : S → Scene → Type 0) (input : List ℕ) (before after known : Option (List ℕ)) (count : ℕ) (held : Option S) : Type 0 where
   scene : Option Scene
   shown : ShowsSome shows held scene
   progress : Progress input before after known count scene
 
--- for known bytes, what holds of a script so far
+-- if bytes are known, what holds of a script so far
 each : (known : Option (List ℕ)) (P Q : List ℕ → Type 0) → ((input : List ℕ) → P input → Q input) → IfSome known P → IfSome known Q
 each None P Q f p = tt
 each (Some input) P Q f p = f input p
@@ -260,7 +260,7 @@ pub breaks_between : {S : Type 0} (shows : S → Scene → Type 0) (P : List ℕ
 breaks_between shows P held None before after known count g none = tt
 breaks_between shows P held (Some input) before after known count g none = between_here P (Some input) before after known count g.scene g.progress none
 
--- that a line is no command can't be written
+-- it can't be written that a line is no command
 pub bad_breaks : {S : Type 0} (shows : S → Scene → Type 0) (held : Option S) (fault : RunFault) (from before after later known left : Option (List ℕ)) (count : ℕ)
     → IfSome from (λ input. Going shows input before after known count held) → TookPart IsOneLine known left → (fault ≡ faults.Write) ⊎ ((fault ≡ faults.NoMemory) × (later ≡ after))
     → IfSome from (λ input. IsSomeAnd left (λ unread. BreaksOff fault input unread before later))
@@ -271,7 +271,7 @@ pub same_contents : {S : Type 0} (view : S → Option (List ℕ)) (fault : RunFa
 same_contents view fault old new (inl e) = inl e
 same_contents view fault old new (inr e) = inr (e.0, ap view e.1)
 
--- ---- one line, by what the run holds
+-- ---- one line, by the state of the run
 
 shown_as : {S : Type 0} (shows : S → Scene → Type 0) (held other : Option S) (before : Option Scene) → held ≡ other → ShowsSome shows held before → ShowsSome shows other before
 shown_as shows held other before e s = subst (λ state. ShowsSome shows state before) e s

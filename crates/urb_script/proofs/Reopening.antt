@@ -97,7 +97,7 @@ module _ (A : Type 0) (size : Limits) (old : Clustered Memory) (scene : Scene) (
   same_images : image_of images ≡ scene.storage
   same_images = λ i p. sym (image_is p) i
 
--- a list and the one that it came from
+-- a list, and the list that it came from
 fits_none : (size : Limits) (images : ℕ → List Entry) → misfits size images ≡ [] → first_misfit size images ≡ None
 fits_none size images e = ap first_of_all e
 
@@ -111,7 +111,7 @@ opened_held A p records before after k =
       certain = λ up. (certain, k.clear.1);
     }
 
--- the line is answered so, and the opened scene is shown
+-- the line has this answer, and the opened scene is shown
 pub opens_again : {A : Type 0} (size limits : Limits) (old new : Clustered Memory) (before text : List ℕ) → limits ≡ old.group.size → OpensGiven (in_memory A) limits old.stores new.stores (Ok new.group)
     → before ≡ [] → text ≡ before ++ told_text told.Opened → (scene : Scene) → ShowsScene size old scene → (after : Scene) × ShowsScene size new after × Takes (Some scene) Reopen text after
 opens_again {A = A} size limits old new before text same o fresh written scene s =
@@ -143,7 +143,7 @@ opens_again {A = A} size limits old new before text same o fresh written scene s
     at_place images zero h = absurd (omega (arith, h))
     at_place images (suc i) h = ap (λ (k : ℕ). slice_index_or images k []) (previous i)
 
--- a stocked cluster of stores in memory is refused for memory alone
+-- a stocked cluster of stores in memory is refused only for memory
 pub refused_for_memory : {A : Type 0} (size : Limits) (old asked : List Memory) (why : Refusal) → OpensFrom (in_memory A) size old (Err why) asked → (why ≡ refusal.NoMemory) ⊎ (why ≡ refusal.Device) → why ≡ refusal.NoMemory
 refused_for_memory size old asked why o (inl e) = e
 refused_for_memory size old asked why (inl (inl r)) (inr e) = r.2 ∙ ap refusal_of r.1.failed.answers

@@ -33,7 +33,8 @@ use Rattle.urb_script.proofs.SceneSteps.{IsQuiet, kept_held, quiet_step, restart
 use Rattle.urb_script.proofs.Staging.{commit_node, elsewhere, fail_node, restart_node, restart_stays, step-size}
 use Rattle.urb_node.specs.declared.cause.Cause.{Cause}
 
--- the world keeps its rules; each storage is what some store may hold beside its node; and a number that is no node is idle
+-- The world keeps its rules. Each storage is what some store may hold beside its node. A number
+-- that is no node is idle.
 pub record IsKeptScene (scene : Scene) : Type 0 where
   pub kept : IsKept scene.world
   pub holds : (p : ℕ) → (m : Memory) × IsHeldBy (scene.world.node p) (scene.storage p) m
@@ -70,7 +71,7 @@ step_idle w (Fail p) q not = at_idle w p q _ not
 step_idle w (Crash p) q not = at_idle w p q _ not
 step_idle w (Restart p image) q not = at_idle w p q _ not
 
--- the scene after an event, where each storage is what some store may hold
+-- the scene after an event, if each storage is what some store may hold
 after : (scene : Scene) (e : Event) (storage : ℕ → List Entry) → IsKeptScene scene
     → ((p : ℕ) → (m : Memory) × IsHeldBy ((step scene.world e).1.node p) (storage p) m) → IsKeptScene (happens_with storage e scene).1
 after scene e storage k holds = record {
@@ -82,7 +83,7 @@ after scene e storage k holds = record {
 abbrev Holds : ℕ → Scene → Type 0
 Holds p scene = (m : Memory) × IsHeldBy (scene.world.node p) (scene.storage p) m
 
--- one that changed nothing of a node and its storage
+-- an event that changed nothing of a node and its storage
 same_holds : (p : ℕ) (scene : Scene) (node : Node) (records : List Entry) → Holds p scene → node ≡ scene.world.node p → records ≡ scene.storage p → (m : Memory) × IsHeldBy node records m
 same_holds p scene node records h e f =
     (h.0, subst (λ (n : Node). IsHeldBy n records h.0) (sym e) (subst (λ (rs : List Entry). IsHeldBy (scene.world.node p) rs h.0) (sym f) h.1))
@@ -127,14 +128,14 @@ down_fail w p q d e = refused_same w p q _ (ap (λ (s : State). (fails p (w.node
 nothing_held : (scene : Scene) (p : ℕ) (e : Event) → IsKeptScene scene → ((q : ℕ) → (step scene.world e).1.node q ≡ scene.world.node q) → IsKeptScene (happens_with (updated scene.storage p (scene.storage p ++ [])) e scene).1
 nothing_held scene p e k same = after scene e (updated scene.storage p (scene.storage p ++ [])) k (λ q. same_holds q scene _ _ (k.holds q) (same q) (kept_in scene.storage p q))
 
--- p's node, and its storage with one record more
+-- p's node, and its storage with one more record
 one_more : (scene : Scene) (p : ℕ) (e : Event) (node : Node) (entry : Entry) → IsKeptScene scene → ((q : ℕ) → (step scene.world e).1.node q ≡ updated scene.world.node p node q)
     → (m : Memory) × IsHeldBy node (scene.storage p ++ entry ∷ []) m → IsKeptScene (happens_with (updated scene.storage p (scene.storage p ++ entry ∷ [])) e scene).1
 one_more scene p e node entry k moves h =
     after scene e (updated scene.storage p (scene.storage p ++ entry ∷ [])) k
     (λ q. subst (λ (n : Node). (m : Memory) × IsHeldBy n (updated scene.storage p (scene.storage p ++ entry ∷ []) q) m) (sym (moves q)) (one_holds scene p q node (scene.storage p ++ entry ∷ []) k h))
 
--- what holds nothing is no node, so what holds something is one
+-- a number that is no node holds nothing, so one that holds something is a node
 holder : (scene : Scene) (p : ℕ) (entry : Entry) (cause : Option Cause) → IsKeptScene scene → (scene.world.node p).state ≡ Storing entry cause → is_node scene.world.size.n p ≡ true
 holder scene p entry cause k e = at (is_node scene.world.size.n p) refl
   where
@@ -247,7 +248,7 @@ answer_kept scene (command.Tick p) k = quiet_kept scene (Tick p) tt k
 answer_kept scene (command.Log p) k = k
 answer_kept scene (command.Held x) k = k
 
--- what there is so far is kept
+-- the state so far is kept
 abbrev pub IsKeptSo : Option Scene → Type 0
 IsKeptSo None = Unit {0}
 IsKeptSo (Some scene) = IsKeptScene scene

@@ -15,12 +15,12 @@ use Rattle.urb_script.specs.Commands.{Command, Raw, Reopen, keyword, AreArgument
 words_some : (text : List ℕ) → words_of text ≡ [] → ⊥
 words_some text e = omega (arith, length-slice_split (λ byte. byte == 32) text, ap length e)
 
--- where something is left, it is a word
+-- if something is left, it is a word
 pub left_some : (rest : Option (Bor (List ℕ))) → is_some rest ≡ true → words_left rest ≡ [] → ⊥
 left_some None s e = absurd (cc)
 left_some (Some rest) s e = words_some rest.now e
 
--- what is a word alone has nothing left after it
+-- a word that is alone has nothing after it
 pub one_word : (word other : List ℕ) (rest : Option (Bor (List ℕ))) (words : List (List ℕ)) → words ≡ word ∷ words_left rest → is_some rest ≡ true → words ≡ other ∷ [] → ⊥
 one_word word other rest words e s f = left_some rest s (cc)
 
@@ -28,11 +28,11 @@ one_word word other rest words e s f = left_some rest s (cc)
 pub next_words : {words after others : List (List ℕ)} {one other : List ℕ} → words ≡ one ∷ after → words ≡ other ∷ others → after ≡ others
 next_words e f = cc
 
--- and so are those after the first four
+-- so are the words after the first four
 pub words_behind : {words after others : List (List ℕ)} {a b c d w x y z : List ℕ} → words ≡ a ∷ b ∷ c ∷ d ∷ after → words ≡ w ∷ x ∷ y ∷ z ∷ others → after ≡ others
 words_behind e f = cc
 
--- and so is the number that the first spells
+-- the number that the first word spells is the same too
 pub first_number : {words after others : List (List ℕ)} (m n : ℕ) → m ≤ 7 → n ≤ 7 → words ≡ decimal m ∷ after → words ≡ decimal n ∷ others → m ≡ n
 first_number m n l u e f = decimal_injective m n (omega (arith, l)) (omega (arith, u)) (ap (λ (words : List (List ℕ)). get_or words 0 []) (sym e ∙ f))
 
@@ -52,7 +52,7 @@ pub none_raw : {T : Type 0} (result : Option T) (word : List ℕ) (others : List
 none_raw None word others same none = no_raw word others same none
 none_raw (Some found) word others same none = tt
 
--- nothing stands behind `reopen`
+-- nothing is behind `reopen`
 pub none_reopen : (word : List ℕ) (rest : Option (Bor (List ℕ))) → word ≡ codes "reopen" → is_some rest ≡ true → (asked : Command) → IsSpelled (word ∷ words_left rest) asked → InRange asked → ⊥
 none_reopen word rest same some Reopen s r = left_some rest some s.1
 none_reopen word rest same some asked s r = let e = test word (codes "reopen") (keyword asked) same s.0 in absurd (cc)

@@ -84,11 +84,11 @@ reacted old new e (Refused why) w s not r =
 told_so : (storage : ℕ → List Entry) (e : Event) (said : Reply) (scene : Scene) → (step scene.world e).0 ≡ said → ◌≡◌ {A = List ℕ × Scene} (reply_text said, (happens_with storage e scene).1) (happens_with storage e scene)
 told_so storage e said scene is = ap (λ (r : Reply). let o : List ℕ × Scene = (reply_text r, (happens_with storage e scene).1) in o) (sym is)
 
--- from a scene it goes to the one that an answer leads to
+-- from a scene, it goes to the scene that an answer leads to
 abbrev pub GoesTo : Limits → Clustered Memory → List ℕ × Scene → List ℕ → Type 0
 GoesTo size new given text = (◌≡◌ {A = List ℕ × Scene} (text, given.1) given) × ShowsScene size new given.1
 
--- ---- events for which no store is asked
+-- ---- events that ask no store
 
 pub quiet_scene : (size : Limits) (old new : Clustered Memory) (scene : Scene) (e : Event) (said : Reply) → IsQuiet e → ShowsScene size old scene → said ≢ Refused refusal.NoMemory
     → Reacts old.group e said new.group → new.stores ≡ old.stores → GoesTo size new (happens e scene) (reply_text said)
@@ -207,7 +207,7 @@ pub restart_node : (w : World) (p q : ℕ) (image : List Entry) (d : Option Entr
 unfolding step
 restart_node w p q image d is state = at_one w p q _ (restarts_with p image (w.node p) d) is (ap (λ (s : State). restarts p image (w.node p) s) state)
 
--- a number that is no node is another one
+-- a number that is no node differs from a node's
 other_node : (n p q : ℕ) → is_node n p ≡ true → is_node n q ≡ false → (q == p) ≡ false
 other_node n p q is not = at (q == p) refl
   where
@@ -215,7 +215,7 @@ other_node n p q is not = at (q == p) refl
     at true e = absurd (false≢true (sym not ∙ ap (is_node n) (eqb-true q p e) ∙ is))
     at false e = e
 
--- the scene after a step in which one node and its storage moved
+-- the scene after a step that moved one node and its storage
 one_moved : (size : Limits) (old new : Clustered Memory) (scene : Scene) (e : Event) (p : ℕ) (node : Node) (storage : ℕ → List Entry) (before after : Memory)
     → is_node scene.world.size.n p ≡ true → ShowsScene size old scene → Shows new.group (step scene.world e).1 → StoreMoves old.stores p before after new.stores
     → ((q : ℕ) → (step scene.world e).1.node q ≡ updated scene.world.node p node q) → ((q : ℕ) → (q == p) ≡ false → storage q ≡ scene.storage q) → IsHeldBy node (storage p) after
@@ -357,7 +357,7 @@ not_down size old new scene p said s calm not r same =
       },
     )
 
--- where a node holds a draft, nothing is in doubt
+-- if a node holds a draft, nothing is in doubt
 pub sure_before : (size : Limits) (old : Clustered Memory) (scene : Scene) (p : ℕ) (draft : Placed) (before after : Memory) (stores : List Memory)
     → ShowsScene size old scene → held_draft old.group p ≡ Some draft → StoreMoves old.stores draft.node before after stores → before.doubt ≡ None
 sure_before size old scene p draft before after stores s e m =

@@ -40,7 +40,7 @@ log_told (Ok done) group p names old mid new tells head t = λ w s.
     ∙ joined old (decimal p) (flat_map entry_text (entries (stored w p)))
     ∙ sym (ap (λ (xs : List ℕ). old ++ xs) (cond-true (is_node w.size.n p) (log_text p (stored w p)) bad_node is.0))
 
--- ---- who has a name
+-- ---- the nodes that have a name
 
 abbrev Has : World → Label → ℕ → Bool
 Has w x p = is_some (message_of (pend (stored w p)) x)

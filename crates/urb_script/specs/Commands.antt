@@ -14,9 +14,11 @@ use Rattle.urb_script.specs.declared.input.TheConstants.{LONGEST_LINE}
 use Rattle.urb_script.specs.declared.commands.CommandLine.{CommandLine}
 use Rattle.urb_script.specs.declared.commands.CommandLine.TheVariants as line
 
--- A command: make the group; submit a client's message at a node; store what a node holds, or have its store fail; crash
--- or restart a node; stop all nodes at once and open them again; bring a node what another one has stored under a name, in a
--- packet without flags or with these, or any bytes; have it resend; show a node's log; show who has a name stored.
+-- A command of a script. Make the group. Submit a client's message at a node. Store the record that
+-- a node holds, or make its store fail. Crash or restart a node. Stop all nodes at once and open
+-- them again. Bring a node what another node has stored under a name, in a packet without flags or
+-- with these flags. Bring a node any bytes. Make a node resend. Show a node's log. Show which nodes
+-- have a name stored.
 pub data Command : Type 0 where
   Group : (limits : Limits) → Command
   Submit : (node client number : ℕ) (payload : List ℕ) → Command
@@ -48,12 +50,12 @@ command (line.Tick node) = Tick node
 command (line.Log node) = Log node
 command (line.Held name) = Held name
 
--- the line that brings a packet of what a node has stored: without flags, or with these
+-- the command that brings a packet of what a node has stored: without flags, or with these
 abbrev pub arrival : ℕ → ℕ → Label → Option Flags → Command
 arrival source node name None = Arrive source node name
 arrival source node name (Some flags) = ArriveFlagged source node name flags
 
--- the line that asks for what a command of a cluster does
+-- the script's command for a command of a cluster
 abbrev pub line_of : {A : Type 0} → acts.Command A → Command
 line_of (act.Submit p client number payload) = Submit p client number payload.items
 line_of (act.Arrive p bytes) = Raw p bytes.items
@@ -100,13 +102,13 @@ abbrev pub IsSpelled : List (List ℕ) → Command → Type 0
 IsSpelled [] asked = ⊥
 IsSpelled (first ∷ others) asked = (first ≡ keyword asked) × AreArguments asked others
 
--- what arrives at a node comes from another one
+-- what arrives at a node comes from another node
 pub record IsRoute (q p : ℕ) : Type 0 where
   pub source : IsNodeNumber q
   pub node : IsNodeNumber p
   pub apart : q ≢ p
 
--- each word is within its values
+-- each word is within its range
 abbrev pub InRange : Command → Type 0
 InRange (Group limits) = IsLimits limits
 InRange (Submit node client number payload) = IsNodeNumber node × (1 ≤ client) × (client ≤ 65535) × (number ≤ 4294967295) × HasWord payload
@@ -122,7 +124,8 @@ InRange (Tick node) = IsNodeNumber node
 InRange (Log node) = IsNodeNumber node
 InRange (Held name) = IsLabel name
 
--- the line is this command: at most so many bytes, the command's words parted by one space each, each within its values
+-- the line is this command: at most `LONGEST_LINE` bytes, the command's words with one space
+-- between them, each within its range
 pub record Spells (line : List ℕ) (asked : Command) : Type 0 where
   pub short : length line ≤ LONGEST_LINE
   pub words : IsSpelled (words_of line) asked

@@ -2,7 +2,7 @@
 use Rattle.std.specs.Prelude.{◌≡◌, ◌⊎◌, ℕ, ◌+◌, ◌-◌, ◌*◌, ◌/◌, ◌%◌, ◌≤◌, nat_lt, if◌then◌else◌, List, [], ◌∷◌, length}
 use Rattle.std.specs.List.{AllByRecursion}
 
--- a digit of this value, 0 to 15: a decimal digit, or a letter from a or from A on
+-- a digit of this value, 0 to 15: a decimal digit, or a letter, counted from a or from A
 abbrev pub IsDigit : ℕ → ℕ → Type 0
 IsDigit value digit = ((value ≤ 9) × (digit ≡ 48 + value)) ⊎ ((10 ≤ value) × (value ≤ 15) × ((digit ≡ 87 + value) ⊎ (digit ≡ 55 + value)))
 

@@ -9,8 +9,9 @@ use Rattle.urb_script.specs.Commands.{Log, Spells}
 use Rattle.urb_script.specs.Scripts.{Answers}
 use Rattle.urb_script.specs.Steps.{Takes, shown_log}
 
--- After these lines p's log is shown, as it is in the scene that they lead to. The world there is safe: of each sender the log
--- has the first messages that its storage took, in order and once, and a majority's storages hold each of them.
+-- After these lines p's log is shown, as it is in the scene that they lead to. The world there is
+-- safe. For each sender, the log has the first messages that its storage took, in order and once. A
+-- majority's storages hold each of them.
 pub record IsShownSafe (earlier : List (List ℕ)) (p : ℕ) (output : List ℕ) : Type 0 where
   pub scene : Scene
   pub said : List ℕ
@@ -19,13 +20,14 @@ pub record IsShownSafe (earlier : List (List ℕ)) (p : ℕ) (output : List ℕ)
   pub shown : output ≡ said ++ (shown_log scene.world p ++ 10 ∷ rest)
   pub safe : Safe scene.world
 
--- every log line of a script that is answered shows a safe log
+-- if a script is answered, each of its log lines shows a safe log
 abbrev pub LogsAreSafe : Type 0
 LogsAreSafe =
     (earlier later : List (List ℕ)) (line output : List ℕ) (p : ℕ) (state : Option Scene) → Spells line (Log p)
     → Answers Takes None (earlier ++ line ∷ later) output state → IsShownSafe earlier p output
 
--- After these lines p's log is shown, and after those between q's; of what the two show of one sender, one begins the other.
+-- After these lines p's log is shown, and after those between, q's. Take what the two show of one
+-- sender: one begins the other.
 pub record AreShownAgreeing (earlier between : List (List ℕ)) (p q : ℕ) (output : List ℕ) : Type 0 where
   pub old : Scene
   pub new : Scene
@@ -37,7 +39,7 @@ pub record AreShownAgreeing (earlier between : List (List ℕ)) (p q : ℕ) (out
   pub shown : output ≡ said ++ (shown_log old.world p ++ 10 ∷ (heard ++ (shown_log new.world q ++ 10 ∷ rest)))
   pub agree : (s : ℕ) → OneBegins (entries_of s (stored old.world p)) (entries_of s (stored new.world q))
 
--- any two log lines of a script that is answered, of one node or of two, agree on every sender
+-- if a script is answered, any two of its log lines, of one node or of two, agree on every sender
 abbrev pub LogsAgree : Type 0
 LogsAgree =
     (earlier between later : List (List ℕ)) (line other output : List ℕ) (p q : ℕ) (state : Option Scene) → Spells line (Log p) → Spells other (Log q)

@@ -1,4 +1,4 @@
--- What a script is answered.
+-- The answers to a script.
 use Rattle.std.specs.Prelude.{◌≡◌, ℕ, ◌+◌, List, [], ◌∷◌, ◌++◌, length, Option, Some, None, codes}
 use Rattle.std.specs.Fmt.{decimal}
 use Rattle.std.specs.Io.KnownBytes.{Appends}
@@ -13,18 +13,20 @@ use Rattle.urb_script.specs.declared.runs.Ended.TheVariants.{Whole, BadLine}
 use Rattle.urb_script.specs.declared.runs.RunFault.{RunFault}
 use Rattle.urb_script.specs.declared.runs.RunFault.TheVariants.{Read, Write, NoMemory}
 
--- how a command may be answered, and where it leads: from what there is so far, with this text, to this scene
+-- How a command may be answered, and which scene it leads to: from the scene so far, with this
+-- text, to this scene.
 abbrev pub Rule : Type 1
 Rule = Option Scene → Command → List ℕ → Scene → Type 0
 
--- by a rule, each of the lines is a command that may come, and these are their answers, line by line
+-- by this rule, each of the lines is a command that may come, and these are their answers, line by
+-- line
 abbrev pub Answers : Rule → Option Scene → List (List ℕ) → List ℕ → Option Scene → Type 0
 Answers By old [] output new = (output ≡ []) × (new ≡ old)
 Answers By old (line ∷ lines) output new =
     (asked : Command) × (text : List ℕ) × (mid : Scene) × (rest : List ℕ)
     × Spells line asked × By old asked text mid × (output ≡ text ++ 10 ∷ rest) × Answers By (Some mid) lines rest new
 
--- no command stands at the front, where one has to
+-- no command is at the front, though one has to be
 abbrev pub IsBad : Option Scene → List (List ℕ) → Type 0
 IsBad state (line ∷ lines) = (asked : Command) → MayCome state asked → Spells line asked → ⊥
 IsBad None [] = Unit {0}
@@ -39,13 +41,15 @@ abbrev pub Ends : Option Scene → List (List ℕ) → ℕ → Ended → List �
 Ends state left number Whole output = (left ≡ []) × (output ≡ []) × ((scene : Scene) × (state ≡ Some scene))
 Ends state left number (BadLine bad) output = IsBad state left × (bad ≡ number) × (output ≡ bad_line bad)
 
--- what the reader still has, where these lines were not answered: nothing at the end; after a bad line, all but one line at most
+-- What the reader still has, if these lines were not answered. At the end, it is nothing. After a
+-- bad line, it is all of them but at most one line.
 abbrev pub Leaves : List (List ℕ) → Ended → List ℕ → Type 0
 Leaves left Whole unread = unread ≡ []
 Leaves left (BadLine bad) unread = (part : List ℕ) × IsOneLine part × (left ≡ lines_of (part ++ unread))
 
--- By a rule, a script from its first line to its end: the lines that are answered, the others, what was said of the first, and
--- what was said at the end; unread is what the reader still has.
+-- A script from its first line to its end, by this rule. It has the lines that are answered, the
+-- other lines, the answers to the first, and what was written at the end. `unread` is what the
+-- reader still has.
 pub record WholeScript (By : Rule) (input : List ℕ) (ended : Ended) (unread : List ℕ) (before after : Option (List ℕ)) : Type 0 where
   pub done : List (List ℕ)
   pub left : List (List ℕ)
@@ -58,7 +62,8 @@ pub record WholeScript (By : Rule) (input : List ℕ) (ended : Ended) (unread : 
   pub leaves : Leaves left ended unread
   pub written : Appends before after (said ++ last)
 
--- a script that stopped: these are the answers to all lines but what was read last, and the reader has the rest
+-- A script that stopped. These are the answers to all lines except what was read last, and the
+-- reader still has the rest.
 pub record StopsAfter (P : List ℕ → Type 0) (input unread said : List ℕ) : Type 0 where
   pub done : List (List ℕ)
   pub part : List ℕ
@@ -67,47 +72,50 @@ pub record StopsAfter (P : List ℕ → Type 0) (input unread said : List ℕ) :
   pub reads : P part
   pub answers : Answers Takes None done said state
 
--- and they are written
+-- a script that stopped, and its answers are written
 abbrev pub BrokenOff : (List ℕ → Type 0) → List ℕ → List ℕ → Option (List ℕ) → Option (List ℕ) → Type 0
 BrokenOff P input unread before after = (said : List ℕ) × StopsAfter P input unread said × Appends before after said
 
--- A script that broke off, with what the reader still has. After a failed read no whole line was read that isn't answered;
--- without memory, and after a failed write, one line at most. Of what a failed write has written nothing is said.
+-- A script that broke off, with what the reader still has. After a failed read, every line that was
+-- read whole is answered. Without memory, and after a failed write, at most one is not. Nothing is
+-- said of what a failed write has written.
 abbrev pub BreaksOff : RunFault → List ℕ → List ℕ → Option (List ℕ) → Option (List ℕ) → Type 0
 BreaksOff Read input unread before after = BrokenOff IsPlain input unread before after
 BreaksOff Write input unread before after = (said : List ℕ) × StopsAfter IsOneLine input unread said
 BreaksOff NoMemory input unread before after = BrokenOff IsOneLine input unread before after
 
--- what a line is answered, from the state so far; no state after it, where it is no command that may come now
+-- The answer to a line, from the state so far. There is no state after it if the line is no command
+-- that may come now.
 abbrev pub Answered : Option Scene → List ℕ → List ℕ → Option Scene → Type 0
 Answered old line text (Some new) = (asked : Command) × Spells line asked × Takes old asked text new
 Answered old line text None = (asked : Command) → MayCome old asked → Spells line asked → ⊥
 
--- what holds a state shows the scene, or there is none yet
+-- the holder of a state shows the scene; without a holder there is no scene yet
 abbrev pub ShowsSome : {S : Type 0} → (S → Scene → Type 0) → Option S → Option Scene → Type 0
 ShowsSome shows None None = Unit {0}
 ShowsSome shows None (Some scene) = ⊥
 ShowsSome shows (Some state) None = ⊥
 ShowsSome shows (Some state) (Some scene) = shows state scene
 
--- for each scene that was shown, the line is answered so, and a scene that it leads to is shown
+-- for each scene that was shown, the line has this answer, and a scene that it leads to is shown
 abbrev pub AnsweredFrom : {S : Type 0} → (S → Scene → Type 0) → Option S → List ℕ → List ℕ → Option S → Type 0
 AnsweredFrom shows old line text new =
     (before : Option Scene) → ShowsSome shows old before → (after : Option Scene) × ShowsSome shows new after × Answered before line text after
 
--- it shows the scene of a new group, and that is the answer
+-- the scene of a new group is shown, and this is the answer
 abbrev pub OpensWith : {S : Type 0} → (S → Scene → Type 0) → Limits → List ℕ → S → Type 0
 OpensWith shows limits text new = (scene : Scene) × shows new scene × Takes None (Group limits) text scene
 
--- for each scene that was shown, the command is answered so, and a scene that it leads to is shown
+-- for each scene that was shown, the command has this answer, and a scene that it leads to is shown
 abbrev pub TakesFrom : {S : Type 0} → (S → Scene → Type 0) → S → Command → List ℕ → S → Type 0
 TakesFrom shows old asked text new = (before : Scene) → shows old before → (after : Scene) × shows new after × Takes (Some before) asked text after
 
--- whatever lines are answered, the world that they lead to is safe
+-- whichever lines are answered, the world that they lead to is safe
 abbrev pub StaysSafe : Type 0
 StaysSafe = (lines : List (List ℕ)) (output : List ℕ) (scene : Scene) → Answers Takes None lines output (Some scene) → Safe scene.world
 
--- A script has one outcome where no store is refused memory: whatever end and output answer it, these are the only ones.
+-- If no store is refused memory, a script has only one outcome: any two ends and outputs that
+-- answer it are the same.
 abbrev pub HasOneOutcome : Type 0
 HasOneOutcome =
     (input : List ℕ) (ended other : Ended) (unread left before after later : List ℕ) → WholeScript Plays input ended unread (Some before) (Some after) → WholeScript Plays input other left (Some before) (Some later)

@@ -1,4 +1,4 @@
--- What each command does in a scene, and what it is answered.
+-- What each command does in a scene, and its answer.
 use Rattle.std.specs.Prelude.{◌≡◌, ◌⊎◌, ℕ, if◌then◌else◌, List, [], Option, Some, None, Ok, filter, is_some}
 use Rattle.urb_names.specs.Carried.{Carried}
 use Rattle.urb_names.specs.Naming.{Content, Limits, Label}
@@ -24,7 +24,7 @@ use Rattle.urb_script.specs.declared.answer_words.Told.TheVariants as told
 abbrev pub new_scene : Limits → Scene
 new_scene limits = record { world = started limits; storage = λ p. [] }
 
--- an event happens, with this in storage from then on: the answer is that of its reply
+-- an event happens, after which storage holds this; the answer is that of its reply
 abbrev pub happens_with : (ℕ → List Entry) → Event → Scene → List ℕ × Scene
 happens_with storage what scene = (reply_text (step scene.world what).0, record { world = (step scene.world what).1; storage = storage })
 
@@ -36,18 +36,19 @@ happens what scene = happens_with scene.storage what scene
 abbrev pub found_at : World → ℕ → Label → Option Content
 found_at w q x = if is_node w.size.n q then message_of (pend (stored w q)) x else None
 
--- The packet from q to p of what q has stored under the name, with these flags or none, or with flags 0 where that is too long for
--- a packet without flags; where it has nothing, of a message that nobody sent.
+-- The packet from q to p of what q has stored under the name. It has these flags or no flags, or
+-- flags 0 if the message is too long for a packet without flags. If q has stored nothing there, the
+-- packet has a message that nobody sent.
 abbrev pub carried : World → ℕ → ℕ → Label → Option Flags → Carried
 carried w q p x flags =
     let m = or_nothing (found_at w q x) in
     record { source = q; target = p; name = x; message = m; flags = flags_with flags m }
 
--- the answer where a number is no node's
+-- the answer if a number is no node's
 abbrev pub bad_node : List ℕ
 bad_node = told_text (told.Refused refusal.BadNode)
 
--- the nodes that have the name stored, rising
+-- the nodes that have the name stored, in rising order
 abbrev pub holders : World → Label → List ℕ
 holders w x = filter (λ p. is_some (message_of (pend (stored w p)) x)) (nodes w.size.n)
 
@@ -55,18 +56,19 @@ holders w x = filter (λ p. is_some (message_of (pend (stored w p)) x)) (nodes w
 abbrev pub shown_log : World → ℕ → List ℕ
 shown_log w p = if is_node w.size.n p then log_text p (stored w p) else bad_node
 
--- the answer that shows who has a name stored
+-- the answer that shows which nodes have a name stored
 abbrev pub shown_holders : World → Label → List ℕ
 shown_holders w x = if is_node w.size.n x.sender then held_text x (holders w x) else bad_node
 
--- The process stops, and a group is opened of what storage holds: held records and what was counted are lost. Lists that don't
--- fit together are refused, by their first misfit.
+-- The process stops, and a group is opened from what storage holds. Held records and counts are
+-- lost. Lists that don't fit together are refused with their first misfit.
 abbrev pub reopens : Option Misfit → Scene → List ℕ × Scene
 reopens None scene = (told_text told.Opened, record { world = opened scene.world.size scene.storage; storage = scene.storage })
 reopens (Some misfit) scene = (told_text (told.Refused (refusal.Inconsistent misfit.rule misfit.node misfit.name)), scene)
 
--- The answer to a command in a scene, and the scene after it. A stored record joins what its node's storage holds, as one
--- does whose store failed and kept it; a restart's image is what the storage holds.
+-- The answer to a command in a scene, and the scene after it. A stored record joins what its node's
+-- storage holds. So does a record whose store failed and kept it. A restart's image is what the
+-- storage holds.
 abbrev pub answer : Scene → Command → List ℕ × Scene
 answer scene (Group limits) = ([], scene)
 answer scene (Submit p client number payload) = happens (event.Submit p (record { client = client; number = number; payload = payload })) scene
@@ -83,7 +85,7 @@ answer scene (Tick p) = happens (event.Tick p) scene
 answer scene (Log p) = (shown_log scene.world p, scene)
 answer scene (Held x) = (shown_holders scene.world x, scene)
 
--- no first line, which makes the group
+-- any command but the first line's, which makes the group
 abbrev pub IsLater : Command → Type 0
 IsLater (Group limits) = ⊥
 IsLater asked = Unit {0}
@@ -94,19 +96,19 @@ MayCome None (Group limits) = Unit {0}
 MayCome None asked = ⊥
 MayCome (Some scene) asked = IsLater asked
 
--- from what there is so far, a command that may come is answered with this text and leads to this scene
+-- from the scene so far, a command that may come is answered with this text and leads to this scene
 abbrev pub Plays : Option Scene → Command → List ℕ → Scene → Type 0
 Plays None (Group limits) text new = (text ≡ told_text (told.Grouped limits)) × (new ≡ new_scene limits)
 Plays None asked text new = ⊥
 Plays (Some scene) (Group limits) text new = ⊥
 Plays (Some scene) asked text new = (text, new) ≡ answer scene asked
 
--- what may come of a store in place of what was asked where memory was refused: it fails, with the record kept or not
+-- what a store may do instead if memory was refused: it fails, with the record kept or not
 abbrev pub IsFailureOf : Command → Command → Type 0
 IsFailureOf (Stored p) played = (played ≡ Fail p Old) ⊎ (played ≡ Fail p New)
 IsFailureOf (Fail p New) played = played ≡ Fail p Old
 IsFailureOf asked played = ⊥
 
--- the same, also where memory was refused to a store
+-- the same, or memory was refused to a store
 abbrev pub Takes : Option Scene → Command → List ℕ → Scene → Type 0
 Takes old asked text new = Plays old asked text new ⊎ ((played : Command) × IsFailureOf asked played × Plays old played text new)

@@ -35,8 +35,9 @@ rule_letter rule.B = codes "b"
 rule_letter rule.C = codes "c"
 rule_letter rule.D = codes "d"
 
--- The words that tell a refusal in an answer. Three have none, since no answer tells them: want of memory ends the run,
--- a bad line is answered in its own form, and frames come from clients alone.
+-- The words of a refusal in an answer. Three refusals have no words, since no answer gives them.
+-- Want of memory ends the run, a bad line is answered in its own form, and frames come only from
+-- clients.
 abbrev pub refusal_words : Refusal → List ℕ
 refusal_words refusal.NoMemory = []
 refusal_words refusal.BadNode = codes "badnode"
@@ -58,7 +59,7 @@ refusal_words (refusal.BadRow place) = codes "badrow " ++ decimal place
 refusal_words (refusal.BadLine line) = []
 refusal_words (refusal.Frame code) = []
 
--- the answer lines of fixed words, without their LF
+-- the answer lines in fixed words, without their LF
 abbrev pub told_text : Told → List ℕ
 told_text (told.Grouped limits) = codes "group " ++ (decimal limits.n ++ (32 ∷ decimal limits.cap))
 told_text (told.Drafted x position) = codes "draft " ++ (name_text x ++ (codes " at " ++ decimal position))
@@ -77,7 +78,7 @@ told_text (told.Refused why) = codes "refused " ++ refusal_words why
 abbrev pub packet_text : Carried → List ℕ
 packet_text packet = 32 ∷ (decimal packet.target ++ (58 ∷ name_text packet.name))
 
--- the flags of a packet, by their number; nothing where it has none
+-- the flags of a packet, by their number; nothing if it has no flags
 abbrev pub flags_text : Option Flags → List ℕ
 flags_text None = []
 flags_text (Some flags) = codes " flags " ++ decimal (flags_number flags)
@@ -86,7 +87,7 @@ flags_text (Some flags) = codes " flags " ++ decimal (flags_number flags)
 abbrev pub answer_text : Carried → List ℕ
 answer_text packet = codes " to " ++ (decimal packet.target ++ flags_text packet.flags)
 
--- what is told when a record is stored: it is accepted where it is a message of the node's own
+-- the answer when a record is stored: `accepted` if it is a message of the node's own
 abbrev pub done_text : Done → List ℕ
 done_text done =
     if done.accepted then told_text (told.Stored done.name (length done.sent) done.released)
@@ -105,7 +106,7 @@ reply_text (reply.WentDown p) = told_text (told.Down p)
 reply_text (reply.Up p) = told_text (told.Up p)
 reply_text (reply.Refused why) = told_text (told.Refused why)
 
--- a reply is told at the end of a text, and it isn't that memory was refused
+-- a reply is written at the end of a text, and doesn't say that memory was refused
 abbrev pub IsToldAs : Reply → List ℕ → List ℕ → Type 0
 IsToldAs said old new = (new ≡ old ++ reply_text said) × (said ≢ reply.Refused refusal.NoMemory)
 
@@ -118,7 +119,7 @@ message_word (Some m) = payload_word m.payload
 abbrev pub entry_text : Label × Option Content → List ℕ
 entry_text entry = 32 ∷ (decimal entry.0.sender ++ (46 ∷ (decimal entry.0.seq ++ (61 ∷ message_word entry.1))))
 
--- the answer that shows p's log: its entries in the order in which they were released
+-- the answer that shows p's log: its entries in the order of their release
 abbrev pub log_text : ℕ → List Entry → List ℕ
 log_text p records = codes "log " ++ (decimal p ++ (58 ∷ flat_map entry_text (entries records)))
 

@@ -8,7 +8,7 @@ use std::fmt;
 use std::io::Write;
 use urb_names::{Config, Name, NoMemory, NodeId, PacketFault, Refusal, Rule};
 
-/// What a command is answered in fixed words.
+/// An answer in fixed words to a command.
 #[derive(Clone, Copy)]
 pub enum Told {
     /// The group is made.
@@ -19,13 +19,14 @@ pub enum Told {
     Accepted(Name),
     /// The packet's source is counted for this name.
     Noted(Name),
-    /// The packet told nothing new of this name.
+    /// The packet said nothing new of this name.
     Again(Name),
     /// The name is certified, and a packet that says so goes back.
     Answered(Name),
-    /// The record of an own message is stored: how many packets it sends, and by how many names the log grew.
+    /// The record of an own message is stored. Says how many packets it sends, and by how many
+    /// names the log grew.
     Stored { name: Name, sent: u8, released: u32 },
-    /// Any other record is stored: the same of it.
+    /// Any other record is stored. Says the same of it.
     Taken { name: Name, sent: u8, released: u32 },
     /// The node is down.
     Down(NodeId),
@@ -37,7 +38,7 @@ pub enum Told {
     Refused(Refusal),
 }
 
-/// A name as a word, as `1.7`.
+/// A name as a word, such as `1.7`.
 #[derive(Clone, Copy)]
 pub struct NameWord(pub Name);
 
@@ -93,7 +94,7 @@ impl fmt::Display for RuleLetter {
     }
 }
 
-// The words that tell a refusal; none for the three that no answer tells.
+// The words of a refusal. Three refusals appear in no answer, and have no words.
 #[derive(Clone, Copy)]
 struct RefusalWords(Refusal);
 

@@ -16,7 +16,7 @@ use crate::words::{first_word, last_node, last_word, number_in, number_word};
 use urb_names::{ClientId, Config, Flags, Name, NodeId};
 use urb_stable::Failure;
 
-/// A command of a line, which lends its payload and its digits.
+/// A command of a line. Its payload and its digits are borrowed from the line.
 #[derive(Drop)]
 pub enum CommandLine<'a> {
     /// Make the group.
@@ -30,7 +30,7 @@ pub enum CommandLine<'a> {
     },
     /// Store the record that a node holds.
     Stored(NodeId),
-    /// Have the store of the record that a node holds fail.
+    /// Make the store of the record that a node holds fail.
     Fail {
         node: NodeId,
         failure: Failure,
@@ -41,14 +41,14 @@ pub enum CommandLine<'a> {
     Restart(NodeId),
     /// Stop all nodes at once, and open them again with what their storages hold.
     Reopen,
-    /// Bring a node what the source has stored under a name, in a packet of version one, or of version two without flags
-    /// where its payload has more than 1,024 bytes.
+    /// Bring a node the message that the source has stored under a name. The packet is of version
+    /// one. If the payload has more than 1,024 bytes, it is of version two with all flags clear.
     Arrive {
         source: NodeId,
         node: NodeId,
         name: Name,
     },
-    /// Bring it in one of version two, with these flags.
+    /// Bring the message in a packet of version two, with these flags.
     ArriveFlagged {
         source: NodeId,
         node: NodeId,
@@ -60,7 +60,7 @@ pub enum CommandLine<'a> {
         node: NodeId,
         bytes: HexBytes<'a>,
     },
-    /// Have a node resend.
+    /// Make a node resend.
     Tick(NodeId),
     /// Show a node's log.
     Log(NodeId),
@@ -68,7 +68,7 @@ pub enum CommandLine<'a> {
     Held(Name),
 }
 
-/// The command that a line spells.
+/// Returns the command that a line spells.
 pub fn parse_command(line: &[u8]) -> Option<CommandLine<'_>>
     ensures some { IfSome result (λ found. Spells line.now (command found)) }
     ensures none { IfNone result ((asked : Command) → Spells line.now asked → ⊥) }
@@ -80,7 +80,7 @@ pub fn parse_command(line: &[u8]) -> Option<CommandLine<'_>>
     command_of(word, rest)
 }
 
-// The command of a first word and what follows it.
+// Returns the command of a first word and what follows it.
 fn command_of<'a>(word: &[u8], rest: Option<&'a [u8]>) -> Option<CommandLine<'a>>
     ensures some { IfSome result (λ found.
         IsSpelled (word.now ∷ words_left rest.entry) (command found) × InRange (command found)) }
@@ -135,7 +135,7 @@ fn command_of<'a>(word: &[u8], rest: Option<&'a [u8]>) -> Option<CommandLine<'a>
     None
 }
 
-// The limits of a group.
+// Returns the limits of a group.
 fn group_of(rest: Option<&[u8]>) -> Option<Config>
     ensures some { IfSome result (λ limits.
         (words_left rest.entry ≡ decimal limits.n ∷ decimal limits.cap ∷ []) × IsLimits limits) }
@@ -174,7 +174,7 @@ fn submit_of(rest: Option<&[u8]>) -> Option<CommandLine<'_>>
     })
 }
 
-// The payload that a word spells.
+// Returns the payload that a word spells.
 fn payload_of(word: &[u8]) -> Option<&[u8]>
     ensures some { IfSome result
         (λ payload. (word.now ≡ payload_word payload.now) × HasWord payload.now) }
@@ -196,7 +196,7 @@ fn all_printed(word: &[u8]) -> bool
     word.iter().all(|byte| matches!(*byte, b'!'..=b'~'))
 }
 
-// A node, and what its storage keeps of a record whose store fails.
+// Returns a node, and what its storage keeps of a record whose store fails.
 fn fail_of(rest: Option<&[u8]>) -> Option<(NodeId, Failure)>
     ensures some { IfSome result
         (λ r. (words_left rest.entry ≡ decimal r.0 ∷ failure_word r.1 ∷ []) × IsNodeNumber r.0) }
@@ -223,7 +223,7 @@ fn failure_of(word: &[u8]) -> Option<Failure>
     None
 }
 
-// From which node to which a packet comes, and of which name.
+// The source of a packet, the node that it comes to, and its name.
 #[derive(Clone, Copy)]
 struct Route {
     source: NodeId,
@@ -231,7 +231,7 @@ struct Route {
     name: Name,
 }
 
-// The route that the next words spell, and what follows them.
+// Returns the route that the next words spell, and what follows them.
 fn route_of(rest: Option<&[u8]>) -> Option<(Route, Option<&[u8]>)>
     ensures some { IfSome result (λ r. (words_left rest.entry
         ≡ decimal r.0.source
@@ -327,7 +327,7 @@ fn raw_of(rest: Option<&[u8]>) -> Option<CommandLine<'_>>
     }
 }
 
-// The name that a word spells: a node's digit, a full stop, and the number.
+// Returns the name that a word spells: a node's digit, a full stop, and the number.
 fn name_of(word: &[u8]) -> Option<Name>
     ensures some { IfSome result (λ name. (word.now ≡ name_text name) × IsLabel name) }
     ensures none { IfNone result ((name : Label) → IsLabel name → word.now ≢ name_text name) }

@@ -1,4 +1,4 @@
-//! Bytes that a word spells by hexadecimal digits.
+//! Bytes that a word spells with hexadecimal digits.
 
 ghost use Rattle.std.specs.Prelude.{◌≡◌, ◌≤◌, ℕ, List, IfOk, IfSome, IfNone, IsTrue, ◌↔◌};
 ghost use Rattle.std.specs.List.{AllByRecursion};
@@ -8,7 +8,7 @@ use std::alloc::Allocator;
 use std::marker::Model;
 use urb_names::NoMemory;
 
-/// Bytes by their digits, which lie in a line.
+/// Bytes as hexadecimal digits, borrowed from a line.
 #[derive(Drop)]
 pub struct HexBytes<'a> {
     digits: &'a [u8],
@@ -25,21 +25,21 @@ impl<'a> Model for HexBytes<'a> {
     ghost invariant = { λ bytes. ArePairs bytes.digits.now };
 }
 
-// Whether a byte is a digit.
+// Says whether a byte is a digit.
 fn is_digit(byte: u8) -> bool
     ensures { IsTrue result ↔ IsHexDigit byte }
 {
     matches!(byte, b'0'..=b'9' | b'A'..=b'F' | b'a'..=b'f')
 }
 
-// Whether all bytes are digits.
+// Says whether all bytes are digits.
 fn all_digits(word: &[u8]) -> bool
     ensures { IsTrue result ↔ AllByRecursion IsHexDigit word.now }
 {
     word.iter().all(|byte| is_digit(*byte))
 }
 
-// The value of a digit.
+// Returns the value of a digit.
 fn digit_value(digit: u8) -> u8
     requires { IsHexDigit digit }
     ensures value { result ≡ digit_value digit }
@@ -54,7 +54,7 @@ fn digit_value(digit: u8) -> u8
     }
 }
 
-// The byte of two digits.
+// Returns the byte of two digits.
 fn byte_of(high: u8, low: u8) -> u8
     requires high { IsHexDigit high }
     requires low { IsHexDigit low }
@@ -64,7 +64,7 @@ fn byte_of(high: u8, low: u8) -> u8
 }
 
 impl<'a> HexBytes<'a> {
-    /// The bytes that a word spells; a hyphen alone spells none.
+    /// Returns the bytes that a word spells. A hyphen alone spells no bytes.
     pub fn new(word: &'a [u8]) -> Option<HexBytes<'a>>
         ensures some { IfSome result (λ bytes. IsHexWord bytes word.now) }
         ensures none { IfNone result ((bytes : List ℕ) → IsHexWord bytes word.now → ⊥) }
@@ -84,7 +84,7 @@ impl<'a> HexBytes<'a> {
         Some(HexBytes { digits: word })
     }
 
-    /// The bytes themselves. Their memory comes from `alloc`.
+    /// Returns the bytes themselves. Their memory comes from `alloc`.
     pub fn decode<A: Allocator>(&self, alloc: A) -> Result<Vec<u8, A>, NoMemory>
         ensures { IfOk result (λ bytes. bytes.items ≡ self.now) }
     {

@@ -1,4 +1,4 @@
-//! Whole lines of what a reader has.
+//! Reading one whole line at a time from a reader.
 
 ghost use Rattle.std.specs.Prelude.{◌≡◌, ℕ, ◌<◌, ◌≤◌, take, length, IfOk, None, option_to_list, vec_capacity, OnOk, OnErr};
 ghost use Rattle.std.specs.Io.KnownBytes.{Consumes, IsAtEnd, Keeps};
@@ -27,7 +27,7 @@ pub enum LineRead {
     Long,
 }
 
-// The next byte, or none at the end. A read that a signal interrupts is tried again.
+// Returns the next byte, or `None` at the end. A read that a signal interrupts is tried again.
 fn next_byte<R: Read>(reader: &mut R) -> Result<Option<u8>, ReadFailed>
     ensures bytes { IfOk result
         (λ next. Consumes (R.remaining reader.old) (R.remaining reader.new) (option_to_list next)) }
@@ -49,7 +49,7 @@ fn next_byte<R: Read>(reader: &mut R) -> Result<Option<u8>, ReadFailed>
     Err(ReadFailed)
 }
 
-/// Reads a line into `line`, which has room for it, and nothing of the line after it.
+/// Reads a line into `line`, which has room for it. Reads nothing of the line after it.
 pub fn read_line<R: Read, A: Allocator>(
     reader: &mut R,
     line: &mut Vec<u8, A>,

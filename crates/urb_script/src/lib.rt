@@ -4,8 +4,9 @@
 //! let ended = run(alloc, &mut reader, &mut writer)?;     // Whole, or BadLine with its number
 //! ```
 //!
-//! The bytes written are a stated function of the bytes read (`specs/Steps.antt`) as long as no store is refused memory. Each
-//! answer is written whole and flushed before the next line is read. It opens no file and knows no socket.
+//! The bytes written are a stated function of the bytes read (`specs/Steps.antt`), as long as no
+//! store is refused memory. Each answer is written whole and flushed before the next line is read.
+//! The crate opens no file and knows no socket.
 #![tactic(auto)]
 
 mod answer_words;

@@ -1,4 +1,4 @@
-//! The answer lines of a group's replies, and of what it is asked.
+//! The answer lines of a group's replies, and of questions about the group.
 
 ghost use Rattle.std.specs.Prelude.{◌≡◌, ◌++◌, ◌∷◌, [], OnOk, Some, codes, flat_map, option_map};
 ghost use Rattle.std.specs.Fmt.{decimal};
@@ -15,7 +15,7 @@ use urb_names::{Message, Name, NoMemory, NodeId, Packet, Refusal};
 use urb_node::{Answer, Done};
 use urb_stubborn::Outbox;
 
-// Writes a packet that is sent in answer by its target and its flags.
+// Writes a packet that is sent in answer, by its target and its flags.
 fn push_answer_packet<A: Allocator>(
     text: &mut Vec<u8, A>,
     packet: &Packet<A>,
@@ -100,7 +100,7 @@ fn push_packet<A: Allocator>(text: &mut Vec<u8, A>, packet: &Packet<A>) -> Resul
     write!(text, " {target}:{name}").map_err(|_| NoMemory)
 }
 
-// Writes packets, one behind the other.
+// Writes packets, one after the other.
 fn push_packets<A: Allocator + Copy>(
     text: &mut Vec<u8, A>,
     packets: &Outbox<A>,
@@ -145,7 +145,7 @@ pub fn push_reply<A: Allocator + Copy>(
     }
 }
 
-/// Writes the reply to a command, unless memory was refused to it.
+/// Writes the reply to a command, unless the command was refused memory.
 pub fn push_told_reply<A: Allocator + Copy>(
     text: &mut Vec<u8, A>,
     reply: &Reply<A>,
@@ -199,7 +199,7 @@ pub fn push_log_head<A: Allocator>(text: &mut Vec<u8, A>, node: NodeId) -> Resul
     write!(text, "log {node}:").map_err(|_| NoMemory)
 }
 
-/// Writes the head of the nodes that have a name stored at the end of a text.
+/// Writes the head of the list of nodes that have a name stored, at the end of a text.
 pub fn push_held_head<A: Allocator>(text: &mut Vec<u8, A>, name: Name) -> Result<(), NoMemory>
     ensures { OnOk result
         (text.new.items ≡ text.old.items ++ (codes "held " ++ (name_text name ++ 58 ∷ []))) }
@@ -208,7 +208,7 @@ pub fn push_held_head<A: Allocator>(text: &mut Vec<u8, A>, name: Name) -> Result
     write!(text, "held {name}:").map_err(|_| NoMemory)
 }
 
-/// Writes a node that has a name stored at the end of a text.
+/// Writes a node that has a name stored, at the end of a text.
 pub fn push_holder<A: Allocator>(text: &mut Vec<u8, A>, node: NodeId) -> Result<(), NoMemory>
     ensures { OnOk result (text.new.items ≡ text.old.items ++ 32 ∷ decimal node) }
 {

@@ -16,25 +16,28 @@ use std::io::{Read, Write};
 use thiserror::Error;
 use urb_names::{Config, NoMemory};
 
-/// Room for every answer line but those of `log` and `tick`, so that a `stored` line takes memory for its record alone.
+/// Room for every answer line except those of `log` and `tick`. So a `stored` line allocates memory
+/// for its record only.
 const ANSWER_ROOM: usize = 128;
 
 /// How a script ended.
 #[derive(Clone, Copy, Debug, PartialEq, Eq)]
 pub enum Ended {
-    /// Each line was a command and is answered.
+    /// Each line was a command, and is answered.
     Whole,
-    /// The line with this number, from 1, is no command that may come there; the lines before it are answered.
+    /// The line with this number, from 1, is no command that may come there. The lines before it
+    /// are answered.
     BadLine(u64),
 }
 
 /// Why a run broke off before the end of its script.
 #[derive(Clone, Copy, Debug, PartialEq, Eq, Error)]
 pub enum RunFault {
-    /// The reader failed, or has more lines than can be counted. The lines read whole are answered.
+    /// The reader failed, or has more lines than can be counted. The lines that were read whole are
+    /// answered.
     #[error("read failed")]
     Read,
-    /// The writer failed. How much of the last answer went out isn't known.
+    /// The writer failed. It isn't known how much of the last answer went out.
     #[error("write failed")]
     Write,
     /// A growth was refused. All lines before the one that needed it are answered.
@@ -91,7 +94,7 @@ pub trait Play<A: Allocator>: Drop {
         ensures shown { IfOk result (λ new. OpensWith shows config text.new.items new) }
         ensures kept { IfOk result (λ new. keeps new) };
 
-    /// Does what a command says, writes the answer, and gives what it leads to.
+    /// Does one command, writes the answer, and returns the next state.
     fn play(self, found: CommandLine<'_>, text: &mut Vec<u8, A>) -> Result<Self, NoMemory>
     where
         Self: Sized,
@@ -104,7 +107,7 @@ pub trait Play<A: Allocator>: Drop {
         ensures kept { IfOk result (λ new. keeps new) };
 }
 
-// Answers a line, and gives what it leads to; none where the line is no command that may come now.
+// Answers a line, and returns the next state. `None` if the line is no command that may come now.
 fn answer_line<A: Allocator, P: Play<A>>(
     alloc: A,
     state: Option<P>,
@@ -132,7 +135,7 @@ fn answer_line<A: Allocator, P: Play<A>>(
     }
 }
 
-// Writes bytes, so that they are seen at once.
+// Writes bytes, and flushes them so that they are seen at once.
 fn write_now<W: Write>(writer: &mut W, bytes: &[u8]) -> Result<(), RunFault>
     ensures ok { OnOk result (Appends (W.contents writer.old) (W.contents writer.new) bytes.now) }
     ensures err { IfErr result (λ fault. fault ≡ RunFault.Write) }
@@ -141,7 +144,7 @@ fn write_now<W: Write>(writer: &mut W, bytes: &[u8]) -> Result<(), RunFault>
     writer.flush().map_err(|_| RunFault::Write)
 }
 
-// Writes that a line is no command. Without memory nothing is written.
+// Writes that a line is no command. Without memory it writes nothing.
 fn write_bad_line<A: Allocator, W: Write>(
     writer: &mut W,
     text: &mut Vec<u8, A>,
@@ -157,7 +160,7 @@ fn write_bad_line<A: Allocator, W: Write>(
     write_now(writer, text.as_slice())
 }
 
-// Runs the script that the reader has, over what it makes of its first line.
+// Runs the script that the reader has, over the state that its first line makes.
 fn run_over<A: Allocator + Copy, P: Play<A>, R: Read, W: Write>(
     alloc: A,
     reader: &mut R,
@@ -200,32 +203,36 @@ fn run_over<A: Allocator + Copy, P: Play<A>, R: Read, W: Write>(
     Err(RunFault::Read)
 }
 
-/// Runs the script that the reader has, line by line, over a new cluster whose stores are in memory: each answer line is
-/// written and flushed before the next line is read. It keeps the messages of the script and one line; after a fault it
-/// reads and writes no further byte. After 18,446,744,073,709,551,615 lines it ends with `Read`.
+/// Runs the script that the reader has, line by line, over a new cluster whose stores are in
+/// memory. Each answer line is written and flushed before the next line is read. The run keeps the
+/// messages of the script and one line in memory. After a fault it reads and writes no further
+/// byte. After 18,446,744,073,709,551,615 lines it ends with `Read`.
 pub fn run<A: Allocator + Copy, R: Read, W: Write>(
     alloc: A,
     reader: &mut R,
     writer: &mut W,
 ) -> Result<Ended, RunFault>
-    // What was written is the answers to all lines that the reader held, or to those before the first bad line and its
-    // own answer; of the lines after that one nothing was read.
+    // What was written is the answers to all lines that the reader held. If a line is bad, it is
+    // the answers to the lines before the first bad line, and that line's own answer. Nothing was
+    // read after that line.
     ensures whole { IfOk result (λ ended. IfSome (R.remaining reader.old) (λ input.
         IsSomeAnd (R.remaining reader.new) (λ unread. WholeScript Takes input ended unread
         (W.contents writer.old) (W.contents writer.new)))) }
-    // After want of memory, or a failed read, the lines before are answered, and nothing else is written; after a failed
-    // write they are answered too, and of what went out nothing is said. One line at most was read after them.
+    // After want of memory or a failed read, the lines before are answered, and nothing else is
+    // written. After a failed write they are answered too, and nothing is said of what went out. At
+    // most one line was read after them.
     ensures broken_off { IfErr result (λ fault. IfSome (R.remaining reader.old) (λ input.
         IsSomeAnd (R.remaining reader.new) (λ unread.
         BreaksOff fault input unread (W.contents writer.old) (W.contents writer.new)))) }
-    // In whatever world answered lines lead to, each log has of each sender the first messages that its storage took, in
-    // order and once, and a majority's storages hold each of them.
+    // In whatever world answered lines lead to, each log has, for each sender, the first messages
+    // that its storage took, in order and once. A majority's storages hold each of them.
     ensures safe { StaysSafe }
-    // So it is of every log that a `log` line shows; and of what two `log` lines show of one sender, whichever nodes they ask
-    // and whatever stands between them, one begins the other.
+    // The same holds of every log that a `log` line shows. Take what two `log` lines show of one
+    // sender: one begins the other, whichever nodes they ask and whatever lines are between them.
     ensures shown { LogsAreSafe }
     ensures agree { LogsAgree }
-    // Where no store is refused memory, all that the reader held determines the end, and what was written.
+    // If no store is refused memory, everything that the reader held determines the end, and what
+    // was written.
     ensures one { HasOneOutcome }
 {
     run_over::<A, Stage<A>, R, W>(alloc, reader, writer)

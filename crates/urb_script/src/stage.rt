@@ -38,7 +38,7 @@ pub struct Stage<A: Allocator + Copy = Global> {
     cluster: Cluster<MemStable<A>>,
 }
 
-// New stores, one for each node.
+// Makes new stores, one for each node.
 fn new_stores<A: Allocator + Copy>(alloc: A, n: u8) -> Result<Vec<MemStable<A>, A>, NoMemory>
     ensures { IfOk result
         (λ stores. (length stores.items ≡ n) × All (λ m. m ≡ empty_memory) stores.items) }
@@ -50,7 +50,7 @@ fn new_stores<A: Allocator + Copy>(alloc: A, n: u8) -> Result<Vec<MemStable<A>, 
     Ok(stores)
 }
 
-// A copy of a message; where there is none, the message that nobody sent.
+// Returns a copy of a message. Without a message, it returns the message that nobody sent.
 fn message_or_nothing<A: Allocator + Copy>(
     alloc: A,
     stored: Option<&Message<A>>,
@@ -63,8 +63,8 @@ fn message_or_nothing<A: Allocator + Copy>(
     }
 }
 
-// The flags of a packet of a message: these, or none; but 0 where there are none and the payload is too long for a packet
-// without flags.
+// Returns the flags of a packet of a message: these flags, or none. If none are given and the
+// payload is too long for a packet without flags, the flags are 0.
 fn flags_with<A: Allocator>(flags: Option<Flags>, message: &Message<A>) -> Option<Flags>
     ensures value { result ≡ flags_with flags message.now }
     ensures version { FitsVersion result message.now.payload }
@@ -81,7 +81,7 @@ fn flags_with<A: Allocator>(flags: Option<Flags>, message: &Message<A>) -> Optio
     None
 }
 
-// The bytes of a packet of a message, with these flags, with none, or with flags 0.
+// Returns the bytes of a packet of a message, with these flags, without flags, or with flags 0.
 fn packet_bytes<A: Allocator + Copy>(
     alloc: A,
     source: NodeId,
@@ -106,7 +106,7 @@ fn packet_bytes<A: Allocator + Copy>(
     encode(alloc, &packet)
 }
 
-// The want of memory that a refusal tells.
+// Returns the want of memory that a refusal says.
 fn want_of(refusal: Refusal) -> NoMemory
     requires { refusal ≡ Refusal.NoMemory }
 {
@@ -155,7 +155,7 @@ impl<A: Allocator + Copy> Stage<A> {
         self.apply(&command, text)
     }
 
-    // Has the store of the record that a node holds fail.
+    // Makes the store of the record that a node holds fail.
     fn fail(
         &mut self,
         node: NodeId,
@@ -173,7 +173,7 @@ impl<A: Allocator + Copy> Stage<A> {
         push_told_reply(text, &reply)
     }
 
-    // Stops all nodes at once, and opens the cluster again of what its stores hold.
+    // Stops all nodes at once, and opens the cluster again from what its stores hold.
     fn reopen(self, text: &mut Vec<u8, A>) -> Result<Stage<A>, NoMemory>
         requires fresh { text.old.items ≡ [] }
         requires kept { IsStocked (in_memory A) self.cluster }
@@ -197,7 +197,8 @@ impl<A: Allocator + Copy> Stage<A> {
         })
     }
 
-    // Brings a node what the source has stored under a name, in a packet with these flags or none.
+    // Brings a node what the source has stored under a name, in a packet with these flags or
+    // without flags.
     fn arrive(
         &mut self,
         source: NodeId,
@@ -314,7 +315,7 @@ impl<A: Allocator + Copy> Stage<A> {
         self.push_holders(name, text)
     }
 
-    // Does what a command says that goes on with this cluster, and writes the answer.
+    // Does a command that goes on with this cluster, and writes the answer.
     fn act(&mut self, found: CommandLine<'_>, text: &mut Vec<u8, A>) -> Result<(), NoMemory>
         requires fresh { text.old.items ≡ [] }
         requires later { IsLater (command found) }

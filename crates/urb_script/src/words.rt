@@ -7,7 +7,8 @@ ghost use Rattle.urb_script.specs.Wording.{IsNodeNumber};
 
 use urb_names::NodeId;
 
-/// The number below 2^64 that a word spells, in decimal without a sign and without a leading zero.
+/// Returns the number below 2^64 that a word spells, in decimal without a sign and without a
+/// leading zero.
 pub fn number(word: &[u8]) -> Option<u64>
     ensures some { IfSome result (λ n. word.now ≡ decimal n) }
     ensures none { IfNone result ((n : ℕ) → n < 2 ^ 64 → word.now ≢ decimal n) }
@@ -31,7 +32,7 @@ pub fn number(word: &[u8]) -> Option<u64>
     Some(number)
 }
 
-/// The number from `low` to `high` that a word spells.
+/// Returns the number from `low` to `high` that a word spells.
 pub fn number_in(word: &[u8], low: u64, high: u64) -> Option<u64>
     ensures some { IfSome result (λ n. (word.now ≡ decimal n) × (low ≤ n) × (n ≤ high)) }
     ensures none { IfNone result ((n : ℕ) → low ≤ n → n ≤ high → word.now ≢ decimal n) }
@@ -46,14 +47,14 @@ pub fn number_in(word: &[u8], low: u64, high: u64) -> Option<u64>
     Some(number)
 }
 
-/// Where the first space is.
+/// Returns the place of the first space.
 fn space_at(text: &[u8]) -> Option<usize>
     ensures { result ≡ position (λ byte. byte == 32) text.now }
 {
     text.iter().position(|byte| *byte == b' ')
 }
 
-/// The first word of a text, and what follows its space.
+/// Returns the first word of a text, and what follows its space.
 pub fn first_word(text: &[u8]) -> (&[u8], Option<&[u8]>)
     ensures { words_of text.now ≡ result.0.now ∷ words_left result.1 }
 {
@@ -63,7 +64,7 @@ pub fn first_word(text: &[u8]) -> (&[u8], Option<&[u8]>)
     }
 }
 
-/// The number from `low` to `high` that the next word spells, and what follows it.
+/// Returns the number from `low` to `high` that the next word spells, and what follows it.
 pub fn number_word(rest: Option<&[u8]>, low: u64, high: u64) -> Option<(u64, Option<&[u8]>)>
     ensures some { IfSome result
         (λ r. (words_left rest.entry ≡ decimal r.0 ∷ words_left r.1) × (low ≤ r.0) × (r.0 ≤ high)) }
@@ -77,7 +78,7 @@ pub fn number_word(rest: Option<&[u8]>, low: u64, high: u64) -> Option<(u64, Opt
     Some((number, rest))
 }
 
-/// The word, where it is the last one.
+/// Returns the word, if it is the last one.
 pub fn last_word(rest: Option<&[u8]>) -> Option<&[u8]>
     ensures some { IfSome result (λ word. words_left rest.entry ≡ word.now ∷ []) }
     ensures none { IfNone result ((word : List ℕ) → words_left rest.entry ≢ word ∷ []) }
@@ -89,7 +90,7 @@ pub fn last_word(rest: Option<&[u8]>) -> Option<&[u8]>
     Some(word)
 }
 
-/// The node that the last word spells.
+/// Returns the node that the last word spells.
 pub fn last_node(rest: Option<&[u8]>) -> Option<NodeId>
     ensures some { IfSome result
         (λ node. (words_left rest.entry ≡ decimal node ∷ []) × IsNodeNumber node) }

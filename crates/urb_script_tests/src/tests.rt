@@ -13,7 +13,7 @@ const ONE_NODE: &[u8] = b"group 1 10\nsubmit 1 7 1 hi\nstored 1\nlog 1\n";
 const ONE_NODE_ANSWERS: &[u8] =
     b"group 1 10\ndraft 1.1 at 1\naccepted 1.1 sent 0 released 1\nlog 1: 1.1=hi\n";
 
-/// A text in which each `@` stands for 16,384 letters x.
+/// Returns the text with each `@` replaced by 16,384 letters x.
 fn spelled(alloc: Global, text: &[u8]) -> Result<Vec<u8>, Fail> {
     let mut whole = Vec::new(alloc);
     for byte in text {
@@ -32,7 +32,7 @@ const LONG_PAYLOADS: &[u8] =
 const LONG_PAYLOADS_ANSWERS: &[u8] =
     b"group 1 3\ndraft 1.1 at 1\naccepted 1.1 sent 0 released 1\ndraft 1.2 at 2\naccepted 1.2 sent 0 released 1\nrefused toolong\nlog 1: 1.1=- 1.2=@\n";
 
-/// Runs a script into a new text, and compares; `@` is as in `spelled`.
+/// Runs a script into a new text, and compares the text. `@` is as in `spelled`.
 pub fn gives(
     rt: &(impl Abort + AllocGlobal),
     script: &[u8],
@@ -51,21 +51,22 @@ pub fn gives(
 
 #[test]
 fn whole_scripts_are_answered(rt: HostRuntime) -> Result<(), Fail> {
-    // A message is sent to each other node, and released by none before a majority has it.
+    // A message is sent to each other node, and no node releases it before a majority has it.
     gives(
         &rt,
         b"group 3 10\nsubmit 2 7 1 a\nstored 2\nlog 2\nlog 1",
         b"group 3 10\ndraft 2.1 at 1\naccepted 2.1 sent 2 released 0\nlog 2:\nlog 1:\n",
         Ended::Whole,
     )?;
-    // Refusals, the first that holds.
+    // Of several refusals that hold, the first one is given.
     gives(
         &rt,
         b"group 2 10\nstored 1\nstored 3\nsubmit 3 7 1 @x\nlog 3\nsubmit 1 7 1 a\nsubmit 1 7 9 @x\nstored 1\nsubmit 1 7 1 b\nsubmit 1 8 1 b\nstored 1\nsubmit 1 7 2 c\nstored 1\nsubmit 1 7 1 a\nsubmit 1 8 3 c\n",
         b"group 2 10\nrefused stale\nrefused badnode\nrefused badnode\nrefused badnode\ndraft 1.1 at 1\nrefused busy\naccepted 1.1 sent 1 released 0\nrefused conflict\ndraft 1.2 at 2\naccepted 1.2 sent 1 released 0\ndraft 1.3 at 3\naccepted 1.3 sent 1 released 0\naccepted 1.1\nrefused gap 2\n",
         Ended::Whole,
     )?;
-    // A log, and who has a name, are shown in every state of a node; digits may be of either case.
+    // A log, and the holders of a name, are shown in every state of a node. Digits may be of either
+    // case.
     gives(
         &rt,
         b"group 2 10\nsubmit 1 7 1 hi\nheld 1.1\nlog 1\nstored 1\nraw 2 5542010102010000000100070000000100026869\ncrash 2\nheld 1.1\nlog 2\nrestart 2\nraw 2 -\nraw 2 5542010102010000000100070000000100026A6b\nheld 3.1\nheld 2.7\nlog 3\ntick 2\n",
@@ -74,7 +75,7 @@ fn whole_scripts_are_answered(rt: HostRuntime) -> Result<(), Fail> {
     )
 }
 
-/// A bad line after a first one that is answered.
+/// Runs a bad line after a first line that is answered.
 fn is_bad(rt: &(impl Abort + AllocGlobal), line: &[u8]) -> Result<(), Fail> {
     let mut script = Vec::new(rt.alloc());
     script.extend_from_slice(b"group 1 10\n")?;
@@ -104,7 +105,7 @@ const BAD_FIRST: [&[u8]; 12] = [
     b"Group 1 10\n",
 ];
 
-/// Lines that are bad behind a first one.
+/// Lines that are bad after a first one.
 const BAD: [&[u8]; 66] = [
     b"",
     b"group 1 10",
@@ -185,7 +186,8 @@ fn bad_lines_end_the_run(rt: HostRuntime) -> Result<(), Fail> {
     Ok(())
 }
 
-/// A script whose second line has 13 bytes, so many times 1,024 letters, and more letters.
+/// Returns a script whose second line has 13 bytes, then `times` times 1,024 letters, and `more`
+/// letters.
 fn long_script(alloc: Global, times: usize, more: usize) -> Result<Vec<u8>, Fail> {
     let mut script = Vec::new(alloc);
     script.extend_from_slice(b"group 1 10\nsubmit 1 7 1 ")?;
@@ -223,7 +225,7 @@ fn a_line_has_at_most_its_greatest_length(rt: HostRuntime) -> Result<(), Fail> {
 fn a_script_cut_within_its_last_line_has_a_shorter_line(rt: HostRuntime) -> Result<(), Fail> {
     let script = b"group 1 10\nsubmit 1 7 1 hi".as_slice();
     for (cut, byte) in script.iter().enumerate() {
-        // What stands before the cut of the last line.
+        // The lines before the cut in the last line.
         let (answers, ended) = match cut {
             0..=10 => continue,
             11 => (b"group 1 10\n".as_slice(), Ended::Whole),

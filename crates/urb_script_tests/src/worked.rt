@@ -1,4 +1,6 @@
-//! Worked scripts and their answers, byte for byte; those with a name are also run with refused growths.
+//! Worked scripts and their answers, byte for byte.
+//!
+//! Those with a name are also run with refused growths.
 
 use crate::tests::gives;
 use std::process::Abort;
@@ -29,13 +31,14 @@ pub const RESENT: (&[u8], &[u8]) = (
     b"group 2 20\ndraft 1.1 at 1\naccepted 1.1 sent 1 released 0\ndraft 1.2 at 2\naccepted 1.2 sent 1 released 0\ndraft 1.3 at 3\naccepted 1.3 sent 1 released 0\ndraft 1.4 at 4\naccepted 1.4 sent 1 released 0\ndraft 1.5 at 5\naccepted 1.5 sent 1 released 0\ndraft 1.6 at 6\naccepted 1.6 sent 1 released 0\ndraft 1.7 at 7\naccepted 1.7 sent 1 released 0\ndraft 1.8 at 8\naccepted 1.8 sent 1 released 0\ndraft 1.9 at 9\naccepted 1.9 sent 1 released 0\ndraft 1.10 at 10\naccepted 1.10 sent 1 released 0\ndraft 1.11 at 11\naccepted 1.11 sent 1 released 0\ndraft 1.12 at 12\naccepted 1.12 sent 1 released 0\ndraft 1.13 at 13\naccepted 1.13 sent 1 released 0\ndraft 1.14 at 14\naccepted 1.14 sent 1 released 0\ndraft 1.15 at 15\naccepted 1.15 sent 1 released 0\ndraft 1.16 at 16\naccepted 1.16 sent 1 released 0\ndraft 1.17 at 17\naccepted 1.17 sent 1 released 0\nsent 2:1.1 2:1.2 2:1.3 2:1.4 2:1.5 2:1.6 2:1.7 2:1.8 2:1.9 2:1.10 2:1.11 2:1.12 2:1.13 2:1.14 2:1.15 2:1.16\nsent 2:1.17 2:1.1 2:1.2 2:1.3 2:1.4 2:1.5 2:1.6 2:1.7 2:1.8 2:1.9 2:1.10 2:1.11 2:1.12 2:1.13 2:1.14 2:1.15\nsent\nlog 1:\nlog 2:\n",
 );
 
-/// Logs outlive a stop of the whole process, and a repeat is accepted.
+/// Logs survive a stop of the whole process, and a repeat is accepted.
 pub const REOPENED: (&[u8], &[u8]) = (
     b"group 3 10\nsubmit 1 7 1 a\nstored 1\narrive 1 2 1 1\nstored 2\nlog 1\narrive 2 1 1 1\nstored 1\nreopen\nlog 1\nlog 2\nsubmit 1 7 1 a\nlog 3\n",
     b"group 3 10\ndraft 1.1 at 1\naccepted 1.1 sent 2 released 0\ndraft 1.1 at 1\ntaken 1.1 sent 2 released 1\nlog 1:\ndraft 1.1 at 2\ntaken 1.1 sent 0 released 1\nopen\nlog 1: 1.1=a\nlog 2: 1.1=a\naccepted 1.1\nlog 3:\n",
 );
 
-/// Nodes tell each other what they have certified, and a tick sends to those alone of which that was not heard.
+/// Nodes report to each other what they have certified. A tick sends only to nodes that were not
+/// heard to have certified the name.
 pub const TOLD: (&[u8], &[u8]) = (
     b"group 3 10\nsubmit 1 7 1 a\nstored 1\nraw 2 5542020102010100000001000700000001000161\nraw 2 5542020102040100000001000700000001000161\nraw 2 554202010201010000000100070000000100\narrive2 1 2 1 1 0\nstored 2\narrive 1 2 1 1\narrive2 1 2 1 1 0\narrive2 2 1 1 1 1\nstored 1\ntick 1\narrive2 1 2 1 1 1\narrive2 2 1 1 1 3\ntick 2\narrive2 2 3 1 1 1\nstored 3\ntick 3\ncrash 1\nrestart 1\ntick 1\nlog 1\nlog 2\nlog 3\n",
     b"group 3 10\ndraft 1.1 at 1\naccepted 1.1 sent 2 released 0\nrefused forged\nrefused packet range\nrefused packet short\ndraft 1.1 at 1\ntaken 1.1 sent 2 released 1\nagain 1.1\nanswered 1.1 to 1 flags 1\ndraft 1.1 at 2\ntaken 1.1 sent 0 released 1\nsent 3:1.1\nanswered 1.1 to 1 flags 3\nagain 1.1\nsent 3:1.1\ndraft 1.1 at 1\ntaken 1.1 sent 2 released 1\nsent 1:1.1\ndown 1\nup 1\nsent 2:1.1 3:1.1\nlog 1: 1.1=a\nlog 2: 1.1=a\nlog 3: 1.1=a\n",
@@ -43,7 +46,8 @@ pub const TOLD: (&[u8], &[u8]) = (
 
 /// Scripts, their answers, and how they end.
 const WORKED: [((&[u8], &[u8]), Ended); 27] = [
-    // What a node that is down, or stores, or isn't there refuses: bytes come before nodes, and nodes before states.
+    // What is refused by a node that is down, stores a record, or doesn't exist. Faults of bytes
+    // come before faults of nodes, and these before states.
     (
         (
             b"group 3 10\ncrash 2\nraw 2 55\narrive 4 2 1 1\narrive 1 2 1 1\nsubmit 3 7 1 a\narrive 1 3 1 1\ntick 3\ntick 2\ntick 4\ncrash 4\nrestart 4\n",
@@ -67,7 +71,7 @@ const WORKED: [((&[u8], &[u8]), Ended); 27] = [
         ),
         Ended::Whole,
     ),
-    // A node stops and comes back, and is told by another one that a majority has its message.
+    // A node stops and comes back, and another node reports that a majority has its message.
     (
         (
             b"group 3 10\nsubmit 1 7 1 hi\nstored 1\narrive 1 2 1 1\nstored 2\ncrash 1\nrestart 1\ntick 1\narrive 2 1 1 1\nstored 1\nlog 1\nheld 1.1\n",
@@ -92,7 +96,8 @@ const WORKED: [((&[u8], &[u8]), Ended); 27] = [
         ),
         Ended::Whole,
     ),
-    // A message that is too long for a packet without flags comes in one with flags 0, which is answered.
+    // A message that is too long for a packet without flags comes in one with flags 0, which is
+    // answered.
     (
         (
             b"group 3 10\nsubmit 1 7 1 @\nstored 1\narrive 1 2 1 1\nstored 2\narrive 1 2 1 1\nlog 2\n",
@@ -100,7 +105,8 @@ const WORKED: [((&[u8], &[u8]), Ended); 27] = [
         ),
         Ended::Whole,
     ),
-    // A packet of a message that its source hasn't stored is forged; at the source itself it is for another node.
+    // A packet of a message that its source hasn't stored is forged. At the source itself, it is
+    // for another node.
     (
         (
             b"group 3 10\nsubmit 1 7 1 a\narrive 1 2 1 1\nraw 2 55420101020100000001000700000001000161\nraw 1 55420101020100000001000700000001000161\n",
@@ -150,7 +156,8 @@ const WORKED: [((&[u8], &[u8]), Ended); 27] = [
         ),
         Ended::Whole,
     ),
-    // A node that stores or is down does nothing else, and nothing is asked of a store without a draft.
+    // A node that stores a record or is down does nothing else. A store is asked nothing if there
+    // is no draft.
     (
         (
             b"group 3 10\nsubmit 1 7 1 a\nsubmit 1 8 1 b\nrestart 1\ncrash 1\nsubmit 1 8 1 b\nstored 4\nstored 2\nstored 1\nfail 4 new\nfail 2 new\nfail 1 new\nrestart 1\nheld 1.1\n",
@@ -177,7 +184,7 @@ const WORKED: [((&[u8], &[u8]), Ended); 27] = [
     (RESENT, Ended::Whole),
     (REOPENED, Ended::Whole),
     (TOLD, Ended::Whole),
-    // It loses a draft, whose name is given anew, and keeps what a failed store has kept.
+    // A stop loses a draft, whose name is given again, and keeps what a failed store has kept.
     (
         (
             b"group 3 10\nsubmit 1 7 1 a\nreopen\nheld 1.1\nsubmit 1 7 1 b\nfail 1 new\nreopen\nheld 1.1\nsubmit 1 7 1 b\n",
@@ -201,7 +208,7 @@ const WORKED: [((&[u8], &[u8]), Ended); 27] = [
         ),
         Ended::Whole,
     ),
-    // What is refused, and a packet of a node to itself.
+    // Refused commands, and a packet of a node to itself.
     (
         (
             b"group 3 10\nstored 1\nsubmit 4 7 1 a\narrive 4 1 1 1\ncrash 2\ncrash 2\nstored 2\nlog 2\narrive 1 1 1 1\n",

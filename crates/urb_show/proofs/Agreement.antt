@@ -1,4 +1,4 @@
--- Beginnings of lists that agree do; and what one more entry makes of lists.
+-- Beginnings of lists that agree also agree. And what one more entry does to lists.
 use Rattle.std.proofs.Common.{List, [], ap, arith, inl, inr, length, map, refl, slice_index_or, subst, suc, sym, zero, ℕ, ⊎_elim, ◌++◌, ◌<◌, ◌==◌, ◌∙◌, ◌∷◌, ◌≡◌, ◌⊎◌}
 use Rattle.std.proofs.lemmas.List.Elements.{filter-append}
 use Rattle.urb_group.specs.Delivering.{Delivery, sent_by}
@@ -33,7 +33,7 @@ numbers_prefix f first (x ∷ xs) (y ∷ ys) pre is =
     let rest = numbers_prefix f (suc first) xs ys (pre.0, cc (pre.1)) (cc (is)) in
     cc
 
--- of two beginnings of one list one begins the other
+-- of two beginnings of one list, one begins the other
 pub either_prefix : {A : Type 0} (xs ys zs : List A) → IsPrefix xs zs → IsPrefix ys zs → IsPrefix xs ys ⊎ IsPrefix ys xs
 either_prefix [] ys zs p q = let none : IsPrefix [] ys = (ys, refl) in inl none
 either_prefix (x ∷ xs) [] zs p q = let none : IsPrefix [] (x ∷ xs) = (x ∷ xs, refl) in inr none
@@ -62,7 +62,7 @@ agree_begins xs ys b agree = record {
     at : (p : ℕ) → IsPrefix (map delivery_of (list_at xs p)) (map delivery_of (list_at ys p))
     at p = map_prefix delivery_of _ _ (begins_at xs ys p b)
 
--- a list that begins one of those that agree, and any of them
+-- a list that begins one of some lists that agree, compared with any of these
 pub begins_across : (xs ys : Lists) → Begins xs ys → Agree ys → AgreeAcross xs ys
 begins_across xs ys b agree p q s =
     let at = sent_prefix s _ _ (map_prefix delivery_of _ _ (begins_at xs ys p b)) in
@@ -90,7 +90,7 @@ goes_on_told first last Rests = begins_self first.told
 goes_on_told first last (HasRead before after runs takes) = subst (λ (w : Lists). Begins first.told w) (sym takes.kept) (goes_on_told first before runs)
 goes_on_told first last (HasLearnt token before after runs learns) = begins_trans first.told before.told last.told (goes_on_told first before runs) learns.earlier
 
--- who learnt a token takes lists that begin with what it tells
+-- a reader that learnt a token takes lists that begin with the token's lists
 pub learnt_agrees : (token : Lists) (start first before last : Known) → Learns token start first → GoesOn first before → Takes before last → AreOfOneHistory token last.seen
 learnt_agrees token start first before last learns runs then =
     let told = begins_trans token first.told before.told learns.told (goes_on_told first before runs) in

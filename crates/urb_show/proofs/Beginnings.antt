@@ -28,19 +28,20 @@ pub begins_all : (lists : Lists) (log : List Addition) → Begins lists (lists_o
 begins_all lists [] = begins_self lists
 begins_all lists (a ∷ log) = begins_trans lists (add_at lists a.place a.entry) _ (begins_add lists a.place a.entry) (begins_all (add_at lists a.place a.entry) log)
 
--- a history that begins another gives lists that begin the other's
+-- if a history begins another one, its lists begin the other's lists
 pub begins_later : (base : Lists) (log later : List Addition) → IsPrefix log later → Begins (lists_of base log) (lists_of base later)
 begins_later base log later pre =
     let e : lists_of base later ≡ lists_of (lists_of base log) pre.0 = ap (lists_of base) (sym pre.1) ∙ fold-append (λ lists (x : Addition). add_at lists x.place x.entry) base log pre.0 in
     subst (λ (w : Lists). Begins (lists_of base log) w) (sym e) (begins_all (lists_of base log) pre.0)
 
--- of two histories, one of which is a longest that both begin, one gives lists that begin the other's
+-- If one of two histories is a longest one that both begin, the lists of one begin the lists of the
+-- other.
 pub longer_begins : (base : Lists) (one other longest : List Addition) → (longest ≡ one) ⊎ (longest ≡ other) → IsPrefix one longest → IsPrefix other longest
     → OneBeginsAll (lists_of base one) (lists_of base other)
 longer_begins base one other longest (inl same) p q = inr (begins_later base other one (subst (λ (w : List Addition). IsPrefix other w) same q))
 longer_begins base one other longest (inr same) p q = inl (begins_later base one other (subst (λ (w : List Addition). IsPrefix one w) same p))
 
--- what a reader takes begins with what it knew, where the history does
+-- what a reader takes begins with what it knew, if the histories do
 pub takes : (base : Lists) (seen told now : List Addition) (before : Known) → record { seen = lists_of base seen; told = lists_of base told } ≡ before
     → IsPrefix seen now → IsPrefix told now → Agree (lists_of base now) → Takes before (record { seen = lists_of base now; told = lists_of base told })
 takes base seen told now before is p q agree = record {

@@ -1,4 +1,4 @@
--- The lists of a group: what stands at a place, that they agree, and what an event makes of them.
+-- The lists of a group: the list at a place, that the lists agree, and what an event does to them.
 use Rattle.std.proofs.Common.{Err, List, Ok, Result, [], ap, arith, inl, inr, length, map, refl, slice_index_or, subst, suc, sym, zero, ℕ, ◌-◌, ◌<◌, ◌∙◌, ◌∷◌, ◌≡◌, ◌⊎◌}
 use Rattle.urb_group.proofs.CalmSteps.{step-size}
 use Rattle.urb_group.proofs.Deliveries.{deliveries-grow, sound-after}
@@ -22,7 +22,7 @@ use Rattle.urb_show.specs.Prepared.{IsHouse}
 use Rattle.urb_show.specs.declared.entry.Entry.{Entry}
 use mathlib.Core.List.{IsPrefix}
 
--- ---- at a place
+-- ---- the list at a place
 
 abbrev entries_in : NodeView → List Entry
 entries_in view = map entry_of (deliveries view)
@@ -35,7 +35,7 @@ in_place (v ∷ views) (suc place) = in_place views place
 pub list_in : (group : GroupView) (place : ℕ) → list_at (lists_in group) place ≡ map entry_of (delivered_at group (suc place))
 list_in group place = in_place group.nodes place
 
--- of the node of a number
+-- the list of the node with a number
 pub list_of : (group : GroupView) (node : ℕ) → 0 < node → list_at (lists_in group) (node - 1) ≡ map entry_of (delivered_at group node)
 list_of group node low = let number : suc (node - 1) ≡ node = omega (arith, low) in list_in group (node - 1) ∙ ap (λ p. map entry_of (delivered_at group p)) number
 
@@ -86,7 +86,7 @@ module _ (old new : GroupView) (event : Event) (sound : IsSound old) (follows : 
         lengths = house.lengths;
       }
 
--- the event happened in every world that the group showed, or the group is as it was
+-- the event happened in every world that the group showed, or the group is unchanged
 abbrev pub MayFollow : GroupView → Event → GroupView → Type 0
 MayFollow old event new = Follows old event new ⊎ (new ≡ old)
 

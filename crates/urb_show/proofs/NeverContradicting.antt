@@ -1,4 +1,4 @@
--- Pages of lists of one history never tell two entries under one name.
+-- Pages of lists of one history never show two different entries under one name.
 use Rattle.std.proofs.Common.{Bool, Contains, List, [], ap, arith, drop, false, length, map, refl, slice_index_or, subst, suc, sym, take, true, zero, ℕ, ⊎_elim, ◌+◌, ◌-◌, ◌<◌, ◌==◌, ◌∙◌, ◌∷◌, ◌≡◌}
 use Rattle.std.proofs.lemmas.List.{take-append-drop}
 use Rattle.std.proofs.lemmas.Bool.Decides.{nat_tests}
@@ -28,7 +28,7 @@ module _ {A : Type 0} where
   in_map f (y ∷ xs) x zero low is = (zero, omega arith, ap f is)
   in_map f (y ∷ xs) x (suc k) low is = let r = in_map f xs x k (omega (arith, low)) is in let lt = r.1 in (suc r.0, omega (arith, lt), r.2)
 
-  -- two places whose elements are the same number from the first on are one
+  -- if two places have the same number, counted from the first one on, they are one place
   numbered_at : (f : A → ℕ) (first : ℕ) (xs : List A) (k : ℕ) (d : A) → map f xs ≡ numbers_from first (length xs) → k < length xs → f (slice_index_or xs k d) ≡ first + k
   numbered_at f first [] k d is low = absurd (omega (arith, low))
   numbered_at f first (x ∷ xs) zero d is low = let head : f x ≡ first = cc (is) in omega (arith, head)
@@ -58,7 +58,7 @@ in_sent s (y ∷ ds) d (suc k) his low is = by (y.0.sender == s) refl (in_sent s
     by true test rest = let lt = rest.1 in rw test (suc rest.0, omega (arith, lt), rest.2)
     by false test rest = rw test rest
 
--- an entry of a page is one of its sender's in the list
+-- an entry of a page is in its sender's part of the list
 in_list : {A : Type 0} (list : List Entry) (first max : ℕ) (page : Page A) (e : Entry) → IsPageOf list first max page → Contains page.entries.items e
     → (e.name.sender == e.name.sender) ≡ true → Contains (sent_by e.name.sender (map delivery_of list)) (delivery_of e)
 in_list list first max page e is h his =

@@ -15,7 +15,7 @@ use Rattle.urb_show.proofs.Agreement.{at_added, at_other, begins_next, length_ad
 pub lists_add : (base : Lists) (all : List Addition) (a : Addition) → lists_of base (all ++ a ∷ []) ≡ add_at (lists_of base all) a.place a.entry
 lists_add base all a = fold-append (λ lists (x : Addition). add_at lists x.place x.entry) base all (a ∷ [])
 
--- what is counted of the list at a place is its length
+-- the count for the list at a place is the list's length
 pub counted : (lists : Lists) (counts : List ℕ) (p k : ℕ) → counts ≡ map length lists → p < length lists → k ≡ slice_index_or counts p k → k ≡ length (list_at lists p)
 counted lists counts p k is low at = at ∙ (ap (λ (w : List ℕ). slice_index_or w p k) is ∙ get_or-map length lists p [] k low)
 
@@ -65,7 +65,7 @@ next_at group base all a counts k house in_group is lacks entry =
       others = λ q apart. ap (λ (ls : Lists). list_at ls q) added ∙ at_other lists a.place q a.entry apart;
     }
 
--- the same, where the place is given by another number
+-- the same, if another number gives the place
 pub is_next : (group : GroupView) (base : Lists) (all : List Addition) (a : Addition) (counts : List ℕ) (k place : ℕ) → a.place ≡ place → IsHouse group (lists_of base all) counts → place < length group.nodes
     → k ≡ slice_index_or counts a.place k → length (list_at (lists_of base all) place) < length (list_at (lists_in group) place) → a.entry ≡ slice_index_or (list_at (lists_in group) place) k a.entry
     → IsNext group base all a k (slice_set counts a.place (k + 1))

@@ -24,7 +24,7 @@ no_views : (n seat v : ℕ) → get_elem? [] seat ≡ some v → v ≤ n
 no_views n zero v at = absurd (cc (at))
 no_views n (suc seat) v at = absurd (cc (at))
 
--- what is published first
+-- what the house publishes first
 pub first_issue : (book : Book) (base : Lists) (x : Issue) → x ≡ issue_of book base [] → Agree base → Keeps book base x (0 ∷ [])
 first_issue book base x is agree =
     let good : IsIssue book base x = rw is (record { named = refl; lists = refl; agree = agree }) in
@@ -44,7 +44,7 @@ rises book base seat v x y up good views h at = let top = length y.mark.log in (
 pub same_issue : (x y : Issue) → state_of x ≡ state_of y → x ≡ y
 same_issue x y is = ap (λ (s : State). record { lists = s.lists; mark = s.mark }) is
 
--- the writer's step: what it has is published, which is no shorter
+-- the writer's step: what it has is published, and that is no shorter
 pub turns : (book : Book) (base : Lists) (shown all : List Addition) (x next : Issue) (pending : List Operation) (seat v : ℕ) → x ≡ issue_of book base shown
     → fold applied_to (state_of (issue_of book base shown)) pending ≡ state_of (issue_of book base all) → IsPrefix shown all → Agree (lists_of base all)
     → state_of next ≡ fold applied_to (state_of x) pending → TurnsAt (Keeps book base) seat v x next (Rises book base)

@@ -1,4 +1,4 @@
--- What a group tells of a node's log and messages is the node's list.
+-- What a group reports of a node's log and messages is the node's list.
 use Rattle.std.proofs.Common.{Bool, List, None, Option, Some, [], ap, ap₂, arith, cond, false, length, lt-ltb, map, nat_lt, slice_index_or, subst, suc, sym, true, zero, ℕ, ◌-◌, ◌<◌, ◌^◌, ◌∙◌, ◌∷◌, ◌≡◌, ◌≤◌}
 use Rattle.std.proofs.lemmas.Bool.{and_from}
 use Rattle.std.proofs.lemmas.List.{length-map}
@@ -16,7 +16,7 @@ use Rattle.urb_show.specs.declared.entry.Entry.{Entry}
 use Rattle.urb_stable.specs.Log.{log}
 use Rattle.urb_stable.specs.Records.{pend}
 
--- the entry of a place, by the name that stands there and its message
+-- the entry at a place, from the name there and its message
 entry_found : (f : Label → Option Content) (ds : List Delivery) (xs : List Label) (i : ℕ) (x : Label) (m : Content) (d : Entry) → map known ds ≡ map (λ y. (y, f y)) xs → i < length xs → x ≡ slice_index_or xs i x → f x ≡ Some m
     → record { name = x; message = m } ≡ slice_index_or (map entry_of ds) i d
 entry_found f [] [] i x m d same low at found = absurd (omega (arith, low))

@@ -1,13 +1,13 @@
--- What an operation makes of what is published.
+-- What an operation does to what is published.
 use Rattle.urb_show.specs.History.{Issue}
 use Rattle.urb_show.specs.Lists.{add_at}
 use Rattle.urb_show.specs.declared.published.Operation.{Operation}
 use Rattle.urb_show.specs.declared.published.State.{State}
 
--- what two published copies have in common
+-- what the two published copies have in common
 abbrev pub state_of : Issue → State
 state_of p = record { lists = p.lists; mark = p.mark }
 
--- the entry stands behind its node's list, and the history is the operation's
+-- the entry is appended to its node's list, and the history is the operation's
 abbrev pub applied_to : State → Operation → State
 applied_to s op = record { lists = add_at s.lists op.addition.place op.addition.entry; mark = op.mark }

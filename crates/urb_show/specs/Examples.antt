@@ -1,4 +1,4 @@
--- Words of the worked examples: entries, and a group of one node.
+-- Words for the worked examples: entries, and a group of one node.
 use Prim.Native.String.{String}
 use Rattle.std.specs.Prelude.{List, None, [], length, ℕ, ◌∷◌}
 use Rattle.urb_group.specs.Scripts.{message}
@@ -12,11 +12,11 @@ use Rattle.urb_show.specs.declared.entry.Entry.{Entry}
 abbrev pub entry : ℕ → ℕ → Content → Entry
 entry sender number m = record { name = name sender number; message = m }
 
--- the same, of client 7, with this payload
+-- the same of client 7, with this payload
 abbrev pub told : ℕ → ℕ → String → Entry
 told sender number letters = entry sender number (message 7 number letters)
 
--- a group of one node, which has these pairs and this log
+-- a group of one node with these pairs and this log
 abbrev pub group_of : List (Label × Content) → List Label → GroupView
 group_of pairs log = record {
   size = record { n = 1; cap = 10 };

@@ -1,10 +1,11 @@
--- What a house is, and what its calls make of it.
+-- What a house is, and what its calls do to it.
 use Rattle.std.specs.Prelude.{if◌then◌else◌, ℕ, ◌+◌, ◌-◌, ◌==◌, ◌^◌, ◌≡◌, ◌≢◌}
 use Rattle.logbook.specs.Pages.{Book}
 use Rattle.urb_group.specs.Shown.{GroupView}
 use Rattle.urb_show.specs.Lists.{Lists, list_at, lists_in}
 
--- the group, the lists that are published, those that were prepared for the next settling, and how many events there were
+-- The group, the lists that are published, the lists that were prepared for the next settling, and
+-- the number of events.
 pub record Housed : Type 0 where
   pub group : GroupView
   pub published : Lists
@@ -16,25 +17,25 @@ pub record Named : Type 0 where
   pub group : GroupView
   pub book : Book
 
--- the count of events stays at its greatest value
+-- the count after one more event; it stays at its greatest value
 abbrev pub next_count : ℕ → ℕ
 next_count n = if n == 2 ^ 64 - 1 then n else n + 1
 
--- one event of the group: what is published and prepared stays, and one event more is counted
+-- One event of the group. What is published and prepared stays, and one more event is counted.
 pub record IsEvent (before after : Housed) : Type 0 where
   pub published : after.published ≡ before.published
   pub prepared : after.prepared ≡ before.prepared
   pub events : after.events ≡ next_count before.events
 
--- entries of the node at this place may have been prepared, and nothing else changed
+-- Entries of the node at this place may have been prepared, and nothing else changed.
 pub record Grew (place : ℕ) (before after : Housed) : Type 0 where
   pub group : after.group ≡ before.group
   pub events : after.events ≡ before.events
   pub published : after.published ≡ before.published
   pub others : (q : ℕ) → place ≢ q → list_at after.prepared q ≡ list_at before.prepared q
 
--- The node's published list is its entries, and each other list has what had been prepared. The token stands for all
--- lists that are published.
+-- The node's published list is its entries, and each other list is the one that had been prepared.
+-- The token stands for all lists that are published.
 pub record Settled (place : ℕ) (before after : Housed) (token : Lists) : Type 0 where
   pub group : after.group ≡ before.group
   pub events : after.events ≡ before.events

@@ -1,4 +1,5 @@
--- Lists of entries, one for each node: when they begin others, when they agree, and those of a group.
+-- Lists of entries, one for each node: when they begin others, when they agree, and those of a
+-- group.
 use Rattle.std.specs.Prelude.{List, [], map, slice_index_or, suc, zero, ℕ, ◌++◌, ◌∷◌, ◌⊎◌}
 use Rattle.urb_names.specs.Beginnings.{Begins as IsBeginning, OneBegins}
 use Rattle.urb_group.specs.Delivering.{Agree as AgreeAll, Delivery, deliveries, sent_by}
@@ -9,22 +10,23 @@ use Rattle.urb_show.specs.declared.entry.Entry.{Entry}
 abbrev pub Lists : Type 0
 Lists = List (List Entry)
 
--- the list at a place, which is a node's number less one
+-- the list at a place; a node's place is its number less one
 abbrev pub list_at : Lists → ℕ → List Entry
 list_at lists place = slice_index_or lists place []
 
--- node by node, the first list is a beginning of the second; no lists begin all
+-- Node by node, the first list is a beginning of the second. The empty value, with no lists, begins
+-- all others.
 abbrev pub Begins : Lists → Lists → Type 0
 Begins [] ys = Unit {0}
 Begins (x ∷ xs) [] = ⊥
 Begins (x ∷ xs) (y ∷ ys) = IsBeginning x y × Begins xs ys
 
--- an entry, as what a group has delivered
+-- an entry, in the form in which a group has delivered it
 abbrev pub delivery_of : Entry → Delivery
 delivery_of e = (e.name, e.message)
 
--- In each list the numbers of each sender are 1, 2, 3, .. in order; of two lists' parts of one sender one begins the other;
--- and each list has fewer than 2^32 entries.
+-- In each list, the numbers of each sender are 1, 2, 3, .. in order. Of one sender's parts in two
+-- lists, one begins the other. Each list has fewer than 2^32 entries.
 abbrev pub Agree : Lists → Type 0
 Agree lists = AgreeAll (λ place. map delivery_of (list_at lists place))
 
@@ -32,7 +34,8 @@ Agree lists = AgreeAll (λ place. map delivery_of (list_at lists place))
 abbrev pub OneBeginsAll : Lists → Lists → Type 0
 OneBeginsAll xs ys = Begins xs ys ⊎ Begins ys xs
 
--- of a list of these and a list of those, of whatever nodes, one sender's part of one begins the other's
+-- Take a list of these and a list of those, of any nodes. Of one sender's parts in the two, one
+-- begins the other.
 abbrev pub AgreeAcross : Lists → Lists → Type 0
 AgreeAcross xs ys = (p q s : ℕ) → OneBegins (sent_by s (map delivery_of (list_at xs p))) (sent_by s (map delivery_of (list_at ys q)))
 
@@ -40,11 +43,12 @@ AgreeAcross xs ys = (p q s : ℕ) → OneBegins (sent_by s (map delivery_of (lis
 abbrev pub entry_of : Delivery → Entry
 entry_of delivery = record { name = delivery.0; message = delivery.1 }
 
--- what each node of a group has delivered, by what it holds in memory: the names of its log, each with its message
+-- What each node of a group has delivered, by what it holds in memory: the names of its log, each
+-- with its message.
 abbrev pub lists_in : GroupView → Lists
 lists_in group = map (λ view. map entry_of (deliveries view)) group.nodes
 
--- with one more entry behind the list at that place
+-- the lists with one more entry at the end of the list at that place
 abbrev pub add_at : Lists → ℕ → Entry → Lists
 add_at [] place e = []
 add_at (x ∷ xs) zero e = (x ++ e ∷ []) ∷ xs

@@ -1,11 +1,11 @@
--- How the parts of a house hang together; for proofs.
+-- How the parts of a house belong together. This is for proofs.
 use Rattle.std.specs.Prelude.{List, length, map, ℕ, ◌+◌, ◌<◌, ◌≡◌}
 use Rattle.urb_group.specs.Shown.{GroupView, IsSound}
 use Rattle.urb_show.specs.Housed.{Grew, Housed}
 use Rattle.urb_show.specs.Lists.{Begins, Lists, list_at, lists_in}
 
--- The group is sound, with a place for each node; what was prepared begins what its nodes have delivered, with a list for
--- each; and its lengths are kept.
+-- The group is sound, with a place for each node. What was prepared begins what its nodes have
+-- delivered, with a list for each node. The house keeps the lengths of these lists.
 pub record IsHouse (group : GroupView) (prepared : Lists) (counts : List ℕ) : Type 0 where
   pub sound : IsSound group
   pub counted : length group.nodes ≡ group.size.n
@@ -13,7 +13,7 @@ pub record IsHouse (group : GroupView) (prepared : Lists) (counts : List ℕ) : 
   pub lists : length prepared ≡ length group.nodes
   pub lengths : counts ≡ map length prepared
 
--- an entry of the node at this place is not prepared yet
+-- not all entries of the node at this place are prepared yet
 abbrev pub Lacks : ℕ → Housed → Type 0
 Lacks place house = length (list_at house.prepared place) < length (list_at (lists_in house.group) place)
 

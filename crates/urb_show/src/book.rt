@@ -1,4 +1,6 @@
-//! The history of all additions to the published lists. It exists in proofs alone: what the program keeps is its length.
+//! The history of all additions to the published lists.
+//!
+//! It exists in proofs alone: the program keeps only its length.
 ghost use Rattle.std.specs.Prelude.{◌≡◌, ◌⊎◌, ◌+◌, ◌<◌, ◌≤◌, ◌^◌, ◌++◌, ◌∷◌, [], length, MatchBool};
 ghost use mathlib.Core.List.{IsPrefix};
 ghost use Rattle.urb_show.specs.History.{IsFull, head_of};
@@ -7,7 +9,7 @@ use crate::entry::Addition;
 use logbook::{Gain, Offer, Plain, Play, Rule, Seen, Start, Word};
 use std::marker::{Brand, Model, PhantomData};
 
-// How many additions a history may have.
+// The most additions that a history may have.
 const MOST: u64 = 1 << 62;
 
 /// The rule of the book: its word is the length of the history.
@@ -31,7 +33,7 @@ impl Rule<Addition, u64> for Law {
     ghost moves = { λ ask before after answer. Unit {0} };
 }
 
-/// Callers trade nothing.
+/// Callers exchange nothing.
 pub(crate) struct Nothing;
 
 impl Gain<Addition, u64> for Nothing {
@@ -57,9 +59,10 @@ impl Plain<Addition, Addition, u64> for Add {
     ghost state = { λ addition. None };
 }
 
-/// The name of one house, as a type: all that bears it is of one house. A function that is generic over it calls `parts`,
-/// and is itself called with std's `Brand`; the caller's proof says which house that is. Its ghost members are the book of
-/// the house's additions, and the lists that it opened with.
+/// The name of one house, as a type: every value with this name in its type belongs to that house.
+/// A function that is generic over it calls `parts`. Such a function is itself called with std's
+/// `Brand`, and the caller's proof says which house that is. The ghost members are the book of the
+/// house's additions, and the lists that the house opened with.
 pub trait HouseName {
     ghost use Rattle.logbook.specs.Pages.{Book};
     ghost use Rattle.urb_show.specs.Lists.{Lists};
@@ -77,7 +80,7 @@ impl HouseName for Brand {
     ghost base = { [] };
 }
 
-/// A new book, which has no name yet.
+/// A new book without a name.
 #[derive(Drop)]
 pub(crate) struct Unnamed {
     head: Word<Addition, u64, Law>,
@@ -124,7 +127,7 @@ impl Unnamed {
     }
 }
 
-/// The word with the length of the history. The house alone has it.
+/// The word with the length of the history. Only the house has it.
 #[derive(Drop)]
 pub(crate) struct Book<K: HouseName> {
     head: Word<Addition, u64, Law>,
@@ -160,7 +163,7 @@ impl Mark {
         }
     }
 
-    /// The same under the book's name.
+    /// The same beginning, under the book's name.
     pub(crate) fn front<K: HouseName>(&self) -> Front<K>
         requires { self.now.book ≡ K.book }
         ensures { result ≡ self.now.log }
@@ -230,7 +233,7 @@ impl<K: HouseName> Front<K> {
         self.again()
     }
 
-    /// The longer of two, which the other begins.
+    /// The longer one of two histories. The other one begins it.
     pub(crate) fn longer(&self, other: &Front<K>) -> Front<K>
         ensures one { (result ≡ self.now) ⊎ (result ≡ other.now) }
         ensures this { IsPrefix self.now result }
@@ -243,8 +246,8 @@ impl<K: HouseName> Front<K> {
         }
     }
 
-    /// Adds to the history. False if it is full; or if it is longer than this, and then this becomes the
-    /// longer one.
+    /// Adds to the history. Returns false if the history is full, or if the history is longer than
+    /// this beginning of it. In the second case, this becomes the longer one.
     pub(crate) fn add(&mut self, book: &Book<K>, addition: &Addition) -> bool
         ensures added { MatchBool result
             (self.new ≡ self.old ++ addition.now ∷ []) (IsFull self.old ⊎ (length self.old < length self.new)) }

@@ -1,4 +1,4 @@
-//! A node's entries, one by one, as its group tells them.
+//! A node's entries, one by one, as its group reports them.
 ghost use Rattle.std.specs.Prelude.{◌≡◌, ◌<◌, ◌≤◌, ◌-◌, IfOk, length, slice_index_or};
 ghost use Rattle.urb_show.specs.Lists.{list_at, lists_in};
 
@@ -6,7 +6,7 @@ use crate::entry::Entry;
 use std::alloc::Global;
 use urb_group::{Group, NoMemory, NodeId};
 
-/// How many entries a node has.
+/// The number of a node's entries.
 pub(crate) fn entry_count(group: &Group, node: NodeId) -> usize
     requires { node ≤ group.now.size.n }
     ensures { result ≡ length (list_at (lists_in group.now) (node - 1)) }
@@ -19,7 +19,7 @@ pub(crate) fn entry_count(group: &Group, node: NodeId) -> usize
     }
 }
 
-/// A copy of one of a node's entries, which count from 0. Its memory comes from `alloc`.
+/// A copy of one of a node's entries; `index` counts from 0. Its memory comes from `alloc`.
 pub(crate) fn entry_at(
     alloc: Global,
     group: &Group,

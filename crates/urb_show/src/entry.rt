@@ -7,14 +7,14 @@ use urb_group::{Message, Name, NoMemory};
 /// A name that a node has delivered, and its message.
 #[derive(Debug, Drop)]
 pub struct Entry {
-    /// Which message it is: its sender, and its number among the sender's.
+    /// Which message it is: its sender, and its number among the sender's messages.
     pub name: Name,
     /// What the sender broadcast under this name.
     pub message: Message,
 }
 
 impl Entry {
-    /// Another entry with the same content, which shares the payload's memory.
+    /// Another entry with the same content. It shares the payload's memory.
     pub(crate) fn share(&self, alloc: Global) -> Result<Entry, NoMemory>
         ensures { IfOk result (λ e. e ≡ self.now) }
     {
@@ -32,11 +32,11 @@ impl Entry {
 pub struct Page<A: Allocator = Global> {
     /// The entries, in the order of their delivery.
     pub entries: Vec<Entry, A>,
-    /// How many entries the whole list had when it was read.
+    /// The number of entries that the whole list had when it was read.
     pub total: u32,
 }
 
-/// One more entry of a node, by the node's place.
+/// One more entry of a node, with the node's place in the lists.
 #[derive(Drop)]
 pub(crate) struct Addition {
     pub(crate) place: usize,

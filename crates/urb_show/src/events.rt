@@ -1,4 +1,4 @@
-//! The events of a house: the group's calls, each of which is counted where it is not refused.
+//! The events of a house: the group's calls. Each call that is not refused is counted.
 ghost use Rattle.std.specs.Prelude.{◌≡◌, if◌then◌else◌, is_ok, length, MatchResult};
 ghost use Rattle.urb_names.specs.Packets.{packet_of};
 ghost use Rattle.urb_group.specs.Calls.{ComesUp, Commits, GoesDown, Takes, Ticks};
@@ -11,7 +11,7 @@ use crate::house::House;
 use std::alloc::{Allocator, Global};
 use urb_group::{ClientId, Done, Doubt, Group, NodeId, Outbox, Receipt, Record, Refusal, Taken};
 
-// How many events there are after a call of the group: one more where it was not refused.
+// The number of events after a call of the group: one more, unless the call was refused.
 fn counted<T, E>(group: &Group, events: u64, done: &Result<T, E>) -> u64
     ensures count { result ≡ (if is_ok done.now then next_count events else events) }
     ensures nodes { length group.now.nodes ≡ group.now.size.n }
@@ -24,8 +24,8 @@ fn counted<T, E>(group: &Group, events: u64, done: &Result<T, E>) -> u64
 }
 
 impl<K: HouseName, A: Allocator> House<K, A> {
-    /// A client gives a node a message to broadcast, with the next of its numbers at this node: `Group::submit`, with its
-    /// refusals.
+    /// A client gives a node a message to broadcast, under the client's next number at this node:
+    /// `Group::submit`, with its refusals.
     pub fn submit(
         &mut self,
         alloc: Global,
@@ -45,7 +45,7 @@ impl<K: HouseName, A: Allocator> House<K, A> {
         taken
     }
 
-    /// A packet comes to a node, as bytes: `Group::arrive`, with its refusals.
+    /// A packet arrives at a node, as bytes: `Group::arrive`, with its refusals.
     pub fn arrive(&mut self, alloc: Global, node: NodeId, bytes: &[u8]) -> Result<Taken, Refusal>
         ensures step { Takes self.old.group node (Arrive node (packet_of bytes.now))
             result self.new.group }
@@ -57,8 +57,8 @@ impl<K: HouseName, A: Allocator> House<K, A> {
         taken
     }
 
-    /// A node's store took the record of its draft: `Group::commit`, with its refusals. Where it tells of released names,
-    /// `settle` publishes them.
+    /// A node's store took the record of its draft: `Group::commit`, with its refusals. If the
+    /// result reports released names, `settle` publishes them.
     pub fn commit(&mut self, receipt: Receipt) -> Result<Done, (Receipt, Refusal)>
         ensures step { Commits self.old.group receipt result self.new.group }
         ensures counted { MatchResult result
@@ -69,7 +69,7 @@ impl<K: HouseName, A: Allocator> House<K, A> {
         done
     }
 
-    /// A node's store did not take the record of its draft for certain: `Group::fail`, with its refusals.
+    /// A node's store may not have taken the record of its draft: `Group::fail`, with its refusals.
     pub fn fail(&mut self, doubt: Doubt) -> Result<(), Refusal>
         ensures step { GoesDown self.old.group doubt.node (Fail doubt.node) result self.new.group }
         ensures counted { MatchResult result
@@ -80,7 +80,7 @@ impl<K: HouseName, A: Allocator> House<K, A> {
         done
     }
 
-    /// A node sends pending messages again: `Group::tick`, with its refusals.
+    /// A node resends pending messages: `Group::tick`, with its refusals.
     pub fn tick(&mut self, alloc: Global, node: NodeId) -> Result<Outbox, Refusal>
         ensures step { Ticks self.old.group (Tick node) result self.new.group }
         ensures counted { MatchResult result
@@ -91,7 +91,8 @@ impl<K: HouseName, A: Allocator> House<K, A> {
         sent
     }
 
-    /// A node stops, and loses what it has not stored: `Group::crash`, with its refusals. What is published stays.
+    /// A node stops and loses what it has not stored: `Group::crash`, with its refusals. What is
+    /// published stays.
     pub fn crash(&mut self, node: NodeId) -> Result<(), Refusal>
         ensures step { GoesDown self.old.group node (Crash node) result self.new.group }
         ensures counted { MatchResult result
@@ -102,8 +103,8 @@ impl<K: HouseName, A: Allocator> House<K, A> {
         done
     }
 
-    /// A node comes up again with what its storage gave back, all of it: `Group::restart`, with its refusals. It may release
-    /// names, which `settle` publishes.
+    /// A node restarts with all records that its storage gave back: `Group::restart`, with its
+    /// refusals. The restart may release names, and `settle` publishes them.
     pub fn restart(
         &mut self,
         alloc: Global,

@@ -1,4 +1,4 @@
-//! The group and the published logs together.
+//! The House: the group together with its published logs.
 ghost use Rattle.std.specs.Prelude.{◌≡◌, ◌<◌, ◌≤◌, ◌-◌, length, MatchBool, MatchResult};
 ghost use Rattle.urb_group.specs.Shown.{IsSound};
 ghost use Rattle.urb_show.specs.Lists.{Agree, Begins, list_at, lists_in};
@@ -15,14 +15,16 @@ use std::marker::Model;
 use std::sync::Wait;
 use urb_group::{Group, NoMemory, NodeId};
 
-/// A group, and what of its nodes' logs is published. Its calls change it one event at a time, so a lock may hold it.
+/// A group, together with what is published of its nodes' logs. Its calls change it one event at a
+/// time, so a lock may hold it.
 ///
-/// It can't be dropped, since its readers may be in the midst of a read: end it by `close`. What its nodes and the
-/// published lists hold is at `Global`; all else comes from an allocator `A`, so that tests can refuse it.
+/// It can't be dropped, since its readers may be in the midst of a read: end it by `close`. What
+/// its nodes and the published lists hold is at `Global`. Everything else comes from an allocator
+/// `A`, so that tests can refuse it.
 pub struct House<K: HouseName, A: Allocator = Global> {
     pub(crate) group: Group,
     pub(crate) press: Press<K, A>,
-    // How long each list is that was prepared.
+    // The length of each prepared list.
     pub(crate) prepared: Vec<usize>,
     pub(crate) events: u64,
 }
@@ -45,14 +47,15 @@ impl<K: HouseName, A: Allocator> Model for House<K, A> {
 }
 
 impl<K: HouseName, A: Allocator> House<K, A> {
-    /// That the group of every house is sound, that each published list begins what its node has delivered, and that this
-    /// agrees: for proofs alone, since it does nothing.
+    /// The group of every house is sound, each published list begins what its node has delivered,
+    /// and what the nodes have delivered agrees. Call this in proofs alone, since it does nothing.
     pub fn promise(&self)
         ensures sound { IsSound self.now.group }
         // there is a list for each node
         ensures counted { (length self.now.group.nodes ≡ length K.base)
             × (self.now.group.size.n ≡ length K.base) }
-        // the opening lists begin what is published, this what was prepared, and this what is delivered
+        // The opening lists begin what is published. That begins what was prepared, and that begins
+        // what is delivered.
         ensures opened { Begins K.base self.now.published }
         ensures published { Begins self.now.published self.now.prepared }
         ensures prepared { Begins self.now.prepared (lists_in self.now.group) }
@@ -64,7 +67,7 @@ impl<K: HouseName, A: Allocator> House<K, A> {
         let _prepared = &self.prepared;
     }
 
-    // Is an entry of the node not prepared yet?
+    // Whether some entry of the node is not prepared yet.
     fn lacks(&self, node: NodeId) -> bool
         requires { node ≤ length self.now.group.nodes }
         ensures lacks { MatchBool result (Lacks (node - 1) self.now) (length
@@ -95,10 +98,11 @@ impl<K: HouseName, A: Allocator> House<K, A> {
         Ok(())
     }
 
-    /// Publishes what a node has delivered: call it where names were released. It costs what is new, and may wait for a
-    /// reader that is in the midst of a read. What an earlier refused call had prepared of other nodes is published too.
+    /// Publishes what a node has delivered. Call it after names were released. It costs what is
+    /// new, and may wait for a reader that is in the midst of a read. It also publishes what an
+    /// earlier refused call had prepared for other nodes.
     ///
-    /// `NoMemory`: the published lists stand as before, and a later call completes it.
+    /// `NoMemory`: the published lists are as before, and a later call completes the work.
     pub fn settle<R: Wait>(&mut self, rt: &R, node: NodeId) -> Result<Told<K>, NoMemory>
         requires { node ≤ length K.base }
         ensures { MatchResult result
@@ -122,8 +126,8 @@ impl<K: HouseName, A: Allocator> House<K, A> {
         self.press.publish(rt)
     }
 
-    /// Ends it, and gives the group back as it stands. It takes no memory, and may wait for a reader that is in the midst of
-    /// a read.
+    /// Ends the house, and returns the group in its present state. It takes no memory, and may wait
+    /// for a reader that is in the midst of a read.
     pub fn close<R: Wait>(self, rt: &R) -> Group
         ensures { result ≡ self.group }
     {

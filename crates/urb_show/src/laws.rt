@@ -1,4 +1,4 @@
-//! What holds of what readers see, each law as the contract of a function that does nothing.
+//! The laws about what readers see. Each law is the contract of a function that does nothing.
 ghost use Rattle.std.specs.Prelude.{ℕ};
 ghost use Rattle.std.specs.declared.alloc.Global.{Global};
 ghost use Rattle.urb_show.specs.Known.{AreOfOneHistory, GoesOn, Known, Learns, Takes};
@@ -6,15 +6,16 @@ ghost use Rattle.urb_show.specs.Lists.{AgreeAcross, Begins, Lists, list_at};
 ghost use Rattle.urb_show.specs.Pages.{IsPageOf, NeverContradict};
 ghost use Rattle.urb_show.specs.declared.entry.Page.{Page};
 
-/// What a reader saw begins all that it sees later, and what two of its reads took is of one history.
+/// What a reader saw begins all that it sees later. What two of its reads took is of one history.
 pub fn one_reader_agrees()
     ensures begins { (first last : Known) → GoesOn first last → Begins first.seen last.seen }
     ensures agree { (first before last : Known) →
         GoesOn first before → Takes before last → AreOfOneHistory first.seen last.seen }
 {}
 
-/// Of two readers of one house that `LogReader::agrees_with` was lent at some moment: what each saw until then
-/// agrees for each sender, whatever the nodes; and no page of one contradicts a page of the other.
+/// Two readers of one house were lent to `LogReader::agrees_with` at some moment. What each saw
+/// until then agrees for each sender, at any two nodes. No page of one contradicts a page of the
+/// other.
 pub fn readers_agree()
     ensures across { (first last other latest : Known) →
         GoesOn first last → GoesOn other latest → AreOfOneHistory last.seen latest.seen →
@@ -26,8 +27,9 @@ pub fn readers_agree()
         NeverContradict a b }
 {}
 
-/// Of readers that never meet: what a token tells, as `LogReader::saw` and `House::settle` give one, and what
-/// a reader takes once it has learnt it, is of one history.
+/// Two readers that never meet can still agree. `LogReader::saw` and `House::settle` give a token.
+/// After a reader has learnt it, what the reader takes and what the token stands for is of one
+/// history.
 pub fn who_learns_agrees()
     ensures { (token : Lists) (start first before last : Known) →
         Learns token start first → GoesOn first before → Takes before last →

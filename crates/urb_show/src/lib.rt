@@ -1,9 +1,10 @@
 //! The logs of a group, published: readers on threads of their own read them, and never wait.
 //!
-//! A `House` is a group and what it has published, in one value that a lock may hold. It has each of the group's calls,
-//! with the group's promises, and `settle`, which publishes what a node has delivered. A `LogReader` reads the published
-//! lists of all nodes without waiting for anybody. So a client that reads never holds up the nodes, and what it reads of
-//! two nodes never contradicts itself: of what two nodes delivered from one sender, one begins the other.
+//! A `House` is a group together with what it has published, in one value that a lock may hold. It
+//! has each of the group's calls, with the group's promises. It adds `settle`, which publishes what
+//! a node has delivered. A `LogReader` reads the published lists of all nodes without waiting for
+//! anybody. So a client that reads never holds up the nodes. What it reads of two nodes never
+//! contradicts itself: of what two nodes delivered from one sender, one list begins the other.
 //!
 //! How the calls go together, in a function that is generic over the house's name `K: HouseName`:
 //!
@@ -12,17 +13,18 @@
 //! let (mut house, readers) = opened.parts::<K, R>(rt, alloc)?;   // READERS for each node
 //! let taken = house.submit(alloc, node, client, number, payload)?;   // the group's calls, one event each
 //! let done = house.commit(receipt)?;                     // a stored draft may release names
-//! let told = house.settle(rt, node)?;                    // they are published
+//! let told = house.settle(rt, node)?;                    // publishes the names
 //! reader.learn(told);                                    // on any thread: it reads no less from now on
 //! let page = reader.read(alloc, node, 1, 8)?;            // its first eight entries
-//! let group = house.close(rt);                           // the group again, as it stands
+//! let group = house.close(rt);                           // the group again, in its present state
 //! ```
 //!
-//! `parts` is called with std's `Brand` in the place of `K`, which the proof of the caller then ties to what was opened;
-//! so a `Told` that came through a channel is of its reader's house by its type.
+//! `parts` is called with std's `Brand` in place of `K`. The caller's proof then ties the name to
+//! what was opened. So a `Told` that came through a channel belongs to its reader's house by its
+//! type.
 //!
-//! It never takes anything out of a published list, and `read` and `learn` wait for nobody. `settle`, `parts` and `close`
-//! may wait for a reader that is in the midst of a read.
+//! The house never takes anything out of a published list. `read` and `learn` wait for nobody.
+//! `settle`, `parts` and `close` may wait for a reader that is in the midst of a read.
 #![tactic(auto)]
 
 mod book;

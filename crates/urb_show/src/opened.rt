@@ -21,11 +21,12 @@ use std::marker::{Brand, Model};
 use std::sync::Wait;
 use urb_group::{Group, NoMemory, NodeId, Refusal};
 
-/// How many readers a house has for each of its nodes, so how many sessions of clients a node can have at a time.
+/// The number of readers that a house has for each of its nodes. So it is also the number of client
+/// sessions that a node can have at a time.
 pub const READERS: usize = 4;
 
-/// A group with an open book, which is not published yet. `parts` gives it a name, and makes a house of it; it can't be
-/// dropped before: end it by `close`.
+/// A group with an open book, which is not published yet. `parts` gives it a name and makes a house
+/// of it. Until then it can't be dropped: end it by `close`.
 pub struct Opened {
     group: Group,
     unnamed: Unnamed,
@@ -52,7 +53,7 @@ impl House<Brand> {
 }
 
 impl Opened {
-    /// Ends it, and gives the group back. It takes no memory.
+    /// Ends it, and returns the group. It takes no memory.
     pub fn close(self) -> Group
         ensures { result ≡ self.group }
     {
@@ -60,8 +61,8 @@ impl Opened {
         group
     }
 
-    /// The house under its name, with all that its nodes have delivered published, and `READERS` readers for each node, those
-    /// of node 1 first. Each reader reads the lists of all nodes.
+    /// The house under its name, and `READERS` readers for each node, those of node 1 first. All
+    /// that the nodes have delivered is published. Each reader reads the lists of all nodes.
     ///
     /// `NoMemory`: what was opened comes back as it was.
     pub fn parts<K: HouseName, R: Wait>(
@@ -79,8 +80,8 @@ impl Opened {
         self.parts_in::<K, R, Global>(rt, alloc, alloc)
     }
 
-    /// `parts`, with the lists at `alloc`, and all else in `memory`: the room for the readers, and the queue of
-    /// what isn't published yet.
+    /// Does what `parts` does, with the lists at `alloc` and everything else in `memory`: the room
+    /// for the readers, and the queue of what isn't published yet.
     ///
     /// `NoMemory`: what was opened comes back as it was, and the same call may be made again.
     pub fn parts_in<K: HouseName, R: Wait, A: Allocator + Copy>(
@@ -119,7 +120,7 @@ impl Opened {
     }
 }
 
-// The writer with two copies of the nodes' entries, and how long each list is.
+// The writer with two copies of the nodes' entries, and the length of each list.
 fn writer_of<K: HouseName, A: Allocator + Copy>(
     alloc: Global,
     memory: A,
@@ -143,7 +144,7 @@ fn writer_of<K: HouseName, A: Allocator + Copy>(
     Ok((writer, prepared))
 }
 
-// Copies of all nodes' entries, and how many each node has.
+// Copies of all nodes' entries, and the number of each node's entries.
 fn copy_lists(alloc: Global, group: &Group) -> Result<(Vec<Vec<Entry>>, Vec<usize>), NoMemory>
     ensures { IfOk result (λ t.
         (map (λ l. l.items) t.0.items ≡ lists_in group.now)
@@ -163,7 +164,7 @@ fn copy_lists(alloc: Global, group: &Group) -> Result<(Vec<Vec<Entry>>, Vec<usiz
     Ok((lists, counts))
 }
 
-// So many readers, which have seen the empty history.
+// `count` readers, which have seen the empty history.
 fn readers_of<K: HouseName, A: Allocator + Copy>(
     alloc: A,
     factory: &Factory<Published, u64, Grows<K>, A>,

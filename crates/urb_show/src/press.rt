@@ -1,4 +1,6 @@
-//! The writer's end: what was added to the history, how much of it the writer has, and how much is published.
+//! The publisher: the writing end of the published logs.
+//!
+//! It knows what was added to the history, what the writer has of it, and what is published.
 ghost use Rattle.std.specs.Prelude.{◌≡◌, [], ◌∷◌, ◌++◌, length, drop, MatchResult};
 ghost use mathlib.Core.List.{IsPrefix};
 ghost use Rattle.urb_show.specs.Lists.{Agree};
@@ -18,8 +20,9 @@ use urb_group::NoMemory;
 
 pub(crate) type LogWriter<K, A = Global> = Writer<Published, Operation, u64, Grows<K>, A>;
 
-/// Contracts see four histories, each a beginning of the one before: the longest that the book was seen to
-/// have, all additions of this press, those that the writer has, and those that are published.
+/// Contracts see four histories, each a beginning of the one before. They are the longest one that
+/// the book was seen to have, all additions of this publisher, those that the writer has, and those
+/// that are published.
 pub(crate) struct Press<K: HouseName, A: Allocator = Global> {
     book: Book<K>,
     known: Front<K>,
@@ -78,9 +81,10 @@ impl<K: HouseName, A: Allocator> Press<K, A> {
         }
     }
 
-    /// Adds to the history. The writer gets it by `flush`. It asks for no memory itself.
+    /// Adds to the history. The writer gets the addition by `flush`. This call asks for no memory
+    /// itself.
     ///
-    /// `NoMemory`: the history is full, or the book has an addition that isn't this press's.
+    /// `NoMemory`: the history is full, or the book has an addition that isn't this publisher's.
     pub(crate) fn add(&mut self, addition: Addition) -> Result<(), NoMemory>
         requires flushed { self.old.queued ≡ self.old.all }
         requires agree { Agree (lists_of K.base (self.old.all ++ addition ∷ [])) }
@@ -105,7 +109,7 @@ impl<K: HouseName, A: Allocator> Press<K, A> {
         Ok(())
     }
 
-    /// How many additions are published.
+    /// The number of published additions.
     pub(crate) fn len(&self) -> u64
         ensures length { result ≡ length self.now.shown }
         ensures begins { IsPrefix self.now.shown self.now.all }
@@ -162,7 +166,7 @@ impl<K: HouseName, A: Allocator> Press<K, A> {
         }
     }
 
-    /// Ends it. It waits for the readers.
+    /// Ends the publisher. It waits for the readers.
     pub(crate) fn close<R: Wait>(self, rt: &R) {
         let Press {
             book: _,

@@ -1,4 +1,4 @@
-//! The value that readers take: a list of entries for each node, and the history that they stand for.
+//! The value that readers take: a list of entries for each node, and the history behind the lists.
 ghost use Rattle.std.specs.Prelude.{◌≡◌, ◌≤◌, ◌<◌, ◌^◌, length, [], ◌∷◌, ◌++◌, map, MatchResult, IfOk};
 ghost use Rattle.urb_show.specs.Lists.{Lists, Agree, add_at, list_at};
 ghost use Rattle.urb_show.specs.History.{Issue, issue_of};
@@ -11,7 +11,7 @@ use std::alloc::{AllocError, Allocator, Global};
 use std::marker::Model;
 use urb_group::NoMemory;
 
-/// A list of entries for each node, and the history that they stand for.
+/// A list of entries for each node, and the history behind the lists.
 #[derive(Drop)]
 pub(crate) struct Published {
     lists: Vec<Vec<Entry>>,
@@ -27,14 +27,14 @@ impl Model for Published {
     ghost view = { λ p. record { lists = map (λ l. l.items) p.lists.items; mark = p.mark } };
 }
 
-/// One more entry of a node, and the history with it.
+/// One more entry of a node, and the history with this entry.
 #[derive(Drop)]
 pub(crate) struct Operation {
     pub(crate) addition: Addition,
     pub(crate) mark: Mark,
 }
 
-/// What the two published copies have in common. No value of it is made.
+/// What the two published copies have in common. No value of this type is made.
 pub(crate) struct State {
     pub(crate) lists: [[Entry; 0]; 0],
     pub(crate) mark: Mark,
@@ -80,7 +80,7 @@ impl Absorb<Operation> for Published {
     }
 }
 
-// Puts an entry behind the list at that place, where there is one.
+// Appends an entry to the list at that place, if there is such a list.
 fn push_at(lists: &mut Vec<Vec<Entry>>, place: usize, entry: Entry) -> Result<(), Entry>
     ensures { MatchResult result
         (λ _. map (λ l. l.items) lists.new.items
@@ -111,7 +111,7 @@ impl Published {
         Published { lists, mark }
     }
 
-    /// The history that the lists stand for.
+    /// The history behind the lists.
     pub(crate) fn mark(&self) -> &Mark
         ensures { result.now ≡ self.now.mark }
     {
@@ -128,7 +128,8 @@ impl Published {
         }
     }
 
-    /// The entries of a node from the place `first`, which counts from 1, at most `max`, in a list of `alloc`.
+    /// The entries of a node from the place `first` on, which counts from 1, at most `max` of them.
+    /// The list's memory comes from `alloc`.
     pub(crate) fn page<B: Allocator + Copy>(
         &self,
         alloc: B,
@@ -151,7 +152,8 @@ impl Published {
     }
 }
 
-// Copies of these entries, in a list of `list`. A payload that can't be shared is copied to memory of `alloc`.
+// Copies of these entries. The list's memory comes from `list`. If a payload can't be shared, it is
+// copied to memory of `alloc`.
 fn copy_all<B: Allocator + Copy>(
     alloc: Global,
     list: B,

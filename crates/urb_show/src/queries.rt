@@ -1,4 +1,4 @@
-//! What a house tells of its nodes.
+//! What a house reports about its nodes.
 ghost use Rattle.std.specs.Prelude.{◌≡◌, Some, option_map};
 ghost use Rattle.urb_group.specs.Calls.{Answers, CountsOwn, FindsMessage, Holds, TellsLog};
 ghost use Rattle.urb_group.specs.States.{state_of};
@@ -11,23 +11,23 @@ use std::alloc::Allocator;
 use urb_group::{Config, Message, Name, NodeId, State};
 
 impl<K: HouseName, A: Allocator> House<K, A> {
-    /// How many events there were that were not refused, since it was opened. The count stays at its greatest value,
-    /// 18,446,744,073,709,551,615.
+    /// The number of events since the house was opened. A refused call is no event. The count stays
+    /// at its greatest value, 18,446,744,073,709,551,615.
     pub fn events(&self) -> u64
         ensures { result ≡ self.now.events }
     {
         self.events
     }
 
-    /// How many nodes its group has, and how many messages each may broadcast.
+    /// The number of nodes in the group, and how many messages each node may broadcast.
     pub fn config(&self) -> Config
         ensures { result ≡ self.now.group.size }
     {
         self.group.config()
     }
 
-    /// How a node is, how many messages it has broadcast and how many names it has delivered; none where there is no such
-    /// node.
+    /// A node's state, how many messages it has broadcast, and how many names it has delivered.
+    /// `None` if there is no such node.
     pub fn status(&self, node: NodeId) -> Option<Status>
         ensures { TellsStatus self.now.group node result }
     {
@@ -38,21 +38,22 @@ impl<K: HouseName, A: Allocator> House<K, A> {
         Some(Status { state, own, logged })
     }
 
-    /// How a node is; none where there is no such node.
+    /// A node's state. `None` if there is no such node.
     pub fn state(&self, node: NodeId) -> Option<State>
         ensures { Answers (λ w. Some (state_of (w.node node).state)) self.now.group node result }
     {
         self.group.state(node)
     }
 
-    /// The names that a node has delivered, published or not; none where there is no such node.
+    /// The names that a node has delivered, published or not. `None` if there is no such node.
     pub fn log(&self, node: NodeId) -> Option<&[Name]>
         ensures { TellsLog self.now.group node (option_map (λ names. names.now) result) }
     {
         self.group.log(node)
     }
 
-    /// The message that a node has stored under a name; none where it has stored none, or there is no such node.
+    /// The message that a node has stored under a name. `None` if it has stored no message under
+    /// the name, or if there is no such node.
     pub fn message(&self, node: NodeId, name: Name) -> Option<&Message>
         ensures { FindsMessage self.now.group node name (option_map (λ m. m.now) result) }
     {
@@ -66,7 +67,7 @@ impl<K: HouseName, A: Allocator> House<K, A> {
         self.group.holds(node, name)
     }
 
-    /// How many messages a node has broadcast; none where there is no such node.
+    /// How many messages a node has broadcast. `None` if there is no such node.
     pub fn own_len(&self, node: NodeId) -> Option<u32>
         ensures { CountsOwn self.now.group node result }
     {

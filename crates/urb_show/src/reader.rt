@@ -15,19 +15,20 @@ use std::alloc::{Allocator, Global};
 use std::marker::Model;
 use urb_group::NodeId;
 
-/// Why a read gave no page.
+/// Why a read returned no page.
 #[derive(Clone, Copy, Debug, PartialEq, Eq)]
 pub enum ReadFault {
     /// There was no memory for the page. Ask again.
     NoMemory,
-    /// The house was closed: no later read gives a page.
+    /// The house was closed: no later read returns a page.
     Gone,
 }
 
-/// Reads the published lists of all nodes, on any thread, and waits for nobody. It holds none of them between two reads.
+/// Reads the published lists of all nodes, on any thread, and waits for nobody. Between two reads
+/// it holds none of the lists.
 ///
-/// Contracts see the lists that it took last, and the longest that it learnt. So any two pages of one reader, of whatever
-/// nodes and moments, agree for each sender.
+/// Contracts see the lists that it took last, and the longest that it learnt. So any two pages of
+/// one reader, of any nodes and moments, agree for each sender.
 #[derive(Drop)]
 pub struct LogReader<K: HouseName, A: Allocator = Global> {
     reader: Option<Reader<Published, u64, Grows<K>, A>>,
@@ -51,8 +52,9 @@ impl<K: HouseName, A: Allocator> Model for LogReader<K, A> {
         × Agree (lists_of K.base r.seen) };
 }
 
-/// That lists were published, all those of one moment: who learns it reads no less from then on. It holds no list, so it is
-/// small, and goes through a channel; contracts see the lists.
+/// A token which says that lists were published: all lists of one moment. A reader that learns it
+/// reads no less from then on. The token holds no list, so it is small and can go through a
+/// channel. Contracts see the lists.
 #[derive(Drop)]
 pub struct Told<K: HouseName> {
     front: Front<K>,
@@ -92,10 +94,11 @@ impl<K: HouseName, A: Allocator> LogReader<K, A> {
         }
     }
 
-    /// Takes the published lists of one moment, and gives the entries of a node from the place `first`, which counts from 1,
-    /// at most `max` of them; none where the list is shorter.
+    /// Takes the published lists of one moment, and returns the entries of a node from the place
+    /// `first` on, at most `max` of them. Places count from 1. If the list is shorter, the page is
+    /// empty.
     ///
-    /// `NoMemory`: there was none for the page; ask again. `Gone`: the house was closed.
+    /// `NoMemory`: there was no memory for the page; ask again. `Gone`: the house was closed.
     pub fn read<B: Allocator + Copy>(
         &mut self,
         alloc: B,
@@ -136,17 +139,17 @@ impl<K: HouseName, A: Allocator> LogReader<K, A> {
         }
     }
 
-    /// That what two readers of one house saw last is of one history, so that no page of one contradicts a page of
-    /// the other: for proofs alone, since it does nothing. A reader's earlier pages are of lists that begin those
-    /// that it saw last.
+    /// What two readers of one house saw last is of one history. So no page of one contradicts a
+    /// page of the other. A reader's earlier pages are of lists that begin those that it saw last.
+    /// Call this in proofs alone, since it does nothing.
     pub fn agrees_with(&self, other: &LogReader<K, A>)
         ensures { AreOfOneHistory self.now.seen other.now.seen }
     {
         let _ = self.seen.longer(&other.seen);
     }
 
-    /// The lists that it saw last, as a token for another reader to learn, which then reads no less. So two readers
-    /// agree that are never lent in one place.
+    /// The lists that this reader saw last, as a token for another reader. A reader that learns it
+    /// then reads no less. So two readers can agree even if they are never lent in one place.
     pub fn saw(&self) -> Told<K>
         ensures { result ≡ self.now.seen }
     {

@@ -1,10 +1,12 @@
-//! The rule of what is published: nothing that a reader has seen is taken back. A view is how long the history is that was seen.
+//! The rule for publishing: nothing that a reader has seen is taken back.
+//!
+//! A reader's view is the length of the history that it has seen.
 use crate::book::HouseName;
 use crate::published::Published;
 use crossbeam_utils::rule::{Outcome, Protocol};
 use std::marker::PhantomData;
 
-/// The published history is no shorter than any that was seen.
+/// The published history is no shorter than any that a reader has seen.
 pub struct Grows<K> {
     of: PhantomData<K>,
 }
@@ -17,7 +19,8 @@ impl<K: HouseName> Protocol<Published, u64> for Grows<K> {
     ghost first = { 0 };
 }
 
-/// What was seen is no longer than what was published. Afterwards it is what is published then.
+/// What the reader had seen is no longer than what was published. After the step, the view is what
+/// is published then.
 pub struct Sees<K> {
     of: PhantomData<K>,
 }

@@ -1,4 +1,4 @@
-//! Worked examples of the definitions: small lists, pages and counts, each with what it comes to.
+//! Worked examples of the definitions: small lists, pages and counts, each with its result.
 ghost use Rattle.std.specs.Prelude.{◌≡◌, ◌∷◌, ◌-◌, ◌^◌, []};
 ghost use Rattle.urb_group.specs.Scripts.{message};
 ghost use Rattle.urb_names.specs.Names.{name};
@@ -6,8 +6,8 @@ ghost use Rattle.urb_show.specs.Examples.{entry, group_of, told};
 ghost use Rattle.urb_show.specs.Housed.{next_count};
 ghost use Rattle.urb_show.specs.Lists.{Agree, Begins, list_at, lists_in};
 
-/// A node's list has the names of its log, in the log's order, each with its message; of a node that is not there it is
-/// empty.
+/// A node's list has the names of its log, in the log's order, each with its message. If there is
+/// no such node, the list is empty.
 pub fn lists_of_a_group()
     ensures in_order_of_the_log { lists_in (group_of
         ((name 1 1, message 7 1 "a")
@@ -18,7 +18,7 @@ pub fn lists_of_a_group()
     ensures beyond { list_at ((told 1 1 "a" ∷ []) ∷ []) 1 ≡ [] }
 {}
 
-/// Lists begin others node by node, and no lists begin all.
+/// Lists begin others node by node. The empty value, with no lists, begins all others.
 pub fn beginnings()
     ensures each { Begins ((told 1 1 "a" ∷ []) ∷ [] ∷ [])
         ((told 1 1 "a" ∷ told 1 2 "b" ∷ []) ∷ (told 1 1 "a" ∷ []) ∷ []) }
@@ -29,7 +29,8 @@ pub fn beginnings()
     ensures another_message { Begins ((told 1 1 "a" ∷ []) ∷ []) ((told 1 1 "b" ∷ []) ∷ []) → ⊥ }
 {}
 
-/// Lists don't agree where two have different messages under one name, or a number is missing, comes twice or too early.
+/// Lists don't agree if two have different messages under one name. They don't agree if a number is
+/// missing, comes twice or comes too early.
 pub fn disagreements()
     ensures two_messages { Agree ((told 1 1 "a" ∷ []) ∷ (told 1 1 "b" ∷ []) ∷ []) → ⊥ }
     ensures a_number_is_missing { Agree ((told 1 2 "a" ∷ []) ∷ []) → ⊥ }

@@ -1,4 +1,6 @@
-//! A house of three nodes by example: its calls one by one, and readers on threads of their own while a fifth thread writes.
+//! A house of three nodes by example: its calls one by one, and concurrent readers.
+//!
+//! Each reader has a thread of its own, and a fifth thread writes meanwhile.
 ghost use Rattle.std.specs.Prelude.{◌≡◌, ◌≤◌, IfSome, length};
 ghost use Rattle.urb_show.specs.Lists.{lists_in};
 
@@ -50,7 +52,7 @@ fn opened_again(group: Group) -> Option<Opened>
     House::open(group).ok()
 }
 
-// What the first of these says that doesn't hold.
+// The text of the first of these that doesn't hold.
 fn first_false(all: &[(bool, &'static str)]) -> Result<(), &'static str> {
     for (holds, what) in all {
         if !*holds {
@@ -60,7 +62,8 @@ fn first_false(all: &[(bool, &'static str)]) -> Result<(), &'static str> {
     Ok(())
 }
 
-// Two readers on threads of their own. Whether their pages agree, and were whole in the end.
+// Two readers on threads of their own. The result says whether their pages agree, and were whole in
+// the end.
 fn read_both<K: HouseName + Send + Sync, R: Threads + Wait + Sync>(
     rt: &R,
     alloc: Global,
@@ -82,8 +85,8 @@ fn read_both<K: HouseName + Send + Sync, R: Threads + Wait + Sync>(
     first && second
 }
 
-// Two readers on threads of their own, the second of which learns what is settled. Whether their pages agree, and were whole in
-// the end.
+// Two readers on threads of their own; the second one learns what is settled. The result says
+// whether their pages agree, and were whole in the end.
 fn read_and_learn<K: HouseName + Send + Sync, R: Threads + Wait + Sync>(
     rt: &R,
     alloc: Global,
@@ -104,8 +107,9 @@ fn read_and_learn<K: HouseName + Send + Sync, R: Threads + Wait + Sync>(
     )
 }
 
-// Four readers on threads of their own read all nodes in turn, one of them as often as it learns what is settled. Whether the pages of the
-// three agree, and those of the one.
+// Four readers on threads of their own read all nodes in turn. One of them reads each time that it
+// learns what is settled. The result says whether the pages of the other three agree, and those of
+// this one.
 fn read_on_threads<K: HouseName + Send + Sync, R: Threads + Wait + Sync>(
     rt: &R,
     alloc: Global,
@@ -129,7 +133,8 @@ fn read_on_threads<K: HouseName + Send + Sync, R: Threads + Wait + Sync>(
     (read && also, learnt)
 }
 
-// They read while this thread writes. Whether all was written, and their pages agreed.
+// They read while this thread writes. The result says whether all was written, and their pages
+// agreed.
 fn read_and_write<K: HouseName + Send + Sync, R: Threads + Wait + Sync>(
     rt: &R,
     alloc: Global,
@@ -151,7 +156,7 @@ fn read_and_write<K: HouseName + Send + Sync, R: Threads + Wait + Sync>(
     )
 }
 
-// Whether a reader is told that its house was closed.
+// Whether a reader reports that its house was closed.
 fn is_gone<K: HouseName>(alloc: Global, reader: &mut LogReader<K>) -> bool
     requires { 3 ≤ length K.base }
 {
@@ -159,7 +164,8 @@ fn is_gone<K: HouseName>(alloc: Global, reader: &mut LogReader<K>) -> bool
     reader.read(alloc, node, 1, 1).err() == Some(ReadFault::Gone)
 }
 
-// Readers read a house while it is written. Another reader learns nothing, and reads once all is written.
+// Readers read a house while it is written. Another reader learns nothing, and reads once all is
+// written.
 fn played<K: HouseName + Send + Sync, R: Threads + Wait + Sync>(
     rt: &R,
     alloc: Global,
@@ -209,8 +215,9 @@ fn a_house_is_called_one_by_one(rt: HostRuntime) -> Result<(), Fail> {
     Ok(())
 }
 
-// A house of three nodes delivers all messages, and the same group is opened again, with this growth refused. How many calls were
-// refused memory; none if there was no such growth.
+// A house of three nodes delivers all messages, and then the same group is opened again. This
+// growth of memory is refused. The result is the number of calls that were refused memory; `None`
+// if there was no such growth.
 fn with_growth_refused<R: Wait>(
     rt: &R,
     alloc: Global,

@@ -43,6 +43,21 @@ position_last f k (y ∷ xs) x none holds = (elim (f y) as (λ b. cond b (Some k
   | false ↦ λ e. position_last f (k + 1) xs x e holds ∙ ap Some (omega arith)
 ]) none
 
+position_none : {X : Type 0} (f : X → Bool) (k : ℕ) (xs : List X) (x : X) → position_from f k xs ≡ None → f x ≡ false → position_from f k (xs ++ x ∷ []) ≡ None
+position_none f k [] x none other = rw other refl
+position_none f k (y ∷ xs) x none other = (elim (f y) as (λ b. cond b (Some k) (position_from f (k + 1) xs) ≡ None → cond b (Some k) (position_from f (k + 1) (xs ++ x ∷ [])) ≡ None) [
+  | true ↦ λ e. absurd (let n = e in cc)
+  | false ↦ λ e. position_none f (k + 1) xs x e other
+]) none
+
+-- what is found stands in the list
+position_there : {X : Type 0} (f : X → Bool) (k : ℕ) (xs : List X) (i : ℕ) → position_from f k xs ≡ Some i → (d : ℕ) × (x : X) × (i ≡ k + d) × (slice_get xs d ≡ Some x)
+position_there f k [] i found = absurd (let e = found in cc)
+position_there {X} f k (y ∷ xs) i found = (elim (f y) as (λ b. cond b (Some k) (position_from f (k + 1) xs) ≡ Some i → (d : ℕ) × (x : X) × (i ≡ k + d) × (slice_get (y ∷ xs) d ≡ Some x)) [
+  | true ↦ λ e. (0, y, (let same : k ≡ i = cc in omega (arith, same)), refl)
+  | false ↦ λ e. let it = position_there f (k + 1) xs i e in (suc it.0, it.1, omega (arith, it.2), it.3)
+]) found
+
 find_front : {X : Type 0} (f : X → Bool) (xs ys : List X) (x : X) → find f xs ≡ Some x → find f (xs ++ ys) ≡ Some x
 find_front f [] ys x found = absurd (let e = found in cc)
 find_front f (y ∷ xs) ys x found = (elim (f y) as (λ b. cond b (Some y) (find f xs) ≡ Some x → cond b (Some y) (find f (xs ++ ys)) ≡ Some x) [
@@ -99,7 +114,24 @@ with_tree s name tree there alone stored =
       is,
     )
 
+-- a table that is absent has no place
+lacks_named : (s : Schema) (name : List ℕ) → Lacks s name → table_named s name ≡ None
+lacks_named s name lacks = go (table_named s name) refl lacks
+  where
+    go : (o : Option ℕ) → table_named s name ≡ o → option_and_then (slice_get s.tables) o ≡ None → o ≡ None
+    go None is none = refl
+    go (Some at) is none =
+        let it = position_there (λ (t : Table). same_name t.name name) 0 s.tables at is in
+        let here : at ≡ it.0 = omega (arith, it.2) in
+        absurd (let e : None ≡ Some it.1 = sym none ∙ ap (slice_get s.tables) here ∙ it.3 in cc)
+
 module _ (s k : Schema) (t : Table) (behind : k.tables ≡ s.tables ++ t ∷ []) where
+  -- a table that is absent stays so behind one of another name
+  pub lacks_behind : (name : List ℕ) → same_name t.name name ≡ false → Lacks s name → Lacks k name
+  lacks_behind name other lacks =
+      let none : table_named k name ≡ None = ap (position_from (λ x. same_name x.name name) 0) behind ∙ position_none (λ (x : Table). same_name x.name name) 0 s.tables t (lacks_named s name lacks) other in
+      ap (option_and_then (slice_get k.tables)) none
+
   pub has_behind : (name : List ℕ) → HasTable s name → HasTable k name × (tree_of k name ≡ tree_of s name)
   has_behind name has =
       let it = found_at s name has in

@@ -7,22 +7,23 @@ use Rattle.sqlite.specs.Tree.{Trees}
 use Rattle.sqlite.specs.Table.{Table}
 use Rattle.sqlite.specs.Schema.{Schema}
 use Rattle.sqlite.specs.Command.TheVariants.{CreateTable, Nothing}
-use Rattle.sqlite.specs.Change.{created, next_tree}
+use Rattle.sqlite.specs.Change.{next_tree}
 use Rattle.sqlite_catalog.specs.Calls.{CreatesTable}
 use Rattle.sqlite_catalog.specs.Change.{is_used}
 use Rattle.sqlite_catalog.specs.Listing.{IsSound}
 use Rattle.sqlite.specs.Does.{Tally, Does, lacks_sequence, sequence_text}
 use Rattle.sqlite.specs.Effect.{Database}
-use Rattle.sqlite_schema.specs.Names.{table_named, index_named, view_named}
+use Rattle.sqlite_schema.specs.Names.{same_name, table_named, index_named, view_named}
 use Rattle.sqlite.specs.State.{State, mode_of, text_of, IsUnchanged, Writes, Executes, ExecutesIn, CommitsBy}
-use Rattle.urb_sqlite.specs.Journal.{create_text, journal_name, second_name, no_schema, record_table, table_of, tree_of, Lacks, HasTable}
+use Rattle.urb_sqlite.specs.Journal.{create_text, journal_name, second_name, record_table, table_of, tree_of, Lacks, HasTable}
 use Rattle.urb_sqlite.specs.Shape.{is_journal, has_table}
 use Rattle.urb_sqlite.specs.OpenJournal.{AddsTable, AddsOne, IsLonger, IsMade}
 use Rattle.urb_sqlite.proofs.InsertLemmas.{went, same_value}
 use Rattle.urb_sqlite.proofs.TextLemmas.{Makes}
+use Rattle.sqlite_resolve.specs.Compile.{table_defined_by}
 use Rattle.sqlite_tied.specs.Compute.{everything}
 use Rattle.urb_sqlite.proofs.AnyLemmas.{create_is}
-use Rattle.urb_sqlite.proofs.AddLemmas.{all_at, slice_front, slice_last, has_behind, has_new, kept_rows, low_trees}
+use Rattle.urb_sqlite.proofs.AddLemmas.{all_at, slice_front, slice_last, has_behind, has_new, kept_rows, lacks_behind, low_trees}
 
 no_other : (o : Option ℕ) (b c : Bool) → ((is_some o || b) || c) ≡ false → o ≡ None
 no_other None b c h = refl
@@ -51,7 +52,7 @@ rows_twice a b c (t ∷ ts) more one two = (two.0 ∙ one.0, rows_twice a b c ts
 longer_one : (d after : Database) (text : List ℕ) → CreatesTable d.schema text d.trees after.schema after.trees → IsLonger d after
 longer_one d after text made = record { more = added d made.table ∷ []; tables = behind d after text made; rows = made.others }
 
-longer_then : (a b c : Database) → IsLonger a b → IsLonger b c → IsLonger a c
+pub longer_then : (a b c : Database) → IsLonger a b → IsLonger b c → IsLonger a c
 longer_then a b c one two = record {
   more = one.more ++ two.more;
   tables = two.tables ∙ ap (λ (ts : List Table). ts ++ two.more) one.tables ∙ append_assoc a.schema.tables one.more two.more;
@@ -111,47 +112,57 @@ does_create old text name params tally after parsed changed sound =
 lacks_shape : (s : Schema) (name : List ℕ) → Lacks s name → has_table name s ≡ false
 lacks_shape s name none = ap (λ (o : Option Table). Rattle.std.specs.Prelude.unwrap_or (option_map (is_journal name) o) false) none
 
--- ---- the first table of an empty database
+-- ---- the second table stays absent behind the first
 
--- the schema that has the first table alone
-abbrev first_alone : Schema
-first_alone = created no_schema (record_table journal_name 0)
+-- the table that a text defines has another name
+record IsApart (text name : List ℕ) : Type 0 where
+  table : Table
+  defined : table_defined_by text ≡ Ok table
+  other : same_name table.name name ≡ false
 
-first_lacks_second : Lacks first_alone second_name
-unfolding everything Rattle.sqlite_schema.specs.Names.same_name
-first_lacks_second = refl
+first_apart : IsApart create_text second_name
+unfolding everything same_name
+first_apart = record { table = _; defined = refl; other = refl }
 
-first_needs_no_sequence : lacks_sequence first_alone ≡ false
-first_needs_no_sequence = refl
+sequence_apart : IsApart sequence_text second_name
+unfolding everything same_name
+sequence_apart = record { table = _; defined = refl; other = refl }
 
-does_first : (old : State) (params : Row) (tally : Tally) (after : Database) → Makes create_text journal_name → old.now.schema ≡ no_schema
+lacks_then : (d after : Database) (text : List ℕ) → IsApart text second_name → CreatesTable d.schema text d.trees after.schema after.trees → Lacks d.schema second_name → Lacks after.schema second_name
+lacks_then d after text apart made lacks =
+    let both : Ok made.table ≡ Ok apart.table = sym made.defined ∙ apart.defined in
+    let same : made.table ≡ apart.table = cc in
+    lacks_behind d.schema after.schema (added d made.table) (behind d after text made) second_name (ap (λ (t : Table). same_name t.name second_name) same ∙ apart.other) lacks
+
+does_first : (old : State) (params : Row) (tally : Tally) (after : Database) → Lacks old.now.schema second_name
     → Does old.step_limit (mode_of old) params old.now create_text None CreateTable (Ok (tally, after)) → Lacks after.schema second_name
-does_first old params tally after parsed empty changed =
+does_first old params tally after lacks changed =
     let all = went changed in
     let first = went all.1 in
     let mid = first.0 in
-    let made = first.1 in
-    let both : Ok made.table ≡ Ok (record_table journal_name 0) = sym made.defined ∙ parsed.defines in
-    let same : made.table ≡ record_table journal_name 0 = cc in
-    let is : mid.schema ≡ first_alone = made.is ∙ ap (λ (t : Table). created old.now.schema t) same ∙ ap (λ (s : Schema). created s (record_table journal_name 0)) empty in
-    let plain : lacks_sequence mid.schema ≡ false = ap lacks_sequence is ∙ first_needs_no_sequence in
-    let now : after ≡ mid = ap (λ (p : Tally × Database). p.1) (same_value all.2) ∙ same_value (rw plain at first.2) in
-    ap (λ (s : Schema). table_of s second_name) (ap (λ (d : Database). d.schema) now ∙ is) ∙ first_lacks_second
+    let one = lacks_then old.now mid create_text first_apart first.1 lacks in
+    let now : after ≡ all.0 = ap (λ (p : Tally × Database). p.1) (same_value all.2) in
+    elim (cases_Bool (lacks_sequence mid.schema)) [
+      | inl sequence ↦
+          let more : CreatesTable mid.schema sequence_text mid.trees all.0.schema all.0.trees = rw sequence at first.2 in
+          subst (λ (d : Database). Lacks d.schema second_name) (sym now) (lacks_then mid all.0 sequence_text sequence_apart more one)
+      | inr plain ↦
+          let is : after ≡ mid = now ∙ same_value (rw plain at first.2) in
+          subst (λ (d : Database). Lacks d.schema second_name) (sym is) one
+    ]
 
--- Made in an empty database, the first table is alone.
-pub creates_first : (old new : State) (count : ℕ) → Makes create_text journal_name → old.now.schema ≡ no_schema → has_table journal_name new.now.schema ≡ true → Executes create_text [] old new (Ok count)
-    → Lacks new.now.schema second_name
+-- Whether or not the first table is made, the second one stays absent.
+pub creates_apart : (old new : State) (count : ℕ) → Makes create_text journal_name → Lacks old.now.schema second_name → Executes create_text [] old new (Ok count) → Lacks new.now.schema second_name
 unfolding ExecutesIn
-creates_first old new count parsed empty ready h =
+creates_apart old new count parsed lacks h =
     let is = create_is create_text journal_name parsed old.now.schema h.0 h.1.is in
-    let lacks : Lacks old.now.schema journal_name = ap (λ (s : Schema). table_of s journal_name) empty in
     elim is.comes_to [
       | inl none ↦
           let same : IsUnchanged old new = (rw (none, is.returning_is) at h.2).0 in
-          absurd (true≢false (sym ready ∙ ap (λ (d : Database). has_table journal_name d.schema) same.0.now_is ∙ lacks_shape old.now.schema journal_name lacks))
+          ap (λ (d : Database). table_of d.schema second_name) same.0.now_is ∙ lacks
       | inr makes ↦
           let w = rw (makes, is.returning_is) at h.2 in
-          does_first old [] w.tally new.now parsed empty (subst (λ t. Does old.step_limit (mode_of old) [] old.now t None CreateTable (Ok (w.tally, new.now))) is.whole w.changed)
+          does_first old [] w.tally new.now lacks (subst (λ t. Does old.step_limit (mode_of old) [] old.now t None CreateTable (Ok (w.tally, new.now))) is.whole w.changed)
     ]
 
 module _ (text name : List ℕ) (parsed : Makes text name) where

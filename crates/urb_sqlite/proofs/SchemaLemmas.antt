@@ -10,13 +10,15 @@ use Rattle.sqlite_trees.specs.Objects.{catalog_tree}
 use Rattle.sqlite_catalog.specs.Listing.{IsSound, IsTableRow, IsIndexRow, IsViewRow, is_table_row, is_index_row, is_view_row}
 use Rattle.sqlite.specs.Effect.{Database}
 use Rattle.sqlite.specs.State.{State, IsLive, Opens}
-use Rattle.urb_sqlite.specs.Journal.{record_table, table_of, tree_of, journal_name, second_name, Lacks, HasTable, HasJournal, no_schema}
+use Rattle.urb_sqlite.specs.Journal.{record_table, table_of, tree_of, journal_name, second_name, Lacks, HasTable, MayTake, IsAdoptable, no_schema}
 use Rattle.std.proofs.Common.{◌<◌, ◌⊎◌, length, inl, inr}
-use Rattle.sqlite.specs.Files.{AreFoundIn}
+use Rattle.sqlite.specs.Files.{AreFoundIn, IsNothing}
 use Rattle.sqlite_wal.specs.Recovery.{Image}
 use Rattle.urb_sqlite.specs.Rows.{table_rows, StandsFor}
 use Rattle.urb_sqlite.specs.Reading.{records_of}
-use Rattle.urb_sqlite.specs.OpenJournal.{IsHonestJournal, IsJournal, database_of}
+use Rattle.urb_sqlite.specs.OpenJournal.{IsBare, IsBase, IsHonestJournal, IsJournal, base_of, database_of}
+use Rattle.std.proofs.lemmas.Grind.{not_there}
+use Rattle.urb_sqlite.proofs.BlankLemmas.{holds_something}
 use Rattle.urb_sqlite.proofs.StandLemmas.{stands_same}
 
 same_text : (row : Row) (a b : List ℕ) → column row 4 ≡ Text a → column row 4 ≡ Text b → a ≡ b
@@ -58,22 +60,28 @@ same_has s k name same has = record {
   stored = subst (λ ts. nat_le (2 ^ 31) (tree_of (bare ts) name) ≡ false) (sym same) has.stored;
 }
 
--- A connection that found a journal is adopted with the records for which it stands.
-pub finds_journal : (conn now : State) (db : Trees) → IsLive conn → Opens conn → conn.committed.trees ≡ db → (journal : IsJournal db)
-    → (HasJournal conn.now.schema → IsHonestJournal now × StandsFor conn.now (records_of now.now)) → IsHonestJournal now × StandsFor (database_of journal) (records_of now.now)
-finds_journal conn now db live opens is journal adopted =
+may_take : (s k : Schema) (name : List ℕ) → s.tables ≡ k.tables → MayTake k name → MayTake s name
+may_take s k name same (inl has) = inl (same_has s k name same has)
+may_take s k name same (inr none) = inr (ap (λ ts. table_of (bare ts) name) same ∙ none)
+
+-- A connection that found a database is adopted with the records for which its tables stand.
+pub finds_base : (conn now : State) (db : Trees) → IsLive conn → Opens conn → conn.committed.trees ≡ db → (base : IsBase db)
+    → (IsAdoptable conn.now.schema → IsHonestJournal now × StandsFor conn.now (records_of now.now)) → IsHonestJournal now × StandsFor (base_of base) (records_of now.now)
+finds_base conn now db live opens is base adopted =
     let trees : conn.now.trees ≡ db = ap (λ (d : Database). d.trees) opens.clean ∙ is in
-    let tables = one_list conn.now.schema journal.schema db (subst (IsSound conn.now.schema) trees (live opens.is_open).0) journal.sound in
-    let second : HasTable conn.now.schema second_name ⊎ Lacks conn.now.schema second_name = elim journal.has.1 [
-      | inl has ↦ inl (same_has conn.now.schema journal.schema second_name tables has)
-      | inr none ↦ inr (ap (λ ts. table_of (bare ts) second_name) tables ∙ none)
-    ] in
-    let got = adopted (same_has conn.now.schema journal.schema journal_name tables journal.has.0, second) in
+    let tables = one_list conn.now.schema base.schema db (subst (IsSound conn.now.schema) trees (live opens.is_open).0) base.sound in
+    let got = adopted (may_take conn.now.schema base.schema journal_name tables base.has.0, may_take conn.now.schema base.schema second_name tables base.has.1) in
     let here : StandsFor (record { schema = conn.now.schema; trees = db }) (records_of now.now) = subst (λ t. StandsFor (record { schema = conn.now.schema; trees = t }) (records_of now.now)) trees got.1 in
-    (got.0, stands_same (record { schema = conn.now.schema; trees = db }) (database_of journal) (records_of now.now) (same_rows journal_name tables) (same_rows second_name tables) here)
+    (got.0, stands_same (record { schema = conn.now.schema; trees = db }) (base_of base) (records_of now.now) (same_rows journal_name tables) (same_rows second_name tables) here)
   where
-    same_rows : (name : List ℕ) → conn.now.schema.tables ≡ journal.schema.tables → table_rows (database_of journal) name ≡ table_rows (record { schema = conn.now.schema; trees = db }) name
+    same_rows : (name : List ℕ) → conn.now.schema.tables ≡ base.schema.tables → table_rows (base_of base) name ≡ table_rows (record { schema = conn.now.schema; trees = db }) name
     same_rows name tables = ap (λ ts. table_rows (record { schema = bare ts; trees = db }) name) (sym tables)
+
+-- .. and so one that found a journal
+pub finds_journal : (conn now : State) (db : Trees) → IsLive conn → Opens conn → conn.committed.trees ≡ db → (journal : IsJournal db)
+    → (IsAdoptable conn.now.schema → IsHonestJournal now × StandsFor conn.now (records_of now.now)) → IsHonestJournal now × StandsFor (database_of journal) (records_of now.now)
+finds_journal conn now db live opens is journal adopted =
+    finds_base conn now db live opens is (record { schema = journal.schema; has = (inl journal.has.0, journal.has.1); sound = journal.sound }) adopted
 
 empty_zip : {A B : Type 0} (R : A → B → Type 0) (xs : List B) → AllZip R [] xs → xs ≡ []
 empty_zip R [] h = refl
@@ -89,8 +97,20 @@ bare_schema schema db none sound =
     let made : record { tables = schema.tables; indexes = schema.indexes; views = schema.views } ≡ no_schema = rw (tables, indexes, views) refl in
     made
 
--- A connection over an empty file finds no table.
-pub finds_nothing : (conn : State) (image : Image) → IsLive conn → Opens conn → image.db ≡ [] → AreFoundIn image conn.committed.trees → conn.now.schema ≡ no_schema
-finds_nothing conn image live opens none (inl it) = absurd (let present : 0 < length image.db = it.3.found.present in let no : 0 < 0 = subst (λ (bytes : List ℕ). 0 < length bytes) none present in omega arith)
-finds_nothing conn image live opens none (inr it) =
-    bare_schema conn.now.schema conn.now.trees (ap (λ (d : Database). d.trees catalog_tree) opens.clean ∙ it.1.1) (live opens.is_open).0
+pub empty_is_nothing : (image : Image) → image.db ≡ [] → IsNothing image
+empty_is_nothing image none = inl (inl (ap length none))
+
+-- no name stands for a table there
+pub bare_lacks : (schema : Schema) → schema ≡ no_schema → (name : List ℕ) → Lacks schema name
+bare_lacks schema is name = ap (λ (s : Schema). table_of s name) is
+
+-- A connection over a database that lists nothing finds no table.
+pub finds_bare : (conn : State) (db : Trees) → IsLive conn → Opens conn → conn.committed.trees ≡ db → IsBare db → (name : List ℕ) → Lacks conn.now.schema name
+finds_bare conn db live opens is none =
+    let listed : conn.now.trees catalog_tree ≡ [] = ap (λ (d : Database). d.trees catalog_tree) opens.clean ∙ ap (λ (t : Trees). t catalog_tree) is ∙ none in
+    bare_lacks conn.now.schema (bare_schema conn.now.schema conn.now.trees listed (live opens.is_open).0)
+
+-- Nor does one over files that hold no database.
+pub finds_nothing : (conn : State) (image : Image) → IsLive conn → Opens conn → IsNothing image → AreFoundIn image conn.committed.trees → (name : List ℕ) → Lacks conn.now.schema name
+finds_nothing conn image live opens none (inl it) = absurd (not_there it.4 (λ ours. holds_something it.0 image it.1 it.3 ours.file.sound none))
+finds_nothing conn image live opens none (inr it) = finds_bare conn conn.committed.trees live opens refl it.1.1

@@ -1,7 +1,8 @@
 -- Opening both tables, one behind the other.
 use Rattle.std.proofs.Common.{◌≡◌, ◌⊎◌, inl, inr, ℕ, ◌+◌, Bool, List, [], ◌++◌, length, length-append, option_map, Option, Some, None, true, false, Ok, Err, IsTrue, refl, sym, ap, subst, ◌∙◌, arith}
-use Rattle.std.specs.Prelude.{unwrap_or, Result, IfOk, IfErr, OnOk}
+use Rattle.std.specs.Prelude.{map, unwrap_or, IsPermutation, Result, IfOk, IfErr, OnOk, OnErr}
 use Rattle.sqlite.specs.Effect.{Database}
+use Rattle.sqlite.specs.Order.{Row}
 use Rattle.sqlite.specs.Schema.{Schema}
 use Rattle.sqlite.proofs.StateLemmas.{survives_then}
 use Rattle.sqlite.specs.State.{State, HasCleanDisk, KeepsCommit, Survives, CommitsBy}
@@ -11,17 +12,18 @@ use Rattle.urb_stable.specs.Storing.{is_bad_row}
 use Rattle.urb_stable.specs.declared.stable.StoreFault.{StoreFault}
 use Rattle.urb_stable.specs.declared.stable.StoreFault.TheVariants.{BadRow}
 use Rattle.urb_sqlite.specs.declared.statements.Part.TheVariants.{First, Second}
-use Rattle.urb_sqlite.specs.Journal.{create_text, second_text, journal_name, second_name, limit_of, table_of, no_schema, Lacks, HasTable, HasBoth, HasJournal}
-use Rattle.urb_sqlite.specs.OpenJournal.{AddsTable, IsCounted, IsInStep, IsHonestJournal, IsMade, MakesAtMost, KeepsRows, CommitsEither}
+use Rattle.urb_sqlite.specs.Journal.{create_text, second_text, journal_name, second_name, limit_of, table_of, Lacks, HasTable, HasBoth, HasJournal, IsAdoptable}
+use Rattle.urb_sqlite.specs.OpenJournal.{AddsTable, IsCounted, IsInStep, IsHonestJournal, IsMade, IsLonger, MakesAtMost, KeepsRows, SparesRows, CommitsEither}
 use Rattle.urb_sqlite.specs.PartOpening.{IsRead, IsPartOpened, IsPartRefused}
 use Rattle.urb_sqlite.specs.Reading.{read_from, records_of}
-use Rattle.urb_sqlite.specs.Rows.{table_rows, StandsFor, Spells, IsFirstBadOf}
+use Rattle.urb_sqlite.specs.Rows.{shown, table_rows, StandsFor, Spells, IsFirstBad, IsFirstBadOf}
 use Rattle.urb_sqlite.specs.Shape.{is_journal, has_table}
 use Rattle.urb_sqlite.proofs.AddLemmas.{table_stays, has_before}
-use Rattle.urb_sqlite.proofs.CreateLemmas.{commits_one}
+use Rattle.urb_sqlite.proofs.CreateLemmas.{commits_one, longer_then}
 use Rattle.urb_sqlite.proofs.KeepLemmas.{earlier_clean, keeps_if_left, keeps_then}
 use Rattle.urb_sqlite.proofs.TextLemmas.{create_parsed}
 use Rattle.urb_sqlite.proofs.OpenLemmas.{rows_kept, rows_none, stands_made, stands_read}
+use Rattle.urb_sqlite.proofs.StandLemmas.{rows_absent, stands_same}
 use Rattle.urb_sqlite.proofs.PartLemmas.{none_read}
 use Rattle.urb_sqlite.proofs.SpellLemmas.{spells_if_read}
 
@@ -34,6 +36,10 @@ when_ok (Err e) P Q f h = tt
 pub when_err : {X E : Type 0} (r : Result X E) (P Q : E → Type 0) → ((e : E) → P e → Q e) → IfErr r P → IfErr r Q
 when_err (Ok x) P Q f h = tt
 when_err (Err e) P Q f h = f e h
+
+pub when_refused : {X E : Type 0} (r : Result X E) (P : E → Type 0) (Q : Type 0) → ((e : E) → P e → Q) → IfErr r P → OnErr r Q
+when_refused (Ok x) P Q f h = tt
+when_refused (Err e) P Q f h = f e h
 
 -- ---- what stood before a table was added
 
@@ -101,8 +107,8 @@ module _ (old mid new : State) (place next : ℕ) (one : IsPartOpened old mid Fi
   both_made : HasTable mid.now.schema journal_name → IsMade mid new second_name → HasBoth new.now.schema
   both_made has made = record { first = (made.adds.keeps journal_name has).0; second = made.adds.has }
 
-  pub found : HasCleanDisk new → HasJournal old.now.schema → IsHonestJournal new × StandsFor old.now (records_of new.now)
-  found clean has =
+  found_journal : HasCleanDisk new → HasJournal old.now.schema → IsHonestJournal new × StandsFor old.now (records_of new.now)
+  found_journal clean has =
       let same = one.found has.0 in
       let first : HasTable mid.now.schema journal_name = subst (λ (d : Database). HasTable d.schema journal_name) (sym same.0.now_is) has.0 in
       elim has.1 [
@@ -122,14 +128,52 @@ module _ (old mid new : State) (place next : ℕ) (one : IsPartOpened old mid Fi
             )
       ]
 
-  pub fresh : HasCleanDisk new → Lacks mid.now.schema second_name → old.now.schema ≡ no_schema → IsHonestJournal new × (records_of new.now ≡ [])
-  fresh clean lacks empty =
-      let begun = one.made (ap (λ (s : Schema). table_of s journal_name) empty) in
+  -- if the second table stands alone, the first is made behind it
+  found_second : HasCleanDisk new → Lacks old.now.schema journal_name → HasTable old.now.schema second_name → IsHonestJournal new × StandsFor old.now (records_of new.now)
+  found_second clean none second =
+      let begun = one.made none in
+      let kept = (begun.adds.keeps second_name second).0 in
+      let still = two.found kept in
+      let both : HasBoth new.now.schema = subst (λ (d : Database). HasBoth d.schema) (sym still.0.now_is) (record { first = begun.adds.has; second = kept }) in
+      let stands : StandsFor mid.now (records_of new.now) = subst (λ (d : Database). StandsFor d (records_of new.now)) still.0.now_is (counted both).stands in (
+        record { clean = clean; is_open = still.0.is_open; schema = both },
+        stands_same mid.now old.now (records_of new.now) (rows_absent old.now journal_name none ∙ sym (rows_none old.now mid.now journal_name begun.adds))
+            (sym (rows_kept old.now mid.now second_name journal_name begun.adds second)) stands,
+      )
+
+  -- What stands once both tables were made: none of them has a row.
+  record AreMade : Type 0 where
+    honest : IsHonestJournal new
+    first : table_rows new.now journal_name ≡ []
+    second : table_rows new.now second_name ≡ []
+
+  are_made : HasCleanDisk new → Lacks old.now.schema journal_name → Lacks mid.now.schema second_name → AreMade
+  are_made clean none lacks =
+      let begun = one.made none in
       let made = two.made lacks in
-      let both = both_made begun.adds.has made in
-      let first : table_rows new.now journal_name ≡ [] = rows_kept mid.now new.now journal_name second_name made.adds begun.adds.has ∙ rows_none old.now mid.now journal_name begun.adds in
-      let second : table_rows new.now second_name ≡ [] = rows_none mid.now new.now second_name made.adds in
-      (record { clean = clean; is_open = made.is_open; schema = both }, no_records new.now first second)
+      record {
+        honest = record { clean = clean; is_open = made.is_open; schema = both_made begun.adds.has made };
+        first = rows_kept mid.now new.now journal_name second_name made.adds begun.adds.has ∙ rows_none old.now mid.now journal_name begun.adds;
+        second = rows_none mid.now new.now second_name made.adds;
+      }
+
+  -- The second table is absent still once the first is there.
+  abbrev pub StaysApart : Type 0
+  StaysApart = Lacks old.now.schema second_name → Lacks mid.now.schema second_name
+
+  pub found : HasCleanDisk new → StaysApart → IsAdoptable old.now.schema → IsHonestJournal new × StandsFor old.now (records_of new.now)
+  found clean apart (inl has, second) = found_journal clean (has, second)
+  found clean apart (inr none, inl second) = found_second clean none second
+  found clean apart (inr none, inr lacks) =
+      let made = are_made clean none (apart lacks) in (
+        made.honest,
+        stands_same new.now old.now (records_of new.now) (rows_absent old.now journal_name none ∙ sym made.first) (rows_absent old.now second_name lacks ∙ sym made.second) (counted made.honest.schema).stands,
+      )
+
+  pub fresh : HasCleanDisk new → StaysApart → Lacks old.now.schema journal_name → Lacks old.now.schema second_name → IsHonestJournal new × (records_of new.now ≡ [])
+  fresh clean apart none lacks =
+      let made = are_made clean none (apart lacks) in
+      (made.honest, no_records new.now made.first made.second)
     where
       no_records : (d : Database) → table_rows d journal_name ≡ [] → table_rows d second_name ≡ [] → records_of d ≡ []
       no_records d first second =
@@ -151,8 +195,15 @@ stops_over old mid new most one two =
 pub refused_first : (old new : State) (e : StoreFault) → IsPartRefused old new First 1 e → HasJournal old.now.schema → KeepsRows old new e
 refused_first old new e it has = record { commit = inl (it.found has.0) }
 
-pub bad_first : (old new : State) (e : StoreFault) → IsPartRefused old new First 1 e → HasJournal old.now.schema → (at : ℕ) → e ≡ BadRow at → IsFirstBadOf old.now at
-bad_first old new e it has at is = inl (it.bad at is has.0)
+pub spared_first : (old new : State) (e : StoreFault) → IsPartRefused old new First 1 e → SparesRows old new
+spared_first old new e it = elim it.commit [
+  | inl keeps ↦ inl keeps
+  | inr adds ↦ inr (λ is_open. let added = adds is_open in (added.0, added.1.longer))
+]
+
+pub bad_first : (old new : State) (e : StoreFault) → IsPartRefused old new First 1 e → IsAdoptable old.now.schema → (at : ℕ) → e ≡ BadRow at → IsFirstBadOf old.now at
+bad_first old new e it (inl has, second) at is = inl (it.bad at is has)
+bad_first old new e it (inr none, second) at is = absurd (let n = ap is_bad_row (sym is) ∙ it.rowless none in cc)
 
 module _ (old mid new : State) (place : ℕ) (e : StoreFault) (one : IsPartOpened old mid First 1 place) (two : IsPartRefused mid new Second place e) where
   pub refused_second : HasJournal old.now.schema → KeepsRows old new e
@@ -174,19 +225,51 @@ module _ (old mid new : State) (place : ℕ) (e : StoreFault) (one : IsPartOpene
             ]
       ]
 
-  pub bad_second : HasJournal old.now.schema → (at : ℕ) → e ≡ BadRow at → IsFirstBadOf old.now at
-  bad_second has at is =
-      let same = one.found has.0 in
-      let first : HasTable mid.now.schema journal_name = subst (λ (d : Database). HasTable d.schema journal_name) (sym same.0.now_is) has.0 in
-      let before = one.read first in
-      let spells : Spells (limit_of First) 1 (table_rows mid.now journal_name) before.records = spells_if_read (limit_of First) (omega arith) 1 (table_rows mid.now journal_name) before.records (omega arith) before.read in
-      elim has.1 [
-        | inl second ↦
-            let has_second = subst (λ (d : Database). HasTable d.schema second_name) (sym same.0.now_is) second in
-            let bad = two.bad at is has_second in
-            subst (λ (d : Database). IsFirstBadOf d at) same.0.now_is
-            (inr (before.records, spells, bad.0, bad.1, subst (λ n. Rattle.urb_sqlite.specs.Rows.IsFirstBad (limit_of Second) n bad.0 at) before.place bad.2))
-        | inr none ↦
-            let rowless = two.rowless (subst (λ (d : Database). Lacks d.schema second_name) (sym same.0.now_is) none) in
-            absurd (let n = ap is_bad_row (sym is) ∙ rowless in cc)
-      ]
+  pub spared_second : SparesRows old new
+  spared_second = elim one.most [
+    | inl same ↦ elim two.commit [
+      | inl keeps ↦ inl (keeps_then old mid new (keeps_if_left old mid (inl same)) keeps)
+      | inr adds ↦ inr (λ is_open. (same.0.was_open, subst (λ (d : Database). IsLonger d new.committed) same.0.now_is (adds is_open).1.longer))
+    ]
+    | inr made ↦ inr (λ is_open. (
+      made.was_open,
+      elim two.commit [
+        | inl keeps ↦ subst (IsLonger old.now) (one.settled (keeps.was_open is_open) ∙ sym (keeps.committed is_open)) made.adds.longer
+        | inr adds ↦ longer_then old.now mid.now new.committed made.adds.longer (adds is_open).1.longer
+      ],
+    ))
+  ]
+
+  -- the records of the first table, before the second
+  before : HasTable mid.now.schema journal_name → (records : List Entry) × Spells (limit_of First) 1 (table_rows mid.now journal_name) records × (place ≡ 1 + length records)
+  before has =
+      let read = one.read has in
+      (read.records, spells_if_read (limit_of First) (omega arith) 1 (table_rows mid.now journal_name) read.records (omega arith) read.read, read.place)
+
+  bad_both : HasTable old.now.schema journal_name → HasTable old.now.schema second_name → (at : ℕ) → e ≡ BadRow at → IsFirstBadOf old.now at
+  bad_both has second at is =
+      let same = (one.found has).0.now_is in
+      let read = before (subst (λ (d : Database). HasTable d.schema journal_name) (sym same) has) in
+      let bad = two.bad at is (subst (λ (d : Database). HasTable d.schema second_name) (sym same) second) in
+      subst (λ (d : Database). IsFirstBadOf d at) same (inr (read.0, read.1, bad.0, bad.1, subst (λ n. IsFirstBad (limit_of Second) n bad.0 at) read.2 bad.2))
+
+  -- behind a first table that was made there is none before the bad row
+  bad_alone : Lacks old.now.schema journal_name → HasTable old.now.schema second_name → (at : ℕ) → e ≡ BadRow at → IsFirstBadOf old.now at
+  bad_alone none second at is =
+      let begun = one.made none in
+      let kept = begun.adds.keeps second_name second in
+      let read = before begun.adds.has in
+      let bad = two.bad at is kept.0 in
+      let rows : table_rows mid.now journal_name ≡ table_rows old.now journal_name = rows_none old.now mid.now journal_name begun.adds ∙ sym (rows_absent old.now journal_name none) in
+      inr (
+        read.0,
+        subst (λ (rows : List Row). Spells (limit_of First) 1 rows read.0) rows read.1,
+        bad.0,
+        record { same = subst (λ (rows : List Row). IsPermutation (map shown rows) bad.0) kept.1 bad.1.same; sorted = bad.1.sorted },
+        subst (λ n. IsFirstBad (limit_of Second) n bad.0 at) read.2 bad.2,
+      )
+
+  pub bad_second : (Lacks old.now.schema second_name → Lacks mid.now.schema second_name) → IsAdoptable old.now.schema → (at : ℕ) → e ≡ BadRow at → IsFirstBadOf old.now at
+  bad_second apart (inl has, inl second) at is = bad_both has second at is
+  bad_second apart (inr none, inl second) at is = bad_alone none second at is
+  bad_second apart (first, inr lacks) at is = absurd (let n = ap is_bad_row (sym is) ∙ two.rowless (apart lacks) in cc)

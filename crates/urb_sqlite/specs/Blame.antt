@@ -1,4 +1,4 @@
--- What a refusal of the database is to a store.
+-- The store's fault for a refusal of the database.
 use Rattle.std.specs.Prelude.{ℕ, ◌+◌, ◌==◌, ◌||◌, Bool, true, false, if◌then◌else◌}
 use Rattle.sqlite.specs.declared.error.Error.{Error}
 use Rattle.sqlite.specs.declared.error.Error.TheVariants.{SqliteFailure}
@@ -6,12 +6,12 @@ use Rattle.sqlite.specs.declared.error.ErrorCode.TheVariants as code
 use Rattle.urb_stable.specs.declared.stable.StoreFault.{StoreFault}
 use Rattle.urb_stable.specs.declared.stable.StoreFault.TheVariants.{NoMemory, Device}
 
--- whether the database refused for memory
+-- whether the database refused for want of memory
 abbrev pub is_memory : Error → Bool
 is_memory (SqliteFailure code.OutOfMemory) = true
 is_memory _ = false
 
--- The fault that a refusal is, and the count of failures after it: any refusal but for memory is Device and counts. At the
--- greatest count there is no higher one, and the refusal is NoMemory.
+-- The fault for a refusal, and the count of failures after it. Every refusal except for memory is
+-- Device, and counts. At the greatest count there is no higher one, and the refusal is NoMemory.
 abbrev pub blamed : Error → ℕ → StoreFault × ℕ
 blamed e failures = if is_memory e || failures == 18446744073709551615 then (NoMemory, failures) else (Device, failures + 1)

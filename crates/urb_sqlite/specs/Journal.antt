@@ -1,4 +1,4 @@
--- The two tables of a journal: their texts, their limits, and where they stand in a schema.
+-- The two tables of a journal: their texts, their limits, and their places in a schema.
 use Rattle.std.specs.Prelude.{◌≡◌, ◌^◌, ◌==◌, nat_le, ℕ, true, false, List, [], ◌∷◌, find, codes, Option, Some, option_map, option_and_then, slice_get, unwrap_or, None, ◌⊎◌}
 use Rattle.urb_names.specs.declared.message.TheConstants.{MAX_PAYLOAD}
 use Rattle.urb_sqlite.specs.declared.statements.Part.{Part}
@@ -12,7 +12,7 @@ use Rattle.sqlite_schema.specs.declared.schema.Column.{Column}
 use Rattle.sqlite.specs.Kind.TheVariants.{Integer}
 use Rattle.sqlite.specs.Kind.TheVariants as kind
 
--- the name of the table that stood first
+-- the name of the table that came first
 abbrev pub journal_name : List ℕ
 journal_name = codes "journal"
 
@@ -20,25 +20,26 @@ journal_name = codes "journal"
 abbrev pub second_name : List ℕ
 second_name = codes "journal2"
 
--- the name of each
+-- the name of each table
 abbrev pub name_of : Part → List ℕ
 name_of First = journal_name
 name_of Second = second_name
 
--- the most bytes that a payload has in a table
+-- the greatest number of bytes of a payload in a table: 1,024 in the first, and as many as in a
+-- message in the second
 abbrev pub limit_of : Part → ℕ
 limit_of First = 1024
 limit_of Second = MAX_PAYLOAD
 
--- the text that makes the first table where it is absent
+-- the text that makes the first table if it is absent
 abbrev pub create_text : List ℕ
 create_text = codes "CREATE TABLE IF NOT EXISTS journal(pos INTEGER PRIMARY KEY, kind INTEGER NOT NULL, sender INTEGER NOT NULL, seq INTEGER NOT NULL, client INTEGER NOT NULL, number INTEGER NOT NULL, payload BLOB NOT NULL) STRICT"
 
--- the text that makes the second one where it is absent
+-- the text that makes the second table if it is absent
 abbrev pub second_text : List ℕ
 second_text = codes "CREATE TABLE IF NOT EXISTS journal2(pos INTEGER PRIMARY KEY, kind INTEGER NOT NULL, sender INTEGER NOT NULL, seq INTEGER NOT NULL, client INTEGER NOT NULL, number INTEGER NOT NULL, payload BLOB NOT NULL) STRICT"
 
--- the text that makes each
+-- the text that makes each table
 abbrev pub create_of : Part → List ℕ
 create_of First = create_text
 create_of Second = second_text
@@ -47,7 +48,7 @@ create_of Second = second_text
 abbrev pub insert_text : List ℕ
 insert_text = codes "INSERT INTO journal2 VALUES (?1, ?2, ?3, ?4, ?5, ?6, ?7)"
 
--- the texts that read all records
+-- the text that reads all records of each table
 abbrev pub select_of : Part → List ℕ
 select_of First = codes "SELECT pos, kind, sender, seq, client, number, payload FROM journal ORDER BY pos"
 select_of Second = codes "SELECT pos, kind, sender, seq, client, number, payload FROM journal2 ORDER BY pos"
@@ -56,7 +57,7 @@ select_of Second = codes "SELECT pos, kind, sender, seq, client, number, payload
 abbrev pub integer : List ℕ → Column
 integer name = record { name = name; kind = Integer; is_strict = true; not_null = true; default = Null; collation = Binary }
 
--- the table of records with this name, whose rows stand in this tree
+-- the table of records with this name; its rows are in this tree
 abbrev pub record_table : List ℕ → ℕ → Table
 record_table name tree = record {
   name = name;
@@ -75,21 +76,22 @@ record_table name tree = record {
   is_counted = false;
 }
 
--- the table of this name, wherever it stands in the schema
+-- the table with this name, wherever it is in the schema
 abbrev pub table_of : Schema → List ℕ → Option Table
 table_of schema name = option_and_then (slice_get schema.tables) (table_named schema name)
 
--- the tree that has the rows of the table of this name, and 0 where there is no such table
+-- the tree that has the rows of the table with this name; 0 if there is no such table
 abbrev pub tree_of : Schema → List ℕ → ℕ
 tree_of schema name = unwrap_or (option_map (λ t. t.tree) (table_of schema name)) 0
 
--- The schema's table of this name is one of records; no table before it has its tree, and the tree is a stored one.
+-- The schema's table with this name is a table of records. No table before it has its tree, and the
+-- tree is a stored one.
 pub record HasTable (schema : Schema) (name : List ℕ) : Type 0 where
   pub there : table_of schema name ≡ Some (record_table name (tree_of schema name))
   pub alone : find (λ t. t.tree == tree_of schema name) schema.tables ≡ Some (record_table name (tree_of schema name))
   pub stored : nat_le (2 ^ 31) (tree_of schema name) ≡ false
 
--- the schema has no table of this name
+-- the schema has no table with this name
 abbrev pub Lacks : Schema → List ℕ → Type 0
 Lacks schema name = table_of schema name ≡ None
 
@@ -98,9 +100,18 @@ pub record HasBoth (schema : Schema) : Type 0 where
   pub first : HasTable schema journal_name
   pub second : HasTable schema second_name
 
--- The table journal is there, and journal2 is there too or absent.
+-- The table journal is there. The table journal2 is there too, or is absent.
 abbrev pub HasJournal : Schema → Type 0
 HasJournal schema = HasTable schema journal_name × (HasTable schema second_name ⊎ Lacks schema second_name)
+
+-- the table of this name is one of records, or there is none
+abbrev pub MayTake : Schema → List ℕ → Type 0
+MayTake schema name = HasTable schema name ⊎ Lacks schema name
+
+-- Each of the two tables is one of records or is absent, so a journal opens here. Other tables
+-- change nothing.
+abbrev pub IsAdoptable : Schema → Type 0
+IsAdoptable schema = MayTake schema journal_name × MayTake schema second_name
 
 -- a database with no table
 abbrev pub no_schema : Schema

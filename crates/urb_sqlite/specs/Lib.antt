@@ -7,3 +7,4 @@ pub mod Blame
 pub mod Stops
 pub mod Shape
 pub mod Nodes
+pub mod Closed

@@ -1,4 +1,4 @@
--- What contracts see of a journal that is open.
+-- What contracts see of an open journal.
 use Rattle.std.specs.Prelude.{◌≡◌, ℕ, ◌+◌, Bool, false, List, [], ◌∷◌, ◌++◌, length, IsTrue, refl, ◌⊎◌}
 use Rattle.std.specs.Coded.{Coded, code_by, coded×, coded_ℕ, coded_bool}
 use Rattle.sqlite.specs.Held.{Held, held_code}
@@ -8,22 +8,27 @@ use Rattle.sqlite.specs.Table.{Table}
 use Rattle.urb_stable.specs.Storing.{is_bad_row}
 use Rattle.urb_stable.specs.declared.stable.StoreFault.{StoreFault}
 use Rattle.sqlite.specs.Tree.{Trees}
+use Rattle.sqlite_trees.specs.Objects.{catalog_tree}
+use Rattle.sqlite_wal.specs.Recovery.{Image}
+use Rattle.sqlite_pool.specs.Opening.{IsBlankFile}
+use Rattle.sqlite.specs.Files.{IsNothing}
 use Rattle.sqlite.specs.Effect.{Database}
 use Rattle.sqlite_catalog.specs.Listing.{IsSound}
 use Rattle.urb_stable.specs.Entries.{Entry}
 use Rattle.sqlite.specs.Schema.{Schema}
-use Rattle.urb_sqlite.specs.Journal.{create_text, journal_name, second_name, tree_of, HasTable, HasBoth, HasJournal}
+use Rattle.urb_sqlite.specs.Journal.{create_text, journal_name, second_name, tree_of, HasTable, HasBoth, HasJournal, IsAdoptable}
 use Rattle.urb_sqlite.specs.Rows.{StandsFor}
 use Rattle.urb_sqlite.specs.Reading.{records_of}
 
--- the connection, the next position, whether a store has failed since the last retrieve, and how often the device has failed
+-- The connection, the next position, whether a store has failed since the last retrieve, and how
+-- often the device has failed.
 pub record OpenJournal (S : Type 0) : Type 0 where
   pub conn : Held S
   pub next : ℕ
   pub doubtful : Bool
   pub failures : ℕ
 
--- an open journal can be told apart by its parts
+-- an open journal, encoded as the tuple of its parts, so that proofs can tell journals apart
 abbrev pub open_code : {S : Type 0} → Coded S → Coded (OpenJournal S)
 open_code {S} store =
     code_by (Held S × (ℕ × (Bool × ℕ))) (coded× (held_code store) (coded× coded_ℕ (coded× coded_bool coded_ℕ)))
@@ -31,22 +36,24 @@ open_code {S} store =
     (λ p. record { conn = p.0; next = p.1.0; doubtful = p.1.1.0; failures = p.1.1.1 })
     (λ _. refl)
 
--- each row of the journal is a record, and the next position follows the last
+-- Each row of the journal is a record, and the next position follows the last row.
 pub record IsCounted (d : Database) (next : ℕ) : Type 0 where
   pub stands : StandsFor d (records_of d)
   pub place : next ≡ length (records_of d) + 1
 
--- No transaction is open, all rows are committed, and where both tables are there they are counted.
+-- No transaction is open, and all rows are committed. If both tables are there, their rows are
+-- counted.
 pub record IsKept (s : State) (next : ℕ) : Type 0 where
   pub autocommit : s.in_transaction ≡ false
   pub settled : s.now ≡ s.committed
   pub counted : HasBoth s.now.schema → IsCounted s.now next
 
--- While the disk is clean and the connection open, the next position is in step with the rows.
+-- While the disk is clean and the connection open, the next position agrees with the rows.
 abbrev pub IsInStep : State → ℕ → Type 0
 IsInStep s next = HasCleanDisk s → IsTrue s.is_open → IsKept s next
 
--- So far the disk has given back what was written, no fault has shut the database, and both of its tables are there.
+-- So far the disk has given back what was written, no fault has shut the database, and both of its
+-- tables are there.
 pub record IsHonestJournal (s : State) : Type 0 where
   pub clean : HasCleanDisk s
   pub is_open : IsTrue s.is_open
@@ -62,44 +69,65 @@ pub record IsJournal (db : Trees) : Type 0 where
 abbrev pub database_of : {db : Trees} → IsJournal db → Database
 database_of {db} journal = record { schema = journal.schema; trees = db }
 
+-- These trees are a database in which a journal opens. It may have other tables alone, or one table
+-- of a journal.
+pub record IsBase (db : Trees) : Type 0 where
+  pub schema : Schema
+  pub has : IsAdoptable schema
+  pub sound : IsSound schema db
+
+-- the database that these trees are
+abbrev pub base_of : {db : Trees} → IsBase db → Database
+base_of {db} base = record { schema = base.schema; trees = db }
+
+-- These trees are a database that lists no table, index or view.
+abbrev pub IsBare : Trees → Type 0
+IsBare db = db catalog_tree ≡ []
+
+-- The files hold no database. The database file is empty, whatever the log holds, or has only a
+-- part of its first page. This program makes that page with 1,024 bytes; an older one made it with
+-- 4,096.
+abbrev pub IsUnmade : Image → Type 0
+IsUnmade image = IsBlankFile 1024 image ⊎ IsNothing image
+
 -- a fault has shut the database
 abbrev pub IsShutJournal : State → Type 0
 IsShutJournal s = IsTrue s.is_open → ⊥
 
--- Whatever a stop leaves is a journal of records of which P holds.
+-- Whatever a stop leaves is a journal of records, and P holds of the records.
 abbrev pub LeavesOnly : State → (List Entry → Type 0) → Type 0
 LeavesOnly s P = (db : Trees) → s.may_leave db → (journal : IsJournal db) × (records : List Entry) × StandsFor (database_of journal) records × P records
 
 -- ---- what a call does to a journal
 
--- a database got tables behind its others, which keep their rows
+-- The database got tables behind its other tables, which keep their rows.
 pub record IsLonger (old new : Database) : Type 0 where
   pub more : List Table
   pub tables : new.schema.tables ≡ old.schema.tables ++ more
   pub rows : AllByRecursion (λ (t : Table). new.trees t.tree ≡ old.trees t.tree) old.schema.tables
 
--- a database got the empty table of this name behind its others, which keep their rows
+-- The database got the empty table with this name behind its other tables, which keep their rows.
 pub record AddsTable (old new : Database) (name : List ℕ) : Type 0 where
   pub has : HasTable new.schema name
   pub empty : new.trees (tree_of new.schema name) ≡ []
   pub longer : IsLonger old new
   pub keeps : (other : List ℕ) → HasTable old.schema other → HasTable new.schema other × (new.trees (tree_of new.schema other) ≡ old.trees (tree_of old.schema other))
 
--- the connection was open and is, and the table of this name was added
+-- The connection was open and still is, and the table with this name was added.
 pub record IsMade (old new : State) (name : List ℕ) : Type 0 where
   pub was_open : IsTrue old.is_open
   pub is_open : IsTrue new.is_open
   pub adds : AddsTable old.now new.now name
 
--- nothing changed, or the table of this name was added
+-- nothing changed, or the table with this name was added
 abbrev pub MakesAtMost : State → State → List ℕ → Type 0
 MakesAtMost old new name = IsUnchanged old new ⊎ IsMade old new name
 
--- what was committed has the table of this name behind what was there
+-- the committed database has the table with this name behind what was there
 abbrev pub CommitsTable : State → State → List ℕ → Type 0
 CommitsTable old new name = IsTrue new.is_open → IsTrue old.is_open × AddsTable old.now new.committed name
 
--- nothing was committed, or the table of this name was
+-- nothing was committed, or the table with this name was committed
 abbrev pub CommitsAtMost : State → State → List ℕ → Type 0
 CommitsAtMost old new name = KeepsCommit old new ⊎ CommitsTable old new name
 
@@ -123,20 +151,26 @@ IsSafeAtRest s = IsHonestJournal s → LeavesOnly s (λ records. records ≡ rec
 
 -- ---- what opening leaves
 
--- these trees are the first database with the empty table of this name behind its others
+-- these trees are the first database with the empty table of this name behind its other tables
 pub record AddsOne (old : Database) (name : List ℕ) (db : Trees) : Type 0 where
   pub after : Database
   pub adds : AddsTable old after name
   pub sound : IsSound after.schema after.trees
   pub is : db ≡ after.trees
 
--- What a stop inside an opening may leave beside what was there: the database with the first table, or then with the second.
+-- What a stop inside an opening may leave beside what was there: the database with the first table,
+-- or with the second table added after it.
 abbrev pub CommitsEither : State → Trees → Type 0
 CommitsEither s db =
     CommitsBy create_text [] s db
     ⊎ ((mid : Database) × ((mid ≡ s.now) ⊎ AddsTable s.now mid journal_name) × AddsOne mid second_name db)
 
--- A journal that is refused keeps its rows: nothing was committed, or the second table alone, which is empty; a bad row of the
--- first table commits nothing.
+-- A refused journal keeps its rows. Nothing was committed, or only the second table, which is
+-- empty. A bad row of the first table commits nothing.
 pub record KeepsRows (old new : State) (e : StoreFault) : Type 0 where
   pub commit : KeepsCommit old new ⊎ (CommitsTable old new second_name × (is_bad_row e ≡ false))
+
+-- Any database that is refused keeps its rows. Either nothing was committed, or tables were
+-- committed behind those that were there.
+abbrev pub SparesRows : State → State → Type 0
+SparesRows old new = KeepsCommit old new ⊎ (IsTrue new.is_open → IsTrue old.is_open × IsLonger old.now new.committed)

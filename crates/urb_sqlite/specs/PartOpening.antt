@@ -1,4 +1,4 @@
--- What opening one table of a journal finds, and what its refusal leaves.
+-- What the opening of one table of a journal finds, and what its refusal leaves.
 use Rattle.std.specs.Prelude.{◌≡◌, ◌⊎◌, ℕ, ◌+◌, Bool, true, false, List, length, IsTrue, Ok}
 use Rattle.sqlite.specs.Effect.{Database}
 use Rattle.sqlite.specs.Order.{Row}
@@ -14,7 +14,8 @@ use Rattle.urb_sqlite.specs.Reading.{read_from}
 use Rattle.urb_sqlite.specs.Rows.{table_rows, IsInOrder, IsFirstBad}
 use Rattle.urb_sqlite.specs.Shape.{has_table}
 
--- the rows of this table are records, the first of which is at the place `first`, and the next place is behind them
+-- The rows of this table are records. The first one is at the place `first`, and the next free
+-- place follows the last.
 pub record IsRead (d : Database) (part : Part) (first next : ℕ) : Type 0 where
   pub records : List Entry
   pub read : read_from (limit_of part) first (table_rows d (name_of part)) ≡ Ok records
@@ -30,8 +31,8 @@ pub record IsPartOpened (old new : State) (part : Part) (first next : ℕ) : Typ
   pub autocommit : new.in_transaction ≡ false
   pub settled : IsTrue new.is_open → new.now ≡ new.committed
 
--- Nothing was committed, or the empty table; and nothing where the table was there. A bad row is the first of a table that was
--- there.
+-- Nothing or the empty table was committed. If the table was there, nothing was committed. A bad
+-- row is the first one of a table that was there.
 pub record IsPartRefused (old new : State) (part : Part) (first : ℕ) (e : StoreFault) : Type 0 where
   pub commit : CommitsAtMost old new (name_of part)
   pub found : HasTable old.now.schema (name_of part) → KeepsCommit old new

@@ -1,4 +1,5 @@
--- How rows are read one by one: the record of a row, and the place of the first row that is no record.
+-- How rows are read one by one: the record of a row, and the place of the first row that is no
+-- record.
 use Rattle.std.specs.Prelude.{ℕ, ◌+◌, ◌^◌, ◌==◌, ◌&&◌, Bool, nat_lt, nat_le, if◌then◌else◌, ℤ, pos, negsuc, List, [], ◌∷◌, ◌++◌, length, Option, Some, None, option_map, option_and_then, Result, Ok, Err}
 use Rattle.sqlite.specs.declared.types.Value.{Value}
 use Rattle.sqlite.specs.declared.types.Value.TheVariants.{Null, Int, Real, Text, Blob}
@@ -13,12 +14,12 @@ use Rattle.urb_sqlite.specs.Journal.{journal_name, second_name, limit_of}
 use Rattle.urb_sqlite.specs.declared.statements.Part.TheVariants.{First, Second}
 use Rattle.urb_sqlite.specs.Rows.{table_rows}
 
--- an integer that is a number of 32 bits
+-- the integer as a number of 32 bits, if it is one
 abbrev pub word_in : ℤ → Option ℕ
 word_in (pos n) = if nat_lt n (2 ^ 32) then Some n else None
 word_in (negsuc n) = None
 
--- the number in a column, where it is one of 32 bits
+-- the number in a column, if it is a number of 32 bits
 abbrev pub number_in : Value → Option ℕ
 number_in Null = None
 number_in (Int n) = word_in n
@@ -45,7 +46,7 @@ numbers_in row =
 abbrev pub is_name : ℕ → ℕ → Bool
 is_name sender seq = is_node 7 sender && nat_lt 0 seq
 
--- whether these are the parts of a message, with at most so many bytes
+-- whether these are the parts of a message with at most `limit` bytes
 abbrev pub is_message : ℕ → ℕ → ℕ → List ℕ → Bool
 is_message limit client number payload = nat_lt 0 client && nat_lt client 65536 && nat_lt 0 number && nat_le (length payload) limit
 
@@ -61,7 +62,7 @@ name_in c = record { sender = c.sender; seq = c.seq }
 abbrev pub message_in : Columns → List ℕ → Content
 message_in c payload = record { client = c.client; number = c.number; payload = payload }
 
--- the record of its kind
+-- the record in these columns, by its kind, if there is one
 abbrev pub record_by : ℕ → Columns → List ℕ → Option Entry
 record_by limit c payload =
     if c.kind == 1 then (if is_message limit c.client c.number payload then Some (Pend (name_in c) (message_in c payload)) else None)
@@ -76,36 +77,38 @@ record_in limit place c payload = if c.pos == place && nat_lt place 4294967295 &
 abbrev pub record_at : ℕ → ℕ → Row → Option Entry
 record_at limit place row = option_and_then (λ c. option_and_then (record_in limit place c) (bytes_in (column row 6))) (numbers_in row)
 
--- a record before others that were read, or the place of the first row that is none
+-- A record before others that were read. Or the place of the first row that is no record.
 abbrev pub joined : ℕ → Option Entry → Result (List Entry) ℕ → Result (List Entry) ℕ
 joined place None rest = Err place
 joined place (Some r) (Ok rs) = Ok (r ∷ rs)
 joined place (Some r) (Err bad) = Err bad
 
--- the records of these rows, the first of which is at this place, or the place of the first row that is no record
+-- The records of these rows, the first one at this place. Or the place of the first row that is no
+-- record.
 unfoldable pub read_from : ℕ → ℕ → List Row → Result (List Entry) ℕ
 read_from limit place [] = Ok []
 read_from limit place (row ∷ rows) = joined place (record_at limit place row) (read_from limit (place + 1) rows)
 
--- the same, behind records that were read before
+-- the same, after records that were read before
 abbrev pub extended : List Entry → Result (List Entry) ℕ → Result (List Entry) ℕ
 extended done (Ok rs) = Ok (done ++ rs)
 extended done (Err bad) = Err bad
 
--- the records that were read, or none
+-- the records that were read; none after a bad row
 abbrev pub ok_or_none : Result (List Entry) ℕ → List Entry
 ok_or_none (Ok rs) = rs
 ok_or_none (Err bad) = []
 
--- what is read behind records that were read, whose number the reading may know
+-- what is read after the records that were read; the reading may use their number
 abbrev pub followed : Result (List Entry) ℕ → (List Entry → Result (List Entry) ℕ) → Result (List Entry) ℕ
 followed (Ok rs) next = extended rs (next rs)
 followed (Err bad) next = Err bad
 
--- the rows of both tables, whose places run on
+-- the rows of both tables; their places run on from the first table to the second
 abbrev pub read_both : List Row → List Row → Result (List Entry) ℕ
 read_both first second = followed (read_from (limit_of First) 1 first) (λ rs. read_from (limit_of Second) (1 + length rs) second)
 
--- the records that a journal stands for, or none where some row is no record
+-- the records that a journal stands for, which contracts call its certain list; none if some row is
+-- no record
 abbrev pub records_of : Database → List Entry
 records_of d = ok_or_none (read_both (table_rows d journal_name) (table_rows d second_name))

@@ -1,4 +1,4 @@
--- The row of a record, the rows of a table, and the records that they stand for.
+-- The row of a record, the rows of a table, and the records behind the rows.
 use Rattle.std.specs.Prelude.{◌≡◌, IsPermutation, IsSorted, All, ℕ, ◌+◌, ◌<◌, ◌≤◌, pos, List, [], ◌∷◌, ◌++◌, length, map, ◌⊎◌, option_map, unwrap_or}
 use Rattle.sqlite.specs.declared.types.Value.TheVariants.{Null, Int, Blob}
 use Rattle.sqlite.specs.Order.{Row, column, value_cmp}
@@ -18,18 +18,20 @@ abbrev pub columns_of : ℕ → ℕ → ℕ → ℕ → ℕ → ℕ → List ℕ
 columns_of place kind sender seq client number payload =
     Int (pos place) ∷ Int (pos kind) ∷ Int (pos sender) ∷ Int (pos seq) ∷ Int (pos client) ∷ Int (pos number) ∷ Blob payload ∷ []
 
--- The row of a record at a place. Its kind is 1, 2 or 3; a certificate alone has client 0, number 0 and no bytes.
+-- The row of a record at a place. Its kind is 1, 2 or 3. A certificate without a message has client
+-- 0, number 0 and no bytes.
 abbrev pub row_of : ℕ → Entry → Row
 row_of place (Pend name m) = columns_of place 1 name.sender name.seq m.client m.number m.payload
 row_of place (PendCert name m) = columns_of place 2 name.sender name.seq m.client m.number m.payload
 row_of place (Cert name) = columns_of place 3 name.sender name.seq 0 0 []
 
--- the rows of records, the first of which is at this place
+-- the rows of records, the first one at this place
 abbrev pub rows_of : ℕ → List Entry → List Row
 rows_of place [] = []
 rows_of place (r ∷ records) = row_of place r ∷ rows_of (place + 1) records
 
--- what a table's tree has for a row: its number, no value for the key's own column, and the other columns
+-- what a table's tree has for a row: its number, no value for the key's own column, and the other
+-- columns
 abbrev pub kept_row : ℕ → ℕ → ℕ → ℕ → ℕ → ℕ → List ℕ → Row
 kept_row place kind sender seq client number payload =
     Int (pos place) ∷ Null ∷ Int (pos kind) ∷ Int (pos sender) ∷ Int (pos seq) ∷ Int (pos client) ∷ Int (pos number) ∷ Blob payload ∷ []
@@ -67,7 +69,8 @@ payload_of (Pend name m) = m.payload
 payload_of (PendCert name m) = m.payload
 payload_of (Cert name) = []
 
--- its name and message are within their limits, and its payload within that of the table
+-- The record's name and message are within their limits, and its payload is within the table's
+-- limit.
 pub record IsWithin (limit : ℕ) (r : Entry) : Type 0 where
   pub entry : IsEntry r
   pub payload : length (payload_of r) ≤ limit
@@ -76,7 +79,8 @@ pub record IsWithin (limit : ℕ) (r : Entry) : Type 0 where
 abbrev pub columns_in : Row → Row
 columns_in row = column row 0 ∷ column row 1 ∷ column row 2 ∷ column row 3 ∷ column row 4 ∷ column row 5 ∷ column row 6 ∷ []
 
--- These rows are those of the records, the first at this place. The last place, 4,294,967,295, has none.
+-- These rows are those of the records, the first one at this place. The last place, 4,294,967,295,
+-- has no row.
 pub record Spells (limit first : ℕ) (rows : List Row) (records : List Entry) : Type 0 where
   pub spelled : map columns_in rows ≡ rows_of first records
   pub limits : All (IsWithin limit) records
@@ -86,7 +90,7 @@ pub record Spells (limit first : ℕ) (rows : List Row) (records : List Entry) :
 abbrev pub IsNoRecord : ℕ → ℕ → Row → Type 0
 IsNoRecord limit place row = (r : Entry) → IsWithin limit r → place < 4294967295 → columns_in row ≡ row_of place r → ⊥
 
--- The row at this place is no record, and those before it are records.
+-- The row at this place is no record, and all rows before it are records.
 pub record IsFirstBad (limit first : ℕ) (rows : List Row) (place : ℕ) : Type 0 where
   pub good : List Row
   pub records : List Entry
@@ -97,11 +101,11 @@ pub record IsFirstBad (limit first : ℕ) (rows : List Row) (place : ℕ) : Type
   pub here : place ≡ first + length records
   pub bad : IsNoRecord limit place row
 
--- the rows of the table of this name, in order of pos; none where there is no such table
+-- the rows of the table with this name, in order of pos; none if there is no such table
 abbrev pub table_rows : Database → List ℕ → List Row
 table_rows d name = unwrap_or (option_map (λ t. rows_in t.tree d.trees) (table_of d.schema name)) []
 
--- The two tables stand for these records, one behind the other: their places run on over both.
+-- The two tables stand for these records, one table after the other: their places run on over both.
 pub record StandsFor (d : Database) (records : List Entry) : Type 0 where
   pub first : List Entry
   pub second : List Entry
@@ -109,7 +113,7 @@ pub record StandsFor (d : Database) (records : List Entry) : Type 0 where
   pub in_first : Spells (limit_of First) 1 (table_rows d journal_name) first
   pub in_second : Spells (limit_of Second) (1 + length first) (table_rows d second_name) second
 
--- The first row that is no record, over both tables, is the one at this place.
+-- Over both tables, the first row that is no record is the one at this place.
 abbrev pub IsFirstBadOf : Database → ℕ → Type 0
 IsFirstBadOf d place =
     ((rows : List Row) × IsInOrder (tree_of d.schema journal_name) d.trees rows × IsFirstBad (limit_of First) 1 rows place)

@@ -1,4 +1,4 @@
--- Whether a table is that of a journal, by its parts.
+-- Whether a table is a journal's table, judged by its parts.
 use Rattle.std.specs.Prelude.{ℕ, Bool, true, false, not, ◌&&◌, ◌==◌, List, codes, length, slice_get, option_map, option_and_then, unwrap_or}
 use Rattle.std.specs.Str.{bytes_eq}
 use Rattle.sqlite_value.specs.declared.keys.Collation.{Collation}
@@ -12,39 +12,40 @@ use Rattle.sqlite_schema.specs.declared.schema.Table.{Table}
 use Rattle.sqlite_schema.specs.declared.schema.Schema.{Schema}
 use Rattle.sqlite_schema.specs.Names.{table_named, is_key}
 
--- whether it is no value
+-- whether the value is null
 abbrev pub is_null : Value → Bool
 is_null Null = true
 is_null _ = false
 
--- whether bytes are compared as they are
+-- whether the collation compares bytes as they are
 abbrev pub is_binary : Collation → Bool
 is_binary Binary = true
 is_binary _ = false
 
--- whether it is the type of integers
+-- whether the type is that of integers
 abbrev pub is_integer : Kind → Bool
 is_integer Integer = true
 is_integer _ = false
 
--- whether it is the type of bytes
+-- whether the type is that of bytes
 abbrev pub is_blob : Kind → Bool
 is_blob Blob = true
 is_blob _ = false
 
--- whether a column has this name, takes values of its type alone, and has neither a default nor a collation
+-- whether a column has this name, takes only values of its type, and has no default and no
+-- collation
 abbrev pub is_plain : List ℕ → Column → Bool
 is_plain name c = bytes_eq c.name name && c.is_strict && is_null c.default && is_binary c.collation
 
--- whether it is the rowid
+-- whether the column is the rowid
 abbrev pub is_rowid : List ℕ → Column → Bool
 is_rowid name c = is_plain name c && is_integer c.kind && not c.not_null
 
--- whether it is a column of integers that is not null
+-- whether the column has integers and is not null
 abbrev pub is_count : List ℕ → Column → Bool
 is_count name c = is_plain name c && is_integer c.kind && c.not_null
 
--- whether it is a column of bytes that is not null
+-- whether the column has bytes and is not null
 abbrev pub is_bytes : List ℕ → Column → Bool
 is_bytes name c = is_plain name c && is_blob c.kind && c.not_null
 
@@ -65,19 +66,19 @@ are_columns cs =
 abbrev pub is_keyed : Table → Bool
 is_keyed t = is_key t.key 0 && length t.primary == 1 && unwrap_or (option_map (λ k. k == 0) (slice_get t.primary 0)) false
 
--- whether no rule stands beside the columns
+-- whether the table has no rule beside its columns
 abbrev pub is_free : Table → Bool
 is_free t = length t.uniques == 0 && length t.orders == 0 && length t.checks == 0 && length t.references == 0
 
--- whether no value is computed
+-- whether no value of the table is computed
 abbrev pub is_written : Table → Bool
 is_written t =
     length t.computed == 0 && length t.stamps.places == 0 && length t.stamps.terms == 0 && length t.stamps.formats == 0 && not t.is_counted
 
--- whether the table has this name and is one of records, in whatever tree
+-- whether the table has this name and is a table of records, in any tree
 abbrev pub is_journal : List ℕ → Table → Bool
 is_journal name t = bytes_eq t.name name && are_columns t.columns && is_keyed t && is_free t && is_written t
 
--- whether the table that has the name is one of records
+-- whether the table with this name is a table of records
 abbrev pub has_table : List ℕ → Schema → Bool
 has_table name schema = unwrap_or (option_map (is_journal name) (option_and_then (slice_get schema.tables) (table_named schema name))) false

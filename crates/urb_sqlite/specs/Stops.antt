@@ -1,31 +1,34 @@
 -- What the next opening finds after a stop: one journal, and those of all nodes of a cluster.
-use Rattle.std.specs.Prelude.{◌≡◌, ◌⊎◌, ℕ, suc, IsTrue, List, [], ◌∷◌, ◌++◌, Option, Some, Result, Ok, Err, slice_get}
+use Rattle.std.specs.Prelude.{◌≡◌, ◌⊎◌, List, [], ◌∷◌, ◌++◌, Option, Result, Ok, Err}
 use Rattle.std.specs.List.{All}
-use Rattle.sqlite_disk.specs.declared.Disk as disk
 use Rattle.sqlite.specs.State.{State, HasCleanDisk}
 use Rattle.urb_stable.specs.Entries.{Entry}
 use Rattle.urb_stable.specs.Storing.{IsContents}
 use Rattle.urb_stable.specs.declared.stable.Stable.{Ghosts}
 use Rattle.urb_group.specs.Clustered.{Clustered}
+use Rattle.urb_group.specs.Clusters.{Applies}
 use Rattle.urb_group.specs.Reopening.{ContinuesFrom}
 use Rattle.urb_group.specs.Shown.{GroupView}
-use Rattle.urb_group.specs.Stocked.{IsSecured, LeavesOf}
+use Rattle.urb_group.specs.Stocked.{IsSecured}
 use Rattle.urb_group.specs.World.{World}
+use Rattle.urb_group.specs.declared.command.Command.{Command}
+use Rattle.urb_node.specs.Replies.{Reply}
 use Rattle.urb_sqlite.specs.OpenJournal.{IsHonestJournal, LeavesOnly}
 use Rattle.urb_sqlite.specs.Reading.{records_of}
 
--- The records before, or with the one that was stored; where its store had succeeded, these with it.
+-- The records before, or these and the one that was stored. If its store had succeeded, these and
+-- this one.
 abbrev pub IsFoundAfter : {A E : Type 0} → Result A E → List Entry → Entry → List Entry → Type 0
 IsFoundAfter (Ok _) before r found = found ≡ before ++ r ∷ []
 IsFoundAfter (Err e) before r found = (found ≡ before) ⊎ (found ≡ before ++ r ∷ [])
 
--- The new journal was opened after a stop of the old one: while the storage gives back what was written, it is honest, and
--- holds what the stop left, whatever that is.
+-- The new journal was opened after a stop of the old one. While the storage gives back what was
+-- written, the new journal is honest, and holds what the stop left, whatever that is.
 pub record IsReopened (old new : State) : Type 0 where
   pub clean : HasCleanDisk new → HasCleanDisk old
   pub left : HasCleanDisk new → (certain : List Entry) (doubtful : Option Entry) → LeavesOnly old (IsContents certain doubtful) → IsHonestJournal new × IsContents certain doubtful (records_of new.now)
 
--- the same for several, one after the other
+-- the same for several journals, one after the other
 abbrev pub AreReopened : {S : Type 0} → List S → List S → (S → State) → Type 0
 AreReopened [] [] at = Unit {0}
 AreReopened (old ∷ before) (new ∷ after) at = IsReopened (at old) (at new) × AreReopened before after at
@@ -36,6 +39,14 @@ module _ {S A : Type 0} (g : Ghosts S A) where
   abbrev pub IsContinuation : World → GroupView → Type 0
   IsContinuation w group = (passed : List S) × ContinuesFrom g w passed group
 
-  -- the new cluster goes on from the world that the secured one showed, as far as the storages have given back what was written
+  -- The new cluster goes on from the world that the secured one showed, as far as the storages have
+  -- given back what was written.
   abbrev pub GoesOnFrom : Clustered S → Clustered S → Type 0
   GoesOnFrom old new = (secured : IsSecured g old) → All g.is_clean new.stores → IsContinuation secured.stocked.world new.group
+
+  -- The command was done with this reply, and the new cluster goes on from the world that it led to.
+  pub record GoesOnBehind (old : Clustered S) (what : Command A) (reply : Reply) (new : Clustered S) : Type 0 where
+    pub between : Clustered S
+    pub done : Applies g old what reply between
+    pub secured : IsSecured g old → IsSecured g between
+    pub goes_on : GoesOnFrom between new

@@ -5,6 +5,7 @@ ghost use Rattle.sqlite_trees.specs.Objects.{catalog_tree};
 ghost use Rattle.sqlite_trees.specs.Tree.{Trees};
 ghost use Rattle.sqlite_store.specs.FileStore.{state as store_state, view};
 ghost use Rattle.sqlite_store.specs.Unopened.{state_of, files_of, wanted_by, AreUsable};
+ghost use Rattle.sqlite_pool.specs.Opening.{IsBlankFile};
 ghost use Rattle.sqlite_wal.specs.PageSize.{bytes_of};
 ghost use Rattle.sqlite_wal.specs.Reads.{AreClean, OnlyReads};
 ghost use Rattle.sqlite.specs.Files.{file_state, image_of, HoldsDatabase};
@@ -41,9 +42,9 @@ pub fn is_blank<D: Disk>(alloc: Global, files: &mut Files<D>) -> Result<bool, St
     ensures fault { IfErr result (λ e. is_place e ≡ false) }
     ensures log { OnlyReads D.Disk files.old.log files.new.log }
     ensures db { OnlyReads D.Disk files.old.db files.new.db }
-    // An empty database file is none, whatever its log holds.
+    // Files are blank if the database file is empty, whatever the log holds, or has only a part of its first page.
     ensures empty { IfOk result (λ blank. AreClean D.Disk files.new.log files.new.db
-        → (image_of D.Disk files.old).db ≡ []
+        → IsBlankFile 1024 (image_of D.Disk files.old)
         → IsTrue blank) }
     // What is taken for no database is none, whatever its page size.
     ensures none { IfOk result (λ blank. AreClean D.Disk files.new.log files.new.db

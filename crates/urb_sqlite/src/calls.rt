@@ -8,14 +8,15 @@ ghost use Rattle.urb_sqlite.specs.Blame.{is_memory, blamed};
 ghost use Rattle.urb_stable.specs.Entries.{Entry};
 ghost use Rattle.urb_names.specs.declared.message.TheConstants.{MAX_PAYLOAD};
 ghost use Rattle.urb_sqlite.specs.Journal as journal;
-ghost use Rattle.urb_sqlite.specs.Journal.{create_of, name_of, second_name, limit_of, tree_of, no_schema, Lacks, HasTable, HasBoth, HasJournal};
+ghost use Rattle.urb_sqlite.specs.Journal.{create_of, name_of, journal_name, second_name, limit_of, tree_of, Lacks, HasTable, HasBoth, HasJournal, IsAdoptable};
 ghost use Rattle.urb_sqlite.specs.declared.statements.Part.TheVariants.{First, Second};
 ghost use Rattle.urb_sqlite.specs.Rows.{table_rows, IsInOrder, IsFirstBad, IsFirstBadOf, StandsFor};
 ghost use Rattle.urb_sqlite.specs.Reading.{read_from, records_of};
 ghost use Rattle.urb_sqlite.specs.Shape.{has_table};
-ghost use Rattle.urb_sqlite.specs.OpenJournal.{IsCounted, IsInStep, IsHonestJournal, IsMade, IsShutJournal, MakesAtMost, CommitsAtMost, KeepsRows, CommitsEither, IsAppended, IsLeft, IsSafeAtRest, LeavesOnly};
+ghost use Rattle.urb_sqlite.specs.OpenJournal.{IsCounted, IsInStep, IsHonestJournal, IsMade, IsShutJournal, MakesAtMost, CommitsAtMost, KeepsRows, CommitsEither, SparesRows, IsAppended, IsLeft, IsSafeAtRest, LeavesOnly};
 ghost use Rattle.urb_sqlite.specs.PartOpening.{IsPartOpened, IsPartRefused};
 
+use crate::rows::ReadFault;
 use crate::statements::Part;
 use crate::{rows, shape, statements};
 use sqlite::{Alter, Connection, Error, ErrorCode};
@@ -94,6 +95,22 @@ fn limit_of(part: Part) -> usize
     }
 }
 
+/// The fault that this is to a store. A refusal of the database is blamed.
+fn fault_of(failures: &mut u64, fault: ReadFault) -> StoreFault
+    ensures row { (place : ℕ)
+        → result ≡ StoreFault.BadRow place
+        → fault ≡ ReadFault.BadRow place }
+    ensures placed { is_place result ≡ false }
+    ensures device { result ≡ StoreFault.Device → failures.old < failures.new }
+    ensures counts { failures.old ≤ failures.new }
+{
+    match fault {
+        ReadFault::Sqlite(error) => blame(failures, error),
+        ReadFault::NoMemory => StoreFault::NoMemory,
+        ReadFault::BadRow(place) => StoreFault::BadRow(place),
+    }
+}
+
 /// Reads the records of one table, the first of which is at the place `first`, by one SELECT.
 fn read_part<S: Alter>(
     alloc: Global,
@@ -141,11 +158,11 @@ fn read_part<S: Alter>(
     ensures calm { OnOk result (failures.new ≡ failures.old) }
 {
     let _before = conn.schema();
-    let selected = statements::select(conn, part);
+    let read = rows::read_rows(alloc, conn, part, limit_of(part), first);
     let _after = conn.schema();
-    match selected {
-        Ok(rows) => rows::records_in(alloc, limit_of(part), first, &rows),
-        Err(error) => Err(blame(failures, error)),
+    match read {
+        Ok(records) => Ok(records),
+        Err(fault) => Err(fault_of(failures, fault)),
     }
 }
 
@@ -250,9 +267,9 @@ pub fn prepare<S: Alter>(
     ensures err { HasCleanDisk (state S.Store conn.new)
         → OnErr result
         (CommitsAtMost (state S.Store conn.old) (state S.Store conn.new) (name_of part)) }
-    ensures fresh { HasCleanDisk (state S.Store conn.new)
+    ensures apart { HasCleanDisk (state S.Store conn.new)
         → part ≡ First
-        → (state S.Store conn.old).now.schema ≡ no_schema
+        → Lacks (state S.Store conn.old).now.schema second_name
         → OnOk result (Lacks (state S.Store conn.new).now.schema second_name) }
     ensures stop { Survives (state S.Store conn.old) (state S.Store conn.new)
         (CommitsBy (create_of part) [] (state S.Store conn.old)) }
@@ -284,9 +301,9 @@ fn open_part<S: Alter>(
         → IsPartOpened (state S.Store conn.old) (state S.Store conn.new) part first next) }
     ensures refused { IfErr result (λ e. HasCleanDisk (state S.Store conn.new)
         → IsPartRefused (state S.Store conn.old) (state S.Store conn.new) part first e) }
-    ensures fresh { HasCleanDisk (state S.Store conn.new)
+    ensures apart { HasCleanDisk (state S.Store conn.new)
         → part ≡ First
-        → (state S.Store conn.old).now.schema ≡ no_schema
+        → Lacks (state S.Store conn.old).now.schema second_name
         → OnOk result (Lacks (state S.Store conn.new).now.schema second_name) }
     ensures placed { IfErr result (λ e. is_place e ≡ false) }
     ensures stop { Survives (state S.Store conn.old) (state S.Store conn.new)
@@ -314,25 +331,29 @@ pub fn take_over<S: Alter>(
         → has_table (name_of Second) (state S.Store conn.new).now.schema ≡ true) }
     ensures kept { IfOk result (λ next. IsInStep (state S.Store conn.new) next) }
     ensures fresh { HasCleanDisk (state S.Store conn.new)
-        → (state S.Store conn.old).now.schema ≡ no_schema
+        → Lacks (state S.Store conn.old).now.schema journal_name
+        → Lacks (state S.Store conn.old).now.schema second_name
         → OnOk result (IsHonestJournal (state S.Store conn.new)
         × (records_of (state S.Store conn.new).now ≡ [])) }
     ensures found { HasCleanDisk (state S.Store conn.new)
-        → HasJournal (state S.Store conn.old).now.schema
+        → IsAdoptable (state S.Store conn.old).now.schema
         → OnOk result (IsHonestJournal (state S.Store conn.new)
         × StandsFor (state S.Store conn.old).now (records_of (state S.Store conn.new).now)) }
     ensures bad { HasCleanDisk (state S.Store conn.new)
-        → HasJournal (state S.Store conn.old).now.schema
+        → IsAdoptable (state S.Store conn.old).now.schema
         → IfErr result (λ e. (place : ℕ)
         → e ≡ StoreFault.BadRow place
         → IsFirstBadOf (state S.Store conn.old).now place) }
     ensures rowless { HasCleanDisk (state S.Store conn.new)
-        → (state S.Store conn.old).now.schema ≡ no_schema
+        → Lacks (state S.Store conn.old).now.schema journal_name
+        → Lacks (state S.Store conn.old).now.schema second_name
         → IfErr result (λ e. is_bad_row e ≡ false) }
     ensures placed { IfErr result (λ e. is_place e ≡ false) }
     ensures refused { HasCleanDisk (state S.Store conn.new)
         → HasJournal (state S.Store conn.old).now.schema
         → IfErr result (λ e. KeepsRows (state S.Store conn.old) (state S.Store conn.new) e) }
+    ensures spared { HasCleanDisk (state S.Store conn.new)
+        → OnErr result (SparesRows (state S.Store conn.old) (state S.Store conn.new)) }
     ensures stop { Survives (state S.Store conn.old) (state S.Store conn.new)
         (CommitsEither (state S.Store conn.old)) }
     ensures live { OnOk result (IsLive (state S.Store conn.new)) }

@@ -4,11 +4,11 @@ ghost use Rattle.std.specs.Prelude.{ℕ, ◌≡◌, ◌⊎◌, ◌<◌, ◌≤�
 ghost use Rattle.sqlite.specs.State.{HasCleanDisk, Survives};
 ghost use Rattle.sqlite.specs.Held.{state};
 ghost use Rattle.urb_stable.specs.Storing.{is_place, is_bad_row, is_out_of_place, IsPlaced, IsContents};
-ghost use Rattle.urb_sqlite.specs.Journal.{no_schema, journal_name, second_name, HasJournal};
+ghost use Rattle.urb_sqlite.specs.Journal.{journal_name, second_name, Lacks, HasJournal, IsAdoptable};
 ghost use Rattle.urb_sqlite.specs.Rows.{IsFirstBadOf, StandsFor};
 ghost use Rattle.urb_sqlite.specs.Reading.{records_of};
 ghost use Rattle.urb_sqlite.specs.Shape.{has_table};
-ghost use Rattle.urb_sqlite.specs.OpenJournal.{OpenJournal, IsInStep, IsHonestJournal, KeepsRows, CommitsEither, IsSafeAtRest, LeavesOnly};
+ghost use Rattle.urb_sqlite.specs.OpenJournal.{OpenJournal, IsInStep, IsHonestJournal, KeepsRows, SparesRows, CommitsEither, IsSafeAtRest, LeavesOnly};
 
 use crate::calls;
 use sqlite::{Alter, Connection};
@@ -75,30 +75,35 @@ impl<S: Alter> SqlStable<S> {
             → has_table second_name (state S.Store s.conn).now.schema ≡ true) }
         // No record is doubtful, and no failure is counted.
         ensures new { IfOk result (λ s. (s.doubtful ≡ false) × (s.failures ≡ 0)) }
-        // A database with no table becomes a journal with no record.
+        // If neither table is there, the journal has no record, whatever other tables there are.
         ensures fresh { IfOk result (λ s. HasCleanDisk (state S.Store s.conn)
-            → (state S.Store conn).now.schema ≡ no_schema
+            → Lacks (state S.Store conn).now.schema journal_name
+            → Lacks (state S.Store conn).now.schema second_name
             → IsHonestJournal (state S.Store s.conn)
             × (records_of (state S.Store s.conn).now ≡ [])) }
-        // A journal that is there, of one table or of both, has its records.
+        // If each table is one of records or is absent, the rows are the records. Either table may stand alone.
         ensures found { IfOk result (λ s. HasCleanDisk (state S.Store s.conn)
-            → HasJournal (state S.Store conn).now.schema
+            → IsAdoptable (state S.Store conn).now.schema
             → IsHonestJournal (state S.Store s.conn)
             × StandsFor (state S.Store conn).now (records_of (state S.Store s.conn).now)) }
         // BadRow names the first row that is no record, over both tables, and no refusal is Place.
         ensures bad { IfErr result (λ e. HasCleanDisk (state S.Store e.0)
-            → HasJournal (state S.Store conn).now.schema
+            → IsAdoptable (state S.Store conn).now.schema
             → (place : ℕ)
             → e.1 ≡ StoreFault.BadRow place
             → IsFirstBadOf (state S.Store conn).now place) }
         ensures rowless { IfErr result (λ e. HasCleanDisk (state S.Store e.0)
-            → (state S.Store conn).now.schema ≡ no_schema
+            → Lacks (state S.Store conn).now.schema journal_name
+            → Lacks (state S.Store conn).now.schema second_name
             → is_bad_row e.1 ≡ false) }
         ensures placed { IfErr result (λ e. is_place e.1 ≡ false) }
         // A journal that is refused keeps its rows.
         ensures kept { IfErr result (λ e. HasCleanDisk (state S.Store e.0)
             → HasJournal (state S.Store conn).now.schema
             → KeepsRows (state S.Store conn) (state S.Store e.0) e.1) }
+        // So does any database that is refused: at most it gets tables behind its others.
+        ensures spared { IfErr result (λ e. HasCleanDisk (state S.Store e.0)
+            → SparesRows (state S.Store conn) (state S.Store e.0)) }
         // A stop inside this call leaves what was there before, or what a CREATE commits; one after it, the records.
         ensures stop { IfOk result (λ s. Survives (state S.Store conn) (state S.Store s.conn)
             (CommitsEither (state S.Store conn))) }

@@ -1,14 +1,17 @@
-//! One journal a node: a SQLite database with a row for each stored record, as a `Stable` of `urb_stable`.
+//! One journal for each node: a SQLite database with a row for each stored record.
+//!
+//! It is a `Stable` of `urb_stable`.
 //!
 //! ```text
-//! let journal = open_node::<K>(rt, path, node)?;         // makes the tables where they are absent, and reads the rows once
+//! let journal = open_node::<K>(rt, path, node)?;         // makes absent tables, and reads the rows once
 //! let receipt = draft.keep(&mut journal)?;               // one INSERT, one commit, one sync
 //! close_node(rt, path, journal)?;                        // one file is left
 //! ```
 //!
-//! `open_nodes` and `close_nodes` do this for all nodes of a group, `open_node_in` and `close_node_in` for one of them. `adopt`
-//! takes a connection over, and `stop_and_open` carries the theorem from a stop inside any call to the next opening. A row that
-//! is there is never changed or removed.
+//! `open_nodes` and `close_nodes` do this for all nodes of a group, `open_node_in` and
+//! `close_node_in` for one node. `adopt` takes over a connection. `stop_and_open` carries the
+//! theorem from a stop inside any call to the next opening. A stored row is never changed or
+//! removed.
 #![tactic(auto)]
 
 mod blank;
@@ -24,6 +27,7 @@ mod statements;
 mod stop;
 mod stopping;
 
+pub use close::Copied;
 pub use journal::SqlStable;
 pub use node_file::{Contents, NodeFile, Unnamed};
 pub use nodes::{

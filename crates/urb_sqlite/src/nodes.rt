@@ -3,14 +3,19 @@
 ghost use Rattle.std.specs.Prelude.{◌≡◌, ◌⊎◌, length, true, false, IfOk, IfErr, IsTrue};
 ghost use Rattle.sqlite.specs.Files.{image_of};
 ghost use Rattle.sqlite_wal.specs.Files.{image_at};
+ghost use Rattle.sqlite_wal.specs.Format.{be32};
+ghost use Rattle.sqlite_wal.specs.PageSize.{size_in_file};
+ghost use Rattle.sqlite_wal.specs.Reads.{AreClean, OnlyReads};
+ghost use Rattle.sqlite_wal.specs.Recovery.{IsIgnored};
 ghost use Rattle.urb_stable.specs.Storing.{is_place};
-ghost use Rattle.urb_sqlite.specs.Nodes.{held_by, AreFoundIn, IsFoundIn};
+ghost use Rattle.urb_sqlite.specs.Nodes.{held_by, AreFoundIn, AreLogPages, IsFoundIn};
 
 use crate::close::closed_at;
 use crate::{Contents, NodeFile, SqlStable};
 use sqlite::{FileFrom, FileStore, Files, Options, Start};
 use sqlite_disk::Disk;
 use sqlite_std_file::OpenError;
+use sqlite_wal::probe_page_size;
 use std::hash::{BuildHasher, RandomState};
 use std::io::ErrorKind;
 use std::rt::HostRuntime;
@@ -107,9 +112,35 @@ fn files_of_node<K: Contents>(
     }
 }
 
-/// How many pages come into a node's log before they are moved into its file, two a record: four times as many as SQLite
-/// takes by itself, so that fewer than one message in a hundred waits for such a move in a group of three.
-const LOG_PAGES: usize = 4000;
+/// A node's log is moved into its file when it has so many bytes of pages. That is 16,000 pages of a new journal, and 4,000 of
+/// an old one, whose pages have 4,096 bytes. A record takes two pages, and a message of three nodes is four records. So one
+/// message in two thousand waits for such a move.
+const LOG_BYTES: usize = 16_384_000;
+
+/// The same in pages, if the files hold no database yet: a new journal has pages of 1,024 bytes.
+const NEW_LOG_PAGES: usize = 16_000;
+
+/// How many pages the log of these files takes, by the size of their pages. Nothing is written. `Device`: a file can't be read.
+fn log_pages<D: Disk>(files: &mut Files<D>) -> Result<usize, StoreFault>
+    requires log { IsTrue (D.Disk.is_usable files.old.log) }
+    requires db { IsTrue (D.Disk.is_usable files.old.db) }
+    ensures fault { IfErr result (λ e. e ≡ StoreFault.Device) }
+    ensures log { OnlyReads D.Disk files.old.log files.new.log }
+    ensures db { OnlyReads D.Disk files.old.db files.new.db }
+    // A log that is to be read has pages of the size that it names, and any other log those of the database file.
+    ensures by_log { IfOk result (λ pages. AreClean D.Disk files.new.log files.new.db
+        → ¬ IsIgnored (D.Disk.seen files.old.log)
+        → AreLogPages (be32 (D.Disk.seen files.old.log) 8) pages) }
+    ensures by_file { IfOk result (λ pages. AreClean D.Disk files.new.log files.new.db
+        → IsIgnored (D.Disk.seen files.old.log)
+        → AreLogPages (size_in_file (D.Disk.seen files.old.db)) pages) }
+{
+    match probe_page_size(files) {
+        Ok(Some(size)) => Ok(LOG_BYTES / size.bytes()),
+        Ok(None) => Ok(NEW_LOG_PAGES),
+        Err(_) => Err(StoreFault::Device),
+    }
+}
 
 /// Opens the journal of a node at this path, as of `SqlStable::open`, where `K` stands for what the node's files hold: for a
 /// program that opens one journal a node, and comes back to what it stored before.
@@ -133,8 +164,8 @@ pub fn open_node<K: Contents>(
         return Err(StoreFault::Device);
     };
     let mut options = Options::new(random.hash_one(&0u8));
-    options.checkpoint_frames = LOG_PAGES;
-    let files = files_of_node::<K>(rt, path, node)?;
+    let mut files = files_of_node::<K>(rt, path, node)?;
+    options.checkpoint_frames = log_pages(&mut files)?;
     SqlStable::open_files(rt.alloc(), files, options)
 }
 

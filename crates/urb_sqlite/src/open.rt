@@ -2,14 +2,14 @@
 
 ghost use Rattle.std.specs.Prelude.{◌≡◌, ◌⊎◌, [], false, IfOk, IfErr, IsTrue};
 ghost use Rattle.sqlite.specs.State.{HasCleanDisk};
-ghost use Rattle.sqlite.specs.Files.{file_state, image_of, HoldsDatabase};
+ghost use Rattle.sqlite.specs.Files.{file_state, image_of, HoldsDatabase, IsNothing};
 ghost use Rattle.sqlite.specs.WalFiles.{image_at};
 ghost use Rattle.sqlite_wal.specs.Reads.{AreClean};
 ghost use Rattle.urb_stable.specs.Storing.{is_place};
 ghost use Rattle.urb_sqlite.specs.Blame.{blamed};
 ghost use Rattle.urb_sqlite.specs.Rows.{StandsFor};
 ghost use Rattle.urb_sqlite.specs.Reading.{records_of};
-ghost use Rattle.urb_sqlite.specs.OpenJournal.{IsHonestJournal, IsJournal, IsSafeAtRest, database_of};
+ghost use Rattle.urb_sqlite.specs.OpenJournal.{IsBare, IsBase, IsHonestJournal, IsJournal, IsSafeAtRest, IsUnmade, base_of, database_of};
 
 use crate::{SqlStable, blank, calls};
 use sqlite::{Connection, Error, File, FileFrom, FileStore, Files, Options, Start, Unknown};
@@ -64,6 +64,24 @@ impl<S: Start> SqlStable<FileStore<FileFrom<S>>> {
             → (journal : IsJournal db)
             → IsHonestJournal (file_state s.conn)
             × StandsFor (database_of journal) (records_of (file_state s.conn).now)) }
+        // If a first start was stopped before it made a table, the files hold no database or one that lists nothing.
+        // The journal has no record then.
+        ensures unmade { IfOk result (λ s. HasCleanDisk (file_state s.conn)
+            → IsNothing (image_at S.Start)
+            → IsHonestJournal (file_state s.conn) × (records_of (file_state s.conn).now ≡ [])) }
+        ensures empty { IfOk result (λ s. HasCleanDisk (file_state s.conn)
+            → (db : _)
+            → HoldsDatabase (image_at S.Start) db
+            → IsBare db
+            → IsHonestJournal (file_state s.conn) × (records_of (file_state s.conn).now ≡ [])) }
+        // If the files hold a database with other tables alone, or with one table of a journal, its rows are the
+        // records.
+        ensures adopted { IfOk result (λ s. HasCleanDisk (file_state s.conn)
+            → (db : _)
+            → HoldsDatabase (image_at S.Start) db
+            → (base : IsBase db)
+            → IsHonestJournal (file_state s.conn)
+            × StandsFor (base_of base) (records_of (file_state s.conn).now)) }
     {
         match Connection::open_from(rt, path, false, start) {
             Ok(conn) => match SqlStable::adopt(rt.alloc(), conn) {
@@ -102,6 +120,24 @@ impl<D: Disk + Drop> SqlStable<FileStore<D>> {
             → (journal : IsJournal db)
             → IsHonestJournal (file_state s.conn)
             × StandsFor (database_of journal) (records_of (file_state s.conn).now)) }
+        // If a first start was stopped before it made a table, the files hold no database or one that lists nothing.
+        // The journal has no record then.
+        ensures unmade { IfOk result (λ s. HasCleanDisk (file_state s.conn)
+            → IsUnmade (image_of D.Disk files)
+            → IsHonestJournal (file_state s.conn) × (records_of (file_state s.conn).now ≡ [])) }
+        ensures empty { IfOk result (λ s. HasCleanDisk (file_state s.conn)
+            → (db : _)
+            → HoldsDatabase (image_of D.Disk files) db
+            → IsBare db
+            → IsHonestJournal (file_state s.conn) × (records_of (file_state s.conn).now ≡ [])) }
+        // If the files hold a database with other tables alone, or with one table of a journal, its rows are the
+        // records.
+        ensures adopted { IfOk result (λ s. HasCleanDisk (file_state s.conn)
+            → (db : _)
+            → HoldsDatabase (image_of D.Disk files) db
+            → (base : IsBase db)
+            → IsHonestJournal (file_state s.conn)
+            × StandsFor (base_of base) (records_of (file_state s.conn).now)) }
     {
         let mut files = files;
         match blank::is_blank(alloc, &mut files) {
@@ -166,6 +202,24 @@ impl<D: Disk + Drop> SqlStable<FileStore<D>> {
             → (journal : IsJournal db)
             → IsHonestJournal (file_state s.conn)
             × StandsFor (database_of journal) (records_of (file_state s.conn).now)) }
+        // If a first start was stopped before it made a table, the files hold no database or one that lists nothing.
+        // The journal has no record then.
+        ensures unmade { IfOk result (λ s. HasCleanDisk (file_state s.conn)
+            → IsNothing (image_of D.Disk files)
+            → IsHonestJournal (file_state s.conn) × (records_of (file_state s.conn).now ≡ [])) }
+        ensures empty { IfOk result (λ s. HasCleanDisk (file_state s.conn)
+            → (db : _)
+            → HoldsDatabase (image_of D.Disk files) db
+            → IsBare db
+            → IsHonestJournal (file_state s.conn) × (records_of (file_state s.conn).now ≡ [])) }
+        // If the files hold a database with other tables alone, or with one table of a journal, its rows are the
+        // records.
+        ensures adopted { IfOk result (λ s. HasCleanDisk (file_state s.conn)
+            → (db : _)
+            → HoldsDatabase (image_of D.Disk files) db
+            → (base : IsBase db)
+            → IsHonestJournal (file_state s.conn)
+            × StandsFor (base_of base) (records_of (file_state s.conn).now)) }
     {
         match Connection::open_files(alloc, files, options) {
             Ok(conn) => match SqlStable::adopt(alloc, conn) {

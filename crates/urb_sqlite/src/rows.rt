@@ -1,16 +1,21 @@
 //! The rows of a table of records, and the records that they stand for.
 
-ghost use Rattle.std.specs.Prelude.{◌≡◌, ◌⊎◌, ◌<◌, ◌≤◌, ◌+◌, ℕ, length, IfOk, IfErr, option_copied, option_map, Option, Some, None, IsTrue};
+ghost use Rattle.std.specs.Prelude.{◌≡◌, ◌⊎◌, ◌<◌, ◌≤◌, ◌+◌, ℕ, [], length, IfOk, IfErr, OnErr, Ok, Err, option_copied, option_map, Option, Some, None, IsTrue};
+ghost use Rattle.sqlite.specs.State.{HasCleanDisk, IsUnchanged, IsRolledBack, Shown, Begins, Survives};
+ghost use Rattle.sqlite.specs.Held.{state};
 ghost use Rattle.sqlite.specs.Order.{column};
+ghost use Rattle.urb_sqlite.specs.Journal.{select_of};
 ghost use Rattle.urb_sqlite.specs.Reading as reading;
 ghost use Rattle.urb_sqlite.specs.Reading.{read_from};
 ghost use Rattle.urb_names.specs.declared.message.TheConstants.{MAX_PAYLOAD};
 
-use sqlite::Row;
+use crate::statements;
+use crate::statements::Part;
 use sqlite::types::ValueRef;
-use std::alloc::Global;
+use sqlite::{Alter, Connection, Error, Row};
+use std::alloc::{AllocFailed, Global};
 use urb_names::{ClientId, MAX_PAYLOAD, Message, Name, NoMemory, NodeId};
-use urb_stable::{Record, StoreFault};
+use urb_stable::Record;
 
 /// The numbers of a row.
 #[derive(Clone, Copy, Drop)]
@@ -131,28 +136,92 @@ fn record_at(alloc: Global, limit: usize, place: u32, row: &Row) -> Result<Optio
     record_in(alloc, limit, place, columns, payload)
 }
 
-/// The records of rows, the first of which is at the place `first`, or the place of the first row that is no record.
-/// A payload has at most `limit` bytes.
-pub fn records_in(
+/// Why reading a table stopped before its end.
+#[derive(Drop)]
+pub enum ReadFault {
+    /// The database refused.
+    Sqlite(Error),
+    /// An allocation was refused.
+    NoMemory,
+    /// The row at this place is no record.
+    BadRow(u32),
+}
+
+impl From<Error> for ReadFault {
+    ghost use Rattle.std.specs.Prelude.{◌≡◌};
+    ghost use Rattle.urb_sqlite.specs.declared.rows.ReadFault.TheVariants.{Sqlite};
+
+    ghost from_gives = { λ e fault. fault ≡ Sqlite e };
+
+    fn from(error: Error) -> ReadFault {
+        ReadFault::Sqlite(error)
+    }
+}
+
+impl From<NoMemory> for ReadFault {
+    ghost use Rattle.std.specs.Prelude.{◌≡◌};
+    ghost use Rattle.urb_sqlite.specs.declared.rows.ReadFault.TheVariants.{NoMemory as no_memory};
+
+    ghost from_gives = { λ _ fault. fault ≡ no_memory };
+
+    fn from(_: NoMemory) -> ReadFault {
+        ReadFault::NoMemory
+    }
+}
+
+impl<T: Drop> From<AllocFailed<T>> for ReadFault {
+    ghost use Rattle.std.specs.Prelude.{◌≡◌};
+    ghost use Rattle.urb_sqlite.specs.declared.rows.ReadFault.TheVariants.{NoMemory as no_memory};
+
+    ghost from_gives = { λ _ fault. fault ≡ no_memory };
+
+    fn from(_: AllocFailed<T>) -> ReadFault {
+        ReadFault::NoMemory
+    }
+}
+
+/// Reads the records of a table row by row, so that a batch of rows at most is in memory beside them. The first row is at the
+/// place `first`, and a payload has at most `limit` bytes. The rows behind a bad one are not read.
+pub fn read_rows<S: Alter>(
     alloc: Global,
+    conn: &mut Connection<S>,
+    part: Part,
     limit: usize,
     first: u32,
-    rows: &[Row],
-) -> Result<Vec<Record>, StoreFault>
+) -> Result<Vec<Record>, ReadFault>
     requires { limit ≤ MAX_PAYLOAD }
-    ensures records { IfOk result (λ records. read_from limit first rows.now ≡ Ok records.items) }
+    ensures records { HasCleanDisk (state S.Store conn.new)
+        → IfOk result (λ records. (rows : _)
+        × Shown (select_of part) [] (state S.Store conn.old) (state S.Store conn.new) rows
+        × (read_from limit first rows ≡ Ok records.items)) }
     ensures short { IfOk result (λ records. first + length records.items ≤ 4294967295) }
-    ensures fault { IfErr result (λ e. (e ≡ StoreFault.NoMemory)
-        ⊎ ((bad : ℕ) × (e ≡ StoreFault.BadRow bad) × (read_from limit first rows.now ≡ Err bad))) }
+    ensures bad { HasCleanDisk (state S.Store conn.new)
+        → IfErr result (λ e. (place : ℕ)
+        → e ≡ ReadFault.BadRow place
+        → (rows : _)
+        × Begins (select_of part) [] (state S.Store conn.old) rows
+        × (read_from limit first rows ≡ Err place)) }
+    ensures unchanged { HasCleanDisk (state S.Store conn.new)
+        → IfErr result (λ e. (place : ℕ)
+        → e ≡ ReadFault.BadRow place
+        → IsUnchanged (state S.Store conn.old) (state S.Store conn.new)) }
+    ensures left { HasCleanDisk (state S.Store conn.new)
+        → OnErr result (IsUnchanged (state S.Store conn.old) (state S.Store conn.new)
+        ⊎ IsRolledBack (state S.Store conn.old) (state S.Store conn.new)) }
+    ensures stop { Survives (state S.Store conn.old) (state S.Store conn.new) (λ _. ⊥) }
 {
     let mut records = Vec::new(alloc);
     let mut place = first;
-    'rows: for row in rows {
+    let mut rows = conn.query(statements::select(part), &[])?;
+    'rows: loop {
+        rows.advance()?;
+        let Some(row) = rows.get() else {
+            return Ok(records);
+        };
         match record_at(alloc, limit, place, row)? {
             Some(record) => records.push(record)?,
-            None => return Err(StoreFault::BadRow(place)),
+            None => return Err(ReadFault::BadRow(place)),
         }
         place += 1;
     }
-    Ok(records)
 }

@@ -1,4 +1,4 @@
-//! Whether a database has a table of records under a name: another table, or a view, is none.
+//! Whether a database has a table of records under a name. Another table or a view doesn't count.
 
 ghost use Rattle.std.specs.Prelude.{ℕ, Bool, ◌≡◌, ◌==◌, length, codes};
 ghost use Rattle.sqlite_schema.specs.Names.{is_key};
@@ -137,7 +137,7 @@ fn is_journal(table: &Table, name: &[u8]) -> bool
         && is_written(table)
 }
 
-/// Whether the table that has the name is one of records.
+/// Whether the table with this name is a table of records.
 pub fn has_table(schema: &Schema, name: &[u8]) -> bool
     ensures { result ≡ shape.has_table name.now schema.now }
 {

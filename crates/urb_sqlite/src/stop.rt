@@ -16,23 +16,23 @@ use std::alloc::Global;
 use urb_stable::{Record, Stable, StoreFault};
 
 impl<D: Crash + Drop> SqlStable<FileStore<D>> {
-    /// Stops the machine at this moment, and opens the files again. A stop inside a call is one whose disks failed from
-    /// some moment on.
+    /// Stops the machine at this moment, and opens the files again. For a stop inside a call, let
+    /// the disks fail from some moment on.
     pub fn stop_and_open(
         self,
         alloc: Global,
         options: Options,
     ) -> Result<SqlStable<FileStore<D>>, StoreFault>
-        // A disk that is clean then was clean before.
+        // If the new journal's disk is clean, the old journal's disk was clean.
         ensures clean { IfOk result
             (λ again. HasCleanDisk (file_state again.conn) → HasCleanDisk (file_state self.conn)) }
-        // Where a stop leaves these records alone, they are found.
+        // If a stop leaves exactly these records, they are found.
         ensures kept { IfOk result (λ again. HasCleanDisk (file_state again.conn)
             → (records : List Entry)
             → LeavesOnly (file_state self.conn) (λ left. left ≡ records)
             → IsHonestJournal (file_state again.conn)
             × (records_of (file_state again.conn).now ≡ records)) }
-        // Where it leaves these, or these with one more, one of the two is found.
+        // If a stop leaves these records, or these and one more, one of the two is found.
         ensures found { IfOk result (λ again. HasCleanDisk (file_state again.conn)
             → (records : List Entry) (r : Entry)
             → LeavesOnly (file_state self.conn)
@@ -40,7 +40,7 @@ impl<D: Crash + Drop> SqlStable<FileStore<D>> {
             → IsHonestJournal (file_state again.conn)
             × ((records_of (file_state again.conn).now ≡ records)
             ⊎ (records_of (file_state again.conn).now ≡ records ++ r ∷ []))) }
-        // Whatever storage a stop leaves, certain records or these with a doubtful one, is what is found.
+        // If a stop leaves certain records, or these and a doubtful one, such records are found.
         ensures left { IfOk result (λ again. HasCleanDisk (file_state again.conn)
             → (certain : List Entry) (doubtful : Option Entry)
             → LeavesOnly (file_state self.conn) (IsContents certain doubtful)
@@ -53,8 +53,8 @@ impl<D: Crash + Drop> SqlStable<FileStore<D>> {
         SqlStable::open_files(alloc, Files { log, db }, options)
     }
 
-    /// Stores a record, stops the machine, and opens the files again: what the store answered, and the journal that is
-    /// found.
+    /// Stores a record, stops the machine, and opens the files again. Returns the store's answer,
+    /// and the journal that is found.
     pub fn store_and_stop(
         mut self,
         alloc: Global,
@@ -65,7 +65,8 @@ impl<D: Crash + Drop> SqlStable<FileStore<D>> {
         Result<(), StoreFault>,
         Result<SqlStable<FileStore<D>>, StoreFault>,
     )
-        // The records are those before, or these with the one; and where it was stored, these with it.
+        // The journal has the records from before, or these and the new one. If the store
+        // succeeded, it has the new one.
         ensures { IfOk result.1 (λ again. HasCleanDisk (file_state again.conn)
             → IsHonestJournal (file_state self.conn)
             → IsHonestJournal (file_state again.conn)

@@ -3,17 +3,19 @@
 ghost use Rattle.std.specs.List.{All};
 ghost use Rattle.std.specs.Prelude.{◌≡◌, List, length, IfOk};
 ghost use Rattle.sqlite.specs.Files.{file_state};
+ghost use Rattle.urb_group.specs.Clusters.{Applies};
+ghost use Rattle.urb_group.specs.Commands.{reply_of};
 ghost use Rattle.urb_group.specs.Reopening.{ContinuesFrom, HasStopped};
 ghost use Rattle.urb_group.specs.Shown.{GroupView, IsSound, Shows};
 ghost use Rattle.urb_group.specs.Stocked.{IsGenuine, IsKnown, IsSecured, WouldLeave};
 ghost use Rattle.urb_group.specs.World.{World};
-ghost use Rattle.urb_sqlite.specs.Stops.{AreReopened, GoesOnFrom, IsContinuation};
+ghost use Rattle.urb_sqlite.specs.Stops.{AreReopened, GoesOnBehind, GoesOnFrom, IsContinuation};
 
 use crate::SqlStable;
 use sqlite::{FileStore, Options};
 use sqlite_disk::Crash;
 use std::alloc::Global;
-use urb_group::{Cluster, Command};
+use urb_group::{Cluster, Command, Reply};
 use urb_names::{Config, Refusal};
 use urb_stable::{Stable, StoreFault};
 
@@ -109,7 +111,9 @@ pub(crate) fn applied<S: Stable<Alloc = Global>>(
     alloc: Global,
     cluster: &mut Cluster<S>,
     command: &Command,
-)
+) -> Reply
+    ensures done { Applies S.Stable cluster.old command.now (reply_of result) cluster.new }
+    ensures secured { IsSecured S.Stable cluster.old → IsSecured S.Stable cluster.new }
     ensures sized { cluster.new.group.size ≡ cluster.old.group.size }
     ensures leaves { (stores : List S)
         → stores ≡ cluster.new.stores
@@ -117,7 +121,7 @@ pub(crate) fn applied<S: Stable<Alloc = Global>>(
         → WouldLeave S.Stable secured.stocked.world stores }
 {
     rests(cluster);
-    let _reply = cluster.apply(alloc, command);
+    cluster.apply(alloc, command)
 }
 
 /// Stops the machine under a cluster while no command is done, and opens the journals of all nodes again, and a cluster over
@@ -141,28 +145,34 @@ pub fn stop_and_reopen<D: Crash + Drop>(
     stop_and_open_all(alloc, config, cluster.into_stores(), options)
 }
 
-/// Does what a command says, stops the machine, and opens the journals of all nodes again, and a cluster over them. A stop
-/// inside the command is one whose disks failed from some moment on: before its store, inside it, or between the store's Ok
-/// and the commit. Nobody was told a reply. The limits are those of the cluster. Refusals as of `stop_and_open_all`.
+/// Does what a command says, stops the machine, and opens a cluster over the journals of all nodes again. It gives the
+/// command's reply and that cluster. A stop inside the command is one whose disks failed from some moment on: before its
+/// store, inside it, or between the store's Ok and the commit. The limits are those of the cluster. Refusals as of
+/// `stop_and_open_all`.
 pub fn apply_and_stop<D: Crash + Drop>(
     alloc: Global,
     cluster: Cluster<SqlStable<FileStore<D>>>,
     command: &Command,
     config: Config,
     options: Options,
-) -> Result<Cluster<SqlStable<FileStore<D>>>, Refusal>
+) -> (Reply, Result<Cluster<SqlStable<FileStore<D>>>, Refusal>)
     requires same { cluster.group.size ≡ config }
-    ensures sized { IfOk result (λ new. new.group.size ≡ config) }
+    ensures sized { IfOk result.1 (λ new. new.group.size ≡ config) }
     // The new cluster goes on from the world that the old one showed before the command, also where faults had shut some of
     // its journals by then, as far as the disks have given back what was written; and it may be stopped in turn.
-    ensures goes_on { IfOk result
+    ensures goes_on { IfOk result.1
         (λ new. GoesOnFrom ⟦<SqlStable<FileStore<D>> as Stable>⟧ cluster new) }
-    ensures secured { IfOk result (λ new. IsSecured ⟦<SqlStable<FileStore<D>> as Stable>⟧ cluster
+    // The command was done before the stop, with that reply, and the new cluster also goes on from the world that it led to.
+    ensures done { IfOk result.1
+        (λ new. GoesOnBehind ⟦<SqlStable<FileStore<D>> as Stable>⟧ cluster command.now
+        (reply_of result.0) new) }
+    ensures secured { IfOk result.1 (λ new. IsSecured ⟦<SqlStable<FileStore<D>> as Stable>⟧ cluster
         → IsSecured ⟦<SqlStable<FileStore<D>> as Stable>⟧ new) }
 {
     rests(&cluster);
     let mut cluster = cluster;
-    applied(alloc, &mut cluster, command);
+    let reply = applied(alloc, &mut cluster, command);
+    rests(&cluster);
     let journals = cluster.into_stores();
-    stop_and_open_all(alloc, config, journals, options)
+    (reply, stop_and_open_all(alloc, config, journals, options))
 }

@@ -3,7 +3,7 @@ use Rattle.std.proofs.Common.{List, None, Option, Some, [], inl, inr, refl, ◌+
 use Rattle.urb_stable.specs.Entries.{Entry}
 use Rattle.urb_stable.specs.Storing.{IsContents}
 
--- the certain list, or that with a doubtful record behind it
+-- the certain list, or that list followed by a doubtful record
 abbrev pub IsEither : List Entry → Option Entry → List Entry → Type 0
 IsEither certain doubtful records = (records ≡ certain) ⊎ ((r : Entry) × (doubtful ≡ Some r) × (records ≡ certain ++ r ∷ []))
 

@@ -17,13 +17,13 @@ use Rattle.urb_stable.specs.declared.fitting.Misfit.{Misfit}
 use Rattle.urb_stable.specs.Records.{cert, pend}
 use Rattle.urb_stable.specs.declared.record.Record.TheVariants.{Cert, Pend, PendCert}
 
--- ---- a search that goes on
+-- ---- continuing a search
 
--- it ends with what was found
+-- the search ends with what was found
 pub found : {A : Type 0} (here first rest all : Option A) (x : A) → here ≡ option_or first rest → first ≡ Some x → here ≡ all → Some x ≡ all
 found here first rest all x e f h = sym (ap (λ o. option_or o rest) f) ∙ (sym e ∙ h)
 
--- it goes on where nothing was
+-- the search continues if nothing was found
 pub passed : {A : Type 0} (here first rest all : Option A) → here ≡ option_or first rest → first ≡ None → here ≡ all → rest ≡ all
 passed here first rest all e f h = sym (ap (λ o. option_or o rest) f) ∙ (sym e ∙ h)
 
@@ -34,9 +34,9 @@ from_here records i r l e = drop-cons records i r l ∙ ap (λ x. x ∷ drop (su
 one_more : (i : ℕ) → suc i ≡ i + 1
 one_more i = omega arith
 
--- ---- turns
+-- ---- rule B
 
--- an own pair is in its turn where it is the next one
+-- a pair of the node's own is in its turn if it is the next one
 pub own-turn : (p : ℕ) (earlier : List Entry) (r : Entry) (x : Label) (m : Content) (b : Bool) → (r ≡ Pend x m) ⊎ (r ≡ PendCert x m) → false ≡ not (x.sender == p) → b ≡ is_next_own (own p (pend earlier)) x m
     → b ≡ keeps_b p earlier r
 own-turn p earlier r x m b is mine e = e ∙ (at (x.sender == p) mine ∙ sym (⊎_elim (λ f. ap (keeps_b p earlier) f) (λ f. ap (keeps_b p earlier) f) is))
@@ -55,7 +55,7 @@ first-filtered f test (rule ∷ rules) = at (first-filtered f test rules) (test 
     at ih true = refl
     at ih false = ih
 
--- a record's first misfit is of the first rule that it breaks
+-- a record's first misfit is for the first rule that it breaks
 pub broken-first : (size : Limits) (images : ℕ → List Entry) (p : ℕ) (earlier : List Entry) (r : Entry) (o : Option Rule) → o ≡ first_broken size images p earlier r
     → first_of_all (broken size images p earlier r) ≡ option_map (λ rule. record { rule = rule; node = p; name = name_of r }) o
 broken-first size images p earlier r o e =
@@ -94,7 +94,7 @@ node-none f i n l = ap (λ k. first_of_all (flat_map f (numbers_from (suc i) k))
     left : n - i ≡ 0
     left = omega arith
 
--- a node's image stands at its place
+-- the image of a node is at the node's place
 pub image-at : {X : Type 0} (items : X → List Entry) (images : List X) (i : ℕ) (x : X) → slice_get images i ≡ Some x → slice_index_or (map items images) i [] ≡ items x
 image-at items [] i x e = absurd (cc)
 image-at items (image ∷ images) zero x e = ap items (first_is e)
@@ -107,7 +107,7 @@ pub image-of : {X : Type 0} (items : X → List Entry) (images : List X) (q i : 
 image-of items images zero i x e l f = absurd (omega arith)
 image-of items images (suc q) i x e l f = let same : i ≡ q = omega arith in image-at items images q x (ap (λ j. slice_get images j) (sym same) ∙ f)
 
--- what is found in a node's image is what the definition says of the node
+-- what the search finds in a node's image is what the definition says about the node
 pub node-told : (size : Limits) (images : ℕ → List Entry) (i node : ℕ) (image : List Entry) (o : Option Misfit) → node ≡ i + 1 → image ≡ images (suc i) → o ≡ first_of_all (misfits_behind size images node [] image)
     → first_of_all (misfits_behind size images (suc i) [] (images (suc i))) ≡ o
 node-told size images i node image o e f h =
@@ -117,11 +117,11 @@ node-told size images i node image o e f h =
 pub node-is : (P : Type 0) (o : Option ℕ) (node number : ℕ) → SomeIff o P number → o ≡ Some node → node ≡ number
 node-is P o node number h e = (subst (λ (r : Option ℕ). SomeIff r P number) e h).1
 
--- the messages of the client of an own pair
+-- the number of messages from the client of a pair of the node's own
 pub turn-clients : (r : Entry) (x : Label) (m : Content) (messages : List Content) → (r ≡ Pend x m) ⊎ (r ≡ PendCert x m) → same_client r messages ≡ client_count m.client messages
 turn-clients r x m messages is = ⊎_elim (λ f. ap (λ s. same_client s messages) f) (λ f. ap (λ s. same_client s messages) f) is
 
--- a certificate for a pending name is new where the name is not certified yet
+-- a certificate for a pending name is new if the name is not certified yet
 pub certificate-new : (size : Limits) (earlier : List Entry) (r : Entry) (x : Label) (certified : Bool) → r ≡ Cert x → true ≡ in_range size x → true ≡ is_some (message_of (pend earlier) x) → certified ≡ has_name (cert earlier) (name_of r)
     → not certified ≡ keeps_a size earlier r
 certificate-new size earlier r x certified is range pending e =

@@ -13,7 +13,7 @@ count-first test x xs = sum_by-cons (λ y. cond (test y) 1 0) x xs ∙ at (test 
     at true n = refl
     at false n = omega arith
 
--- a count over numbers, each one more
+-- a count over numbers that are all one higher
 count-shift : (test : ℕ → Bool) (first count : ℕ) → count_by test (numbers_from (suc first) count) ≡ count_by (λ q. test (suc q)) (numbers_from first count)
 count-shift test first zero = refl
 count-shift test first (suc count) =
@@ -21,7 +21,7 @@ count-shift test first (suc count) =
     ∙ (ap (λ n. cond (test (suc first)) (1 + n) n) (count-shift test (suc first) count)
     ∙ sym (count-first (λ q. test (suc q)) first (numbers_from (suc first) count)))
 
--- as many images pass as nodes whose image does
+-- the number of images that pass is the number of nodes whose image passes
 pub count-images : {A : Type 0} (items : A → List Entry) (test : List Entry → Bool) (images : List A) → count_by (λ image. test (items image)) images ≡ count_by (λ q. test (image_of (map items images) q)) (nodes (length images))
 count-images {A = A} items test images =
     sym

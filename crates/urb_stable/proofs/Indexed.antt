@@ -1,4 +1,4 @@
--- The index of an image grows with each of its records.
+-- Adding each record of an image to its index.
 use Rattle.std.proofs.Common.{Bool, List, None, is_some, Option, Some, [], ap, arith, cond, eq-eqb, eqb-true, false, inl, inr, length, refl, slice_get, slice_index_or, subst, suc, sym, take, true, zero, ℕ, ⊎_elim, ◌&&◌, ◌++◌, ◌+◌, ◌<◌, ◌==◌, ◌||◌, ◌∙◌, ◌∷◌, ◌≡◌, ◌⊎◌}
 use Rattle.std.proofs.Math.Seq.{take-suc}
 use Rattle.std.proofs.lemmas.Bool.{cases_Bool}
@@ -45,7 +45,7 @@ order-same x y =
     then-same (nat_cmp x.sender y.sender) (nat_cmp x.seq y.seq)
     ∙ (ap (λ b. b && is_eq (nat_cmp x.seq y.seq)) (cmp-same x.sender y.sender) ∙ ap (λ b. (x.sender == y.sender) && b) (cmp-same x.seq y.seq))
 
--- ---- pairs behind others
+-- ---- pairs after other pairs
 
 message-append : (ps qs : List (Label × Content)) (x : Label) → message_of (ps ++ qs) x ≡ option_or (message_of ps x) (message_of qs x)
 message-append [] qs x = refl
@@ -69,7 +69,7 @@ none-has ps x m e = ⊎_elim (λ f. absurd (no_pair ps x m e f)) (λ f. f) (case
 one_more : (i : ℕ) → suc i ≡ i + 1
 one_more i = omega arith
 
--- the pairs of one record more
+-- the pairs once one more record is read
 pub pend-next : (image : List Entry) (i : ℕ) (r : Entry) → i < length image → r ≡ slice_index_or image i r → pend (take (i + 1) image) ≡ pend (take i image) ++ pend (r ∷ [])
 pend-next image i r l e =
     ap (λ n. pend (take n image)) (sym (one_more i))
@@ -84,7 +84,7 @@ module _ (image : List Entry) (i : ℕ) (r : Entry) (l : i < length image) (e : 
   more-message : (x : Label) → message_of (pend (take (i + 1) image)) x ≡ option_or (message_of (pend (take i image)) x) (message_of (pend (r ∷ [])) x)
   more-message x = ap (λ ps. message_of ps x) (pend-next image i r l e) ∙ message-append (pend (take i image)) (pend (r ∷ [])) x
 
-  -- a record of no pair of this name leaves it
+  -- a record that holds no pair with this name changes nothing
   last-other : (x : Label) (o : Option ℕ) → message_of (pend (r ∷ [])) x ≡ None → IsLast image i x o → IsLast image (i + 1) x o
   last-other x None none h = more-message x ∙ (or-none _ _ none ∙ h)
   last-other x (Some k) none h =
@@ -98,11 +98,11 @@ module _ (image : List Entry) (i : ℕ) (r : Entry) (l : i < length image) (e : 
         message = more-message x ∙ (or-none _ _ none ∙ h.message);
       }
 
-  -- one of a pair of this name is the last then
+  -- a record that holds a pair with this name becomes the last
   last-here : (x : Label) → slice_get image i ≡ Some r → name_of r ≡ x → is_some (message_of (pend (r ∷ [])) x) ≡ true → IsLast image (i + 1) x (Some i)
   last-here x here named pair = record { below = omega arith; entry = r; here = here; named = named; pair = pair; pairs = more-pairs x; message = more-message x }
 
--- ---- an index with one record more
+-- ---- an index with one more record
 
 pub read_more : {X : Type 0} (xs : List X) (y z : X) (k : ℕ) → slice_get (xs ++ y ∷ []) k ≡ Some z → (slice_get xs k ≡ Some z) ⊎ ((k ≡ length xs) × (z ≡ y))
 read_more [] y z zero e = inr (refl, cc)
@@ -133,14 +133,14 @@ more-index image i r old new o here h is items last =
         subst (λ (n : ℕ). IsLast image n (name_of s) p) (sym k_is)
         (subst (λ (t : Entry). IsLast image i (name_of t) p) (sym s_is) (subst (λ (q : Option ℕ). IsLast image i (name_of r) q) (sym (same ∙ is)) (h.last (name_of r))))
 
--- a certificate
+-- if the record is a certificate
 pub index-certificate : {A : Type 0} (image : List Entry) (i : ℕ) (x : Label) (r : Entry) (old new : Places A) (o : Option ℕ) → i < length image → r ≡ slice_index_or image i r → slice_get image i ≡ Some r → r ≡ Cert x → IsIndexOf image i old
     → o ≡ tree.get by_name old.last (name_of r) → new.before.items ≡ old.before.items ++ o ∷ [] → new.last ≡ old.last → IsIndexOf image (i + 1) new
 index-certificate image i x r old new o l e here is h found items same =
     more-index image i r old new o here h found items
     (λ y. subst (λ map. IsLast image (i + 1) y (tree.get by_name map y)) (sym same) (last-other image i r l e y (tree.get by_name old.last y) (ap (λ s. message_of (pend (s ∷ [])) y) is) (h.last y)))
 
--- a pair
+-- if the record holds a pair
 index-pair : {A : Type 0} (image : List Entry) (i : ℕ) (x : Label) (m : Content) (r : Entry) (old new : Places A) (o : Option ℕ) → i < length image → r ≡ slice_index_or image i r → slice_get image i ≡ Some r → (r ≡ Pend x m) ⊎ (r ≡ PendCert x m)
     → IsIndexOf image i old → o ≡ tree.get by_name old.last (name_of r) → new.before.items ≡ old.before.items ++ o ∷ [] → tree.Updates by_name old.last new.last (name_of r) (Some i) → IsIndexOf image (i + 1) new
 index-pair image i x m r old new o l e here is h found items updates = more-index image i r old new o here h found items (λ y. at y (cases_Bool (same_name (name_of r) y)))
@@ -161,7 +161,7 @@ index-pair image i x m r old new o l e here is h found items updates = more-inde
         let none : message_of (pend (r ∷ [])) y ≡ None = ap (λ ps. message_of ps y) pairs ∙ message_of-another x y m (subst (λ (z : Label). same_name z y ≡ false) named f) in
         subst (λ (p : Option ℕ). IsLast image (i + 1) y p) (sym kept) (last-other image i r l e y (tree.get by_name old.last y) none (h.last y))
 
--- a record that is of some pair
+-- a record that holds some pair
 abbrev IsSomePair : Entry → Type 0
 IsSomePair r = ((x : Label) × (m : Content) × (r ≡ Pend x m)) ⊎ ((x : Label) × (m : Content) × (r ≡ PendCert x m))
 
@@ -171,7 +171,7 @@ index-next image i y r old new o l e here is named h found items updates =
     let moved : tree.Updates by_name old.last new.last (name_of r) (Some i) = subst (λ (z : Label). tree.Updates by_name old.last new.last z (Some i)) named updates in
     ⊎_elim (λ f. index-pair image i f.0 f.1 r old new o l e here (inl f.2) h found items moved) (λ f. index-pair image i f.0 f.1 r old new o l e here (inr f.2) h found items moved) is
 
--- nothing is indexed yet
+-- an empty index
 pub index-none : {A : Type 0} (image : List Entry) (index : Places A) → tree.IsEmpty index.last → index.before.items ≡ [] → IsIndexOf image 0 index
 index-none image index empty items =
     record {

@@ -1,4 +1,4 @@
--- The pairs and certificates of two lists of records behind one another.
+-- The pairs and certificates of two lists of records, one after the other.
 use Rattle.std.proofs.Common.{List, [], ap, refl, ◌++◌, ◌∷◌, ◌≡◌}
 use Rattle.urb_stable.specs.Entries.{Entry}
 use Rattle.urb_stable.specs.Records.{cert, pend}

@@ -1,11 +1,11 @@
--- A list that gains one element, and a list with one more at most.
+-- A list that gains one element, and a list with at most one more.
 use Rattle.std.proofs.Common.{◌≡◌, ℕ, zero, suc, ◌+◌, ◌≤◌, ◌⊎◌, inr, List, [], ◌∷◌, ◌++◌, length, take, Option, None, Some, refl, ap, arith, add-one}
 use Rattle.std.specs.Prelude.{slice_get}
 use Rattle.urb_stable.specs.Entries.{Entry}
 use Rattle.urb_stable.specs.Storing.{IsContents}
 use Rattle.urb_stable.specs.Memory.{with_doubt}
 
--- what is read of ys, which are xs with r behind them
+-- what is read from ys, which is xs followed by r
 pub record Kept {X : Type 0} (xs : List X) (r : X) (n : ℕ) (ys : List X) : Type 0 where
   pub before : take n xs ≡ xs
   pub nothing : slice_get xs n ≡ None
@@ -38,7 +38,7 @@ doubtful_stop xs r n ys k records h = rw k.nothing (rw (k.here, k.front) at h)
 pub certain_stop : (xs : List Entry) (r : Entry) (n : ℕ) (ys : List Entry) → Kept xs r n ys → (records : List Entry) → IsContents (take (n + 1) ys) (slice_get ys (n + 1)) records → IsContents (take n xs) (slice_get xs n) records ⊎ (records ≡ take n xs ++ r ∷ [])
 certain_stop xs r n ys k records h = inr (rw (k.past, k.all) at h)
 
--- what is read of xs, which have at most one element behind the first n
+-- what is read from xs, which has at most one element after the first n
 pub record Whole (xs : List Entry) (n : ℕ) : Type 0 where
   pub all : take (length xs) xs ≡ xs
   pub nothing : slice_get xs (length xs) ≡ None

@@ -13,11 +13,11 @@ use Rattle.urb_stable.specs.Fitting.{Kept, Rules, held_by_majority, in_range, is
 use Rattle.urb_stable.specs.Records.{cert, pend}
 use Rattle.urb_stable.specs.declared.record.Record.TheVariants.{Cert, Pend, PendCert}
 
--- each image has the pairs that it had
+-- each image keeps the pairs that it had
 abbrev pub Grows : (ℕ → List Entry) → (ℕ → List Entry) → Type 0
 Grows old new = (q : ℕ) (x : Label) (m : Content) → has_pair (pend (old q)) x m ≡ true → has_pair (pend (new q)) x m ≡ true
 
--- ---- the rules stay kept
+-- ---- kept rules stay kept
 
 pub majority_held-grows : (n : ℕ) (old new : ℕ → List Entry) (x : Label) (m : Content) → Grows old new → held_by_majority n old x m ≡ true → held_by_majority n new x m ≡ true
 majority_held-grows n old new x m g e = majority_grows n (λ q. has_pair (pend (old q)) x m) (λ q. has_pair (pend (new q)) x m) (λ q. g q x m) e
@@ -39,13 +39,13 @@ pub kept-grow : (size : Limits) (old new : ℕ → List Entry) (p : ℕ) (earlie
 kept-grow size old new p earlier [] g h = tt
 kept-grow size old new p earlier (r ∷ rs) g h = (rules-grow size old new p earlier r g h.0, kept-grow size old new p (earlier ++ r ∷ []) rs g h.1)
 
--- one more record that keeps them
+-- one more record that keeps the rules
 pub kept-push : (size : Limits) (images : ℕ → List Entry) (p : ℕ) (earlier rs : List Entry) (r : Entry) → Kept size images p earlier rs → Rules size images p (earlier ++ rs) r → Kept size images p earlier (rs ++ r ∷ [])
 kept-push size images p earlier [] r h k = (subst (λ (e : List Entry). Rules size images p e r) (append-nil earlier) k, tt)
 kept-push size images p earlier (s ∷ rs) r h k =
     (h.0, kept-push size images p (earlier ++ s ∷ []) rs r h.1 (subst (λ (e : List Entry). Rules size images p e r) (sym (append_assoc earlier (s ∷ []) rs)) k))
 
--- what each further record keeps, all of them keep
+-- what each further record preserves holds of all records
 pub kept-all : (size : Limits) (images : ℕ → List Entry) (p : ℕ) (P : List Entry → Type 0) → ((e : List Entry) (r : Entry) → P e → Rules size images p e r → P (e ++ r ∷ []))
     → (earlier rs : List Entry) → P earlier → Kept size images p earlier rs → P (earlier ++ rs)
 kept-all size images p P step earlier [] start h = subst P (sym (append-nil earlier)) start
@@ -72,7 +72,7 @@ pair_rules size images p earlier x m a b c =
       known = λ e. sym (cond-false (x.sender == p) _ _ e) ∙ c;
     }
 
--- what each further pair keeps, all pairs keep
+-- what each further pair preserves holds of all pairs
 pub pairs-all : (size : Limits) (images : ℕ → List Entry) (p : ℕ) (Q : List (Label × Content) → Type 0) → Q []
     → ((e : List Entry) (x : Label) (m : Content) → Q (pend e) → PairRules size images p e x m → Q (pend e ++ (x, m) ∷ []))
     → (rs : List Entry) → Kept size images p [] rs → Q (pend rs)
@@ -102,7 +102,7 @@ kept-range size images p rs h = pairs-all size images p (λ ps. (x : Label) (m :
     more e x m u k y o h =
         ⊎_elim (λ f. u y o f) (λ f. subst (λ (z : Label). in_range size z ≡ true) f.0 k.range) (has_pair-last (pend e) x y m o h)
 
--- ---- a pair of another sender is that sender's
+-- ---- another sender's pair is in that sender's image
 pub kept-known : (size : Limits) (images : ℕ → List Entry) (p : ℕ) (rs : List Entry) → Kept size images p [] rs
     → (x : Label) (m : Content) → has_pair (pend rs) x m ≡ true → (x.sender == p) ≡ false → has_pair (pend (images x.sender)) x m ≡ true
 kept-known size images p rs h = pairs-all size images p (λ ps. (x : Label) (m : Content) → has_pair ps x m ≡ true → (x.sender == p) ≡ false → has_pair (pend (images x.sender)) x m ≡ true) (λ x m e. absurd (false≢true e)) more rs h
@@ -148,9 +148,9 @@ kept-numbered size images p rs h = pairs-all size images p (Numbered p) (λ j. r
             message_of-other (pend e) x (name p (suc j)) m (and_left (x.sender == p) (x.seq == suc j) f)
             ∙ (u j ∙ ap (λ ms. slice_get ms j) (sym (own-other p (pend e) x m f)))
 
--- ---- a certified name's pair is held by a majority
+-- ---- a majority holds the pair of a certified name
 
--- the name has a message here, and the pair is held by a majority
+-- the name has a message here, and a majority holds the pair
 abbrev pub IsHeld : ℕ → (ℕ → List Entry) → List (Label × Content) → Label → Type 0
 IsHeld n images ps x = (m : Content) × (message_of ps x ≡ Some m) × (held_by_majority n images x m ≡ true)
 

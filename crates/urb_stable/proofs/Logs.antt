@@ -1,4 +1,4 @@
--- The log of a list of records, by its certificates and by one more record.
+-- The log of a list of records, by its certificates and after one more record.
 use Rattle.std.proofs.Common.{List, [], ap, append-nil, ap₂, arith, false, length, refl, reverse, subst, suc, sym, true, ℕ, ⊎_elim, ◌++◌, ◌+◌, ◌-◌, ◌<◌, ◌||◌, ◌∙◌, ◌∷◌, ◌≡◌, ◌≤◌}
 use Rattle.std.proofs.lemmas.Bool.{cases_lt, false_from_ne_true, false≢true, or_right}
 use Rattle.std.proofs.lemmas.List.{reverse-append}
@@ -17,7 +17,7 @@ use Rattle.urb_stable.specs.declared.record.Record.TheVariants.{Cert, Pend, Pend
 pub logged_certified : (records : List Entry) (x : Label) → has_name (log records) x ≡ true → has_name (cert records) x ≡ true
 logged_certified records x h = any-reverse _ (cert records) (log_certified (reverse (cert records)) x h)
 
--- by records
+-- record by record
 pub log-pend : (records : List Entry) (x : Label) (m : Content) → log (records ++ Pend x m ∷ []) ≡ log records
 log-pend records x m = ap (λ xs. released (reverse xs)) (cert-append records (Pend x m ∷ []) ∙ append-nil (cert records))
 
@@ -37,11 +37,12 @@ log-cert records x = log-certificate records (Cert x) x refl
 
 -- What one more certificate releases, as a loop over the certified names finds it.
 
--- how far the log has come of a sender
+-- how many of a sender's names the log holds
 pub log-reach : (records : List Entry) (s : ℕ) → length (part_of s (log records)) ≡ reach s (reverse (cert records))
 log-reach records s = ap length (part-released s (reverse (cert records))) ∙ length-row s 1 (reach s (reverse (cert records)))
 
--- Where a log has k names of the sender, the names k + 1 to k + d are certified with the new one, and the next is not, these d names are released.
+-- The log has k names of the sender. Names k + 1 to k + d are certified once the new one is, and
+-- the next is not. Then exactly these d names are released.
 pub log-next : (records : List Entry) (r : Entry) (x : Label) (k d : ℕ) → cert (r ∷ []) ≡ x ∷ [] → length (part_of x.sender (log records)) ≡ k
     → ((i : ℕ) → k < i → i ≤ k + d → has_name (cert (records ++ r ∷ [])) (name x.sender i) ≡ true) → has_name (cert (records ++ r ∷ [])) (name x.sender (suc (k + d))) ≡ false
     → log (records ++ r ∷ []) ≡ log records ++ row x.sender (1 + k) d
@@ -75,7 +76,7 @@ log-next records r x k d e l within stops =
 reversed : (xs : List Label) (x : Label) → has_name (reverse xs) x ≡ has_name xs x
 reversed xs x = both_ways _ _ (reversed-same xs x) (reversed-back xs x)
 
--- The log after it depends on the log before it and on the set of the certificates.
+-- The log after a record depends only on the log before it and on the set of the certificates.
 pub log-same : (a b : List Entry) (r : Entry) → log a ≡ log b → ((x : Label) → has_name (cert a) x ≡ has_name (cert b) x) → log (a ++ r ∷ []) ≡ log (b ++ r ∷ [])
 log-same a b r e h = over r
   where
@@ -94,7 +95,7 @@ log-same a b r e h = over r
     over (PendCert x m) = log-pend_cert a x m ∙ (certificate x ∙ sym (log-pend_cert b x m))
     over (Cert x) = log-cert a x ∙ (certificate x ∙ sym (log-cert b x))
 
--- A log that is released by a list of certificates, newest first, stays so with one more.
+-- If a list of certificates, newest first, releases the log, it still does so with one more.
 pub released-joined : (certified : List Label) (records : List Entry) (r : Entry) (x : Label) → cert (r ∷ []) ≡ x ∷ [] → released certified ≡ log records → ((y : Label) → has_name certified y ≡ has_name (cert records) y)
     → released (x ∷ certified) ≡ log (records ++ r ∷ [])
 released-joined certified records r x e l h =

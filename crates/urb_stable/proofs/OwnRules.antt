@@ -1,4 +1,4 @@
--- Records that keep the rules about their own image: their own pairs by number, and a record that joins them.
+-- Records that keep the rules about their own image, and one more record.
 use Rattle.std.proofs.Common.{Bool, List, [], ap, append-nil, append_assoc, arith, cond, count_by, eqb-true, false, filter, inl, inr, is_none, is_some, length, lt-ltb, ltb-true, nat_lt, not, refl, subst, suc, sym, true, zero, ℕ, ⊎_elim, ◌&&◌, ◌*◌, ◌++◌, ◌<◌, ◌==◌, ◌||◌, ◌∙◌, ◌∷◌, ◌≡◌, ◌⊎◌}
 use Rattle.std.proofs.lemmas.Bool.{and_from, and_parts, cases_Bool, false≢true, or_left}
 use Rattle.std.proofs.lemmas.List.Folds.{list_any-append}
@@ -29,7 +29,7 @@ kept-numbers size images p rs h = pairs-all size images p (λ ps. Numbers (own p
             subst (λ (ms : List Content). Numbers ms) (sym (own-push p (pend e) x m f)) (numbers-push (own p (pend e)) m n (eqb-true m.number _ next.1))
         at (inr f) = subst (λ (ms : List Content). Numbers ms) (sym (own-other p (pend e) x m f)) n
 
--- an own pair has a number from 1 on
+-- a pair of the node's own has a number from 1 on
 pub own_number : (size : Limits) (images : ℕ → List Entry) (p : ℕ) (rs : List Entry) → Kept size images p [] rs → (x : Label) (m : Content) → has_pair (pend rs) x m ≡ true → (x.sender == p) ≡ true → (i : ℕ) × (x.seq ≡ suc i)
 own_number size images p rs h =
     pairs-all size images p (λ ps. (x : Label) (m : Content) → has_pair ps x m ≡ true → (x.sender == p) ≡ true → (i : ℕ) × (x.seq ≡ suc i)) (λ x m e. absurd (false≢true e)) more rs h
@@ -42,7 +42,7 @@ own_number size images p rs h =
         (λ own_is. (length (own p (pend e)), eqb-true x.seq _ (and_parts (x.seq == suc (length (own p (pend e)))) _ (k.next own_is)).0)) is)
         (has_pair-last (pend e) x y m o a)
 
--- ---- from the rules of one image and the sets to all rules
+-- ---- from the rules of one image, and the sets, to all rules
 
 pair_within : (earlier rs : List Entry) (x : Label) (m : Content) (r : Entry) (whole : List Entry) → pend (r ∷ rs) ≡ (x, m) ∷ pend rs → earlier ++ r ∷ rs ≡ whole → has_pair (pend whole) x m ≡ true
 pair_within earlier rs x m r whole a e =
@@ -97,7 +97,7 @@ module _ (size : Limits) (images : ℕ → List Entry) (p : ℕ) (whole : List E
 
 -- ---- rules A and B alone
 
--- a group with one node more
+-- a group with one more node
 abbrev more_nodes : Limits → Limits
 more_nodes size = record { n = suc size.n; cap = size.cap }
 
@@ -118,7 +118,7 @@ more_own : (size : Limits) (p : ℕ) (earlier rs : List Entry) → KeepsOwn size
 more_own size p earlier [] h = tt
 more_own size p earlier (r ∷ rs) h = (more_a size earlier r h.0, h.1, more_own size p (earlier ++ r ∷ []) rs h.2)
 
--- where all nodes pass they are a majority, unless there is none
+-- if all nodes pass they are a majority, unless there is no node
 all-pass : (b : Bool) → b ≡ true → (first k : ℕ) → length (filter (λ (q : ℕ). b) (numbers_from first k)) ≡ k
 all-pass b e first k = subst (λ (c : Bool). length (filter (λ (q : ℕ). c) (numbers_from first k)) ≡ k) (sym e) (every first k)
   where
@@ -131,7 +131,7 @@ all_majority n b e =
     let k : count_by (λ (q : ℕ). b) (nodes (suc n)) ≡ suc n = sym (length-filter (λ (q : ℕ). b) (nodes (suc n))) ∙ all-pass b e 1 (suc n) in
     lt-ltb (suc n) (2 * count_by (λ (q : ℕ). b) (nodes (suc n))) (omega (arith, k))
 
--- with itself as every node's image, an image that keeps its own rules keeps all
+-- if every node's image is this one, an image that keeps its own rules keeps all rules
 pub own-kept : (size : Limits) (p : ℕ) (rs : List Entry) → KeepsOwn size p [] rs → Kept (more_nodes size) (λ q. rs) p [] rs
 own-kept size p rs h =
     to_kept (more_nodes size) (λ q. rs) p rs (λ x m k e. k) (λ x m c k. all_majority size.n (has_pair (pend rs) x m) k) [] rs refl (more_own size p [] rs h)
@@ -139,7 +139,7 @@ own-kept size p rs h =
 pub own-unique : (size : Limits) (p : ℕ) (rs : List Entry) → KeepsOwn size p [] rs → Unique (pend rs)
 own-unique size p rs h = kept-unique (more_nodes size) (λ q. rs) p rs (own-kept size p rs h)
 
--- own pairs stand by their numbers
+-- the node's own pairs are at their numbers
 pub own-numbered : (size : Limits) (p : ℕ) (rs : List Entry) → KeepsOwn size p [] rs → Numbered p (pend rs)
 own-numbered size p rs h = kept-numbered (more_nodes size) (λ q. rs) p rs (own-kept size p rs h)
 
@@ -147,14 +147,14 @@ own-numbered size p rs h = kept-numbered (more_nodes size) (λ q. rs) p rs (own-
 pub own-numbers : (size : Limits) (p : ℕ) (rs : List Entry) → KeepsOwn size p [] rs → Numbers (own p (pend rs))
 own-numbers size p rs h = kept-numbers (more_nodes size) (λ q. rs) p rs (own-kept size p rs h)
 
--- ---- a record that joins
+-- ---- one more record
 
 pub both_ways : (a b : Bool) → (a ≡ true → b ≡ true) → (b ≡ true → a ≡ true) → a ≡ b
 both_ways true b h k = sym (h refl)
 both_ways false true h k = k refl
 both_ways false false h k = refl
 
--- the pairs and the certificates after it, as sets
+-- the pairs and certificates after it, as sets
 pub pairs-joined : (records : List Entry) (r : Entry) (ps : List (Label × Content)) → ((x : Label) (m : Content) → has_pair ps x m ≡ has_pair (pend records) x m)
     → (x : Label) (m : Content) → (has_pair ps x m || has_pair (pend (r ∷ [])) x m) ≡ has_pair (pend (records ++ r ∷ [])) x m
 pairs-joined records r ps h x m =

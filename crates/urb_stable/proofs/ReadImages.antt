@@ -1,4 +1,4 @@
--- The images of a group's nodes, as they are gone through one after the other.
+-- The images of a group's nodes, as they are indexed one after the other.
 use Rattle.std.proofs.Common.{List, Some, [], ap, arith, length, map, slice_get, slice_index_or, suc, sym, take, ℕ, ⊎_elim, ◌++◌, ◌+◌, ◌<◌, ◌∙◌, ◌∷◌, ◌≡◌, ◌≤◌}
 use Rattle.std.proofs.Math.Seq.{take-suc}
 use Rattle.std.proofs.lemmas.List.{map-append, take_all}
@@ -19,7 +19,7 @@ read-none items images read e =
     none_at : (i : ℕ) (image : NodeImage) → slice_get [] i ≡ Some image → ⊥
     none_at i image e = cc
 
--- one more is
+-- one more image is read
 pub read-more : {X : Type 0} (items : X → List Entry) (images : List X) (i : ℕ) (x : X) (old new : List NodeImage) (y : NodeImage) → i < length images → x ≡ slice_index_or images i x → y ≡ record { number = i + 1; records = items x } → new ≡ old ++ y ∷ []
     → AreRead items images i old → AreRead items images (i + 1) new
 read-more items images i x old new y l e is put h =
@@ -46,6 +46,6 @@ read-more items images i x old new y l e is put h =
         let size = h.size in
         omega (arith, number, place, size)
 
--- all of them are
+-- all images are read
 pub read-all : {X : Type 0} (items : X → List Entry) (images : List X) (n : ℕ) (read : List NodeImage) → length images ≤ n → AreRead items images n read → map (λ image. image.records) read ≡ map items images
 read-all items images n read l h = h.same ∙ ap (map items) (take_all n images l)

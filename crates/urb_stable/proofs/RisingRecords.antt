@@ -16,7 +16,8 @@ use Rattle.urb_stable.specs.Entries.{Entry}
 use Rattle.urb_stable.specs.Fitting.{KeepsOwn, Kept}
 use Rattle.urb_stable.specs.Records.{pend}
 
--- what is kept of a node's pairs in order: they rise, they are the same pairs, and its own messages stand as they came
+-- What sorting preserves: the pairs rise, they are the same pairs, and the node's own messages keep
+-- their order.
 record InOrder (p : ℕ) (ps : List (Label × Content)) : Type 0 where
   rises : Rises (rising ps)
   same : (x : Label) (m : Content) → has_pair (rising ps) x m ≡ has_pair ps x m
@@ -29,7 +30,7 @@ or-swap true false = refl
 or-swap false true = refl
 or-swap false false = refl
 
--- a pair at its place, or behind
+-- a pair at its place, or among the rest
 pair-moved : (q : Label × Content) (qs ps : List (Label × Content)) → ((x : Label) (m : Content) → has_pair qs x m ≡ has_pair ps x m) → (x : Label) (m : Content) → has_pair (inserted q qs) x m ≡ has_pair (ps ++ q ∷ []) x m
 pair-moved q qs ps h x m =
     has_pair-inserted q qs x m
@@ -95,12 +96,12 @@ in-order size images p rs h =
 own-in-order : (size : Limits) (p : ℕ) (rs : List Entry) → KeepsOwn size p [] rs → InOrder p (pend rs)
 own-in-order size p rs h = in-order _ (λ q. rs) p rs (own-kept size p rs h)
 
--- pairs in rising order, that are those of the records, are these sorted
+-- rising pairs that are the same set as the records' pairs are those pairs sorted
 pub rising-records : (size : Limits) (p : ℕ) (rs : List Entry) (ps : List (Label × Content)) → KeepsOwn size p [] rs → are_rising ps ≡ true → ((x : Label) (m : Content) → has_pair ps x m ≡ has_pair (pend rs) x m) → rising (pend rs) ≡ ps
 rising-records size p rs ps k r h =
     let o = own-in-order size p rs k in
     rises-same (rising (pend rs)) ps o.rises (rising-rises ps r) (λ x m. o.same x m ∙ sym (h x m))
 
--- and the node's own among them stand in the order in which they came
+-- and the node's own messages among them keep the order in which they came
 pub own-records : (size : Limits) (p : ℕ) (rs : List Entry) (ps : List (Label × Content)) → KeepsOwn size p [] rs → are_rising ps ≡ true → ((x : Label) (m : Content) → has_pair ps x m ≡ has_pair (pend rs) x m) → own p ps ≡ own p (pend rs)
 own-records size p rs ps k r h = ap (own p) (sym (rising-records size p rs ps k r h)) ∙ (own-in-order size p rs k).own_same

@@ -1,4 +1,4 @@
--- What is told of a record by those before it, as an image is gone through.
+-- What the earlier records say about a record, during the pass over an image.
 use Rattle.std.proofs.Common.{List, Some, [], ap, append-nil, arith, cond, eq-eqb, eqb-true, false, length, refl, slice_get, slice_index_or, subst, suc, sym, take, true, ℕ, ⊎_elim, ◌++◌, ◌+◌, ◌<◌, ◌==◌, ◌||◌, ◌∙◌, ◌∷◌, ◌≡◌, ◌≤◌, ◌⊎◌}
 use Rattle.std.proofs.Math.Seq.{take-suc}
 use Rattle.std.proofs.lemmas.Bool.{cases_Bool}
@@ -19,13 +19,13 @@ use Rattle.urb_stable.specs.declared.before.Before.{Before}
 use Rattle.urb_stable.specs.declared.before.Counts.{Counts}
 use Rattle.urb_stable.specs.declared.record.Record.TheVariants.{Cert, Pend, PendCert}
 
--- ---- the names that are certified
+-- ---- the certified names
 
--- a record that certifies none leaves them
+-- a record without a certificate leaves the set unchanged
 pub names-kept : (earlier : List Entry) (r : Entry) (certified : set.BTreeSet Label) → cert (r ∷ []) ≡ [] → IsSetOf (cert earlier) certified → IsSetOf (cert (earlier ++ r ∷ [])) certified
 names-kept earlier r certified none h x = h x ∙ ap (λ xs. has_name xs x) (sym (cert-append earlier (r ∷ []) ∙ (ap (λ xs. cert earlier ++ xs) none ∙ append-nil (cert earlier))))
 
--- one that certifies a name puts it to them
+-- a record with a certificate adds its name
 pub names-more : (earlier : List Entry) (r : Entry) (y : Label) (old new : set.BTreeSet Label) → cert (r ∷ []) ≡ y ∷ [] → set.Updates by_name old new y true → IsSetOf (cert earlier) old → IsSetOf (cert (earlier ++ r ∷ [])) new
 names-more earlier r y old new one updates h x =
     updates.0 x
@@ -52,12 +52,12 @@ names-next image i r certified l e h = subst (λ (rs : List Entry). IsSetOf (cer
 pub names-none : (certified : set.BTreeSet Label) → set.IsEmpty certified → IsSetOf [] certified
 names-none certified empty x = ap (λ ks. set.contains by_name (record { keys = ks }) x) empty
 
--- ---- the messages of the node itself
+-- ---- the node's own messages
 
 one-pair : (r : Entry) (x : Label) (m : Content) → (r ≡ Pend x m) ⊎ (r ≡ PendCert x m) → pend (r ∷ []) ≡ (x, m) ∷ []
 one-pair r x m is = ⊎_elim (λ f. ap (λ s. pend (s ∷ [])) f) (λ f. ap (λ s. pend (s ∷ [])) f) is
 
--- there are no more of them than records
+-- the node has no more own messages than records
 own-few : (p : ℕ) (records : List Entry) → length (own p (pend records)) ≤ length records
 own-few p [] = omega arith
 own-few p (Pend x m ∷ records) = at (own-few p records) (x.sender == p)
@@ -79,14 +79,14 @@ own-room p image i counts l h =
     let total = h.total in
     omega (arith, few, size, total)
 
--- the message of an own pair is one more
+-- the message of a pair of the node's own adds one
 pub count-own : {A : Type 0} (p : ℕ) (image : List Entry) (i : ℕ) (r : Entry) (x : Label) (m : Content) (counts : Counts A) → i < length image → r ≡ slice_index_or image i r → (r ≡ Pend x m) ⊎ (r ≡ PendCert x m) → x.sender ≡ p
     → IsCount (own p (pend (take i image)) ++ m ∷ []) counts → IsCount (own p (pend (take (i + 1) image))) counts
 count-own p image i r x m counts l e is mine h =
     subst (λ (ms : List Content). IsCount ms counts)
     (sym (ap (own p) (pend-next image i r l e ∙ ap (λ ps. pend (take i image) ++ ps) (one-pair r x m is)) ∙ own-push p (pend (take i image)) x m (eq-eqb x.sender p mine))) h
 
--- that of another node's pair is not
+-- the message of another node's pair adds none
 pub count-other : {A : Type 0} (p : ℕ) (image : List Entry) (i : ℕ) (r : Entry) (x : Label) (m : Content) (counts : Counts A) → i < length image → r ≡ slice_index_or image i r → (r ≡ Pend x m) ⊎ (r ≡ PendCert x m) → (x.sender ≡ p → ⊥)
     → IsCount (own p (pend (take i image))) counts → IsCount (own p (pend (take (i + 1) image))) counts
 count-other p image i r x m counts l e is other h =
@@ -96,14 +96,14 @@ count-other p image i r x m counts l e is other h =
     not_own : (x.sender == p) ≡ false
     not_own = ⊎_elim (λ f. absurd (other (eqb-true x.sender p f))) (λ f. f) (cases_Bool (x.sender == p))
 
--- nor does a certificate bring one
+-- a certificate adds none
 pub count-certificate : {A : Type 0} (p : ℕ) (image : List Entry) (i : ℕ) (r : Entry) (x : Label) (counts : Counts A) → i < length image → r ≡ slice_index_or image i r → r ≡ Cert x
     → IsCount (own p (pend (take i image))) counts → IsCount (own p (pend (take (i + 1) image))) counts
 count-certificate p image i r x counts l e is h =
     subst (λ (ms : List Content). IsCount ms counts)
     (sym (ap (own p) (pend-next image i r l e ∙ (ap (λ s. pend (take i image) ++ pend (s ∷ [])) is ∙ append-nil (pend (take i image)))))) h
 
--- ---- what is told
+-- ---- what the earlier records say
 
 pub told-none : (p : ℕ) (image : List Entry) (told : List Before) → told ≡ [] → AreBefore p image 0 told
 told-none p image told e = record { size = ap length e; each = λ k r before here found. absurd (none_at k before (ap (λ xs. slice_get xs k) (sym e) ∙ found)) }

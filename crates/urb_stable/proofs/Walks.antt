@@ -1,4 +1,4 @@
--- Going through the records of one name, from the last one to the first.
+-- Visiting the records with one name, from the last one to the first.
 use Rattle.std.proofs.Common.{Bool, List, None, Option, Some, [], ap, arith, false, is_some, length, refl, slice_get, subst, suc, sym, take, true, ℕ, ◌<◌, ◌||◌, ◌∙◌, ◌∷◌, ◌≡◌, ◌≤◌}
 use Rattle.std.proofs.lemmas.List.{take_all}
 use Rattle.std.specs.BTreeMap as tree
@@ -12,12 +12,12 @@ use Rattle.urb_stable.specs.Indexes.{IsIndexOf, IsLast, by_name}
 use Rattle.urb_stable.specs.Records.{pend}
 use Rattle.urb_stable.specs.declared.index.Places.{Places}
 
--- how many records are still to come at most
+-- the greatest number of records still to visit
 abbrev pub left : Option ℕ → ℕ
 left None = 0
 left (Some k) = suc k
 
--- the walk stands at the last pair of the name among the first n records
+-- the walk is at the last pair with the name among the first n records
 pub record Stands (image : List Entry) (x : Label) (n : ℕ) (place : Option ℕ) : Type 0 where
   pub within : n ≤ length image
   pub last : IsLast image n x place
@@ -25,20 +25,20 @@ pub record Stands (image : List Entry) (x : Label) (n : ℕ) (place : Option ℕ
 pub stands-within : (image : List Entry) (x : Label) (n k : ℕ) → Stands image x n (Some k) → k < length image
 stands-within image x n k s = let below = s.last.below in let high = s.within in omega (arith, below, high)
 
--- it begins at what the index has of the name
+-- it begins at the index's place for the name
 pub stands-first : {A : Type 0} (image : List Entry) (x : Label) (index : Places A) (o : Option ℕ) → IsIndexOf image (length image) index → o ≡ tree.get by_name index.last x → Stands image x (length image) o
 stands-first image x index o h e = record { within = omega arith; last = subst (λ (p : Option ℕ). IsLast image (length image) x p) (sym e) (h.last x) }
 
--- at a record of the name it begins before this one
+-- at a record with the name it begins at the last pair before that record
 pub stands-before : {A : Type 0} (image : List Entry) (x : Label) (index : Places A) (k : ℕ) (r : Entry) (o : Option ℕ) → IsIndexOf image (length image) index → k < length image → slice_get image k ≡ Some r → name_of r ≡ x → slice_get index.before.items k ≡ Some o
     → Stands image x k o
 stands-before image x index k r o h within here named found = record { within = omega (arith, within); last = subst (λ (y : Label). IsLast image k y o) named (h.before k r o here found) }
 
--- a place of the walk has a record of the name
+-- a place of the walk has a record with the name
 same_some : {X : Type 0} (a b : X) (o : Option X) → o ≡ Some a → o ≡ Some b → a ≡ b
 same_some a b o e f = cc
 
--- and goes on before each of them
+-- and the walk continues before each of them
 pub stands-next : {A : Type 0} (image : List Entry) (x : Label) (index : Places A) (n k : ℕ) (r : Entry) (o : Option ℕ) → IsIndexOf image (length image) index → Stands image x n (Some k) → slice_get image k ≡ Some r → slice_get index.before.items k ≡ Some o
     → Stands image x k o
 stands-next image x index n k r o h s here found =
@@ -50,7 +50,7 @@ left-less image x k (Some j) s = let below = s.last.below in omega (arith, below
 
 -- ---- a walk that looks for a pair
 
--- the pair stands in the image exactly where it stands in what is to come
+-- the image has the pair exactly if the records still to visit have it
 abbrev pub Seeks : List Entry → Label → Content → Option ℕ → Type 0
 Seeks image x m place = (n : ℕ) × Stands image x n place × (has_pair (pend image) x m ≡ has_pair (pend (take n image)) x m)
 
@@ -84,7 +84,8 @@ seeks-end image x m s = sym (s.2 ∙ none-has (pend (take s.0 image)) x m s.1.la
 
 -- ---- a walk that looks for the first message of a name
 
--- what the records before this place say of the name is what is still to come, or else what was found last
+-- the name's message before this place is found among the records still to visit, or else is the
+-- one found last
 abbrev pub Looks : List Entry → Label → ℕ → Option Content → Option ℕ → Type 0
 Looks image x before found place = (n : ℕ) × Stands image x n place × (message_of (pend (take before image)) x ≡ option_or (message_of (pend (take n image)) x) found)
 

@@ -3,7 +3,8 @@ use Rattle.urb_names.specs.Naming.{Label, Content, IsLabel, IsContent}
 use Rattle.urb_stable.specs.declared.record.Record.{Record}
 use Rattle.urb_stable.specs.declared.record.Record.TheVariants.{Pend, PendCert, Cert}
 
--- a record, wherever its message lies in memory
+-- A record, wherever its message lies in memory. A message is pending; or it is pending and
+-- certified at once; or a pending message is certified.
 abbrev pub Entry : Type 0
 Entry = Record Content
 
@@ -13,7 +14,7 @@ name_of (Pend x m) = x
 name_of (PendCert x m) = x
 name_of (Cert x) = x
 
--- its name and message are within their limits
+-- the record's name and message are within their limits
 abbrev pub IsEntry : Entry → Type 0
 IsEntry (Pend x m) = IsLabel x × IsContent m
 IsEntry (PendCert x m) = IsLabel x × IsContent m

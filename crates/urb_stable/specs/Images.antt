@@ -2,7 +2,7 @@
 use Rattle.std.specs.Prelude.{List, [], slice_index_or, suc, zero, ℕ}
 use Rattle.urb_stable.specs.Entries.{Entry}
 
--- the image of a node, in the list of the images of the nodes 1, 2, ..
+-- a node's image, taken from the list of the images of nodes 1, 2, ..
 abbrev pub image_of : List (List Entry) → ℕ → List Entry
 image_of images zero = []
 image_of images (suc before) = slice_index_or images before []

@@ -1,4 +1,4 @@
--- An index of an image: where the last pair of each name stands, and the last one of its name before each record.
+-- An index of an image: the last pair with each name, and the last one before each record.
 use Rattle.std.specs.Prelude.{List, None, Option, Some, [], is_some, length, slice_get, take, true, ℕ, ◌<◌, ◌||◌, ◌∷◌, ◌≡◌}
 use Rattle.std.specs.BTreeMap as tree
 use Rattle.std.specs.Option.{option_or}
@@ -14,7 +14,8 @@ use Rattle.urb_stable.specs.declared.index.Places.{Places}
 abbrev pub by_name : Label → Label → Ordering
 by_name = (name_order.ghosts).cmp
 
--- Among the first n records of the image that at place k is of a pair of this name, and none behind it is.
+-- Among the first n records of the image, the record at place k holds a pair with this name, and no
+-- later one does.
 pub record IsPlace (image : List Entry) (n : ℕ) (x : Label) (k : ℕ) : Type 0 where
   pub below : k < n
   pub entry : Entry
@@ -24,12 +25,13 @@ pub record IsPlace (image : List Entry) (n : ℕ) (x : Label) (k : ℕ) : Type 0
   pub pairs : (m : Content) → has_pair (pend (take n image)) x m ≡ (has_pair (pend (take k image)) x m || has_pair (pend (entry ∷ [])) x m)
   pub message : message_of (pend (take n image)) x ≡ option_or (message_of (pend (take k image)) x) (message_of (pend (entry ∷ [])) x)
 
--- the place of the last pair of this name among the first n records, or that none of them is of one
+-- the place of the last pair with this name among the first n records, or that there is no such
+-- pair
 abbrev pub IsLast : List Entry → ℕ → Label → Option ℕ → Type 0
 IsLast image n x None = message_of (pend (take n image)) x ≡ None
 IsLast image n x (Some k) = IsPlace image n x k
 
--- the index is of this image's first n records
+-- the index describes the first n records of this image
 pub record IsIndexOf {A : Type 0} (image : List Entry) (n : ℕ) (index : Places A) : Type 0 where
   pub size : length index.before.items ≡ n
   pub last : (x : Label) → IsLast image n x (tree.get by_name index.last x)

@@ -2,7 +2,7 @@
 use Rattle.std.specs.Prelude.{ℕ}
 use Rattle.urb_stable.specs.Entries.{Entry}
 
--- a record of a node at its position
+-- a node's record at its position
 pub record Placed : Type 0 where
   pub node : ℕ
   pub pos : ℕ

@@ -11,7 +11,7 @@ pend (Pend x m ∷ records) = (x, m) ∷ pend records
 pend (PendCert x m ∷ records) = (x, m) ∷ pend records
 pend (Cert x ∷ records) = pend records
 
--- the names of the PendCert and Cert records, in order: the names of the book's delivered
+-- the names of the PendCert and Cert records, in order: the names in the book's delivered
 abbrev pub cert : List Entry → List Label
 cert [] = []
 cert (Pend x m ∷ records) = cert records

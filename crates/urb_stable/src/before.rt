@@ -1,4 +1,6 @@
-//! What the records before each record of an image say of it, as far as the rules ask: told of all records in one pass.
+//! What the earlier records of an image say about each record, found in one pass.
+//!
+//! It covers what the rules for images need.
 
 ghost use Rattle.std.specs.Prelude.{◌≡◌, ◌≤◌, ◌<◌, ◌+◌, ◌^◌, ◌∷◌, ◌++◌, [], length, take, IfOk, List, ℕ};
 ghost use Rattle.std.specs.BTreeMap.{get};
@@ -13,25 +15,25 @@ use std::alloc::Allocator;
 use std::collections::{BTreeMap, BTreeSet};
 use urb_names::{ClientId, Message, Name, NoMemory};
 
-/// What the records before one say of it.
+/// What the records before one say about it.
 #[derive(Clone, Copy)]
 pub(crate) struct Before {
     /// Whether they certify its name.
     pub(crate) certified: bool,
-    /// How many messages of the node itself they have.
+    /// The number of the node's own messages among them.
     pub(crate) own: usize,
-    /// How many of these are of the client of its message; none where it has no message.
+    /// How many of those come from the client of its message; 0 if it has no message.
     pub(crate) of_client: usize,
 }
 
-// How many messages the node itself has, and how many of them each client.
+// The number of the node's own messages, and how many of them come from each client.
 #[derive(Drop)]
 struct Counts<A: Allocator> {
     own: usize,
     clients: BTreeMap<ClientId, usize, A>,
 }
 
-// How many of the messages are the client's.
+// How many of the messages come from this client.
 fn count_of<A: Allocator>(counts: &Counts<A>, client: ClientId) -> usize
     ensures { result ≡ number_found (get by_client counts.now.clients client) }
 {
@@ -41,7 +43,7 @@ fn count_of<A: Allocator>(counts: &Counts<A>, client: ClientId) -> usize
     }
 }
 
-// One more message, of this client.
+// Counts one more message from this client.
 fn count_message<A: Allocator + Copy>(
     counts: &mut Counts<A>,
     client: ClientId,
@@ -59,7 +61,7 @@ fn count_message<A: Allocator + Copy>(
     Ok(())
 }
 
-// The message of one more record, at its place in the image, where it is of the node of this number itself.
+// Counts the message of the record at this place, if its sender is the node with this number.
 fn count_next<A: Allocator + Copy>(
     counts: &mut Counts<A>,
     number: usize,
@@ -84,7 +86,7 @@ fn count_next<A: Allocator + Copy>(
     Ok(())
 }
 
-// The certificate of one more record.
+// Adds the certificate of one more record, if it has one.
 fn certify_next<A: Allocator + Copy>(
     certified: &mut BTreeSet<Name, A>,
     entry: &Record<Message<A>>,
@@ -102,7 +104,7 @@ fn certify_next<A: Allocator + Copy>(
     Ok(())
 }
 
-// What the records that are gone through say of the next one.
+// What the records so far say about the next one.
 fn told_of<A: Allocator>(
     certified: &BTreeSet<Name, A>,
     counts: &Counts<A>,
@@ -127,8 +129,8 @@ fn told_of<A: Allocator>(
     }
 }
 
-/// What is said of each record of an image by those before it. It is the image of the node of this number. The memory
-/// comes from `alloc`.
+/// What the earlier records say about each record of an image. The image belongs to the node with
+/// this number. Memory comes from `alloc`.
 pub(crate) fn told_of_each<A: Allocator + Copy>(
     alloc: A,
     number: usize,

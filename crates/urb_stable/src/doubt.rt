@@ -1,11 +1,13 @@
-//! Doubts: that a store failed.
+//! Doubts: evidence that a store did not confirm that it kept a record.
 ghost use Rattle.std.specs.Prelude.{◌≡◌};
 
 use crate::StoreFault;
 use std::marker::Model;
 use urb_names::NodeId;
 
-/// That a store did not surely take a node's record. Only `Draft::keep` makes one.
+/// Evidence that a store did not confirm that it kept a node's record. If the fault is `Place`, the
+/// record was not kept. After any other fault it may have been kept or not. Only `Draft::keep`
+/// makes a doubt.
 #[derive(Debug, Drop)]
 pub struct Doubt {
     node: NodeId,
@@ -21,21 +23,21 @@ impl Model for Doubt {
 }
 
 impl Doubt {
-    // That a store answered this fault: for `Draft::keep` alone.
+    // The doubt after a store answered this fault.
     pub(crate) fn new(node: NodeId, fault: StoreFault) -> Doubt
         ensures { result ≡ record { node = node; fault = fault } }
     {
         Doubt { node, fault }
     }
 
-    /// The node whose record it is.
+    /// The node that wanted the record stored.
     pub fn node(&self) -> NodeId
         ensures { result ≡ self.now.node }
     {
         self.node
     }
 
-    /// Why the store did not take it.
+    /// The fault that the store answered.
     pub fn fault(&self) -> StoreFault
         ensures { result ≡ self.now.fault }
     {

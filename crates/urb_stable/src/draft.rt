@@ -1,4 +1,4 @@
-//! Drafts: what a node wants stored.
+//! Drafts: records that a node wants stored.
 ghost use Rattle.std.specs.Prelude.{◌≡◌, ◌⊎◌, ◌<◌, ◌≤◌, ◌++◌, [], ◌∷◌, true, false, None, Some, Err, IsTrue, IfErr, OnOk, OnErr, MatchResult};
 ghost use Rattle.urb_stable.specs.Storing.{IsContents, is_out_of_place, is_place, IsPlaced};
 ghost use Rattle.urb_stable.specs.Answering.{answer_of};
@@ -8,8 +8,8 @@ use std::alloc::{Allocator, Global};
 use std::marker::Model;
 use urb_names::{Message, NodeId};
 
-/// A record that a node wants stored, at its position in the node's storage, from 1. It may be dropped: the node then
-/// waits for its storage until it is told of a failure or crashes.
+/// A record that a node wants stored, at its position in the node's storage, from 1. It may be
+/// dropped. The node then waits for its storage until a failure is reported to it or it crashes.
 #[derive(Drop)]
 #[derive_where(Debug)]
 pub struct Draft<A: Allocator = Global> {
@@ -30,7 +30,7 @@ impl<A: Allocator> Model for Draft<A> {
 }
 
 impl<A: Allocator> Draft<A> {
-    /// A draft of the record. Takes no memory.
+    /// A draft of the record. Allocates no memory.
     pub fn new(node: NodeId, pos: u32, entry: Record<Message<A>>) -> Draft<A>
         requires { 0 < pos }
         ensures { result ≡ record { node = node; pos = pos; entry = entry } }
@@ -60,18 +60,18 @@ impl<A: Allocator> Draft<A> {
         &self.entry
     }
 
-    /// Has a store keep the record, as the book's `store` does before a step's effects are seen (section 2.2 of the
-    /// book). A doubt of `Place` says that nothing has changed; after any other, only a `retrieve` can tell whether the
-    /// record is kept.
+    /// Stores the record, as the book's `store` does before the effects of a step are seen (section
+    /// 2.2 of the book). A doubt with `Place` means that nothing has changed. After any other
+    /// doubt, only a `retrieve` can tell whether the record is kept.
     pub fn keep<S: Stable<Alloc = A>>(self, store: &mut S) -> Result<Receipt<A>, Doubt>
-        // A receipt is of this draft, and a doubt of its node.
+        // A receipt belongs to this draft, and a doubt to its node.
         ensures receipt { MatchResult result (λ receipt. receipt ≡ self)
             (λ doubt. doubt.node ≡ self.node) }
 
-        // A doubt tells the very fault that the store answered.
+        // A doubt holds exactly the fault that the store answered.
         ensures answers { S.stores store.old self.pos self.entry (answer_of result) }
 
-        // Place comes exactly where the store is out of place, and then nothing changes.
+        // The fault is `Place` exactly if the store is out of place, and then nothing changes.
         ensures placed { IsPlaced
             (is_out_of_place (S.is_doubtful store.old) (S.place store.old) self.pos)
             (S.place store.old) (answer_of result) }
@@ -79,7 +79,7 @@ impl<A: Allocator> Draft<A> {
             (is_out_of_place (S.is_doubtful store.old) (S.place store.old) self.pos)
             → store.new ≡ store.old }
 
-        // The record is certain after a receipt, and may be there after another doubt.
+        // The record is certain after a receipt. After any other doubt it may be there.
         ensures stored { S.is_honest store.new
             → OnOk (answer_of result)
             (S.certain store.new ≡ S.certain store.old ++ self.entry ∷ []) }
@@ -92,7 +92,8 @@ impl<A: Allocator> Draft<A> {
         ensures doubt { IfErr (answer_of result) (λ e. is_place e ≡ false
             → (S.doubt store.new ≡ None) ⊎ (S.doubt store.new ≡ Some self.entry)) }
 
-        // A stop, also inside this call, leaves what the storage may hold, or its certain records with this one.
+        // A stop, even during this call, leaves what the storage may hold, or its certain records
+        // followed by this one.
         ensures stop { S.is_honest store.old
             → S.is_clean store.new
             → S.leaves_only store.new (λ records.
@@ -101,7 +102,7 @@ impl<A: Allocator> Draft<A> {
         ensures rest { S.is_honest store.new
             → S.leaves_only store.new (IsContents (S.certain store.new) (S.doubt store.new)) }
 
-        // Device comes only where the count of failures rose.
+        // `Device` comes only if the count of failures rose.
         ensures device { answer_of result ≡ Err StoreFault.Device
             → S.failures store.old < S.failures store.new }
         ensures counts { S.failures store.old ≤ S.failures store.new }
@@ -109,7 +110,8 @@ impl<A: Allocator> Draft<A> {
         ensures alive { OnOk (answer_of result)
             (S.is_honest store.old → S.is_clean store.new → S.is_honest store.new) }
 
-        // What was not given back as it was written is never forgotten, and an honest storage stays so, or is shut.
+        // If the storage has ever given back something other than what was written, it never counts
+        // as clean again. A clean storage that was honest stays honest or is shut.
         ensures clean { S.is_clean store.new → S.is_clean store.old }
         ensures shut { S.is_honest store.old
             → S.is_clean store.new

@@ -1,4 +1,4 @@
-//! Which images of the nodes' storages fit together, and what is told of others.
+//! Which images of the nodes' storages fit together, and the first misfit of those that don't.
 
 ghost use Rattle.std.specs.Prelude.{◌≡◌, ◌<◌, ◌≤◌, [], ◌∷◌, length, map, is_some, count_by, option_map, slice_get, take, IfOk, List, Some};
 ghost use Rattle.urb_names.specs.Naming.{Content};
@@ -17,8 +17,9 @@ use std::alloc::Allocator;
 use std::marker::Model;
 use urb_names::{Config, Message, Name, NoMemory, NodeId, Rule, is_majority};
 
-/// A record of an image that breaks a rule, and the first rule that it breaks: images that fit together have none. It is
-/// named by the node whose image it stands in, and by the name that it is about.
+/// A record that breaks a rule, and the first rule that it breaks. Images that fit together have
+/// none. The record is identified by the node whose image holds it and by the name that it is
+/// about.
 #[derive(Clone, Copy, Debug, PartialEq, Eq)]
 pub struct Misfit {
     pub rule: Rule,
@@ -26,8 +27,8 @@ pub struct Misfit {
     pub name: Name,
 }
 
-/// The images of a group's nodes 1, 2, .., each of them gone through once, so that their records are judged by look-ups:
-/// in n log n steps where they have n records.
+/// The images of a group's nodes 1, 2, .., indexed in one pass each, so that records are judged by
+/// look-ups: in n log n steps for n records.
 #[derive(Drop)]
 pub struct Images<'r, A: Allocator> {
     images: Vec<Image<'r, A>, A>,
@@ -46,8 +47,8 @@ impl<'r, A: Allocator> Model for Images<'r, A> {
 }
 
 impl<'r, A: Allocator + Copy> Images<'r, A> {
-    /// The images of the nodes 1, 2, .., read from where they lie. All memory that it takes to judge them comes from
-    /// `alloc`, and is taken here.
+    /// Indexes the images of the nodes 1, 2, .., without copying their records. All memory needed
+    /// to judge them comes from `alloc` and is allocated here.
     pub fn new(
         alloc: A,
         images: &'r [Vec<Record<Message<A>>, A>],
@@ -61,8 +62,9 @@ impl<'r, A: Allocator + Copy> Images<'r, A> {
         Ok(Images { images: read })
     }
 
-    /// The first misfit of the images, by node, then by position, then by rule; `None` where they fit together, so that a
-    /// group goes on from them (recovery, sections 2.2 and 3.7 of the book). Takes no memory.
+    /// The first misfit of the images, by node, then by position, then by rule. `None` means that
+    /// they fit together, so a group can continue from them (recovery, sections 2.2 and 3.7 of the
+    /// book). Allocates no memory.
     pub fn first_misfit(&self, config: Config) -> Option<Misfit>
         requires { length self.now ≡ config.n }
         ensures { result ≡ first_misfit config (image_of self.now) }
@@ -101,7 +103,7 @@ fn misfit_in<A: Allocator + Copy>(
     None
 }
 
-// The first rule that the record at this place of the image breaks, with the records before it.
+// The first rule that the record at this place of the image breaks, given the records before it.
 fn broken_rule<A: Allocator + Copy>(
     config: Config,
     images: &[Image<A>],
@@ -211,14 +213,15 @@ fn is_certified_rightly<A: Allocator + Copy>(
     }
 }
 
-// Whether a group may have the name.
+// Whether a group with these limits may have the name.
 fn is_in_range(config: Config, name: Name) -> bool
     ensures { result ≡ in_range config name }
 {
     name.sender.number() <= config.n() && name.seq <= config.cap()
 }
 
-// Whether the pair is the node's next one, and its client's, with what is said of its record.
+// Whether the pair has the node's next number, and its message has its client's next number, given
+// what the earlier records say.
 fn is_next_own<A: Allocator>(before: Before, name: Name, message: &Message<A>) -> bool
     ensures { (messages : List Content)
         → before.own ≡ length messages
@@ -262,7 +265,7 @@ fn is_held_by_majority<A: Allocator + Copy>(
     is_majority(holders(images, name, message) as u8, config.n())
 }
 
-// How many images have the pair.
+// The number of images that have the pair.
 fn holders<A: Allocator + Copy>(images: &[Image<A>], name: Name, message: &Message<A>) -> usize
     ensures count { result
         ≡ count_by
@@ -276,7 +279,8 @@ fn holders<A: Allocator + Copy>(images: &[Image<A>], name: Name, message: &Messa
         .count()
 }
 
-// Whether a record before this place is of a pair of this name, the name of the record there.
+// Whether a record before this place holds a pair with this name. The record at this place must
+// have the name.
 fn is_pending<A: Allocator + Copy>(image: &Image<A>, place: usize, name: Name) -> bool
     requires named { option_map name_of (slice_get image.now.records place) ≡ Some name }
     ensures { result ≡ is_some (message_of (pend (take place image.now.records)) name) }
@@ -284,7 +288,7 @@ fn is_pending<A: Allocator + Copy>(image: &Image<A>, place: usize, name: Name) -
     image.message_before(place, name).is_some()
 }
 
-// The message of a record that is of a pair of this name.
+// The message of the record, if it holds a pair with this name.
 pub(crate) fn message_at<A: Allocator>(
     entry: &Record<Message<A>>,
     name: Name,
@@ -302,7 +306,7 @@ pub(crate) fn message_at<A: Allocator>(
     }
 }
 
-// Whether a record is of this pair.
+// Whether a record holds this pair.
 pub(crate) fn is_of_pair<A: Allocator>(
     entry: &Record<Message<A>>,
     name: Name,

@@ -1,4 +1,4 @@
-//! An image that is gone through once, so that each record of it is judged by look-ups.
+//! An image that was indexed in one pass, so that each of its records is judged by look-ups.
 
 ghost use Rattle.std.specs.Prelude.{◌≡◌, ◌<◌, length, option_map, slice_get, take, IfOk, Some};
 ghost use Rattle.urb_names.specs.Pairs.{has_pair, message_of};
@@ -12,7 +12,8 @@ use std::alloc::Allocator;
 use std::marker::Model;
 use urb_names::{Message, Name, NoMemory};
 
-/// The image of a node, with an index of its pairs, and with what the records before each one say of it.
+/// The image of a node, with an index of its pairs, and with what the earlier records say about
+/// each record.
 #[derive(Drop)]
 pub(crate) struct Image<'r, A: Allocator> {
     number: usize,
@@ -33,7 +34,7 @@ impl<'r, A: Allocator> Model for Image<'r, A> {
 }
 
 impl<'r, A: Allocator + Copy> Image<'r, A> {
-    /// The image of the node of this number. Its memory comes from `alloc`.
+    /// The image of the node with this number. Its memory comes from `alloc`.
     pub(crate) fn new(
         alloc: A,
         number: usize,
@@ -56,14 +57,14 @@ impl<'r, A: Allocator + Copy> Image<'r, A> {
         self.index.records()
     }
 
-    /// Whether it has a record of this pair.
+    /// Whether the image has a record that holds this pair.
     pub(crate) fn has(&self, name: Name, message: &Message<A>) -> bool
         ensures { result ≡ has_pair (pend self.now.records) name message.now }
     {
         self.index.has(name, message)
     }
 
-    /// What the records before the one at this place say of it.
+    /// What the records before this place say about the record there.
     pub(crate) fn told_before(&self, place: usize) -> Before
         requires { place < length self.now.records }
         ensures { (r : Entry)
@@ -73,7 +74,8 @@ impl<'r, A: Allocator + Copy> Image<'r, A> {
         self.told[place]
     }
 
-    /// The message of the first record before this place that is of a pair of this name, the name of the record there.
+    /// The message of the first record before this place that holds a pair with this name. The
+    /// record at this place must have the name.
     pub(crate) fn message_before(&self, place: usize, name: Name) -> Option<&Message<A>>
         requires named { option_map name_of (slice_get self.now.records place) ≡ Some name }
         ensures { option_map (λ m. m.now) result

@@ -1,4 +1,4 @@
-//! An index of an image, by which each pair of it is found without going through the image.
+//! An index of an image, which finds each pair without scanning the image.
 
 ghost use Rattle.std.specs.Prelude.{◌≡◌, ◌<◌, ◌+◌, length, option_map, slice_get, take, IfOk, Some};
 ghost use Rattle.urb_names.specs.Pairs.{has_pair, message_of};
@@ -13,15 +13,16 @@ use std::collections::BTreeMap;
 use std::marker::Model;
 use urb_names::{Message, Name, NoMemory};
 
-// Where the pairs of the first records of an image stand: the place of the last record of each name that has a message, and
-// for each record the place of the last one of its name before it. A name may stand twice in an image that doesn't fit.
+// The places of the pairs among the first records of an image. `last` holds the place of the last
+// pair with each name. `before` holds, for each record, the place of the last pair with its name
+// before it. An image that doesn't fit may hold a name twice.
 #[derive(Drop)]
 pub(crate) struct Places<A: Allocator> {
     last: BTreeMap<Name, usize, A>,
     before: Vec<Option<usize>, A>,
 }
 
-/// An index of an image: it finds a pair without going through all records.
+/// An index of an image: it finds a pair without scanning all records.
 #[derive(Drop)]
 pub struct Index<'r, A: Allocator> {
     image: &'r [Record<Message<A>>],
@@ -40,7 +41,7 @@ impl<'r, A: Allocator> Model for Index<'r, A> {
     ghost invariant = { λ a. IsIndexOf a.image.now (length a.image.now) a.places };
 }
 
-// One more record, at its place in the image.
+// Adds the record at this place to the index.
 fn index_next<A: Allocator + Copy>(
     index: &mut Places<A>,
     image: &[Record<Message<A>>],
@@ -62,7 +63,8 @@ fn index_next<A: Allocator + Copy>(
     Ok(())
 }
 
-// Whether a record of the image is of this pair: goes through the records of its name, from the last one on.
+// Whether a record of the image holds this pair. It visits the records with its name, from the last
+// one back.
 fn finds<A: Allocator + Copy>(
     places: &Places<A>,
     image: &[Record<Message<A>>],
@@ -82,8 +84,8 @@ fn finds<A: Allocator + Copy>(
     false
 }
 
-// The message of the first record before this place that is of a pair of this name, the name of the record there: goes
-// through the records of the name, from the last one on.
+// The message of the first record before this place that holds a pair with this name. The record at
+// this place must have the name. It visits the records with that name, from the last one back.
 fn finds_before<'r, A: Allocator + Copy>(
     places: &Places<A>,
     image: &'r [Record<Message<A>>],
@@ -118,22 +120,22 @@ impl<'r, A: Allocator + Copy> Index<'r, A> {
         Ok(Index { image, places })
     }
 
-    /// The records of the image. Takes no memory.
+    /// The records of the image. Allocates no memory.
     pub fn records(&self) -> &[Record<Message<A>>]
         ensures { result.now ≡ self.now }
     {
         self.image
     }
 
-    /// Whether the image has a record of this pair. Takes no memory.
+    /// Whether a record of the image holds this pair. Allocates no memory.
     pub fn has(&self, name: Name, message: &Message<A>) -> bool
         ensures { result ≡ has_pair (pend self.now) name message.now }
     {
         finds(&self.places, self.image, name, message)
     }
 
-    /// The message of the first record before this place that is of a pair of this name, the name of the record there.
-    /// Takes no memory.
+    /// The message of the first record before this place that holds a pair with this name. The
+    /// record at this place must have the name. Allocates no memory.
     pub(crate) fn message_before(&self, place: usize, name: Name) -> Option<&Message<A>>
         requires named { option_map name_of (slice_get self.now place) ≡ Some name }
         ensures { option_map (λ m. m.now) result ≡ message_of (pend (take place self.now)) name }

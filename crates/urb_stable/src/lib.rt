@@ -1,20 +1,21 @@
-//! Stable storage of a node (sections 2.2 and 3.7 of the book): records, drafts, receipts and doubts.
+//! A node's stable storage: records, drafts, receipts and doubts.
 //!
-//! A record says that a message is pending, that it is certified, or both at once. A `Draft` is a record that waits for its
-//! storage, and the only way from it to a `Receipt` goes through a store that took it:
+//! Sections 2.2 and 3.7 of the book describe it. A record says that a message is pending, that it
+//! is certified, or both at once. A `Draft` is a record that isn't stored yet. Only a store that
+//! kept the record turns it into a `Receipt`:
 //!
 //! ```text
 //! match draft.keep(&mut store) {
-//!     Ok(receipt) => ..,                                 // it is stored, for good
-//!     Err(doubt) => ..,                                  // it may be stored or not: the node goes down, and asks
+//!     Ok(receipt) => ..,                                 // the record is stored for good
+//!     Err(doubt) => ..,                                  // it may be stored or not: the node goes down and retrieves
 //! }
-//! let image = store.retrieve(alloc)?;                    // all that it holds; no doubt is left
-//! let images = Images::new(alloc, &images)?;             // of all nodes
-//! let misfit = images.first_misfit(config);              // none where they fit together
+//! let image = store.retrieve(alloc)?;                    // everything that it holds; no doubt is left
+//! let images = Images::new(alloc, &images)?;             // the images of all nodes
+//! let misfit = images.first_misfit(config);              // `None` if they fit together
 //! ```
 //!
-//! `Stable` is the contract of every storage; `MemStable` is one in memory, which can be armed to fail. Nothing here removes or
-//! changes a record that was stored.
+//! `Stable` is the contract of every storage. `MemStable` is a storage in memory, which can be
+//! armed to fail. Nothing here removes or changes a stored record.
 #![tactic(auto)]
 
 mod before;

@@ -10,22 +10,22 @@ use std::alloc::{Allocator, Global};
 use std::marker::Model;
 use urb_names::{Message, NoMemory};
 
-/// How a store in memory is to fail.
+/// How a store in memory fails.
 #[derive(Clone, Copy, Debug, PartialEq, Eq)]
 pub enum Failure {
     /// It keeps nothing of the record.
     Old,
-    /// It keeps the record; where no memory is left for it, it answers `NoMemory` and keeps nothing.
+    /// It keeps the record. If no memory is left for it, it answers `NoMemory` and keeps nothing.
     New,
 }
 
-/// A store in memory, which fails when it is told to: for tests, and for scripts that play failures.
+/// A store in memory that fails on request: for tests, and for scripts that play failures.
 #[derive(Drop)]
 #[derive_where(Debug)]
 pub struct MemStable<A: Allocator = Global> {
     #[derive_where(skip)]
     alloc: A,
-    // The certain records, and behind them one at most that is in doubt.
+    // The certain records, followed by at most one doubtful record.
     records: Vec<Record<Message<A>>, A>,
     certain: u32,
     doubtful: bool,
@@ -51,7 +51,7 @@ impl<A: Allocator> Model for MemStable<A> {
     ghost invariant = { IsMemory };
 }
 
-// Puts a copy of a record behind the others.
+// Appends a copy of a record.
 fn keep<A: Allocator + Copy>(
     records: &mut Vec<Record<Message<A>>, A>,
     alloc: A,
@@ -79,7 +79,7 @@ fn copies<A: Allocator + Copy>(
 }
 
 impl<A: Allocator + Copy> MemStable<A> {
-    /// A store with no records. Takes no memory; that of its records comes from `alloc`.
+    /// A store with no records. Allocates no memory; its records' memory comes from `alloc`.
     pub fn new(alloc: A) -> MemStable<A>
         ensures { result ≡ empty_memory }
     {
@@ -93,8 +93,9 @@ impl<A: Allocator + Copy> MemStable<A> {
         }
     }
 
-    /// Has the next store fail that isn't answered `Place`; an arming that was not used is replaced. After 2 ^ 64 - 1
-    /// failures no further one can be counted, and that store answers `NoMemory` and keeps nothing.
+    /// Makes the next store fail, except one that is answered `Place`. A new arming replaces an
+    /// unused one. After 2 ^ 64 - 1 failures no further one can be counted, so that store answers
+    /// `NoMemory` and keeps nothing.
     pub fn arm(&mut self, failure: Failure)
         ensures { self.new ≡ armed_with failure self.old }
     {
@@ -137,7 +138,7 @@ impl<A: Allocator + Copy> Stable for MemStable<A> {
     }
 
     fn store(&mut self, pos: u32, entry: &Record<Message<A>>) -> Result<(), StoreFault>
-        // As every store does.
+        // The promises of every store.
         ensures answers { Stores self.old pos result }
         ensures placed { IsPlaced
             (is_out_of_place self.old.doubtful (length self.old.certain + 1) pos)
@@ -157,8 +158,8 @@ impl<A: Allocator + Copy> Stable for MemStable<A> {
         ensures device { result ≡ Err StoreFault.Device → self.old.failures < self.new.failures }
         ensures counts { self.old.failures ≤ self.new.failures }
 
-        // What it answers and leaves exactly, where it is in place: unarmed, and armed with each failure. Where no further
-        // failure can be counted, an armed store has no memory.
+        // The exact answer and effect if the store is in place: unarmed, and armed with each
+        // failure. If no further failure can be counted, an armed store answers `NoMemory`.
         ensures unarmed { is_out_of_place self.old.doubtful (length self.old.certain + 1) pos
             ≡ false
             → self.old.armed ≡ None
@@ -209,7 +210,7 @@ impl<A: Allocator + Copy> Stable for MemStable<A> {
     }
 
     fn retrieve(&mut self, alloc: A) -> Result<Vec<Record<Message<A>>, A>, StoreFault>
-        // As every store does.
+        // The promises of every store.
         ensures answers { MatchResult result (λ records. Retrieves self.old (Ok records.items))
             (λ e. Retrieves self.old (Err e)) }
         ensures given { IfOk result (λ records. (self.new.certain ≡ records.items)
@@ -226,7 +227,8 @@ impl<A: Allocator + Copy> Stable for MemStable<A> {
         ensures device { result ≡ Err StoreFault.Device → self.old.failures < self.new.failures }
         ensures counts { self.old.failures ≤ self.new.failures }
 
-        // It gives all records; a fault is never of the device, and leaves the store as it was.
+        // It returns all records. A fault never comes from the device, and it leaves the store
+        // unchanged.
         ensures all { OnOk result (self.new ≡ retrieved self.old) }
         ensures refused { OnErr result (self.new ≡ self.old) }
     {

@@ -1,4 +1,4 @@
-//! Receipts: that a record is stored.
+//! Receipts: evidence that a record is stored.
 ghost use Rattle.std.specs.Prelude.{◌≡◌};
 
 use crate::Record;
@@ -6,7 +6,7 @@ use std::alloc::{Allocator, Global};
 use std::marker::Model;
 use urb_names::{Message, NodeId};
 
-/// That a store took a node's record. Only `Draft::keep` makes one.
+/// Evidence that a store kept a node's record. Only `Draft::keep` makes one.
 #[derive(Drop)]
 #[derive_where(Debug)]
 pub struct Receipt<A: Allocator = Global> {
@@ -24,7 +24,7 @@ impl<A: Allocator> Model for Receipt<A> {
 }
 
 impl<A: Allocator> Receipt<A> {
-    // That a store took this record: for `Draft::keep` alone.
+    // The receipt after a store kept this record; only `Draft::keep` calls it.
     pub(crate) fn new(node: NodeId, pos: u32, entry: Record<Message<A>>) -> Receipt<A>
         ensures { result ≡ record { node = node; pos = pos; entry = entry } }
     {

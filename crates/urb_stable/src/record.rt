@@ -7,13 +7,13 @@ ghost use Rattle.urb_stable.specs.Entries.{name_of, IsEntry};
 use std::alloc::Allocator;
 use urb_names::{Message, Name, NoMemory};
 
-/// What a node stores. Its list of records says which messages are pending at it, and which of them are certified
-/// (section 3.7 of the book, where they are called delivered).
+/// What a node stores. A node's list of records says which messages are pending at the node, and
+/// which of them are certified. The book calls the certified ones delivered (section 3.7).
 #[derive(Debug, Drop)]
 pub enum Record<M = Message> {
     /// The message is pending.
     Pend(Name, M),
-    /// The message is pending, and certified at once.
+    /// The message is pending and certified at once.
     PendCert(Name, M),
     /// A pending message is certified.
     Cert(Name),
@@ -31,7 +31,7 @@ impl<A: Allocator> Record<Message<A>> {
         }
     }
 
-    /// Whether the other is the same record.
+    /// Whether the two records are the same.
     pub fn is_same(&self, other: &Record<Message<A>>) -> bool
         ensures { MatchBool result (self.now ≡ other.now) (¬ (self.now ≡ other.now)) }
     {
@@ -43,7 +43,7 @@ impl<A: Allocator> Record<Message<A>> {
         }
     }
 
-    /// That every record is within its limits: for proofs alone, since it does nothing.
+    /// States that every record is within its limits. It does nothing; only proofs use it.
     pub fn limits(&self)
         ensures { IsEntry self.now }
     {
@@ -70,7 +70,7 @@ impl<A: Allocator + Copy> Record<Message<A>> {
     }
 }
 
-/// That every record of a list is within its limits: for proofs alone, since it does nothing.
+/// States that every record of a list is within its limits. It does nothing; only proofs use it.
 pub fn limits_of<A: Allocator>(records: &[Record<Message<A>>])
     ensures { All IsEntry records.now }
 {

@@ -1,4 +1,4 @@
-//! Stable storage: what each store promises.
+//! Stable storage: the contract of every store.
 ghost use Rattle.std.specs.Prelude.{◌≡◌, ◌⊎◌, ◌+◌, ◌<◌, ◌≤◌, List, [], ◌∷◌, ◌++◌, ℕ, Bool, true, false, Option, Some, None, Result, Ok, Err, length, IsTrue, IfOk, IfErr, MatchResult, OnOk, OnErr};
 ghost use Rattle.urb_stable.specs.Entries.{Entry};
 ghost use Rattle.urb_stable.specs.declared.stable.StoreFault.{StoreFault as Fault};
@@ -9,20 +9,21 @@ use std::alloc::{AllocError, AllocFailed, Allocator};
 use thiserror::Error;
 use urb_names::{Message, NoMemory, Refusal};
 
-/// Why a store did not do what it was asked.
+/// Why a store didn't do what it was asked.
 #[derive(Clone, Copy, Debug, PartialEq, Eq, Error)]
 pub enum StoreFault {
-    /// A growth of memory was refused.
+    /// An allocation was refused.
     #[error("no memory")]
     NoMemory,
     /// The storage failed in this call.
     #[error("the storage failed")]
     Device,
-    /// The record has another position than the next, which is this one; or a doubtful record stands, and a `retrieve`
-    /// has to come first; or the list has its greatest length. Nothing has changed.
+    /// The caller gave a position other than the next one, which is this; or there is a doubtful
+    /// record, so a `retrieve` must come first; or the list has its greatest length. Nothing has
+    /// changed.
     #[error("the next position is {0}")]
     Place(u32),
-    /// What stands at this place of the storage, from 1, is no record: it was not written by a store.
+    /// The row at this place of the storage, from 1, is not a record: no store wrote it.
     #[error("row {0} is no record")]
     BadRow(u32),
 }
@@ -61,7 +62,7 @@ impl<T: Drop> From<AllocFailed<T>> for StoreFault {
 }
 
 impl StoreFault {
-    /// The refusal that tells of it. Takes no memory.
+    /// The refusal that reports this fault. Allocates no memory.
     pub fn refusal(&self) -> Refusal
         ensures { result ≡ refusal_of self.now }
     {
@@ -74,22 +75,22 @@ impl StoreFault {
     }
 }
 
-/// A list of records that outlives a crash: stable storage, as in section 2.2 of the book. A list has at most
-/// 4,294,967,294 records.
+/// A list of records that survives a crash: stable storage, as in section 2.2 of the book. A list
+/// has at most 4,294,967,294 records.
 pub trait Stable {
-    /// Where the messages of its records lie.
+    /// The allocator of its records' messages.
     type Alloc: Allocator + Copy;
 
-    /// The records that are surely kept.
+    /// The records that are certainly kept.
     ghost certain: { Self → List Entry };
 
-    /// A record that a failed store may have kept behind them.
+    /// A record after them that a failed store may have kept.
     ghost doubt: { Self → Option Entry };
 
     /// Whether a store has failed since the last retrieve.
     ghost is_doubtful: { Self → Bool };
 
-    /// The position that the next store has to name.
+    /// The position that the next store must give.
     ghost place: { Self → ℕ };
 
     /// How often the device has failed.
@@ -98,16 +99,16 @@ pub trait Stable {
     /// So far the storage has given back what was written.
     ghost is_clean: { Self → Type 0 };
 
-    /// The same, and no failure has shut it.
+    /// The storage is clean, and no failure has shut it.
     ghost is_honest: { Self → Type 0 };
 
-    /// A failure has shut it: it gives no records any more.
+    /// A failure has shut the storage: it gives no more records.
     ghost is_shut: { Self → Type 0 };
 
-    /// Whatever a stop at this moment leaves is records of which this holds.
+    /// A stop at this moment leaves only records of which the given property holds.
     ghost leaves_only: { Self → (List Entry → Type 0) → Type 0 };
 
-    /// What a store of this record at this position may answer.
+    /// What storing this record at this position may answer.
     ghost stores: { Self → ℕ → Entry → Result (Unit {0}) Fault → Type 0 };
 
     /// What a retrieve may answer.
@@ -118,23 +119,24 @@ pub trait Stable {
         ensures value { result ≡ place self.now }
         ensures counted { is_honest self.now → result ≡ length (certain self.now) + 1 };
 
-    /// Whether a record may stand behind the certain ones, so that nothing more is stored before a `retrieve`.
+    /// Whether a record may follow the certain ones, so that nothing more is stored before a
+    /// `retrieve`.
     fn doubtful(&self) -> bool
         ensures { result ≡ is_doubtful self.now };
 
-    /// Keeps a record behind the others. After `Place` nothing has changed. After any other fault the record may be kept
-    /// or not, and only a `retrieve` can tell.
+    /// Appends a record to the others. After `Place` nothing has changed. After any other fault the
+    /// record may be kept or not, and only a `retrieve` can tell.
     fn store(&mut self, pos: u32, entry: &Record<Message<Self::Alloc>>) -> Result<(), StoreFault>
         // It answers as this storage does.
         ensures answers { stores self.old pos entry.now result }
 
-        // Place comes exactly where the store is out of place, and then nothing changes.
+        // The fault is `Place` exactly if the store is out of place, and then nothing changes.
         ensures placed { IsPlaced (is_out_of_place (is_doubtful self.old) (place self.old) pos)
             (place self.old) result }
         ensures same { IsTrue (is_out_of_place (is_doubtful self.old) (place self.old) pos)
             → self.new ≡ self.old }
 
-        // The record is certain after Ok, and may be there after another fault.
+        // The record is certain after `Ok`. After any other fault it may be there.
         ensures stored { is_honest self.new
             → OnOk result (certain self.new ≡ certain self.old ++ entry.now ∷ []) }
         ensures failed { is_honest self.new → OnErr result (certain self.new ≡ certain self.old) }
@@ -143,7 +145,8 @@ pub trait Stable {
         ensures doubt { IfErr result (λ e.
             is_place e ≡ false → (doubt self.new ≡ None) ⊎ (doubt self.new ≡ Some entry.now)) }
 
-        // A stop, also inside this call, leaves what the storage may hold, or its certain records with this one.
+        // A stop, even during this call, leaves what the storage may hold, or its certain records
+        // followed by this one.
         ensures stop { is_honest self.old
             → is_clean self.new
             → leaves_only self.new (λ records.
@@ -152,19 +155,21 @@ pub trait Stable {
         ensures rest { is_honest self.new
             → leaves_only self.new (IsContents (certain self.new) (doubt self.new)) }
 
-        // Device comes only where the count of failures rose.
+        // `Device` comes only if the count of failures rose.
         ensures device { result ≡ Err StoreFault.Device → failures self.old < failures self.new }
         ensures counts { failures self.old ≤ failures self.new }
         ensures honest { is_honest self.new → is_honest self.old }
         ensures alive { OnOk result (is_honest self.old → is_clean self.new → is_honest self.new) }
 
-        // What was not given back as it was written is never forgotten, and an honest storage stays so, or is shut.
+        // If the storage has ever given back something other than what was written, it never counts
+        // as clean again. A clean storage that was honest stays honest or is shut.
         ensures clean { is_clean self.new → is_clean self.old }
         ensures shut { is_honest self.old
             → is_clean self.new
             → is_honest self.new ⊎ is_shut self.new };
 
-    /// All records; what it gives is certain from then on. One that fails changes nothing but the count of failures.
+    /// Returns all records, which are certain from then on. A failed retrieve changes nothing but
+    /// the count of failures.
     fn retrieve(
         &mut self,
         alloc: Self::Alloc,
@@ -173,13 +178,14 @@ pub trait Stable {
         ensures answers { MatchResult result (λ records. answers self.old (Ok records.items))
             (λ e. answers self.old (Err e)) }
 
-        // It gives what the storage may hold, and that is certain then.
+        // It returns what the storage may hold, which is then certain.
         ensures given { is_honest self.new
             → IfOk result (λ records. (certain self.new ≡ records.items)
             × IsContents (certain self.old) (doubt self.old) records.items) }
         ensures clear { OnOk result ((is_doubtful self.new ≡ false) × (doubt self.new ≡ None)) }
 
-        // A fault leaves what was there, and is never Place; nor BadRow, where the storage is honest.
+        // A fault leaves what was there. It is never `Place`, nor `BadRow` if the storage is
+        // honest.
         ensures failed { is_honest self.new → OnErr result (certain self.new ≡ certain self.old) }
         ensures kept { OnErr result ((is_doubtful self.new ≡ is_doubtful self.old)
             × (doubt self.new ≡ doubt self.old)
@@ -187,31 +193,33 @@ pub trait Stable {
         ensures faults { IfErr result
             (λ e. (is_place e ≡ false) × (is_honest self.new → is_bad_row e ≡ false)) }
 
-        // Nor is it BadRow where this fault, or one before, has shut an honest storage.
+        // Nor is it `BadRow` if this failure, or an earlier one, has shut an honest storage.
         ensures sound { is_honest self.old ⊎ is_shut self.old
             → is_clean self.new
             → IfErr result (λ e. is_bad_row e ≡ false) }
 
-        // A stop, also inside this call, leaves what the storage may hold.
+        // A stop, even during this call, leaves what the storage may hold.
         ensures stop { is_honest self.old
             → is_clean self.new
             → leaves_only self.new (IsContents (certain self.old) (doubt self.old)) }
         ensures rest { is_honest self.new
             → leaves_only self.new (IsContents (certain self.new) (doubt self.new)) }
 
-        // Device comes only where the count of failures rose.
+        // `Device` comes only if the count of failures rose.
         ensures device { result ≡ Err StoreFault.Device → failures self.old < failures self.new }
         ensures counts { failures self.old ≤ failures self.new }
         ensures honest { is_honest self.new → is_honest self.old }
         ensures alive { OnOk result (is_honest self.old → is_clean self.new → is_honest self.new) }
 
-        // What was not given back as it was written is never forgotten, and an honest storage stays so, or is shut.
+        // If the storage has ever given back something other than what was written, it never counts
+        // as clean again. A clean storage that was honest stays honest or is shut.
         ensures clean { is_clean self.new → is_clean self.old }
         ensures shut { is_honest self.old
             → is_clean self.new
             → is_honest self.new ⊎ is_shut self.new }
 
-        // One that is shut gives nothing, and stays so; and of any storage a stop leaves no more than before the call.
+        // A shut storage returns nothing and stays shut. For any storage, a stop leaves no more
+        // than it did before the call.
         ensures refuses { is_shut self.old
             → is_clean self.new
             → OnOk result ⊥ × OnErr result (is_shut self.new) }

@@ -1,4 +1,4 @@
-//! Calls on a store in memory, with and without failures, and memory that is refused.
+//! Calls on a store in memory, with and without failures, and refused allocations.
 
 mod calls;
 mod fitting;
@@ -13,7 +13,7 @@ use urb_names::{NodeId, Refusal};
 use urb_refusing::Refusing;
 use urb_stable::*;
 
-// Whether a new store answers these calls so, with the first message of node 1 as each record.
+// Whether a new store gives these answers, with the first message of node 1 as each record.
 fn answers<A: Allocator + Copy>(heap: A, calm: A, calls: &[Call]) -> bool {
     let Some(record) = record(calm, Form::Pend(1, 1), b'm') else {
         return false;
@@ -93,7 +93,7 @@ fn a_failure_that_keeps_the_record_needs_memory_for_it(rt: HostRuntime) {
     assert!(rt; answers(&heap, &calm, &calls));
 }
 
-// Whether a copy of a record is the same, and its certificate is another.
+// Whether a copy of a record is the same record, and its certificate is a different one.
 fn is_same_as_its_copy<A: Allocator + Copy>(
     alloc: A,
     record: &Record<urb_names::Message<A>>,

@@ -1,4 +1,4 @@
--- Names in their order behind a cursor: the first due one, and what stands behind it.
+-- Sorted names after a cursor: the first due name, and what comes after it.
 use Rattle.std.proofs.Common.{◌≡◌, ℕ, suc, ◌+◌, ◌<◌, ◌≤◌, Bool, true, false, cond, not, ◌&&◌, ◌||◌, ◌==◌, nat_lt, List, [], ◌∷◌, filter, length, Option, None, Some, refl, sym, ap, ◌∙◌, subst, inl, inr, ◌⊎◌, ⊎_elim, arith, eq-eqb, ltb-true, lt-ltb}
 use Rattle.std.specs.List.{list_all}
 use Rattle.std.proofs.lemmas.Bool.{and_from, and_parts, cases_Bool, cases_lt, cond-false, cond-true, eqb-true, false≢true, false_from_ne_true, or_left, or_parts, or_right, or_cases}
@@ -21,7 +21,7 @@ first_is p ps x e = cc
 
 -- ---- the order of names
 
--- a name that isn't before x, and not behind the end, where these two are of one sender, is of this sender too
+-- A name that isn't before x has no lower sender and, under the same sender, no lower number.
 not_before : (y x : Label) → name_lt y x ≡ false → (x.sender ≤ y.sender) × (y.sender ≡ x.sender → x.seq ≤ y.seq)
 not_before y x e =
     let parts = or_parts (nat_lt y.sender x.sender) ((y.sender == x.sender) && nat_lt y.seq x.seq) e in
@@ -35,7 +35,7 @@ not_before y x e =
     number same (inl l) f = absurd (false≢true (sym f ∙ and_from (y.sender == x.sender) (nat_lt y.seq x.seq) (eq-eqb y.sender x.sender same) (lt-ltb y.seq x.seq l)))
     number same (inr l) f = l
 
--- what is behind the end is behind each name of the sender up to it
+-- what comes after the end comes after each of the sender's names up to the end
 through : (x end y : Label) → end.sender ≡ x.sender → x.seq ≤ end.seq → name_lt end y ≡ true → name_lt x y ≡ true
 through x end y same l e = at (or_cases (nat_lt end.sender y.sender) ((end.sender == y.sender) && nat_lt end.seq y.seq) e)
   where
@@ -50,12 +50,12 @@ through x end y same l e = at (or_cases (nat_lt end.sender y.sender) ((end.sende
         or_right (nat_lt x.sender y.sender) ((x.sender == y.sender) && nat_lt x.seq y.seq)
         (and_from (x.sender == y.sender) (nat_lt x.seq y.seq) (eq-eqb x.sender y.sender (sym same ∙ one)) (lt-ltb x.seq y.seq (omega (arith, less, l))))
 
--- behind a name that is behind a cursor
+-- a name after one that comes after a cursor comes after the cursor too
 pub after_behind : (cursor : Option Label) (x y : Label) → is_after cursor x ≡ true → name_lt x y ≡ true → is_after cursor y ≡ true
 after_behind None x y e f = refl
 after_behind (Some c) x y e f = name_lt-trans c x y e f
 
--- a name up to the end that is behind a cursor which the first name is behind too is one of those that were passed
+-- a name from x up to the end is one of those passed, so it is not due
 pub passed_not_due : (r : Resending) (x end y : Label) → IsPassed r x end → name_lt y x ≡ false → name_lt end y ≡ false → is_due r.limits.n r.node r.heard y ≡ false
 passed_not_due r x end y h e f =
     let low = not_before y x e in
@@ -65,7 +65,7 @@ passed_not_due r x end y h e f =
 
 -- ---- the first name
 
--- it passes
+-- the first name comes after the cursor
 pub first_after : (cursor : Option Label) (ps : Pairs) (x : Label) → first_name (behind cursor ps) ≡ Some x → is_after cursor x ≡ true
 first_after cursor [] x e = absurd cc
 first_after cursor (p ∷ ps) x e = at (is_after cursor p.0) refl (first_after cursor ps x) e
@@ -74,7 +74,7 @@ first_after cursor (p ∷ ps) x e = at (is_after cursor p.0) refl (first_after c
     at true f ih g = ap (is_after cursor) (sym (first_is p (behind cursor ps) x g)) ∙ f
     at false f ih g = ih g
 
--- no pair behind the cursor is before it
+-- no pair after the cursor comes before it
 abbrev pub IsLeast : Option Label → Pairs → Label → Type 0
 IsLeast cursor ps x = list_all (λ p. not (is_after cursor p.0 && name_lt p.0 x)) ps ≡ true
 
@@ -115,9 +115,9 @@ first_least cursor (p ∷ ps) x h e = at (is_after cursor p.0) refl (first_least
         (none_before cursor x ps (subst (λ (y : Label). list_all (λ q. name_lt y q.0) ps ≡ true) here parts.0))
     at false f ih g = and_from (not (is_after cursor p.0 && name_lt p.0 x)) _ (nothing _ (both (is_after cursor p.0) (name_lt p.0 x) f)) (ih g)
 
--- ---- passing what is not due
+-- ---- passing names that are not due
 
--- the due pairs behind the end of those that were passed are the due ones behind the cursor
+-- the due pairs after the end of the passed names are the due pairs after the cursor
 pub passed_same : (r : Resending) (cursor : Option Label) (pairs : Pairs) (x end : Label) → are_rising pairs ≡ true → first_name (behind cursor pairs) ≡ Some x → IsPassed r x end
     → behind (Some end) (due_pairs r pairs) ≡ behind cursor (due_pairs r pairs)
 passed_same r cursor pairs x end rises first h = among pairs (first_least cursor pairs x rises first)
@@ -153,7 +153,7 @@ passed_same r cursor pairs x end rises first h = among pairs (first_least cursor
             ∙ ap (λ (qs : Pairs). cond (is_after cursor p.0) (p ∷ qs) qs) ih
         at false due ih = ih
 
--- and fewer pairs are behind it
+-- and fewer pairs come after it
 pub passed_fewer : (r : Resending) (cursor : Option Label) (pairs : Pairs) (x end : Label) → first_name (behind cursor pairs) ≡ Some x → IsPassed r x end
     → length (behind (Some end) pairs) < length (behind cursor pairs)
 passed_fewer r cursor pairs x end first h = among pairs first
@@ -189,7 +189,7 @@ passed_fewer r cursor pairs x end first h = among pairs first
 
 -- ---- the first due name
 
--- the first name is the first due one, where it is due
+-- the first name is the first due one, if it is due
 pub first_due : (r : Resending) (cursor : Option Label) (ps : Pairs) (x : Label) → first_name (behind cursor ps) ≡ Some x → is_due r.limits.n r.node r.heard x ≡ true → first_name (behind cursor (due_pairs r ps)) ≡ Some x
 first_due r cursor [] x e due = e
 first_due r cursor (p ∷ ps) x e due = at (is_after cursor p.0) (is_due r.limits.n r.node r.heard p.0) refl refl e (λ f. first_due r cursor ps x f due)
@@ -202,7 +202,7 @@ first_due r cursor (p ∷ ps) x e due = at (is_after cursor p.0) (is_due r.limit
     at false true f g k ih = ap first_name (cond-false (is_after cursor p.0) (p ∷ behind cursor (due_pairs r ps)) (behind cursor (due_pairs r ps)) f) ∙ ih k
     at false false f g k ih = ih k
 
--- where no name is behind the cursor, no due one is
+-- if no name comes after the cursor, no due name does
 pub none_due : (r : Resending) (cursor : Option Label) (ps : Pairs) → first_name (behind cursor ps) ≡ None → first_name (behind cursor (due_pairs r ps)) ≡ None
 none_due r cursor [] e = refl
 none_due r cursor (p ∷ ps) e = at (is_after cursor p.0) (is_due r.limits.n r.node r.heard p.0) refl e (none_due r cursor ps)

@@ -1,4 +1,4 @@
--- Pairs in order between a cursor and a last name: the first one, and what stands behind it.
+-- Sorted pairs between a cursor and a last name: the first one, and what comes after it.
 use Rattle.std.proofs.Common.{◌≡◌, Bool, true, false, cond, not, List, [], ◌∷◌, filter, Option, None, Some, refl, sym, ap, ◌∙◌, subst, inl, inr, ◌⊎◌}
 use Rattle.std.specs.List.{AllByRecursion, list_all}
 use Rattle.std.proofs.lemmas.Bool.{and_from, and_parts, cond-false, cond-true, cond_both, false≢true, false_from_ne_true}
@@ -29,7 +29,7 @@ none_pass test (p ∷ ps) h = let parts = and_parts (not (test p)) (list_all (λ
     step true e = absurd (false≢true e)
     step false e = refl
 
--- what all pass, all pass by a weaker test
+-- if all pass a test, all pass a weaker test
 weaker : (test other : Label × Content → Bool) (ps : Pairs) → ((p : Label × Content) → test p ≡ true → other p ≡ true) → list_all test ps ≡ true → list_all other ps ≡ true
 weaker test other [] k h = refl
 weaker test other (p ∷ ps) k h = let parts = and_parts (test p) (list_all test ps) h in and_from (other p) _ (k p parts.0) (weaker test other ps k parts.1)
@@ -40,7 +40,7 @@ all_kept test other (p ∷ ps) h =
     let parts = and_parts (test p) (list_all test ps) h in
     cond_both (other p) (p ∷ filter other ps) (filter other ps) (λ qs. list_all test qs ≡ true) (λ _. and_from (test p) _ parts.0 (all_kept test other ps parts.1)) (λ _. all_kept test other ps parts.1)
 
--- those that pass a test stand in order
+-- the pairs that pass a test are in order
 pub rising_kept : (test : Label × Content → Bool) (ps : Pairs) → are_rising ps ≡ true → are_rising (filter test ps) ≡ true
 rising_kept test [] h = refl
 rising_kept test (p ∷ ps) h =
@@ -49,7 +49,7 @@ rising_kept test (p ∷ ps) h =
     (λ _. and_from (list_all (λ q. name_lt p.0 q.0) (filter test ps)) _ (all_kept (λ q. name_lt p.0 q.0) test ps parts.0) (rising_kept test ps parts.1))
     (λ _. rising_kept test ps parts.1)
 
--- ---- the first one that is not behind the last name
+-- ---- the first pair that doesn't come after the last name
 
 first_of : (p : Label × Content) (ps : Pairs) (x : Label) → first_name (p ∷ ps) ≡ Some x → p.0 ≡ x
 first_of p ps x e = cc
@@ -64,7 +64,7 @@ pub within_none : (last : Option Label) (ps : Pairs) → first_name ps ≡ None 
 within_none last [] e = refl
 within_none last (p ∷ ps) e = absurd cc
 
--- behind one that is over the last name all are
+-- if one comes after the last name, so do all that follow it
 pub all_over : (last : Option Label) (ps : Pairs) (x : Label) → are_rising ps ≡ true → first_name ps ≡ Some x → is_within last x ≡ false → filter (λ p. is_within last p.0) ps ≡ []
 all_over last [] x h e o = refl
 all_over None (p ∷ ps) x h e o = absurd (false≢true (sym o))
@@ -88,7 +88,7 @@ all_over (Some l) (p ∷ ps) x h e o =
 pub within_over : (last : Option Label) (ps : Pairs) (x : Label) → are_rising ps ≡ true → first_name ps ≡ Some x → is_within last x ≡ false → first_name (filter (λ p. is_within last p.0) ps) ≡ None
 within_over last ps x h e o = ap first_name (all_over last ps x h e o)
 
--- ---- behind the first one
+-- ---- after the first pair
 
 heads : (p q : Label × Content) (ps qs : Pairs) → ◌≡◌ {A = Pairs} (p ∷ ps) (q ∷ qs) → p ≡ q
 heads p q ps qs e = cc
@@ -114,7 +114,7 @@ behind_first cursor (p ∷ ps) q rest h e = at (is_after cursor p.0) refl e (beh
         let not_here : name_lt q.0 p.0 ≡ false = false_from_ne_true _ (λ k. false≢true (sym f ∙ after_behind cursor q.0 p.0 after k)) in
         cond-false (name_lt q.0 p.0) (p ∷ behind (Some q.0) ps) (behind (Some q.0) ps) not_here ∙ ih g
 
--- behind the first of those between a cursor and a last name are the others
+-- after the first pair between a cursor and a last name come the others
 pub between_next : (cursor last : Option Label) (ps : Pairs) (q : Label × Content) (rest : Pairs) → are_rising ps ≡ true → between cursor last ps ≡ q ∷ rest → between (Some q.0) last ps ≡ rest
 between_next cursor last ps q rest h e = at (behind cursor ps) refl
   where
@@ -134,7 +134,7 @@ between_next cursor last ps q rest h e = at (behind cursor ps) refl
             let none : [] ≡ q ∷ rest = sym (all_over last (p ∷ all) p.0 (subst (λ (qs : Pairs). are_rising qs ≡ true) f (rising_kept (λ r. is_after cursor r.0) ps h)) refl g) ∙ k in
             absurd cc
 
--- ---- the messages of pairs in order
+-- ---- the messages of sorted pairs
 
 -- each pair's message is found under its name
 abbrev pub AreFound : Pairs → Pairs → Type 0

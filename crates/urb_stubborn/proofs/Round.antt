@@ -1,4 +1,4 @@
--- A tick, name by name: how far it has come.
+-- A tick, name by name, and its progress.
 use Rattle.std.proofs.Common.{◌≡◌, ℕ, zero, suc, ◌+◌, ◌-◌, ◌*◌, ◌<◌, ◌≤◌, Bool, true, false, not, cond, List, [], ◌∷◌, ◌++◌, take, drop, length, filter, Option, None, Some, is_some, Result, Ok, Err, refl, sym, ap, ap₂, ◌∙◌, subst, append-nil, append_assoc, flat_map, arith}
 use Rattle.std.specs.List.{list_all}
 use Rattle.std.specs.Prelude.{IfOk, IsSome, option_map}
@@ -16,11 +16,12 @@ use Rattle.urb_stubborn.proofs.Behind.{Pairs}
 use Rattle.urb_stubborn.proofs.Between.{AreFound, all_found, all_pass, between_next, found_kept, rising_kept}
 use Rattle.urb_stubborn.proofs.Sent.{few_packets}
 
--- the packets of a pair that is resent
+-- the packets of a resent pair
 abbrev pub sends : Resending → List Label → Label × Content → List Carried
 sends r certified pair = to_unheard r.limits.n r.node certified r.heard pair
 
--- of all these pairs so many are done: what is left of them and of the turn, where the cursor is, and the packets so far
+-- The progress through these pairs: the remaining pairs and names of the turn, the cursor, and the
+-- packets so far.
 pub record Walks (r : Resending) (certified : List Label) (all : List (Label × Content)) (turn : Turn) (old : List Carried) (left : ℕ) (rest : List (Label × Content)) (cursor : Option Label) (packets : List Carried) : Type 0 where
   pub done : ℕ
   pub count : done + left ≡ turn.left
@@ -92,7 +93,7 @@ all_walked r certified all turn old left cursor packets h =
 
 -- ---- the next pair
 
--- what is left begins with the pair of the first name and its message
+-- the remaining pairs begin with the pair of the first name and its message
 pub record Next (pairs : List (Label × Content)) (x : Label) (rest : List (Label × Content)) : Type 0 where
   pub message : Content
   pub others : List (Label × Content)
@@ -113,12 +114,12 @@ next r pairs from last x rises e =
 pub some_message : (r : Resending) (pairs : Pairs) (from last : Option Label) (x : Label) → are_rising pairs ≡ true → first_name (between from last (due_pairs r pairs)) ≡ Some x → IsSome (message_of pairs x)
 some_message r pairs from last x rises e = rw (next r pairs from last x rises e).found refl
 
--- a message that a reference leads to
+-- a message behind a reference
 pub some_behind : {A B : Type 0} (f : A → B) (o : Option A) → IsSome (option_map f o) → IsSome o
 some_behind f None h = h
 some_behind f (Some a) h = refl
 
--- with its packets a walk is one name further
+-- after its packets, a walk is one name further
 pub one_further : (r : Resending) (certified : List Label) (pairs all : Pairs) (turn : Turn) (old : List Carried) (left : ℕ) (from last cursor : Option Label) (packets new : List Carried) (x : Label) (m : Content)
     → are_rising pairs ≡ true → 0 < left → first_name (between from last (due_pairs r pairs)) ≡ Some x → message_of pairs x ≡ Some m → new ≡ packets ++ sends r certified (x, m)
     → Walks r certified all turn old left (between from last (due_pairs r pairs)) cursor packets
@@ -166,7 +167,8 @@ none_left : (ps : Pairs) → filter (λ p. false) ps ≡ []
 none_left [] = refl
 none_left (p ∷ ps) = none_left ps
 
--- a walk to the end, and where there was a cursor one from the first name to it, are the tick
+-- A walk to the end is the tick. If there was a cursor, a second walk from the first name up to it
+-- belongs to the tick too.
 pub tick_around : (r : Resending) (pairs : Pairs) (certified : List Label) (c : Label) (first second : Turn) (sent packets : List Carried) → r.cursor ≡ Some c
     → IsWalked r certified (take 16 (between r.cursor None (due_pairs r pairs))) (record { left = 16; cursor = r.cursor }) [] first sent
     → IsWalked r certified (take first.left (between None r.cursor (due_pairs r pairs))) first sent second packets
@@ -210,12 +212,12 @@ few_sent r pairs certified low high most =
     let some : Pairs = resent r.cursor (due_pairs r pairs) in
     omega (arith, few_packets r.limits.n r.node certified r.heard some low high most, length-take 16 (cyclic r.cursor (due_pairs r pairs)))
 
--- what an answer without an error is, is what follows from it
+-- what holds of a result without an error implies what follows from it
 pub if_ok_more : {A E : Type 0} (P Q : A → Type 0) (result : Result A E) → ((a : A) → P a → Q a) → IfOk result P → IfOk result Q
 if_ok_more P Q (Ok a) more h = more a h
 if_ok_more P Q (Err e) more h = tt
 
--- a cursor that is there, and one that is not
+-- whether there is a cursor
 pub some_cursor : (o : Option Label) → is_some o ≡ true → (c : Label) × (o ≡ Some c)
 some_cursor None e = absurd cc
 some_cursor (Some c) e = (c, refl)

@@ -11,11 +11,11 @@ use Rattle.urb_names.specs.Carried.{Carried, others, packets_to, to_others, to_u
 use Rattle.urb_names.specs.declared.flags.Flags.{Flags}
 use Rattle.urb_pending.proofs.Mine.{numbers_more}
 
--- the packet of a pair from a node to another
+-- the packet of a pair from one node to another
 abbrev pub packet : ℕ → (ℕ → Flags) → ℕ → Label × Content → Carried
 packet p flags q pair = record { source = p; target = q; name = pair.0; message = pair.1; flags = Some (flags q) }
 
--- the targets among one node more: it joins them where it passes the test
+-- the targets after one more node: it is added if it passes the test
 abbrev pub Grows : (ℕ → List ℕ) → (ℕ → Bool) → Type 0
 Grows targets test = (k : ℕ) → targets (suc k) ≡ targets k ++ cond (test (suc k)) (suc k ∷ []) []
 
@@ -34,7 +34,7 @@ some_grow test p k =
     at true = refl
     at false = refl
 
--- behind what was there, the packets to the targets among one node more
+-- after what was there, the packets to the targets with one more node
 module _ (targets : ℕ → List ℕ) (test : ℕ → Bool) (grows : Grows targets test) (p : ℕ) (flags : ℕ → Flags) (pair : Label × Content) where
   after : (k : ℕ) (b : Bool) → test (suc k) ≡ b → packets_to p flags (targets (suc k)) pair ≡ packets_to p flags (targets k) pair ++ map (λ q. packet p flags q pair) (cond b (suc k ∷ []) [])
   after k b e =
@@ -66,7 +66,7 @@ module _ (targets : ℕ → List ℕ) (test : ℕ → Bool) (grows : Grows targe
       → new ≡ old ++ packets_to p flags (targets j) pair
   not_sent_to i j old new e h fails is = is ∙ ap (λ ps. old ++ ps) (sym (sent_same i h fails) ∙ ap (λ n. packets_to p flags (targets n) pair) (sym e))
 
--- ---- how many
+-- ---- the number of packets
 
 passing : (test : ℕ → Bool) (ns : List ℕ) → length (filter test ns) ≤ length ns
 passing test [] = omega arith
@@ -90,7 +90,7 @@ fewer p first (suc count) h k = ⊎_elim here (later (fewer p (suc first) count)
         let less : suc first ≤ p = omega (arith, h, other) in
         rw e (omega (arith, ih less (omega (arith, k))))
 
--- whoever sends it, at most one to each node
+-- whoever sends it, at most one packet for each node
 pub at_most_to_all : (p : ℕ) (flags : ℕ → Flags) (n : ℕ) (pair : Label × Content) → length (packets_to p flags (others n p) pair) ≤ n
 at_most_to_all p flags n pair = omega (arith, length-map (others n p) (λ q. packet p flags q pair), passing (λ q. not (q == p)) (nodes n), length-numbers 1 n)
 
@@ -100,7 +100,7 @@ few_to_unheard n p certified heard pair low high most =
     let targets = filter (λ q. not (acked heard pair.0 q)) (others n p) in
     omega (arith, length-map targets (λ q. packet p (λ r. record { certified = has_name certified pair.0; heard = false }) q pair), passing (λ q. not (acked heard pair.0 q)) (others n p), fewer p 1 n low (omega arith))
 
--- so many pairs have at most six times as many
+-- a number of pairs has at most six times as many packets
 pub few_packets : (n p : ℕ) (certified : List Label) (heard : List (Label × ℕ)) (pairs : List (Label × Content)) → 1 ≤ p → p ≤ n → n ≤ 7
     → length (flat_map (to_unheard n p certified heard) pairs) ≤ 6 * length pairs
 few_packets n p certified heard [] low high most = omega arith

@@ -1,4 +1,4 @@
--- The counts of settled names: once a certificate was heard, and once all that was heard is lost.
+-- The counts of settled names, after hearing a certificate and after dropping what was heard.
 use Rattle.std.proofs.Common.{◌≡◌, ◌≢◌, ℕ, suc, ◌+◌, ◌-◌, ◌<◌, ◌≤◌, Bool, true, false, ◌&&◌, ◌==◌, List, length, get_or, slice_set, get_or-set_other, get_or-set_same, refl, sym, ap, ◌∙◌, subst, inl, inr, ◌⊎◌, arith}
 use Rattle.std.proofs.lemmas.Bool.{cases_eq, cases_lt, or_right}
 use Rattle.std.proofs.lemmas.List.{length-set}
@@ -15,11 +15,12 @@ use Rattle.urb_stubborn.specs.Walking.{IsPassed}
 use Rattle.urb_stubborn.specs.declared.resend.Resend.TheInside.{Inside}
 use Rattle.urb_stubborn.proofs.Unheard.{due_less}
 
--- what was heard is still, once more is
+-- what was heard stays heard when more is heard
 heard_more : (marks : List (Label × ℕ)) (x : Label) (q : ℕ) (y : Label) (r : ℕ) → acked marks y r ≡ true → acked (placed ack_lt marks (x, q)) y r ≡ true
 heard_more marks x q y r e = any_insert (λ ack. same_name ack.0 y && (ack.1 == r)) marks _ (x, q) ∙ or_right (same_name x y && (q == r)) (acked marks y r) e
 
--- the counts are kept where one more is heard, and the count of the name's sender moves on
+-- the counts are preserved when one more certificate is heard, and the count of the name's sender
+-- moves on
 pub kept_heard : {A : Type 0} (a b : Inside A) (x : Label) (q i end : ℕ) → b.config ≡ a.config → b.node ≡ a.node → b.heard.marks ≡ placed ack_lt a.heard.marks (x, q) → b.settled ≡ slice_set a.settled i end
     → i + 1 ≡ x.sender → i < 7
     → ((k : ℕ) → get_or a.settled i 0 < k → k ≤ end → is_due a.config.n a.node b.heard.marks (name x.sender k) ≡ false)
@@ -49,7 +50,7 @@ kept_heard a b x q i end config node marks counts place low settled kept =
         let same : settled_of b.settled y.sender ≡ settled_of a.settled y.sender = ap (λ cs. settled_of cs y.sender) counts ∙ get_or-set_other a.settled i (y.sender - 1) end 0 other in
         before y (record { sender = h.sender; first = h.first; last = omega (arith, h.last, same) })
 
--- what a count says of a name that is not behind it
+-- what a count says about a name that is not above it
 pub passed_settled : {A : Type 0} (a : Inside A) (x : Label) (count : ℕ) → IsKept a → 0 < x.sender → 0 < x.seq → settled_of a.settled x.sender ≡ count → x.seq ≤ count
     → (y : Label) → y.sender ≡ x.sender → x.seq ≤ y.seq → y.seq ≤ count → is_due a.config.n a.node a.heard.marks y ≡ false
 passed_settled a x count kept from first is low y same l u =

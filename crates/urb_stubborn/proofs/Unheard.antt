@@ -1,4 +1,4 @@
--- Which names are due: looking at one node after another, and once more was heard.
+-- Which names are due: visiting one node after another, and after more was heard.
 use Rattle.std.proofs.Common.{◌≡◌, ℕ, suc, ◌+◌, ◌-◌, ◌<◌, ◌≤◌, Bool, true, false, cond, not, ◌==◌, ◌&&◌, ◌||◌, List, [], ◌∷◌, filter, refl, sym, ap, ◌∙◌, arith}
 use Rattle.std.specs.List.{list_any}
 use Rattle.std.proofs.lemmas.Bool.{or_parts}
@@ -32,7 +32,7 @@ due_next n p heard x k h =
 pub due_end : (n p : ℕ) (heard : List (Label × ℕ)) (x : Label) (k : ℕ) → n < k → due_from n p heard x k ≡ false
 due_end n p heard x k h = let left : suc n - k ≡ 0 = omega arith in ap (λ (m : ℕ). list_any (λ q. not (acked heard x q)) (filter (λ q. not (q == p)) (numbers_from k m))) left
 
--- where more was heard, no more is due
+-- when more was heard, no more names are due
 pub due_less : (n p : ℕ) (old new : List (Label × ℕ)) (x : Label) → ((q : ℕ) → acked old x q ≡ true → acked new x q ≡ true) → is_due n p old x ≡ false → is_due n p new x ≡ false
 due_less n p old new x more none = among (others n p) none
   where

@@ -1,4 +1,4 @@
--- What the fields of a node's resends keep: from where on names may be due.
+-- The invariant of the fields of a node's resends: from which number on names may be due.
 use Rattle.std.specs.Prelude.{◌≡◌, ◌-◌, ◌<◌, ◌≤◌, false, ℕ, List, length, slice_index_or}
 use Rattle.urb_names.specs.Carried.{is_due}
 use Rattle.urb_names.specs.Naming.{Label}
@@ -9,17 +9,18 @@ use Rattle.urb_stubborn.specs.declared.resend.Resend.TheInside.{Inside}
 abbrev pub view_of : {A : Type 0} → Inside A → Resending
 view_of a = record { limits = a.config; node = a.node; cursor = a.cursor; heard = a.heard.marks; roomy = a.heard.roomy }
 
--- up to which number no name of the sender is due
+-- the number up to which no name of the sender is due
 abbrev pub settled_of : List ℕ → ℕ → ℕ
 settled_of settled sender = slice_index_or settled (sender - 1) 0
 
--- the name is not behind its sender's count
+-- the name's number is not above its sender's count
 pub record IsSettledBy (settled : List ℕ) (x : Label) : Type 0 where
   pub sender : 0 < x.sender
   pub first : 0 < x.seq
   pub last : x.seq ≤ settled_of settled x.sender
 
--- the node is of the group; there is a count for each of seven senders, and no name up to it is due
+-- The node belongs to the group. There is a count for each of seven senders, and no name up to it
+-- is due.
 pub record IsKept {A : Type 0} (a : Inside A) : Type 0 where
   pub node : a.node ≤ a.config.n
   pub seven : length a.settled ≡ 7

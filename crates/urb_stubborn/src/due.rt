@@ -1,4 +1,4 @@
-//! Which names are due: those of which some other node's certificate was not heard.
+//! Which names are due: those for which the certificate of some other node has not been heard.
 
 ghost use Rattle.std.specs.Prelude.{◌≡◌, ◌==◌, ◌&&◌, ℕ, ◌<◌, ◌≤◌, false, not};
 ghost use Rattle.urb_names.specs.Acknowledged.{acked};
@@ -9,7 +9,7 @@ use std::alloc::Allocator;
 use urb_names::{Config, Name, NodeId};
 use urb_window::Marks;
 
-// Whether this is another node, whose certificate of a name was not heard.
+// Whether this is another node whose certificate of a name has not been heard.
 pub(crate) fn is_unheard<A: Allocator + Copy>(
     heard: &Marks<A>,
     node: NodeId,
@@ -39,7 +39,8 @@ pub(crate) fn is_due<A: Allocator + Copy>(
     false
 }
 
-// How far a sender's names go from this number on, of which none is due and each has room.
+// The last number of the sender's unbroken run after `from` in which no name is due and each has
+// space.
 pub(crate) fn settled_to<A: Allocator + Copy>(
     heard: &Marks<A>,
     config: Config,

@@ -1,4 +1,4 @@
-//! The packets that a call of a node hands out.
+//! The packets that a call of a node returns for sending.
 
 ghost use Rattle.std.specs.Prelude.{◌≡◌, ◌≤◌, ◌∷◌, ◌++◌, false, filter, not, [], length, slice_get, option_map, vec_len, IfOk, OnOk};
 ghost use Rattle.urb_names.specs.Acknowledged.{acked};
@@ -30,7 +30,7 @@ impl<A: Allocator> Model for Outbox<A> {
 }
 
 impl<A: Allocator + Copy> Outbox<A> {
-    /// No packets, as for what sends nothing. Takes no memory.
+    /// No packets. Allocates no memory.
     pub fn empty(alloc: A) -> Outbox<A>
         ensures { result ≡ [] }
     {
@@ -39,7 +39,7 @@ impl<A: Allocator + Copy> Outbox<A> {
         }
     }
 
-    /// This packet alone, as for an answer.
+    /// A single packet, such as an answer.
     pub fn one(alloc: A, packet: Packet<A>) -> Result<Outbox<A>, NoMemory>
         ensures { IfOk result (λ outbox. outbox ≡ packet ∷ []) }
     {
@@ -48,9 +48,10 @@ impl<A: Allocator + Copy> Outbox<A> {
         Ok(Outbox { packets })
     }
 
-    /// One packet of a message to every other node of the group, as a best-effort broadcast sends it (section 3.2 of the
-    /// book, without the node itself). Each says whether the node has stored a certificate of the name too, and that to the node
-    /// whose certificate of it was heard says that it was.
+    /// One packet of a message to every other node of the group. This is a best-effort broadcast
+    /// (section 3.2 of the book) without the node itself. Each packet says whether the node has
+    /// also stored a certificate of the name. The packet to the node `heard` also says that its
+    /// certificate was heard.
     pub fn of_pair(
         alloc: A,
         config: Config,
@@ -77,7 +78,7 @@ impl<A: Allocator + Copy> Outbox<A> {
         Ok(Outbox { packets })
     }
 
-    /// How many packets there are.
+    /// The number of packets.
     pub fn len(&self) -> usize
         ensures value { result ≡ length self.now }
         ensures range { result ≤ 96 }
@@ -102,7 +103,7 @@ impl<A: Allocator + Copy> Outbox<A> {
 }
 
 impl<A: Allocator> Outbox<A> {
-    // These packets.
+    // An outbox of these packets.
     pub(crate) fn of(packets: Vec<Packet<A>, A>) -> Outbox<A>
         requires { vec_len packets ≤ 96 }
         ensures { result ≡ packets.items }
@@ -111,7 +112,8 @@ impl<A: Allocator> Outbox<A> {
     }
 }
 
-// Appends one packet of the message to every other node whose certificate of the name was not heard.
+// Appends one packet of the message for every other node whose certificate of the name was not
+// heard.
 pub(crate) fn push_to_unheard<A: Allocator + Copy>(
     packets: &mut Vec<Packet<A>, A>,
     alloc: A,
@@ -141,7 +143,8 @@ pub(crate) fn push_to_unheard<A: Allocator + Copy>(
     Ok(())
 }
 
-// Appends one packet of the message to every other node, which to the node that was heard says that it was.
+// Appends one packet of the message for every other node. The packet to the node `heard` says that
+// its certificate was heard.
 fn push_to_others<A: Allocator + Copy>(
     packets: &mut Vec<Packet<A>, A>,
     alloc: A,
@@ -169,7 +172,7 @@ fn push_to_others<A: Allocator + Copy>(
     Ok(())
 }
 
-// Whether this is the node that was heard, where one was.
+// Whether this is the node that was heard, if one was.
 fn is_heard_of(heard: Option<NodeId>, target: NodeId) -> bool
     ensures { result ≡ is_heard_of heard target }
 {

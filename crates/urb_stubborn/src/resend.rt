@@ -1,4 +1,4 @@
-//! The resends of a node, a part at each tick, and whose certificates it has heard.
+//! A node's resends, a part at each tick, and whose certificates it has heard.
 
 ghost use Rattle.std.specs.Prelude.{◌≡◌, ◌≤◌, true, [], None, IfNone, IfOk, IfSome, OnOk, OnErr, take};
 ghost use Rattle.urb_certified.specs.Certificates.{with_name};
@@ -22,18 +22,18 @@ use urb_window::Marks;
 /// The greatest number of names that a tick resends.
 const NAMES_A_TICK: u32 = 16;
 
-/// The greatest number of senders that there may be.
+/// The greatest possible number of senders.
 const MOST_SENDERS: usize = 7;
 
-// How many names a tick may resend yet, and the last that it resent.
+// How many more names a tick may resend, and the last name that it resent.
 #[derive(Clone, Copy, Drop)]
 struct Turn {
     left: u32,
     cursor: Option<Name>,
 }
 
-/// How far a node has come with its resends, and which nodes' certificates of which names it has heard: to these it resends a
-/// name no more.
+/// A node's position in its resends, and which nodes' certificates of which names it has heard. It
+/// no longer resends a name to a node whose certificate it has heard.
 #[derive(Drop)]
 #[derive_where(Debug)]
 pub struct Resend<A: Allocator = Global> {
@@ -57,8 +57,8 @@ impl<A: Allocator> Model for Resend<A> {
 }
 
 impl<A: Allocator + Copy> Resend<A> {
-    /// The resends of a node of the group, which begin before its smallest name; nothing was heard. Takes no memory; what grows
-    /// later is taken from `alloc`.
+    /// The resends of a node of the group. They begin before its smallest name, and nothing has
+    /// been heard. Allocates no memory; later growth comes from `alloc`.
     pub fn new(alloc: A, config: Config, node: NodeId) -> Resend<A>
         requires { node ≤ config.n }
         ensures { result
@@ -73,8 +73,9 @@ impl<A: Allocator + Copy> Resend<A> {
         }
     }
 
-    /// Makes room for a name, so that each node's certificate of it can be heard without memory. The room stays. `NoMemory`
-    /// means that a growth was refused: the call may be made again.
+    /// Allocates space for a name, so that recording each node's certificate of it allocates
+    /// nothing. The name keeps the space. `NoMemory` means that an allocation was refused; the
+    /// caller may make the call again.
     pub fn reserve(&mut self, name: Name) -> Result<(), NoMemory>
         ensures ok { OnOk result
             (self.new ≡ record self.old { roomy = with_name self.old.roomy name }) }
@@ -83,7 +84,8 @@ impl<A: Allocator + Copy> Resend<A> {
         self.heard.make_room(name)
     }
 
-    /// A packet has told that a node stored a certificate of a name: the name is resent to it no more. Takes no memory.
+    /// Records that a packet reported a node's certificate of a name. The name is no longer resent
+    /// to that node. Allocates no memory.
     pub fn hear(&mut self, name: Name, node: NodeId)
         requires { has_name self.old.roomy name ≡ true }
         ensures { self.new ≡ hearing self.old name node }
@@ -109,7 +111,8 @@ impl<A: Allocator + Copy> Resend<A> {
         self.heard.has(name, node)
     }
 
-    /// All that was heard is lost, as in a crash; each name that has room keeps it. Takes no memory.
+    /// Drops everything that was heard, as a crash does; each name that has space keeps it.
+    /// Allocates no memory.
     pub fn forget(&mut self)
         ensures { self.new ≡ record self.old { heard = [] } }
     {
@@ -117,16 +120,18 @@ impl<A: Allocator + Copy> Resend<A> {
         self.settled = [0; MOST_SENDERS];
     }
 
-    /// The next tick begins before the smallest name, as after a restart.
+    /// Makes the next tick begin before the smallest name, as after a restart.
     pub fn rewind(&mut self)
         ensures { self.new ≡ record self.old { cursor = None } }
     {
         self.cursor = None;
     }
 
-    /// Sends pending messages again to the nodes whose certificates of them were not heard, sixteen names at most, from where
-    /// the last tick ended: what a stubborn link does on a timeout (section 2.4 of the book), until there is nothing left to
-    /// say. Where no name is due it sends nothing. `NoMemory` means that a growth was refused: the call may be made again.
+    /// Sends pending messages again to the nodes whose certificates of them were not heard. It
+    /// sends at most sixteen names, from where the last tick ended. This is what a stubborn link
+    /// does on a timeout (section 2.4 of the book), but only until nothing is left to send. If no
+    /// name is due it sends nothing. `NoMemory` means that an allocation was refused; the caller
+    /// may make the call again.
     pub fn tick(
         &mut self,
         alloc: A,
@@ -147,7 +152,8 @@ impl<A: Allocator + Copy> Resend<A> {
         Ok(Outbox::of(packets))
     }
 
-    // Makes the packets of a tick: from the cursor to the last name, and where there was a cursor from the first name to it.
+    // Makes the packets of a tick: from the cursor to the last name, and then, if there was a
+    // cursor, from the first name up to it.
     fn go_round(
         &self,
         packets: &mut Vec<Packet<A>, A>,
@@ -186,7 +192,8 @@ impl<A: Allocator + Copy> Resend<A> {
         )
     }
 
-    // The name after which the next due one of a sender may come, where this one isn't due.
+    // If this name isn't due, a name after which the sender's next due name may come; `None` if it
+    // is due.
     fn passed(&self, name: Name) -> Option<Name>
         ensures due { IfNone result
             (is_due self.now.limits.n self.now.node self.now.heard name ≡ true) }
@@ -207,7 +214,7 @@ impl<A: Allocator + Copy> Resend<A> {
         }
     }
 
-    // The first due name behind a cursor, without going round.
+    // The first due name after a cursor, without starting over.
     fn next_due(&self, pending: &Pending<A>, cursor: Option<Name>) -> Option<Name>
         ensures { result ≡ first_name (behind cursor (due_pairs self.now pending.now.pairs)) }
     {
@@ -222,7 +229,7 @@ impl<A: Allocator + Copy> Resend<A> {
         None
     }
 
-    // The first due name behind a cursor that is not behind the last one, where there is one.
+    // The first due name after a cursor that doesn't come after `last`, if there is one.
     fn next_within(
         &self,
         pending: &Pending<A>,
@@ -241,7 +248,8 @@ impl<A: Allocator + Copy> Resend<A> {
         }
     }
 
-    // Appends the packets of the due names behind a cursor that are not behind the last one, as many names as the turn has left.
+    // Appends the packets of the due names after a cursor, up to `last`, for as many names as the
+    // turn has left.
     fn send(
         &self,
         packets: &mut Vec<Packet<A>, A>,
@@ -284,7 +292,7 @@ impl<A: Allocator + Copy> Resend<A> {
     }
 }
 
-// Whether a name is not behind the last one, where there is one.
+// Whether a name doesn't come after `last`, if there is such a limit.
 fn is_within(last: &Option<Name>, name: Name) -> bool
     ensures { result ≡ is_within last.now name }
 {

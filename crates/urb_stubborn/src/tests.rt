@@ -1,4 +1,4 @@
-//! Ticks by example, what was heard between them, and each growth refused in turn.
+//! Ticks by example, what is heard between them, and each allocation refused in turn.
 
 ghost use Rattle.std.specs.Prelude.{◌≡◌};
 
@@ -18,20 +18,20 @@ use urb_refusing::Refusing;
 
 const CAP: u32 = 40;
 
-/// What node 1 of a group has stored, and what is done then with its resends.
+/// What node 1 of a group has stored, and what happens then to its resends.
 #[derive(Clone, Copy)]
 struct Script<'a> {
     nodes: u8,
-    /// Pending are the names of each sender, from 1 to a number.
+    /// For each sender, its names from 1 to this number are pending.
     names: &'a [(u8, u32)],
-    /// Certified are these of node 2.
+    /// These names of node 2 are certified.
     certified: &'a [u32],
     steps: &'a [Step<'a>],
-    /// Steps after these, which ask for no memory.
+    /// Steps after these, which must not allocate.
     calm: &'a [Step<'a>],
 }
 
-// A name; none where there is no such sender or number.
+// A name, or `None` if there is no such sender or number.
 fn name(sender: u8, seq: u32) -> Option<Name> {
     if seq == 0 {
         return None;
@@ -63,7 +63,7 @@ impl<A: Allocator + Copy> Stored<A> {
         })
     }
 
-    // Adds a message of another node under this name. Whether it could be.
+    // Adds a message of another node under this name, and returns whether that was possible.
     fn adds(&mut self, alloc: A, name: Name) -> bool {
         if name.sender == self.node
             || name.sender.number() > self.config.n()
@@ -81,7 +81,7 @@ impl<A: Allocator + Copy> Stored<A> {
         }
     }
 
-    // Adds the names 1 to count of a node.
+    // Adds a node's names 1 to count.
     fn adds_names(&mut self, alloc: A, sender: u8, count: u32) -> bool {
         for before in 0..count {
             match name(sender, before + 1) {
@@ -103,7 +103,7 @@ impl<A: Allocator + Copy> Stored<A> {
         true
     }
 
-    // Stores what a script asks for.
+    // Stores what a script needs.
     fn stores(&mut self, alloc: A, script: Script) -> bool {
         for (sender, count) in script.names {
             if !self.adds_names(alloc, *sender, *count) {
@@ -114,7 +114,8 @@ impl<A: Allocator + Copy> Stored<A> {
     }
 }
 
-// Plays a script on new resends. Whether a call was refused; none where something is otherwise.
+// Plays a script on new resends. Returns whether a call was refused, or `None` if the outcome is
+// not the expected one.
 fn is_refused_over<A: Allocator + Copy>(
     alloc: A,
     heap: &Refusing<Global>,
@@ -137,7 +138,7 @@ fn is_refused_over<A: Allocator + Copy>(
     }
 }
 
-// The same, with what it asks for stored in other memory.
+// The same, after storing what the script needs in other memory.
 fn is_refused<A: Allocator + Copy>(
     alloc: A,
     messages: A,
@@ -154,7 +155,8 @@ fn is_refused<A: Allocator + Copy>(
     refused
 }
 
-// The same where the growth of this number is refused, and none at 0. Whether it was; none also where another call was refused.
+// The same with growth number `refused` refused; with 0 none is. Also `None` if another call was
+// refused.
 fn play(alloc: Global, refused: u64, script: Script) -> Option<bool> {
     let calm = Refusing::new(alloc, 0);
     let heap = Refusing::new(alloc, refused);
@@ -165,7 +167,7 @@ fn play(alloc: Global, refused: u64, script: Script) -> Option<bool> {
     if told == Some(met) { told } else { None }
 }
 
-// Plays steps of node 1 of a group, where the names of other nodes are pending.
+// Plays steps of node 1 of a group in which other nodes' names are pending.
 fn plays(alloc: Global, nodes: u8, names: &[(u8, u32)], steps: &[Step]) -> bool {
     let script = Script {
         nodes,

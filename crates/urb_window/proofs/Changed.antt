@@ -1,4 +1,4 @@
--- The entries of rows once one of them has changed.
+-- The entries of rows after one row has changed.
 use Rattle.std.proofs.Common.{◌≡◌, ℕ, zero, suc, ◌+◌, ◌-◌, ◌<◌, ◌≤◌, Bool, true, false, cond, not, ◌&&◌, ◌==◌, nat_lt, List, [], ◌∷◌, ◌++◌, map, length, get_or, slice_set, Option, Some, None, refl, sym, ap, ap₂, ◌∙◌, subst, inl, inr, ◌⊎◌, arith, eq-eqb, ne_eqb}
 use Rattle.std.specs.List.{AllByRecursion, list_all}
 use Rattle.std.proofs.lemmas.Bool.{and_left, cases_Bool, cases_eq, cond-false, not_from_false}
@@ -16,7 +16,7 @@ use Rattle.urb_window.proofs.Placed.{placed_after, placed_before}
 use Rattle.urb_window.proofs.Ranked.{all_entries, all_named, higher_sender_lt, lower_sender_lt, same_sender_lt}
 
 module _ {V : Type 0} where
-  -- a pair that goes to its place is an entry that does
+  -- inserting a pair at its place inserts an entry at its place
   placed_named : (s : ℕ) (pairs : List (ℕ × V)) (x : Label) (v : V) → s ≡ x.sender → placed entry_lt (named s pairs) (x, v) ≡ named s (placed number_lt pairs (x.seq, v))
   placed_named s [] x v e = let same : x ≡ name s x.seq = (λ i. record { sender = sym e i; seq = x.seq }) in ap (λ (y : Label). (y, v) ∷ []) same
   placed_named s (p ∷ ps) x v e = at (cases_Bool (nat_lt p.0 x.seq)) (placed_named s ps x v e)
@@ -31,7 +31,7 @@ module _ {V : Type 0} where
           placed_front entry_lt (x, v) (name s p.0, p.1) (named s ps) (same_sender_lt s p.0 x e ∙ f)
           ∙ (ap (λ (y : Label). (y, v) ∷ (name s p.0, p.1) ∷ named s ps) same ∙ sym (ap (named s) (placed_front number_lt (x.seq, v) p ps f)))
 
-  -- a row with one pair more makes one entry more
+  -- a row with one more pair adds one entry
   pub placed_rows : (first : ℕ) (rows : List (Row V)) (x : Label) (v : V) (row : Row V) → first ≤ x.sender → x.sender < first + length rows
       → pairs_of row ≡ placed number_lt (pairs_of (get_or rows (x.sender - first) no_row)) (x.seq, v)
       → entries_from first (slice_set rows (x.sender - first) row) ≡ placed entry_lt (entries_from first rows) (x, v)
@@ -58,7 +58,7 @@ module _ {V : Type 0} where
           ∙ sym (placed_after entry_lt (x, v) (named first (pairs_of r)) (entries_from (suc first) rs)
           (all_named first (λ y. entry_lt y (x, v)) (pairs_of r) (λ y f. lower_sender_lt y.0 x (omega arith)))))
 
-  -- ---- another value
+  -- ---- a replaced value
 
   valued_other : (s : ℕ) (pairs : List (ℕ × V)) (x : Label) (v : V) → (s ≡ x.sender → ⊥) → with_value (named s pairs) x v ≡ named s pairs
   valued_other s [] x v e = refl
@@ -81,7 +81,7 @@ module _ {V : Type 0} where
       at true = refl
       at false = refl
 
-  -- a row with another value under a number makes the entries with it under the name
+  -- replacing a value in a row replaces it in the entries
   pub valued_rows : (first : ℕ) (rows : List (Row V)) (x : Label) (v : V) (row : Row V) → first ≤ x.sender → x.sender < first + length rows
       → pairs_of row ≡ renumbered (pairs_of (get_or rows (x.sender - first) no_row)) x.seq v
       → entries_from first (slice_set rows (x.sender - first) row) ≡ with_value (entries_from first rows) x v
@@ -107,15 +107,15 @@ module _ {V : Type 0} where
           ∙ (sym (ap (λ es. es ++ with_value (entries_from (suc first) rs) x v) (valued_other first (pairs_of r) x v e))
           ∙ sym (map-append _ (named first (pairs_of r)) (entries_from (suc first) rs))))
 
-  -- ---- where nothing changes
+  -- ---- changes that keep the entries
 
-  -- a row whose pairs are the same
+  -- a row with the same pairs
   pub same_rows : (first : ℕ) (rows : List (Row V)) (i : ℕ) (row : Row V) → pairs_of row ≡ pairs_of (get_or rows i no_row) → entries_from first (slice_set rows i row) ≡ entries_from first rows
   same_rows first [] i row h = refl
   same_rows first (r ∷ rs) zero row h = ap (λ ps. named first ps ++ entries_from (suc first) rs) h
   same_rows first (r ∷ rs) (suc i) row h = ap (λ es. named first (pairs_of r) ++ es) (same_rows (suc first) rs i row h)
 
-  -- a row without values behind the others
+  -- an empty row at the end
   pub more_rows : (first : ℕ) (rows : List (Row V)) → entries_from first (rows ++ no_row ∷ []) ≡ entries_from first rows
   more_rows first [] = refl
   more_rows first (r ∷ rs) = ap (λ es. named first (pairs_of r) ++ es) (more_rows (suc first) rs)
@@ -124,7 +124,7 @@ module _ {V : Type 0} where
   all_more [] h = (nothing_row, tt)
   all_more (r ∷ rs) h = (h.0, all_more rs h.1)
 
-  -- each is a row still where one changes to a row
+  -- all are still rows if one is replaced by a row
   pub all_set : (rows : List (Row V)) (i : ℕ) (row : Row V) → AllByRecursion IsRow rows → IsRow row → AllByRecursion IsRow (slice_set rows i row)
   all_set [] i row h is = tt
   all_set (r ∷ rs) zero row h is = (is, h.1)

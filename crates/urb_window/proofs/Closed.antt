@@ -8,7 +8,7 @@ use Rattle.urb_window.proofs.Counted.{counted_push}
 use Rattle.urb_window.proofs.Placed.{placed_above, placed_under}
 
 module _ {V : Type 0} where
-  -- what a step of closing a gap leaves
+  -- the state after one step of closing a gap
   pub record IsMoved (low : List V) (above : List (ℕ × V)) (new_low : List V) (rest : List (ℕ × V)) : Type 0 where
     pub pairs : counted_from 1 new_low ++ rest ≡ counted_from 1 low ++ above
     pub over : AreOver (length new_low) rest
@@ -25,7 +25,7 @@ module _ {V : Type 0} where
         few = omega arith;
       }
 
-  -- where the first pair has another number, there is a gap
+  -- if the first pair has another number, there is a gap
   pub gap_is : (k : ℕ) (above : List (ℕ × V)) → AreOver k above → holds_at above 0 (k + 1) ≡ false → AreOver (k + 1) above
   gap_is k [] o e = tt
   gap_is k (p ∷ ps) o e = at (cases_eq p.0 (k + 1))
@@ -34,7 +34,7 @@ module _ {V : Type 0} where
       at (inl f) = absurd (false≢true (sym e ∙ eq-eqb p.0 (k + 1) f))
       at (inr f) = let first : k < p.0 = o.0 in (omega arith, o.1, o.2)
 
-  -- the value of the next number goes to the end of the lower part
+  -- the next number's value goes to the end of the lower part
   pub extends : (low : List V) (above : List (ℕ × V)) (v : V) → AreOver (length low + 1) above
       → counted_from 1 (low ++ v ∷ []) ++ above ≡ placed number_lt (counted_from 1 low ++ above) (length low + 1, v)
   extends low above v o =

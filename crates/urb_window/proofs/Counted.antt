@@ -1,4 +1,4 @@
--- Values without a gap, and the pairs behind them: what stands where.
+-- Values without a gap and the pairs after them: what is at each place.
 use Rattle.std.proofs.Common.{◌≡◌, ℕ, zero, suc, ◌+◌, ◌-◌, ◌<◌, ◌≤◌, ◌^◌, Bool, true, false, cond, ◌==◌, nat_lt, List, [], ◌∷◌, ◌++◌, find, length, get_or, Option, Some, None, option_map, refl, sym, ap, ◌∙◌, subst, inl, inr, ◌⊎◌, arith, eq-eqb, ne_eqb}
 use Rattle.std.specs.Prelude.{slice_get}
 use Rattle.std.specs.List.{prefix_len}
@@ -15,7 +15,7 @@ module _ {V : Type 0} where
   pub length-pairs : (row : Row V) → length (pairs_of row) ≡ length row.low + length row.above
   length-pairs row = length-append (counted_from 1 row.low) row.above ∙ ap (λ (n : ℕ). n + length row.above) (length-counted 1 row.low)
 
-  -- one value more without a gap is one pair more with the next number
+  -- one more value without a gap is one more pair with the next number
   pub counted_push : (first : ℕ) (low : List V) (v : V) (rest : List (ℕ × V)) → counted_from first (low ++ v ∷ []) ++ rest ≡ counted_from first low ++ ((first + length low, v) ∷ rest)
   counted_push first [] v rest = let here : first ≡ first + 0 = omega arith in ap (λ (n : ℕ). (n, v) ∷ rest) here
   counted_push first (w ∷ low) v rest =
@@ -37,7 +37,7 @@ module _ {V : Type 0} where
           cond-false (first == n) (Some v) (numbered (counted_from (suc first) vs ++ rest) n) (ne_eqb first n e)
           ∙ (ih (omega arith) (omega arith) ∙ ap (λ (i : ℕ). Some (get_or (v ∷ vs) i d)) later)
 
-  -- and of one behind it
+  -- the value of a number after the lower part
   pub numbered_behind : (first : ℕ) (low : List V) (rest : List (ℕ × V)) (n : ℕ) → first + length low ≤ n → numbered (counted_from first low ++ rest) n ≡ numbered rest n
   numbered_behind first [] rest n l = refl
   numbered_behind first (v ∷ vs) rest n l =
@@ -48,7 +48,7 @@ module _ {V : Type 0} where
   over_counted k (v ∷ vs) rest l o =
       (omega arith, omega arith, over_counted (suc k) vs rest (omega arith) (subst (λ (n : ℕ). AreOver n rest) (let same : k + suc (length vs) ≡ suc k + length vs = omega arith in same) o))
 
-  -- the pair at a place of the lower part
+  -- the pair at a place in the lower part
   pub pair_low : (first : ℕ) (low : List V) (rest : List (ℕ × V)) (i : ℕ) (d : V) → i < length low → slice_get (counted_from first low ++ rest) i ≡ Some (first + i, get_or low i d)
   pair_low first [] rest i d l = absurd (omega arith)
   pair_low first (v ∷ vs) rest zero d l = let here : first ≡ first + 0 = omega arith in ap (λ (n : ℕ). Some (n, v)) here
@@ -56,7 +56,7 @@ module _ {V : Type 0} where
       let next : suc first + i ≡ first + suc i = omega arith in
       pair_low (suc first) vs rest i d (omega arith) ∙ ap (λ (n : ℕ). Some (n, get_or vs i d)) next
 
-  -- and behind it
+  -- the pair at a place after the lower part
   pub pair_behind : (first : ℕ) (low : List V) (rest : List (ℕ × V)) (i : ℕ) → length low ≤ i → slice_get (counted_from first low ++ rest) i ≡ slice_get rest (i - length low)
   pair_behind first [] rest i l = let same : i ≡ i - 0 = omega arith in ap (slice_get rest) same
   pair_behind first (v ∷ vs) rest zero l = absurd (omega arith)
@@ -64,7 +64,7 @@ module _ {V : Type 0} where
       let same : i - length vs ≡ suc i - suc (length vs) = omega arith in
       pair_behind (suc first) vs rest i (omega arith) ∙ ap (slice_get rest) same
 
-  -- the first number over one that the lower part has not reached
+  -- the first greater number, if the lower part goes further
   pub after_low : (first : ℕ) (low : List V) (rest : List (ℕ × V)) (n : ℕ) → first ≤ suc n → suc n < first + length low
       → option_map (λ p. p.0) (find (λ p. nat_lt n p.0) (counted_from first low ++ rest)) ≡ Some (suc n)
   after_low first [] rest n l u = absurd (omega arith)
@@ -78,13 +78,13 @@ module _ {V : Type 0} where
           ap (option_map (λ (p : ℕ × V). p.0)) (cond-false (nat_lt n first) (Some (first, v)) (find (λ p. nat_lt n p.0) (counted_from (suc first) vs ++ rest)) (le-ltb n first (omega arith)))
           ∙ ih (omega arith) (omega arith)
 
-  -- behind the lower part only the pairs there count
+  -- after the lower part only the pairs above matter
   pub after_behind : (first : ℕ) (low : List V) (rest : List (ℕ × V)) (n : ℕ) → first + length low ≤ suc n → find (λ p. nat_lt n p.0) (counted_from first low ++ rest) ≡ find (λ p. nat_lt n p.0) rest
   after_behind first [] rest n l = refl
   after_behind first (v ∷ vs) rest n l =
       cond-false (nat_lt n first) (Some (first, v)) (find (λ p. nat_lt n p.0) (counted_from (suc first) vs ++ rest)) (le-ltb n first (omega arith)) ∙ after_behind (suc first) vs rest n (omega arith)
 
-  -- the first pair over a number stands at the place of the next number
+  -- the first pair with a greater number is at the place of the next number
   pub after_place : (pairs : List (ℕ × V)) (n : ℕ) → find (λ p. nat_lt n p.0) pairs ≡ slice_get pairs (prefix_len (λ p. nat_lt p.0 (suc n)) pairs)
   after_place [] n = refl
   after_place (p ∷ ps) n = at (cases_lt n p.0) (after_place ps n)
@@ -99,14 +99,14 @@ module _ {V : Type 0} where
           ∙ (ap (slice_get (p ∷ ps)) (one_more (prefix_len (λ q. nat_lt q.0 (suc n)) ps))
           ∙ sym (ap (λ (b : Bool). slice_get (p ∷ ps) (cond b (1 + prefix_len (λ q. nat_lt q.0 (suc n)) ps) 0)) (lt-ltb p.0 (suc n) (omega arith)))))
 
-  -- none is over the greatest number
+  -- no pair is above the greatest number
   pub after_none : (k : ℕ) (pairs : List (ℕ × V)) (n : ℕ) → AreOver k pairs → 2 ^ 32 ≤ suc n → find (λ p. nat_lt n p.0) pairs ≡ None
   after_none k [] n o l = refl
   after_none k (p ∷ ps) n o l =
       let most : p.0 < 2 ^ 32 = o.1 in
       cond-false (nat_lt n p.0) (Some p) (find (λ q. nat_lt n q.0) ps) (le-ltb n p.0 (omega arith)) ∙ after_none p.0 ps n o.2 l
 
--- all pairs of a row rise from over 0 on
+-- all pairs of a row rise, and their numbers are greater than 0
 pub pairs_over : {V : Type 0} (row : Row V) → IsRow row → AreOver 0 (pairs_of row)
 pairs_over row h =
     let low : 0 + length row.low < 2 ^ 32 = omega (arith, h.low) in
@@ -117,10 +117,10 @@ module _ {V : Type 0} where
   few_behind k [] o = omega arith
   few_behind k (p ∷ ps) o = let most : p.0 < 2 ^ 32 = o.1 in let rest : p.0 + length ps < 2 ^ 32 = few_over p.0 ps o.1 o.2 in let first : k < p.0 = o.0 in omega arith
 
-  -- there are fewer above the gap than there are numbers
+  -- there are fewer pairs above the gap than possible numbers
   pub few_above : (row : Row V) → IsRow row → length row.above < 2 ^ 32
   few_above row h = few_behind (length row.low + 1) row.above h.above
 
-  -- those above the gap rise from over 0 on
+  -- the pairs above the gap rise, and their numbers are greater than 0
   pub above_over : (row : Row V) → IsRow row → AreOver 0 row.above
   above_over row h = over_less 0 (length row.low + 1) row.above (omega arith) h.above

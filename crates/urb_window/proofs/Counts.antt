@@ -7,11 +7,11 @@ use Rattle.urb_names.specs.Nodes.{numbers_from}
 abbrev one_of : Bool → ℕ
 one_of b = cond b 1 0
 
--- the first of the numbers, and the others
+-- the first number, and the others
 count_first : (test : ℕ → Bool) (first left : ℕ) → count_by test (numbers_from first (suc left)) ≡ cond (test first) 1 0 + count_by test (numbers_from (suc first) left)
 count_first test first left = sum_by-cons (λ x. cond (test x) 1 0) first (numbers_from (suc first) left)
 
--- as a loop over the numbers up to n goes on
+-- one more step of a loop over the numbers up to n
 pub count_of_next : (test : ℕ → Bool) (k n : ℕ) → k ≤ n → count_by test (numbers_from k (suc n - k)) ≡ cond (test k) 1 0 + count_by test (numbers_from (k + 1) (suc n - (k + 1)))
 count_of_next test k n h =
     let left : suc n - k ≡ suc (suc n - (k + 1)) = omega arith in
@@ -31,7 +31,7 @@ count_most test first (suc count) = subst (λ (m : ℕ). m ≤ suc count) (sym (
     at true h = omega arith
     at false h = omega arith
 
--- where one fails, fewer pass
+-- if one fails, fewer pass
 pub count_fewer : (test : ℕ → Bool) (first count q : ℕ) → first ≤ q → q < first + count → test q ≡ false → count_by test (numbers_from first count) < count
 count_fewer test first zero q l u e = absurd (omega arith)
 count_fewer test first (suc count) q l u e =
@@ -44,7 +44,7 @@ count_fewer test first (suc count) q l u e =
     at (inl here) true f most fewer = absurd (false≢true (sym e ∙ (ap test (sym here) ∙ f)))
     at (inr here) true f most fewer = let less : count_by test (numbers_from (suc first) count) < count = fewer (omega arith) (omega arith) e in omega arith
 
--- two tests that agree at each number count alike
+-- two tests that agree on each number give the same count
 pub count_alike : (f g : ℕ → Bool) (first count : ℕ) → ((q : ℕ) → first ≤ q → q < first + count → f q ≡ g q) → count_by f (numbers_from first count) ≡ count_by g (numbers_from first count)
 count_alike f g first zero h = refl
 count_alike f g first (suc count) h =
@@ -53,7 +53,7 @@ count_alike f g first (suc count) h =
     ∙ (ap (λ (m : ℕ). cond (g first) 1 0 + m) (count_alike f g (suc first) count (λ q l u. h q (omega arith) (omega arith)))
     ∙ sym (count_first g first count)))
 
--- a test that one more number passes counts one more
+-- if the test passes one more number, the count is one greater
 pub count_one_more : (test : ℕ → Bool) (first count q : ℕ) → first ≤ q → q < first + count → test q ≡ false → count_by (λ r. (q == r) || test r) (numbers_from first count) ≡ suc (count_by test (numbers_from first count))
 count_one_more test first zero q l u e = absurd (omega arith)
 count_one_more test first (suc count) q l u e =

@@ -1,4 +1,4 @@
--- Windows keep what they keep: the rows of the senders, and the room that is promised.
+-- Windows preserve their invariant: the rows of the senders, and the space that is promised.
 use Rattle.std.proofs.Common.{◌≡◌, ℕ, suc, ◌+◌, ◌-◌, ◌<◌, ◌≤◌, List, length, get_or, slice_set, Option, Some, None, is_some, refl, sym, ap, ◌∙◌, subst, inl, inr, ◌⊎◌, arith}
 use Rattle.std.specs.Prelude.{IsSome}
 use Rattle.std.specs.List.{AllByRecursion}
@@ -15,18 +15,18 @@ use Rattle.urb_window.proofs.Changed.{all_set, placed_rows, same_rows, valued_ro
 use Rattle.urb_window.proofs.Looked.{value_rows}
 
 module _ {V : Type 0} where
-  -- the row at a place is that of its sender
+  -- the row at a place is the row of its sender
   pub row_here : (rows : List (Row V)) (sender i : ℕ) (row : Row V) → i + 1 ≡ sender → i < length rows → row ≡ get_or rows i row → row_at rows sender ≡ row
   row_here rows sender i row at within read =
       let index : sender - 1 ≡ i = omega arith in
       ap (λ (j : ℕ). get_or rows j no_row) index ∙ (get_or_default rows i no_row row within ∙ sym read)
 
-  -- what is under a name is in its row
+  -- the value under a name is in the name's row
   pub found_here : (rows : List (Row V)) (x : Label) (i : ℕ) (row : Row V) → i + 1 ≡ x.sender → i < length rows → row ≡ get_or rows i row → numbered (pairs_of row) x.seq ≡ value_of (entries_from 1 rows) x
   found_here rows x i row at within read =
       sym (value_rows 1 rows x (omega arith) ∙ ap (λ (r : Row V). numbered (pairs_of r) x.seq) (row_here rows x.sender i row at within read))
 
-  -- a row that took a value
+  -- a row in which a value was inserted
   pub inserted_here : (rows : List (Row V)) (x : Label) (v : V) (i : ℕ) (row new : Row V) → i + 1 ≡ x.sender → i < length rows → row ≡ get_or rows i row → IsInserted row x.seq v new
       → entries_from 1 (slice_set rows i new) ≡ placed entry_lt (entries_from 1 rows) (x, v)
   inserted_here rows x v i row new at within read put =
@@ -42,7 +42,7 @@ module _ {V : Type 0} where
       ap (λ (j : ℕ). entries_from 1 (slice_set rows j new)) index
       ∙ valued_rows 1 rows x v new (omega arith) (omega arith) (put.pairs ∙ ap (λ (r : Row V). renumbered (pairs_of r) x.seq v) (sym (row_here rows x.sender i row at within read)))
 
-  -- where a name has a value, its sender has a row
+  -- if a name has a value, its sender has a row
   pub present_within : (rows : List (Row V)) (x : Label) (i : ℕ) → i + 1 ≡ x.sender → IsSome (value_of (entries_from 1 rows) x) → i < length rows
   present_within rows x i at some = within (cases_lt i (length rows))
     where
@@ -57,7 +57,7 @@ module _ {V : Type 0} where
   same_here rows i row new within read pairs = same_rows 1 rows i new (pairs ∙ ap pairs_of (read ∙ get_or_default rows i row no_row within))
 
 module _ {T A : Type 0} where
-  -- where rows came behind those that are there, or nothing changed
+  -- rows were appended, or nothing changed
   pub kept_filled : (a b : Inside T A) → b.reserved ≡ a.reserved → length b.rows.items ≤ 7 → (AllByRecursion IsRow a.rows.items → AllByRecursion IsRow b.rows.items)
       → (length a.rows.items ≡ 7 → b.rows.items ≡ a.rows.items) → IsKept a → IsKept b
   kept_filled a b reserved most rows full kept = record {
@@ -72,11 +72,11 @@ module _ {T A : Type 0} where
         };
   }
 
-  -- where nothing is promised
+  -- no space is promised
   pub kept_unreserved : (a : Inside T A) → length a.rows.items ≤ 7 → AllByRecursion IsRow a.rows.items → a.reserved ≡ None → IsKept a
   kept_unreserved a most rows none = record { most = most; rows = rows; room = λ x e. absurd cc }
 
-  -- where a row changed that promises what it promised
+  -- a row changed but promises the same space
   pub kept_set : (a b : Inside T A) (i : ℕ) (row new : Row T) → b.reserved ≡ a.reserved → b.rows.items ≡ slice_set a.rows.items i new → i < length a.rows.items → row ≡ get_or a.rows.items i row
       → new.reserved ≡ row.reserved → IsRow new → IsKept a → IsKept b
   kept_set a b i row new reserved items within read promise is kept = record {
@@ -99,7 +99,7 @@ module _ {T A : Type 0} where
           ∙ sym (ap (λ (k : ℕ). (get_or a.rows.items k no_row).reserved) e))))
       at j (inr e) = ap (λ (r : Row T). r.reserved) (get_or-set_other a.rows.items i j new no_row e)
 
-  -- where a row promises room for a name
+  -- a row promises space for a name
   pub kept_reserved : (b : Inside T A) (rows : List (Row T)) (i : ℕ) (new : Row T) (x : Label) → b.reserved ≡ Some x → length rows ≡ 7 → AllByRecursion IsRow rows → b.rows.items ≡ slice_set rows i new
       → i + 1 ≡ x.sender → i < length rows → new.reserved ≡ Some x.seq → IsRow new → IsKept b
   kept_reserved b rows i new x reserved seven all items at within promise is =

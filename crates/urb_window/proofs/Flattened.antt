@@ -1,4 +1,4 @@
--- The pairs that masks under names stand for: which they are, and that they stand in order.
+-- The pairs that masks under names describe: which they are, and that they are in order.
 use Rattle.std.proofs.Common.{◌≡◌, ℕ, zero, suc, ◌+◌, ◌<◌, ◌≤◌, Bool, true, false, cond, ◌||◌, ◌&&◌, ◌==◌, nat_lt, List, [], ◌∷◌, ◌++◌, map, filter, Some, refl, sym, ap, subst, ◌∙◌, inl, inr, ◌⊎◌, arith, eq-eqb, ne_eqb, lt-ltb}
 use Rattle.std.specs.Prelude.{unwrap_or}
 use Rattle.std.specs.List.{list_all, list_any}
@@ -17,11 +17,11 @@ use Rattle.urb_window.specs.Masks.{marks_in, has_bit, mask_of, nodes_in}
 
 -- ---- the numbers that pass a test
 
--- whether a number is one of these
+-- whether a number is in the list
 abbrev pub is_one_of : List ℕ → ℕ → Bool
 is_one_of numbers r = list_any (λ s. s == r) numbers
 
--- a number below the first is none of them
+-- a number below the first is not in the list
 pub none_below : (test : ℕ → Bool) (first count r : ℕ) → r < first → is_one_of (filter test (numbers_from first count)) r ≡ false
 none_below test first zero r l = refl
 none_below test first (suc count) r l = at (test first) (none_below test (suc first) count r (omega arith))
@@ -30,7 +30,7 @@ none_below test first (suc count) r l = at (test first) (none_below test (suc fi
     at true ih = ap (λ (c : Bool). c || is_one_of (filter test (numbers_from (suc first) count)) r) (ne_eqb first r (λ e. omega arith)) ∙ ih
     at false ih = ih
 
--- nor is one behind the last
+-- nor is a number after the last
 pub none_behind : (test : ℕ → Bool) (first count r : ℕ) → first + count ≤ r → is_one_of (filter test (numbers_from first count)) r ≡ false
 none_behind test first zero r l = refl
 none_behind test first (suc count) r l = at (test first) (none_behind test (suc first) count r (omega arith))
@@ -39,7 +39,7 @@ none_behind test first (suc count) r l = at (test first) (none_behind test (suc 
     at true ih = ap (λ (c : Bool). c || is_one_of (filter test (numbers_from (suc first) count)) r) (ne_eqb first r (λ e. omega arith)) ∙ ih
     at false ih = ih
 
--- one between them is where it passes
+-- a number in between is in the list exactly if it passes
 pub one_between : (test : ℕ → Bool) (first count r : ℕ) → first ≤ r → r < first + count → is_one_of (filter test (numbers_from first count)) r ≡ test r
 one_between test first zero r l u = absurd (omega arith)
 one_between test first (suc count) r l u = at (cases_eq first r) (test first) refl (one_between test (suc first) count r)
@@ -51,7 +51,7 @@ one_between test first (suc count) r l u = at (cases_eq first r) (test first) re
     at (inr e) true f ih = ap (λ (c : Bool). c || is_one_of (filter test (numbers_from (suc first) count)) r) (ne_eqb first r e) ∙ ih (omega arith) (omega arith)
     at (inr e) false f ih = ih (omega arith) (omega arith)
 
--- ---- which pairs they are
+-- ---- which pairs there are
 
 acked_row : (z : Label) (numbers : List ℕ) (y : Label) (r : ℕ) → acked (map (λ q. (z, q)) numbers) y r ≡ (same_name z y && is_one_of numbers r)
 acked_row z [] y r = at (same_name z y)
@@ -66,7 +66,7 @@ acked_row z (n ∷ ns) y r = at (same_name z y) (n == r) (is_one_of ns r) (acked
     at true false d ih = ih
     at false c d ih = ih
 
--- behind a name in order there is none of its pairs
+-- after a name in the order, none of its pairs follows
 acked_later : (y : Label) (entries : List (Label × ℕ)) (r : ℕ) → list_all (λ e. name_lt y e.0) entries ≡ true → acked (marks_in entries) y r ≡ false
 acked_later y [] r h = refl
 acked_later y (e ∷ es) r h =
@@ -76,7 +76,7 @@ acked_later y (e ∷ es) r h =
     ∙ (ap (λ (b : Bool). b || acked (marks_in es) y r) (acked_row e.0 (nodes_in e.1) y r ∙ and_left (same_name e.0 y) _ other)
     ∙ acked_later y es r parts.1)
 
--- a node is counted for a name where it is one of the name's mask
+-- a node is marked for a name exactly if it is in the name's mask
 pub acked_is : (entries : List (Label × ℕ)) (y : Label) (r : ℕ) → is_rising entry_lt entries ≡ true → acked (marks_in entries) y r ≡ is_one_of (nodes_in (mask_of entries y)) r
 acked_is [] y r h = refl
 acked_is (e ∷ es) y r h =
@@ -98,11 +98,11 @@ acked_is (e ∷ es) y r h =
         ∙ or_none (is_one_of (nodes_in e.1) r)
     at false f ih = ih
 
--- of a node that there may be, that is its bit
+-- for a possible node, that is its bit
 pub acked_bit : (entries : List (Label × ℕ)) (y : Label) (r : ℕ) → is_rising entry_lt entries ≡ true → 0 < r → r ≤ 7 → acked (marks_in entries) y r ≡ has_bit (mask_of entries y) r
 acked_bit entries y r h l u = acked_is entries y r h ∙ one_between (has_bit (mask_of entries y)) 1 7 r (omega arith) (omega arith)
 
--- ---- their order
+-- ---- the order of the pairs
 
 all_joined : {X : Type 0} (test : X → Bool) (xs ys : List X) → list_all test xs ≡ true → list_all test ys ≡ true → list_all test (xs ++ ys) ≡ true
 all_joined test [] ys h k = k
@@ -156,7 +156,7 @@ row_before : (z : Label) (numbers : List ℕ) (entries : List (Label × ℕ)) �
 row_before z [] entries h = refl
 row_before z (n ∷ ns) entries h = and_from (list_all (ack_lt (z, n)) (marks_in entries)) _ (name_before z n entries h) (row_before z ns entries h)
 
--- they stand in order where the names do
+-- the pairs are in order if the names are
 pub marks_rise : (entries : List (Label × ℕ)) → is_rising entry_lt entries ≡ true → is_rising ack_lt (marks_in entries) ≡ true
 marks_rise [] h = refl
 marks_rise (e ∷ es) h =

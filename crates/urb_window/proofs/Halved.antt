@@ -1,11 +1,11 @@
--- What halving finds among pairs with rising numbers.
+-- What a binary search finds among pairs with rising numbers.
 use Rattle.std.proofs.Common.{◌≡◌, ℕ, zero, suc, ◌+◌, ◌<◌, ◌≤◌, ◌^◌, Bool, true, false, cond, ◌==◌, nat_lt, List, [], ◌∷◌, length, get_or, Option, Some, None, refl, sym, ap, ◌∙◌, subst, inl, inr, ◌⊎◌, arith, eq-eqb, ne_eqb}
 use Rattle.std.specs.List.{prefix_len}
 use Rattle.std.specs.List.Sorted.{IsPartitionedBy, IsPartitionPoint}
 use Rattle.std.proofs.lemmas.Bool.{cases_eq, cases_lt, cond-false, cond-true, eqb-true, false≢true, le-ltb, lt-ltb, ltb-true}
 use Rattle.urb_window.specs.Row.{AreOver, holds_at, numbered}
 
--- a partition point is the number of those in front
+-- a partition point is the number of elements at the front
 pub point_is : {X : Type 0} (test : X → Bool) (xs : List X) (i : ℕ) → i ≤ length xs → IsPartitionPoint (λ y. test y ≡ true) (λ y. test y ≡ false) xs i → i ≡ prefix_len test xs
 point_is test [] i l h = omega arith
 point_is test (y ∷ ys) zero l h = sym (ap (λ (b : Bool). cond b (1 + prefix_len test ys) 0) (h.1 0 y (omega arith) (omega arith)))
@@ -26,7 +26,7 @@ pub one_more : (n : ℕ) → suc n ≡ 1 + n
 one_more n = omega arith
 
 module _ {V : Type 0} where
-  -- what is over a number is over each lesser one
+  -- what is greater than a number is greater than each smaller one
   pub over_less : (j k : ℕ) (pairs : List (ℕ × V)) → j ≤ k → AreOver k pairs → AreOver j pairs
   over_less j k [] h o = tt
   over_less j k (p ∷ ps) h o = let first : k < p.0 = o.0 in (omega arith, o.1, o.2)
@@ -36,7 +36,7 @@ module _ {V : Type 0} where
   over_at k (p ∷ ps) zero d o l = o.0
   over_at k (p ∷ ps) (suc j) d o l = let first : k < p.0 = o.0 in let rest : p.0 < (get_or ps j d).0 = over_at p.0 ps j d o.2 (omega arith) in omega arith
 
-  -- those below a number stand in front
+  -- the pairs below a number are at the front
   pub parted : (k : ℕ) (pairs : List (ℕ × V)) (n : ℕ) → AreOver k pairs → IsPartitionedBy (λ p. nat_lt p.0 n) pairs
   parted k [] n o i j d l m e = absurd (omega arith)
   parted k (p ∷ ps) n o zero zero d l m e = e
@@ -47,7 +47,7 @@ module _ {V : Type 0} where
   parted k (p ∷ ps) n o (suc i) zero d l m e = absurd (omega arith)
   parted k (p ∷ ps) n o (suc i) (suc j) d l m e = parted p.0 ps n o.2 i j d (omega arith) (omega arith) e
 
-  -- none has a number that all are over
+  -- if all pairs are above a number, none has it
   pub numbered_none : (k n : ℕ) (pairs : List (ℕ × V)) → AreOver k pairs → n ≤ k → numbered pairs n ≡ None
   numbered_none k n [] o l = refl
   numbered_none k n (p ∷ ps) o l =
@@ -57,7 +57,7 @@ module _ {V : Type 0} where
   abbrev place : ℕ → List (ℕ × V) → ℕ
   place n pairs = prefix_len (λ p. nat_lt p.0 n) pairs
 
-  -- where a number stands at its place, its value does
+  -- if a number is at its place, so is its value
   pub numbered_found : (pairs : List (ℕ × V)) (n : ℕ) (d : ℕ × V) → holds_at pairs (prefix_len (λ p. nat_lt p.0 n) pairs) n ≡ true
       → numbered pairs n ≡ Some (get_or pairs (prefix_len (λ p. nat_lt p.0 n) pairs) d).1
   numbered_found [] n d e = absurd (false≢true e)
@@ -72,7 +72,7 @@ module _ {V : Type 0} where
           ∙ (ih held ∙ ap (λ (i : ℕ). Some (get_or (p ∷ ps) i d).1) (one_more (place n ps)))
       at ih false f h = cond-true (p.0 == n) (Some p.1) (numbered ps n) h
 
-  -- else it isn't there
+  -- otherwise it isn't there
   pub numbered_absent : (k : ℕ) (pairs : List (ℕ × V)) (n : ℕ) → AreOver k pairs → holds_at pairs (prefix_len (λ p. nat_lt p.0 n) pairs) n ≡ false → numbered pairs n ≡ None
   numbered_absent k [] n o e = refl
   numbered_absent k (p ∷ ps) n o e = at (numbered_absent p.0 ps n o.2) (nat_lt p.0 n) refl e (cases_lt p.0 n)
@@ -86,7 +86,7 @@ module _ {V : Type 0} where
       at ih false f h (inl l) = absurd (false≢true (sym f ∙ lt-ltb p.0 n l))
       at ih false f h (inr l) = cond-false (p.0 == n) (Some p.1) (numbered ps n) h ∙ numbered_none p.0 n ps o.2 l
 
-  -- whether a number stands at a place, where there is one
+  -- whether a number is at a place within the list
   pub holds_there : (pairs : List (ℕ × V)) (i n : ℕ) (d : ℕ × V) → i < length pairs → holds_at pairs i n ≡ ((get_or pairs i d).0 == n)
   holds_there [] i n d l = absurd (omega arith)
   holds_there (p ∷ ps) zero n d l = refl
@@ -97,7 +97,7 @@ module _ {V : Type 0} where
   holds_beyond (p ∷ ps) zero n l = absurd (omega arith)
   holds_beyond (p ∷ ps) (suc i) n l = holds_beyond ps i n (omega arith)
 
-  -- where a number stands there, there is a place
+  -- if a number is at a place, the place is within the list
   pub holds_within : (pairs : List (ℕ × V)) (i n : ℕ) → holds_at pairs i n ≡ true → i < length pairs
   holds_within pairs i n e = at (cases_lt i (length pairs))
     where
@@ -105,7 +105,7 @@ module _ {V : Type 0} where
       at (inl l) = l
       at (inr l) = absurd (false≢true (sym (holds_beyond pairs i n l) ∙ e))
 
-  -- and no more than fit under the greatest number
+  -- and there are no more than fit below the greatest number
   pub few_over : (k : ℕ) (pairs : List (ℕ × V)) → k < 2 ^ 32 → AreOver k pairs → k + length pairs < 2 ^ 32
   few_over k [] l o = omega arith
   few_over k (p ∷ ps) l o =

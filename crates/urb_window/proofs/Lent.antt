@@ -38,7 +38,7 @@ module _ {V : Type 0} where
   values_counted s first [] = refl
   values_counted s first (v ∷ low) = ap (λ vs. v ∷ vs) (values_counted s (suc first) low)
 
-  -- the values that are lent are those of the lower part
+  -- the borrowed values are those of the lower part
   pub window_is : (rows : List (Row V)) (s : ℕ) → AllByRecursion IsRow rows → 1 ≤ s → window_of s (entries_from 1 rows) ≡ (row_at rows s).low
   window_is rows s h l =
       let row = row_at rows s in
@@ -50,7 +50,7 @@ module _ {V : Type 0} where
       ∙ (ap (λ ps. map (λ (e : Label × V). e.1) (named s ps)) (low_passes 1 k row.low row.above (omega arith) (above_fails (k + 1) k row.above is.above (omega arith)))
       ∙ values_counted s 1 row.low))
 
-  -- and as many stand above as the upper part has
+  -- and as many are above as the upper part holds
   pub above_is : (rows : List (Row V)) (s : ℕ) → AllByRecursion IsRow rows → 1 ≤ s → above_of s (entries_from 1 rows) ≡ length (row_at rows s).above
   above_is rows s h l =
       let row = row_at rows s in

@@ -1,4 +1,4 @@
--- What is found under a name, and how far a sender's numbers go.
+-- The value found under a name, and how far a sender's numbers go.
 use Rattle.std.proofs.Common.{◌≡◌, ℕ, zero, suc, ◌+◌, ◌-◌, ◌<◌, ◌≤◌, ◌^◌, Bool, true, false, cond, ◌&&◌, ◌||◌, ◌==◌, nat_lt, nat_le, List, [], ◌∷◌, ◌++◌, filter, map, length, get_or, Option, Some, None, is_some, refl, sym, ap, ◌∙◌, subst, inl, inr, ◌⊎◌, arith, eq-eqb, ne_eqb}
 use Rattle.std.specs.List.{AllByRecursion}
 use Rattle.std.proofs.lemmas.Bool.{and_from, and_left, cases_Bool, cases_eq, cases_lt, cond-false, cond-true, false≢true, false_from_ne_true, le-leb, lt-ltb, le-ltb}
@@ -36,7 +36,7 @@ module _ {V : Type 0} where
       ap (λ (b : Bool). cond b (Some p.1) (value_of (named s ps ++ rest) x)) (same_number s p.0 x e)
       ∙ ap (λ (o : Option V). cond (p.0 == x.seq) (Some p.1) o) (value_here s ps rest x e none)
 
-  -- the value under a name is that of its number in the row of its sender
+  -- the value under a name is the value of its number in its sender's row
   pub value_rows : (first : ℕ) (rows : List (Row V)) (x : Label) → first ≤ x.sender → value_of (entries_from first rows) x ≡ numbered (pairs_of (get_or rows (x.sender - first) no_row)) x.seq
   value_rows first [] x l = refl
   value_rows first (r ∷ rs) x l = at (cases_eq first x.sender) (value_rows (suc first) rs x)
@@ -53,7 +53,7 @@ module _ {V : Type 0} where
           value_other first (pairs_of r) (entries_from (suc first) rs) x e
           ∙ (ih (omega arith) ∙ ap (λ (i : ℕ). numbered (pairs_of (get_or (r ∷ rs) i no_row)) x.seq) later)
 
-  -- a name is there exactly where it has a value
+  -- a name is there exactly if it has a value
   pub has_value : (entries : List (Label × V)) (x : Label) → has_name (names_of entries) x ≡ is_some (value_of entries x)
   has_value [] x = refl
   has_value (e ∷ es) x = at (same_name e.0 x) (has_value es x)
@@ -122,7 +122,7 @@ module _ {V : Type 0} where
       at true ih = ap (λ es. (name t p.0, p.1) ∷ es) ih
       at false ih = ih
 
-  -- the entries of a sender that pass a test are the pairs of its row that do
+  -- a sender's entries that pass a test are the pairs of its row that pass it
   pub part_rows : (first : ℕ) (rows : List (Row V)) (s : ℕ) (test : Label × V → Bool) → first ≤ s
       → filter (λ e. (e.0.sender == s) && test e) (entries_from first rows) ≡ named s (filter (λ p. test (name s p.0, p.1)) (pairs_of (get_or rows (s - first) no_row)))
   part_rows first [] s test l = refl

@@ -1,4 +1,4 @@
--- Masks once one more bit is set: one more pair, in its place.
+-- Masks after one more bit is set: one more pair, at its place.
 use Rattle.std.proofs.Common.{◌≡◌, ℕ, ◌+◌, ◌-◌, ◌<◌, ◌≤◌, ◌^◌, Bool, true, false, cond, ◌||◌, ◌&&◌, ◌==◌, List, [], ◌∷◌, Option, Some, None, is_some, refl, sym, ap, ap₂, subst, ◌∙◌, inl, inr, ◌⊎◌, arith, eq-eqb, ne_eqb, eqb-true, nat_lt}
 use Rattle.std.specs.Prelude.{option_map, unwrap_or}
 use Rattle.std.proofs.lemmas.Bool.{and_from, and_parts, cases_Bool, cases_eq, cases_lt, cond-false, cond-true, false≢true, false_from_ne_true, le-ltb}
@@ -32,7 +32,7 @@ bit_more mask q r l m e =
     set_is (mask + 2 ^ (q - 1)) (r - 1)
     ∙ (set_more mask (q - 1) (r - 1) (sym (set_is mask (q - 1)) ∙ e) ∙ ap₂ (λ (b c : Bool). b || c) (same_places q r l m) (sym (set_is mask (r - 1))))
 
--- the nodes of a mask with one bit more are one more
+-- the nodes of a mask with one more bit are one more
 nodes_more : (mask q r : ℕ) → 0 < q → q ≤ 7 → has_bit mask q ≡ false → is_one_of (nodes_in (mask + 2 ^ (q - 1))) r ≡ ((q == r) || is_one_of (nodes_in mask) r)
 nodes_more mask q r l u e = at (cases_lt r 1) (cases_lt r 8)
   where
@@ -50,9 +50,9 @@ nodes_more mask q r l u e = at (cases_lt r 1) (cases_lt r 8)
         one_between (has_bit new) 1 7 r h (omega arith)
         ∙ (bit_more mask q r l (omega arith) e ∙ ap (λ (b : Bool). (q == r) || b) (sym (one_between (has_bit mask) 1 7 r h (omega arith))))
 
--- ---- a value under a name, in the place of none or of another
+-- ---- a value set under a new name or a known one
 
--- what is there is also where it is changed
+-- an option is Some exactly if it is after its value was changed
 pub mapped_some : {X Y : Type 0} (f : X → Y) (found : Option X) → is_some (option_map f found) ≡ is_some found
 mapped_some f None = refl
 mapped_some f (Some x) = refl
@@ -62,11 +62,11 @@ pub record IsMarked (old : List (Label × ℕ)) (x : Label) (v : ℕ) (new : Lis
   pub here : value_of new x ≡ Some v
   pub others : (y : Label) → same_name x y ≡ false → value_of new y ≡ value_of old y
 
--- two names that are the same one
+-- two names that are both the same as a third
 through : (x y z : Label) → same_name z y ≡ true → same_name z x ≡ true → same_name x y ≡ true
 through x y z e f = subst (λ (w : Label). same_name w y ≡ true) (same_name-true z x f) e
 
--- where the names differ, no name is both
+-- if two names differ, no name is the same as both
 other_name : (x y z : Label) → same_name x y ≡ false → same_name z x ≡ true → same_name z y ≡ false
 other_name x y z e f = false_from_ne_true _ (λ g. false≢true (sym e ∙ through x y z g f))
 
@@ -121,7 +121,7 @@ changed_new old new x v none e = subst (IsMarked old x v) (sym e) (record { here
     nothing None f = refl
     nothing (Some v) f = absurd (false≢true (sym f))
 
--- another value under a name
+-- a replaced value under a name
 pub changed_known : (old new : List (Label × ℕ)) (x : Label) (v : ℕ) → is_some (value_of old x) ≡ true → new ≡ with_value old x v → IsMarked old x v new
 changed_known old new x v some e = subst (IsMarked old x v) (sym e) (record { here = set_here old x v some; others = set_other old x v })
 
@@ -148,7 +148,7 @@ acks_in_order = record { transitive = ack_lt-trans; one_way = ack_lt-one_way; st
     itself : (a : Label × ℕ) → same_ack a a ≡ true
     itself a = and_from (same_name a.0 a.0) (a.1 == a.1) (same_name-same a.0) (eq-eqb a.1 a.1 refl)
 
--- where one more bit of a name is set, the pair of this name and node is in its place
+-- if one more bit of a name is set, the pair of this name and node is at its place
 pub marks_more : (old new : List (Label × ℕ)) (x : Label) (q : ℕ) → 0 < q → q ≤ 7 → is_rising entry_lt old ≡ true → is_rising entry_lt new ≡ true → has_bit (mask_of old x) q ≡ false
     → IsMarked old x (mask_of old x + 2 ^ (q - 1)) new
     → marks_in new ≡ placed ack_lt (marks_in old) (x, q)

@@ -1,14 +1,14 @@
--- The bits of a mask, as one more is set.
+-- The bits of a mask when one more is set.
 use Rattle.std.proofs.Common.{◌≡◌, ℕ, zero, suc, ◌+◌, ◌*◌, ◌/◌, ◌%◌, ◌^◌, ◌<◌, Bool, false, ◌||◌, ◌==◌, sym, ap, ◌∙◌, inl, inr, ◌⊎◌, arith, eq-eqb, ne_eqb}
 use Rattle.std.proofs.lemmas.Bool.{cases_eq, eqb-false}
 use Rattle.std.proofs.lemmas.Nat.{shr-shr}
 
--- whether the bit at a place is set, the lowest first
+-- whether the bit at a place is set, counted from the lowest
 pub is_set : ℕ → ℕ → Bool
 is_set mask zero = mask % 2 == 1
 is_set mask (suc place) = is_set (mask / 2) place
 
--- that is the quotient's lowest bit
+-- that is the lowest bit of the quotient
 pub set_is : (mask place : ℕ) → ((mask / 2 ^ place) % 2 == 1) ≡ is_set mask place
 unfolding is_set
 set_is mask zero = let same : mask / 2 ^ 0 ≡ mask = omega arith in ap (λ (m : ℕ). m % 2 == 1) same
@@ -17,7 +17,7 @@ set_is mask (suc place) =
     let halved : mask / 2 ^ suc place ≡ mask / 2 / 2 ^ place = ap (λ (k : ℕ). mask / 2 ^ k) (sym next) ∙ sym (shr-shr mask 1 place) in
     ap (λ (m : ℕ). m % 2 == 1) halved ∙ set_is (mask / 2) place
 
--- the next places of two are the same where they are
+-- two next places are equal exactly if the places are
 next_same : (place other : ℕ) → (suc place == suc other) ≡ (place == other)
 next_same place other = at (cases_eq place other)
   where
@@ -45,7 +45,7 @@ set_more mask (suc place) (suc other) e =
     let half : (mask + 2 ^ suc place) / 2 ≡ mask / 2 + 2 ^ place = omega arith in
     ap (λ (m : ℕ). is_set m other) half ∙ (set_more (mask / 2) place other e ∙ ap (λ (b : Bool). b || is_set (mask / 2) other) (sym (next_same place other)))
 
--- it fits where the others do
+-- the mask still fits its width
 pub set_fits : (mask place width : ℕ) → place < width → mask < 2 ^ width → is_set mask place ≡ false → mask + 2 ^ place < 2 ^ width
 unfolding is_set
 set_fits mask zero zero l u e = absurd (omega arith)

@@ -1,4 +1,4 @@
--- Elements that go to their places in lists that are made of parts.
+-- Putting elements at their places in lists made of parts.
 use Rattle.std.proofs.Common.{◌≡◌, ℕ, zero, suc, ◌+◌, ◌<◌, ◌≤◌, ◌^◌, Bool, true, false, cond, not, ◌==◌, nat_lt, List, [], ◌∷◌, ◌++◌, length, Option, Some, None, refl, sym, ap, ◌∙◌, subst, inl, inr, ◌⊎◌, arith, eq-eqb, ne_eqb}
 use Rattle.std.specs.List.{list_all}
 use Rattle.std.proofs.lemmas.Bool.{and_from, and_parts, cases_Bool, cases_eq, cases_lt, cond-false, cond-true, false≢true, le-ltb, lt-ltb, ltb-true, not-true}
@@ -7,7 +7,7 @@ use Rattle.urb_names.proofs.Ordered.{placed_behind, placed_front}
 use Rattle.urb_window.specs.Row.{AreOver, counted_from, number_lt, numbered}
 
 module _ {X : Type 0} (before : X → X → Bool) (x : X) where
-  -- behind a part whose elements all come before it
+  -- after a part whose elements all come before it
   pub placed_after : (xs ys : List X) → list_all (λ y. before y x) xs ≡ true → placed before (xs ++ ys) x ≡ xs ++ placed before ys x
   placed_after [] ys h = refl
   placed_after (y ∷ xs) ys h =
@@ -18,7 +18,7 @@ module _ {X : Type 0} (before : X → X → Bool) (x : X) where
   placed_first [] h = refl
   placed_first (y ∷ ys) h = placed_front before x y ys (not-true _ (and_parts (not (before y x)) (list_all (λ z. not (before z x)) ys) h).0)
 
-  -- in front of a part of whose elements none comes before it
+  -- before a part none of whose elements comes before it
   pub placed_before : (xs ys : List X) → list_all (λ y. not (before y x)) ys ≡ true → placed before (xs ++ ys) x ≡ placed before xs x ++ ys
   placed_before [] ys h = placed_first ys h
   placed_before (y ∷ xs) ys h = at (cases_Bool (before y x)) (placed_before xs ys h)
@@ -32,17 +32,17 @@ module _ {V : Type 0} where
   low_before first [] n v l = refl
   low_before first (w ∷ low) n v l = and_from (nat_lt first n) _ (lt-ltb first n (omega arith)) (low_before (suc first) low n v (omega arith))
 
-  -- a number that is behind the lower part goes to its place in the upper one
+  -- a number after the lower part goes to its place in the upper part
   pub placed_above : (first : ℕ) (low : List V) (above : List (ℕ × V)) (n : ℕ) (v : V) → first + length low ≤ n
       → placed number_lt (counted_from first low ++ above) (n, v) ≡ counted_from first low ++ placed number_lt above (n, v)
   placed_above first low above n v l = placed_after number_lt (n, v) (counted_from first low) above (low_before first low n v l)
 
-  -- it stands in front of what is over it
+  -- it goes before the pairs that are above it
   pub placed_under : (n : ℕ) (v : V) (above : List (ℕ × V)) → AreOver n above → placed number_lt above (n, v) ≡ (n, v) ∷ above
   placed_under n v [] o = refl
   placed_under n v (p ∷ ps) o = let first : n < p.0 = o.0 in placed_front number_lt (n, v) p ps (le-ltb p.0 n (omega arith))
 
-  -- what is not among pairs is not the first, and not among the others
+  -- what is not among pairs is not the first one, nor among the others
   pub absent_parts : (p : ℕ × V) (ps : List (ℕ × V)) (n : ℕ) → numbered (p ∷ ps) n ≡ None → (p.0 ≡ n → ⊥) × (numbered ps n ≡ None)
   absent_parts p ps n e = at (cases_eq p.0 n)
     where
@@ -50,7 +50,7 @@ module _ {V : Type 0} where
       at (inl f) = let some : Some p.1 ≡ None = sym (cond-true (p.0 == n) (Some p.1) (numbered ps n) (eq-eqb p.0 n f)) ∙ e in absurd cc
       at (inr f) = (f, sym (cond-false (p.0 == n) (Some p.1) (numbered ps n) (ne_eqb p.0 n f)) ∙ e)
 
-  -- a number that is not among them, and is over the same number, leaves them rising
+  -- a new number above the same bound keeps the pairs rising
   pub over_placed : (k : ℕ) (pairs : List (ℕ × V)) (n : ℕ) (v : V) → k < n → n < 2 ^ 32 → numbered pairs n ≡ None → AreOver k pairs → AreOver k (placed number_lt pairs (n, v))
   over_placed k [] n v l u e o = (l, u, tt)
   over_placed k (p ∷ ps) n v l u e o = at (cases_lt p.0 n) (absent_parts p ps n e) (over_placed p.0 ps n v)
@@ -64,7 +64,7 @@ module _ {V : Type 0} where
           let over : n < p.0 = omega arith in
           subst (AreOver k) (sym (placed_front number_lt (n, v) p ps (le-ltb p.0 n m))) (l, u, (over, o.1, o.2))
 
-  -- what is not among all pairs of a row is behind the lower part
+  -- a number that is not in the row is after the lower part
   pub absent_low : (first : ℕ) (low : List V) (rest : List (ℕ × V)) (n : ℕ) → first ≤ n → numbered (counted_from first low ++ rest) n ≡ None → first + length low ≤ n
   absent_low first [] rest n l e = omega arith
   absent_low first (v ∷ low) rest n l e =

@@ -1,4 +1,4 @@
--- The entries of rows stand in order of name.
+-- The entries of rows are in order of name.
 use Rattle.std.proofs.Common.{◌≡◌, ℕ, zero, suc, ◌+◌, ◌-◌, ◌<◌, ◌≤◌, ◌^◌, Bool, true, false, cond, not, ◌&&◌, ◌||◌, ◌==◌, nat_lt, List, [], ◌∷◌, ◌++◌, length, get_or, Option, Some, None, is_some, refl, sym, ap, ap₂, ◌∙◌, subst, inl, inr, ◌⊎◌, arith, eq-eqb, ne_eqb}
 use Rattle.std.specs.List.{AllByRecursion, list_all}
 use Rattle.std.proofs.lemmas.Bool.{and_from, and_left, and_parts, cases_eq, cases_lt, cond-false, cond-true, false≢true, le-ltb, lt-ltb, not_from_false, or_from, or_left, or_right}
@@ -25,7 +25,7 @@ pub higher_sender_lt : (x y : Label) → y.sender < x.sender → name_lt x y ≡
 higher_sender_lt x y l =
     or_from (nat_lt x.sender y.sender) ((x.sender == y.sender) && nat_lt x.seq y.seq) (le-ltb x.sender y.sender (omega arith)) (and_left (x.sender == y.sender) (nat_lt x.seq y.seq) (ne_eqb x.sender y.sender (λ e. omega arith)))
 
--- lists in order, each of the first before each of the second, are one in order
+-- two sorted lists give one if each element of the first comes before each of the second
 rising_append : {X : Type 0} (before : X → X → Bool) (xs ys : List X) → is_rising before xs ≡ true → is_rising before ys ≡ true → list_all (λ x. list_all (before x) ys) xs ≡ true → is_rising before (xs ++ ys) ≡ true
 rising_append before [] ys h k all = k
 rising_append before (x ∷ xs) ys h k all =
@@ -44,12 +44,12 @@ module _ {V : Type 0} where
   named_rising s k [] o = refl
   named_rising s k (p ∷ ps) o = and_from (list_all (entry_lt (name s p.0, p.1)) (named s ps)) _ (named_over s p.0 p.1 ps o.2 p.0 (omega arith)) (named_rising s p.0 ps o.2)
 
-  -- what is so of each entry with a sender is so of the entries of its row
+  -- what holds of each entry of a sender holds of the entries of its row
   pub all_named : (s : ℕ) (test : Label × V → Bool) (pairs : List (ℕ × V)) → ((e : Label × V) → e.0.sender ≡ s → test e ≡ true) → list_all test (named s pairs) ≡ true
   all_named s test [] h = refl
   all_named s test (p ∷ ps) h = and_from (test (name s p.0, p.1)) _ (h (name s p.0, p.1) refl) (all_named s test ps h)
 
-  -- and of those from a sender on
+  -- and of the entries of the rows from a sender on
   pub all_entries : (first : ℕ) (test : Label × V → Bool) (rows : List (Row V)) → ((e : Label × V) → first ≤ e.0.sender → test e ≡ true) → list_all test (entries_from first rows) ≡ true
   all_entries first test [] h = refl
   all_entries first test (r ∷ rs) h =

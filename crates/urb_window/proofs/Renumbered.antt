@@ -1,4 +1,4 @@
--- Another value under a number that has one.
+-- Replacing the value of a number that has one.
 use Rattle.std.proofs.Common.{◌≡◌, ℕ, zero, suc, ◌+◌, ◌-◌, ◌<◌, ◌≤◌, ◌^◌, Bool, true, false, cond, ◌==◌, nat_lt, List, [], ◌∷◌, ◌++◌, length, get_or, slice_set, Option, Some, None, is_some, refl, sym, ap, ap₂, ◌∙◌, subst, inl, inr, ◌⊎◌, arith, eq-eqb, ne_eqb}
 use Rattle.std.specs.List.{prefix_len}
 use Rattle.std.specs.Prelude.{IsSome}
@@ -17,14 +17,14 @@ module _ {V : Type 0} where
   renumbered_here : (p : ℕ × V) (ps : List (ℕ × V)) (n : ℕ) (v : V) → p.0 ≡ n → renumbered (p ∷ ps) n v ≡ (p.0, v) ∷ renumbered ps n v
   renumbered_here p ps n v e = ap (λ q. q ∷ renumbered ps n v) (cond-true (p.0 == n) (p.0, v) p (eq-eqb p.0 n e))
 
-  -- nothing changes where all are over the number
+  -- nothing changes if all pairs are above the number
   renumbered_none : (k : ℕ) (pairs : List (ℕ × V)) (n : ℕ) (v : V) → AreOver k pairs → n ≤ k → renumbered pairs n v ≡ pairs
   renumbered_none k [] n v o l = refl
   renumbered_none k (p ∷ ps) n v o l =
       let first : k < p.0 = o.0 in
       renumbered_other p ps n v (λ e. omega arith) ∙ ap (λ qs. p ∷ qs) (renumbered_none p.0 ps n v o.2 (omega arith))
 
-  -- a number of the lower part
+  -- a number in the lower part
   pub renumbered_low : (first : ℕ) (low : List V) (rest : List (ℕ × V)) (n k : ℕ) (v : V) → first ≤ n → n < first + length low → AreOver k rest → first + length low ≤ suc k
       → renumbered (counted_from first low ++ rest) n v ≡ counted_from first (slice_set low (n - first) v) ++ rest
   renumbered_low first [] rest n k v l u o m = absurd (omega arith)
@@ -48,13 +48,13 @@ module _ {V : Type 0} where
           ∙ (ap (λ qs. (first, w) ∷ qs) (ih (omega arith) (omega arith) o (omega arith))
           ∙ ap (λ (i : ℕ). counted_from first (slice_set (w ∷ low) i v) ++ rest) later)
 
-  -- a number behind it
+  -- a number after the lower part
   pub renumbered_behind : (first : ℕ) (low : List V) (rest : List (ℕ × V)) (n : ℕ) (v : V) → first + length low ≤ n → renumbered (counted_from first low ++ rest) n v ≡ counted_from first low ++ renumbered rest n v
   renumbered_behind first [] rest n v l = refl
   renumbered_behind first (w ∷ low) rest n v l =
       renumbered_other (first, w) (counted_from (suc first) low ++ rest) n v (λ e. omega arith) ∙ ap (λ qs. (first, w) ∷ qs) (renumbered_behind (suc first) low rest n v (omega arith))
 
-  -- it is the pair at its place that changes
+  -- the pair at the number's place is the one that changes
   pub renumbered_place : (k : ℕ) (pairs : List (ℕ × V)) (n : ℕ) (v : V) (d : ℕ × V) → AreOver k pairs → holds_at pairs (prefix_len (λ p. nat_lt p.0 n) pairs) n ≡ true
       → renumbered pairs n v ≡ slice_set pairs (prefix_len (λ p. nat_lt p.0 n) pairs) ((get_or pairs (prefix_len (λ p. nat_lt p.0 n) pairs) d).0, v)
   renumbered_place k [] n v d o e = absurd (false≢true e)
@@ -81,7 +81,7 @@ module _ {V : Type 0} where
       at (inl e) ih = subst (AreOver k) (sym (renumbered_here p ps n v e)) (o.0, o.1, ih)
       at (inr e) ih = subst (AreOver k) (sym (renumbered_other p ps n v e)) (o.0, o.1, ih)
 
-  -- a number that has a value stands at its place
+  -- a number that has a value is at its place
   pub stands : (k : ℕ) (pairs : List (ℕ × V)) (n : ℕ) → AreOver k pairs → IsSome (numbered pairs n) → holds_at pairs (prefix_len (λ p. nat_lt p.0 n) pairs) n ≡ true
   stands k pairs n o some = at (cases_Bool (holds_at pairs (prefix_len (λ p. nat_lt p.0 n) pairs) n))
     where
@@ -89,7 +89,7 @@ module _ {V : Type 0} where
       at (inl e) = e
       at (inr e) = absurd (false≢true (sym (ap is_some (numbered_absent k pairs n o e)) ∙ some))
 
-  -- what the pair at the place of a number of the upper part is
+  -- the pair at the place of a number in the upper part
   pub record IsFound (low : List V) (above : List (ℕ × V)) (n : ℕ) (v : V) (i : ℕ) (d : ℕ × V) : Type 0 where
     pub old : numbered (counted_from 1 low ++ above) n ≡ Some d.1
     pub set : slice_set above i (d.0, v) ≡ renumbered above n v

@@ -1,4 +1,4 @@
--- A row keeps its order and its room.
+-- A row preserves its order and its space.
 use Rattle.std.proofs.Common.{◌≡◌, ℕ, ◌+◌, ◌<◌, ◌≤◌, ◌^◌, List, length, Some, None, refl, sym, ap, ◌∙◌, subst, arith}
 use Rattle.std.specs.Vec.{vec_len, vec_capacity}
 use Rattle.std.specs.VecDeque.{deque_len, deque_capacity}
@@ -13,7 +13,7 @@ module _ {T A : Type 0} where
     above = subst (λ (vs : List T). AreOver (length vs + 1) b.above.items) (sym low) (subst (λ (ps : List (ℕ × T)). AreOver (length a.low.items + 1) ps) (sym above) row.above);
   }
 
-  -- where there is as much in each part, and at least as much room
+  -- each part holds as much as before, and has at least as much space
   pub roomy_as : (a b : Inside T A) → IsRow (row_of b) → b.reserved ≡ a.reserved
       → length b.low.items ≡ length a.low.items → vec_len b.low ≡ vec_len a.low → vec_capacity a.low ≤ vec_capacity b.low
       → deque_len b.above ≡ deque_len a.above → deque_capacity a.above ≤ deque_capacity b.above
@@ -28,7 +28,7 @@ module _ {T A : Type 0} where
         };
   }
 
-  -- where only the capacities grew
+  -- only the capacities grew
   pub roomy_bigger : (a b : Inside T A) → b.reserved ≡ a.reserved
       → b.low.items ≡ a.low.items → vec_len b.low ≡ vec_len a.low → vec_capacity a.low ≤ vec_capacity b.low
       → b.above.items ≡ a.above.items → deque_len b.above ≡ deque_len a.above → deque_capacity a.above ≤ deque_capacity b.above
@@ -36,6 +36,6 @@ module _ {T A : Type 0} where
   roomy_bigger a b reserved low low_len low_room above above_len above_room roomy =
       roomy_as a b (same_row a b low above roomy.row) reserved (ap (λ (vs : List T). length vs) low) low_len low_room above_len above_room roomy
 
-  -- with no promise the row is all
+  -- without a promise only the row matters
   pub roomy_unreserved : (a : Inside T A) → IsRow (row_of a) → a.reserved ≡ None → IsRoomy a
   roomy_unreserved a row none = record { row = row; room = λ n e. absurd cc }

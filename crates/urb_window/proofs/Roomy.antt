@@ -1,4 +1,4 @@
--- The names of masks: which have one, and what it takes to clear them all.
+-- The names that have masks, and what it takes to clear all masks.
 use Rattle.std.proofs.Common.{◌≡◌, ℕ, zero, suc, ◌+◌, ◌<◌, Bool, true, false, cond, List, [], ◌∷◌, ◌++◌, length, map, Option, Some, None, is_some, refl, sym, ap, ap₂, ◌∙◌, subst, inl, inr, ◌⊎◌, arith, slice_get}
 use Rattle.std.specs.List.{list_all}
 use Rattle.std.specs.Prelude.{IsSome, option_map}
@@ -16,7 +16,7 @@ use Rattle.urb_window.specs.WindowSet.{WindowSet}
 use Rattle.urb_window.proofs.Looked.{has_value}
 
 module _ {V : Type 0} where
-  -- another value changes no name
+  -- replacing a value changes no name
   pub names_valued : (entries : List (Label × V)) (x : Label) (v : V) → names_of (with_value entries x v) ≡ names_of entries
   names_valued [] x v = refl
   names_valued (e ∷ es) x v = ap₂ (λ (y : Label) (ys : List Label). y ∷ ys) (at (same_name e.0 x)) (names_valued es x v)
@@ -25,7 +25,7 @@ module _ {V : Type 0} where
       at true = refl
       at false = refl
 
-  -- one more entry is one more name, in its place
+  -- one more entry is one more name, at its place
   pub names_placed : (entries : List (Label × V)) (x : Label) (v : V) → names_of (placed entry_lt entries (x, v)) ≡ placed name_lt (names_of entries) x
   names_placed [] x v = refl
   names_placed (e ∷ es) x v = at (cases_Bool (name_lt e.0 x)) (names_placed es x v)
@@ -39,14 +39,14 @@ module _ {V : Type 0} where
   all_names test [] h = refl
   all_names test (e ∷ es) h = let parts = and_parts (test e.0) (list_all (λ f. test f.0) es) h in and_from (test e.0) (list_all test (names_of es)) parts.0 (all_names test es parts.1)
 
-  -- the names stand in order where the entries do
+  -- the names are in order if the entries are
   pub names_rise : (entries : List (Label × V)) → is_rising entry_lt entries ≡ true → is_rising name_lt (names_of entries) ≡ true
   names_rise [] h = refl
   names_rise (e ∷ es) h =
       let parts = and_parts (list_all (entry_lt e) es) (is_rising entry_lt es) h in
       and_from (list_all (name_lt e.0) (names_of es)) (is_rising name_lt (names_of es)) (all_names (name_lt e.0) es parts.0) (names_rise es parts.1)
 
--- an empty mask marks nobody, wherever it stands
+-- an empty mask marks no node, wherever it is
 pub placed_empty : (entries : List (Label × ℕ)) (x : Label) → marks_in (placed entry_lt entries (x, 0)) ≡ marks_in entries
 placed_empty [] x = refl
 placed_empty (e ∷ es) x = at (cases_Bool (name_lt e.0 x)) (placed_empty es x)
@@ -55,7 +55,7 @@ placed_empty (e ∷ es) x = at (cases_Bool (name_lt e.0 x)) (placed_empty es x)
     at (inl k) ih = ap marks_in (placed_behind entry_lt (x, 0) e es k) ∙ ap (λ acks. map (λ q. (e.0, q)) (nodes_in e.1) ++ acks) ih
     at (inr k) ih = ap marks_in (placed_front entry_lt (x, 0) e es k)
 
--- ---- one more name, or one that is known
+-- ---- a new name, or a known one
 
 pub room_new : (old new : WindowSet ℕ) (x : Label) (m : ℕ) → is_some (value_of old.entries x) ≡ false → new ≡ record { entries = placed entry_lt old.entries (x, m); reserved = None }
     → with_room (marks_of old) x ≡ record { marks = marks_in old.entries; roomy = names_of new.entries; reserved = new.reserved }
@@ -71,7 +71,7 @@ room_known old new x m some e =
     ∙ ap₂ (λ names reserved. record { marks = marks_in old.entries; roomy = names; reserved = reserved })
     (sym (ap (λ (s : WindowSet ℕ). names_of s.entries) e ∙ names_valued old.entries x m)) (sym (ap (λ (s : WindowSet ℕ). s.reserved) e))
 
--- a name that room was made for has room
+-- a name has space once space was made for it
 pub roomy_with : (s : MarkSet) (x : Label) → has_name (with_room s x).roomy x ≡ true
 roomy_with s x = at (has_name s.roomy x) refl
   where
@@ -84,7 +84,7 @@ roomy_with s x = at (has_name s.roomy x) refl
         ap (λ (t : MarkSet). has_name t.roomy x) (cond-false (has_name s.roomy x) s new e)
         ∙ (any_insert (λ y. same_name y x) s.roomy _ x ∙ or_left (same_name x x) (has_name s.roomy x) (same_name-same x))
 
--- with one more pair in its place
+-- with one more pair at its place
 pub mark_joins : (old new : WindowSet ℕ) (x : Label) (q : ℕ) → with_room (marks_of old) x ≡ record { marks = marks_in old.entries; roomy = names_of new.entries; reserved = new.reserved }
     → marks_in new.entries ≡ placed ack_lt (marks_in old.entries) (x, q) → marks_of new ≡ with_mark (marks_of old) x q
 mark_joins old new x q room marks =
@@ -99,7 +99,7 @@ AreEmpty zero entries = Unit {0}
 AreEmpty (suc count) [] = Unit {0}
 AreEmpty (suc count) (e ∷ es) = (e.1 ≡ 0) × AreEmpty count es
 
--- where all are, nobody is marked
+-- if all masks are empty, no node is marked
 pub none_marked : (count : ℕ) (entries : List (Label × ℕ)) → AreEmpty count entries → length entries ≡ count → marks_in entries ≡ []
 none_marked zero [] h e = refl
 none_marked zero (f ∷ es) h e = absurd (omega arith)
@@ -116,11 +116,11 @@ valued_empty (suc count) (e ∷ es) x h = (at (same_name e.0 x), valued_empty co
     at true = refl
     at false = h.0
 
--- the first entry, where that is the one with this name
+-- the first entry is the one with this name
 first_name : (e : Label × ℕ) (x : Label) → ◌≡◌ {A = Option Label} (Some e.0) (Some x) → e.0 ≡ x
 first_name e x h = cc
 
--- the mask at a place is emptied under its name
+-- the mask at a place is cleared under its name
 pub one_more_empty : (count : ℕ) (entries : List (Label × ℕ)) (x : Label) → AreEmpty count entries → option_map (λ (e : Label × ℕ). e.0) (slice_get entries count) ≡ Some x → AreEmpty (suc count) (with_value entries x 0)
 one_more_empty zero [] x h e = absurd cc
 one_more_empty zero (f ∷ es) x h e = (at (same_name f.0 x) (ap (λ (y : Label). same_name y x) (first_name f x e) ∙ same_name-same x), tt)
@@ -135,7 +135,7 @@ one_more_empty (suc count) (f ∷ es) x h e = (at (same_name f.0 x), one_more_em
     at true = refl
     at false = h.0
 
--- what stands at a place has a value under its name
+-- the entry at a place has a value under its name
 pub value_there : (index : ℕ) (entries : List (Label × ℕ)) (x : Label) → option_map (λ (e : Label × ℕ). e.0) (slice_get entries index) ≡ Some x → IsSome (value_of entries x)
 value_there index [] x e = absurd cc
 value_there zero (f ∷ es) x e = ap is_some (cond-true (same_name f.0 x) (Some f.1) (value_of es x) (ap (λ (y : Label). same_name y x) (first_name f x e) ∙ same_name-same x))
@@ -145,7 +145,7 @@ value_there (suc index) (f ∷ es) x e = at (same_name f.0 x) (value_there index
     at true ih = refl
     at false ih = ih
 
--- within the length a name stands at each place
+-- each place within the length has a name
 pub name_stands : (index : ℕ) (entries : List (Label × ℕ)) → index < length entries → IsSome (option_map (λ (e : Label × ℕ). e.0) (slice_get entries index))
 name_stands index [] h = absurd (omega arith)
 name_stands zero (e ∷ es) h = refl

@@ -41,7 +41,7 @@ module _ {V : Type 0} where
   pub at_start : (rows : List (Row V)) → entries_at 0 rows ≡ entries_from 1 rows
   at_start rows = refl
 
-  -- they are those of one row, and those from the next on
+  -- they are the entries of one row, followed by those from the next row on
   pub at_row : (rows : List (Row V)) (i : ℕ) (row : Row V) → i < length rows → row ≡ get_or rows i row → entries_at i rows ≡ named (i + 1) (pairs_of row) ++ entries_at (i + 1) rows
   at_row rows i row l read =
       let next : suc (i + 1) ≡ i + 1 + 1 = omega arith in
@@ -52,7 +52,7 @@ module _ {V : Type 0} where
   pub at_end : (rows : List (Row V)) (i : ℕ) → length rows ≤ i → entries_at i rows ≡ []
   at_end rows i l = ap (entries_from (i + 1)) (drop_all i rows l)
 
-  -- how many there are
+  -- the number of these entries
   pub count_at : (rows : List (Row V)) (i : ℕ) (row : Row V) → i < length rows → row ≡ get_or rows i row → length (entries_at i rows) ≡ length (pairs_of row) + length (entries_at (i + 1) rows)
   count_at rows i row l read =
       ap length (at_row rows i row l read) ∙ (length-append (named (i + 1) (pairs_of row)) (entries_at (i + 1) rows) ∙ ap (λ (n : ℕ). n + length (entries_at (i + 1) rows)) (length-map (pairs_of row) _))
@@ -65,14 +65,14 @@ module _ {V : Type 0} where
       ∙ (get_within (named (i + 1) (pairs_of row)) (entries_at (i + 1) rows) j (subst (λ (n : ℕ). j < n) (sym (length-map (pairs_of row) _)) within)
       ∙ slice_get-map (λ p. (name (i + 1) p.0, p.1)) (pairs_of row) j)
 
-  -- and behind it
+  -- the entry at a place after the row
   pub entry_behind : (rows : List (Row V)) (i : ℕ) (row : Row V) (j : ℕ) → i < length rows → row ≡ get_or rows i row → length (pairs_of row) ≤ j → slice_get (entries_at i rows) j ≡ slice_get (entries_at (i + 1) rows) (j - length (pairs_of row))
   entry_behind rows i row j l read behind =
       ap (λ es. slice_get es j) (at_row rows i row l read)
       ∙ (get_behind (named (i + 1) (pairs_of row)) (entries_at (i + 1) rows) j (subst (λ (n : ℕ). n ≤ j) (sym (length-map (pairs_of row) _)) behind)
       ∙ ap (λ (n : ℕ). slice_get (entries_at (i + 1) rows) (j - n)) (length-map (pairs_of row) _))
 
-  -- the first entry, where the row has a pair
+  -- the first entry, if the row has a pair
   pub first_within : (rows : List (Row V)) (i : ℕ) (row : Row V) (p : ℕ × V) → i < length rows → row ≡ get_or rows i row → slice_get (pairs_of row) 0 ≡ Some p → slice_get (entries_at i rows) 0 ≡ Some (name (i + 1) p.0, p.1)
   first_within rows i row p l read got =
       entry_within rows i row 0 l read (filled (pairs_of row) got) ∙ ap (option_map (λ (q : ℕ × V). (name (i + 1) q.0, q.1))) got
@@ -81,7 +81,7 @@ module _ {V : Type 0} where
       filled [] e = absurd cc
       filled (q ∷ qs) e = omega arith
 
-  -- and where it has none
+  -- the first entry, if the row has none
   pub no_first : (rows : List (Row V)) (i : ℕ) (row : Row V) → i < length rows → row ≡ get_or rows i row → slice_get (pairs_of row) 0 ≡ None → slice_get (entries_at i rows) 0 ≡ slice_get (entries_at (i + 1) rows) 0
   no_first rows i row l read got =
       let empty : length (pairs_of row) ≡ 0 = none (pairs_of row) got in
@@ -91,7 +91,7 @@ module _ {V : Type 0} where
       none [] e = refl
       none (q ∷ qs) e = absurd cc
 
-  -- ---- the first name behind one
+  -- ---- the first name after one
 
   find_named : (s : ℕ) (pairs : List (ℕ × V)) (x : Label) → s ≡ x.sender → option_map (λ e. e.0) (find (λ e. name_lt x e.0) (named s pairs)) ≡ option_map (λ p. name s p.0) (find (λ p. nat_lt x.seq p.0) pairs)
   find_named s [] x e = refl
@@ -145,7 +145,7 @@ module _ {V : Type 0} where
       ∙ (ap (find (λ (e : Label × V). name_lt x e.0)) (at_row rows i row l read)
       ∙ find-append (λ (e : Label × V). name_lt x e.0) (named (i + 1) (pairs_of row)) (entries_at (i + 1) rows)))
 
-  -- the first name behind one: in the row of its sender, or else the first of the rows behind it
+  -- the first name after one: in the row of its sender, otherwise the first of the rows after that
   pub after_found : (rows : List (Row V)) (x : Label) (i n : ℕ) (row : Row V) → i + 1 ≡ x.sender → i < length rows → row ≡ get_or rows i row
       → option_map (λ p. p.0) (find (λ p. nat_lt x.seq p.0) (pairs_of row)) ≡ Some n
       → option_map (λ e. e.0) (find (λ e. name_lt x e.0) (entries_from 1 rows)) ≡ Some (name x.sender n)
@@ -167,7 +167,7 @@ module _ {V : Type 0} where
   pub after_beyond : (rows : List (Row V)) (x : Label) → 1 ≤ x.sender → length rows ≤ x.sender - 1 → find (λ e. name_lt x e.0) (entries_from 1 rows) ≡ None
   after_beyond rows x one l = find_from rows 1 x one ∙ ap (λ (rs : List (Row V)). find (λ (e : Label × V). name_lt x e.0) (entries_from x.sender rs)) (drop_all (x.sender - 1) rows l)
 
-  -- ---- numbers of pairs that were found
+  -- ---- numbers of the pairs found
 
   pub pair_over : (k : ℕ) (pairs : List (ℕ × V)) (j : ℕ) (p : ℕ × V) → AreOver k pairs → slice_get pairs j ≡ Some p → k < p.0
   pair_over k [] j p o e = absurd cc

@@ -13,12 +13,12 @@ module _ {V : Type 0} where
   abbrev pub names_of : List (Label × V) → List Label
   names_of entries = map (λ entry. entry.0) entries
 
-  -- the value under this name, of the first entry that has it
+  -- the value of the first entry with this name
   abbrev pub value_of : List (Label × V) → Label → Option V
   value_of [] x = None
   value_of (entry ∷ entries) x = if same_name entry.0 x then Some entry.1 else value_of entries x
 
-  -- the entries with another value under this name
+  -- the entries after this name's value is replaced
   abbrev pub with_value : List (Label × V) → Label → V → List (Label × V)
   with_value entries x v = map (λ entry. if same_name entry.0 x then (entry.0, v) else entry) entries
 
@@ -30,6 +30,6 @@ module _ {V : Type 0} where
   abbrev pub window_of : ℕ → List (Label × V) → List V
   window_of sender entries = map (λ entry. entry.1) (filter (λ entry. (entry.0.sender == sender) && nat_le entry.0.seq (low_of sender entries)) entries)
 
-  -- how many of the sender's numbers stand above the first gap
+  -- how many of the sender's numbers are above the first gap
   abbrev pub above_of : ℕ → List (Label × V) → ℕ
   above_of sender entries = count_by (λ entry. (entry.0.sender == sender) && nat_lt (low_of sender entries) entry.0.seq) entries

@@ -1,4 +1,4 @@
--- What the rows of windows keep: each is a row of at most seven, and has the room that is promised.
+-- The invariant of windows: at most seven rows, each well formed, with the space that is promised.
 use Rattle.std.specs.Prelude.{◌≡◌, ◌-◌, ◌≤◌, ℕ, length, slice_get, Option, Some}
 use Rattle.std.specs.List.{AllByRecursion}
 use Rattle.std.specs.Option.{ForSome}
@@ -12,12 +12,12 @@ use Rattle.urb_window.specs.declared.windows.Windows.TheInside.{Inside}
 abbrev pub view_of : {T A : Type 0} → Inside T A → WindowSet T
 view_of a = record { entries = entries_from 1 a.rows.items; reserved = a.reserved }
 
--- the row of the name's sender has room for its number
+-- the row of the name's sender has space for its number
 pub record HasRow {T A : Type 0} (a : Inside T A) (x : Label) : Type 0 where
   pub seven : length a.rows.items ≡ 7
   pub room : (row_at a.rows.items x.sender).reserved ≡ Some x.seq
 
--- the fields are at most seven rows, with the room that is promised
+-- the fields are at most seven rows, with the space that is promised
 pub record IsKept {T A : Type 0} (a : Inside T A) : Type 0 where
   pub most : length a.rows.items ≤ 7
   pub rows : AllByRecursion IsRow a.rows.items

@@ -1,10 +1,10 @@
--- Which nodes are counted for a name, as the bits of one number.
+-- The nodes marked for a name, as the bits of one number.
 use Rattle.std.specs.Prelude.{ℕ, Bool, ◌-◌, ◌/◌, ◌%◌, ◌^◌, ◌==◌, List, [], ◌∷◌, ◌++◌, map, filter, unwrap_or}
 use Rattle.urb_names.specs.Naming.{Label}
 use Rattle.urb_names.specs.Nodes.{nodes}
 use Rattle.urb_window.specs.Entries.{value_of}
 
--- whether the node's bit is set: that of node 1 is the lowest
+-- whether the node's bit is set; node 1 has the lowest bit
 abbrev pub has_bit : ℕ → ℕ → Bool
 has_bit mask q = (mask / 2 ^ (q - 1)) % 2 == 1
 
@@ -12,11 +12,11 @@ has_bit mask q = (mask / 2 ^ (q - 1)) % 2 == 1
 abbrev pub nodes_in : ℕ → List ℕ
 nodes_in mask = filter (has_bit mask) (nodes 7)
 
--- the pairs of a name and a node that masks under names stand for, in order
+-- the pairs of a name and a node that masks under names describe, in order
 abbrev pub marks_in : List (Label × ℕ) → List (Label × ℕ)
 marks_in [] = []
 marks_in (entry ∷ entries) = map (λ q. (entry.0, q)) (nodes_in entry.1) ++ marks_in entries
 
--- the mask under a name, and 0 where it has none
+-- the mask under a name; 0 if it has none
 abbrev pub mask_of : List (Label × ℕ) → Label → ℕ
 mask_of entries x = unwrap_or (value_of entries x) 0

@@ -3,14 +3,14 @@ use Rattle.std.specs.Prelude.{◌≡◌, ℕ, zero, suc, ◌+◌, ◌<◌, ◌^�
 use Rattle.urb_names.specs.Ordered.{placed}
 use Rattle.std.specs.Coded.{Coded, code_by, coded×, coded_ℕ, coded_list, coded_option}
 
--- the values of the numbers 1, 2, 3, .. without a gap, those above the gap with their numbers, and the number for which
--- there is room
+-- The values of the numbers 1, 2, 3, .. without a gap, those above the gap with their numbers, and
+-- the number for which space is reserved.
 pub record Row (V : Type 0) : Type 0 where
   pub low : List V
   pub above : List (ℕ × V)
   pub reserved : Option ℕ
 
--- a row is stored as the tuple of its fields
+-- a row, encoded as the tuple of its fields, so that proofs can tell rows apart
 abbrev pub row_code : {V : Type 0} → Coded V → Coded (Row V)
 row_code {V} code =
     code_by
@@ -26,7 +26,7 @@ module _ {V : Type 0} where
   counted_from first [] = []
   counted_from first (v ∷ vs) = (first, v) ∷ counted_from (suc first) vs
 
-  -- the value under this number, of the first pair that has it
+  -- the value of the first pair with this number
   abbrev pub numbered : List (ℕ × V) → ℕ → Option V
   numbered [] n = None
   numbered (pair ∷ pairs) n = if pair.0 == n then Some pair.1 else numbered pairs n
@@ -35,7 +35,7 @@ module _ {V : Type 0} where
   abbrev pub number_lt : ℕ × V → ℕ × V → Bool
   number_lt pair later = nat_lt pair.0 later.0
 
-  -- the numbers rise, from over this one on, and are such as a name may have
+  -- the numbers rise, are all greater than this one, and are such as a name may have
   abbrev pub AreOver : ℕ → List (ℕ × V) → Type 0
   AreOver k [] = Unit {0}
   AreOver k (pair ∷ pairs) = (k < pair.0) × (pair.0 < 2 ^ 32) × AreOver pair.0 pairs
@@ -50,21 +50,22 @@ module _ {V : Type 0} where
   abbrev pub pairs_of : Row V → List (ℕ × V)
   pairs_of row = counted_from 1 row.low ++ row.above
 
-  -- with another value under this number
+  -- the pairs after this number's value is replaced
   abbrev pub renumbered : List (ℕ × V) → ℕ → V → List (ℕ × V)
   renumbered pairs n v = map (λ pair. if pair.0 == n then (pair.0, v) else pair) pairs
 
-  -- the row after a value came under one more number, which went to its place; the reservation is used up
+  -- the row after a value is inserted at the place of one more number; the reservation is used up
   pub record IsInserted (old : Row V) (n : ℕ) (v : V) (new : Row V) : Type 0 where
     pub pairs : pairs_of new ≡ placed number_lt (pairs_of old) (n, v)
     pub reserved : new.reserved ≡ None
 
-  -- the row after another value came under this number
+  -- the row after this number's value is replaced
   pub record IsReplaced (old : Row V) (n : ℕ) (v : V) (new : Row V) : Type 0 where
     pub pairs : pairs_of new ≡ renumbered (pairs_of old) n v
     pub reserved : new.reserved ≡ old.reserved
 
--- the lower part ends at a gap or at the greatest number, and those above rise from behind the gap
+-- the lower part ends at a gap or at the greatest number, and the numbers above rise from behind
+-- the gap
 pub record IsRow {V : Type 0} (row : Row V) : Type 0 where
   pub low : length row.low < 2 ^ 32
   pub above : AreOver (length row.low + 1) row.above

@@ -9,12 +9,12 @@ module _ {V : Type 0} where
   abbrev pub named : ℕ → List (ℕ × V) → List (Label × V)
   named sender pairs = map (λ pair. (name sender pair.0, pair.1)) pairs
 
-  -- the entries of the senders from this one on
+  -- the entries of this sender and the later ones
   abbrev pub entries_from : ℕ → List (Row V) → List (Label × V)
   entries_from sender [] = []
   entries_from sender (row ∷ rows) = named sender (pairs_of row) ++ entries_from (suc sender) rows
 
-  -- a row with nothing in it
+  -- an empty row
   abbrev pub no_row : Row V
   no_row = record { low = []; above = []; reserved = None }
 

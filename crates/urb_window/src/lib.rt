@@ -1,13 +1,15 @@
-//! Values under names, which no history makes slow to look up: for each sender those of its numbers 1, 2, 3, .. in one
-//! vector, and those above the first gap.
+//! Values stored under names, with fast look-ups however long the history is.
+//!
+//! For each sender, one vector holds the values of its numbers 1, 2, 3, .. up to the first gap. A
+//! queue holds the values above the gap.
 //!
 //! ```text
 //! let mut windows = Windows::new(alloc);
-//! windows.reserve(name)?;                 // the only call here that may want memory
-//! windows.insert(name, value)?;           // takes none, and closes a gap where it was the number that lacked
+//! windows.reserve(name)?;                 // the only call here that may fail to allocate
+//! windows.insert(name, value)?;           // allocates nothing, and closes a gap if this number was missing
 //! windows.get(name);                      // Some(&value)
 //! windows.low(name.sender);               // how far the sender's numbers go from 1 on without a gap
-//! windows.window(name.sender);            // their values, lent as they stand
+//! windows.window(name.sender);            // their values, borrowed in place
 //! ```
 #![tactic(auto)]
 

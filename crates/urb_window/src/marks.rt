@@ -1,4 +1,4 @@
-//! Nodes that are marked for names: one byte a name, of which each node has a bit.
+//! Sets of nodes, one set for each name: one byte a name, with one bit for each node.
 
 ghost use Rattle.std.specs.Prelude.{◌≡◌, ◌<◌, ◌≤◌, true, false, [], None, Some, IsOk, OnOk, OnErr, count_by, is_some, option_map, slice_get};
 ghost use Rattle.urb_names.specs.Acknowledged.{acked};
@@ -14,7 +14,8 @@ use std::alloc::{Allocator, Global};
 use std::marker::Model;
 use urb_names::{Name, NoMemory, NodeId};
 
-/// Nodes that are marked for names, as those that are counted for a name, or whose certificates of it were heard.
+/// For each name, a set of marked nodes: those that count as acknowledging it, or those whose
+/// certificates of it were heard.
 #[derive(Drop)]
 #[derive_where(Debug)]
 pub struct Marks<A: Allocator = Global> {
@@ -31,7 +32,7 @@ impl<A: Allocator> Model for Marks<A> {
     ghost view = { view_of };
 }
 
-// The mask under a name, and 0 where it has none.
+// The mask under a name; 0 if it has none.
 fn mask_of<A: Allocator + Copy>(masks: &Windows<u8, A>, name: Name) -> u8
     ensures { result ≡ mask_of masks.now.entries name }
 {
@@ -58,7 +59,7 @@ fn is_marked<A: Allocator + Copy>(masks: &Windows<u8, A>, name: Name, number: u8
     has_bit(mask_of(masks, name), number)
 }
 
-// How many of n nodes are marked for a name.
+// How many of the nodes 1 to n are marked for a name.
 fn count_of<A: Allocator + Copy>(masks: &Windows<u8, A>, name: Name, n: u8) -> u8
     requires { n ≤ 7 }
     ensures count { result ≡ count_by (acked (marks_in masks.now.entries) name) (nodes n) }
@@ -68,7 +69,7 @@ fn count_of<A: Allocator + Copy>(masks: &Windows<u8, A>, name: Name, n: u8) -> u
     bits_up_to(mask_of(masks, name), n)
 }
 
-// Makes room for the marks of a name.
+// Reserves space for the marks of a name.
 fn make_room<A: Allocator + Copy>(masks: &mut Windows<u8, A>, name: Name) -> Result<(), NoMemory>
     ensures ok { OnOk result (marks_of masks.new ≡ with_room (marks_of masks.old) name) }
     ensures err { OnErr result (masks.new ≡ masks.old) }
@@ -82,7 +83,7 @@ fn make_room<A: Allocator + Copy>(masks: &mut Windows<u8, A>, name: Name) -> Res
     }
 }
 
-// Marks the node with this number for a name, for which it was not marked.
+// Marks the node with this number for a name. It must not be marked for the name yet.
 fn mark<A: Allocator + Copy>(
     masks: &mut Windows<u8, A>,
     name: Name,
@@ -133,7 +134,7 @@ fn unmark_all<A: Allocator + Copy>(masks: &mut Windows<u8, A>)
 }
 
 impl<A: Allocator + Copy> Marks<A> {
-    /// No node is marked. Takes no memory; what grows later is taken from `alloc`.
+    /// No marks. Allocates no memory; later growth comes from `alloc`.
     pub fn new(alloc: A) -> Marks<A>
         ensures { result ≡ record { marks = []; roomy = []; reserved = None } }
     {
@@ -142,7 +143,7 @@ impl<A: Allocator + Copy> Marks<A> {
         }
     }
 
-    /// What always holds of marks: for proofs alone, since it does nothing.
+    /// States what always holds of marks. It does nothing; only proofs use it.
     pub fn limits(&self)
         ensures { IsMarkSet self.now }
     {
@@ -165,15 +166,16 @@ impl<A: Allocator + Copy> Marks<A> {
         count_of(&self.masks, name, n)
     }
 
-    /// Whether there is room for the marks of a name, so that an `add` of it takes no memory.
+    /// Whether a name has space for its marks, so that its `add` allocates nothing.
     pub fn is_roomy(&self, name: Name) -> bool
         ensures { result ≡ has_name self.now.roomy name }
     {
         has_mask(&self.masks, name)
     }
 
-    /// Makes room for the marks of a name without a mark of it yet. The room is promised until another name has its first mark
-    /// or room of its own. `NoMemory` means that a growth was refused: the call may be made again.
+    /// Reserves space for the marks of a name, without marking it yet. The space is promised until
+    /// another name gets its first mark or space of its own. `NoMemory` means that an allocation
+    /// was refused; the caller may make the call again.
     pub fn reserve(&mut self, name: Name) -> Result<(), NoMemory>
         ensures ok { OnOk result (self.new ≡ record self.old { reserved = Some name }) }
         ensures err { OnErr result (self.new ≡ self.old) }
@@ -181,7 +183,8 @@ impl<A: Allocator + Copy> Marks<A> {
         self.masks.reserve(name)
     }
 
-    /// Makes room for the marks of a name that stays. `NoMemory` means that a growth was refused: the call may be made again.
+    /// Allocates lasting space for the marks of a name. `NoMemory` means that an allocation was
+    /// refused; the caller may make the call again.
     pub fn make_room(&mut self, name: Name) -> Result<(), NoMemory>
         ensures ok { OnOk result (self.new ≡ with_room self.old name) }
         ensures err { OnErr result (self.new ≡ self.old) }
@@ -189,27 +192,27 @@ impl<A: Allocator + Copy> Marks<A> {
         make_room(&mut self.masks, name)
     }
 
-    /// Marks a node for a name, for which it was not marked. `NoMemory` means that a growth was refused: the call may be made
-    /// again.
+    /// Marks a node for a name. It must not be marked for the name yet. `NoMemory` means that an
+    /// allocation was refused; the caller may make the call again.
     pub fn add(&mut self, name: Name, node: NodeId) -> Result<(), NoMemory>
         requires { acked self.old.marks name node ≡ false }
         ensures ok { OnOk result (self.new ≡ with_mark self.old name node) }
         ensures err { OnErr result (self.new ≡ self.old) }
-        // Want of memory comes never for a name that has room, or for which room is reserved.
+        // `NoMemory` never comes for a name that has space, or for which space is reserved.
         ensures roomy { (has_name self.old.roomy name ≡ false → self.old.reserved ≡ Some name)
             → IsOk result }
     {
         mark(&mut self.masks, name, node.number())
     }
 
-    /// No node is marked any more; each name that has room keeps it. Takes no memory.
+    /// Removes all marks; each name that has space keeps it. Allocates no memory.
     pub fn forget(&mut self)
         ensures { self.new ≡ record self.old { marks = [] } }
     {
         unmark_all(&mut self.masks);
     }
 
-    /// No node is marked any more, and no name has room.
+    /// Removes all marks and the space of all names.
     pub fn clear(&mut self)
         ensures { self.new ≡ record { marks = []; roomy = []; reserved = None } }
     {

@@ -1,4 +1,4 @@
-//! Which nodes are counted for a name: one byte, of which each node has a bit.
+//! A set of nodes as one byte, with one bit for each node.
 
 ghost use Rattle.std.specs.Prelude.{◌≡◌, ◌<◌, ◌≤◌, ◌+◌, ◌-◌, ◌^◌, false, count_by};
 ghost use Rattle.urb_names.specs.Nodes.{nodes};
@@ -20,7 +20,7 @@ pub(crate) fn has_bit(mask: u8, number: u8) -> bool
     (mask >> (number - 1)) % 2 == 1
 }
 
-// The mask with a bit set that was not.
+// The mask with this node's bit set, which must be clear before.
 pub(crate) fn with_bit(mask: u8, number: u8) -> u8
     requires range { (0 < number) × (number ≤ 7) }
     requires new { has_bit mask number ≡ false }
@@ -30,7 +30,7 @@ pub(crate) fn with_bit(mask: u8, number: u8) -> u8
 }
 
 #[tactic(auto, using(crate::proofs::Counts::count_of_next, crate::proofs::Counts::count_of_none))]
-// How many of the nodes up to n have their bits set.
+// How many of the nodes 1 to n have their bits set.
 pub(crate) fn bits_up_to(mask: u8, n: u8) -> u8
     requires { n ≤ 7 }
     ensures count { result ≡ count_by (has_bit mask) (nodes n) }

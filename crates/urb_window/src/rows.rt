@@ -10,10 +10,10 @@ use crate::window::Window;
 use std::alloc::Allocator;
 use urb_names::{Name, NoMemory, NodeId};
 
-// The greatest number of senders that there may be.
+// The greatest possible number of senders.
 const MOST_SENDERS: usize = 7;
 
-// Where the row of a sender stands.
+// The index of a sender's row.
 pub(crate) fn index_of(sender: NodeId) -> usize
     ensures place { result + 1 ≡ sender }
     ensures within { result < 7 }
@@ -21,7 +21,7 @@ pub(crate) fn index_of(sender: NodeId) -> usize
     sender.number() as usize - 1
 }
 
-// The row of a sender, where there is one yet.
+// The row of a sender, if there is one yet.
 pub(crate) fn row_of<T, A: Allocator>(
     rows: &[Window<T, A>],
     sender: NodeId,
@@ -32,7 +32,7 @@ pub(crate) fn row_of<T, A: Allocator>(
     rows.get(index_of(sender))
 }
 
-// The sender whose row stands at a place.
+// The sender whose row is at this index.
 fn sender_at(index: usize) -> Option<NodeId>
     requires { index < 7 }
     ensures { result ≡ Some (index + 1) }
@@ -40,7 +40,7 @@ fn sender_at(index: usize) -> Option<NodeId>
     NodeId::new(index as u8 + 1)
 }
 
-// Rows without values come behind those that are there, until there is one for each sender.
+// Appends empty rows until there is one for each sender.
 pub(crate) fn fill<T: Drop, A: Allocator + Copy>(
     rows: &mut Vec<Window<T, A>, A>,
 ) -> Result<(), NoMemory>
@@ -58,7 +58,7 @@ pub(crate) fn fill<T: Drop, A: Allocator + Copy>(
     Ok(())
 }
 
-// How many values the rows have.
+// The number of values in the rows.
 pub(crate) fn count_of<T, A: Allocator + Copy>(rows: &[Window<T, A>]) -> usize
     requires { length rows.now ≤ 7 }
     ensures { result ≡ length (entries_from 1 rows.now) }
@@ -94,7 +94,7 @@ pub(crate) fn entry_of<T, A: Allocator + Copy>(
     None
 }
 
-// The first name of the rows from a place on.
+// The first name in the rows from this index on.
 pub(crate) fn first_from<T, A: Allocator + Copy>(
     rows: &[Window<T, A>],
     start: usize,
@@ -115,7 +115,7 @@ pub(crate) fn first_from<T, A: Allocator + Copy>(
     None
 }
 
-// The first name behind this one.
+// The first name after this one.
 pub(crate) fn after_in<T, A: Allocator + Copy>(rows: &[Window<T, A>], name: Name) -> Option<Name>
     requires { length rows.now ≤ 7 }
     ensures { result

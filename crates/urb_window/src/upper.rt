@@ -1,4 +1,4 @@
-//! The upper part of a row: pairs of a number and its value, by rising number, looked up by halving.
+//! The upper part of a row: pairs of a number and its value, sorted by number.
 
 ghost use Rattle.std.specs.Prelude.{◌≡◌, ◌<◌, ◌≤◌, ◌+◌, ◌∷◌, IfSome, IfNone, IfErr, OnOk, OnErr, IsOk, IsTrue, length, nat_lt, false};
 ghost use Rattle.std.specs.VecDeque.{deque_len, deque_capacity};
@@ -15,7 +15,7 @@ fn is_below<T>(pair: &(u32, T), number: u32) -> bool
     pair.0 < number
 }
 
-// Where a number stands, or would stand.
+// The place of a number, or the place where it would be inserted.
 pub(crate) fn place_of<T, A: Allocator>(above: &VecDeque<(u32, T), A>, number: u32) -> usize
     requires { AreOver 0 above.now.items }
     ensures place { result ≡ prefix_len (λ pair. nat_lt pair.0 number) above.now.items }
@@ -24,7 +24,7 @@ pub(crate) fn place_of<T, A: Allocator>(above: &VecDeque<(u32, T), A>, number: u
     above.partition_point(|pair| is_below(pair, number))
 }
 
-// Whether this number stands at a place.
+// Whether the pair at this place has this number.
 pub(crate) fn is_at<T, A: Allocator>(
     above: &VecDeque<(u32, T), A>,
     place: usize,
@@ -38,7 +38,7 @@ pub(crate) fn is_at<T, A: Allocator>(
     }
 }
 
-// Takes out the first value, where it has this number.
+// Removes the first value if it has this number.
 pub(crate) fn take_first<T, A: Allocator>(
     above: &mut VecDeque<(u32, T), A>,
     number: usize,

@@ -38,7 +38,7 @@ impl<T, A: Allocator> Model for Window<T, A> {
 }
 
 impl<T, A: Allocator + Copy> Window<T, A> {
-    // No values. Takes no memory.
+    // No values. Allocates no memory.
     pub(crate) fn new(alloc: A) -> Window<T, A>
         ensures { result ≡ record { low = []; above = []; reserved = None } }
     {
@@ -49,14 +49,14 @@ impl<T, A: Allocator + Copy> Window<T, A> {
         }
     }
 
-    // What always holds of a row: for proofs alone.
+    // States what always holds of a row; only proofs use it.
     pub(crate) fn limits(&self)
         ensures { IsRow self.now }
     {
         let _low = &self.low;
     }
 
-    // How many numbers stand from 1 on without a gap.
+    // How many numbers, from 1 on, there are without a gap.
     pub(crate) fn low(&self) -> u32
         ensures { result ≡ length self.now.low }
     {
@@ -70,14 +70,14 @@ impl<T, A: Allocator + Copy> Window<T, A> {
         &self.low
     }
 
-    // How many numbers stand above the gap.
+    // How many numbers are above the gap.
     pub(crate) fn above(&self) -> u32
         ensures { result ≡ length self.now.above }
     {
         self.above.len() as u32
     }
 
-    // How many values there are.
+    // The number of values.
     pub(crate) fn count(&self) -> usize
         ensures value { result ≡ length (pairs_of self.now) }
         ensures few { result < 2 ^ 33 }
@@ -115,7 +115,7 @@ impl<T, A: Allocator + Copy> Window<T, A> {
         }
     }
 
-    // The first number over this one.
+    // The first number greater than this one.
     pub(crate) fn after(&self, number: u32) -> Option<u32>
         ensures { result
             ≡ option_map (λ pair. pair.0)
@@ -133,7 +133,7 @@ impl<T, A: Allocator + Copy> Window<T, A> {
         }
     }
 
-    // Puts another value under a number that has one, and gives the old one back.
+    // Replaces the value of a number that has one, and returns the old value.
     pub(crate) fn replace(&mut self, number: u32, value: T) -> T
         requires from { 0 < number }
         requires present { IsSome (numbered (pairs_of self.old) number) }
@@ -148,7 +148,7 @@ impl<T, A: Allocator + Copy> Window<T, A> {
         replace(&mut self.above[place].1, value)
     }
 
-    // Makes room for a value under this number.
+    // Reserves space for a value under this number.
     pub(crate) fn reserve(&mut self, number: u32) -> Result<(), NoMemory>
         ensures ok { OnOk result (self.new ≡ record self.old { reserved = Some number }) }
         ensures err { OnErr result (self.new ≡ self.old) }
@@ -162,7 +162,7 @@ impl<T, A: Allocator + Copy> Window<T, A> {
         Ok(())
     }
 
-    // A value comes under a number that has none. Where memory is refused, it comes back.
+    // Inserts a value under a number that has none. If memory is refused, the value comes back.
     pub(crate) fn insert(&mut self, number: u32, value: T) -> Result<(), T>
         requires from { 0 < number }
         requires absent { numbered (pairs_of self.old) number ≡ None }
@@ -181,7 +181,7 @@ impl<T, A: Allocator + Copy> Window<T, A> {
     }
 }
 
-// Whether a number is the next one behind those without a gap.
+// Whether a number is the next one after those without a gap.
 fn is_next(low: usize, number: u32) -> bool
     requires { low < 2 ^ 32 }
     ensures { Decides result (number ≡ low + 1) }
@@ -189,7 +189,8 @@ fn is_next(low: usize, number: u32) -> bool
     number as usize == low + 1
 }
 
-// The value of the next number joins the lower part, and with it those that follow it without a gap.
+// Appends the next number's value to the lower part, together with the values that follow it
+// without a gap.
 fn extend<T, A: Allocator>(
     low: &mut Vec<T, A>,
     above: &mut VecDeque<(u32, T), A>,
@@ -217,7 +218,7 @@ fn extend<T, A: Allocator>(
     Ok(())
 }
 
-// The values that follow those without a gap join them, each moved once.
+// Moves the values that continue the lower part into it, each once.
 fn close_gap<T, A: Allocator>(low: &mut Vec<T, A>, above: &mut VecDeque<(u32, T), A>)
     requires over { AreOver (length low.old.items) above.old.items }
     requires few { length low.old.items < 2 ^ 32 }
@@ -231,7 +232,7 @@ fn close_gap<T, A: Allocator>(low: &mut Vec<T, A>, above: &mut VecDeque<(u32, T)
     }
 }
 
-// A value goes to the place of its number above the gap.
+// Inserts a value above the gap, at the place of its number.
 fn put_above<T, A: Allocator>(
     above: &mut VecDeque<(u32, T), A>,
     number: u32,

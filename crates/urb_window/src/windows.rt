@@ -11,8 +11,8 @@ use std::alloc::{Allocator, Global};
 use std::marker::Model;
 use urb_names::{Name, NoMemory, NodeId};
 
-/// Values under names, in order of name. For each sender those of its numbers 1, 2, 3, .. without a gap lie in one vector, and
-/// those above the gap in a queue.
+/// Values under names, in order of name. For each sender, one vector holds the values of its
+/// numbers 1, 2, 3, .. without a gap, and a queue holds those above the gap.
 #[derive(Drop)]
 #[derive_where(Debug; T)]
 pub struct Windows<T, A: Allocator = Global> {
@@ -35,7 +35,7 @@ impl<T, A: Allocator> Model for Windows<T, A> {
 }
 
 impl<T, A: Allocator + Copy> Windows<T, A> {
-    /// No values. Takes no memory; what grows later is taken from `alloc`.
+    /// No values. Allocates no memory; later growth comes from `alloc`.
     pub fn new(alloc: A) -> Windows<T, A>
         ensures { result ≡ record { entries = []; reserved = None } }
     {
@@ -45,7 +45,7 @@ impl<T, A: Allocator + Copy> Windows<T, A> {
         }
     }
 
-    /// What always holds of windows: for proofs alone, since it does nothing.
+    /// States what always holds of windows. It does nothing; only proofs use it.
     pub fn limits(&self)
         ensures { IsWindowSet self.now }
     {
@@ -63,7 +63,7 @@ impl<T, A: Allocator + Copy> Windows<T, A> {
         }
     }
 
-    /// Puts another value under a name that has one, and gives the old one back.
+    /// Replaces the value of a name that has one, and returns the old value.
     pub fn replace(&mut self, name: Name, value: T) -> T
         requires { IsSome (value_of self.old.entries name) }
         ensures old { value_of self.old.entries name ≡ Some result }
@@ -77,8 +77,9 @@ impl<T, A: Allocator + Copy> Windows<T, A> {
         old
     }
 
-    /// Makes room for a value under this name, so that its `insert` takes no memory, also where it closes a gap. The room is kept
-    /// until the next `insert` or `reserve`. `NoMemory` means that a growth was refused: the call may be made again.
+    /// Reserves space for a value under this name, so that its `insert` allocates nothing, even if
+    /// it closes a gap. The space is kept until the next `insert` or `reserve`. `NoMemory` means
+    /// that an allocation was refused; the caller may make the call again.
     pub fn reserve(&mut self, name: Name) -> Result<(), NoMemory>
     where
         T: Drop,
@@ -94,8 +95,9 @@ impl<T, A: Allocator + Copy> Windows<T, A> {
         Ok(())
     }
 
-    /// A value comes under a name that has none. Where that closes a gap, those that follow it stand without a gap too, and each of
-    /// them is moved once. Where memory is refused, the value comes back.
+    /// Inserts a value under a name that has none. If it closes a gap, the values that follow it
+    /// join the part without a gap, and each of them is moved once. If memory is refused, the value
+    /// comes back.
     pub fn insert(&mut self, name: Name, value: T) -> Result<(), (T, NoMemory)>
     where
         T: Drop,
@@ -137,7 +139,7 @@ impl<T, A: Allocator + Copy> Windows<T, A> {
         }
     }
 
-    /// How many of the sender's numbers stand above the first gap.
+    /// How many of the sender's numbers are above the first gap.
     pub fn above(&self, sender: NodeId) -> u32
         ensures { result ≡ above_of sender self.now.entries }
     {
@@ -147,7 +149,7 @@ impl<T, A: Allocator + Copy> Windows<T, A> {
         }
     }
 
-    /// How many values there are.
+    /// The number of values.
     pub fn count(&self) -> usize
         ensures { result ≡ length self.now.entries }
     {
@@ -169,7 +171,7 @@ impl<T, A: Allocator + Copy> Windows<T, A> {
         first_from(&self.rows, 0)
     }
 
-    /// The first name behind this one in the order of names.
+    /// The first name after this one in the order of names.
     pub fn after(&self, name: Name) -> Option<Name>
         ensures { result
             ≡ option_map (λ entry. entry.0)
@@ -178,7 +180,7 @@ impl<T, A: Allocator + Copy> Windows<T, A> {
         after_in(&self.rows, name)
     }
 
-    /// No values any more.
+    /// Removes all values.
     pub fn clear(&mut self)
     where
         T: Drop,

@@ -1,4 +1,6 @@
-//! Tests of `urb_window`, in a crate of their own: what they call is proved once, and they see what its users see.
+//! Tests of `urb_window`, in a separate crate.
+//!
+//! They see what its users see, and what they call is proved only once.
 #![tactic(auto)]
 
 #[cfg(test)]

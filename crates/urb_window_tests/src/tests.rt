@@ -1,4 +1,4 @@
-//! Values under names in several orders, reads of them, and refused growth.
+//! Values inserted under names in several orders, reads of them, and refused allocations.
 
 ghost use Rattle.std.specs.Prelude.{◌≤◌};
 
@@ -20,8 +20,8 @@ fn name(sender: u8, seq: u32) -> Result<Name, Fail> {
     Ok(Name { sender, seq })
 }
 
-// Reserves a name that is new, and adds its value. Where a growth was refused, nothing has changed, and the same call goes
-// through the second time.
+// Reserves a new name and inserts its value. If an allocation is refused, nothing has changed, and
+// the same call succeeds the second time.
 fn put<A: Allocator + Copy>(windows: &mut Windows<u32, A>, name: Name) -> Result<(), Fail> {
     if windows.get(name).is_some() {
         return Err(Fail::from("the name is new"));
@@ -44,7 +44,7 @@ fn put<A: Allocator + Copy>(windows: &mut Windows<u32, A>, name: Name) -> Result
     Ok(())
 }
 
-// The same with no reservation.
+// The same without a reservation.
 fn put_unreserved<A: Allocator + Copy>(
     windows: &mut Windows<u32, A>,
     name: Name,
@@ -69,7 +69,7 @@ fn put_unreserved<A: Allocator + Copy>(
     Ok(())
 }
 
-// The numbers 1 to 40, each once.
+// An order of the numbers 1 to 40.
 #[derive(Clone, Copy)]
 enum Order {
     Rising,
@@ -77,7 +77,7 @@ enum Order {
     OddFirst,
 }
 
-// The number that comes at a step from 1 to 40.
+// The number at a step, from 1 to 40.
 fn number_at(order: Order, step: u32) -> u32 {
     match order {
         Order::Rising => step,
@@ -87,7 +87,7 @@ fn number_at(order: Order, step: u32) -> u32 {
     }
 }
 
-// Whether node 2 has the numbers 1 to 40 as their own values without a gap, and no other node has any.
+// Whether node 2 has the values 1 to 40 without a gap, and no other node has any.
 fn is_full<A: Allocator + Copy>(windows: &Windows<u32, A>) -> Result<bool, Fail> {
     let (first, second) = (node(1)?, node(2)?);
     let window = windows.window(second);
@@ -125,7 +125,7 @@ fn a_gap_closes_in_any_order(rt: HostRuntime) -> Result<(), Fail> {
     Ok(())
 }
 
-// Whether a sender's numbers go so far without a gap, and so many stand above it.
+// Whether a sender's numbers go exactly to `low` without a gap, with `above` of them above it.
 fn goes_to<A: Allocator + Copy>(
     windows: &Windows<u32, A>,
     sender: u8,
@@ -136,7 +136,7 @@ fn goes_to<A: Allocator + Copy>(
     Ok(windows.low(sender) == low && windows.above(sender) == above)
 }
 
-// Whether the names that are there are these, in this order, whichever way they are read.
+// Whether the names are exactly these, in this order, whichever way they are read.
 fn reads<A: Allocator + Copy>(
     windows: &Windows<u32, A>,
     order: &[(u8, u32)],
@@ -187,7 +187,7 @@ fn reads_follow_the_order_of_names(rt: HostRuntime) -> Result<(), Fail> {
     Ok(())
 }
 
-// Whether the value of node 4's number is that number, and is another from then on.
+// Whether node 4's value equals its number, and then the replacement.
 fn is_replaced<A: Allocator + Copy>(
     windows: &mut Windows<u32, A>,
     seq: u32,
@@ -216,7 +216,7 @@ fn a_value_is_replaced_in_either_part(rt: HostRuntime) -> Result<(), Fail> {
     Ok(())
 }
 
-// Puts names of two nodes in an order with gaps, each with a reservation or without one.
+// Inserts names of two nodes in an order with gaps, with or without reservations.
 fn put_with_gaps<A: Allocator + Copy>(
     windows: &mut Windows<u32, A>,
     reserved: bool,
@@ -241,7 +241,7 @@ fn put_with_gaps<A: Allocator + Copy>(
     Ok(goes_to(windows, 1, 4, 2)? && goes_to(windows, 3, 2, 0)?)
 }
 
-// Whether all goes well where one growth is refused, and whether it was met.
+// Whether everything succeeds if one growth is refused, and whether that growth was requested.
 fn outlives(alloc: Global, refused: u64, reserved: bool) -> Result<(bool, bool), Fail> {
     let heap = Refusing::new(alloc, refused);
     let mut windows = Windows::new(&heap);
@@ -265,7 +265,7 @@ fn each_growth_may_be_refused(rt: HostRuntime) -> Result<(), Fail> {
     Ok(())
 }
 
-// The number 1 of node 1, which closes a gap, is reserved; how often the heap was asked until then is told.
+// Reserves number 1 of node 1, which closes a gap. Returns the number of allocations so far.
 fn reserve_first<'heap, A: Allocator>(
     windows: &mut Windows<u32, &'heap Refusing<A>>,
     heap: &'heap Refusing<A>,
@@ -276,7 +276,7 @@ fn reserve_first<'heap, A: Allocator>(
     Ok(heap.asked())
 }
 
-// Whether the reserved value goes in, and closes the gap.
+// Whether the reserved value is inserted and closes the gap.
 fn insert_first<A: Allocator + Copy>(windows: &mut Windows<u32, A>) -> Result<bool, Fail> {
     let first = name(1, 1)?;
     if windows.get(first).is_some() {
@@ -297,8 +297,8 @@ fn what_was_reserved_takes_no_memory(rt: HostRuntime) -> Result<(), Fail> {
     Ok(())
 }
 
-// Marks a node for a name, for which it was not marked. Where a growth was refused, it isn't marked, and the same call goes
-// through the second time.
+// Marks a node for a name that it isn't marked for. If an allocation is refused, it isn't marked,
+// and the same call succeeds the second time.
 fn mark<A: Allocator + Copy>(marks: &mut Marks<A>, name: Name, node: NodeId) -> Result<(), Fail> {
     if marks.has(name, node) {
         return Err(Fail::from("the mark is new"));
@@ -322,14 +322,14 @@ fn marked<A: Allocator + Copy>(marks: &Marks<A>, n: u8) -> Result<u8, Fail>
     Ok(marks.count_of(name(1, 3)?, n))
 }
 
-// Makes room for node 1's name 3, and for no other.
+// Makes space for node 1's name 3 and for no other name.
 fn make_room<A: Allocator + Copy>(marks: &mut Marks<A>) -> Result<bool, Fail> {
     let third = name(1, 3)?;
     marks.make_room(third)?;
     Ok(marks.is_roomy(third) && !marks.is_roomy(name(1, 2)?) && marked(marks, 7)? == 0)
 }
 
-// Marks nodes for the name, and forgets them.
+// Marks nodes for the name, then removes the marks.
 fn mark_and_forget<A: Allocator + Copy>(marks: &mut Marks<A>) -> Result<bool, Fail> {
     let third = name(1, 3)?;
     mark(marks, third, node(7)?)?;
@@ -341,7 +341,7 @@ fn mark_and_forget<A: Allocator + Copy>(marks: &mut Marks<A>) -> Result<bool, Fa
     Ok(are_counted && are_forgotten)
 }
 
-// Whether nothing is left of room that was made and reserved.
+// Whether `clear` removes the space that was allocated and reserved.
 fn clears<A: Allocator + Copy>(marks: &mut Marks<A>) -> Result<bool, Fail> {
     marks.reserve(name(2, 1)?)?;
     marks.clear();
@@ -360,7 +360,7 @@ fn marks_are_forgotten_and_their_room_stays(rt: HostRuntime) -> Result<(), Fail>
     Ok(())
 }
 
-// Marks node 3 for three names of node 2; room for the first is made before.
+// Marks node 3 for three names of node 2, after making space for the first.
 fn mark_three<A: Allocator + Copy>(marks: &mut Marks<A>) -> Result<bool, Fail> {
     let first = name(2, 1)?;
     if marks.make_room(first).is_err() {
@@ -375,7 +375,7 @@ fn mark_three<A: Allocator + Copy>(marks: &mut Marks<A>) -> Result<bool, Fail> {
     Ok(true)
 }
 
-// Whether all goes well where one growth is refused, and whether it was met.
+// Whether everything succeeds if one growth is refused, and whether that growth was requested.
 fn marks_outlive(alloc: Global, refused: u64) -> Result<(bool, bool), Fail> {
     let heap = Refusing::new(alloc, refused);
     let mut marks = Marks::new(&heap);

@@ -32,7 +32,6 @@ use Rattle.urb_node.specs.Part.{Node}
 use Rattle.urb_node.specs.Replies.{Done, Drafted, Refused, Reply, Stored, WentDown}
 use Rattle.urb_node.specs.Steps.{doubt, is_down}
 use Rattle.urb_show.specs.Housed.{Housed}
-use Rattle.urb_show.specs.Lists.{Lists}
 use Rattle.urb_show.specs.declared.status.Status.{Status}
 use Rattle.urb_stable.specs.Answering.{answer_of}
 use Rattle.urb_stable.specs.Doubted.{Doubted}
@@ -44,8 +43,10 @@ use Rattle.urb_stable.specs.declared.stable.StoreFault.{StoreFault}
 use Rattle.urb_worker.proofs.LastingStores.{asked-still, gives-rose, gives-unread, keeps-late, keeps-lost, keeps-took, left-of-draft, stays}
 use Rattle.urb_worker.proofs.Waiting.{FellWith, HoldsAt, crash-held, down-commits, down-fails, held-commits, held-fails, waited-down, waited-held, waited-stays, waited-there}
 use Rattle.urb_worker.specs.Jobs.{node_of, runs_at}
+use Rattle.urb_worker.specs.Settlings.{NothingNew, OutOfMemory, Published, Settles}
+use Rattle.urb_worker.specs.Settlings as settlings
 use Rattle.urb_worker.specs.Stages.{image_stage, kept_stage, restart_stage, taken_stage, tick_stage, crash_stage}
-use Rattle.urb_worker.specs.Turns.{Begins, Counts, Ends, IsKeptOf, Settles, Stores, has_released, logged, records_of}
+use Rattle.urb_worker.specs.Turns.{Begins, Counts, Ends, IsKeptOf, Stores, has_released, logged, records_of}
 use Rattle.urb_worker.specs.Whole.{HasWaited, IsStoreAt, LeavesAt, Waits}
 use Rattle.urb_worker.specs.declared.job.Job.{Job}
 use Rattle.urb_worker.specs.declared.job.Job.TheVariants as job
@@ -53,12 +54,13 @@ use Rattle.urb_worker.specs.declared.stages.Stage.{Stage}
 use Rattle.urb_worker.specs.declared.stages.Stage.TheVariants as stage
 
 -- a settling changes no group
-pub settled_group : (b : Bool) (p : ℕ) (before after : Housed) (told : Option Lists) → Settles b p before after told → after.group ≡ before.group
-settled_group true p before after None h = h.group
-settled_group true p before after (Some lists) h = h.group
-settled_group false p before after told h = ap (λ (a : Housed). a.group) h.0
+pub settled_group : (b : Bool) (p : ℕ) (before after : Housed) (settling : Published) → Settles b p before after settling → after.group ≡ before.group
+settled_group true p before after NothingNew h = absurd h
+settled_group true p before after (settlings.Told lists) h = h.group
+settled_group true p before after OutOfMemory h = h.group
+settled_group false p before after settling h = ap (λ (a : Housed). a.group) h.0
 
--- a refusal is not the reply of an event that is never refused for memory
+-- if an event is never refused for memory, such a refusal is not its reply
 never : (reply told : Reply) (r : Refusal) → IsRefusedAs reply r → reply ≡ told → (MayGrow told → ⊥) → (told ≡ Refused r → ⊥) → ⊥
 never reply told r h is grows other = ⊎_elim (λ grow. grows (subst MayGrow is grow)) (λ e. other (sym is ∙ e)) (refused-as reply r h)
 
@@ -75,13 +77,13 @@ module _ {S A : Type 0} (g : Ghosts S A) (n : ℕ) where
   same-store : (group : GroupView) (before after : S) → after ≡ before → IsStoreAt g n group before → IsStoreAt g n group after
   same-store group before after e h = subst (λ (s : S). IsStoreAt g n group s) (sym e) h
 
-  -- an event by which no record joins a list
+  -- an event that adds no record to a list
   quiet : (old new : GroupView) (event : Event) (IsTold : Reply → Type 0) (store : S) → IsQuiet event → Steps old event IsTold new → IsStoreAt g n old store → IsStoreAt g n new store
   quiet old new event IsTold store is steps h =
       at-world new (step h.world event).1 store (steps h.world h.shows).shows
       (stays g (h.world.node n) ((step h.world event).1.node n) store (quiet-stays h.world event is n) (h.contents, h.lasting))
 
-  -- nothing but a crash happened to the node
+  -- nothing happened to the node except a crash
   pub waited : (old new : GroupView) (store : S) → Waits n old new → IsStoreAt g n old store → IsStoreAt g n new store
   waited old new store waits h =
       let later : HasWaited n h.world new = waits h.world h.shows in
@@ -89,14 +91,14 @@ module _ {S A : Type 0} (g : Ghosts S A) (n : ℕ) where
 
   -- ---- the store of a node that holds a draft
 
-  -- a world of this group whose node n holds the draft, beside the store before it was asked
+  -- a world of this group in which node n holds the draft, and the store before it was asked
   record Drafts (group : GroupView) (draft : Placed) (before : S) : Type 0 where
     pub world : World
     pub shows : Shows group world
     pub holds : HoldsAt world n draft
     pub store : Store (world.node n) before
 
-  -- the same at a later moment: or the node fell
+  -- the same at a later moment; or the node fell meanwhile
   record Later (draft : Placed) (before : S) (group : GroupView) : Type 0 where
     pub node : Node
     pub up : is_down node.state ≡ false
@@ -127,7 +129,7 @@ module _ {S A : Type 0} (g : Ghosts S A) (n : ℕ) where
       fell : later.world.node n ≡ (step h.world (Crash n)).1.node n → FellWith (h.world.node n) (later.world.node n) draft
       fell e = subst (λ (node : Node). FellWith (h.world.node n) node draft) (sym e) (crash-held h.world n draft h.holds)
 
-  -- its receipt comes
+  -- the draft's receipt comes
   committed : (draft : Placed) (before after : S) (old new : GroupView) (r : Result Done (Placed × Refusal)) → draft.node ≡ n → Keeps g before draft (Ok tt) after → Later draft before old → Commits old draft r new → IsStoreAt g n new after
   committed draft before after old new (Ok done) e keeps h steps = ⊎_elim held fell h.still
     where
@@ -163,7 +165,7 @@ module _ {S A : Type 0} (g : Ghosts S A) (n : ℕ) where
       fell : FellWith h.node (h.world.node n) draft → IsStoreAt g n new after
       fell down = same-group old new after steps.0.1 (at-world old h.world after h.shows (keeps-late g h.node (h.world.node n) before after draft keeps h.store h.up down.records down.down))
 
-  -- its failure comes
+  -- the draft's failure comes
   failed : (draft : Placed) (fault : StoreFault) (before after : S) (old new : GroupView) (r : Result (Unit {0}) Refusal) → Keeps g before draft (Err fault) after → Later draft before old → GoesDown old n (Fail n) r new → IsStoreAt g n new after
   failed draft fault before after old new (Ok done) keeps h steps = ⊎_elim held fell h.still
     where
@@ -185,7 +187,7 @@ module _ {S A : Type 0} (g : Ghosts S A) (n : ℕ) where
       fell : FellWith h.node (h.world.node n) draft → IsStoreAt g n new after
       fell down = same-group old new after steps.1 (at-world old h.world after h.shows (keeps-lost g h.node (h.world.node n) before after draft fault keeps h.store h.up down.records down.down))
 
-  -- where a submit or an arrival drafts
+  -- a submit or an arrival that drafts
   drafts-at : (first left : GroupView) (before : S) (event : Event) (draft : Placed) → event_node event ≡ n → draft.node ≡ n → IsQuiet event → Steps first event (λ reply. reply ≡ Drafted (name_of draft.entry) draft.pos) left → HoldsDraft left draft
       → IsStoreAt g n first before → Drafts left draft before
   drafts-at first left before event draft f e is steps holds h =
@@ -218,11 +220,11 @@ module _ {S A : Type 0} (g : Ghosts S A) (n : ℕ) where
 
   -- ---- a turn, from the stage at which it begins
 
-  module _ (j : Job) (before after : S) (left again : GroupView) (last : Housed) (old : Housed) (is_old : old.group ≡ again) (said : Told Global) (status : Option Status) (told : Option Lists) (count : ℕ) (waits : Waits n left again) where
+  module _ (j : Job) (before after : S) (left again : GroupView) (last : Housed) (old : Housed) (is_old : old.group ≡ again) (said : Told Global) (status : Option Status) (settling : Published) (count : ℕ) (waits : Waits n left again) where
     abbrev Ending : Stage → Type 0
-    Ending at = Ends old j at last said status told count
+    Ending at = Ends old j at last said status settling count
 
-    -- nothing was asked of the store, and nothing happens behind it
+    -- nothing was asked of the store, and nothing happens after it
     ends-still : (r : Told Global) → after ≡ before → Ending (stage.Answered r) → IsStoreAt g n left before → IsStoreAt g n last.group after
     ends-still r e ends h =
         same-store last.group before after e
@@ -230,18 +232,18 @@ module _ {S A : Type 0} (g : Ghosts S A) (n : ℕ) where
 
     drafted : (draft : Placed) (r : Result Placed Doubted) → draft.node ≡ n → Drafts left draft before → IsKeptOf draft r → Keeps g before draft (answer_of r) after → Ending (kept_stage r) → IsStoreAt g n last.group after
     drafted draft (Ok receipt) e h is keeps (r, between, commits, counts, settles, is_said, is_status, is_count) =
-        same-group between.group last.group after (settled_group _ _ between last told settles)
+        same-group between.group last.group after (settled_group _ _ between last settling settles)
         (committed draft before after again between.group r e keeps (later-of left again draft before waits h)
         (subst (λ (group : GroupView). Commits group draft r between.group) is_old (subst (λ (d : Placed). Commits old.group d r between.group) is commits)))
     drafted draft (Err doubted) e h is keeps (r, fails, counts, is_said, is_status, is_told, is_count) =
         failed draft doubted.fault before after again last.group r keeps (later-of left again draft before waits h)
         (subst (λ (group : GroupView). GoesDown group n (Fail n) r last.group) is_old (subst (λ (i : ℕ). GoesDown old.group i (Fail i) r last.group) (is ∙ e) fails))
 
-    -- its store was asked for its records
+    -- the node's store was asked for its records
     read : (r : Result (Vec Entry Global) StoreFault) → node_of j ≡ n → (w : World) → Shows left w → (down : (o : Option Entry) × ((w.node n).state ≡ part.Down o)) → is_node w.size.n n ≡ true → Store (w.node n) before
         → Gives g before (records_of r) after → Ending (image_stage r) → IsStoreAt g n last.group after
     read (Ok image) e w shows down there store gives (r, between, comes, counts, settles, is_said, is_status, is_count) =
-        same-group between.group last.group after (settled_group _ _ between last told settles) (rises r (subst (λ (group : GroupView). ComesUp group n (Restart n image.items) r between.group) is_old (subst (λ (i : ℕ). ComesUp old.group i (Restart i image.items) r between.group) e comes)))
+        same-group between.group last.group after (settled_group _ _ between last settling settles) (rises r (subst (λ (group : GroupView). ComesUp group n (Restart n image.items) r between.group) is_old (subst (λ (i : ℕ). ComesUp old.group i (Restart i image.items) r between.group) e comes)))
       where
         later : HasWaited n w again
         later = waits w shows
@@ -268,7 +270,7 @@ module _ {S A : Type 0} (g : Ghosts S A) (n : ℕ) where
         same-group again last.group after (ap (λ (a : Housed). a.group) ends.0 ∙ is_old)
         (waited left again after waits (at-world left w after shows (gives-unread g (w.node n) before after fault gives (ap is_down down.1) store)))
 
-    -- from the stage where a submit or an arrival leads
+    -- from the stage after a submit or an arrival
     taken-turn : (p : ℕ) (event : Event) (first : GroupView) (r : Result (Taken Global) Refusal) (new : Stage) → p ≡ n → event_node event ≡ p → IsQuiet event → Takes first p event r left
         → Stores g before (taken_stage r) after new → Ending new → IsStoreAt g n first before → IsStoreAt g n last.group after
     taken-turn p event first (Ok (taken.Same answer)) new e f is takes stores ends h =
@@ -279,7 +281,7 @@ module _ {S A : Type 0} (g : Ghosts S A) (n : ℕ) where
 
   -- ---- a restart
 
-  -- what was answered of the node's state
+  -- the answer about the node's state
   is-down : (w : World) (p : ℕ) → Some state.Down ≡ cond (is_node w.size.n p) (Some (state_of (w.node p).state)) None → (is_node w.size.n p ≡ true) × ((o : Option Entry) × ((w.node p).state ≡ part.Down o))
   is-down w p e = at (is_node w.size.n p) (w.node p).state refl refl
     where
@@ -291,35 +293,35 @@ module _ {S A : Type 0} (g : Ghosts S A) (n : ℕ) where
 
   -- ---- the whole turn
 
-  module _ (before after : S) (lent given_back again last : Housed) (at new : Stage) (events : ℕ) (said : Told Global) (status : Option Status) (told : Option Lists) (count : ℕ) where
+  module _ (before after : S) (lent given_back again last : Housed) (at new : Stage) (events : ℕ) (said : Told Global) (status : Option Status) (settling : Published) (count : ℕ) where
     abbrev Keeps_ : Job → Type 0
     Keeps_ j =
-        runs_at n j ≡ true → Begins lent j given_back at events → Stores g before at after new → Ends again j new last said status told count
+        runs_at n j ≡ true → Begins lent j given_back at events → Stores g before at after new → Ends again j new last said status settling count
         → IsStoreAt g n lent.group before → Waits n given_back.group again.group → IsStoreAt g n last.group after
 
     pub turn-keeps : (j : Job) → Keeps_ j
     turn-keeps (job.Submit p client number payload) runs (r, takes, counts, is, rest) stores ends h waits =
-        taken-turn (job.Submit p client number payload) before after given_back.group again.group last again refl said status told count waits
+        taken-turn (job.Submit p client number payload) before after given_back.group again.group last again refl said status settling count waits
         p (Submit p (record { client = client; number = number; payload = payload.items })) lent.group r new (eqb-true p n runs) refl tt takes (subst (λ (s : Stage). Stores g before s after new) is stores) ends h
     turn-keeps (job.Arrive p bytes) runs (r, takes, counts, is, rest) stores ends h waits =
-        taken-turn (job.Arrive p bytes) before after given_back.group again.group last again refl said status told count waits
+        taken-turn (job.Arrive p bytes) before after given_back.group again.group last again refl said status settling count waits
         p (Arrive p (packet_of bytes.items)) lent.group r new (eqb-true p n runs) refl tt takes (subst (λ (s : Stage). Stores g before s after new) is stores) ends h
     turn-keeps (job.Tick p) runs (Ok packets, ticks, counts, is, rest) stores ends h waits =
         let stored = subst (λ (s : Stage). Stores g before s after new) is stores in
-        ends-still (job.Tick p) before after given_back.group again.group last again refl said status told count waits _ stored.0
-        (subst (λ (s : Stage). Ends again (job.Tick p) s last said status told count) stored.1 ends) (quiet lent.group given_back.group (Tick p) _ before tt ticks h)
+        ends-still (job.Tick p) before after given_back.group again.group last again refl said status settling count waits _ stored.0
+        (subst (λ (s : Stage). Ends again (job.Tick p) s last said status settling count) stored.1 ends) (quiet lent.group given_back.group (Tick p) _ before tt ticks h)
     turn-keeps (job.Tick p) runs (Err refused, ticks, counts, is, rest) stores ends h waits =
         let stored = subst (λ (s : Stage). Stores g before s after new) is stores in
-        ends-still (job.Tick p) before after given_back.group again.group last again refl said status told count waits _ stored.0
-        (subst (λ (s : Stage). Ends again (job.Tick p) s last said status told count) stored.1 ends) (same-group lent.group given_back.group before ticks.1 h)
+        ends-still (job.Tick p) before after given_back.group again.group last again refl said status settling count waits _ stored.0
+        (subst (λ (s : Stage). Ends again (job.Tick p) s last said status settling count) stored.1 ends) (same-group lent.group given_back.group before ticks.1 h)
     turn-keeps (job.Crash p) runs (Ok done, crashes, counts, is, rest) stores ends h waits =
         let stored = subst (λ (s : Stage). Stores g before s after new) is stores in
-        ends-still (job.Crash p) before after given_back.group again.group last again refl said status told count waits _ stored.0
-        (subst (λ (s : Stage). Ends again (job.Crash p) s last said status told count) stored.1 ends) (quiet lent.group given_back.group (Crash p) _ before tt crashes h)
+        ends-still (job.Crash p) before after given_back.group again.group last again refl said status settling count waits _ stored.0
+        (subst (λ (s : Stage). Ends again (job.Crash p) s last said status settling count) stored.1 ends) (quiet lent.group given_back.group (Crash p) _ before tt crashes h)
     turn-keeps (job.Crash p) runs (Err refused, crashes, counts, is, rest) stores ends h waits =
         let stored = subst (λ (s : Stage). Stores g before s after new) is stores in
-        ends-still (job.Crash p) before after given_back.group again.group last again refl said status told count waits _ stored.0
-        (subst (λ (s : Stage). Ends again (job.Crash p) s last said status told count) stored.1 ends) (same-group lent.group given_back.group before crashes.1 h)
+        ends-still (job.Crash p) before after given_back.group again.group last again refl said status settling count waits _ stored.0
+        (subst (λ (s : Stage). Ends again (job.Crash p) s last said status settling count) stored.1 ends) (same-group lent.group given_back.group before crashes.1 h)
     turn-keeps (job.Restart p) runs (s, answers, same, is, rest) stores ends h waits =
         restarted s (answers h.world h.shows) (subst (λ (t : Stage). Stores g before t after new) is stores)
       where
@@ -331,22 +333,22 @@ module _ {S A : Type 0} (g : Ghosts S A) (n : ℕ) where
 
         refused : (r : Told Global) → (after ≡ before) × (new ≡ stage.Answered r) → IsStoreAt g n last.group after
         refused r stored =
-            ends-still (job.Restart p) before after given_back.group again.group last again refl said status told count waits r stored.0
-            (subst (λ (s : Stage). Ends again (job.Restart p) s last said status told count) stored.1 ends) still
+            ends-still (job.Restart p) before after given_back.group again.group last again refl said status settling count waits r stored.0
+            (subst (λ (s : Stage). Ends again (job.Restart p) s last said status settling count) stored.1 ends) still
 
         restarted : (s : Option State) → s ≡ cond (is_node h.world.size.n p) (Some (state_of (h.world.node p).state)) None → Stores g before (restart_stage s) after new → IsStoreAt g n last.group after
         restarted (Some state.Down) e (r, gives, leads) =
             let found = is-down h.world p e in
-            read (job.Restart p) before after given_back.group again.group last again refl said status told count waits r here h.world
+            read (job.Restart p) before after given_back.group again.group last again refl said status settling count waits r here h.world
             (subst (λ (group : GroupView). Shows group h.world) (sym (ap (λ (a : Housed). a.group) same)) h.shows)
             (subst (λ (i : ℕ). (o : Option Entry) × ((h.world.node i).state ≡ part.Down o)) here found.1) (subst (λ (i : ℕ). is_node h.world.size.n i ≡ true) here found.0)
-            (h.contents, h.lasting) gives (subst (λ (s : Stage). Ends again (job.Restart p) s last said status told count) leads ends)
+            (h.contents, h.lasting) gives (subst (λ (s : Stage). Ends again (job.Restart p) s last said status settling count) leads ends)
         restarted (Some state.Ready) e stored = refused _ stored
         restarted (Some state.Storing) e stored = refused _ stored
         restarted None e stored = refused _ stored
     turn-keeps (job.Status p) runs (same, is, rest) stores ends h waits =
         let stored = subst (λ (s : Stage). Stores g before s after new) is stores in
-        let last_is = subst (λ (s : Stage). Ends again (job.Status p) s last said status told count) stored.1 ends in
+        let last_is = subst (λ (s : Stage). Ends again (job.Status p) s last said status settling count) stored.1 ends in
         same-store last.group before after stored.0
         (same-group again.group last.group before (ap (λ (a : Housed). a.group) last_is.0)
         (waited given_back.group again.group before waits (same-group lent.group given_back.group before (ap (λ (a : Housed). a.group) same) h)))

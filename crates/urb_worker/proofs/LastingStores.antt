@@ -1,4 +1,5 @@
--- One node and its store, whatever the store answers: as a cluster's stores, and where the node fell meanwhile.
+-- One node and its store, whatever the store answers: as one of a cluster's stores, and after the
+-- node fell meanwhile.
 use Rattle.std.proofs.Common.{Bool, Err, List, None, Ok, Option, Result, Some, [], ap, false, inl, inr, refl, subst, sym, true, ℕ, ◌++◌, ◌∙◌, ◌∷◌, ◌≡◌, ◌⊎◌, ⊎_elim}
 use Rattle.std.proofs.lemmas.Bool.{false≢true}
 use Rattle.urb_group.proofs.SecuredClusters.{IsLastingOf, lasting-honest, lasting-known, read-honest}
@@ -17,7 +18,7 @@ use Rattle.urb_stable.specs.Storing.{IsContents}
 use Rattle.urb_stable.specs.declared.stable.Stable.{Ghosts}
 use Rattle.urb_stable.specs.declared.stable.StoreFault.{StoreFault}
 
--- a node that stays is down if it was
+-- a node that stays is down if it was down
 still-down : (old new : Node) → Stays old new → is_down old.state ≡ true → is_down new.state ≡ true
 still-down old new s down = at (is_down new.state) refl
   where
@@ -30,7 +31,7 @@ module _ {S A : Type 0} (g : Ghosts S A) where
   pub honest-up : (node : Node) (store : S) → IsLasting g node store → is_down node.state ≡ false → g.is_clean store → g.is_honest store
   honest-up node store h up clean = ⊎_elim (λ honest. honest) (λ shut. absurd (false≢true (sym up ∙ shut.1))) (h.known clean)
 
-  -- where the store was asked for its records, a stop leaves no more than before
+  -- if the store was asked for its records, a stop leaves no more than before
   pub asked-still : (node : Node) (before after : S) (answer : Result (List Entry) StoreFault) → Gives g before answer after → IsLasting g node before → g.is_clean after → LeavesOf g node after
   asked-still node before after answer gives h clean = record { certain = was.certain; doubtful = was.doubtful; only = gives.lasts clean was.certain was.doubtful was.only; may = was.may }
     where
@@ -46,7 +47,8 @@ module _ {S A : Type 0} (g : Ghosts S A) where
     },
   )
 
-  -- inside a call that asks the store of a node that is up to keep a draft, a stop leaves the node's records, or these with the draft's
+  -- A store of a node that is up is asked to keep a draft. A stop inside this call leaves the
+  -- node's records, or these and the draft's record.
   pub left-of-draft : (node : Node) (before after : S) (draft : Placed) (answer : Result (Unit {0}) StoreFault) → Keeps g before draft answer after → IsLastingOf g node before → is_down node.state ≡ false
       → g.is_clean after → g.leaves_only after (IsContents node.records (Some draft.entry))
   left-of-draft node before after draft answer keeps h up clean = left-by-draft g node before after draft answer keeps h.0 up (honest-up node before h.1 up (keeps.clean clean)) clean

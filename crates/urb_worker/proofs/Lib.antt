@@ -7,3 +7,4 @@ pub mod Waiting
 pub mod KeptTurns
 pub mod Turned
 pub mod Others
+pub mod Changes

@@ -1,4 +1,4 @@
--- What a turn makes of the nodes of other workers, and what a stored record says of its store.
+-- What a turn does to the nodes of other workers, and what a stored record says about its store.
 use Rattle.std.proofs.Common.{Bool, Err, List, None, Ok, Option, Result, Some, Vec, ap, eqb-true, false, inl, inr, refl, subst, sym, true, ℕ, ◌++◌, ◌-◌, ◌==◌, ◌∙◌, ◌∷◌, [], ◌≡◌, ◌≢◌, ◌⊎◌, ⊎_elim}
 use Rattle.std.proofs.lemmas.Bool.{false≢true, ne_eqb}
 use Rattle.std.specs.declared.alloc.Global.{Global}
@@ -26,7 +26,6 @@ use Rattle.urb_node.specs.Part.{Node}
 use Rattle.urb_node.specs.Replies.{Done}
 use Rattle.urb_node.specs.Shown.{ShowsNode}
 use Rattle.urb_show.specs.Housed.{Housed}
-use Rattle.urb_show.specs.Lists.{Lists}
 use Rattle.urb_show.specs.declared.status.Status.{Status}
 use Rattle.urb_stable.specs.Answering.{answer_of}
 use Rattle.urb_stable.specs.Doubted.{Doubted}
@@ -38,6 +37,7 @@ use Rattle.urb_stable.specs.declared.stable.StoreFault.{StoreFault}
 use Rattle.urb_worker.proofs.KeptTurns.{settled_group}
 use Rattle.urb_worker.proofs.Waiting.{waited-stays, waits-crash, waits-event, waits-none, waits-on, waits-same}
 use Rattle.urb_worker.specs.Jobs.{node_of, runs_at}
+use Rattle.urb_worker.specs.Settlings.{Published}
 use Rattle.urb_worker.specs.Stages.{crash_stage, image_stage, kept_stage, restart_stage, state_reply, status_reply, taken_stage, tick_stage}
 use Rattle.urb_worker.specs.Turns.{Begins, Ends, IsKeptOf, Stores}
 use Rattle.urb_worker.specs.Whole.{HasWaited, IsTurn, LeavesAt, Waits}
@@ -84,20 +84,20 @@ module _ (n m : ℕ) (other : n ≢ m) where
   rises-wait old new p image (Ok done) here h = waits-event n old new (Restart p image) _ (apart-from n m p other here) h
   rises-wait old new p image (Err e) here h = waits-same n old new h.1
 
-module _ {S A : Type 0} (g : Ghosts S A) (n m : ℕ) (other : n ≢ m) (before after : S) (j : Job) (runs : runs_at m j ≡ true) (again left : Housed) (said : Reply Global) (status : Option Status) (told : Option Lists) (count : ℕ) where
+module _ {S A : Type 0} (g : Ghosts S A) (n m : ℕ) (other : n ≢ m) (before after : S) (j : Job) (runs : runs_at m j ≡ true) (again left : Housed) (said : Reply Global) (status : Option Status) (settling : Published) (count : ℕ) where
   abbrev Ending : Stage → Type 0
-  Ending at = Ends again j at left said status told count
+  Ending at = Ends again j at left said status settling count
 
   kept-wait : (draft : Placed) (r : Result Placed Doubted) → draft.node ≡ m → IsKeptOf draft r → Ending (kept_stage r) → Waits n again.group left.group
   kept-wait draft (Ok receipt) here is (r, between, commits, counts, settles, is_said, is_status, is_count) =
       waits-on n again.group between.group left.group (commits-wait n m other again.group between.group receipt r (ap (λ (d : Placed). d.node) is ∙ here) commits)
-      (waits-same n between.group left.group (settled_group _ _ between left told settles))
+      (waits-same n between.group left.group (settled_group _ _ between left settling settles))
   kept-wait draft (Err doubt) here is (r, fails, counts, is_said, is_status, is_told, is_count) = fails-wait n m other again.group left.group doubt.node r (is ∙ here) fails
 
   image-wait : (r : Result (Vec Entry Global) StoreFault) → node_of j ≡ m → Ending (image_stage r) → Waits n again.group left.group
   image-wait (Ok image) here (r, between, rises, counts, settles, is_said, is_status, is_count) =
       waits-on n again.group between.group left.group (rises-wait n m other again.group between.group (node_of j) image.items r here rises)
-      (waits-same n between.group left.group (settled_group _ _ between left told settles))
+      (waits-same n between.group left.group (settled_group _ _ between left settling settles))
   image-wait (Err fault) here ends = waits-same n again.group left.group (ap (λ (h : Housed). h.group) ends.0)
 
   answered-wait : (r : Reply Global) → Ending (stage.Answered r) → Waits n again.group left.group
@@ -114,38 +114,38 @@ module _ {S A : Type 0} (g : Ghosts S A) (n m : ℕ) (other : n ≢ m) (before a
   restart-wait (Some state.Storing) t here stores ends = answered-wait _ (subst Ending stores.1 ends)
   restart-wait None t here stores ends = answered-wait _ (subst Ending stores.1 ends)
 
-ends-wait : {S A : Type 0} (g : Ghosts S A) (n m : ℕ) → n ≢ m → (before after : S) (j : Job) → runs_at m j ≡ true → (lent given_back again left : Housed) (at t : Stage) (events count : ℕ) (said : Reply Global) (status : Option Status) (told : Option Lists)
-    → Begins lent j given_back at events → Stores g before at after t → Ends again j t left said status told count → Waits n again.group left.group
-ends-wait g n m other before after (job.Submit p client number payload) runs lent given_back again left at t events count said status told (r, takes, counts, is, rest) stores ends =
-    taken-wait g n m other before after (job.Submit p client number payload) runs again left said status told count p (Submit p (record { client = client; number = number; payload = payload.items })) lent.group given_back.group r t (eqb-true p m runs) takes
+ends-wait : {S A : Type 0} (g : Ghosts S A) (n m : ℕ) → n ≢ m → (before after : S) (j : Job) → runs_at m j ≡ true → (lent given_back again left : Housed) (at t : Stage) (events count : ℕ) (said : Reply Global) (status : Option Status) (settling : Published)
+    → Begins lent j given_back at events → Stores g before at after t → Ends again j t left said status settling count → Waits n again.group left.group
+ends-wait g n m other before after (job.Submit p client number payload) runs lent given_back again left at t events count said status settling (r, takes, counts, is, rest) stores ends =
+    taken-wait g n m other before after (job.Submit p client number payload) runs again left said status settling count p (Submit p (record { client = client; number = number; payload = payload.items })) lent.group given_back.group r t (eqb-true p m runs) takes
     (subst (λ (s : Stage). Stores g before s after t) is stores) ends
-ends-wait g n m other before after (job.Arrive p bytes) runs lent given_back again left at t events count said status told (r, takes, counts, is, rest) stores ends =
-    taken-wait g n m other before after (job.Arrive p bytes) runs again left said status told count p (Arrive p (packet_of bytes.items)) lent.group given_back.group r t (eqb-true p m runs) takes
+ends-wait g n m other before after (job.Arrive p bytes) runs lent given_back again left at t events count said status settling (r, takes, counts, is, rest) stores ends =
+    taken-wait g n m other before after (job.Arrive p bytes) runs again left said status settling count p (Arrive p (packet_of bytes.items)) lent.group given_back.group r t (eqb-true p m runs) takes
     (subst (λ (s : Stage). Stores g before s after t) is stores) ends
-ends-wait g n m other before after (job.Tick p) runs lent given_back again left at t events count said status told (Ok packets, ticks, counts, is, rest) stores ends =
+ends-wait g n m other before after (job.Tick p) runs lent given_back again left at t events count said status settling (Ok packets, ticks, counts, is, rest) stores ends =
     let stored = subst (λ (s : Stage). Stores g before s after t) is stores in
-    answered-wait g n m other before after (job.Tick p) runs again left said status told count _ (subst (λ (s : Stage). Ends again (job.Tick p) s left said status told count) stored.1 ends)
-ends-wait g n m other before after (job.Tick p) runs lent given_back again left at t events count said status told (Err r, ticks, counts, is, rest) stores ends =
+    answered-wait g n m other before after (job.Tick p) runs again left said status settling count _ (subst (λ (s : Stage). Ends again (job.Tick p) s left said status settling count) stored.1 ends)
+ends-wait g n m other before after (job.Tick p) runs lent given_back again left at t events count said status settling (Err r, ticks, counts, is, rest) stores ends =
     let stored = subst (λ (s : Stage). Stores g before s after t) is stores in
-    answered-wait g n m other before after (job.Tick p) runs again left said status told count _ (subst (λ (s : Stage). Ends again (job.Tick p) s left said status told count) stored.1 ends)
-ends-wait g n m other before after (job.Crash p) runs lent given_back again left at t events count said status told (Ok done, crashes, counts, is, rest) stores ends =
+    answered-wait g n m other before after (job.Tick p) runs again left said status settling count _ (subst (λ (s : Stage). Ends again (job.Tick p) s left said status settling count) stored.1 ends)
+ends-wait g n m other before after (job.Crash p) runs lent given_back again left at t events count said status settling (Ok done, crashes, counts, is, rest) stores ends =
     let stored = subst (λ (s : Stage). Stores g before s after t) is stores in
-    answered-wait g n m other before after (job.Crash p) runs again left said status told count _ (subst (λ (s : Stage). Ends again (job.Crash p) s left said status told count) stored.1 ends)
-ends-wait g n m other before after (job.Crash p) runs lent given_back again left at t events count said status told (Err r, crashes, counts, is, rest) stores ends =
+    answered-wait g n m other before after (job.Crash p) runs again left said status settling count _ (subst (λ (s : Stage). Ends again (job.Crash p) s left said status settling count) stored.1 ends)
+ends-wait g n m other before after (job.Crash p) runs lent given_back again left at t events count said status settling (Err r, crashes, counts, is, rest) stores ends =
     let stored = subst (λ (s : Stage). Stores g before s after t) is stores in
-    answered-wait g n m other before after (job.Crash p) runs again left said status told count _ (subst (λ (s : Stage). Ends again (job.Crash p) s left said status told count) stored.1 ends)
-ends-wait g n m other before after (job.Restart p) runs lent given_back again left at t events count said status told (s, answers, same, is, rest) stores ends =
-    restart-wait g n m other before after (job.Restart p) runs again left said status told count s t (eqb-true p m runs) (subst (λ (u : Stage). Stores g before u after t) is stores) ends
-ends-wait g n m other before after (job.Status p) runs lent given_back again left at t events count said status told (same, is, rest) stores ends =
+    answered-wait g n m other before after (job.Crash p) runs again left said status settling count _ (subst (λ (s : Stage). Ends again (job.Crash p) s left said status settling count) stored.1 ends)
+ends-wait g n m other before after (job.Restart p) runs lent given_back again left at t events count said status settling (s, answers, same, is, rest) stores ends =
+    restart-wait g n m other before after (job.Restart p) runs again left said status settling count s t (eqb-true p m runs) (subst (λ (u : Stage). Stores g before u after t) is stores) ends
+ends-wait g n m other before after (job.Status p) runs lent given_back again left at t events count said status settling (same, is, rest) stores ends =
     let stored = subst (λ (s : Stage). Stores g before s after t) is stores in
     waits-same n again.group left.group
-    (ap (λ (h : Housed). h.group) (subst (λ (s : Stage). Ends again (job.Status p) s left said status told count) stored.1 ends).0)
+    (ap (λ (h : Housed). h.group) (subst (λ (s : Stage). Ends again (job.Status p) s left said status settling count) stored.1 ends).0)
 
 pub others-wait : {S A : Type 0} (g : Ghosts S A) (n m : ℕ) (j : Job) (before after : S) (came : FinishedView) (turn : IsTurn g j before after came) → runs_at m j ≡ true → n ≢ m
     → Waits n turn.lent.group turn.given_back.group × Waits n turn.lent_again.group turn.left.group
 others-wait g n m j before after came turn runs other = (
   begins-wait n m other j turn.lent turn.given_back turn.at turn.events runs turn.begins,
-  ends-wait g n m other before after j runs turn.lent turn.given_back turn.lent_again turn.left turn.at turn.new turn.events (came.events - turn.events) came.reply came.status came.told turn.begins turn.stores turn.finishes,
+  ends-wait g n m other before after j runs turn.lent turn.given_back turn.lent_again turn.left turn.at turn.new turn.events (came.events - turn.events) came.reply came.status came.settling turn.begins turn.stores turn.finishes,
 )
 
 -- ---- a stop while the node waits
@@ -176,7 +176,7 @@ all-survive group images sound each = (w, shows, survives w (sound-kept group w 
           nodes = λ p. subst (λ (l : Limits). ShowsNode l p (view_of group p) ((each p).0.node p)) (sym (each p).1.size) ((each p).1.nodes p);
         }
 
--- ---- a record that is told as stored
+-- ---- a record that is reported as stored
 
 -- what was drafted and kept is in the store
 pub record IsKeptIn {S A : Type 0} (g : Ghosts S A) (before after : S) (at new : Stage) : Type 0 where
@@ -185,9 +185,9 @@ pub record IsKeptIn {S A : Type 0} (g : Ghosts S A) (before after : S) (at new :
   pub kept : new ≡ stage.Kept draft
   pub certain : g.is_honest after → g.certain after ≡ g.certain before ++ draft.entry ∷ []
 
-module _ {S A : Type 0} (g : Ghosts S A) (before after : S) (j : Job) (again left : Housed) (status : Option Status) (told : Option Lists) (count : ℕ) (done : Done) where
+module _ {S A : Type 0} (g : Ghosts S A) (before after : S) (j : Job) (again left : Housed) (status : Option Status) (settling : Published) (count : ℕ) (done : Done) where
   abbrev StoredAt : Stage → Type 0
-  StoredAt t = Ends again j t left (reply.Stored done) status told count
+  StoredAt t = Ends again j t left (reply.Stored done) status settling count
 
   not-refused : (r : Refusal) → ◌≡◌ {A = Reply Global} (reply.Stored done) (reply.Refused r) → ⊥
   not-refused r e = cc
@@ -197,7 +197,7 @@ module _ {S A : Type 0} (g : Ghosts S A) (before after : S) (j : Job) (again lef
   kept-in at t draft (Err doubt) e f is keeps (Ok d, fails, counts, said, is_status, is_told, is_count) = absurd (not-refused _ said)
   kept-in at t draft (Err doubt) e f is keeps (Err r, fails, counts, said, is_status, is_told, is_count) = absurd (not-refused _ said)
 
-  -- in the other stages nothing is told as stored, where the job began with this reply
+  -- in the other stages no reply says that a record is stored, if the job began with this reply
   answered-not : (r : Reply Global) → (◌≡◌ {A = Reply Global} (reply.Stored done) r → ⊥) → StoredAt (stage.Answered r) → ⊥
   answered-not r other ends = other ends.1
 
@@ -206,49 +206,49 @@ module _ {S A : Type 0} (g : Ghosts S A) (before after : S) (j : Job) (again lef
   taken-in at t (Err r) e stores ends = absurd (answered-not (reply.Refused r) (λ f. cc) (subst StoredAt stores.1 ends))
   taken-in at t (Ok (taken.Store draft)) e (r, kept, keeps, leads) ends = kept-in at t draft r e leads kept keeps (subst StoredAt leads ends)
 
-pub stored-in : {S A : Type 0} (g : Ghosts S A) (before after : S) (j : Job) (lent given_back again left : Housed) (at t : Stage) (events count : ℕ) (status : Option Status) (told : Option Lists) (done : Done)
-    → Begins lent j given_back at events → Stores g before at after t → Ends again j t left (reply.Stored done) status told count → IsKeptIn g before after at t
-stored-in g before after (job.Submit p client number payload) lent given_back again left at t events count status told done (r, takes, counts, is, rest) stores ends =
-    taken-in g before after (job.Submit p client number payload) again left status told count done at t r is (subst (λ (s : Stage). Stores g before s after t) is stores) ends
-stored-in g before after (job.Arrive p bytes) lent given_back again left at t events count status told done (r, takes, counts, is, rest) stores ends =
-    taken-in g before after (job.Arrive p bytes) again left status told count done at t r is (subst (λ (s : Stage). Stores g before s after t) is stores) ends
-stored-in g before after (job.Tick p) lent given_back again left at t events count status told done (Ok packets, ticks, counts, is, rest) stores ends =
+pub stored-in : {S A : Type 0} (g : Ghosts S A) (before after : S) (j : Job) (lent given_back again left : Housed) (at t : Stage) (events count : ℕ) (status : Option Status) (settling : Published) (done : Done)
+    → Begins lent j given_back at events → Stores g before at after t → Ends again j t left (reply.Stored done) status settling count → IsKeptIn g before after at t
+stored-in g before after (job.Submit p client number payload) lent given_back again left at t events count status settling done (r, takes, counts, is, rest) stores ends =
+    taken-in g before after (job.Submit p client number payload) again left status settling count done at t r is (subst (λ (s : Stage). Stores g before s after t) is stores) ends
+stored-in g before after (job.Arrive p bytes) lent given_back again left at t events count status settling done (r, takes, counts, is, rest) stores ends =
+    taken-in g before after (job.Arrive p bytes) again left status settling count done at t r is (subst (λ (s : Stage). Stores g before s after t) is stores) ends
+stored-in g before after (job.Tick p) lent given_back again left at t events count status settling done (Ok packets, ticks, counts, is, rest) stores ends =
     let stored = subst (λ (s : Stage). Stores g before s after t) is stores in
-    let said = (subst (λ (s : Stage). Ends again (job.Tick p) s left (reply.Stored done) status told count) stored.1 ends).1 in
+    let said = (subst (λ (s : Stage). Ends again (job.Tick p) s left (reply.Stored done) status settling count) stored.1 ends).1 in
     absurd (cc)
-stored-in g before after (job.Tick p) lent given_back again left at t events count status told done (Err r, ticks, counts, is, rest) stores ends =
+stored-in g before after (job.Tick p) lent given_back again left at t events count status settling done (Err r, ticks, counts, is, rest) stores ends =
     let stored = subst (λ (s : Stage). Stores g before s after t) is stores in
-    let said = (subst (λ (s : Stage). Ends again (job.Tick p) s left (reply.Stored done) status told count) stored.1 ends).1 in
+    let said = (subst (λ (s : Stage). Ends again (job.Tick p) s left (reply.Stored done) status settling count) stored.1 ends).1 in
     absurd (cc)
-stored-in g before after (job.Crash p) lent given_back again left at t events count status told done (Ok down, crashes, counts, is, rest) stores ends =
+stored-in g before after (job.Crash p) lent given_back again left at t events count status settling done (Ok down, crashes, counts, is, rest) stores ends =
     let stored = subst (λ (s : Stage). Stores g before s after t) is stores in
-    let said = (subst (λ (s : Stage). Ends again (job.Crash p) s left (reply.Stored done) status told count) stored.1 ends).1 in
+    let said = (subst (λ (s : Stage). Ends again (job.Crash p) s left (reply.Stored done) status settling count) stored.1 ends).1 in
     absurd (cc)
-stored-in g before after (job.Crash p) lent given_back again left at t events count status told done (Err r, crashes, counts, is, rest) stores ends =
+stored-in g before after (job.Crash p) lent given_back again left at t events count status settling done (Err r, crashes, counts, is, rest) stores ends =
     let stored = subst (λ (s : Stage). Stores g before s after t) is stores in
-    let said = (subst (λ (s : Stage). Ends again (job.Crash p) s left (reply.Stored done) status told count) stored.1 ends).1 in
+    let said = (subst (λ (s : Stage). Ends again (job.Crash p) s left (reply.Stored done) status settling count) stored.1 ends).1 in
     absurd (cc)
-stored-in g before after (job.Restart p) lent given_back again left at t events count status told done (s, answers, same, is, rest) stores ends = restarted s (subst (λ (u : Stage). Stores g before u after t) is stores)
+stored-in g before after (job.Restart p) lent given_back again left at t events count status settling done (s, answers, same, is, rest) stores ends = restarted s (subst (λ (u : Stage). Stores g before u after t) is stores)
   where
     refused : (r : Refusal) → (after ≡ before) × (t ≡ stage.Answered (reply.Refused r)) → IsKeptIn g before after at t
-    refused r stored = absurd (answered-not g before after (job.Restart p) again left status told count done (reply.Refused r) (λ f. cc) (subst (λ (s : Stage). Ends again (job.Restart p) s left (reply.Stored done) status told count) stored.1 ends))
+    refused r stored = absurd (answered-not g before after (job.Restart p) again left status settling count done (reply.Refused r) (λ f. cc) (subst (λ (s : Stage). Ends again (job.Restart p) s left (reply.Stored done) status settling count) stored.1 ends))
 
     never-told : (r : Reply Global) → (◌≡◌ {A = Reply Global} (reply.Stored done) r → ⊥) → ◌≡◌ {A = Reply Global} (reply.Stored done) r → ⊥
     never-told r other said = other said
 
-    image : (r : Result (Vec Entry Global) StoreFault) → Ends again (job.Restart p) (image_stage r) left (reply.Stored done) status told count → ⊥
+    image : (r : Result (Vec Entry Global) StoreFault) → Ends again (job.Restart p) (image_stage r) left (reply.Stored done) status settling count → ⊥
     image (Ok i) (Ok up, between, comes, counts_, settles, said, is_status, is_count) = never-told (reply.Up p) (λ f. cc) said
     image (Ok i) (Err e, between, comes, counts_, settles, said, is_status, is_count) = never-told (reply.Refused e) (λ f. cc) said
     image (Err fault) (same_, said, is_status, is_told, is_count) = never-told (reply.Refused (refusal_of fault)) (λ f. cc) said
 
     restarted : (s : Option State) → Stores g before (restart_stage s) after t → IsKeptIn g before after at t
-    restarted (Some state.Down) (r, gives, leads) = absurd (image r (subst (λ (s : Stage). Ends again (job.Restart p) s left (reply.Stored done) status told count) leads ends))
+    restarted (Some state.Down) (r, gives, leads) = absurd (image r (subst (λ (s : Stage). Ends again (job.Restart p) s left (reply.Stored done) status settling count) leads ends))
     restarted (Some state.Ready) stored = refused refusal.NotDown stored
     restarted (Some state.Storing) stored = refused refusal.NotDown stored
     restarted None stored = refused refusal.BadNode stored
-stored-in g before after (job.Status p) lent given_back again left at t events count status told done (same, is, rest) stores ends =
+stored-in g before after (job.Status p) lent given_back again left at t events count status settling done (same, is, rest) stores ends =
     let stored = subst (λ (s : Stage). Stores g before s after t) is stores in
-    absurd (asked (subst (λ (s : Stage). Ends again (job.Status p) s left (reply.Stored done) status told count) stored.1 ends))
+    absurd (asked (subst (λ (s : Stage). Ends again (job.Status p) s left (reply.Stored done) status settling count) stored.1 ends))
   where
     states : (s : State) → ◌≡◌ {A = Reply Global} (reply.Stored done) (state_reply p s) → ⊥
     states state.Down e = cc
@@ -259,5 +259,5 @@ stored-in g before after (job.Status p) lent given_back again left at t events c
     of-status None e = cc
     of-status (Some o) e = states o.state e
 
-    asked : Ends again (job.Status p) stage.Asking left (reply.Stored done) status told count → ⊥
+    asked : Ends again (job.Status p) stage.Asking left (reply.Stored done) status settling count → ⊥
     asked e = of-status status e.2

@@ -1,4 +1,4 @@
--- Stores in their order, as loops take them up and put them down.
+-- Stores in their order, as loops take them from one list and put them into another.
 use Rattle.std.proofs.Common.{◌≡◌, ◌∙◌, ◌++◌, IfSome, List, [], ◌∷◌, None, Ok, Err, Option, Result, Some, append_assoc, ap, inr, sym, refl, map, reverse}
 use Rattle.std.proofs.Math.Logic.{∥∥₁_elim}
 use Rattle.std.proofs.Props.{props}
@@ -8,24 +8,24 @@ use Rattle.urb_worker.specs.Served.{AllThere, AreServed, IsLeftOf, Rests, Serves
 use Rattle.urb_worker.specs.Turns.{Stores}
 use Rattle.urb_worker.specs.declared.stages.Stage.{Stage}
 
--- a store that nobody took up
+-- a store that nobody took
 pub not_yet : {S A : Type 0} (g : Ghosts S A) (a : S) → IsLeftOf g a a
 not_yet g a = ∣ Rests a ∣₁
 
--- one turn more
+-- one more turn
 pub one_turn : {S A : Type 0} (g : Ghosts S A) (a b c : S) → IsLeftOf g a b → Turns g b c → IsLeftOf g a c
 one_turn g a b c so_far turn = ∥∥₁_elim so_far (hlevel props) (λ s. ∣ Works a b c s turn ∣₁)
 
--- a store that did one part of a turn
+-- a store that did its part of one turn
 pub one_part : {S A : Type 0} (g : Ghosts S A) (a c : S) (at new : Stage) → Stores g a at c new → IsLeftOf g a c
 one_part g a c at new part = ∣ Works a a c (Rests a) (inr (at, new, part)) ∣₁
 
--- stores that nobody took up
+-- stores that nobody took
 pub unserved : {S A : Type 0} (g : Ghosts S A) (stores : List S) → AreServed g stores stores
 unserved g [] = tt
 unserved g (store ∷ stores) = (not_yet g store, unserved g stores)
 
--- one more
+-- one more store
 pub one_more : {S A : Type 0} (g : Ghosts S A) (firsts lasts : List S) (first last : S) → AreServed g firsts lasts → IsLeftOf g first last → AreServed g (firsts ++ first ∷ []) (lasts ++ last ∷ [])
 one_more g [] [] first last so_far it = (it, tt)
 one_more g [] (b ∷ ys) first last so_far it = absurd so_far
@@ -55,12 +55,12 @@ map_push f (y ∷ ys) x = ap (λ rest. f y ∷ rest) (map_push f ys x)
 pub reverse_push : {X Y : Type 0} (f : X → Y) (xs : List X) (x : X) → reverse (map f (xs ++ x ∷ [])) ≡ f x ∷ reverse (map f xs)
 reverse_push f xs x = ap reverse (map_push f xs x) ∙ reverse-append (map f xs) (f x ∷ [])
 
--- one more is left, of what is told of each
+-- one more store is left, if f gives the stores of the list
 pub one_left : {S A W : Type 0} (g : Ghosts S A) (f : W → S) (ws : List W) (w : W) (lasts new : List S) (last : S) → AreServed g (map f ws) lasts → IsLeftOf g (f w) last
     → new ≡ lasts ++ last ∷ [] → AreServed g (map f (ws ++ w ∷ [])) new
 one_left g f ws w lasts new last so_far it is = rw (is, map_push f ws w) (one_more g (map f ws) lasts (f w) last so_far it)
 
--- the last of a list goes to the front of those that were taken
+-- the last one of a list goes to the front of those that were taken
 pub takes_up : {X Y : Type 0} (f : X → Y) (old rest whole : List Y) (xs : List X) (x : X) → old ≡ rest ++ f x ∷ [] → old ++ reverse (map f xs) ≡ whole → rest ++ reverse (map f (xs ++ x ∷ [])) ≡ whole
 takes_up f old rest whole xs x last so_far =
     ap (λ ys. rest ++ ys) (reverse_push f xs x)
@@ -68,7 +68,7 @@ takes_up f old rest whole xs x last so_far =
     ∙ ap (λ ys. ys ++ reverse (map f xs)) (sym last)
     ∙ so_far
 
--- what was taken last goes to the end of those that were put down
+-- the one that was taken last goes to the end of those that were put down
 pub puts_down : {X Y W : Type 0} (f : X → Y) (h : W → Y) (ws : List W) (w : W) (new : List W) (old rest : List X) (x : X) (whole : List Y) → new ≡ ws ++ w ∷ [] → old ≡ rest ++ x ∷ [] → h w ≡ f x
     → map h ws ++ reverse (map f old) ≡ whole → map h new ++ reverse (map f rest) ≡ whole
 puts_down f h ws w new old rest x whole put last same so_far =
@@ -84,7 +84,7 @@ there_push [] thread all = tt
 there_push (Ok first ∷ ws) thread all = there_push ws thread all
 there_push (Err left ∷ ws) thread all = absurd all
 
--- where something is kept one worker more has its thread
+-- if the lines are kept, one more worker has its thread
 pub with_thread : {T E L : Type 0} (kept : Option L) (ws new : List (Result T E)) (thread : T) → new ≡ ws ++ Ok thread ∷ [] → IfSome kept (λ _. AllThere ws) → IfSome kept (λ _. AllThere new)
 with_thread None ws new thread put all = tt
 with_thread (Some lines) ws new thread put all = rw put (there_push ws thread all)

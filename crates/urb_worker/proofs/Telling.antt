@@ -1,4 +1,4 @@
--- What is told of a request's job, by what came of it, is so.
+-- What a response says about a request's job, judged by the job's result, is true.
 use Rattle.std.proofs.Common.{Bool, Err, List, None, Ok, Option, Result, Some, Vec, [], ap, cond, false, find, inl, inr, length, nat_lt, not, refl, subst, sym, true, ℕ, ◌==◌, ◌∙◌, ◌∷◌, ◌≡◌, ⊎_elim, ◌⊎◌}
 use Rattle.std.proofs.lemmas.Bool.{cond_both, false≢true}
 use Rattle.std.specs.Prelude.{bytes_eq}
@@ -37,7 +37,6 @@ use Rattle.urb_node.specs.declared.answer.Answer.{Answer}
 use Rattle.urb_node.specs.declared.answer.Answer.TheVariants as answer
 use Rattle.urb_node.specs.declared.cause.Cause.{Cause}
 use Rattle.urb_show.specs.Housed.{Housed}
-use Rattle.urb_show.specs.Lists.{Lists}
 use Rattle.urb_show.specs.Statuses.{TellsStatus}
 use Rattle.urb_show.specs.declared.status.Status.{Status}
 use Rattle.urb_stable.specs.Doubted.{Doubted}
@@ -49,6 +48,7 @@ use Rattle.urb_stable.specs.declared.record.Record.TheVariants.{Cert, Pend, Pend
 use Rattle.urb_stable.specs.declared.stable.StoreFault.{StoreFault}
 use Rattle.urb_worker.specs.Desks.{DeskView, HasAccepted, HasCrashed, HasRestarted, IsJobOf, Tells, WasSo, Works, gone, told_of}
 use Rattle.urb_worker.specs.Jobs.{node_of}
+use Rattle.urb_worker.specs.Settlings.{Published}
 use Rattle.urb_worker.specs.Stages.{commit_reply, crash_stage, fail_reply, image_stage, kept_stage, restart_reply, restart_stage, status_reply, taken_stage}
 use Rattle.urb_worker.specs.Turns.{CameOf, Ends, Goes, IsKeptOf, IsOutcome}
 use Rattle.urb_worker.specs.declared.job.Job.{Job}
@@ -58,13 +58,13 @@ use Rattle.urb_worker.specs.declared.stages.Stage.TheVariants as stage
 
 -- ---- the draft of a submit
 
--- the record has this message
+-- the record carries this message
 abbrev Bears : Entry → Content → Type 0
 Bears (Pend x o) m = o ≡ m
 Bears (PendCert x o) m = o ≡ m
 Bears (Cert x) m = ⊥
 
--- what is held then, where this outcome drafts
+-- if this outcome drafts, the record that the node then holds carries this message
 abbrev DraftsIt : Content → Entry → Option Cause → Label → ℕ → Told × Node → Type 0
 DraftsIt m entry cause x pos outcome = outcome.0 ≡ Drafted x pos → outcome.1.state ≡ part.Storing entry cause → Bears entry m
 
@@ -112,7 +112,7 @@ borne (Cert y) x m o is h = absurd is
 named : (p : ℕ) (x : Label) → x.sender ≡ p → x ≡ name p x.seq
 named p x e = ap (λ (s : ℕ). name s x.seq) e
 
--- every world that a group shows has the same pairs stored
+-- all worlds that a group shows have the same stored pairs
 shown-alike : (group : GroupView) (v w : World) (p : ℕ) (x : Label) (m : Content) → Shows group v → Shows group w → HasStored v p x m → HasStored w p x m
 shown-alike group v w p x m first second h = (h.0, sym ((second.nodes p).pairs x m) ∙ ((first.nodes p).pairs x m ∙ h.1))
 
@@ -150,7 +150,7 @@ module _ (p : ℕ) (m : Content) where
       there : (w : World) → Shows new w → HasStored w p (name p done.name.seq) m
       there w shows = subst (λ (y : Label). HasStored w p y m) (named p done.name here.0) (shown-alike new first w p done.name m (steps sound.world sound.shows).shows shows here)
 
--- the message of a draft that a submit led to
+-- the message of a draft that a submit caused
 drafted-bears : (old new : GroupView) (p : ℕ) (m : Content) (draft : Placed) → IsSound old → Steps old (SubmitOf p m) (λ told. told ≡ Drafted (name_of draft.entry) draft.pos) new → draft.node ≡ p → HoldsDraft new draft
     → Bears draft.entry m
 drafted-bears old new p m draft sound steps here holds =
@@ -160,7 +160,7 @@ drafted-bears old new p m draft sound steps here holds =
     happened : Happens (SubmitOf p m) (λ told. told ≡ Drafted (name_of draft.entry) draft.pos) new sound.world
     happened = steps sound.world sound.shows
 
--- ---- what is told of a request
+-- ---- what a response says
 
 refused_tells : (p : ℕ) (asked : Asked) (number detail : ℕ) → Tells p asked (IsRefused number detail)
 refused_tells p (Submit c n b) number detail = tt
@@ -173,9 +173,9 @@ tells_as : (p : ℕ) (asked : Asked) (said answered : Reply Global) (status stat
 tells_as p asked said answered status state is was tells =
     subst (λ (s : Option Status). Tells p asked (told_of said s)) (sym was) (subst (λ (r : Reply Global). Tells p asked (told_of r state)) (sym is) tells)
 
-module _ (p : ℕ) (old new : Housed) (sound : IsSound old.group) (j : Job) (said : Reply Global) (status : Option Status) (told : Option Lists) (events : ℕ) where
+module _ (p : ℕ) (old new : Housed) (sound : IsSound old.group) (j : Job) (said : Reply Global) (status : Option Status) (settling : Published) (events : ℕ) where
   abbrev Ending : Stage → Type 0
-  Ending at = Ends old j at new said status told events
+  Ending at = Ends old j at new said status settling events
 
   refusal_ends : (asked : Asked) (r : Refusal) → Ending (stage.Answered (reply.Refused r)) → Tells p asked (told_of said status)
   refusal_ends asked r e = tells_as p asked said (reply.Refused r) status None e.1 e.2 (refused_tells p asked (number_of r) (detail_of r))
@@ -254,40 +254,40 @@ module _ (p : ℕ) (old new : Housed) (sound : IsSound old.group) (j : Job) (sai
       subst (λ (o : Option Status). Tells p IsStatus (told_of said o)) (sym was) (record { group = old.group; sound = sound; status = s; tells = tells; told = refl })
   asked_tells None was tells is = tells_as p IsStatus said (status_reply p None) status None is was tt
 
--- ---- whatever came of the job
+-- ---- any result of the job
 
-came_tells : (asked : Asked) (p : ℕ) (done : Job) (said : Reply Global) (status : Option Status) (told : Option Lists) → IsJobOf p asked done → CameOf done said status told → Tells p asked (told_of said status)
-came_tells (Submit c n bytes) p (job.Submit q of ranked payload) said status told is came =
+came_tells : (asked : Asked) (p : ℕ) (done : Job) (said : Reply Global) (status : Option Status) (settling : Published) → IsJobOf p asked done → CameOf done said status settling → Tells p asked (told_of said status)
+came_tells (Submit c n bytes) p (job.Submit q of ranked payload) said status settling is came =
     let begun = came.5 in
     let tells : Tells q (Submit of ranked payload.items) (told_of said status) =
-    submit_tells q came.1 came.2 came.4 (job.Submit q of ranked payload) said status told came.3 of ranked payload.items begun.0.group begun.1.group begun.5.0 came.0 begun.4 begun.5.1
+    submit_tells q came.1 came.2 came.4 (job.Submit q of ranked payload) said status settling came.3 of ranked payload.items begun.0.group begun.1.group begun.5.0 came.0 begun.4 begun.5.1
     (subst (λ (s : Stage). Goes s came.0) begun.5.3 begun.6) came.6 in
     subst (λ (i : ℕ). Tells i (Submit c n bytes) (told_of said status)) is.0
     (subst (λ (b : List ℕ). Tells q (Submit c n b) (told_of said status)) is.3
     (subst (λ (i : ℕ). Tells q (Submit c i payload.items) (told_of said status)) is.2
     (subst (λ (i : ℕ). Tells q (Submit i ranked payload.items) (told_of said status)) is.1 tells)))
-came_tells IsCrash p (job.Crash q) said status told is came =
+came_tells IsCrash p (job.Crash q) said status settling is came =
     let begun = came.5 in
     subst (λ (i : ℕ). Tells i IsCrash (told_of said status)) is
-    (crash_tells q came.1 came.2 came.4 (job.Crash q) said status told came.3 begun.0.group begun.1.group begun.5.0 came.0 begun.4 begun.5.1
+    (crash_tells q came.1 came.2 came.4 (job.Crash q) said status settling came.3 begun.0.group begun.1.group begun.5.0 came.0 begun.4 begun.5.1
     (subst (λ (s : Stage). Goes s came.0) begun.5.3 begun.6) came.6)
-came_tells IsRestart p (job.Restart q) said status told is came =
+came_tells IsRestart p (job.Restart q) said status settling is came =
     let begun = came.5 in
     subst (λ (i : ℕ). Tells i IsRestart (told_of said status)) is
-    (restart_tells q came.1 came.2 came.4 (job.Restart q) said status told came.3 begun.5.0 came.0 refl
+    (restart_tells q came.1 came.2 came.4 (job.Restart q) said status settling came.3 begun.5.0 came.0 refl
     (subst (λ (s : Stage). Goes s came.0) begun.5.3 begun.6) came.6)
-came_tells IsStatus p (job.Status q) said status told is came =
+came_tells IsStatus p (job.Status q) said status settling is came =
     let begun = came.5 in
     let asking : came.0 ≡ stage.Asking = subst (λ (s : Stage). Goes s came.0) begun.5.1 begun.6 in
-    let ended = subst (λ (s : Stage). Ends came.1 (job.Status q) s came.2 said status told came.3) asking came.6 in
+    let ended = subst (λ (s : Stage). Ends came.1 (job.Status q) s came.2 said status settling came.3) asking came.6 in
     subst (λ (i : ℕ). Tells i IsStatus (told_of said status)) is
-    (asked_tells q came.1 came.2 came.4 (job.Status q) said status told came.3 status refl ended.1 ended.2)
-came_tells asked p done said status told is came = absurd is
+    (asked_tells q came.1 came.2 came.4 (job.Status q) said status settling came.3 status refl ended.1 ended.2)
+came_tells asked p done said status settling is came = absurd is
 
-outcome_tells : (ran : Bool) (asked : Asked) (p : ℕ) (done : Job) (said : Reply Global) (status : Option Status) (told : Option Lists)
-    → IsJobOf p asked done → IsOutcome ran done said status told → Tells p asked (told_of said status)
-outcome_tells true asked p done said status told is came = came_tells asked p done said status told is came
-outcome_tells false asked p done said status told is out =
+outcome_tells : (ran : Bool) (asked : Asked) (p : ℕ) (done : Job) (said : Reply Global) (status : Option Status) (settling : Published)
+    → IsJobOf p asked done → IsOutcome ran done said status settling → Tells p asked (told_of said status)
+outcome_tells true asked p done said status settling is came = came_tells asked p done said status settling is came
+outcome_tells false asked p done said status settling is out =
     tells_as p asked said (reply.Refused refusal.BadNode) status None out.0 out.1 (refused_tells p asked (number_of refusal.BadNode) (detail_of refusal.BadNode))
 
 pub works_tells : (before after : DeskView) (asked : Asked) (said : Said) → Works before asked said after → Tells before.node asked said

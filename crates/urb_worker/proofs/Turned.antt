@@ -1,11 +1,10 @@
--- A turn from one stage to the next, and the whole of it.
+-- A turn from one stage to the next, and the whole turn.
 use Rattle.std.proofs.Common.{Bool, Err, Ok, Option, Result, Vec, ap, false, inl, inr, refl, subst, sym, true, ℕ, ◌-◌, ◌∙◌, ◌≡◌, ◌⊎◌, ⊎_elim}
 use Rattle.std.proofs.lemmas.Bool.{false≢true}
 use Rattle.std.specs.declared.alloc.Global.{Global}
 use Rattle.urb_group.specs.Shown.{IsSound}
 use Rattle.urb_group.specs.declared.reply.Reply.{Reply}
 use Rattle.urb_show.specs.Housed.{Housed}
-use Rattle.urb_show.specs.Lists.{Lists}
 use Rattle.urb_show.specs.declared.status.Status.{Status}
 use Rattle.urb_stable.specs.Doubted.{Doubted}
 use Rattle.urb_stable.specs.Entries.{Entry}
@@ -16,6 +15,7 @@ use Rattle.urb_worker.proofs.KeptTurns.{turn-keeps, turn-leaves}
 use Rattle.urb_worker.specs.Jobs.{runs_at}
 use Rattle.urb_worker.proofs.Served.{one_turn}
 use Rattle.urb_worker.specs.Served.{IsLeftOf, Turns}
+use Rattle.urb_worker.specs.Settlings.{Published}
 use Rattle.urb_worker.specs.Stages.{image_stage, is_stored, kept_stage}
 use Rattle.urb_worker.specs.Turns.{Begins, CameOf, Ends, Finishes, Goes, HasBegun, IsKeptOf, Stores}
 use Rattle.urb_worker.specs.Views.{FinishedView, TurnView}
@@ -78,9 +78,9 @@ module _ {S A : Type 0} (g : Ghosts S A) (before after : S) where
 
 -- ---- the end
 
-pub came_on : (old new : Housed) (j : Job) (at : Stage) (said : Reply Global) (status : Option Status) (told : Option Lists) (events : ℕ) → IsSound old.group → HasBegun j at
-    → Ends old j at new said status told events → CameOf j said status told
-came_on old new j at said status told events sound begun ends = (at, old, new, events, sound, begun, ends)
+pub came_on : (old new : Housed) (j : Job) (at : Stage) (said : Reply Global) (status : Option Status) (settling : Published) (events : ℕ) → IsSound old.group → HasBegun j at
+    → Ends old j at new said status settling events → CameOf j said status settling
+came_on old new j at said status settling events sound begun ends = (at, old, new, events, sound, begun, ends)
 
 module _ {S A : Type 0} (g : Ghosts S A) (n : ℕ) where
   pub whole : (j : Job) (before after : S) (done : FinishedView) (lent given_back again left : Housed) (begun stored : TurnView) → runs_at n j ≡ true → stored.job ≡ j → stored.events ≡ begun.events → IsSound left.group
@@ -102,21 +102,21 @@ module _ {S A : Type 0} (g : Ghosts S A) (n : ℕ) where
             };
         sound = sound;
         keeps = λ is waits.
-            turn-keeps g n before after lent given_back again left begun.stage stored.stage begun.events done.reply done.status done.told (done.events - begun.events) j runs begins stores finishes is waits;
+            turn-keeps g n before after lent given_back again left begun.stage stored.stage begun.events done.reply done.status done.settling (done.events - begun.events) j runs begins stores finishes is waits;
         leaves = λ is.
-            turn-leaves g n before after lent given_back again left begun.stage stored.stage begun.events done.reply done.status done.told (done.events - begun.events) j runs begins stores is;
+            turn-leaves g n before after lent given_back again left begun.stage stored.stage begun.events done.reply done.status done.settling (done.events - begun.events) j runs begins stores is;
       }
     where
-      finishes : Ends again j stored.stage left done.reply done.status done.told (done.events - begun.events)
+      finishes : Ends again j stored.stage left done.reply done.status done.settling (done.events - begun.events)
       finishes =
-          subst (λ (k : ℕ). Ends again j stored.stage left done.reply done.status done.told (done.events - k)) count
-          (subst (λ (i : Job). Ends again i stored.stage left done.reply done.status done.told (done.events - stored.events)) same ends)
+          subst (λ (k : ℕ). Ends again j stored.stage left done.reply done.status done.settling (done.events - k)) count
+          (subst (λ (i : Job). Ends again i stored.stage left done.reply done.status done.settling (done.events - stored.events)) same ends)
 
-  -- what the turn made of the store
+  -- what the turn did to the store
   pub does_turn : (runs : Bool) (j : Job) (before after : S) (done : FinishedView) → Does g n runs j before after done → Turns g before after
   does_turn true j before after done does = inr (does.turn.at, does.turn.new, does.turn.stores)
   does_turn false j before after done does = inl does.0
 
--- one job more
+-- one more job
 pub one_job : {S A : Type 0} (g : Ghosts S A) (a b c : S) (n : ℕ) (runs : Bool) (j : Job) (done : FinishedView) → IsLeftOf g a b → Does g n runs j b c done → IsLeftOf g a c
 one_job g a b c n runs j done so_far does = one_turn g a b c so_far (does_turn g n runs j b c done does)

@@ -1,4 +1,5 @@
--- A node to which nothing happened but a crash, and what an event says of a node that holds a draft or is down.
+-- A node to which nothing happened except a crash. And what an event says about a node that holds a
+-- draft or is down.
 use Rattle.std.proofs.Common.{Bool, Err, List, None, Ok, Option, Result, Some, ap, cond, eq-eqb, eqb-true, false, inl, inr, length, refl, subst, suc, sym, true, ℕ, ◌&&◌, ◌==◌, ◌∙◌, ◌≡◌, ◌⊎◌, ⊎_elim}
 use Rattle.std.proofs.lemmas.Bool.{and_from, cond-false, cond-true, cond_both}
 use Rattle.urb_group.proofs.CalmSteps.{event_node, step-elsewhere, step-size}
@@ -20,7 +21,7 @@ use Rattle.urb_stable.specs.Entries.{Entry}
 use Rattle.urb_stable.specs.Placed.{Placed}
 use Rattle.urb_worker.specs.Whole.{HasWaited, Waits}
 
--- ---- what one event says of its node
+-- ---- what one event says about its node
 
 reply-at : (w : World) (p : ℕ) (outcome : Reply × Node) → is_node w.size.n p ≡ true → (at_node w p outcome).0 ≡ outcome.0
 reply-at w p outcome there = ap (λ (o : Reply × World). o.0) (cond-true (is_node w.size.n p) (world_after w p outcome) (Refused refusal.BadNode, w) there)
@@ -36,7 +37,7 @@ pub record HoldsAt (w : World) (n : ℕ) (draft : Placed) : Type 0 where
   pub storing : (w.node n).state ≡ Storing draft.entry cause
   pub position : draft.pos ≡ suc (length (w.node n).records)
 
--- its receipt is taken
+-- the node takes the draft's receipt
 pub held-commits : (w : World) (n : ℕ) (draft : Placed) → HoldsAt w n draft → (told : Done) × ((step w (Commit n draft.pos draft.entry)).0 ≡ Stored told)
 unfolding step
 held-commits w n draft h = (
@@ -49,12 +50,12 @@ held-commits w n draft h = (
       (and_from (draft.pos == next_position (w.node n)) _ (eq-eqb draft.pos (next_position (w.node n)) h.position) (same_record-same draft.entry)))),
 )
 
--- its failure takes the node down
+-- the draft's failure takes the node down
 pub held-fails : (w : World) (n : ℕ) (draft : Placed) → HoldsAt w n draft → (step w (Fail n)).0 ≡ WentDown n
 unfolding step
 held-fails w n draft h = reply-at w n (fails n (w.node n) (w.node n).state) h.there ∙ ap (λ (s : State). (fails n (w.node n) s).0) h.storing
 
--- a node that is down takes no receipt, and no failure
+-- a node that is down takes no receipt and no failure
 pub down-commits : (w : World) (n : ℕ) (draft : Placed) (o : Option Entry) → is_node w.size.n n ≡ true → (w.node n).state ≡ Down o → (step w (Commit n draft.pos draft.entry)).0 ≡ Refused refusal.Down
 unfolding step
 down-commits w n draft o there down =
@@ -66,7 +67,7 @@ down-fails w n o there down = reply-at w n (fails n (w.node n) (w.node n).state)
 
 -- ---- a crash
 
--- of a node that holds a draft
+-- a crash of a node that holds a draft
 pub record FellWith (old new : Node) (draft : Placed) : Type 0 where
   pub records : new.records ≡ old.records
   pub down : new.state ≡ Down (Some draft.entry)
@@ -84,7 +85,7 @@ crash-held w n draft h =
         node-at w n (crashes n (w.node n)) h.there
         ∙ ap (λ (o : Reply × Node). o.1) (cond-false (is_down (w.node n).state) (refuses (w.node n) refusal.Down) (goes_down n (w.node n)) (ap is_down h.storing))
 
--- of a node that is down
+-- a crash of a node that is down
 pub crash-down : (w : World) (n : ℕ) → is_down (w.node n).state ≡ true → (step w (Crash n)).1.node n ≡ w.node n
 unfolding step
 crash-down w n down =
@@ -105,7 +106,7 @@ waited-stays n w later h =
 pub waited-there : (n : ℕ) (w : World) (later : GroupView) (h : HasWaited n w later) → is_node w.size.n n ≡ true → is_node h.world.size.n n ≡ true
 waited-there n w later h there = subst (λ (l : Limits). is_node l.n n ≡ true) (sym h.size) there
 
--- a node that held a draft holds it still, or fell with it
+-- a node that held a draft still holds it, or fell with it
 pub waited-held : (n : ℕ) (w : World) (later : GroupView) (draft : Placed) (h : HasWaited n w later) → HoldsAt w n draft → HoldsAt h.world n draft ⊎ FellWith (w.node n) (h.world.node n) draft
 waited-held n w later draft h held = ⊎_elim (λ e. inl (still e)) (λ e. inr (subst (λ (node : Node). FellWith (w.node n) node draft) (sym e) (crash-held w n draft held))) h.node
   where
@@ -118,15 +119,15 @@ waited-held n w later draft h held = ⊎_elim (λ e. inl (still e)) (λ e. inr (
           position = held.position ∙ ap (λ (node : Node). suc (length node.records)) (sym e);
         }
 
--- a node that was down is as it was
+-- a node that was down is unchanged
 pub waited-down : (n : ℕ) (w : World) (later : GroupView) (h : HasWaited n w later) → is_down (w.node n).state ≡ true → h.world.node n ≡ w.node n
 waited-down n w later h down = ⊎_elim (λ e. e) (λ e. e ∙ crash-down w n down) h.node
 
--- no time is waiting, and waiting goes on
+-- a node waits from a moment to the same moment, and waiting goes on
 pub waits-none : (n : ℕ) (group : GroupView) → Waits n group group
 waits-none n group w shows = record { world = w; shows = shows; size = refl; node = inl refl }
 
--- two crashes are one
+-- two crashes have the effect of one
 crashed-twice : (n : ℕ) (w v : World) → v.size ≡ w.size → v.node n ≡ (step w (Crash n)).1.node n → (step v (Crash n)).1.node n ≡ (step w (Crash n)).1.node n
 unfolding step
 crashed-twice n w v size e = at (is_node w.size.n n) refl
@@ -143,7 +144,7 @@ crashed-twice n w v size e = at (is_node w.size.n n) refl
     at false none =
         ap (λ (o : Reply × World). o.1.node n) (cond-false (is_node v.size.n n) (world_after v n (crashes n (v.node n))) (Refused refusal.BadNode, v) (in_v ∙ none)) ∙ e
 
--- a crash of a node that is the same
+-- a crash of an equal node
 crash-alike : (n : ℕ) (v w : World) → v.size ≡ w.size → v.node n ≡ w.node n → (step v (Crash n)).1.node n ≡ (step w (Crash n)).1.node n
 unfolding step
 crash-alike n v w size e = at (is_node w.size.n n) refl
@@ -175,7 +176,7 @@ waits-on n first second third earlier later w shows =
         crash-as : one.world.node n ≡ w.node n → (step one.world (Crash n)).1.node n ≡ (step w (Crash n)).1.node n
         crash-as f = crash-alike n one.world w one.size f
 
--- an event of another node, and a crash of any
+-- an event of another node, and a crash of any node
 pub waits-event : (n : ℕ) (old new : GroupView) (event : Event) (IsTold : Reply → Type 0) → (n == event_node event) ≡ false → Steps old event IsTold new → Waits n old new
 waits-event n old new event IsTold apart steps w shows =
     record { world = (step w event).1; shows = (steps w shows).shows; size = step-size w event; node = inl (step-elsewhere w event n apart) }

@@ -1,4 +1,4 @@
--- What a receiver asks of its worker.
+-- What a receiver asks its worker to do.
 use Rattle.std.specs.Prelude.{List, [], ◌∷◌, ℕ, ◌≡◌}
 use Rattle.urb_worker.specs.declared.job.Job.{Job}
 use Rattle.urb_worker.specs.declared.job.Job.TheVariants as job

@@ -2,10 +2,10 @@
 use Rattle.std.specs.Prelude.{List, ℕ, ◌+◌, length, sum_by}
 use Rattle.urb_worker.specs.declared.backlog.TheConstants.{KEEPING}
 
--- the room that a waiting datagram takes: its bytes, and what keeps them
+-- the room that a waiting datagram takes: its bytes, and the memory beside them
 abbrev pub room_of : List ℕ → ℕ
 room_of datagram = length datagram + KEEPING
 
--- the room that all of them take
+-- the room that all waiting datagrams take
 abbrev pub room_of_all : List (List ℕ) → ℕ
 room_of_all datagrams = sum_by room_of datagrams

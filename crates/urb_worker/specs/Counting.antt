@@ -1,13 +1,13 @@
--- How many events a House has counted.
+-- The number of events that a House has counted.
 use Rattle.std.specs.Prelude.{Result, Ok, Err, zero, suc, ℕ}
 use Rattle.urb_show.specs.Housed.{next_count}
 
--- how many events a call was: one, where it was not refused
+-- the number of events of a call: one, if it was not refused
 abbrev pub count_of : {T E : Type 0} → Result T E → ℕ
 count_of (Ok done) = 1
 count_of (Err refusal) = 0
 
--- the count after so many more events
+-- the count after a number of further events
 abbrev pub count_after : ℕ → ℕ → ℕ
 count_after zero events = events
 count_after (suc more) events = next_count (count_after more events)

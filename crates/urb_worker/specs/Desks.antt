@@ -25,6 +25,7 @@ use Rattle.urb_show.specs.Lists.{Lists, list_at}
 use Rattle.urb_show.specs.Statuses.{TellsStatus}
 use Rattle.urb_show.specs.declared.entry.Entry.{Entry}
 use Rattle.urb_show.specs.declared.status.Status.{Status}
+use Rattle.urb_worker.specs.Settlings.{Published, told_in}
 use Rattle.urb_worker.specs.Turns.{IsOutcome}
 use Rattle.urb_worker.specs.declared.job.Job.{Job}
 use Rattle.urb_worker.specs.declared.job.Job.TheVariants as job
@@ -34,18 +35,19 @@ pub record DeskView : Type 0 where
   pub node : ℕ
   pub known : Known
 
--- a refusal of which nothing more is known, as where the worker or the House is gone: the node is down
+-- The refusal that says nothing more than that the node is down. It is also the answer if the
+-- worker or the House is gone.
 abbrev pub gone : Said
 gone = Refused 3 0
 
--- a node's state, as clients are told it
+-- a node's state, as a response spells it
 abbrev pub told_state : State → NodeState
 told_state state.Down = told.Down
 told_state state.Ready = told.Ready
 told_state state.Storing = told.Storing
 
--- what a client is told of a reply: the number of its message, that it is done, or a refusal. The other replies come of no
--- request.
+-- The response for a reply: the number of the client's message, that the request is done, or a
+-- refusal. The other replies belong to no request.
 abbrev pub said_of : Reply Global → Said
 said_of (reply.Same (answer.Accepted x)) = Accepted x.seq
 said_of (reply.Same (answer.Noted x)) = gone
@@ -58,27 +60,28 @@ said_of (reply.Up p) = IsDone
 said_of (reply.Drafted x position) = gone
 said_of (reply.Sent packets) = gone
 
--- what a client is told of a turn: how the node is, where that was asked, and else of its reply
+-- the response for a turn: the node's status if the request asked for it, and else that of its
+-- reply
 abbrev pub told_of : Reply Global → Option Status → Said
 told_of said (Some status) = HasStatus (told_state status.state) status.own status.logged
 told_of said None = said_of said
 
--- an entry of a page, as clients are told it
+-- an entry of a page, as a response spells it
 abbrev pub pair_of : Entry → Label × Content
 pair_of entry = (entry.name, entry.message)
 
--- of a list the entries from this place on, at most so many
+-- the entries of a list from this place on, at most `max` of them
 abbrev pub part_of : List Entry → ℕ → ℕ → List (Label × Content)
 part_of list place max = map pair_of (take max (drop (place - 1) list))
 
--- A read was answered: the lists of one moment were taken, and of the desk's node's entries in them as many are told as a frame has
--- room for; or the House is gone.
+-- A read was answered. The lists of one moment were taken. The response has as many of the desk's
+-- node's entries in them as a frame has room for. Or the House is gone.
 abbrev pub Reads : DeskView → ℕ → ℕ → Said → DeskView → Type 0
 Reads before place max said after =
     (Takes before.known after.known × SaysPage (part_of (list_at after.known.seen (before.node - 1)) place max) said)
     ⊎ ((after.known ≡ before.known) × (said ≡ gone))
 
--- what a turn told, if anything, was learnt
+-- what a turn published, if anything, was learnt
 abbrev pub LearnsTold : Option Lists → Known → Known → Type 0
 LearnsTold None before after = after ≡ before
 LearnsTold (Some lists) before after = Learns lists before after
@@ -91,29 +94,29 @@ IsJobOf p IsCrash (job.Crash q) = q ≡ p
 IsJobOf p IsRestart (job.Restart q) = q ≡ p
 IsJobOf p asked other = ⊥
 
--- the worker is asked, as of all but a read
+-- the worker is asked; this is so for all requests but a read
 abbrev pub IsWork : Asked → Type 0
 IsWork (Read place max) = ⊥
 IsWork asked = Unit {0}
 
--- A turn of the worker with the request's job came back, and this is what came of it: what it told was learnt before its reply was
--- told. Or none came back.
+-- A turn of the worker with the request's job came back, and this is the result. The reader learnt
+-- what the turn published before its reply was given to the client. Or no turn came back.
 abbrev pub Works : DeskView → Asked → Said → DeskView → Type 0
 Works before asked said after =
-    ((done : Job) × (ran : Bool) × (answered : Reply Global) × (status : Option Status) × (lists : Option Lists)
-    × IsJobOf before.node asked done × IsOutcome ran done answered status lists
-    × LearnsTold lists before.known after.known × (said ≡ told_of answered status))
+    ((done : Job) × (ran : Bool) × (answered : Reply Global) × (status : Option Status) × (settling : Published)
+    × IsJobOf before.node asked done × IsOutcome ran done answered status settling
+    × LearnsTold (told_in settling) before.known after.known × (said ≡ told_of answered status))
     ⊎ ((after.known ≡ before.known) × (said ≡ gone))
 
--- ---- what was told is so
+-- ---- what a response says is true
 
--- node p has stored this message as its own under this number, at a moment of the House
+-- at some moment of the House, node p has stored this message as its own under this number
 pub record HasAccepted (p : ℕ) (m : Content) (seq : ℕ) : Type 0 where
   pub group : GroupView
   pub sound : IsSound group
   pub stored : (w : World) → Shows group w → HasStored w p (name p seq) m
 
--- node p was so, at a moment of the House
+-- at some moment of the House, node p had this status
 pub record WasSo (p : ℕ) (state : NodeState) (own logged : ℕ) : Type 0 where
   pub group : GroupView
   pub sound : IsSound group
@@ -121,14 +124,14 @@ pub record WasSo (p : ℕ) (state : NodeState) (own logged : ℕ) : Type 0 where
   pub tells : TellsStatus group p (Some status)
   pub told : HasStatus state own logged ≡ HasStatus (told_state status.state) status.own status.logged
 
--- node p crashed, at a moment of the House
+-- at some moment of the House, node p crashed
 pub record HasCrashed (p : ℕ) : Type 0 where
   pub before : GroupView
   pub after : GroupView
   pub sound : IsSound before
   pub crash : GoesDown before p (CrashOf p) (Ok tt) after
 
--- node p restarted with some image, at a moment of the House
+-- at some moment of the House, node p restarted with some image
 pub record HasRestarted (p : ℕ) : Type 0 where
   pub before : GroupView
   pub after : GroupView
@@ -136,8 +139,9 @@ pub record HasRestarted (p : ℕ) : Type 0 where
   pub sound : IsSound before
   pub restart : ComesUp before p (RestartOf p image) (Ok tt) after
 
--- What a request to node p may be told: a submit the number under which the node has stored this very message, a status how the node
--- was, a crash and a restart that they are done, and each of them a refusal.
+-- The responses that a request to node p may get. A submit gets the number under which the node has
+-- stored this very message. A status gets the node's status. A crash and a restart get that they
+-- are done. Each of them may get a refusal.
 abbrev pub Tells : ℕ → Asked → Said → Type 0
 Tells p asked (Refused number detail) = Unit {0}
 Tells p (Submit client number payload) (Accepted seq) =
@@ -147,14 +151,14 @@ Tells p IsCrash IsDone = HasCrashed p
 Tells p IsRestart IsDone = HasRestarted p
 Tells p asked said = ⊥
 
--- a desk answers a read by its reader alone, and all else by its node's worker
+-- A desk answers a read by its reader alone, and all other requests by its node's worker.
 abbrev pub AnswersAt : DeskView → Asked → Said → DeskView → Type 0
 AnswersAt before (Read place max) said after = (after.node ≡ before.node) × Reads before place max said after
 AnswersAt before asked said after =
     (after.node ≡ before.node) × Works before asked said after × Tells before.node asked said
 
--- what refused memory leaves of a desk: it has asked its worker nothing, and knows what it knew; of a read it may have taken the
--- lists already
+-- What refused memory leaves of a desk: it has asked its worker nothing, and knows what it knew. In
+-- a read it may have taken the lists already.
 abbrev pub RefusedAt : DeskView → Asked → DeskView → Type 0
 RefusedAt before (Read place max) after = (after.node ≡ before.node) × ((after.known ≡ before.known) ⊎ Takes before.known after.known)
 RefusedAt before asked after = after ≡ before

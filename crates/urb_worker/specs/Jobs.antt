@@ -3,7 +3,7 @@ use Rattle.std.specs.Prelude.{Bool, true, ℕ, ◌==◌}
 use Rattle.urb_worker.specs.declared.job.Job.{Job}
 use Rattle.urb_worker.specs.declared.job.Job.TheVariants as job
 
--- the node at which the job is to happen
+-- the node that the job is for
 abbrev pub node_of : Job → ℕ
 node_of (job.Submit p client number payload) = p
 node_of (job.Arrive p bytes) = p
@@ -12,7 +12,7 @@ node_of (job.Crash p) = p
 node_of (job.Restart p) = p
 node_of (job.Status p) = p
 
--- whether the worker of node p does the job: it is of p, or a crash
+-- whether the worker of node p does the job: it is for p, or a crash
 abbrev pub runs_at : ℕ → Job → Bool
 runs_at p (job.Submit q client number payload) = q == p
 runs_at p (job.Arrive q bytes) = q == p

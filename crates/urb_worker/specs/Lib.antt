@@ -1,8 +1,10 @@
 pub mod Jobs
 pub mod Counting
+pub mod Settlings
 pub mod Views
 pub mod Stages
 pub mod Turns
+pub mod Changes
 pub mod Whole
 pub mod Replies
 pub mod Served

@@ -1,4 +1,4 @@
--- What workers make of their nodes' stores, and in which order the stores stand.
+-- What workers do to their nodes' stores, and the order of the stores.
 use Rattle.std.specs.Prelude.{List, [], ◌∷◌, map, ℕ, zero, suc, ◌+◌, ◌≡◌, ◌⊎◌, Result, Ok, Err}
 use Rattle.urb_stable.specs.declared.stable.Stable.{Ghosts}
 use Rattle.urb_worker.specs.Turns.{Stores}
@@ -13,7 +13,7 @@ pub data Serves {S A : Type 0} (g : Ghosts S A) : S → S → Type 0 where
   Rests : (store : S) → Serves g store store
   Works : (first before after : S) → Serves g first before → Turns g before after → Serves g first after
 
--- the same, however it came about
+-- the same, by whatever turns
 abbrev pub IsLeftOf : {S A : Type 0} → Ghosts S A → S → S → Type 0
 IsLeftOf g first last = ∥ Serves g first last ∥₁
 
@@ -24,22 +24,22 @@ AreServed g [] (last ∷ lasts) = ⊥
 AreServed g (first ∷ firsts) [] = ⊥
 AreServed g (first ∷ firsts) (last ∷ lasts) = IsLeftOf g first last × AreServed g firsts lasts
 
--- what is told of each in a list
+-- the value of each one in a list
 abbrev pub each : {X Y : Type 0} → List X → (X → Y) → List Y
 each xs f = map f xs
 
--- what is told of one that is there, or of what it left
+-- the value of the one that is there, or of what it left
 abbrev pub in_either : {T E Y : Type 0} → Result T E → (T → Y) → (E → Y) → Y
 in_either (Ok there) f g = f there
 in_either (Err left) f g = g left
 
--- each is there, and none has left
+-- all are there: no one has left
 abbrev pub AllThere : {T E : Type 0} → List (Result T E) → Type 0
 AllThere [] = Unit {0}
 AllThere (Ok there ∷ more) = AllThere more
 AllThere (Err left ∷ more) = ⊥
 
--- so many numbers from the first one on
+-- the numbers from the first one on, as many as are asked for
 abbrev pub numbers_from : ℕ → ℕ → List ℕ
 numbers_from first zero = []
 numbers_from first (suc more) = first ∷ numbers_from (first + 1) more

@@ -1,5 +1,5 @@
 -- What a turn does with the House and with its node's store.
-use Rattle.std.specs.Prelude.{Bool, Err, List, MatchOption, MatchResult, None, Ok, Option, Result, Some, Vec, false, length, true, ℕ, ◌-◌, ◌≡◌, ◌⊎◌, ltb}
+use Rattle.std.specs.Prelude.{Bool, Err, List, MatchResult, None, Ok, Option, Result, Some, Vec, false, length, true, ℕ, ◌-◌, ◌≡◌, ◌⊎◌, ltb}
 use Rattle.std.specs.declared.alloc.Global.{Global}
 use Rattle.urb_names.specs.Carried.{Carried}
 use Rattle.urb_names.specs.Packets.{packet_of}
@@ -22,12 +22,12 @@ use Rattle.urb_group.specs.declared.reply.Reply.{Reply}
 use Rattle.urb_group.specs.declared.reply.Reply.TheVariants as reply
 use Rattle.urb_group.specs.declared.state.State.{State}
 use Rattle.urb_group.specs.declared.taken.Taken.{Taken}
-use Rattle.urb_show.specs.Housed.{Grew, Housed, IsEvent, Settled}
-use Rattle.urb_show.specs.Lists.{Lists}
+use Rattle.urb_show.specs.Housed.{Housed, IsEvent}
 use Rattle.urb_show.specs.Statuses.{TellsStatus}
 use Rattle.urb_show.specs.declared.status.Status.{Status}
 use Rattle.urb_worker.specs.Counting.{count_of}
 use Rattle.urb_worker.specs.Jobs.{node_of}
+use Rattle.urb_worker.specs.Settlings.{NothingNew, Published, Settles}
 use Rattle.urb_worker.specs.Stages.{commit_reply, crash_stage, fail_reply, image_stage, kept_stage, restart_reply, restart_stage, status_reply, taken_stage, tick_stage}
 use Rattle.urb_worker.specs.Views.{FinishedView, TurnView}
 use Rattle.urb_worker.specs.declared.job.Job.{Job}
@@ -35,14 +35,15 @@ use Rattle.urb_worker.specs.declared.job.Job.TheVariants as job
 use Rattle.urb_worker.specs.declared.stages.Stage.{Stage}
 use Rattle.urb_worker.specs.declared.stages.Stage.TheVariants as stage
 
--- a call of the House: it counts as one event and publishes nothing; or it was refused, and nothing changed
+-- A call of the House: it counts as one event and publishes nothing. Or it was refused, and nothing
+-- changed.
 abbrev pub Counts : {T E : Type 0} → Result T E → Housed → Housed → Type 0
 Counts result old new = MatchResult result (λ done. IsEvent old new) (λ refused. new ≡ old)
 
 -- ---- before the store
 
--- the job's event in the House, and where the turn stands after it and how many events it was; none for a restart, whose store is
--- asked first if its node is down, and for a status
+-- The job's event in the House, the turn's stage after it, and its number of events. A restart and
+-- a status have no event here: if its node is down, a restart asks the store first.
 abbrev pub Begins : Housed → Job → Housed → Stage → ℕ → Type 0
 Begins old (job.Submit p client number payload) new at events =
     (r : Result (Taken Global) Refusal)
@@ -67,17 +68,17 @@ Begins old (job.Status p) new at events = (new ≡ old) × (at ≡ stage.Asking)
 
 -- ---- the store's part
 
--- what keeping a draft gave is of this draft
+-- the result of keeping a draft belongs to this draft
 abbrev pub IsKeptOf : Placed → Result Placed Doubted → Type 0
 IsKeptOf draft result = MatchResult result (λ receipt. receipt ≡ draft) (λ doubt. doubt.node ≡ draft.node)
 
--- what retrieving gave, as its records
+-- the result of retrieving, as its records
 abbrev pub records_of : Result (Vec Entry Global) StoreFault → Result (List Entry) StoreFault
 records_of (Ok image) = Ok image.items
 records_of (Err fault) = Err fault
 
 module _ {S A : Type 0} (g : Ghosts S A) where
-  -- a draft is kept, an image is retrieved, and in all other stages the store is not asked
+  -- A draft is kept, or an image is retrieved. In all other stages the store is not asked.
   abbrev pub Stores : S → Stage → S → Stage → Type 0
   Stores before (stage.Drafted draft) after new =
       (r : Result Placed Doubted) × IsKeptOf draft r × Keeps g before draft (answer_of r) after × (new ≡ kept_stage r)
@@ -92,7 +93,7 @@ module _ {S A : Type 0} (g : Ghosts S A) where
 
 -- ---- after the store
 
--- how many names node p has delivered
+-- the number of names that node p has delivered
 abbrev pub logged : GroupView → ℕ → ℕ
 logged group p = length (view_of group p).log
 
@@ -101,65 +102,63 @@ abbrev pub has_released : Result Done (Placed × Refusal) → Bool
 has_released (Ok done) = ltb 0 done.released
 has_released (Err refused) = false
 
--- Where names of p were released, the House settled p, and this was told of it, or memory was refused to that. Else it
--- stays, and nothing is told.
-abbrev pub Settles : Bool → ℕ → Housed → Housed → Option Lists → Type 0
-Settles true p before after told = MatchOption told (Grew (p - 1) before after) (λ lists. Settled (p - 1) before after lists)
-Settles false p before after told = (after ≡ before) × (told ≡ None)
-
--- the last event in the House of a turn that stands so, and what comes of it: its reply, how the node is where that was
--- asked, what was told of a settling, and how many events it was
-abbrev pub Ends : Housed → Job → Stage → Housed → Reply Global → Option Status → Option Lists → ℕ → Type 0
-Ends old job (stage.Kept receipt) new said status told events =
+-- The last event in the House of a turn in this stage, and its results. The results are the reply,
+-- and the node's status if the job asked for it; what became of the names that the turn released;
+-- and the number of events.
+abbrev pub Ends : Housed → Job → Stage → Housed → Reply Global → Option Status → Published → ℕ → Type 0
+Ends old job (stage.Kept receipt) new said status settling events =
     (r : Result Done (Placed × Refusal)) × (between : Housed)
     × Commits old.group receipt r between.group × Counts r old between
-    × Settles (has_released r) receipt.node between new told
+    × Settles (has_released r) receipt.node between new settling
     × (said ≡ commit_reply r) × (status ≡ None) × (events ≡ count_of r)
-Ends old job (stage.Doubtful doubt) new said status told events =
+Ends old job (stage.Doubtful doubt) new said status settling events =
     (r : Result (Unit {0}) Refusal)
     × GoesDown old.group doubt.node (Fail doubt.node) r new.group × Counts r old new
-    × (said ≡ fail_reply doubt.fault r) × (status ≡ None) × (told ≡ None) × (events ≡ count_of r)
-Ends old job (stage.Retrieved image) new said status told events =
+    × (said ≡ fail_reply doubt.fault r) × (status ≡ None) × (settling ≡ NothingNew) × (events ≡ count_of r)
+Ends old job (stage.Retrieved image) new said status settling events =
     (r : Result (Unit {0}) Refusal) × (between : Housed)
     × ComesUp old.group (node_of job) (Restart (node_of job) image.items) r between.group × Counts r old between
-    × Settles (ltb (logged old.group (node_of job)) (logged between.group (node_of job))) (node_of job) between new told
+    × Settles (ltb (logged old.group (node_of job)) (logged between.group (node_of job))) (node_of job) between new settling
     × (said ≡ restart_reply (node_of job) r) × (status ≡ None) × (events ≡ count_of r)
-Ends old job (stage.Unread fault) new said status told events =
-    (new ≡ old) × (said ≡ reply.Refused (refusal_of fault)) × (status ≡ None) × (told ≡ None) × (events ≡ 0)
-Ends old job stage.Asking new said status told events =
+Ends old job (stage.Unread fault) new said status settling events =
+    (new ≡ old) × (said ≡ reply.Refused (refusal_of fault)) × (status ≡ None) × (settling ≡ NothingNew) × (events ≡ 0)
+Ends old job stage.Asking new said status settling events =
     (new ≡ old) × TellsStatus old.group (node_of job) status
-    × (said ≡ status_reply (node_of job) status) × (told ≡ None) × (events ≡ 0)
-Ends old job (stage.Answered answer) new said status told events =
-    (new ≡ old) × (said ≡ answer) × (status ≡ None) × (told ≡ None) × (events ≡ 0)
-Ends old job (stage.Drafted draft) new said status told events = ⊥
-Ends old job stage.Retrieving new said status told events = ⊥
+    × (said ≡ status_reply (node_of job) status) × (settling ≡ NothingNew) × (events ≡ 0)
+Ends old job (stage.Answered answer) new said status settling events =
+    (new ≡ old) × (said ≡ answer) × (status ≡ None) × (settling ≡ NothingNew) × (events ≡ 0)
+Ends old job (stage.Drafted draft) new said status settling events = ⊥
+Ends old job stage.Retrieving new said status settling events = ⊥
 
--- the turn ends so, after the events that it was before
+-- the turn ends in this way, after the events that it had before
 abbrev pub Finishes : Housed → TurnView → Housed → FinishedView → Type 0
 Finishes old turn new finished =
-    Ends old turn.job turn.stage new finished.reply finished.status finished.told (finished.events - turn.events)
+    Ends old turn.job turn.stage new finished.reply finished.status finished.settling (finished.events - turn.events)
 
 -- ---- the whole of a turn, whatever its store is
 
--- from the stage before the store's part to a stage that it may be in then
+-- from the stage before the store's part to a stage that the turn may have after it, whatever its
+-- store is
 abbrev pub Goes : Stage → Stage → Type 0
 Goes (stage.Drafted draft) after = (after ≡ stage.Drafted draft) ⊎ ((r : Result Placed Doubted) × IsKeptOf draft r × (after ≡ kept_stage r))
 Goes stage.Retrieving after = (after ≡ stage.Retrieving) ⊎ ((r : Result (Vec Entry Global) StoreFault) × (after ≡ image_stage r))
 Goes before after = after ≡ before
 
--- a turn of this job began at a moment of the House, and stands so
+-- a turn of this job began at some moment of the House, and is in this stage
 abbrev pub HasBegun : Job → Stage → Type 0
 HasBegun job after =
     (old new : Housed) × (at : Stage) × (events : ℕ)
     × IsSound old.group × Begins old job new at events × Goes at after
 
--- a turn of this job began at a moment of the House, its store did its part, and it ended so at a later one
-abbrev pub CameOf : Job → Reply Global → Option Status → Option Lists → Type 0
-CameOf job said status told =
+-- A turn of this job began at a moment of the House. Its store did its part, and the turn ended
+-- with these results at a later moment.
+abbrev pub CameOf : Job → Reply Global → Option Status → Published → Type 0
+CameOf job said status settling =
     (at : Stage) × (old new : Housed) × (events : ℕ)
-    × IsSound old.group × HasBegun job at × Ends old job at new said status told events
+    × IsSound old.group × HasBegun job at × Ends old job at new said status settling events
 
--- what came of a job: of its turn, where it ran; else it is refused as one of no such node
-abbrev pub IsOutcome : Bool → Job → Reply Global → Option Status → Option Lists → Type 0
-IsOutcome true job said status told = CameOf job said status told
-IsOutcome false job said status told = (said ≡ reply.Refused refusal.BadNode) × (status ≡ None) × (told ≡ None)
+-- The outcome of a job. If it ran, these are its turn's results. Otherwise it is refused in the way
+-- that a job for a missing node is.
+abbrev pub IsOutcome : Bool → Job → Reply Global → Option Status → Published → Type 0
+IsOutcome true job said status settling = CameOf job said status settling
+IsOutcome false job said status settling = (said ≡ reply.Refused refusal.BadNode) × (status ≡ None) × (settling ≡ NothingNew)

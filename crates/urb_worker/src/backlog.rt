@@ -1,4 +1,4 @@
-//! The backlog of a receiver: datagrams that wait for room in the channel of its worker.
+//! The backlog of a receiver: datagrams that wait for room in its worker's channel.
 
 ghost use Rattle.std.specs.Prelude.{◌≡◌, ◌≤◌, ◌+◌, ◌↔◌, [], ◌∷◌, ◌++◌, IfErr, IsTrue, MatchOption, OnErr, OnOk};
 ghost use Rattle.urb_worker.specs.Backlogs.{room_of, room_of_all};
@@ -7,15 +7,16 @@ use std::alloc::Global;
 use std::collections::VecDeque;
 use std::marker::Model;
 
-/// How much room the datagrams of a backlog take together at most, in bytes.
+/// The most room that the datagrams of a backlog take together, in bytes.
 pub const BACKLOG: usize = 4_194_304;
 
-/// How much room a datagram takes beside its bytes, in bytes: its place in the queue, which may have twice the places that it needs,
-/// and what the allocator adds to a block. So empty datagrams have a bound too.
+/// The room that a datagram takes beside its bytes, in bytes. It covers its place in the queue,
+/// which may have twice the places that it needs, and what the allocator adds to a block. So empty
+/// datagrams are bounded too.
 pub const KEEPING: usize = 64;
 
-/// Datagrams that wait, the oldest first. The bound is on the room that they take, not on their number: one has from no bytes to
-/// more than 16,000.
+/// Datagrams that wait, the oldest first. The bound is on the room that they take, not on their
+/// number: a datagram has from no bytes to more than 16,000.
 #[derive(Drop)]
 pub struct Backlog {
     waiting: VecDeque<Vec<u8>>,
@@ -36,7 +37,7 @@ impl Model for Backlog {
 }
 
 impl Backlog {
-    /// Nothing waits. Takes no memory.
+    /// An empty backlog. Takes no memory.
     pub fn new(alloc: Global) -> Backlog
         ensures { result ≡ [] }
     {
@@ -46,7 +47,8 @@ impl Backlog {
         }
     }
 
-    /// How much room the waiting datagrams take, in bytes: each its length and `KEEPING`. At most `BACKLOG`.
+    /// The room that the waiting datagrams take, in bytes: for each, its length and `KEEPING`. At
+    /// most `BACKLOG`.
     pub fn bytes(&self) -> usize
         ensures exact { result ≡ room_of_all self.now }
         ensures bound { result ≤ BACKLOG }
@@ -69,8 +71,8 @@ impl Backlog {
         length <= free && KEEPING <= free - length
     }
 
-    /// Has a datagram wait, behind all others. It is handed back if there is no room for it or memory is refused, and nothing has
-    /// changed then.
+    /// Puts a datagram behind all others. If there is no room for it, or memory is refused, the
+    /// datagram is handed back and nothing has changed.
     pub fn push(&mut self, datagram: Vec<u8>) -> Result<(), Vec<u8>>
         ensures last { OnOk result (self.new ≡ self.old ++ datagram.items ∷ []) }
         ensures room { OnOk result (room_of_all self.old + room_of datagram.items ≤ BACKLOG) }
@@ -90,7 +92,7 @@ impl Backlog {
         }
     }
 
-    /// Takes the datagram that has waited longest; none if nothing waits.
+    /// Takes the datagram that has waited longest. `None` if nothing waits.
     pub fn pop(&mut self) -> Option<Vec<u8>>
         ensures { MatchOption result ((self.old ≡ []) × (self.new ≡ []))
             (λ datagram. self.old ≡ datagram.items ∷ self.new) }

@@ -1,10 +1,11 @@
-//! The desk of a running node: it passes requests on to the node's worker, and reads by itself.
+//! The desk of a running node: it passes requests to the node's worker, and does reads itself.
 
 ghost use Rattle.std.specs.Prelude.{◌≡◌, ◌⊎◌, ◌≤◌, ◌↔◌, IfOk, IsTrue, OnErr, length};
 ghost use Rattle.urb_client.specs.Requests.{asked_by};
 ghost use Rattle.urb_client.specs.Responses.{said_by};
 ghost use Rattle.urb_show.specs.Known.{Takes};
 ghost use Rattle.urb_worker.specs.Desks.{IsJobOf, IsWork, LearnsTold, Reads, Tells, Works, told_of};
+ghost use Rattle.urb_worker.specs.Settlings.{told_in};
 
 use crate::responses::{nobody, page_told, told};
 use crate::{Finished, Job, Ticket};
@@ -16,8 +17,9 @@ use urb_client::{Desk, Request, Response};
 use urb_names::{NoMemory, NodeId};
 use urb_show::{HouseName, LogReader, ReadFault, Told};
 
-/// Answers the requests of clients at one node. It has a reader of its own, which learns what the worker tells: so a client
-/// that was told of a message reads it. One desk serves one session after another.
+/// Answers the requests of clients at one node. A desk has a reader of its own, which learns what
+/// the worker published. So a client that got a response about a message can read the message. One
+/// desk serves one session after another.
 #[derive(Drop)]
 pub struct NodeDesk<'a, K: HouseName, R: Wait> {
     rt: &'a R,
@@ -39,7 +41,7 @@ impl<'a, K: HouseName, R: Wait> Model for NodeDesk<'a, K, R> {
 }
 
 impl<'a, K: HouseName, R: Wait> NodeDesk<'a, K, R> {
-    /// The desk of a node, whose worker is at the other end of the line.
+    /// The desk of a node. Its worker is at the other end of `line`, the worker's queue.
     pub fn new(
         rt: &'a R,
         alloc: Global,
@@ -83,7 +85,7 @@ impl<'a, K: HouseName, R: Wait> NodeDesk<'a, K, R> {
         }
     }
 
-    // What comes of a job, from the worker; none where it is gone.
+    // The worker's result of a job. `None` if the worker is gone.
     fn finished(&self, job: Job) -> Result<Option<Finished<K>>, NoMemory> {
         let (to, from) = crossbeam_channel::bounded(self.alloc, 1)?;
         let ticket = Ticket {
@@ -97,7 +99,7 @@ impl<'a, K: HouseName, R: Wait> NodeDesk<'a, K, R> {
         }
     }
 
-    // Learns what a turn told, if anything.
+    // Learns what a turn published, if anything.
     fn learn(&mut self, lists: Option<Told<K>>)
         ensures node { self.new.node ≡ self.old.node }
         ensures learnt { LearnsTold lists self.old.known self.new.known }
@@ -108,10 +110,10 @@ impl<'a, K: HouseName, R: Wait> NodeDesk<'a, K, R> {
         }
     }
 
-    // What is told of a turn, once what it told was learnt.
+    // The response for a turn, after the reader has learnt what the turn published.
     fn answered(&mut self, finished: Finished<K>) -> Response
         ensures node { self.new.node ≡ self.old.node }
-        ensures learnt { LearnsTold finished.told self.old.known self.new.known }
+        ensures learnt { LearnsTold (told_in finished.settling) self.old.known self.new.known }
         ensures said { said_by result ≡ told_of finished.reply finished.status }
     {
         let (reply, status, lists) = finished.into_parts();
@@ -119,8 +121,9 @@ impl<'a, K: HouseName, R: Wait> NodeDesk<'a, K, R> {
         told(&reply, status)
     }
 
-    // What is told of a request by what came back of its job, which is learnt first; nobody does it where nothing came back, or
-    // what came back is of another job.
+    // Turns the worker's result into the client's response, after the reader has learnt what was
+    // published. If there is no result, or the result is of another job, the response is the
+    // refusal `Down`.
     fn come_of(&mut self, request: &Request, came: Option<Finished<K>>) -> Response
         ensures node { self.new.node ≡ self.old.node }
         ensures works { Works self.old (asked_by request.now) (said_by result) self.new }
@@ -137,7 +140,7 @@ impl<'a, K: HouseName, R: Wait> NodeDesk<'a, K, R> {
         }
     }
 
-    // Has the worker do what a request asks, and learns what it tells.
+    // Has the worker do what a request asks, and learns what the worker published.
     fn work(&mut self, request: &Request) -> Result<Response, NoMemory>
         requires { IsWork (asked_by request.now) }
         ensures answered { IfOk result (λ response. (self.new.node ≡ self.old.node)

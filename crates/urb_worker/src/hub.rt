@@ -15,7 +15,8 @@ use urb_names::{NoMemory, NodeId};
 use urb_show::{House, HouseName};
 use urb_stable::Stable;
 
-/// Is asked before a store is to keep a draft, while nobody is kept from the House: for tests that hold a store.
+/// A worker asks it before its store keeps a draft, and holds no lock meanwhile. Tests use it to
+/// hold a store back.
 pub trait Gate {
     fn before_store(&self, node: NodeId);
 }
@@ -28,13 +29,15 @@ impl Gate for OpenGate {
     fn before_store(&self, _node: NodeId) {}
 }
 
-/// The House, lent to one worker at a time. It isn't `Drop`, as the House isn't: `close` ends it.
+/// The House, lent to one worker at a time. It isn't `Drop`, because the House isn't: `close` ends
+/// it.
 pub struct Hub<K: HouseName, L: HubName> {
     tallied: Mutex<TalliedHouse<K, L>>,
 }
 
 impl<K: HouseName, L: HubName> Hub<K, L> {
-    /// A Hub of the House, and a tally for each node's worker. Refused, the House comes back.
+    /// A Hub of the House, and a tally for each node's worker. If memory is refused, the House
+    /// comes back.
     pub fn new(
         alloc: Global,
         house: House<K>,
@@ -59,9 +62,12 @@ impl<K: HouseName, L: HubName> Hub<K, L> {
         Ok((Hub { tallied }, tallies))
     }
 
-    /// Does one job at a node's worker, with the node's store. The House is lent for its two events alone: nobody is kept
-    /// from it while the store works. The turn says of which houses these events were, and what the store did in between: from a
-    /// reply that a record is stored follows that this store took it, and the store stays that of the node. Where nothing is asked of the store, both are done at once.
+    /// Does one job at a node's worker, with the node's store. The House is lent only for the job's
+    /// two events: the lock is free while the store works. If the job needs nothing from the store,
+    /// both events are done at once.
+    ///
+    /// The turn says which houses these events took and left, and what the store did in between. If
+    /// the reply is that a record is stored, this store took it. The store stays that of the node.
     pub fn work<S: Stable<Alloc = Global>, G: Gate, R: Wait>(
         &self,
         rt: &R,
@@ -75,7 +81,7 @@ impl<K: HouseName, L: HubName> Hub<K, L> {
         ensures job { result.0.job ≡ job }
         ensures ran { result.0.ran ≡ runs_at node job }
         ensures tally { result.1 ≡ tally + result.0.events }
-        // What the turn did to the House and to the store; of a job that doesn't run here nothing.
+        // What the turn did to the House and to the store: nothing if the job doesn't run here.
         ensures turn { Does S.Stable node (runs_at node job) job store.old store.new result.0 }
     {
         if !job.runs_at(node) {
@@ -100,7 +106,8 @@ impl<K: HouseName, L: HubName> Hub<K, L> {
         (finished, tally)
     }
 
-    /// The House, once all workers have ended. It has counted the events that the tallies tell, up to its greatest count.
+    /// The House, once all workers have ended. It has counted the events that the tallies report,
+    /// up to its greatest count.
     pub fn close(self, tallies: Vec<Tally<L>>) -> House<K>
         requires { vec_len tallies ≡ L.parts }
         ensures counted { result.events ≡ count_after (sum tallies.items) L.start }

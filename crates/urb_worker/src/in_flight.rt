@@ -6,20 +6,22 @@ use std::sync::atomic::{AtomicBool, AtomicU64, Ordering};
 use std::thread;
 use std::time::{Clock, Duration};
 
-/// How much may be in flight to one node before its senders wait, in bytes. Linux gives a socket 212,992 bytes at first and counts
-/// up to twice a datagram's length against them. So what is in flight fits with a margin.
+/// How much may be in flight to one node before its senders wait, in bytes. Linux gives a socket
+/// 212,992 bytes at first, and counts up to twice a datagram's length against them. So what is in
+/// flight fits with a margin.
 pub const MOST_IN_FLIGHT: u64 = 65_536;
 
-/// How much a datagram counts for beside its bytes: what the system adds to a short one is less.
+/// What a datagram counts for beside its bytes, in bytes. The system adds less than this to a short
+/// one.
 pub const CARRYING: u64 = 1_024;
 
-// How long a sender sleeps before it looks again, in microseconds.
+// How long a sender sleeps before it checks again, in microseconds.
 const PAUSE: u64 = 100;
 
-// How often a sender looks for room before it sends none the less.
+// How often a sender checks for room before it sends anyway.
 const PATIENCE: u32 = 1_000;
 
-// How much a datagram of this length counts for.
+// What a datagram of this length counts for.
 fn load_of(length: usize) -> u64
     requires { length < 2 ^ 63 }
     ensures { result ≡ length + CARRYING }
@@ -27,16 +29,18 @@ fn load_of(length: usize) -> u64
     length as u64 + CARRYING
 }
 
-// Whether so much more fits beside what is in flight.
+// Whether this load fits beside what is in flight.
 fn fits(there: u64, load: u64) -> bool
     ensures { IsTrue result ↔ (there + load ≤ MOST_IN_FLIGHT) }
 {
     load <= MOST_IN_FLIGHT && there <= MOST_IN_FLIGHT - load
 }
 
-/// Counts what is in flight to one node, so that its senders wait before they send more than its socket has room for. Senders
-/// add to the count and the node's one receiver takes from it. A datagram that was lost stays counted until the receiver finds its
-/// socket empty. One that somebody else sent takes off what it counts for, but never more than is there.
+/// Counts what is in flight to one node, so that its senders wait before they send more than its
+/// socket has room for. Senders add to the count, and the node's one receiver subtracts.
+///
+/// A datagram that was lost stays counted until the receiver finds its socket empty. A datagram
+/// that somebody else sent is subtracted too, but never more than the count.
 #[derive(Drop)]
 pub struct InFlight {
     load: AtomicU64,
@@ -57,7 +61,7 @@ impl InFlight {
         self.load.load(Ordering::SeqCst)
     }
 
-    // Counts so much more if it fits, and says whether it did.
+    // Adds this load to the count if it fits, and says whether it did.
     fn admit(&self, load: u64) -> bool {
         let there = self.load();
         fits(there, load)
@@ -67,9 +71,10 @@ impl InFlight {
                 .is_ok()
     }
 
-    /// Counts a datagram of this length that is about to be sent. It waits while there is no room for it, but at most a tenth of a
-    /// second, or somewhat more where the machine is busy. After a wait in vain nobody waits until the receiver takes a datagram
-    /// again: so a node that stands still holds the others up once.
+    /// Counts a datagram of this length that is about to be sent. It waits while there is no room
+    /// for it, for at most a tenth of a second, or somewhat more if the machine is busy. After a
+    /// wait that found no room, nobody waits until the receiver takes a datagram again. So a node
+    /// that stands still holds the others up only once.
     pub fn enter<R: Clock>(&self, rt: &R, length: usize)
         requires { length < 2 ^ 63 }
     {
@@ -87,17 +92,18 @@ impl InFlight {
         self.load.fetch_add(load, Ordering::SeqCst);
     }
 
-    /// From now on nobody waits, until the receiver takes a datagram again. A receiver says so when it ends.
+    /// From now on nobody waits, until the receiver takes a datagram again. A receiver calls this
+    /// when it ends.
     pub fn give_up(&self) {
         self.is_stuck.store(true, Ordering::SeqCst);
     }
 
-    // Takes off so much, or all that there is.
+    // Subtracts this load, or all that is counted if that is less.
     fn take_off(&self, load: u64) {
         self.load.fetch_sub(load.min(self.load()), Ordering::SeqCst);
     }
 
-    /// Takes off a datagram of this length, which the receiver has taken.
+    /// Subtracts a datagram of this length, which the receiver has taken.
     pub fn leave(&self, length: usize)
         requires { length < 2 ^ 63 }
     {
@@ -107,7 +113,8 @@ impl InFlight {
         }
     }
 
-    /// Takes off what was in flight before the receiver found its socket empty: all of that was taken or lost.
+    /// Subtracts what was in flight before the receiver found its socket empty. All of that was
+    /// taken or lost.
     pub fn settle(&self, seen: u64) {
         self.take_off(seen);
     }

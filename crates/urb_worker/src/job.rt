@@ -1,11 +1,11 @@
-//! What a worker is asked to do.
+//! What a worker can be asked to do.
 
 ghost use Rattle.std.specs.Prelude.{◌≡◌};
 ghost use Rattle.urb_worker.specs.Jobs.{node_of, runs_at};
 
 use urb_names::{ClientId, NodeId};
 
-/// One thing that is to happen at a node, as a client, a link, a timer or an operator asks for it.
+/// One thing to do at a node, for a client, a link, a timer or an operator.
 #[derive(Debug, Drop)]
 pub enum Job {
     /// A client sends a message to the node.
@@ -15,7 +15,7 @@ pub enum Job {
         number: u32,
         payload: Vec<u8>,
     },
-    /// Bytes come to the node, whatever they are.
+    /// Bytes arrive at the node. Any bytes may come.
     Arrive {
         node: NodeId,
         bytes: Vec<u8>,
@@ -24,14 +24,14 @@ pub enum Job {
     Tick(NodeId),
     /// The node stops, and loses what it has not stored. Any worker may do it.
     Crash(NodeId),
-    /// The node, which is down, comes back with what its store gives.
+    /// The node, which is down, restarts with what its store gives back.
     Restart(NodeId),
-    /// How the node is. It is no event.
+    /// Asks for the node's status. It is no event.
     Status(NodeId),
 }
 
 impl Job {
-    /// The node at which it is to happen.
+    /// The node that the job is for.
     pub fn node(&self) -> NodeId
         ensures { result ≡ node_of self.now }
     {
@@ -45,7 +45,7 @@ impl Job {
         }
     }
 
-    /// Whether the worker of a node does the job: it is of this node, or a crash.
+    /// Whether the worker of a node does the job: the job is for this node, or is a crash.
     pub fn runs_at(&self, node: NodeId) -> bool
         ensures { result ≡ runs_at node self.now }
     {

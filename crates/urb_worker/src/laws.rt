@@ -1,33 +1,58 @@
-//! What follows of turns, one after the other and side by side: for proofs alone, since these functions do nothing.
+//! What follows from turns, one after the other and side by side.
+//!
+//! These functions are for proofs alone, since they do nothing.
 
 ghost use Rattle.std.specs.Prelude.{◌≡◌, ◌≢◌, ◌++◌, ◌∷◌, [], List, Some, slice_get, suc, true, ℕ};
 ghost use Rattle.std.specs.declared.alloc.Global.{Global};
+ghost use Rattle.urb_names.specs.declared.refusal.Refusal.TheVariants.{Stale};
+ghost use Rattle.urb_stable.specs.Doubted.{Doubted};
 ghost use Rattle.urb_stable.specs.Entries.{Entry};
 ghost use Rattle.urb_stable.specs.Placed.{Placed};
+ghost use Rattle.urb_stable.specs.Storing.{refusal_of};
 ghost use Rattle.urb_node.specs.Replies.{Done};
 ghost use Rattle.urb_group.specs.Clustered.{Clustered};
 ghost use Rattle.urb_group.specs.Shown.{GroupView, IsSound, Shows};
 ghost use Rattle.urb_group.specs.Stocked.{IsSecured};
 ghost use Rattle.urb_group.specs.Stopping.{GoesOnIn, MayLeave};
 ghost use Rattle.urb_group.specs.World.{World};
-ghost use Rattle.urb_group.specs.declared.reply.Reply.TheVariants.{Stored};
+ghost use Rattle.urb_group.specs.declared.reply.Reply.TheVariants.{Refused, Stored};
+ghost use Rattle.urb_worker.specs.Changes.{HasChanged, change_of};
 ghost use Rattle.urb_worker.specs.Jobs.{runs_at};
 ghost use Rattle.urb_worker.specs.Views.{FinishedView};
 ghost use Rattle.urb_worker.specs.Whole.{IsStoreAt, IsTurn, LeavesAt, Waits};
+ghost use Rattle.urb_worker.specs.declared.change.Change.{Change};
+ghost use Rattle.urb_worker.specs.declared.change.Change.TheVariants.{Failed};
 ghost use Rattle.urb_worker.specs.declared.job.Job.{Job};
-ghost use Rattle.urb_worker.specs.declared.stages.Stage.TheVariants.{Drafted, Kept};
+ghost use Rattle.urb_worker.specs.declared.stages.Stage.TheVariants.{Doubtful, Drafted, Kept};
 
 use std::alloc::Global;
 use urb_stable::Stable;
 
-/// A turn whose reply is that a record is stored drafted this record and had its store take it: the store, if it is honest, has it
-/// for certain then.
+/// If a turn's reply is that a record is stored, the turn drafted this record and had its store
+/// take it. The store, if it is honest, then has the record for certain.
 pub fn what_is_told_as_stored_is_kept<S: Stable<Alloc = Global>>()
     ensures { (job : Job) (before after : S) (came : FinishedView) (done : Done)
         (turn : IsTurn S.Stable job before after came)
         → came.reply ≡ Stored done
         → (draft : Placed) × (turn.at ≡ Drafted draft) × (turn.new ≡ Kept draft)
         × (S.is_honest after → S.certain after ≡ S.certain before ++ draft.entry ∷ []) }
+{}
+
+/// What `change_of` tells of a turn has happened in it. And it tells of each store that failed, unless its node had gone down
+/// before: then the turn is stale.
+pub fn what_is_reported_has_happened<S: Stable<Alloc = Global>>()
+    ensures happened { (job : Job) (before after : S) (came : FinishedView) (change : Change)
+        (turn : IsTurn S.Stable job before after came)
+        → came.job ≡ job
+        → change_of came ≡ Some change
+        → HasChanged change turn.lent.group turn.given_back.group turn.lent_again.group
+        turn.left.group }
+    ensures failed { (job : Job) (before after : S) (came : FinishedView) (doubt : Doubted)
+        (turn : IsTurn S.Stable job before after came)
+        → came.job ≡ job
+        → turn.new ≡ Doubtful doubt
+        → came.reply ≢ Refused Stale
+        → change_of came ≡ Some (Failed doubt.node (refusal_of doubt.fault)) }
 {}
 
 /// What the turns of other workers make of a node is no more than a crash.
@@ -43,8 +68,8 @@ pub fn other_workers_let_a_node_wait<S: Stable<Alloc = Global>>()
         → Waits n first second → Waits n second third → Waits n first third }
 {}
 
-/// While a node waits, its store stays its own, and a stop leaves what it may leave of the node. Each store of a cluster that was
-/// opened is that of its node.
+/// While a node waits, its store stays its own, and a stop leaves what it may leave of the node.
+/// Each store of a cluster that was opened is that of its node.
 pub fn a_store_stays_that_of_its_node<S: Stable<Alloc = Global>>()
     ensures opened { (cluster : Clustered S) (i : ℕ) (store : S)
         → IsSecured S.Stable cluster
@@ -63,7 +88,8 @@ pub fn a_store_stays_that_of_its_node<S: Stable<Alloc = Global>>()
         → LeavesAt S.Stable n later store }
 {}
 
-/// What a stop of all nodes may leave, node by node, fits together, and opens a group that goes on from where this one stood.
+/// What a stop of all nodes may leave, node by node, fits together. It opens a group that goes on
+/// from the point that this one had reached.
 pub fn a_stop_of_all_nodes_is_survived()
     ensures { (group : GroupView) (images : ℕ → List Entry)
         → IsSound group

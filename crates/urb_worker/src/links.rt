@@ -1,4 +1,4 @@
-//! Links: what carries packets to nodes.
+//! Links, which carry packets to nodes.
 
 ghost use Rattle.std.specs.Prelude.{◌≡◌};
 
@@ -9,13 +9,14 @@ use std::sync::{Mutex, Wait};
 use std::time::Clock;
 use urb_names::{NoMemory, NodeId};
 
-/// Carries packets to nodes, as the book's fair-loss links do (section 2.4 of the book). It answers nothing: a packet that
-/// can't be sent is lost, for want of memory too, and a later tick may send it again.
+/// Carries packets to nodes, as the book's fair-loss links do (section 2.4 of the book). A link
+/// answers nothing. A packet that can't be sent is lost, also if the cause is refused memory. A
+/// later tick may resend it.
 pub trait Link {
     fn send(&self, target: NodeId, bytes: &[u8]);
 }
 
-/// Sends packets over UDP on this machine's loopback, each as one datagram.
+/// Sends packets over UDP on this machine's loopback, each packet as one datagram.
 #[derive(Drop)]
 pub struct UdpLink {
     socket: UdpSocket,
@@ -23,7 +24,7 @@ pub struct UdpLink {
 }
 
 impl UdpLink {
-    /// A link from this socket. The ports are those at which the nodes 1, 2, .. receive.
+    /// A link that sends from this socket. The ports are those at which nodes 1, 2, .. receive.
     pub fn new(socket: UdpSocket, ports: Vec<u16>) -> UdpLink
         ensures socket { result.socket ≡ socket }
         ensures ports { result.ports ≡ ports }
@@ -40,8 +41,8 @@ impl Link for UdpLink {
     }
 }
 
-/// Sends over another link, and waits before a packet while too much is in flight to its node, as `InFlight::enter` says. The
-/// receivers of the stations have to take what comes there.
+/// Sends over another link. Before a packet it waits while too much is in flight to the packet's
+/// node, as `InFlight::enter` says. The receivers of the stations have to take what comes there.
 #[derive(Drop)]
 pub struct PacedLink<'a, N: Link, R: Clock> {
     rt: &'a R,
@@ -50,7 +51,7 @@ pub struct PacedLink<'a, N: Link, R: Clock> {
 }
 
 impl<'a, N: Link, R: Clock> PacedLink<'a, N, R> {
-    /// A link to the nodes 1, 2, .. whose stations these are.
+    /// A link to nodes 1, 2, .. with these stations.
     pub fn new(rt: &'a R, link: &'a N, stations: &'a [Station]) -> PacedLink<'a, N, R>
         ensures link { result.link.now ≡ link.now }
         ensures stations { result.stations.now ≡ stations.now }
@@ -68,7 +69,7 @@ impl<'a, N: Link, R: Clock> Link for PacedLink<'a, N, R> {
     }
 }
 
-/// Puts packets into a mailbox in memory for each node: for tests, which empty them.
+/// Puts packets into a mailbox in memory for each node. Tests use it, and empty the mailboxes.
 #[derive(Drop)]
 pub struct MemoryLink<'a, R: Wait> {
     rt: &'a R,
@@ -77,7 +78,7 @@ pub struct MemoryLink<'a, R: Wait> {
 }
 
 impl<'a, R: Wait> MemoryLink<'a, R> {
-    /// A link to the nodes 1 to 7, whose mailboxes are empty.
+    /// A link to nodes 1 to 7 with empty mailboxes.
     pub fn new(rt: &'a R, alloc: Global) -> Result<MemoryLink<'a, R>, NoMemory> {
         let mut mailboxes = Vec::with_capacity(alloc, 7)?;
         for _ in 0..7u8 {
@@ -90,7 +91,7 @@ impl<'a, R: Wait> MemoryLink<'a, R> {
         })
     }
 
-    /// What was sent to a node since it was last asked, in the order of the sends.
+    /// What was sent to a node since the last such call, in the order of the sends.
     pub fn empty(&self, node: NodeId) -> Vec<Vec<u8>> {
         let mut sent = Vec::new(self.alloc);
         if let Some(mailbox) = self.mailboxes.get(usize::from(node.number()) - 1) {

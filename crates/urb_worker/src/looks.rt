@@ -1,36 +1,37 @@
-//! How often a worker looks for tickets before it sleeps.
+//! How often a worker polls its channel for tickets before it sleeps.
 
 ghost use Rattle.std.specs.Prelude.{◌≡◌, ◌<◌, ◌≤◌};
 
 use std::thread;
 use std::thread::Threads;
 
-// How often at most. Where nobody else wants its processor, so many looks take about as long as a record of another node takes.
+// The most polls after one record. If nobody else wants the worker's processor, these polls take
+// about as long as another node needs for a record.
 const MOST: u32 = 300;
 
-/// How often a worker looks for tickets behind each record that it stored, before it sleeps again.
+/// How often a worker polls for tickets after each record that it stored, before it sleeps again.
 #[derive(Clone, Copy)]
 pub(crate) struct Looks {
     times: u32,
 }
 
 impl Looks {
-    /// How many looks these are.
+    /// The number of polls.
     pub(crate) fn times(self) -> u32
         ensures { result ≡ self.times }
     {
         self.times
     }
 
-    /// Not at all.
+    /// No polls.
     pub(crate) fn none() -> Looks
         ensures { result.times ≡ 0 }
     {
         Looks { times: 0 }
     }
 
-    // For each of so many workers on so many processors: not at all where there are no more processors than workers, since other
-    // threads would wait for those that look.
+    // The polls of each of these workers, on these processors. There are no polls if there are no
+    // more processors than workers, since other threads would wait for the workers that poll.
     fn among(workers: usize, processors: usize) -> Looks
         ensures own { workers < processors → result.times ≡ MOST }
         ensures shared { processors ≤ workers → result.times ≡ 0 }
@@ -42,8 +43,9 @@ impl Looks {
         }
     }
 
-    /// For each of so many workers, on the processors that the program has: only where these are more than the workers. Where the
-    /// system doesn't tell how many they are, it doesn't look.
+    /// The polls of each of these workers, on the processors that the program has. A worker polls
+    /// only if there are more processors than workers. If the system doesn't say how many there
+    /// are, no worker polls.
     pub(crate) fn of<R: Threads>(rt: &R, workers: usize) -> Looks
         ensures { result.times ≤ MOST }
     {

@@ -1,4 +1,4 @@
-//! What goes on outside the workers while a group runs: datagrams, sessions of clients and the timer.
+//! What runs outside the workers while a group runs: receivers, sessions of clients and the timer.
 
 ghost use Rattle.std.specs.Prelude.{◌≡◌, ◌<◌, ◌≤◌, ◌*◌, length, vec_len};
 
@@ -15,7 +15,7 @@ use urb_client::session;
 use urb_names::NodeId;
 use urb_show::{HouseName, LogReader};
 
-/// Is asked to watch once a group runs: the group is stopped when it returns.
+/// The group calls `watch` when it runs, and stops when `watch` returns.
 pub trait Watch {
     fn watch(&mut self, stations: &[Station]);
 }
@@ -36,8 +36,8 @@ fn serve_client<K: HouseName, R: Wait>(
     let _ = answers.let_go();
 }
 
-// Serves one client of a node after the other, until the stop is set. It looks at the stop before each further wait, since a stop
-// wakes only those that wait then.
+// Serves a node's clients one after the other, until the stop is set. It checks the stop before
+// each further wait, since a stop wakes only the threads that wait at that moment.
 fn accept<K: HouseName, R: Wait + Clock>(
     rt: &R,
     alloc: Global,
@@ -65,8 +65,9 @@ fn accept<K: HouseName, R: Wait + Clock>(
     }
 }
 
-// Hands the datagrams of the node of this number to its worker, until the stop is set. A closure that owns nothing can't hold
-// the node itself, whose type has an invariant.
+// Hands the datagrams of the node with this number to its worker, until the stop is set. It takes
+// the number because a closure that owns nothing can't hold the node itself, whose type has an
+// invariant.
 fn take_datagrams<K: HouseName, R: Wait + Clock>(
     rt: &R,
     alloc: Global,
@@ -80,7 +81,7 @@ fn take_datagrams<K: HouseName, R: Wait + Clock>(
     }
 }
 
-// Starts what takes a node's datagrams and serves its clients, and says whether it could.
+// Starts the threads that take a node's datagrams and serve its clients. Returns whether it could.
 fn start_node<'s, E, K: HouseName + Send + Sync, R: Wait + Clock + Sync>(
     scope: &Scope<'s, E>,
     rt: &'s R,
@@ -112,7 +113,7 @@ fn start_node<'s, E, K: HouseName + Send + Sync, R: Wait + Clock + Sync>(
     true
 }
 
-// Starts the threads of all nodes and the timer, and says whether it could.
+// Starts the threads of all nodes and the timer. Returns whether it could.
 fn start<'s, E, K: HouseName + Send + Sync, R: Wait + Clock + Sync>(
     scope: &Scope<'s, E>,
     rt: &'s R,
@@ -137,8 +138,9 @@ fn start<'s, E, K: HouseName + Send + Sync, R: Wait + Clock + Sync>(
     scope.spawn(move || timer(rt, stop, millis, lines)).is_ok()
 }
 
-/// Takes datagrams and clients at the stations, and ticks every so many milliseconds, until the watch ends. It then stops and
-/// waits for what it started: a session that has begun ends when its client ends it. False where a thread could not be made.
+/// Takes datagrams and clients at the stations, and sends ticks every `millis` milliseconds, until
+/// the watch ends. Then it stops what it started and waits for it: a session that has begun ends
+/// when its client ends it. Returns false if a thread could not be made.
 pub(crate) fn run_outside<K: HouseName + Send + Sync, R, W: Watch>(
     rt: &R,
     alloc: Global,

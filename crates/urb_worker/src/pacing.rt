@@ -1,4 +1,6 @@
-//! Answers that go out together: they wait while more input is at hand, and go before a read that may wait.
+//! Answers that go out together, before a read that may wait.
+//!
+//! They wait while more input is at hand.
 
 ghost use Rattle.std.specs.Io.{WritesAtMost};
 
@@ -7,9 +9,9 @@ use std::cell::{Cell, RefCell};
 use std::io;
 use std::io::{BufReader, BufWriter, ErrorKind, Read, Write};
 
-/// What is answered and has not gone out yet. A flush of its writer leaves the answers here, until its reader has no more
-/// bytes at hand, or until `let_go`. So who sends many requests at once costs one write for their answers, and who waits
-/// for an answer has it.
+/// The answers that have not gone out yet. A flush of the writer leaves them here. They go out when
+/// the reader has no more bytes at hand, or at `let_go`. So many requests that were sent at once
+/// cost one write for all their answers, and a client that waits for an answer gets it.
 pub struct Outgoing<W: Write + Drop> {
     waiting: RefCell<BufWriter<W>>,
     failed: Cell<bool>,
@@ -25,7 +27,8 @@ impl<W: Write + Drop> Drop for Outgoing<W> {
 }
 
 impl<W: Write + Drop> Outgoing<W> {
-    /// Answers that go out to this writer, 8,192 bytes at once at most. An error is a growth that was refused.
+    /// Answers that go out to this writer, at most 8,192 bytes at once. An error means that a
+    /// growth of memory was refused.
     pub fn new(alloc: Global, writer: W) -> io::Result<Outgoing<W>> {
         Ok(Outgoing {
             waiting: RefCell::new(BufWriter::new(alloc, writer)?),
@@ -33,8 +36,8 @@ impl<W: Write + Drop> Outgoing<W> {
         })
     }
 
-    /// The reader of this input, which lets the answers go before it reads on. It keeps 8,192 bytes at hand. An error is a
-    /// growth that was refused.
+    /// The reader of this input. It lets the answers go before it reads on. It keeps 8,192 bytes at
+    /// hand. An error means that a growth of memory was refused.
     pub fn reader<'a, R: Read + Drop>(
         &'a self,
         alloc: Global,
@@ -47,7 +50,7 @@ impl<W: Write + Drop> Outgoing<W> {
         BufReader::new(alloc, input)
     }
 
-    /// The writer to which the answers are written.
+    /// The writer that takes the answers.
     pub fn writer(&self) -> PacedWriter<'_, W> {
         PacedWriter { answers: self }
     }

@@ -1,7 +1,8 @@
 //! The receiver: a node's datagrams, handed to its worker.
 //!
-//! A worker's channel has room for few tickets, and the system for few datagrams. So while the channel is full the receiver goes on
-//! taking datagrams from its socket, and keeps them in a backlog.
+//! A worker's channel has room for few tickets, and the system has room for few datagrams. So while
+//! the channel is full, the receiver keeps taking datagrams from its socket, and puts them into a
+//! backlog.
 
 ghost use Rattle.std.specs.Prelude.{◌≡◌, ◌⊎◌, ◌++◌, [], ◌∷◌, IfSome, drop};
 ghost use Rattle.urb_worker.specs.Arrivals.{IsArrival, IsOfFirst};
@@ -16,21 +17,23 @@ use std::time::{Clock, Duration};
 use urb_names::{MAX_PAYLOAD, NodeId};
 use urb_show::HouseName;
 
-// The room for a datagram: more than the longest packet, so that what is cut off was no packet.
+// The room for a datagram: more than the longest packet. So a datagram that is cut off was no
+// packet.
 const ROOM: usize = 16_640;
 
-// How long a packet is beside its payload.
+// The bytes of a packet beside its payload.
 const HEAD: usize = 19;
 
 const _: () = prove!(HEAD + MAX_PAYLOAD < ROOM);
 
-// How long a receiver waits for room in its worker's channel before it looks at its socket again, in milliseconds.
+// How long a receiver waits for room in its worker's channel before it checks its socket again, in
+// milliseconds.
 const MOMENT: u64 = 1;
 
-// How many datagrams a receiver takes at most before it looks at the stop and at the channel again.
+// The most datagrams that a receiver takes before it checks the stop and the channel again.
 const ROUND: u32 = 256;
 
-// The arrival of a datagram at a node.
+// The ticket for the arrival of a datagram at a node.
 fn arrival<K: HouseName>(node: NodeId, datagram: Vec<u8>) -> Ticket<K>
     ensures { IsArrival node datagram.items result.job }
 {
@@ -43,7 +46,7 @@ fn arrival<K: HouseName>(node: NodeId, datagram: Vec<u8>) -> Ticket<K>
     }
 }
 
-// Sends a worker a ticket, which is handed back if the channel is full.
+// Sends a worker a ticket. The ticket is handed back if the channel is full.
 fn offer<K: HouseName, R: Wait>(
     rt: &R,
     line: &Sender<Ticket<K>>,
@@ -57,7 +60,7 @@ fn offer<K: HouseName, R: Wait>(
     }
 }
 
-// The same, if the channel is still full after a moment.
+// Sends a worker a ticket. The ticket is handed back if the channel is still full after a moment.
 fn offer_for_a_moment<K: HouseName, R: Wait + Clock>(
     rt: &R,
     line: &Sender<Ticket<K>>,
@@ -71,7 +74,8 @@ fn offer_for_a_moment<K: HouseName, R: Wait + Clock>(
     }
 }
 
-// Sends a worker the datagram that has waited longest, if there is one. Its ticket is handed back if the channel is full.
+// Sends a worker the datagram that has waited longest, if there is one. Its ticket is handed back
+// if the channel is full.
 fn offer_first<K: HouseName, R: Wait>(
     rt: &R,
     node: NodeId,
@@ -85,7 +89,7 @@ fn offer_first<K: HouseName, R: Wait>(
     offer(rt, line, arrival(node, datagram))
 }
 
-// Has a datagram wait, unless there is no room for it or no memory.
+// Puts a datagram into the backlog, unless there is no room for it or no memory.
 fn keep(alloc: Global, backlog: &mut Backlog, datagram: &[u8])
     ensures { (backlog.new ≡ backlog.old) ⊎ (backlog.new ≡ backlog.old ++ datagram.now ∷ []) }
 {
@@ -94,7 +98,8 @@ fn keep(alloc: Global, backlog: &mut Backlog, datagram: &[u8])
     }
 }
 
-// Moves what waits in a socket into the backlog, as far as there is room in it, but not more than a round. The socket must not wait.
+// Moves what waits in a socket into the backlog, while there is room, but at most one round. The
+// socket must be non-blocking.
 fn empty_socket(alloc: Global, station: &Station, room: &mut [u8; ROOM], backlog: &mut Backlog) {
     for _ in 0..ROUND {
         if !backlog.has_room(ROOM) {
@@ -116,7 +121,8 @@ fn empty_socket(alloc: Global, station: &Station, room: &mut [u8; ROOM], backlog
     }
 }
 
-// Hands on what the channel had no room for, and what comes meanwhile, until nothing waits or the stop is set.
+// Hands on what the channel had no room for, and what comes meanwhile, until nothing waits or the
+// stop is set.
 fn catch_up<K: HouseName, R: Wait + Clock>(
     rt: &R,
     alloc: Global,
@@ -148,7 +154,8 @@ fn catch_up<K: HouseName, R: Wait + Clock>(
     let _ = station.udp.set_nonblocking(false);
 }
 
-// Hands on a datagram that has come. Its ticket is handed back if the channel is full; without memory the datagram is lost.
+// Hands on a datagram that has come. Its ticket is handed back if the channel is full. Without
+// memory the datagram is lost.
 fn hand_on<K: HouseName, R: Wait>(
     rt: &R,
     alloc: Global,
@@ -162,10 +169,13 @@ fn hand_on<K: HouseName, R: Wait>(
     offer(rt, line, arrival(node, datagram))
 }
 
-/// Hands the datagrams of a node's station to its worker, the oldest first, until the stop is set. It looks at the stop after each
-/// datagram, so an empty one wakes it. While the channel is full it keeps what comes in a `Backlog`, and looks at the stop each
-/// millisecond; once the backlog is full, what comes stays in the socket. What waits at a stop isn't handed on. A datagram is lost
-/// if memory for it is refused. After an error of the socket it rests for 10 milliseconds and goes on.
+/// Hands the datagrams of a node's station to its worker, the oldest first, until the stop is set.
+/// It checks the stop after each datagram, so an empty datagram wakes it.
+///
+/// While the channel is full, it keeps what comes in a `Backlog`, and checks the stop each
+/// millisecond. Once the backlog is full, what comes stays in the socket. What waits at a stop
+/// isn't handed on. A datagram is lost if memory for it is refused. After an error of the socket,
+/// the receiver rests for 10 milliseconds and goes on.
 pub fn receive<K: HouseName, R: Wait + Clock>(
     rt: &R,
     alloc: Global,

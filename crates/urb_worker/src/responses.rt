@@ -1,4 +1,4 @@
-//! What clients are told of what came of their requests.
+//! The responses that clients get for their requests.
 
 ghost use Rattle.std.specs.Prelude.{◌≡◌, ◌≤◌, ◌++◌, IfOk, length, map};
 ghost use Rattle.urb_client.specs.Pages.{SaysPage};
@@ -11,7 +11,7 @@ use urb_group::{Answer, Reply, State};
 use urb_names::{NoMemory, Refusal};
 use urb_show::{Entry, Status};
 
-// A node's state.
+// A node's state, as a response spells it.
 fn state_told(state: State) -> NodeState
     ensures { result ≡ told_state state }
 {
@@ -22,14 +22,14 @@ fn state_told(state: State) -> NodeState
     }
 }
 
-// That the worker or the House is gone.
+// The response if the worker or the House is gone.
 pub(crate) fn nobody() -> Response
     ensures { said_by result ≡ gone }
 {
     Response::refused(&Refusal::Down)
 }
 
-// What is told of a reply.
+// The response for a reply.
 fn reply_told(reply: &Reply) -> Response
     ensures { said_by result ≡ said_of reply.now }
 {
@@ -42,7 +42,7 @@ fn reply_told(reply: &Reply) -> Response
     }
 }
 
-// What is told of a turn.
+// The response for a turn.
 pub(crate) fn told(reply: &Reply, status: Option<Status>) -> Response
     ensures { said_by result ≡ told_of reply.now status }
 {
@@ -56,7 +56,7 @@ pub(crate) fn told(reply: &Reply, status: Option<Status>) -> Response
     }
 }
 
-// What is told of a page.
+// The response for a page.
 pub(crate) fn page_told(alloc: Global, entries: Vec<Entry>) -> Result<Response, NoMemory>
     requires { length entries.items ≤ 8 }
     ensures { IfOk result (λ response. SaysPage (map pair_of entries.items) (said_by response)) }

@@ -1,4 +1,6 @@
-//! A group that runs: its workers and what goes on outside them, from the opened group to the closed house.
+//! A group that runs, from the opened group to the closed house.
+//!
+//! It consists of its workers, and of what runs outside them.
 
 ghost use Rattle.std.specs.Prelude.{◌≡◌, ◌<◌, ◌≤◌, ◌*◌, ◌+◌, IfOk, IfSome, length, reverse, sum, vec_len, vec_capacity};
 ghost use Rattle.urb_show.specs.Lists.{lists_in};
@@ -9,7 +11,7 @@ ghost use Rattle.urb_worker.specs.declared.stations.TheConstants.{SESSIONS};
 use crate::looks::Looks;
 use crate::outside::run_outside;
 use crate::staff::{Seat, Worker, gather, start};
-use crate::{Hub, HubName, Link, PacedLink, Station, Tally, Ticket, UdpLink, Watch};
+use crate::{Hub, HubName, Link, PacedLink, Reporter, Station, Tally, Ticket, UdpLink, Watch};
 use crossbeam_channel::{Receiver, Sender};
 use std::alloc::{AllocError, Global};
 use std::net::{Net, TcpListener, TcpStream};
@@ -22,11 +24,11 @@ use urb_names::NodeId;
 use urb_show::{HouseName, LogReader, Opened};
 use urb_stable::Stable;
 
-// How many tickets a worker's channel has room for.
+// The number of tickets that a worker's channel has room for.
 const ROOM: usize = 64;
 
-/// What a group of so many nodes needs beside its house: a channel for each worker, and room for what they work with and leave.
-/// All of it is asked for before the house is opened.
+/// What a group of `count` nodes needs beside its house: a channel for each worker, and room for
+/// what the workers work with and leave. All of it is reserved before the house is opened.
 #[derive(Drop)]
 struct Rooms<K: HouseName, L: HubName, S: Stable<Alloc = Global>> {
     lines: Vec<Sender<Ticket<K>>>,
@@ -37,7 +39,7 @@ struct Rooms<K: HouseName, L: HubName, S: Stable<Alloc = Global>> {
     tallies: Vec<Tally<L>>,
 }
 
-// A channel for each of so many workers.
+// A channel for each of `count` workers.
 fn channels<K: HouseName>(
     alloc: Global,
     count: usize,
@@ -54,7 +56,7 @@ fn channels<K: HouseName>(
     Ok((lines, jobs))
 }
 
-// The rooms of so many workers, all of them empty.
+// The rooms of `count` workers, all of them empty.
 fn make_rooms<K: HouseName, L: HubName, S: Stable<Alloc = Global> + Drop>(
     alloc: Global,
     count: usize,
@@ -81,7 +83,7 @@ fn make_rooms<K: HouseName, L: HubName, S: Stable<Alloc = Global> + Drop>(
     })
 }
 
-// A seat for each store, that of the last node first.
+// A seat for each store, the last node's seat first.
 #[tactic(auto, using(crate::proofs::Served::takes_up, crate::proofs::Served::reverse_push))]
 fn seat_all<K: HouseName, L: HubName, S: Stable<Alloc = Global> + Drop>(
     seats: Vec<Seat<K, L, S>>,
@@ -113,7 +115,7 @@ fn seat_all<K: HouseName, L: HubName, S: Stable<Alloc = Global> + Drop>(
     seats
 }
 
-// The Hub of what was opened, its tallies, and its readers; none where memory was refused.
+// The Hub of what was opened, its tallies, and its readers. `None` if memory was refused.
 fn hub_of<K: HouseName, L: HubName, R: Wait>(
     rt: &R,
     alloc: Global,
@@ -158,8 +160,8 @@ struct Crew<K: HouseName, L: HubName, S: Stable<Alloc = Global>> {
     ghost tally_room: { (vec_len tallies ≡ 0) × (vec_len seats ≤ vec_capacity tallies) },
 }
 
-// Runs the workers in a scope, and what goes on outside them, until the watch ends. It gives all stores and tallies, and
-// whether all threads could be made.
+// Runs the workers in a scope, and what runs outside them, until the watch ends. Returns all stores
+// and tallies, and whether all threads could be made.
 fn run_crew<
     's,
     E,
@@ -167,6 +169,7 @@ fn run_crew<
     L: HubName + Send + Sync,
     S: Stable<Alloc = Global> + Send + Drop + 's,
     N: Link + Sync,
+    H: Reporter + Sync,
     R,
     W: Watch,
 >(
@@ -175,6 +178,7 @@ fn run_crew<
     alloc: Global,
     hub: &'s Hub<K, L>,
     link: &'s N,
+    reporter: &'s H,
     crew: Crew<K, L, S>,
     lines: Vec<Sender<Ticket<K>>>,
     readers: Vec<LogReader<K>>,
@@ -198,7 +202,9 @@ where
         tallies,
     } = crew;
     let looks = Looks::of(rt, seats.len());
-    let (workers, lines) = start(scope, rt, alloc, hub, link, looks, seats, workers, lines);
+    let (workers, lines) = start(
+        scope, rt, alloc, hub, link, reporter, looks, seats, workers, lines,
+    );
     let whole = match lines {
         Some(lines) => run_outside(rt, alloc, millis, stations, lines, readers, watch),
         None => false,
@@ -206,11 +212,12 @@ where
     (gather(rt, workers, stores, tallies), whole)
 }
 
-// The same in a scope of its own. The workers send no faster than the stations' receivers take.
+// Does this in a scope of its own. The workers send no faster than the stations' receivers take.
 fn run_workers<
     K: HouseName + Send + Sync,
     L: HubName + Send + Sync,
     S: Stable<Alloc = Global> + Send + Drop,
+    H: Reporter + Sync,
     R,
     W: Watch,
 >(
@@ -218,6 +225,7 @@ fn run_workers<
     alloc: Global,
     hub: &Hub<K, L>,
     link: &UdpLink,
+    reporter: &H,
     crew: Crew<K, L, S>,
     lines: Vec<Sender<Ticket<K>>>,
     readers: Vec<LogReader<K>>,
@@ -249,7 +257,8 @@ where
                 result.0.0.items }
         {
             run_crew(
-                scope, rt, alloc, hub, link, crew, lines, readers, millis, stations, watch,
+                scope, rt, alloc, hub, link, reporter, crew, lines, readers, millis, stations,
+                watch,
             )
         },
     )
@@ -272,13 +281,15 @@ fn close_all<K: HouseName, L: HubName, R: Wait>(
 
 /// Runs a group that was opened, until the watch ends: a worker for each node, with its store; at each node's station its
 /// datagrams and its clients; and a tick at each node every so many milliseconds. The stores and the stations are those of
-/// the nodes 1, 2, ... It gives the stores back, and how many events there were. At the end it waits for sessions that have
-/// begun. None where memory or a thread was refused: then nothing runs any more, and the watch was not asked.
+/// the nodes 1, 2, ... The reporter hears of each node that goes down or comes back. It gives the stores back, and how many events
+/// there were. At the end it waits for sessions that have begun. None if memory or a thread was refused: then nothing runs any
+/// more, and the watch was not asked.
 #[tactic(auto, using(crate::proofs::Served::unserved))]
 pub fn run_group<
     K: HouseName + Send + Sync,
     L: HubName + Send + Sync,
     S: Stable<Alloc = Global> + Send + Drop,
+    H: Reporter + Sync,
     R,
     W: Watch,
 >(
@@ -290,6 +301,7 @@ pub fn run_group<
     link: &UdpLink,
     stations: &[Station],
     millis: u32,
+    reporter: &H,
     watch: &mut W,
 ) -> (Vec<S>, Option<u64>)
 where
@@ -326,7 +338,7 @@ where
         tallies,
     };
     let ((stores, tallies), whole) = run_workers(
-        rt, alloc, &hub, link, crew, lines, readers, millis, stations, watch,
+        rt, alloc, &hub, link, reporter, crew, lines, readers, millis, stations, watch,
     );
     let events = close_all(rt, hub, tallies);
     (stores, if whole { Some(events) } else { None })

@@ -7,7 +7,7 @@ ghost use Rattle.urb_worker.specs.Replies.{tells_record};
 ghost use Rattle.urb_worker.specs.Served.{IsLeftOf};
 
 use crate::looks::Looks;
-use crate::{Finished, Gate, Hub, HubName, Job, Link, Tally};
+use crate::{Finished, Gate, Hub, HubName, Job, Link, Reporter, Silent, Tally, change_of};
 use crossbeam_channel::{Receiver, Sender, TryRecvError};
 use std::alloc::Global;
 use std::sync::Wait;
@@ -17,15 +17,15 @@ use urb_names::{NodeId, encode};
 use urb_show::HouseName;
 use urb_stable::Stable;
 
-/// A job for a node's worker, and where what comes of it goes. An answer's channel has room for one: the worker never waits
-/// for whom it answers.
+/// A job for a node's worker, and where its result goes. An answer's channel has room for one: the
+/// worker never waits for the client that it answers.
 #[derive(Drop)]
 pub struct Ticket<K: HouseName> {
     pub job: Job,
     pub answer: Option<Sender<Finished<K>>>,
 }
 
-// Sends each packet to the node that it is for. One that can't be encoded for want of memory is lost.
+// Sends each packet to its node. A packet that can't be encoded for want of memory is lost.
 fn send_all<N: Link>(alloc: Global, link: &N, packets: &Outbox) {
     for index in 0..packets.len() {
         if let Some(packet) = packets.get(index)
@@ -49,9 +49,10 @@ fn packets_in(reply: &Reply) -> Option<&Outbox>
     }
 }
 
-// A worker's next ticket; none once its channel has closed. Who was answered often asks again at once, other nodes answer a
-// record soon, and to wake a thread takes long: so a worker has some looks before it sleeps, and gives way to other threads
-// between two of them. What it doesn't need for one ticket is left for the next.
+// A worker's next ticket. `None` once its channel has closed. A client often sends its next request
+// as soon as it is answered, other nodes soon answer a record, and waking a thread is slow. So a
+// worker polls its channel for a while before it sleeps, and yields to other threads between two
+// polls. Polls that it doesn't need for one ticket are left for the next.
 fn next_ticket<K: HouseName, R: Wait>(
     rt: &R,
     jobs: &Receiver<Ticket<K>>,
@@ -77,8 +78,9 @@ fn is_stored(reply: &Reply) -> bool
     matches!(reply, Reply::Stored(_))
 }
 
-/// Does the jobs of one node, until its channel closes. For each ticket it does the job, sends what has to be sent, and
-/// answers. It holds nothing while it sends and answers, and an answer that can't be sent is a loss.
+/// Does the jobs of one node, until its channel closes. For each ticket it does the job, sends the
+/// packets, and answers. It holds nothing while it sends and answers. An answer that can't be sent
+/// is lost.
 pub fn serve<K: HouseName, L: HubName, S: Stable<Alloc = Global> + Drop, N: Link, G: Gate, R: Wait>(
     rt: &R,
     alloc: Global,
@@ -94,7 +96,7 @@ pub fn serve<K: HouseName, L: HubName, S: Stable<Alloc = Global> + Drop, N: Link
     serve_from(rt, alloc, hub, node, &mut store, jobs, link, gate, tally)
 }
 
-/// The same with a store that is lent, for one who closes it afterwards.
+/// Does the same with a store that is lent, for a caller that closes the store afterwards.
 pub fn serve_from<K: HouseName, L: HubName, S: Stable<Alloc = Global>, N: Link, G: Gate, R: Wait>(
     rt: &R,
     alloc: Global,
@@ -117,12 +119,14 @@ pub fn serve_from<K: HouseName, L: HubName, S: Stable<Alloc = Global>, N: Link, 
         jobs,
         link,
         gate,
+        &Silent,
         tally,
         Looks::none(),
     )
 }
 
-/// The same by a worker that looks for tickets behind each record that it stored.
+/// The same by a worker that looks for tickets behind each record that it stored, and reports each node that goes down or comes
+/// back.
 #[tactic(auto, using(crate::proofs::Served::not_yet, crate::proofs::Turned::one_job))]
 pub(crate) fn serve_looking<
     K: HouseName,
@@ -130,6 +134,7 @@ pub(crate) fn serve_looking<
     S: Stable<Alloc = Global>,
     N: Link,
     G: Gate,
+    H: Reporter,
     R: Wait,
 >(
     rt: &R,
@@ -140,6 +145,7 @@ pub(crate) fn serve_looking<
     jobs: Receiver<Ticket<K>>,
     link: &N,
     gate: &G,
+    reporter: &H,
     tally: Tally<L>,
     looks: Looks,
 ) -> Tally<L>
@@ -153,6 +159,9 @@ pub(crate) fn serve_looking<
         };
         let (finished, counted) = hub.work(rt, alloc, node, job, store, gate, tally);
         tally = counted;
+        if let Some(change) = change_of(&finished) {
+            reporter.report(change);
+        }
         if is_stored(finished.reply()) {
             left = looks.times();
         }

@@ -1,11 +1,11 @@
-//! The workers of a group, each on a thread of its own: what they have, and what they leave.
+//! The workers of a group, each on a thread of its own: what they start with, and what they leave.
 
 ghost use Rattle.std.specs.Prelude.{◌≡◌, ◌≤◌, IfSome, map, reverse, vec_len, vec_capacity};
 ghost use Rattle.urb_worker.specs.Served.{AllThere, AreServed, IsLeftOf, each, in_either};
 
 use crate::looks::Looks;
 use crate::serving::serve_looking;
-use crate::{Hub, HubName, Link, OpenGate, Tally, Ticket};
+use crate::{Hub, HubName, Link, OpenGate, Reporter, Tally, Ticket};
 use crossbeam_channel::{Receiver, Sender};
 use std::alloc::Global;
 use std::snapshot::Snapshot;
@@ -15,7 +15,7 @@ use urb_names::NodeId;
 use urb_show::HouseName;
 use urb_stable::Stable;
 
-/// What a worker works with.
+/// What a worker starts with.
 #[derive(Drop)]
 pub(crate) struct Seat<K: HouseName, L: HubName, S: Stable<Alloc = Global>> {
     pub(crate) node: NodeId,
@@ -24,7 +24,7 @@ pub(crate) struct Seat<K: HouseName, L: HubName, S: Stable<Alloc = Global>> {
     pub(crate) tally: Tally<L>,
 }
 
-/// What a worker with no thread has left: its store after its turns, and its tally.
+/// What a worker without a thread has left: its store after its turns, and its tally.
 #[derive(Drop)]
 pub(crate) struct Left<L: HubName, S: Stable<Alloc = Global>> {
     store: S,
@@ -43,15 +43,23 @@ impl<L: HubName, S: Stable<Alloc = Global>> Promise<(S, Tally<L>)> for LeavesIt<
     ghost kept_by = { λ promise left. IsLeftOf S.Stable promise.0.value left.0 };
 }
 
-/// A worker: its thread, or what it has left where no thread could be made.
+/// A worker: its thread, or what it has left if no thread could be made.
 pub(crate) type Worker<L, S> = Result<PromisedHandle<(S, Tally<L>), LeavesIt<S>>, Left<L, S>>;
 
 // Does a node's jobs until its channel closes, and leaves its store and its tally.
-fn work_at<K: HouseName, L: HubName, S: Stable<Alloc = Global> + Drop, N: Link, R: Wait>(
+fn work_at<
+    K: HouseName,
+    L: HubName,
+    S: Stable<Alloc = Global> + Drop,
+    N: Link,
+    H: Reporter,
+    R: Wait,
+>(
     rt: &R,
     alloc: Global,
     hub: &Hub<K, L>,
     link: &N,
+    reporter: &H,
     looks: Looks,
     seat: Seat<K, L, S>,
 ) -> (S, Tally<L>)
@@ -64,12 +72,13 @@ fn work_at<K: HouseName, L: HubName, S: Stable<Alloc = Global> + Drop, N: Link, 
         tally,
     } = seat;
     let tally = serve_looking(
-        rt, alloc, hub, node, &mut store, jobs, link, &OpenGate, tally, looks,
+        rt, alloc, hub, node, &mut store, jobs, link, &OpenGate, reporter, tally, looks,
     );
     (store, tally)
 }
 
-/// Starts a worker a seat, the last seat first. Where a thread can't be made the lines are let go, so that every worker ends.
+/// Starts a worker for each seat, the last seat first. If a thread can't be made, the lines are
+/// dropped, so that every worker ends.
 pub(crate) fn start<
     's,
     E,
@@ -77,6 +86,7 @@ pub(crate) fn start<
     L: HubName + Send + Sync,
     S: Stable<Alloc = Global> + Send + Drop + 's,
     N: Link + Sync,
+    H: Reporter + Sync,
     R: Wait + Sync,
 >(
     scope: &Scope<'s, E>,
@@ -84,6 +94,7 @@ pub(crate) fn start<
     alloc: Global,
     hub: &'s Hub<K, L>,
     link: &'s N,
+    reporter: &'s H,
     looks: Looks,
     seats: Vec<Seat<K, L, S>>,
     workers: Vec<Worker<L, S>>,
@@ -91,12 +102,13 @@ pub(crate) fn start<
 ) -> (Vec<Worker<L, S>>, Option<Vec<Sender<Ticket<K>>>>)
     requires { (vec_len workers ≡ 0) × (vec_len seats ≤ vec_capacity workers) }
     ensures workers { vec_len result.0 ≡ vec_len seats }
-    // The workers have the stores of the seats, in falling order.
+    // The workers have the stores of the seats, in reverse order.
     ensures order { each result.0.items (λ worker.
         in_either worker (λ thread. thread.promise.0.value) (λ left. left.came.value))
         ≡ reverse (each seats.items (λ seat. seat.store)) }
     ensures lines { IfSome result.1 (λ kept. vec_len kept ≡ vec_len lines) }
-    // They are kept only where each worker has its thread: one without would have had to wait for their tickets.
+    // The lines are kept only if each worker has its thread. A worker without one would have had to
+    // wait for their tickets.
     ensures threads { IfSome result.1 (λ kept. AllThere result.0.items) }
 {
     let mut lines = Some(lines);
@@ -106,11 +118,11 @@ pub(crate) fn start<
         let (came, kept) = (Snapshot::of(&seat.store), Snapshot::of(&seat.store));
         let work = move || -> (S, Tally<L>)
             ensures { IsLeftOf S.Stable seat.store result.0 }
-        { work_at(rt, alloc, hub, link, looks, seat) };
+        { work_at(rt, alloc, hub, link, reporter, looks, seat) };
         match scope.spawn_with(LeavesIt(kept), work) {
             Ok(thread) => workers.push_reserved(Ok(thread)),
             Err(refused) => {
-                // The lines go first: this worker would wait for their tickets for ever.
+                // Drop the lines first: this worker would wait for their tickets forever.
                 lines = None;
                 let (store, tally) = (refused.value)();
                 workers.push_reserved(Err(Left { store, tally, came }));
@@ -120,7 +132,7 @@ pub(crate) fn start<
     (workers, lines)
 }
 
-// Waits for a worker, and gives what it left.
+// Waits for a worker, and returns what it left.
 fn left_by<L: HubName, S: Stable<Alloc = Global> + Drop, R: Threads>(
     rt: &R,
     worker: Worker<L, S>,
@@ -141,7 +153,7 @@ fn left_by<L: HubName, S: Stable<Alloc = Global> + Drop, R: Threads>(
     }
 }
 
-/// Waits for the workers, and gives their stores and tallies in their order.
+/// Waits for the workers, and returns their stores and tallies in their order.
 pub(crate) fn gather<L: HubName, S: Stable<Alloc = Global> + Drop, R: Threads>(
     rt: &R,
     workers: Vec<Worker<L, S>>,

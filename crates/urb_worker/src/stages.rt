@@ -1,41 +1,44 @@
-//! How far a turn is, and the step from one stage to the next: the event before the store, the store's part, and the event
-//! after it.
+//! The stages of a turn, and the step from one stage to the next.
+//!
+//! The steps are the event before the store, the store's part, and the event after it.
 
-ghost use Rattle.std.specs.Prelude.{◌≡◌, ◌≤◌, true, None, length};
+ghost use Rattle.std.specs.Prelude.{◌≡◌, ◌≤◌, true, None};
 ghost use Rattle.urb_worker.specs.Counting.{count_of};
 ghost use Rattle.urb_worker.specs.Stages.{crash_stage, is_stored, restart_stage, state_reply, taken_stage, tick_stage};
-ghost use Rattle.urb_worker.specs.Turns.{Begins, Ends, Settles, Stores, logged};
+ghost use Rattle.urb_worker.specs.Settlings.{NothingNew, published_by};
+ghost use Rattle.urb_worker.specs.Turns.{Begins, Ends, Stores, logged};
 
 use crate::Job;
+use crate::settling::{Settling, settle_released};
 use std::alloc::Global;
 use std::sync::Wait;
 use urb_group::{Doubt, Draft, Outbox, Receipt, Record, Reply, Stable, State, Taken};
 use urb_names::{NodeId, Refusal};
-use urb_show::{House, HouseName, Status, Told};
+use urb_show::{House, HouseName, Status};
 use urb_stable::StoreFault;
 
-// How far a turn is.
+// The stage of a turn.
 #[derive(Drop)]
 pub(crate) enum Stage {
-    // The store is to keep this.
+    // The store has to keep this draft.
     Drafted(Draft),
     // The store took the draft.
     Kept(Receipt),
     // The store answered a fault.
     Doubtful(Doubt),
-    // The store is to give its records.
+    // The store has to give its records.
     Retrieving,
-    // The store gave these.
+    // The store gave these records.
     Retrieved(Vec<Record>),
-    // The store gave none.
+    // The store gave no records.
     Unread(StoreFault),
-    // The House is to say how the node is.
+    // The House has to report the node's status.
     Asking,
-    // All is done.
+    // The job is done.
     Answered(Reply),
 }
 
-// Where a submit or an arrival leads.
+// The stage after a submit or an arrival.
 fn taken(answer: Result<Taken, Refusal>) -> (Stage, u8)
     ensures { result ≡ (taken_stage answer, count_of answer) }
 {
@@ -46,7 +49,7 @@ fn taken(answer: Result<Taken, Refusal>) -> (Stage, u8)
     }
 }
 
-// Where a tick leads.
+// The stage after a tick.
 fn ticked(sent: Result<Outbox, Refusal>) -> (Stage, u8)
     ensures { result ≡ (tick_stage sent, count_of sent) }
 {
@@ -56,7 +59,7 @@ fn ticked(sent: Result<Outbox, Refusal>) -> (Stage, u8)
     }
 }
 
-// Where a crash leads.
+// The stage after a crash.
 fn crashed(node: NodeId, done: Result<(), Refusal>) -> (Stage, u8)
     ensures { result ≡ (crash_stage node done, count_of done) }
 {
@@ -66,8 +69,8 @@ fn crashed(node: NodeId, done: Result<(), Refusal>) -> (Stage, u8)
     }
 }
 
-// Where a restart of a node in this state leads. A node that is up has nothing to read, and a fault of its store would leave it
-// with a store that gives nothing more.
+// The stage after a restart of a node in this state. A node that is up has nothing to read. A fault
+// of its store would leave it with a store that gives nothing more.
 fn restarting(state: Option<State>) -> Stage
     ensures { result ≡ restart_stage state }
 {
@@ -121,31 +124,31 @@ pub(crate) fn stored<S: Stable<Alloc = Global>>(alloc: Global, stage: Stage, sto
     }
 }
 
-// What a turn's last event came to.
+// The result of a turn's last event.
 #[derive(Drop)]
 pub(crate) struct Ending<K: HouseName> {
     pub(crate) reply: Reply,
     pub(crate) status: Option<Status>,
-    pub(crate) told: Option<Told<K>>,
+    pub(crate) settling: Settling<K>,
     pub(crate) events: u8,
 }
 
-// An ending in which nothing was settled, and no status asked for.
-fn unsettled<K: HouseName>(reply: Reply, events: u8) -> Ending<K>
+// An ending in which no names were released, and no status asked for.
+fn plain<K: HouseName>(reply: Reply, events: u8) -> Ending<K>
     ensures { (result.reply ≡ reply)
         × (result.status ≡ None)
-        × (result.told ≡ None)
+        × (published_by result.settling ≡ NothingNew)
         × (result.events ≡ events) }
 {
     Ending {
         reply,
         status: None,
-        told: None,
+        settling: Settling::NothingNew,
         events,
     }
 }
 
-// How many names a node has delivered.
+// The number of names that a node has delivered.
 fn logged<K: HouseName>(house: &House<K>, node: NodeId) -> usize
     ensures { result ≡ logged house.now.group node }
 {
@@ -153,25 +156,6 @@ fn logged<K: HouseName>(house: &House<K>, node: NodeId) -> usize
     match house.log(node) {
         Some(names) => names.len(),
         None => 0,
-    }
-}
-
-// The House settled a node where names of it were released.
-fn settled<K: HouseName, R: Wait>(
-    rt: &R,
-    house: &mut House<K>,
-    node: NodeId,
-    has_released: bool,
-) -> Option<Told<K>>
-    requires { has_released ≡ true → node ≤ length K.base }
-    ensures { Settles has_released node house.old house.new result }
-{
-    if !has_released {
-        return None;
-    }
-    match house.settle(rt, node) {
-        Ok(told) => Some(told),
-        Err(_) => None,
     }
 }
 
@@ -183,33 +167,33 @@ fn committed<K: HouseName, R: Wait>(
     receipt: Receipt,
 ) -> Ending<K>
     ensures step { Ends house.old job.now (Stage.Kept receipt) house.new
-        result.reply result.status result.told result.events }
+        result.reply result.status (published_by result.settling) result.events }
     ensures one { result.events ≤ 1 }
 {
     house.promise();
     let node = receipt.node();
     match house.commit(receipt) {
         Ok(done) => {
-            let told = settled(rt, house, node, 0 < done.released);
+            let settling = settle_released(rt, house, node, 0 < done.released);
             Ending {
-                told,
-                ..unsettled(Reply::Stored(done), 1)
+                settling,
+                ..plain(Reply::Stored(done), 1)
             }
         }
-        Err(_) => unsettled(Reply::Refused(Refusal::Stale), 0),
+        Err(_) => plain(Reply::Refused(Refusal::Stale), 0),
     }
 }
 
 // The store answered a fault.
 fn failed<K: HouseName>(house: &mut House<K>, job: &Job, doubt: Doubt) -> Ending<K>
     ensures step { Ends house.old job.now (Stage.Doubtful doubt) house.new
-        result.reply result.status result.told result.events }
+        result.reply result.status (published_by result.settling) result.events }
     ensures one { result.events ≤ 1 }
 {
     let fault = doubt.fault();
     match house.fail(doubt) {
-        Ok(()) => unsettled(Reply::Refused(fault.refusal()), 1),
-        Err(_) => unsettled(Reply::Refused(Refusal::Stale), 0),
+        Ok(()) => plain(Reply::Refused(fault.refusal()), 1),
+        Err(_) => plain(Reply::Refused(Refusal::Stale), 0),
     }
 }
 
@@ -222,7 +206,7 @@ fn restarted<K: HouseName, R: Wait>(
     image: Vec<Record>,
 ) -> Ending<K>
     ensures step { Ends house.old job.now (Stage.Retrieved image) house.new
-        result.reply result.status result.told result.events }
+        result.reply result.status (published_by result.settling) result.events }
     ensures one { result.events ≤ 1 }
 {
     house.promise();
@@ -231,17 +215,17 @@ fn restarted<K: HouseName, R: Wait>(
     match house.restart(alloc, node, image) {
         Ok(()) => {
             let after = logged(house, node);
-            let told = settled(rt, house, node, before < after);
+            let settling = settle_released(rt, house, node, before < after);
             Ending {
-                told,
-                ..unsettled(Reply::Up(node), 1)
+                settling,
+                ..plain(Reply::Up(node), 1)
             }
         }
-        Err(refusal) => unsettled(Reply::Refused(refusal), 0),
+        Err(refusal) => plain(Reply::Refused(refusal), 0),
     }
 }
 
-// How a node is in this state.
+// The reply about a node in this state.
 fn state_reply(node: NodeId, state: State) -> Reply
     ensures { result ≡ state_reply node state }
 {
@@ -251,19 +235,19 @@ fn state_reply(node: NodeId, state: State) -> Reply
     }
 }
 
-// The House is to say how the node is.
+// The House reports the node's status.
 fn asked<K: HouseName>(house: &House<K>, job: &Job) -> Ending<K>
     ensures step { Ends house.now job.now Stage.Asking house.now
-        result.reply result.status result.told result.events }
+        result.reply result.status (published_by result.settling) result.events }
     ensures none { result.events ≡ 0 }
 {
     let node = job.node();
     match house.status(node) {
         Some(status) => Ending {
             status: Some(status),
-            ..unsettled(state_reply(node, status.state), 0)
+            ..plain(state_reply(node, status.state), 0)
         },
-        None => unsettled(Reply::Refused(Refusal::BadNode), 0),
+        None => plain(Reply::Refused(Refusal::BadNode), 0),
     }
 }
 
@@ -277,7 +261,7 @@ pub(crate) fn ended<K: HouseName, R: Wait>(
 ) -> Ending<K>
     requires { is_stored stage ≡ true }
     ensures step { Ends house.old job.now stage house.new
-        result.reply result.status result.told result.events }
+        result.reply result.status (published_by result.settling) result.events }
     ensures one { result.events ≤ 1 }
 {
     match stage {
@@ -285,8 +269,8 @@ pub(crate) fn ended<K: HouseName, R: Wait>(
         Stage::Kept(receipt) => committed(rt, house, job, receipt),
         Stage::Doubtful(doubt) => failed(house, job, doubt),
         Stage::Retrieved(image) => restarted(rt, alloc, house, job, image),
-        Stage::Unread(fault) => unsettled(Reply::Refused(fault.refusal()), 0),
+        Stage::Unread(fault) => plain(Reply::Refused(fault.refusal()), 0),
         Stage::Asking => asked(house, job),
-        Stage::Answered(reply) => unsettled(reply, 0),
+        Stage::Answered(reply) => plain(reply, 0),
     }
 }

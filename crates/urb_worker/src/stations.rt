@@ -8,17 +8,19 @@ use std::time::{Clock, Duration};
 use std::{io, thread};
 use urb_show::READERS;
 
-/// How many sessions of clients a node has at a time: each reads with a reader of its own.
+/// How many sessions of clients a node has at a time. Each session reads with a reader of its own.
 pub const SESSIONS: usize = READERS;
 
-// How long a thread rests after an error of its socket, in milliseconds: as long as the cause stays, each try would fail at once.
+// How long a thread rests after an error of its socket, in milliseconds. While the cause stays,
+// each try would fail at once.
 const REST: u64 = 10;
 
-// How long a connection that only wakes may take, in milliseconds. Where there is no room for it, others wait already.
+// How long a connection that only wakes a thread may take, in milliseconds. If there is no room for
+// it, other connections wait already.
 const PATIENCE: u64 = 200;
 
-/// A node's two sockets at 127.0.0.1, with their ports: packets come to the one, and clients to the other. Beside them stands what
-/// is in flight to the first one.
+/// A node's two sockets at 127.0.0.1, with their ports: packets come to the first, and clients to
+/// the second. The station also counts what is in flight to the first socket.
 #[derive(Drop)]
 pub struct Station {
     pub udp: UdpSocket,
@@ -29,8 +31,8 @@ pub struct Station {
 }
 
 impl Station {
-    /// Opens a node's sockets at these ports, where 0 stands for any that is free. The error is the system's, as of a port that
-    /// is in use; nothing stays open then.
+    /// Opens a node's sockets at these ports. Port 0 means any port that is free. An error is the
+    /// system's, for example if a port is in use. After an error nothing stays open.
     pub fn open<R: Net<Listener = TcpListener, Stream = TcpStream>>(
         rt: &R,
         udp_port: u16,
@@ -49,7 +51,8 @@ impl Station {
         })
     }
 
-    /// Wakes what waits at the sockets: an empty datagram for the receiver, and a connection for each that takes sessions.
+    /// Wakes what waits at the sockets: an empty datagram wakes the receiver, and a connection
+    /// wakes each thread that takes sessions.
     pub fn wake<R: Net<Listener = TcpListener, Stream = TcpStream>>(&self, rt: &R) {
         let _ = self.udp.send_to(&[], (Ipv4Addr::LOCALHOST, self.udp_port));
         let at = SocketAddr::from((Ipv4Addr::LOCALHOST, self.tcp_port));
@@ -59,7 +62,7 @@ impl Station {
     }
 }
 
-/// Rests after an error of a socket, before it is tried again.
+/// Rests after an error of a socket, before the caller tries again.
 pub(crate) fn rest<R: Clock>(rt: &R) {
     thread::sleep(rt, Duration::from_millis(REST));
 }

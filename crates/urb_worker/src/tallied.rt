@@ -1,4 +1,4 @@
-//! What lies under a Hub's lock: the House, with the book of its events.
+//! What is under a Hub's lock: the House, with the book of its events.
 
 ghost use Rattle.std.specs.Prelude.{◌≡◌, ◌+◌, ◌-◌, ◌<◌, ◌^◌, sum, true, vec_len};
 ghost use Rattle.urb_group.specs.Shown.{IsSound};
@@ -13,8 +13,8 @@ use std::sync::Wait;
 use std::sync::ledger::{Book, Share};
 use urb_show::{House, HouseName};
 
-// The House, the total of all tallies, and the share that is left when each worker has its part. Its events are those at
-// which the Hub began, and the total.
+// The House, the total of all tallies, and the share that is left when each worker has its part.
+// The House's events are those at which the Hub began, and the total.
 pub(crate) struct TalliedHouse<K: HouseName, L: HubName> {
     house: House<K>,
     book: Book<L>,
@@ -24,7 +24,7 @@ pub(crate) struct TalliedHouse<K: HouseName, L: HubName> {
 }
 
 impl<K: HouseName, L: HubName> TalliedHouse<K, L> {
-    // The House, once each part of the ledger is with a tally.
+    // The House, when each part of the ledger is with a tally.
     pub(crate) fn new(house: House<K>, book: Book<L>, rest: Share<L>) -> TalliedHouse<K, L>
         requires start { house.events ≡ L.start }
         requires total { book.total ≡ 0 }
@@ -74,7 +74,7 @@ impl<K: HouseName, L: HubName> TalliedHouse<K, L> {
         let before = turn.events();
         let finished = turn.finish(rt, alloc, house);
         tally.count(book, finished.events() - before);
-        // This does nothing: it gives the proof what every house keeps.
+        // This does nothing: it gives the proof what every house guarantees.
         house.promise();
         finished
     }

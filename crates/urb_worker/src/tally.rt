@@ -1,4 +1,4 @@
-//! The tokens that count what workers did on a House.
+//! The tokens that count what workers did to a House.
 
 ghost use Rattle.std.specs.Prelude.{◌≡◌, ◌+◌, ◌<◌};
 
@@ -16,8 +16,8 @@ impl HubName for Brand {
     ghost start = { 0 };
 }
 
-/// How many events the turns of one worker were, in one part of the Hub's ledger. Contracts see it as that number. Only a
-/// Hub makes one, and takes all of them back in the end.
+/// The number of events in the turns of one worker, as one part of the Hub's ledger. Contracts see
+/// it as that number. Only a Hub makes a tally, and it takes all of them back in the end.
 #[derive(Drop)]
 pub struct Tally<L: HubName> {
     share: Share<L>,
@@ -34,7 +34,7 @@ impl<L: HubName> Model for Tally<L> {
 }
 
 impl<L: HubName> Tally<L> {
-    // One part of the rest of a ledger.
+    // One part of what is left of a ledger.
     pub(crate) fn one(rest: &mut Share<L>) -> Tally<L>
         requires parts { 0 < rest.old.parts }
         requires amount { rest.old.amount ≡ 0 }
@@ -47,7 +47,7 @@ impl<L: HubName> Tally<L> {
         }
     }
 
-    // Counts so many events more, in the ledger's book too.
+    // Counts this many more events, in the ledger's book too.
     pub(crate) fn count(&mut self, book: &mut Book<L>, events: u8)
         ensures tally { self.new ≡ self.old + events }
         ensures book { book.new.total ≡ book.old.total + events }
@@ -55,7 +55,7 @@ impl<L: HubName> Tally<L> {
         book.add(&mut self.share, u64::from(events));
     }
 
-    // The part, for its ledger to take back.
+    // The part, for the ledger to take back.
     pub(crate) fn into_share(self) -> Share<L>
         ensures parts { result.parts ≡ 1 }
         ensures amount { result.amount ≡ self }

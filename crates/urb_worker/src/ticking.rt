@@ -8,10 +8,10 @@ use std::time::{Clock, Duration};
 use urb_names::NodeId;
 use urb_show::HouseName;
 
-// The longest sleep, in milliseconds, after which it looks at the stop.
+// The longest sleep, in milliseconds. After it the timer checks the stop.
 const STEP: u32 = 50;
 
-// Sleeps this many milliseconds in short steps, and says whether the stop is still not set.
+// Sleeps `millis` milliseconds in short steps. Returns whether the stop is still not set.
 fn pause<R: Clock>(rt: &R, stop: &Stop, millis: u32) -> bool {
     let mut left = millis;
     while left > 0 && !stop.is_set() {
@@ -22,7 +22,7 @@ fn pause<R: Clock>(rt: &R, stop: &Stop, millis: u32) -> bool {
     !stop.is_set()
 }
 
-// A timeout at a node.
+// The ticket for a tick at a node.
 fn tick<K: HouseName>(node: NodeId) -> Ticket<K> {
     Ticket {
         job: Job::Tick(node),
@@ -30,8 +30,9 @@ fn tick<K: HouseName>(node: NodeId) -> Ticket<K> {
     }
 }
 
-/// Sends each node's worker a tick every so many milliseconds, where 0 is taken as 1, until the stop is set. The lines are those of
-/// the nodes 1, 2, ... A tick for which a line has no room is lost. It looks at the stop every 50 milliseconds.
+/// Sends each node's worker a tick every `millis` milliseconds, until the stop is set. It takes 0
+/// as 1. The lines are the queues of nodes 1, 2, ... A tick is lost if a line has no room for it.
+/// The timer checks the stop every 50 milliseconds.
 pub fn timer<K: HouseName, R: Wait + Clock>(
     rt: &R,
     stop: &Stop,

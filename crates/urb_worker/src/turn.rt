@@ -1,12 +1,14 @@
-//! One job's turn on the House, and what comes of it.
+//! One job's turn on the House, and its result.
 
 ghost use Rattle.std.specs.Prelude.{◌≡◌, ◌-◌, ◌≤◌, true};
 ghost use Rattle.urb_worker.specs.Counting.{count_after};
+ghost use Rattle.urb_worker.specs.Settlings.{published_by, told_in};
 ghost use Rattle.urb_worker.specs.Stages.{is_drafted, is_stored};
 ghost use Rattle.urb_worker.specs.Turns.{Begins, Finishes, Stores};
 ghost use Rattle.urb_worker.specs.Whole.{misrouted};
 
 use crate::Job;
+use crate::settling::Settling;
 use crate::stages::{Ending, Stage, begun, ended, stored};
 use std::alloc::Global;
 use std::marker::{Model, PhantomData};
@@ -15,12 +17,13 @@ use urb_group::{Reply, Stable};
 use urb_names::Refusal;
 use urb_show::{House, HouseName, Status, Told};
 
-/// A job that has begun, on the House that K names. It goes on by `store`, which isn't lent the House, and ends by `finish`.
+/// A job that has begun, on the House that K names. It continues with `store`, which doesn't borrow
+/// the House, and ends with `finish`.
 #[derive(Drop)]
 pub struct Turn<K: HouseName> {
     job: Job,
     stage: Stage,
-    // How many events it was so far.
+    // The number of its events so far.
     count: u8,
     name: PhantomData<K>,
 }
@@ -37,38 +40,40 @@ impl<K: HouseName> Model for Turn<K> {
     ghost invariant = { λ t. (t.count ≤ 1) × HasBegun t.job t.stage };
 }
 
-/// What came of a job. One that ran comes of a turn on the House that K names.
+/// The result of a job. If the job ran, it comes from a turn on the House that K names.
 #[derive(Drop)]
 pub struct Finished<K: HouseName> {
     job: Job,
     reply: Reply,
     status: Option<Status>,
-    told: Option<Told<K>>,
+    settling: Settling<K>,
     ran: bool,
     events: u8,
 }
 
 impl<K: HouseName> Model for Finished<K> {
+    ghost use Rattle.urb_worker.specs.Settlings.{published_by};
     ghost use Rattle.urb_worker.specs.Turns.{IsOutcome};
     ghost use Rattle.urb_worker.specs.Views.{FinishedView};
 
     ghost Value = { FinishedView };
 
-    ghost invariant = { λ f. IsOutcome f.ran f.job f.reply f.status f.told };
+    ghost invariant = { λ f. IsOutcome f.ran f.job f.reply f.status
+        (published_by f.settling) };
 
     ghost view = { λ f. record {
       job = f.job;
       reply = f.reply;
       status = f.status;
-      told = f.told;
+      settling = published_by f.settling;
       ran = f.ran;
       events = f.events;
     } };
 }
 
 impl<K: HouseName> Turn<K> {
-    /// The job's event before its store. A restart of a node that is down asks its store first, and a status is no event: they
-    /// change nothing here.
+    /// The job's event before its store. A restart of a node that is down asks its store first, and
+    /// a status is no event: they change nothing here.
     pub fn begin(alloc: Global, house: &mut House<K>, job: Job) -> Turn<K>
         ensures job { result.job ≡ job }
         // What it did to the House, in full.
@@ -85,8 +90,8 @@ impl<K: HouseName> Turn<K> {
         }
     }
 
-    /// Has the store keep the draft, or give the image of a restart; else nothing. The House goes on meanwhile: the node
-    /// may be crashed, and other nodes may act.
+    /// Has the store keep the draft, or give the image of a restart. In other stages it does
+    /// nothing. The House goes on meanwhile: the node may be crashed, and other nodes may act.
     pub fn store<S: Stable<Alloc = Global>>(self, alloc: Global, store: &mut S) -> Turn<K>
         ensures job { result.job ≡ self.job }
         ensures events { result.events ≡ self.events }
@@ -107,8 +112,9 @@ impl<K: HouseName> Turn<K> {
         }
     }
 
-    /// The job's event after its store. Where names of the node were released, the node is settled. Where the draft is no
-    /// longer held, its receipt is dropped and the reply is `Refused(Stale)`. May wait for a reader.
+    /// The job's event after its store. If names of the node were released, the node is settled. If
+    /// the draft is no longer held, its receipt is dropped and the reply is `Refused(Stale)`. May
+    /// wait for a reader.
     #[tactic(auto, using(crate::proofs::Counts::ends_count))]
     pub fn finish<R: Wait>(self, rt: &R, alloc: Global, house: &mut House<K>) -> Finished<K>
         requires { is_stored self.stage ≡ true }
@@ -130,34 +136,34 @@ impl<K: HouseName> Turn<K> {
         let Ending {
             reply,
             status,
-            told,
+            settling,
             events: more,
         } = ended(rt, alloc, house, &job, stage);
         Finished {
             job,
             reply,
             status,
-            told,
+            settling,
             ran: true,
             events: count + more,
         }
     }
 
-    // Whether the store is to keep a draft.
+    // Whether the store has to keep a draft.
     pub(crate) fn is_drafted(&self) -> bool
         ensures { result ≡ is_drafted self.now.stage }
     {
         matches!(self.stage, Stage::Drafted(_))
     }
 
-    // Whether nothing is asked of the store, now or any more.
+    // Whether the store has nothing to do, now or later.
     pub(crate) fn is_stored(&self) -> bool
         ensures { result ≡ is_stored self.now.stage }
     {
         !matches!(self.stage, Stage::Drafted(_) | Stage::Retrieving)
     }
 
-    // How many events it was so far.
+    // The number of its events so far.
     pub(crate) fn events(&self) -> u8
         ensures value { result ≡ self.now.events }
         ensures range { result ≤ 1 }
@@ -167,7 +173,7 @@ impl<K: HouseName> Turn<K> {
 }
 
 impl<K: HouseName> Finished<K> {
-    /// What comes of a job that is of another node than its worker's: it did not run.
+    /// The result of a job for another node than its worker's: it did not run.
     pub fn misrouted(job: Job) -> Finished<K>
         ensures { result ≡ misrouted job }
     {
@@ -175,7 +181,7 @@ impl<K: HouseName> Finished<K> {
             job,
             reply: Reply::Refused(Refusal::BadNode),
             status: None,
-            told: None,
+            settling: Settling::NothingNew,
             ran: false,
             events: 0,
         }
@@ -188,38 +194,46 @@ impl<K: HouseName> Finished<K> {
         &self.job
     }
 
-    /// What it led to: the reply of the last event, or a refusal. Of a status `WentDown` where the node is down, else `Up`.
+    /// The outcome: the reply of the last event, or a refusal. After a status it is `WentDown` if
+    /// the node is down, else `Up`.
     pub fn reply(&self) -> &Reply
         ensures { result.now ≡ self.now.reply }
     {
         &self.reply
     }
 
-    /// Whether it ran. Only `Turn::finish` makes one that did.
+    /// Whether it ran. Only `Turn::finish` makes a result of a job that ran.
     pub fn ran(&self) -> bool
         ensures { result ≡ self.now.ran }
     {
         self.ran
     }
 
-    /// How many events of the House it was: its calls there that were not refused.
+    /// The number of its events of the House: its calls there that were not refused.
     pub fn events(&self) -> u8
         ensures { result ≡ self.now.events }
     {
         self.events
     }
 
-    /// Its reply; how the node is, where that was asked; and what was told, where the node was settled. A reader that learns
-    /// that sees the names that were released.
+    /// Whether the names that it released are published: there were none, or they are, or memory was refused.
+    pub fn settling(&self) -> &Settling<K>
+        ensures { published_by result.now ≡ self.now.settling }
+    {
+        &self.settling
+    }
+
+    /// Its reply; how the node is, if that was asked; and the published lists, if the node was settled. A reader that learns
+    /// these sees the names that were released.
     pub fn into_parts(self) -> (Reply, Option<Status>, Option<Told<K>>)
-        ensures { result ≡ (self.reply, self.status, self.told) }
+        ensures { result ≡ (self.reply, self.status, told_in self.settling) }
     {
         let Finished {
             reply,
             status,
-            told,
+            settling,
             ..
         } = self;
-        (reply, status, told)
+        (reply, status, settling.into_told())
     }
 }

@@ -1,4 +1,6 @@
-//! What no contract says: which reply a turn gives, stores that overlap, and workers over channels and links.
+//! Facts that no contract states.
+//!
+//! They are the reply of a turn, stores that overlap, and workers over channels and links.
 
 ghost use Rattle.std.specs.Prelude.{◌≡◌, ◌*◌, IfSome, length, vec_len};
 ghost use Rattle.urb_show.specs.Lists.{lists_in};
@@ -13,6 +15,7 @@ use urb_worker::{Hub, HubName, Job, Tally};
 
 mod bursts;
 mod desks;
+mod drafts;
 mod flights;
 mod gates;
 mod groups;
@@ -20,6 +23,7 @@ mod hearing;
 mod limits;
 mod pacing;
 mod receivers;
+mod reports;
 mod sevens;
 mod shorts;
 mod stations;
@@ -27,7 +31,7 @@ mod strays;
 mod timers;
 mod turns;
 
-// A new group of this many nodes, opened.
+// A new group with this many nodes, opened.
 fn opened(alloc: Global, nodes: u8) -> Option<Opened>
     ensures { IfSome result (λ it. it.group.size.n ≡ nodes) }
 {
@@ -68,7 +72,7 @@ fn hub_of<K: HouseName, L: HubName, R: Wait>(
     }
 }
 
-// A submit of client 7 at a node, whose payload is empty.
+// A submit of client 7 at a node, with an empty payload.
 fn submit(alloc: Global, node: NodeId, number: u32) -> Option<Job> {
     Some(Job::Submit {
         node,

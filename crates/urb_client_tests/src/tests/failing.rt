@@ -1,4 +1,6 @@
-//! Runs in which memory is refused, or the reader or the writer fails: at the first place, then at the second, and so on.
+//! Runs in which memory is refused, or the reader or the writer fails.
+//!
+//! The failure comes at the first place, then at the second, and so on.
 
 use super::frames::eight_entries;
 use super::node::OneNode;
@@ -10,7 +12,7 @@ use urb_client::*;
 use urb_names::NoMemory;
 use urb_refusing::{FailingReader, FailingWriter, Refusing};
 
-// What fails, and in what.
+// What fails, and in which kind of run.
 #[derive(Clone, Copy)]
 enum Failing {
     SessionGrowth,
@@ -21,7 +23,8 @@ enum Failing {
     ResponseGrowth,
 }
 
-// What came of a run: the failure was told, it was not met and all went well, or something else.
+// The result of a run: the failure was reported, or it was not met and all went well, or something
+// else happened.
 #[derive(Clone, Copy)]
 enum Came {
     Told,
@@ -29,7 +32,8 @@ enum Came {
     Other,
 }
 
-// What came of a run, by whether the failure was met, whether it was told then, and whether all went well else.
+// Returns the result of a run. `met`: the failure was met. `told`: it was reported then. `well`:
+// all went well otherwise.
 fn came_of(met: bool, told: bool, well: bool) -> Came {
     match (met, told, well) {
         (true, true, _) => Came::Told,
@@ -38,8 +42,8 @@ fn came_of(met: bool, told: bool, well: bool) -> Came {
     }
 }
 
-// Where a session fails, by the number of the growth, of the read, and of the write or flush, 0 for nowhere; and in what pieces
-// it reads and writes.
+// Where a session fails, and in what pieces it reads and writes. The place is the number of the
+// growth, of the read, and of the write or flush; 0 is nowhere.
 #[derive(Clone, Copy)]
 struct Course {
     growth: u64,
@@ -48,7 +52,7 @@ struct Course {
     pieces: (usize, usize),
 }
 
-// A session that fails nowhere, whose reader gives pieces of three bytes.
+// A session that fails nowhere, and whose reader gives pieces of three bytes.
 const SMOOTH: Course = Course {
     growth: 0,
     read: 0,
@@ -56,9 +60,9 @@ const SMOOTH: Course = Course {
     pieces: (3, 100),
 };
 
-// What a session came to: how it ended; whether it met its failure, and whether that was its last growth, read, write or flush;
-// whether all answers were written, or the first so many of them, each whole, and whether they were flushed; how many reads and
-// flushes there were.
+// The result of a session: how it ended, whether it met its failure, and whether that was its last
+// growth, read, write or flush. Also whether all answers were written, or some first answers, each
+// of them whole, and whether they were flushed. Last, how many reads and flushes there were.
 #[derive(Clone, Copy)]
 struct Outcome {
     ended: Result<Ended, SessionFault>,
@@ -72,18 +76,18 @@ struct Outcome {
 }
 
 impl Outcome {
-    // Whether the session ended so.
+    // Says whether the session ended with this fault.
     fn ends(&self, fault: SessionFault) -> bool {
         self.ended == Err(fault)
     }
 
-    // Whether the session went as it does where nothing fails.
+    // Says whether the session went as it does without a failure.
     fn is_well(&self) -> bool {
         self.ended == Ok(Ended::BadFrame) && self.all && self.flushed && self.flushes == 8
     }
 }
 
-// Whether these bytes are the first so many answers, each of them whole.
+// Says whether these bytes are some of the first answers, each of them whole.
 fn are_whole_answers(written: &[u8]) -> bool {
     let (mut rest, mut answered) = (written, ANSWERED);
     for _ in 0..8u8 {
@@ -96,7 +100,7 @@ fn are_whole_answers(written: &[u8]) -> bool {
     rest.is_empty()
 }
 
-// How a session ends at the desk of a node whose log is empty.
+// Returns how a session ends at the desk of a node whose log is empty.
 fn ended<A: Allocator + Copy>(
     alloc: A,
     reader: &mut FailingReader<'_>,
@@ -106,7 +110,7 @@ fn ended<A: Allocator + Copy>(
     session(alloc, reader, writer, &mut desk)
 }
 
-// What the worked session comes to on this course.
+// Returns the result of the worked session on this course.
 fn played(alloc: Global, course: Course) -> Outcome {
     let heap = Refusing::new(alloc, course.growth);
     let mut reader = FailingReader::new(SENT, course.pieces.0.max(1), course.read);
@@ -135,7 +139,7 @@ fn a_session_ends_at_a_bad_length_byte_by_byte(rt: HostRuntime) {
         },
     );
     assert!(rt; outcome.is_well());
-    // A read for each byte up to the bad length, and none for the frame behind it.
+    // A read for each byte up to the bad length, and no read for the frame after it.
     assert_eq!(rt; outcome.reads, 52);
 }
 
@@ -166,12 +170,14 @@ fn session_read(alloc: Global, number: u64) -> Came {
     came_of(outcome.met, told, outcome.is_well())
 }
 
-// How many reads the first answers take: two a frame, but the last one has no bytes after its length.
+// Returns how many reads the first answers take: two per frame, but the last frame has no bytes
+// after its length.
 fn reads_for(answers: u64) -> u64 {
     answers.saturating_mul(2).min(15)
 }
 
-// A session in which this write or flush fails. The frame after an answer isn't read before that is flushed, nor after the fault.
+// A session in which this write or flush fails. The frame after an answer is read neither before
+// the answer is flushed, nor after the fault.
 fn session_write(alloc: Global, number: u64) -> Came {
     let outcome = played(
         alloc,
@@ -190,7 +196,7 @@ fn session_write(alloc: Global, number: u64) -> Came {
     )
 }
 
-// The frame of a page, written and read, where this growth is refused.
+// The frame of a page, written and read, with this growth refused.
 fn page_growth(alloc: Global, number: u64) -> Came {
     let heap = Refusing::new(alloc, number);
     let read = eight_entries(&heap);
@@ -200,7 +206,7 @@ fn page_growth(alloc: Global, number: u64) -> Came {
 // A page of one entry.
 const PAGE: &[u8] = b"\x00\x11\x82\x01\x01\x00\x00\x00\x01\x00\x07\x00\x00\x00\x01\x00\x02hi";
 
-// A response that is received, where this read fails.
+// A response that is received, with this read failing.
 fn response_read(alloc: Global, number: u64) -> Came {
     let mut reader = FailingReader::new(PAGE, 3, number);
     let read = has_entries(alloc, &mut reader);
@@ -208,7 +214,7 @@ fn response_read(alloc: Global, number: u64) -> Came {
     came_of(reader.met(), told, read == Ok(true))
 }
 
-// A response that is received, where this growth is refused.
+// A response that is received, with this growth refused.
 fn response_growth(alloc: Global, number: u64) -> Came {
     let heap = Refusing::new(alloc, number);
     let mut reader = PAGE;
@@ -217,7 +223,7 @@ fn response_growth(alloc: Global, number: u64) -> Came {
     came_of(heap.met(), told, read == Ok(true))
 }
 
-// What comes of a run that fails at this place.
+// Returns the result of a run that fails at this place.
 fn came_at(alloc: Global, failing: Failing, number: u64) -> Came {
     match failing {
         Failing::SessionGrowth => session_growth(alloc, number),
@@ -229,7 +235,8 @@ fn came_at(alloc: Global, failing: Failing, number: u64) -> Came {
     }
 }
 
-// The first place that no run comes to, where each failure before it was told; else the place of the first that was not.
+// Returns the first place that no run comes to, if each failure before it was reported. Otherwise
+// returns the place of the first failure that was not.
 fn first_unmet(alloc: Global, failing: Failing) -> Result<u64, u64> {
     for number in 1..200u64 {
         match came_at(alloc, failing, number) {
@@ -255,7 +262,7 @@ fn the_reader_may_fail_at_each_call(rt: HostRuntime) {
 
 #[test]
 fn each_write_and_each_flush_may_fail(rt: HostRuntime) {
-    // Each of eight answers takes a write, and a flush behind it.
+    // Each of eight answers takes a write, and a flush after it.
     assert_eq!(rt; first_unmet(rt.alloc(), Failing::SessionWrite), Ok(17));
 }
 
@@ -277,7 +284,7 @@ fn each_growth_for_a_response_may_be_refused(rt: HostRuntime) {
     assert!(rt; matches!(unmet, Ok(2..)));
 }
 
-// Whether the fault is written so.
+// Says whether the fault has this text.
 fn is_written<F: Display>(alloc: Global, fault: &F, text: &str) -> bool {
     match format!(in alloc; "{fault}") {
         Ok(written) => written.as_str() == text,

@@ -9,7 +9,7 @@ use std::alloc::{Allocator, Global};
 use urb_client::*;
 use urb_names::{ClientId, MAX_PAYLOAD, Message, Name, NoMemory, NodeId, Refusal};
 
-// Whether the request has this frame.
+// Says whether the request has this frame.
 fn is_frame_of(alloc: Global, request: Request, frame: &[u8]) -> bool
     requires values { IsAsked (asked_by request) }
     requires short { IsShort (asked_by request) }
@@ -20,7 +20,7 @@ fn is_frame_of(alloc: Global, request: Request, frame: &[u8]) -> bool
     }
 }
 
-// Whether a submit of client 7 has this frame.
+// Says whether a submit of client 7 has this frame.
 fn is_frame_of_submit(alloc: Global, frame: &[u8]) -> bool {
     let Ok(payload) = Vec::from_slice(alloc, b"hi") else {
         return false;
@@ -47,7 +47,7 @@ fn requests_are_encoded(rt: HostRuntime) {
     assert_eq!(rt; encoded, [true; 5]);
 }
 
-/// Requests behind their length, and what they ask; none where there is no request.
+/// Requests without their length, and what they ask; `None` if there is no request.
 const REQUESTS: [(&[u8], Option<Asked<'_>>); 6] = [
     (
         b"\x01\x00\x07\x00\x00\x00\x01hi",
@@ -60,7 +60,8 @@ const REQUESTS: [(&[u8], Option<Asked<'_>>); 6] = [
     (b"", None),
 ];
 
-// Whether these bytes are read as a request that asks this; none where their opcode is unknown.
+// Says whether these bytes are read as a request that asks this. `None` stands for an unknown
+// opcode.
 fn asks(alloc: Global, bytes: &[u8], asked: Option<Asked<'_>>) -> bool {
     match parse_request(alloc, bytes) {
         Ok(request) => Some(asked_by(&request)) == asked,
@@ -95,7 +96,7 @@ const RESPONSES: [(&[u8], Said<'_>); 7] = [
     (b"\x00\x02\x82\x00", Said::NoEntries),
 ];
 
-// Whether the response has this frame.
+// Says whether the response has this frame.
 fn is_frame<A: Allocator + Copy>(
     alloc: A,
     response: &Response<A>,
@@ -104,7 +105,7 @@ fn is_frame<A: Allocator + Copy>(
     Ok(encode_response(alloc, response)?.as_slice() == frame)
 }
 
-// Whether the response of this frame says this, and has the frame.
+// Says whether the response of this frame says this, and has the frame.
 fn says(alloc: Global, frame: &[u8], said: Said<'_>) -> bool {
     let [_, _, bytes @ ..] = frame else {
         return false;
@@ -142,7 +143,7 @@ const OTHERS: [&[u8]; 14] = [
     b"\xee\x13\x00\x00\x00\x02\x00",
 ];
 
-// Whether these bytes are read as no response.
+// Says whether these bytes are read as no response.
 fn is_no_response(alloc: Global, bytes: &[u8]) -> bool {
     matches!(parse_response(alloc, bytes), Ok(None))
 }
@@ -154,7 +155,7 @@ fn other_bytes_are_no_response(rt: HostRuntime) {
     }
 }
 
-// The first entry of node 1: a message of client 7 with this payload.
+// Returns the first entry of node 1: a message of client 7 with this payload.
 fn first_entry<A: Allocator + Copy>(
     alloc: A,
     payload: &[u8],
@@ -166,7 +167,7 @@ fn first_entry<A: Allocator + Copy>(
     Ok((Name { sender, seq: 1 }, message))
 }
 
-// The frame of a page that has this entry eight times, as far as there is room.
+// Returns the frame of a page that has this entry eight times, as far as there is room.
 fn frame_of_eight<A: Allocator + Copy>(alloc: A, payload: &[u8]) -> Result<Vec<u8, A>, NoMemory>
     requires { length payload.now ≤ longest }
 {
@@ -178,7 +179,7 @@ fn frame_of_eight<A: Allocator + Copy>(alloc: A, payload: &[u8]) -> Result<Vec<u
     encode_response(alloc, &Response::entries(page)?)
 }
 
-// Whether the response of these bytes has this frame.
+// Says whether the response of these bytes has this frame.
 fn is_read_again<A: Allocator + Copy>(
     alloc: A,
     bytes: &[u8],
@@ -190,7 +191,8 @@ fn is_read_again<A: Allocator + Copy>(
     }
 }
 
-// Whether the frame of a page that has this entry eight times begins so, its length, its opcode and its count, and is read again.
+// Writes the frame of a page that has this entry eight times. Says whether it begins with this
+// length, opcode and count, and is read again.
 fn are_read_again<A: Allocator + Copy>(
     alloc: A,
     payload: &[u8],
@@ -207,7 +209,7 @@ fn are_read_again<A: Allocator + Copy>(
     }
 }
 
-/// Whether eight entries with a thousand letters each are read from their frame again.
+/// Says whether eight entries with a thousand letters each are read from their frame again.
 pub(super) fn eight_entries<A: Allocator + Copy>(alloc: A) -> Result<bool, NoMemory> {
     are_read_again(alloc, &[b'x'; 1024], [0x20, 0x6a, 0x82, 8])
 }

@@ -6,7 +6,7 @@ use std::alloc::Allocator;
 use urb_client::*;
 use urb_names::{ClientId, MAX_PAYLOAD, Message, Name, NoMemory, NodeId, Refusal};
 
-/// A node that is a group of its own: what it is sent stands in its log at once.
+/// A node that is a group of its own: a message that it is sent is in its log at once.
 #[derive(Drop)]
 pub(super) struct OneNode<A: Allocator> {
     alloc: A,
@@ -14,7 +14,7 @@ pub(super) struct OneNode<A: Allocator> {
 }
 
 impl<A: Allocator + Copy> OneNode<A> {
-    /// A node whose log is empty.
+    /// Makes a node whose log is empty.
     pub(super) fn new(alloc: A) -> OneNode<A> {
         OneNode {
             alloc,
@@ -22,14 +22,14 @@ impl<A: Allocator + Copy> OneNode<A> {
         }
     }
 
-    // The number that its next message has.
+    // Returns the number that its next message has.
     fn next(&self) -> u32 {
         u32::try_from(self.log.len())
             .unwrap_or(u32::MAX)
             .saturating_add(1)
     }
 
-    /// What a submit is answered.
+    /// Returns the answer to a submit.
     pub(super) fn submit(
         &mut self,
         client: ClientId,
@@ -52,7 +52,7 @@ impl<A: Allocator + Copy> OneNode<A> {
         Ok(Response::Accepted(number))
     }
 
-    // The page from this place on.
+    // Returns the page from this place on.
     fn page(&self, place: u32, max: u8) -> Result<Vec<(Name, Message<A>), A>, NoMemory>
         ensures { IfOk result (λ page. vec_len page ≤ 8) }
     {
@@ -66,12 +66,12 @@ impl<A: Allocator + Copy> OneNode<A> {
         Ok(page)
     }
 
-    // What a read is answered.
+    // Returns the answer to a read.
     fn read(&self, place: u32, max: u8) -> Result<Response<A>, NoMemory> {
         Response::entries(self.page(place, max)?)
     }
 
-    /// How many entries a read from this place on is answered; none where memory is refused.
+    /// Returns how many entries answer a read from this place on. It is 0 if memory is refused.
     pub(super) fn count_from(&self, place: u32) -> usize {
         match self.read(place, 8) {
             Ok(Response::Entries(entries)) => entries.as_slice().len(),

@@ -5,7 +5,7 @@ use std::alloc::{Allocator, Global};
 use std::io::Read;
 use urb_client::*;
 
-// Whether what a reader has at its front is a response that says this.
+// Says whether a reader has at its front a response that says this.
 fn is_received(alloc: Global, reader: &mut &[u8], said: Said<'_>) -> bool {
     match read_response(alloc, reader) {
         Ok(response) => said_by(&response) == said,
@@ -22,7 +22,7 @@ fn a_response_is_read_and_no_byte_behind_it(rt: HostRuntime) {
     assert!(rt; reader.is_empty());
 }
 
-/// Whether the response that a reader has at its front has entries.
+/// Says whether the response that a reader has at its front has entries.
 pub(super) fn has_entries<A: Allocator + Copy, R: Read>(
     alloc: A,
     reader: &mut R,
@@ -33,7 +33,7 @@ pub(super) fn has_entries<A: Allocator + Copy, R: Read>(
     }
 }
 
-/// What comes in where there is no response.
+/// What comes in if there is no response.
 const NO_RESPONSES: [&[u8]; 9] = [
     b"",
     b"\x00",
@@ -41,11 +41,11 @@ const NO_RESPONSES: [&[u8]; 9] = [
     b"\x00\x00",
     b"\x00\x05",
     b"\x00\x05\x81\x00\x00\x00",
-    // A request; a response with a byte behind it, or a byte too few.
+    // A request; a response with a byte after it, or with a byte too few.
     b"\x00\x01\x03",
     b"\x00\x06\x81\x00\x00\x00\x01x",
     b"\x00\x04\x81\x00\x00\x00",
-    // Entries of which the second is missing.
+    // Entries; the second one is missing.
     b"\x00\x11\x82\x02\x01\x00\x00\x00\x01\x00\x07\x00\x00\x00\x01\x00\x02hi",
 ];
 

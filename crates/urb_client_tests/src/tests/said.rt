@@ -4,7 +4,7 @@ use std::alloc::Allocator;
 use urb_client::*;
 use urb_names::Refusal;
 
-/// What a request asks; a submit with its client, its number and its payload.
+/// What a request asks. A submit has its client, its number and its payload.
 #[derive(Clone, Copy, PartialEq, Eq)]
 pub(super) enum Asked<'a> {
     Submit(u16, u32, &'a [u8]),
@@ -14,7 +14,7 @@ pub(super) enum Asked<'a> {
     Restart,
 }
 
-/// What a request asks.
+/// Returns what a request asks.
 pub(super) fn asked_by<A: Allocator>(request: &Request<A>) -> Asked<'_> {
     match request {
         Request::Submit {
@@ -29,7 +29,8 @@ pub(super) fn asked_by<A: Allocator>(request: &Request<A>) -> Asked<'_> {
     }
 }
 
-/// What a response says; entries by their first, with its sender, its number there, its client, its number there, and its payload.
+/// What a response says. Entries have their entry if there is exactly one: its sender, its number there, its client,
+/// its number there, and its payload.
 #[derive(Clone, Copy, PartialEq, Eq)]
 pub(super) enum Said<'a> {
     Accepted(u32),
@@ -41,7 +42,7 @@ pub(super) enum Said<'a> {
     Refused(u8, u32),
 }
 
-// What entries say.
+// Returns what entries say.
 fn listed<A: Allocator>(entries: &Entries<A>) -> Said<'_> {
     match entries.as_slice() {
         [] => Said::NoEntries,
@@ -56,7 +57,7 @@ fn listed<A: Allocator>(entries: &Entries<A>) -> Said<'_> {
     }
 }
 
-/// What a response says.
+/// Returns what a response says.
 pub(super) fn said_by<A: Allocator>(response: &Response<A>) -> Said<'_> {
     match response {
         Response::Accepted(seq) => Said::Accepted(*seq),

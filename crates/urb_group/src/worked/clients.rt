@@ -5,7 +5,8 @@ ghost use Rattle.urb_names.specs.Names.{name};
 ghost use Rattle.urb_group.specs.Scripts.{◌⇒◌, Plays, Drafts, Accepts, Logs, Refuses, accepted, down, message, submit, store, crash, log_of};
 ghost use Rattle.urb_group.specs.Examples.{filled};
 
-/// The numbers of each client run 1, 2, 3, .. at each node; a repeat gets the name that the first one got.
+/// The numbers of each client run 1, 2, 3, .. at each node. A repeat gets the name that the first
+/// submit got.
 pub fn numbers()
     ensures begin_with_one { Plays 3 10 (
         submit 1 (message 7 2 "a") ⇒ Refuses (refusal.Gap 1)
@@ -55,7 +56,7 @@ pub fn cap()
         ∷ []) }
 {}
 
-/// A payload has at most 16,384 bytes, and may have none.
+/// A payload has at most 16,384 bytes, and may be empty.
 pub fn payloads()
     ensures from_none_to_the_longest { Plays 1 3 (
         submit 1 (filled 7 1 0) ⇒ Drafts (name 1 1) 1

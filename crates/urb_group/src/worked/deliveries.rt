@@ -1,4 +1,4 @@
-//! Scripts in which nothing fails: what is drafted, stored, sent, counted and delivered.
+//! Scripts without failures: what is drafted, stored, sent, counted and delivered.
 ghost use Rattle.std.specs.Prelude.{[], ◌∷◌, None, Some, false};
 ghost use Rattle.urb_names.specs.Names.{name};
 ghost use Rattle.urb_stable.specs.declared.record.Record.TheVariants.{Pend, PendCert, Cert};
@@ -65,7 +65,7 @@ pub fn small_groups()
         ∷ []) }
 {}
 
-/// Groups of four and of five nodes, where a relay's record is no majority yet.
+/// Groups of four and of five nodes: a relay's record makes no majority yet.
 pub fn larger_groups()
     ensures the_source_is_counted_once { Plays 5 10 (
         submit 1 (message 7 1 "a") ⇒ Drafts (name 1 1) 1

@@ -115,7 +115,7 @@ pub fn crashes()
         ∷ []) }
 {}
 
-/// The whole process stops, and the group is opened again of what storage holds.
+/// The whole process stops, and the group is opened again over the records that the storages hold.
 pub fn stops()
     ensures logs_stay { Plays 3 10 (
         submit 1 (message 7 1 "a") ⇒ Drafts (name 1 1) 1

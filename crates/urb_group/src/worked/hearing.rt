@@ -1,4 +1,6 @@
-//! Certificates that nodes tell one another of: which packets may tell of one, what is heard, and what is answered.
+//! Certificates that nodes report to one another.
+//!
+//! The examples show which packets may report a certificate, what is heard, and what is answered.
 ghost use Rattle.std.specs.Prelude.{[], ◌∷◌, ◌++◌, None, Some, true};
 ghost use Rattle.urb_names.specs.declared.refusal.Refusal.TheVariants as refusal;
 ghost use Rattle.urb_names.specs.Names.{name};
@@ -8,8 +10,8 @@ ghost use Rattle.urb_group.specs.World.{image_of};
 ghost use Rattle.urb_group.specs.Scripts.{◌⇒◌, Plays, PlaysOpened, Drafts, Accepts, Takes, Is, Opens, Sends, Refuses, noted, again, answered, down, up, message, submit, store, crash, restart, restart_with, reopen, bring, tick, arrive, arrive2, look_at};
 ghost use Rattle.urb_group.specs.Examples.{pending, certified, filled, limits, flagged, to_two};
 
-/// Three nodes that tell one another of their certificates, until the ticks have nothing left to send but to the one that has
-/// told of none; and a crash, after which nothing was heard.
+/// Three nodes report their certificates to one another. In the end, ticks send only to the node
+/// that has reported no certificate. Then a node crashes, and has heard nothing.
 pub fn until_all_is_told()
     ensures { Plays 3 10 (
         submit 1 (message 7 1 "a") ⇒ Drafts (name 1 1) 1
@@ -33,7 +35,8 @@ pub fn until_all_is_told()
         ∷ []) }
 {}
 
-/// A message that is too long for a packet without flags comes in one with flags 0, and so it is answered.
+/// A message that is too long for a packet without flags comes in a packet with flags 0. So that
+/// packet is answered.
 pub fn long_messages()
     ensures not_of_1024_bytes { Plays 3 10 (
         submit 1 (filled 7 1 1024) ⇒ Drafts (name 1 1) 1
@@ -51,7 +54,8 @@ pub fn long_messages()
         ∷ []) }
 {}
 
-/// A packet that tells of a certificate is of a name of which its source has stored one; that one was heard, it may say of any.
+/// A packet may report a certificate only of a name whose certificate its source has stored. It may
+/// say of any name that the certificate was heard.
 pub fn forged()
     ensures by_a_source_that_has_none { PlaysOpened (limits 3 10) (image_of ((pending 1 1 ∷ []) ∷ (certified 1 1 ∷ []) ∷ [] ∷ [])) (
         bring 3 (flagged 1 1 3 1 1 (message 7 1 "")) ⇒ Refuses refusal.Forged
@@ -79,7 +83,8 @@ pub fn forged()
         ∷ []) }
 {}
 
-/// Ticks go to the nodes whose certificates were not heard: a node that is only counted is sent to.
+/// Ticks send to the nodes whose certificates were not heard. So they send to a node that is only
+/// counted.
 pub fn due()
     ensures a_counted_node_is_sent_to { Plays 5 10 (
         submit 1 (message 7 1 "a") ⇒ Drafts (name 1 1) 1
@@ -127,8 +132,8 @@ pub fn due()
         ∷ []) }
 {}
 
-/// A certificate is heard where its name is pending, at once, or with the record that the packet causes; and it is lost with the
-/// memory.
+/// A certificate is heard if its name is pending, either at once, or with the record that the
+/// packet causes. A crash loses it with the memory.
 pub fn heard()
     ensures once_the_record_is_stored { PlaysOpened (limits 3 10) (image_of ((pending 1 1 ∷ []) ∷ (certified 1 1 ∷ []) ∷ [] ∷ [])) (
         arrive2 2 3 1 1 1 ⇒ Drafts (name 1 1) 1
@@ -195,8 +200,9 @@ pub fn heard()
         ∷ []) }
 {}
 
-/// A packet of version two of a certified name is answered, unless it says that the certificate was heard; the answer says
-/// whether its own was. Nothing else is answered by a packet.
+/// A packet of version two of a certified name is answered, unless it says that the certificate was
+/// heard. The answer says whether the packet's own certificate was heard. No other packet is
+/// answered by one.
 pub fn answered_packets()
     ensures of_version_two_alone { PlaysOpened (limits 3 10) (image_of ((certified 1 1 ∷ []) ∷ (certified 1 1 ∷ []) ∷ [] ∷ [])) (
         arrive 2 1 1 1 ⇒ again 1 1

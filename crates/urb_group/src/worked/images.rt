@@ -25,7 +25,8 @@ pub fn fitting()
     ensures each_client_counts_for_itself { Judged 1 10 ((PendCert (name 1 1) (message 7 1 "a") ∷ PendCert (name 1 2) (message 8 1 "b") ∷ PendCert (name 1 3) (message 7 2 "c") ∷ []) ∷ []) None }
 {}
 
-/// A name out of range, a second pair under a name, and a certificate that has no pair or isn't the first.
+/// A name out of range, a second pair under a name, and a certificate that has no pair or isn't the
+/// first.
 pub fn misfits_of_a_name()
     ensures certificate_without_a_pair { Judged 3 10 ((Cert (name 1 1) ∷ []) ∷ [] ∷ [] ∷ []) (misfit A 1 1 1) }
     ensures certificate_before_its_pair { Judged 1 10 ((Cert (name 1 1) ∷ pending 1 1 ∷ []) ∷ []) (misfit A 1 1 1) }

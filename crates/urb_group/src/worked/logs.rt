@@ -6,7 +6,8 @@ ghost use Rattle.urb_stable.specs.declared.record.Record.TheVariants.{Pend, Pend
 ghost use Rattle.urb_group.specs.Scripts.{message};
 ghost use Rattle.urb_group.specs.Examples.{pending, certified};
 
-/// A log has a sender's names from number 1 on, as far as all are certified, each as soon as it can stand there.
+/// A log has a sender's names from number 1 on, as far as all are certified. Each enters the log as
+/// soon as all before it are certified.
 pub fn logs()
     ensures pending_is_not_delivered { log (pending 1 1 ∷ []) ≡ [] }
     ensures later_number_waits { log (certified 1 2 ∷ []) ≡ [] }

@@ -1,4 +1,4 @@
-//! The packets that a script hands out, whole.
+//! The packets that a script hands out, in full.
 ghost use Rattle.std.specs.Prelude.{◌≡◌, [], ◌∷◌, Ok, true, false};
 ghost use Rattle.urb_names.specs.Names.{name};
 ghost use Rattle.urb_stable.specs.declared.record.Record.TheVariants.{Pend, PendCert, Cert};
@@ -9,8 +9,9 @@ ghost use Rattle.urb_group.specs.Step.{run, Submit, Arrive, Commit, Tick};
 ghost use Rattle.urb_group.specs.Scripts.{message};
 ghost use Rattle.urb_group.specs.Examples.{pending, certified, limits, carried, flagged};
 
-/// A stored pair goes to each other node, targets rising; a certificate goes to none. All that was handed out was sent. Packets
-/// are of version two, and tell of a certificate from the record on that is one.
+/// A stored pair goes to every other node, in rising order of target. A certificate goes to no
+/// node. All packets that were handed out were sent. Packets are of version two, and report a
+/// certificate from the record on that is one.
 pub fn packets()
     ensures in_the_replies { (run (started (limits 3 10)) (
         Submit 1 (message 7 1 "a")

@@ -1,4 +1,6 @@
-//! How all that is stored comes to be delivered: after every packet was lost, with all nodes down, and from images.
+//! How everything that is stored gets delivered.
+//!
+//! The examples start after every packet was lost, with all nodes down, and from images.
 ghost use Rattle.std.specs.Prelude.{[], ◌∷◌, Ok, map};
 ghost use Rattle.urb_names.specs.Names.{name, names};
 ghost use Rattle.urb_names.specs.Nodes.{numbers_from};
@@ -56,7 +58,8 @@ pub fn after_losses()
         ([] ∷ [] ∷ []) (names 1 17 ∷ names 1 17 ∷ []) }
 {}
 
-/// Each node is down, and may have stored the record that it held: a submit, a relayed pair, and a certificate.
+/// Each node is down, and may have stored the record that it held: a submit, a relayed pair, and a
+/// certificate.
 pub fn with_all_nodes_down()
     ensures a_lost_draft { RecoversBy (new_group 1 10) (submit 1 (message 7 1 "a") ∷ crash 1 ∷ []) kept_none (Restart 1 [] ∷ []) }
     ensures a_kept_draft { ComesTo (new_group 1 10) (submit 1 (message 7 1 "a") ∷ crash 1 ∷ []) kept_all ([] ∷ []) ((name 1 1 ∷ []) ∷ []) }
@@ -74,7 +77,8 @@ pub fn with_all_nodes_down()
         ((name 1 1 ∷ name 2 1 ∷ []) ∷ (name 1 1 ∷ name 2 1 ∷ []) ∷ (name 1 1 ∷ name 2 1 ∷ []) ∷ []) }
 {}
 
-/// Groups that were opened from images. Where one node is left of a group, alone, what it had not certified stays undelivered.
+/// Groups that were opened from images. If one node is left of a group, alone, what it had not
+/// certified stays undelivered.
 pub fn from_images()
     ensures a_relay_above_a_gap { ComesTo (opened_group (limits 3 10) ((pending 1 1 ∷ pending 1 2 ∷ []) ∷ (certified 1 2 ∷ []) ∷ [] ∷ [])) [] kept_none
         ([] ∷ [] ∷ [] ∷ []) (names 1 2 ∷ names 1 2 ∷ names 1 2 ∷ []) }

@@ -9,7 +9,8 @@ ghost use Rattle.urb_group.specs.World.{image_of};
 ghost use Rattle.urb_group.specs.Scripts.{◌⇒◌, Plays, PlaysOpened, Drafts, Accepts, Takes, Sends, Logs, Is, Refuses, noted, again, down, message, submit, store, fail_old, crash, restart, commit, bring, bring_bytes, tick, arrive, log_of, look_at};
 ghost use Rattle.urb_group.specs.Examples.{pending, certified, limits, carried};
 
-/// Packets that name what their source doesn't hold, nodes that there are not, and bytes that are none.
+/// Packets of pairs that their source doesn't hold, packets of nodes that the group doesn't have,
+/// and bytes that are no packet.
 pub fn packets()
     ensures a_draft_is_not_yet_held { Plays 3 10 (
         submit 1 (message 7 1 "a") ⇒ Drafts (name 1 1) 1
@@ -62,7 +63,7 @@ pub fn packets()
         ∷ []) }
 {}
 
-/// Receipts that are not the held draft's.
+/// Receipts that are not for the held draft.
 pub fn receipts()
     ensures of_another_position_or_record { Plays 3 10 (
         commit 1 1 (pending 1 1) ⇒ Refuses refusal.Stale
@@ -110,7 +111,7 @@ pub fn receipts()
         ∷ []) }
 {}
 
-/// Nodes that there are not, and nodes that are not ready.
+/// Nodes that the group doesn't have, and nodes that are not ready.
 pub fn nodes()
     ensures bad_node_before_state { Plays 3 10 (
         store 1 ⇒ Refuses refusal.Stale

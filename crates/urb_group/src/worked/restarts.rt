@@ -1,4 +1,7 @@
-//! Which images a restart takes, and what the node is then.
+//! Which images a restart accepts, and the node after it.
+//!
+//! An image is the list of records that a node's storage gave back. The functions do nothing. Each
+//! clause plays a script, a list of `event ⇒ answer`, by the definitions alone.
 ghost use Rattle.std.specs.Prelude.{[], ◌∷◌, None, Some};
 ghost use Rattle.urb_names.specs.declared.refusal.Refusal.TheVariants as refusal;
 ghost use Rattle.urb_names.specs.Names.{name};
@@ -8,7 +11,8 @@ ghost use Rattle.urb_group.specs.World.{image_of};
 ghost use Rattle.urb_group.specs.Scripts.{◌⇒◌, Plays, PlaysOpened, Drafts, Accepts, Takes, Is, Refuses, accepted, down, up, message, submit, store, fail_old, crash, restart_with, arrive, look_at};
 ghost use Rattle.urb_group.specs.Examples.{pending, certified, limits};
 
-/// Images that say what was stored: the node has its own records again, and counts itself for each pending name.
+/// Images that match what was stored. The record in doubt may be there or be missing. The node has
+/// its records again in its own order, and one acknowledgement, its own, for each pending name.
 pub fn taken()
     ensures pairs_in_another_order { Plays 3 10 (
         submit 1 (message 7 1 "") ⇒ Drafts (name 1 1) 1
@@ -67,7 +71,8 @@ pub fn taken()
         ∷ []) }
 {}
 
-/// Images that don't.
+/// Images that don't match what was stored. They are refused as `BadImage`, and the node stays
+/// down.
 pub fn refused()
     ensures other_than_the_one_record { Plays 3 10 (
         submit 1 (message 7 1 "") ⇒ Drafts (name 1 1) 1

@@ -1,5 +1,7 @@
-//! Rounds in different orders, all of which deliver; and for each thing that a round asks for, lists of events that lack it alone
-//! and don't deliver.
+//! Rounds in different orders; each of them delivers.
+//!
+//! For each thing that a round asks for, the examples also have lists of events that lack only
+//! this, and don't deliver.
 ghost use Rattle.std.specs.Prelude.{[], ◌∷◌, ◌++◌, ◌≡◌, List, Ok, map};
 ghost use Rattle.urb_names.specs.Names.{name, names};
 ghost use Rattle.urb_names.specs.Nodes.{numbers_from};
@@ -12,13 +14,14 @@ ghost use Rattle.urb_group.specs.Scripts.{message, submit};
 ghost use Rattle.urb_group.specs.Step.{Arrive, Crash, Event, Restart, Tick};
 ghost use Rattle.urb_group.specs.World.{stored, World};
 
-/// What the examples test is what a round asks for.
+/// What the examples judge to be a round is one.
 pub fn what_is_judged_a_round_is_one()
     ensures { (w : World) (events : List Event) → judged w events ≡ a_round → IsRound w events }
 {}
 
-/// Nodes 1 and 3 of three have stored a message each, and what they sent is lost or late. Whatever the order of ticks and of
-/// arrivals, also with old packets that come twice, and with packets that are refused at first, two rounds deliver.
+/// Nodes 1 and 3 of three have stored a message each, and what they sent is lost or late. Two
+/// rounds deliver in any order of ticks and arrivals. They also deliver with old packets that come
+/// twice, and with packets that are refused at first.
 pub fn rounds_in_any_order()
     ensures from_the_first_node_to_the_last { RoundsCome two_of_three_nodes_broadcast
         (in_order (1 ∷ 2 ∷ 3 ∷ []) as_sent) a_round
@@ -42,8 +45,9 @@ pub fn rounds_in_any_order()
         ((name 3 1 ∷ name 1 1 ∷ []) ∷ (name 1 1 ∷ name 3 1 ∷ []) ∷ (name 1 1 ∷ name 3 1 ∷ []) ∷ []) }
 {}
 
-/// Each of these lists lacks one thing that a round asks for, and some node has not delivered all in the end. That another one has
-/// says nothing: delivered is what every node has.
+/// Each of these lists lacks one thing that a round asks for, and in the end some node has not
+/// delivered all. It doesn't matter that another node has: a message is delivered if every node has
+/// delivered it.
 pub fn what_is_no_round()
     ensures a_node_ticks_once_too_seldom { RoundsCome
         (opened_group (limits 2 20) (map (pending 1) (numbers_from 1 17) ∷ [] ∷ []))
@@ -74,7 +78,8 @@ pub fn what_is_no_round()
         ([] ∷ (name 1 1 ∷ []) ∷ []) }
 {}
 
-/// What a round asks for is enough, and not always needed: here node 1 ticks too seldom, and all is delivered.
+/// What a round asks for is enough, but not always needed: here node 1 ticks too seldom, and all is
+/// delivered.
 pub fn what_is_not_needed()
     ensures { RoundsCome (broadcast_of_two 2)
         rounds ticks_too_seldom
@@ -82,7 +87,8 @@ pub fn what_is_not_needed()
         ((name 2 1 ∷ []) ∷ (name 2 1 ∷ []) ∷ []) }
 {}
 
-/// Ticks end: behind a third round whose answers arrive no node sends anything at a tick. If answers are lost, ticks go on.
+/// Ticks end: after a third round whose answers arrive, no node sends anything at a tick. If
+/// answers are lost, ticks go on.
 pub fn when_ticks_end()
     ensures answers_arrive { TicksSend (broadcast_of_two 1)
         (both (in_order (1 ∷ 2 ∷ []) as_sent) (both (in_order (1 ∷ 2 ∷ []) as_sent) (with_answers (1 ∷ 2 ∷ []))))

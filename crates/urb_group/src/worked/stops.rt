@@ -8,7 +8,7 @@ ghost use Rattle.urb_group.specs.Stocked.{HoldsOf, IsLasting, IsStoreOf, LeavesO
 ghost use Rattle.urb_group.specs.Stopping.{MayLeave};
 ghost use Rattle.urb_group.specs.Examples.{pending, certified, node_in, shut_by_failures, world_of};
 
-/// The stored records, with or without the one that is held or in doubt.
+/// The stored records, with or without the record that is held or in doubt.
 pub fn left()
     ensures stored_by_a_ready_node { MayLeave (node_in Ready (pending 1 1 ∷ [])) (pending 1 1 ∷ []) }
     ensures without_the_held_one { MayLeave (node_in (Storing (pending 1 2) None) (pending 1 1 ∷ [])) (pending 1 1 ∷ []) }
@@ -19,7 +19,7 @@ pub fn left()
     ensures taken_before_its_commit { HoldsOf (in_memory (Unit {0})) (node_in (Storing (pending 1 1) (Some (packet_from 2 false))) []) (with_record (pending 1 1) empty_memory) }
 {}
 
-/// Nothing else: no record is lost, none is made up, and none comes before another.
+/// Nothing else: no record is lost, no record is made up, and no record comes before another.
 pub fn never_left()
     ensures less_of_a_ready_node { MayLeave (node_in Ready (pending 1 1 ∷ [])) [] → ⊥ }
     ensures more_of_a_ready_node { MayLeave (node_in Ready []) (pending 1 1 ∷ []) → ⊥ }
@@ -30,8 +30,9 @@ pub fn never_left()
     ensures more_where_none_is_in_doubt { MayLeave (node_in (Down None) (pending 1 1 ∷ [])) (pending 1 1 ∷ pending 1 2 ∷ []) → ⊥ }
 {}
 
-/// What stores leave: of one that a failure shut in a call or before, and of one at rest, what its node may leave; and no store
-/// leaves what is none of its node's. One that is shut is no store of a node that is up.
+/// What stores leave. A store that a failure shut, in a call or before it, leaves what its node may
+/// leave. So does a store at rest. No store leaves a record that its node doesn't have. A store
+/// that is shut is no store of a node that is up.
 pub fn stores()
     ensures shut_inside_a_call { StopLeaves shut_by_failures (world_of (node_in (Storing (pending 1 1) None) [])) (empty_memory ∷ []) (after_failure (Some (pending 1 1)) empty_memory ∷ [])
         → LeavesOf shut_by_failures (node_in (Storing (pending 1 1) None) []) (after_failure (Some (pending 1 1)) empty_memory) }

@@ -1,5 +1,7 @@
-//! What a packet of version two tells, case by case: a certified name above a gap, a claim that isn't true, and what is heard
-//! and answered between nodes that didn't send the message.
+//! What a packet of version two says, case by case.
+//!
+//! The cases are a certified name above a gap, a claim that isn't true, and what nodes hear and
+//! answer that didn't send the message.
 ghost use Rattle.std.specs.Prelude.{◌≡◌, [], ◌∷◌, None, Ok, Some, false};
 ghost use Rattle.urb_names.specs.declared.refusal.Refusal.TheVariants as refusal;
 ghost use Rattle.urb_names.specs.Names.{name};
@@ -24,7 +26,8 @@ pub fn answers_are_sent()
         ∷ [] }
 {}
 
-/// A certificate counts as stored whether or not its name is delivered: node 2 has certified 1.2, and lacks 1.1.
+/// A certificate counts as stored whether or not its name is delivered: node 2 has certified 1.2,
+/// and lacks 1.1.
 pub fn above_a_gap()
     ensures a_tick_tells_of_it { (run (opened (limits 3 10) (image_of ((pending 1 1 ∷ pending 1 2 ∷ []) ∷ (certified 1 2 ∷ []) ∷ [] ∷ []))) (
         Tick 2
@@ -47,7 +50,8 @@ pub fn above_a_gap()
         ∷ []) }
 {}
 
-/// A packet that tells of a certificate that its source has not stored is forged. A node that is down or stores says that first.
+/// A packet is forged if it claims a certificate that its source has not stored. A node that is
+/// down or stores a record says that first.
 pub fn untrue_claims()
     ensures at_a_node_that_is_down { PlaysOpened (limits 3 10) (image_of ((pending 1 1 ∷ []) ∷ [] ∷ [] ∷ [])) (
         crash 3 ⇒ down 3
@@ -68,7 +72,8 @@ pub fn untrue_claims()
         ∷ []) }
 {}
 
-/// What was heard is lost with a crash of a node that stores, as what it had counted is.
+/// A node that stores a record and crashes loses what it had heard, as it loses what it had
+/// counted.
 pub fn heard_before_a_crash()
     ensures of_the_record_in_doubt { PlaysOpened (limits 3 10) (image_of ((pending 1 1 ∷ []) ∷ (certified 1 1 ∷ []) ∷ [] ∷ [])) (
         arrive2 2 1 1 1 1 ⇒ Drafts (name 1 1) 2
@@ -93,8 +98,8 @@ pub fn heard_before_a_crash()
         ∷ []) }
 {}
 
-/// Nodes 2 and 3 tell each other of a message of node 1: what is heard and answered is of the packet's source, and not of
-/// the message's sender.
+/// Nodes 2 and 3 report to each other on a message of node 1. What is heard and answered belongs to
+/// the packet's source, and not to the message's sender.
 pub fn between_two_that_did_not_send()
     ensures an_answer { PlaysOpened (limits 3 10) (image_of ((certified 1 1 ∷ []) ∷ (certified 1 1 ∷ []) ∷ (certified 1 1 ∷ []) ∷ [])) (
         arrive2 2 3 1 1 0 ⇒ answered 1 1 2 1
@@ -111,8 +116,8 @@ pub fn between_two_that_did_not_send()
         ∷ []) }
 {}
 
-/// A stored record tells the node whose packet caused it, and no other, that its certificate was heard: node 4 has heard of
-/// another name from node 2, and of this one from node 3.
+/// A stored record reports that a certificate was heard to the node whose packet caused it, and to
+/// no other. Here node 4 has heard of another name from node 2, and of this one from node 3.
 pub fn a_record_tells_who_was_heard()
     ensures { (run (opened (limits 4 10) (image_of (
         (pending 1 1 ∷ pending 1 2 ∷ [])

@@ -1,5 +1,6 @@
-//! What ticks send: pending names in cyclic order, sixteen at most, each to every other node that wasn't heard to have
-//! certified it.
+//! What ticks send: at most sixteen pending names, in cyclic order.
+//!
+//! Each name goes to every other node, except those that were heard to have certified it.
 ghost use Rattle.std.specs.Prelude.{[], ◌∷◌, ◌++◌, None, Some};
 ghost use Rattle.urb_names.specs.Names.{name};
 ghost use Rattle.urb_group.specs.World.{image_of};
@@ -45,7 +46,7 @@ pub fn ticks()
         ∷ []) }
 {}
 
-/// Seventeen names, of which a tick sends sixteen.
+/// Seventeen names: a tick sends sixteen of them.
 pub fn sixteen_a_tick()
     ensures { Plays 2 20 (
         stored_from 1 17

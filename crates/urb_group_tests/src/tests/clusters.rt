@@ -4,14 +4,14 @@ use super::{client, one, three, two};
 use std::alloc::Allocator;
 use urb_group::*;
 
-/// What happens to a cluster, of which one message is sent.
+/// An event of a cluster to which one message is sent.
 #[derive(Clone, Copy)]
 pub enum Event {
     /// The client sends the message to node 1.
     Submit,
-    /// Node 1's packet of it comes to node 2.
+    /// Node 1's packet of the message comes to node 2.
     Relay,
-    /// Node 2's packet of it comes to node 1, and tells that node 2 has certified it.
+    /// Node 2's packet of the message comes to node 1, and says that node 2 has certified it.
     Certify,
     /// The store of node 1, or of node 2, takes the node's draft.
     StoreOne,
@@ -26,7 +26,7 @@ pub enum Event {
 /// What an event led to.
 #[derive(Clone, Copy)]
 pub enum Led {
-    /// It was refused.
+    /// The event was refused.
     Refused,
     /// The message is accepted as one that is stored already.
     Accepted,
@@ -39,7 +39,7 @@ const RELAYED: &[u8] = b"UB\x02\x01\x02\x00\x01\x00\x00\x00\x01\x00\x07\x00\x00\
 
 const CERTIFIED: &[u8] = b"UB\x02\x02\x01\x01\x01\x00\x00\x00\x01\x00\x07\x00\x00\x00\x01\x00\x01a";
 
-/// The command of an event.
+/// Returns the command of an event.
 pub fn command<A: Allocator>(alloc: A, event: Event) -> Option<Command<A>> {
     match event {
         Event::Submit => Some(Command::Submit {
@@ -64,7 +64,7 @@ pub fn command<A: Allocator>(alloc: A, event: Event) -> Option<Command<A>> {
     }
 }
 
-/// A cluster of three nodes, with new stores.
+/// Makes a cluster of three nodes, with new stores.
 pub fn cluster<A: Allocator + Copy>(alloc: A) -> Option<Cluster<MemStable<A>>> {
     let mut stores = Vec::new(alloc);
     stores.push(MemStable::new(alloc)).ok()?;
@@ -73,7 +73,7 @@ pub fn cluster<A: Allocator + Copy>(alloc: A) -> Option<Cluster<MemStable<A>>> {
     Cluster::new(alloc, three(), stores).ok()
 }
 
-// What a reply tells.
+// Returns what a reply says.
 fn led_in<A: Allocator>(reply: &Reply<A>) -> Led {
     match reply {
         Reply::Refused(_) => Led::Refused,
@@ -82,7 +82,7 @@ fn led_in<A: Allocator>(reply: &Reply<A>) -> Led {
     }
 }
 
-/// What an event leads to; refused where there is no memory for its command.
+/// Returns what an event leads to. It is refused if there is no memory for its command.
 pub fn lead<A: Allocator + Copy>(
     cluster: &mut Cluster<MemStable<A>>,
     alloc: A,
@@ -94,7 +94,7 @@ pub fn lead<A: Allocator + Copy>(
     }
 }
 
-/// The events one after the other; whether none was refused.
+/// Applies the events one after the other, and says whether all were taken.
 pub fn drive<A: Allocator + Copy>(
     cluster: &mut Cluster<MemStable<A>>,
     alloc: A,

@@ -16,16 +16,17 @@ struct Walk<A: Allocator + Copy> {
     packet: Vec<u8, A>,
 }
 
-/// What a node's step came to.
+/// The result of a node's step.
 #[derive(Clone, Copy)]
 struct Step {
-    /// How many names it released.
+    /// How many names the step released.
     released: u32,
-    /// Whether it was refused for memory first: the node was ready as before, and the same call was made again.
+    /// Whether the step was refused for memory first. The node was then ready as before, and the
+    /// same call was made again.
     refused: bool,
 }
 
-// A group of three; made again where its growth is refused. Whether it was refused.
+// Makes a group of three, and makes it again if its growth is refused. Says whether it was refused.
 fn group<A: Allocator + Copy>(alloc: A) -> Option<(Group<A>, bool)> {
     match Group::new(alloc, three()) {
         Ok(group) => Some((group, false)),
@@ -33,7 +34,7 @@ fn group<A: Allocator + Copy>(alloc: A) -> Option<(Group<A>, bool)> {
     }
 }
 
-// What was drafted.
+// Returns the draft.
 fn drafted<A: Allocator>(taken: Taken<A>) -> Option<Draft<A>> {
     match taken {
         Taken::Store(draft) => Some(draft),
@@ -50,14 +51,15 @@ impl<A: Allocator + Copy> Walk<A> {
         }
     }
 
-    // The first packet that a node sends travels on.
+    // Lets the first packet that a node sends travel on.
     fn send(&mut self, sent: &Outbox<A>) -> Option<()> {
         let packet = sent.get(0)?;
         self.packet = encode(self.calm, packet).ok()?;
         Some(())
     }
 
-    // The group takes a receipt without asking for memory: how many names are released.
+    // Gives the group a receipt, without asking for memory, and returns how many names are
+    // released.
     fn commit(&mut self, receipt: Receipt<A>, counted: &Refusing<Global>) -> Option<u32> {
         let asked = counted.asked();
         let done = self.group.commit(receipt).ok()?;
@@ -66,7 +68,7 @@ impl<A: Allocator + Copy> Walk<A> {
         if is_free { Some(done.released) } else { None }
     }
 
-    // A store keeps what was drafted: how many names are released.
+    // Has a store keep what was drafted, and returns how many names are released.
     fn store(
         &mut self,
         taken: Taken<A>,
@@ -77,7 +79,7 @@ impl<A: Allocator + Copy> Walk<A> {
         self.commit(receipt, counted)
     }
 
-    // A node takes the client's message, or the packet, and stores what it says.
+    // A node takes the client's message, or the packet, and stores the record.
     fn step(
         &mut self,
         node: Option<NodeId>,
@@ -92,7 +94,7 @@ impl<A: Allocator + Copy> Walk<A> {
         Some(Step { released, refused })
     }
 
-    // The message goes to node 2, and back to node 1: the three steps.
+    // Does the three steps: the client's message, its way to node 2, and back to node 1.
     fn steps(&mut self, counted: &Refusing<Global>) -> [Option<Step>; 3] {
         let mut first = MemStable::new(self.calm);
         let mut second = MemStable::new(self.calm);
@@ -103,7 +105,7 @@ impl<A: Allocator + Copy> Walk<A> {
     }
 }
 
-// How many names nodes 1 and 2 release in the end, and whether a step was refused.
+// Returns how many names nodes 1 and 2 release in the end, and whether a step was refused.
 fn told(steps: [Option<Step>; 3]) -> Option<(u32, u32, bool)> {
     let [sent, relayed, certified] = steps;
     let (sent, relayed, certified) = (sent?, relayed?, certified?);
@@ -111,7 +113,7 @@ fn told(steps: [Option<Step>; 3]) -> Option<(u32, u32, bool)> {
     Some((certified.released, relayed.released, refused))
 }
 
-// The same of a new group, and whether that was refused.
+// Does the same for a new group, whose making may be refused too.
 fn released<A: Allocator + Copy>(
     heap: A,
     calm: A,

@@ -1,11 +1,14 @@
-//! Groups that are opened from images, those whose images don't fit together, and a restart with an image that lacks a record.
+//! Groups that are opened from images, and images that are refused.
+//!
+//! Some images don't fit together. Another one lacks a record, and a restart gets it.
 
 use super::{client, one, two};
 use std::alloc::Global;
 use std::test::Fail;
 use urb_group::*;
 
-/// A record of node 1's name of this number; its message is that of the client with the same number.
+/// A record of node 1's name with this number. Its message is the client's message with the same
+/// number.
 #[derive(Clone, Copy)]
 enum Form {
     Pend(u32),
@@ -13,12 +16,12 @@ enum Form {
     Cert(u32),
 }
 
-/// What comes of an opening.
+/// The result of an opening.
 #[derive(Clone, Copy, PartialEq, Eq, Debug)]
 enum Outcome {
-    /// So many names stand in the log of node 1, and of node 2 where there is one.
+    /// The number of names in the log of node 1, and in that of node 2 if there is one.
     Open(usize, Option<usize>),
-    /// The record of this node, about node 1's name of this number, is the first to break the rule.
+    /// The first record to break the rule: it is this node's, about node 1's name with this number.
     Misfit(Rule, u8, u32),
     /// Anything else.
     Refused(Refusal),
@@ -56,14 +59,14 @@ fn images(alloc: Global, forms: &[&[Form]]) -> Option<Vec<Vec<Record>>> {
     Some(images)
 }
 
-// What comes of opening a group from these images, one for each node.
+// Opens a group from these images, one for each node.
 fn opened(alloc: Global, forms: &[&[Form]]) -> Option<Result<Group, Refusal>> {
     let images = images(alloc, forms)?;
     let config = Config::new(u8::try_from(images.len()).ok()?, 10)?;
     Some(Group::open(alloc, config, images))
 }
 
-// The same in short.
+// Returns the result in short.
 fn told(opened: &Result<Group, Refusal>) -> Option<Outcome> {
     match opened {
         Ok(group) => {
@@ -81,7 +84,7 @@ fn came(alloc: Global, forms: &[&[Form]]) -> Option<Outcome> {
     told(&opened(alloc, forms)?)
 }
 
-/// Images, and what comes of them.
+/// Images, and the results of opening them.
 const ROWS: [(&[&[Form]], Outcome); 8] = [
     // A lone node delivers what it had certified, and so does a relay.
     (&[&[Form::PendCert(1)]], Outcome::Open(1, None)),
@@ -125,7 +128,8 @@ fn images_open_where_they_fit_together(rt: HostRuntime) -> Result<(), Fail> {
     Ok(())
 }
 
-// How a restart of node 2 with no records is refused, while it is up, and once it is down.
+// Returns how a restart of node 2 with no records is refused: while the node is up, and once it is
+// down.
 fn refusals(group: &mut Group, alloc: Global) -> Option<(Refusal, Refusal)> {
     let up = group.restart(alloc, two(), Vec::new(alloc)).err()?;
     group.crash(two()).ok()?;
@@ -133,7 +137,7 @@ fn refusals(group: &mut Group, alloc: Global) -> Option<(Refusal, Refusal)> {
     Some((up, down))
 }
 
-// The same where node 2 has a record.
+// Does the same if node 2 has a record.
 fn refusals_of_an_empty_image(alloc: Global) -> Option<(Refusal, Refusal)> {
     match opened(alloc, &[&[Form::Pend(1)], &[Form::PendCert(1)], &[]])? {
         Ok(mut group) => refusals(&mut group, alloc),

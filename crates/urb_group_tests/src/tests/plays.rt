@@ -1,4 +1,4 @@
-//! Whole lists of commands, with each growth of memory refused in turn.
+//! Lists of commands, with each growth of memory refused in turn.
 
 use super::clusters::{Event, cluster, command};
 use std::alloc::Allocator;
@@ -16,7 +16,7 @@ const EVENTS: [Event; 5] = [
     Event::Restart,
 ];
 
-// Their commands.
+// Returns their commands.
 fn commands<A: Allocator + Copy>(alloc: A) -> Option<Vec<Command<A>, A>> {
     let mut commands = Vec::new(alloc);
     for event in EVENTS {
@@ -25,18 +25,18 @@ fn commands<A: Allocator + Copy>(alloc: A) -> Option<Vec<Command<A>, A>> {
     Some(commands)
 }
 
-/// What comes of a play.
+/// The result of a play.
 #[derive(Clone, Copy)]
 enum Outcome {
     /// The cluster could not be made.
     Unmade,
     /// The play ended for want of memory, or the store of node 1 had none for its record.
     Short,
-    /// There are so many replies, the second one to a store that took its record.
+    /// The number of replies; the second reply was to a store that took its record.
     Whole(usize),
 }
 
-// What comes of a play that ended behind its last command.
+// Returns the result of a play that ended after its last command.
 fn came_with<A: Allocator>(replies: &[Reply<A>]) -> Outcome {
     match replies.get(1) {
         Some(Reply::Stored(_)) => Outcome::Whole(replies.len()),
@@ -44,7 +44,7 @@ fn came_with<A: Allocator>(replies: &[Reply<A>]) -> Outcome {
     }
 }
 
-// What comes of the commands.
+// Plays the commands, and returns the result.
 fn came_of<A: Allocator + Copy>(
     cluster: &mut Cluster<MemStable<A>>,
     alloc: A,
@@ -56,7 +56,7 @@ fn came_of<A: Allocator + Copy>(
     }
 }
 
-// The same of a new cluster, which takes its memory from `heap`.
+// Does the same with a new cluster, which takes its memory from `heap`.
 fn came<A: Allocator + Copy>(heap: A, calm: A) -> Option<Outcome> {
     let commands = commands(calm)?;
     match cluster(heap) {

@@ -1,4 +1,4 @@
-//! Clusters of three whose process stops, and that are opened again over their stores in memory.
+//! Clusters of three that are opened again, over stores in memory, after their process stopped.
 
 use super::clusters::{Event, Led, cluster, drive, lead};
 use super::{client, first, one, three, two};
@@ -17,7 +17,7 @@ const DELIVERED: [Event; 6] = [
     Event::StoreOne,
 ];
 
-// A cluster to which this has happened.
+// Makes a cluster to which this has happened.
 fn driven<A: Allocator + Copy>(alloc: A, events: &[Event]) -> Option<Cluster<MemStable<A>>> {
     let mut cluster = cluster(alloc)?;
     if drive(&mut cluster, alloc, events) {
@@ -27,10 +27,11 @@ fn driven<A: Allocator + Copy>(alloc: A, events: &[Event]) -> Option<Cluster<Mem
     }
 }
 
-/// How many names nodes 1 and 2 have delivered, and whether the message is accepted as one that node 1 has stored.
+/// How many names nodes 1 and 2 have delivered, and whether the message is accepted as one that
+/// node 1 has stored.
 type Told = (usize, usize, bool);
 
-// What a cluster tells.
+// Returns what a cluster answers.
 fn told<A: Allocator + Copy>(cluster: &mut Cluster<MemStable<A>>, alloc: A) -> Option<Told> {
     let is_accepted = matches!(lead(cluster, alloc, Event::Submit), Led::Accepted);
     let group = cluster.group();
@@ -38,7 +39,7 @@ fn told<A: Allocator + Copy>(cluster: &mut Cluster<MemStable<A>>, alloc: A) -> O
     Some((names.0, names.1, is_accepted))
 }
 
-// What a cluster tells that is opened over these stores.
+// Returns what a cluster answers that is opened over these stores.
 fn opened<A: Allocator + Copy>(alloc: A, stores: Vec<MemStable<A>, A>) -> Option<Told> {
     if stores.len() != 3 {
         return None;
@@ -47,7 +48,7 @@ fn opened<A: Allocator + Copy>(alloc: A, stores: Vec<MemStable<A>, A>) -> Option
     told(&mut cluster, alloc)
 }
 
-// What is told after a stop, from the stores alone.
+// Returns the answers after a stop, from the stores alone.
 fn told_by_stores(alloc: Global) -> Option<Told> {
     opened(alloc, driven(alloc, &DELIVERED)?.into_stores())
 }
@@ -65,7 +66,8 @@ fn take_untold(alloc: Global, stores: &mut [MemStable]) -> Option<()> {
     store.store(1, &Record::Pend(first(), message)).ok()
 }
 
-// What is told after a stop that came when the store of node 1 had taken the record, and before that was told to the group.
+// Returns the answers after a stop in between: the store of node 1 had taken the record, but the
+// group had no receipt yet.
 fn told_by_untold(alloc: Global) -> Option<Told> {
     let mut stores = driven(alloc, &[Event::Submit])?.into_stores();
     take_untold(alloc, &mut stores)?;
@@ -78,7 +80,8 @@ fn a_record_that_was_stored_and_not_told_comes_back(rt: HostRuntime) -> Result<(
     Ok(())
 }
 
-// What is told after a stop; where memory is refused to the opening, after another one. And whether it was refused.
+// Returns the answers after a stop, and whether memory was refused to the opening. If it was, the
+// cluster is opened another time.
 fn told_reopened<A: Allocator + Copy>(heap: A, calm: A) -> Option<(Told, bool)> {
     match driven(calm, &[Event::Submit, Event::StoreOne])?.reopen(heap) {
         Ok(mut cluster) => Some((told(&mut cluster, calm)?, false)),

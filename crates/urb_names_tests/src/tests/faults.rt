@@ -1,9 +1,9 @@
-//! Bytes that are no packet, with their first fault, and what a refusal is called by.
+//! Bytes that are not a packet, each with its first fault; the number and detail of each refusal.
 
 use super::*;
 use std::test::Fail;
 
-// Whether these bytes are refused for this fault.
+// Whether these bytes are refused with this fault.
 fn is_refused(alloc: Global, bytes: &[u8], fault: PacketFault) -> bool {
     let refusal = match decode(alloc, bytes) {
         Ok(_packet) => None,
@@ -74,7 +74,7 @@ fn bytes_are_refused_with_their_first_fault(rt: HostRuntime) {
     }
 }
 
-// Appends parts to bytes. Whether there was memory.
+// Appends parts to bytes, and returns whether there was memory.
 fn is_joined(bytes: &mut Vec<u8>, parts: &[&[u8]]) -> bool {
     for part in parts {
         if bytes.extend_from_slice(part).is_err() {
@@ -84,7 +84,7 @@ fn is_joined(bytes: &mut Vec<u8>, parts: &[&[u8]]) -> bool {
     true
 }
 
-// The fault of parts that are joined, if any; none where there was no memory.
+// The fault of the joined parts, if any; the outer option is `None` if there was no memory.
 fn fault_of(alloc: Global, parts: &[&[u8]]) -> Option<Option<PacketFault>> {
     let mut bytes = Vec::new(alloc);
     let is_joined = is_joined(&mut bytes, parts);
@@ -93,7 +93,7 @@ fn fault_of(alloc: Global, parts: &[&[u8]]) -> Option<Option<PacketFault>> {
     if is_joined { Some(fault) } else { None }
 }
 
-// Whether the first vector with these bytes at this place is out of range.
+// Whether the first vector is out of range once these bytes replace those at this place.
 fn is_out_of_range(alloc: Global, place: usize, bytes: &[u8]) -> bool {
     let length = WITH_PAYLOAD.len();
     if place > length || bytes.len() > length - place {
@@ -125,7 +125,8 @@ fn each_number_of_a_packet_has_its_range(rt: HostRuntime) {
     }
 }
 
-// Whether each beginning of a packet is refused as too short for its header, or for its payload.
+// Whether each proper prefix of a packet is refused: too short for its header, or of the wrong
+// payload length.
 fn is_refused_cut(packet: &[u8], header: usize) -> bool {
     for (end, _) in packet.iter().enumerate() {
         let fault = if end < header {
@@ -148,7 +149,7 @@ fn a_packet_that_is_cut_or_has_more_is_refused(rt: HostRuntime) {
     }
 }
 
-// Appends letters.
+// Appends `count` letters, and returns whether there was memory.
 fn is_lettered(bytes: &mut Vec<u8>, count: u16) -> bool {
     for _ in 0..count {
         if bytes.push(b'x').is_err() {
@@ -158,7 +159,8 @@ fn is_lettered(bytes: &mut Vec<u8>, count: u16) -> bool {
     true
 }
 
-// How long a view's payload is where these bytes, its length, and so many letters stand; none where there was no memory.
+// The payload's length in a view of `front`, `size`, and `size` letters; `None` if there was no
+// memory.
 fn length_of(alloc: Global, front: &[u8], size: u16) -> Option<Result<usize, PacketFault>> {
     let mut bytes = Vec::new(alloc);
     let is_spelled = is_joined(&mut bytes, &[front, &size.to_be_bytes()])
@@ -171,7 +173,7 @@ fn length_of(alloc: Global, front: &[u8], size: u16) -> Option<Result<usize, Pac
     if is_spelled { Some(length) } else { None }
 }
 
-// The beginning of the third vector, with no flag.
+// The beginning of the third vector, with no flag set.
 const WITHOUT_FLAGS: &[u8] =
     b"\x55\x42\x02\x01\x02\x00\x01\x00\x00\x00\x01\x00\x07\x00\x00\x00\x01";
 
@@ -188,14 +190,15 @@ fn the_greatest_length_of_a_payload_goes_by_the_version(rt: HostRuntime) {
     }
 }
 
-// Whether a byte more and a byte less at a place of the third vector are seen.
+// Whether one byte more or one byte less at this place of the third vector is detected.
 fn is_seen(alloc: Global, place: usize) -> bool {
     if place >= WITH_FLAGS.len() {
         return false;
     }
     let (more, less) = match place {
         0 | 1 => (PacketFault::Magic, Some(PacketFault::Magic)),
-        // Without its third byte this happens to be a packet of version one: the source stands for the version.
+        // Without its third byte this happens to be a packet of version one: the source takes the
+        // version's place.
         2 => (PacketFault::Version, None),
         _ => (PacketFault::Length, Some(PacketFault::Length)),
     };

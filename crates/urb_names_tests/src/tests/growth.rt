@@ -1,10 +1,11 @@
-//! Each growth refused in turn.
+//! Tests that refuse each allocation in turn.
 
 use super::*;
 use std::alloc::Allocator;
 use urb_refusing::Refusing;
 
-// Reads the first vector. Where memory was refused, that is the refusal, and the same call goes through the second time.
+// Decodes the first vector. If an allocation is refused, the error says so, and the same call
+// succeeds the second time.
 fn read<A: Allocator + Copy>(alloc: A) -> Option<Packet<A>> {
     match decode(alloc, WITH_PAYLOAD) {
         Ok(packet) => Some(packet),
@@ -13,7 +14,7 @@ fn read<A: Allocator + Copy>(alloc: A) -> Option<Packet<A>> {
     }
 }
 
-// A packet of a copy of this one's message; none where memory was refused.
+// A packet that shares this one's message, or `None` if an allocation was refused.
 fn remade<A: Allocator + Copy>(alloc: A, packet: &Packet<A>) -> Option<Packet<A>> {
     packet.limits();
     match packet.message().share(alloc) {
@@ -25,7 +26,7 @@ fn remade<A: Allocator + Copy>(alloc: A, packet: &Packet<A>) -> Option<Packet<A>
     }
 }
 
-// Whether a packet is spelled as the first vector, where the growth may be refused once.
+// Whether a packet encodes to the first vector, even if one allocation is refused.
 fn is_spelled_late<A: Allocator + Copy>(alloc: A, packet: &Packet<A>) -> bool {
     let spelled = match encode(alloc, packet) {
         Ok(bytes) => Ok(bytes),
@@ -37,7 +38,7 @@ fn is_spelled_late<A: Allocator + Copy>(alloc: A, packet: &Packet<A>) -> bool {
     }
 }
 
-// Whether it is so once its message was copied, where that growth may be refused once.
+// The same after its message was shared, even if one allocation is refused.
 fn is_remade_late<A: Allocator + Copy>(alloc: A, packet: &Packet<A>) -> Option<bool> {
     let again = match remade(alloc, packet) {
         Some(again) => again,
@@ -48,7 +49,7 @@ fn is_remade_late<A: Allocator + Copy>(alloc: A, packet: &Packet<A>) -> Option<b
     Some(is_spelled)
 }
 
-// Whether the first vector is read, copied and spelled again, where a growth may be refused once.
+// Whether the first vector is decoded, shared and encoded again, even if one allocation is refused.
 fn goes_through<A: Allocator + Copy>(alloc: A) -> Option<bool> {
     let packet = read(alloc)?;
     let is_remade = is_remade_late(alloc, &packet);
@@ -56,7 +57,8 @@ fn goes_through<A: Allocator + Copy>(alloc: A) -> Option<bool> {
     is_remade
 }
 
-// Where it goes through and the growth of this number is refused: whether that was asked for, and how many were.
+// If that works although growth number `refused` is refused: whether that growth was requested, and
+// the number of growths.
 fn asked(alloc: Global, refused: u64) -> Option<(bool, u64)> {
     let heap = Refusing::new(alloc, refused);
     let goes_through = goes_through(&heap);
@@ -69,7 +71,7 @@ fn asked(alloc: Global, refused: u64) -> Option<(bool, u64)> {
     }
 }
 
-// How many growths there are, each of which was refused in turn; 0 where it doesn't go through.
+// The number of growths, after each was refused in turn; 0 if some run fails.
 fn growths(alloc: Global) -> u64 {
     for refused in 1..100 {
         match asked(alloc, refused) {
@@ -81,7 +83,7 @@ fn growths(alloc: Global) -> u64 {
     0
 }
 
-// Why the first vector isn't read where the first growth is refused.
+// Why decoding the first vector fails if the first growth is refused.
 fn first_refusal(alloc: Global) -> Option<Refusal> {
     let heap = Refusing::new(alloc, 1);
     let refusal = decode(&heap, WITH_PAYLOAD).err();

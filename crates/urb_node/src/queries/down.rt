@@ -1,4 +1,4 @@
-//! What a node tells of its stored records while it is down.
+//! Queries about the stored records of a node that is down.
 
 ghost use Rattle.std.specs.Prelude.{◌≡◌, length, option_map};
 ghost use Rattle.urb_names.specs.Names.{has_name};
@@ -12,7 +12,7 @@ use urb_names::{Message, Name};
 
 impl<A: Allocator + Copy> Down<A> {
     #[tactic(auto, using(crate::proofs::Telling::holds_says))]
-    /// Whether the node has stored this message under this name: its doubtful record doesn't count.
+    /// Whether the node has stored this message under this name; its doubtful record doesn't count.
     pub fn holds(&self, name: &Name, message: &Message<A>) -> bool
         ensures memory { result ≡ has_pair self.now.memory.pairs name.now message.now }
         ensures stored { Holds (ShowsDown self.now) name.now message.now result }
@@ -21,7 +21,7 @@ impl<A: Allocator + Copy> Down<A> {
     }
 
     #[tactic(auto, using(crate::proofs::Telling::message_says))]
-    /// The message that the node has stored under a name: that of its doubtful record doesn't count.
+    /// The message that the node has stored under a name; its doubtful record doesn't count.
     pub fn message(&self, name: Name) -> Option<&Message<A>>
         ensures memory { option_map (λ m. m.now) result ≡ message_of self.now.memory.pairs name }
         ensures stored { FindsMessage (ShowsDown self.now) name (option_map (λ m. m.now) result) }
@@ -30,7 +30,7 @@ impl<A: Allocator + Copy> Down<A> {
     }
 
     #[tactic(auto, using(crate::proofs::Telling::certified_says))]
-    /// Whether the node has stored a certificate of a name: that of its doubtful record doesn't count.
+    /// Whether the node has stored a certificate of a name; its doubtful record doesn't count.
     pub fn certified(&self, name: Name) -> bool
         ensures memory { result ≡ has_name self.now.memory.certified name }
         ensures stored { IsCertified (ShowsDown self.now) name result }
@@ -48,7 +48,7 @@ impl<A: Allocator + Copy> Down<A> {
     }
 
     #[tactic(auto, using(crate::proofs::Telling::own_says))]
-    /// How many messages of its own the node has stored: its doubtful record doesn't count.
+    /// The number of its own messages that the node has stored; its doubtful record doesn't count.
     pub fn own_len(&self) -> u32
         ensures memory { result ≡ length (own self.now.memory.node self.now.memory.pairs) }
         ensures stored { CountsOwn (ShowsDown self.now) result }

@@ -1,4 +1,4 @@
-//! What a node tells of its stored records while it is ready.
+//! Queries about the stored records of a ready node.
 
 ghost use Rattle.std.specs.Prelude.{◌≡◌, length, option_map};
 ghost use Rattle.urb_names.specs.Names.{has_name};
@@ -11,7 +11,7 @@ use std::alloc::Allocator;
 use urb_names::{Config, Message, Name, NodeId};
 
 impl<A: Allocator + Copy> Ready<A> {
-    /// Which node of which group this is: what it was made or opened as.
+    /// The node and the limits of its group, as it was created or opened.
     pub fn place(&self) -> (NodeId, Config)
         ensures { result ≡ (self.now.node, self.now.limits) }
     {
@@ -55,7 +55,7 @@ impl<A: Allocator + Copy> Ready<A> {
     }
 
     #[tactic(auto, using(crate::proofs::Telling::own_says))]
-    /// How many messages of its own the node has broadcast, that is, stored.
+    /// The number of its own messages that the node has broadcast, that is, stored.
     pub fn own_len(&self) -> u32
         ensures memory { result ≡ length (own self.now.node self.now.pairs) }
         ensures stored { CountsOwn (ShowsReady self.now) result }

@@ -1,4 +1,4 @@
-//! What a node tells of its stored records while it holds a draft.
+//! Queries about the stored records of a node that holds a draft.
 
 ghost use Rattle.std.specs.Prelude.{◌≡◌, length, option_map};
 ghost use Rattle.urb_names.specs.Names.{has_name};
@@ -12,7 +12,7 @@ use urb_names::{Message, Name};
 
 impl<A: Allocator + Copy> Storing<A> {
     #[tactic(auto, using(crate::proofs::Telling::holds_says))]
-    /// Whether the node has stored this message under this name: its held record isn't stored.
+    /// Whether the node has stored this message under this name; its held record isn't stored.
     pub fn holds(&self, name: &Name, message: &Message<A>) -> bool
         ensures memory { result ≡ has_pair self.now.memory.pairs name.now message.now }
         ensures stored { Holds (ShowsStoring self.now) name.now message.now result }
@@ -21,7 +21,7 @@ impl<A: Allocator + Copy> Storing<A> {
     }
 
     #[tactic(auto, using(crate::proofs::Telling::message_says))]
-    /// The message that the node has stored under a name: that of its held record isn't stored.
+    /// The message that the node has stored under a name; its held record isn't stored.
     pub fn message(&self, name: Name) -> Option<&Message<A>>
         ensures memory { option_map (λ m. m.now) result ≡ message_of self.now.memory.pairs name }
         ensures stored { FindsMessage (ShowsStoring self.now) name
@@ -31,7 +31,7 @@ impl<A: Allocator + Copy> Storing<A> {
     }
 
     #[tactic(auto, using(crate::proofs::Telling::certified_says))]
-    /// Whether the node has stored a certificate of a name: that of its held record doesn't count.
+    /// Whether the node has stored a certificate of a name; its held record doesn't count.
     pub fn certified(&self, name: Name) -> bool
         ensures memory { result ≡ has_name self.now.memory.certified name }
         ensures stored { IsCertified (ShowsStoring self.now) name result }
@@ -40,7 +40,8 @@ impl<A: Allocator + Copy> Storing<A> {
     }
 
     #[tactic(auto, using(crate::proofs::Telling::log_says))]
-    /// The names that the node has delivered, in the order of their delivery, without what its held record will release.
+    /// The names that the node has delivered, in the order of their delivery, without those that
+    /// its held record will release.
     pub fn log(&self) -> &[Name]
         ensures memory { result.now ≡ self.now.memory.log }
         ensures stored { TellsLog (ShowsStoring self.now) result.now }
@@ -49,7 +50,7 @@ impl<A: Allocator + Copy> Storing<A> {
     }
 
     #[tactic(auto, using(crate::proofs::Telling::own_says))]
-    /// How many messages of its own the node has stored: its held record doesn't count.
+    /// The number of its own messages that the node has stored; its held record doesn't count.
     pub fn own_len(&self) -> u32
         ensures memory { result ≡ length (own self.now.memory.node self.now.memory.pairs) }
         ensures stored { CountsOwn (ShowsStoring self.now) result }

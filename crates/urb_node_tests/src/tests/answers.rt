@@ -1,4 +1,4 @@
-//! What a node hears of the others' certificates, and what it answers.
+//! What a node hears about the others' certificates, and what it answers.
 
 use super::*;
 use crate::tests::playing::{asked, play_all, plays_each, take_no_more};
@@ -10,8 +10,9 @@ use std::alloc::Global;
 
 const FIRST: (u8, u32) = (1, 1);
 
-/// At node 1 of three, once its first message is certified: a packet of version one is never answered, one of version two is
-/// where it doesn't say that the certificate was heard, and the answer says whether the other one was.
+/// Node 1 of three, once its first message is certified. It never answers a packet of version one.
+/// It answers one of version two unless that says that the certificate was heard. The answer says
+/// whether the other node's certificate was heard.
 static ANSWERS: [List; 1] = [List {
     start: Start::New(3, 1, CAP),
     parts: &[&[
@@ -41,8 +42,8 @@ fn a_certified_name_is_answered_to_who_did_not_hear_of_it(rt: HostRuntime) {
     play_all(&rt, &ANSWERS);
 }
 
-/// At node 1 of five: a certificate is heard with a packet that is noted, that tells nothing else, or by which the node's own
-/// certificate is drafted.
+/// Node 1 of five hears a certificate from each of three packets. One is noted, one says nothing
+/// else, and one makes the node draft its own certificate.
 static HEARS: [List; 3] = [
     List {
         start: Start::New(5, 1, CAP),
@@ -81,8 +82,8 @@ fn a_certificate_is_heard_whatever_its_packet_leads_to(rt: HostRuntime) {
     play_all(&rt, &HEARS);
 }
 
-/// Node 3 of so many tells node 2, from which a message came with a certificate, that the certificate was heard, and resends
-/// nothing to it.
+/// A message with a certificate comes to node 3 from node 2. Node 3 tells node 2 that the
+/// certificate was heard, and resends nothing to it.
 static RELAYS: [List; 2] = [
     List {
         start: Start::New(4, 3, CAP),
@@ -127,7 +128,7 @@ fn a_relay_tells_its_source_that_the_certificate_was_heard(rt: HostRuntime) {
     play_all(&rt, &RELAYS);
 }
 
-/// At node 1 of three, up to where node 2 is heard.
+/// Node 1 of three, up to the point at which it has heard node 2.
 const TOLD: &[Row] = &[
     (Act::Submit(1, PENDING), FIRST, b"m"),
     (Act::Tell(2, IS_CERTIFIED, CERTIFICATE), FIRST, b"m"),
@@ -151,7 +152,7 @@ fn ticks_end_where_nothing_is_left_to_say(rt: HostRuntime) {
     play_all(&rt, &ENDS);
 }
 
-/// Nothing was heard of node 2, until its packet tells of its certificate.
+/// Nothing was heard from node 2 until its packet reports its certificate.
 const HEARD_ANEW: &[Row] = &[
     (Act::Tell(2, NEITHER, What::Answered(2, false)), FIRST, b"m"),
     (
@@ -175,7 +176,7 @@ fn what_was_heard_is_lost_with_a_crash(rt: HostRuntime) {
     play_all(&rt, &CRASHES);
 }
 
-/// Node 1 of three certifies its first message, and hears nothing.
+/// Node 1 of three certifies its first message and hears nothing.
 const CERTIFIES: &[Row] = &[
     (Act::Submit(1, PENDING), FIRST, b"m"),
     (Act::Arrive(2, CERTIFICATE), FIRST, b"m"),
@@ -186,7 +187,7 @@ static CERTIFIES_ALONE: List = List {
     parts: &[CERTIFIES],
 };
 
-/// Then it answers a packet that tells of a certificate ..
+/// Then it answers a packet that reports a certificate ..
 static ANSWERS_THEN: List = List {
     start: Start::New(3, 1, CAP),
     parts: &[
@@ -199,7 +200,8 @@ static ANSWERS_THEN: List = List {
     ],
 };
 
-/// .. or the answer is refused for memory, and nothing was heard by it: the same packet is answered the second time.
+/// .. or the answer is refused for memory. Then nothing was heard, and the same packet is answered
+/// the second time.
 static ANSWERS_LATER: List = List {
     start: Start::New(3, 1, CAP),
     parts: &[
@@ -209,7 +211,7 @@ static ANSWERS_LATER: List = List {
     ],
 };
 
-// Whether an answer takes several growths, and hears nothing with each of them refused.
+// Whether an answer needs several growths, and hears nothing if any of them is refused.
 fn hears_nothing(alloc: Global) -> bool {
     match (asked(alloc, &CERTIFIES_ALONE), asked(alloc, &ANSWERS_THEN)) {
         (Some(before), Some(count)) => {

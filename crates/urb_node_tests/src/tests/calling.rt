@@ -1,4 +1,4 @@
-//! Submits of a node under test and packets that come to it, and whether they lead to what they are to.
+//! Submits and packets for a node under test, and whether they have the expected results.
 
 use super::*;
 use crate::tests::packets::{letter, packet_for};
@@ -10,8 +10,8 @@ use urb_node::{Answer, Ready, Step, Storing};
 use urb_stable::Draft;
 use urb_stubborn::Outbox;
 
-// Whether the packets are one that tells this node that the name of a message is certified here, which it is, and whether the
-// other's certificate was heard.
+// Whether the packets are a single one that reports a certificate of the name, which this node
+// really has. The packet must also say whether the other node's certificate was heard.
 fn tells_of_a_certificate<A: Allocator + Copy>(
     ready: &Ready<A>,
     packets: &Outbox<A>,
@@ -28,7 +28,7 @@ fn tells_of_a_certificate<A: Allocator + Copy>(
     ready.certified(named) && are_sent(packets, source, named.sender, &expected, payload)
 }
 
-// Whether a node's answer is that, about this name.
+// Whether a node's answer is the expected one, about this name.
 fn answers<A: Allocator + Copy>(
     ready: &Ready<A>,
     answer: &Answer<Outbox<A>>,
@@ -58,7 +58,7 @@ fn has_form<A: Allocator>(record: &Record<Message<A>>, form: &Form) -> bool {
     }
 }
 
-// Whether a node that holds this draft doesn't tell of it yet.
+// Whether a node that holds this draft doesn't show its record yet.
 fn is_held_back<A: Allocator + Copy>(storing: &Storing<A>, draft: &Draft<A>) -> bool {
     match draft.entry() {
         Record::Pend(name, _) | Record::PendCert(name, _) => storing.message(*name).is_none(),
@@ -66,7 +66,7 @@ fn is_held_back<A: Allocator + Copy>(storing: &Storing<A>, draft: &Draft<A>) -> 
     }
 }
 
-// Whether a draft is that, about this name.
+// Whether a draft is the expected one, about this name.
 fn drafts<A: Allocator + Copy>(draft: &Draft<A>, what: &What, named: Name) -> bool {
     let is_so = match what {
         What::Drafted(form, pos) => has_form(draft.entry(), form) && draft.pos() == *pos,
@@ -76,7 +76,7 @@ fn drafts<A: Allocator + Copy>(draft: &Draft<A>, what: &What, named: Name) -> bo
     is_so && draft.entry().name() == named
 }
 
-// Whether a call was refused as it is to be.
+// Whether a call was refused as expected.
 fn refused(refusal: Refusal, what: &What) -> Option<bool> {
     let is_so = match what {
         What::TooLong => refusal == Refusal::TooLong,
@@ -92,7 +92,7 @@ fn refused(refusal: Refusal, what: &What) -> Option<bool> {
     went(is_so)
 }
 
-// Where a step leads.
+// The result of a step.
 fn go<A: Allocator + Copy>(step: Step<A>, what: &What, named: Name, payload: &[u8]) -> Went<A> {
     match step {
         Step::Same(ready, answer) => {
@@ -107,7 +107,7 @@ fn go<A: Allocator + Copy>(step: Step<A>, what: &What, named: Name, payload: &[u
     }
 }
 
-// Where a call leads, which may have been refused.
+// The result of a call that may have been refused.
 fn lead<A: Allocator + Copy>(
     called: Result<Step<A>, (Ready<A>, Refusal)>,
     what: &What,
@@ -120,7 +120,7 @@ fn lead<A: Allocator + Copy>(
     }
 }
 
-/// A message of client 7 is submitted.
+/// Submits a message of client 7.
 pub(super) fn submit<A: Allocator + Copy>(
     state: State<A>,
     heap: A,
@@ -142,7 +142,7 @@ pub(super) fn submit<A: Allocator + Copy>(
     }
 }
 
-// A packet of these bytes comes, which is of this message.
+// Delivers a packet with these bytes, which carries this message.
 fn meet<A: Allocator + Copy>(
     state: State<A>,
     heap: A,
@@ -160,7 +160,7 @@ fn meet<A: Allocator + Copy>(
     }
 }
 
-// A packet of this message comes.
+// Delivers a packet of this message.
 fn arrive_with<A: Allocator + Copy>(
     state: State<A>,
     (heap, calm): (A, A),
@@ -179,7 +179,7 @@ fn arrive_with<A: Allocator + Copy>(
     }
 }
 
-/// A packet of a message of client 7 comes from this source, with these flags.
+/// Delivers a packet of client 7's message from this source, with these flags.
 pub(super) fn arrive<A: Allocator + Copy>(
     state: State<A>,
     memory: (A, A),

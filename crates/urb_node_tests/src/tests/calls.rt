@@ -1,4 +1,4 @@
-//! What calls of one node lead to, one after the other.
+//! The results of calls of one node, one after the other.
 
 use super::*;
 use crate::tests::playing::play_all;
@@ -92,7 +92,7 @@ static NOTED: [List; 2] = [
             (Act::Arrive(7, CERTIFICATE), (1, 1), b"m"),
         ]],
     },
-    // Each is of one name.
+    // Each certificate is for one name.
     List {
         start: Start::New(5, 1, CAP),
         parts: &[&[
@@ -128,12 +128,12 @@ fn a_repeat_is_accepted_under_its_name_and_another_payload_is_a_conflict(rt: Hos
     play_all(&rt, &REPEATS);
 }
 
-/// As long as a payload may be, and one byte more.
+/// The longest possible payload, and one byte more.
 const LONGEST: &[u8] = &[b'x'; 16384];
 
 const TOO_LONG: &[u8] = &[b'x'; 16385];
 
-// At a node that may broadcast two messages, and then has.
+// A node that may broadcast two messages, and has broadcast both.
 static FAULTS: [List; 1] = [List {
     start: Start::New(3, 1, 2),
     parts: &[&[

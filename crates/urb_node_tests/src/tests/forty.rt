@@ -1,4 +1,4 @@
-//! Forty names of a sender in three orders: how far they go without a gap, their messages, and the log, of the same names.
+//! Forty names of a sender, added in three orders, give the same reach, messages and log.
 
 ghost use Rattle.std.specs.Prelude.{◌≡◌};
 
@@ -18,7 +18,7 @@ enum Way {
     OddFirst,
 }
 
-/// What a node of three has stored, and what it has delivered of it.
+/// What a node of three has stored, and what it has delivered of that.
 #[derive(Drop)]
 struct Held {
     config: Config,
@@ -41,7 +41,8 @@ impl Held {
         })
     }
 
-    // Stores a message of another node, with its number as the payload, and certifies it: how many names that releases.
+    // Stores a message of another node, with its number as the payload, and certifies it. Returns
+    // how many names that releases.
     fn take(&mut self, alloc: Global, name: Name) -> Option<u32> {
         let client = ClientId::new(7)?;
         let (n, cap) = (self.config.n(), self.config.cap());
@@ -56,7 +57,7 @@ impl Held {
         self.fifo.certify(name).ok()
     }
 
-    // Whether the sender's messages are lent in the order of their numbers.
+    // Whether the sender's messages are in the window in the order of their numbers.
     fn lends_in_order(&self, sender: NodeId) -> bool {
         let mut before = 0u32;
         for message in self.pending.window(sender) {
@@ -80,7 +81,7 @@ impl Held {
         before == COUNT
     }
 
-    // Whether all forty are there without a gap, lent and delivered in order.
+    // Whether all forty are there without a gap, and are in order in the window and in the log.
     fn is_whole(&self, sender: NodeId) -> bool {
         self.pending.low(sender) == COUNT
             && self.lends_in_order(sender)
@@ -98,7 +99,8 @@ fn number_in(way: Way, before: u32) -> u32 {
     }
 }
 
-// Takes all forty of node 2 in this order. Whether each was released in the end, in the order of their numbers.
+// Stores all forty of node 2 in this order. Returns whether all of them were released in the end,
+// in the order of their numbers.
 fn takes_all(alloc: Global, way: Way) -> Option<bool> {
     let mut held = Held::new(alloc)?;
     let sender = NodeId::new(2)?;

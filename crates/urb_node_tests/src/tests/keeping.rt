@@ -1,4 +1,4 @@
-//! What becomes of the draft that a node under test holds.
+//! What happens to the draft that a node under test holds.
 
 ghost use Rattle.std.specs.Prelude.{◌+◌, ◌<◌, ◌^◌};
 
@@ -9,7 +9,8 @@ use crate::tests::states::{State, Went, went};
 use urb_node::{Done, Storing};
 use urb_stable::{Draft, Failure, MemStable, Receipt, Stable};
 
-// Whether that is told of a stored record with this name; of an act that isn't `Store` the name alone is compared.
+// Whether this is the expected effect of a stored record with this name. If the act isn't `Store`,
+// only the name is compared.
 fn tells<A: Allocator + Copy>(
     done: &Done<A>,
     node: NodeId,
@@ -28,7 +29,7 @@ fn tells<A: Allocator + Copy>(
     }
 }
 
-// The node goes on with the receipt of its draft.
+// Gives the node the receipt of its draft.
 fn confirm<A: Allocator + Copy>(
     storing: Storing<A>,
     receipt: Receipt<A>,
@@ -49,7 +50,7 @@ fn confirm<A: Allocator + Copy>(
     }
 }
 
-/// The draft is stored, and the node goes on with its receipt.
+/// Stores the draft and gives the node its receipt.
 pub(super) fn keep<A: Allocator + Copy>(
     state: State<A>,
     store: &mut MemStable<A>,
@@ -65,7 +66,7 @@ pub(super) fn keep<A: Allocator + Copy>(
     }
 }
 
-/// The store fails in this way, and the node with it.
+/// Makes the store fail in this way, and the node with it.
 pub(super) fn doubt<A: Allocator + Copy>(
     state: State<A>,
     store: &mut MemStable<A>,
@@ -83,7 +84,7 @@ pub(super) fn doubt<A: Allocator + Copy>(
     }
 }
 
-/// The draft is lost: the store fails, or the node crashes.
+/// Loses the draft: the store fails, or the node crashes.
 pub(super) fn lose<A: Allocator + Copy>(state: State<A>, fails: bool) -> Went<A> {
     match state {
         State::Storing(storing, draft) => {
@@ -99,7 +100,7 @@ pub(super) fn lose<A: Allocator + Copy>(state: State<A>, fails: bool) -> Went<A>
     }
 }
 
-// The store keeps one more record.
+// Makes the store keep one more record.
 fn fill_next<A: Allocator + Copy>(store: &mut MemStable<A>, pos: u32) -> bool {
     match name(1, pos) {
         Some(named) => {
@@ -112,7 +113,7 @@ fn fill_next<A: Allocator + Copy>(store: &mut MemStable<A>, pos: u32) -> bool {
     }
 }
 
-// The receipt of a draft, of a store that holds so many records before it.
+// The receipt of a draft from a store that holds `before` records already.
 fn receipt_behind<A: Allocator + Copy>(
     calm: A,
     node: NodeId,
@@ -130,7 +131,7 @@ fn receipt_behind<A: Allocator + Copy>(
     kept.ok()
 }
 
-// The receipt of a draft of this node and position.
+// The receipt of a draft with this node and position.
 fn receipt_of<A: Allocator + Copy>(
     calm: A,
     (node, pos): (u8, u32),
@@ -144,7 +145,7 @@ fn receipt_of<A: Allocator + Copy>(
     receipt_behind(calm, node, before, record)
 }
 
-// Whether a receipt of another draft comes back from a node.
+// Whether a node returns the receipt of another draft.
 fn comes_back<A: Allocator + Copy>(
     storing: Storing<A>,
     draft: Draft<A>,
@@ -165,7 +166,7 @@ fn comes_back<A: Allocator + Copy>(
     }
 }
 
-/// The receipt of another draft, of this node and position, comes back.
+/// Offers a node the receipt of another draft, with this node and position, which it must return.
 pub(super) fn give_back<A: Allocator + Copy>(
     state: State<A>,
     calm: A,

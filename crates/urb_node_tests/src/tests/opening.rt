@@ -1,4 +1,4 @@
-//! A node opened from five records, with each growth refused in turn.
+//! A node opened from five records, with each allocation refused in turn.
 
 ghost use Rattle.std.specs.Prelude.{◌≡◌, ◌++◌, [], ◌∷◌, IfSome, IsTrue, codes};
 ghost use Rattle.urb_names.specs.Names.{name};
@@ -13,7 +13,7 @@ use urb_node::Ready;
 /// The records of an image.
 type Records<A> = Vec<Record<Message<A>>, A>;
 
-// A pending message, of a client under a number of its own, comes behind the records.
+// Appends a pending message, with its client and that client's number.
 fn join_pending<A: Allocator + Copy>(
     records: &mut Records<A>,
     alloc: A,
@@ -37,7 +37,7 @@ fn join_pending<A: Allocator + Copy>(
     }
 }
 
-// The same with its certificate.
+// The same, with its certificate.
 fn join_certified<A: Allocator + Copy>(
     records: &mut Records<A>,
     alloc: A,
@@ -61,7 +61,7 @@ fn join_certified<A: Allocator + Copy>(
     }
 }
 
-// The certificate alone.
+// Appends a certificate alone.
 fn join_certificate<A: Allocator + Copy>(records: &mut Records<A>, named: (u8, u32)) -> bool
     ensures { IsTrue result
         → records.new.items ≡ records.old.items ++ Cert (name named.0 named.1) ∷ [] }
@@ -103,7 +103,8 @@ fn opened<A: Allocator + Copy>(heap: A, calm: A) -> Option<Result<Ready<A>, NoMe
     Some(Ready::open(heap, config, node, records))
 }
 
-/// The node that is opened. Where a growth is refused, the same call goes through the second time; whether that was so.
+/// The opened node. If an allocation is refused, the same call succeeds the second time; the flag
+/// says whether that happened.
 pub(super) fn opened_at_last<A: Allocator + Copy>(heap: A, calm: A) -> Option<(Ready<A>, bool)> {
     match opened(heap, calm)? {
         Ok(ready) => Some((ready, false)),
@@ -111,7 +112,7 @@ pub(super) fn opened_at_last<A: Allocator + Copy>(heap: A, calm: A) -> Option<(R
     }
 }
 
-/// The node is the one that its image says.
+/// The node is the one that its image describes.
 const IS_OPENED: &[Row] = &[
     (
         Act::Show(3, &[(2, 1), (1, 1), (1, 2)], DELIVERED),
@@ -125,7 +126,8 @@ const IS_OPENED: &[Row] = &[
     ),
 ];
 
-/// A repeat of a message that the image has is accepted under its name, and a new message is drafted under the next one.
+/// A repeat of a message in the image is accepted under its name, and a new message is drafted
+/// under the next one.
 const GOES_ON: &[Row] = &[
     (Act::Submit(2, What::Accepted), (1, 3), b"d"),
     (

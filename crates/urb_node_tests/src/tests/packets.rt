@@ -11,7 +11,7 @@ use urb_names::{
 };
 use urb_node::Ready;
 
-// Whether a packet is of this message.
+// Whether a packet carries this message.
 fn is_of<A: Allocator + Copy>(packet: &PacketView<'_>, sent: &Message<A>) -> bool
     ensures { IsTrue result → packet.now.message ≡ sent.now }
 {
@@ -20,7 +20,8 @@ fn is_of<A: Allocator + Copy>(packet: &PacketView<'_>, sent: &Message<A>) -> boo
         && packet.payload() == sent.payload()
 }
 
-// Whether a message may come to a node under this name: it is the one there, and of a node's own it is there.
+// Whether a message may come to a node under this name. It must be the message that the node has
+// there, if any, and a message of the node's own must be there.
 fn may_come<A: Allocator + Copy>(ready: &Ready<A>, named: Name, sent: &Message<A>) -> bool
     ensures { IsTrue result
         → MayArrive ready.now.limits ready.now.node ready.now.pairs named sent.now }
@@ -38,7 +39,7 @@ fn may_come<A: Allocator + Copy>(ready: &Ready<A>, named: Name, sent: &Message<A
     }
 }
 
-// Whether a packet, of this message, may come to the node.
+// Whether a packet that carries this message may come to the node.
 fn is_for<A: Allocator + Copy>(ready: &Ready<A>, packet: &PacketView<'_>, sent: &Message<A>) -> bool
     ensures { IsTrue result → IsForNode ready.now packet.now }
 {
@@ -49,7 +50,7 @@ fn is_for<A: Allocator + Copy>(ready: &Ready<A>, packet: &PacketView<'_>, sent: 
         && may_come(ready, packet.name(), sent)
 }
 
-/// The packet of these bytes, where it is of this message and may come to the node.
+/// The packet with these bytes, if it carries this message and may come to the node.
 pub(super) fn packet_for<'b, A: Allocator + Copy>(
     ready: &Ready<A>,
     bytes: &'b [u8],
@@ -63,7 +64,7 @@ pub(super) fn packet_for<'b, A: Allocator + Copy>(
     }
 }
 
-// The bytes of a packet of this message, of version two where it has flags.
+// The bytes of a packet of this message; of version two if it has flags.
 fn bytes_of<A: Allocator + Copy>(
     calm: A,
     (source, target): (NodeId, NodeId),
@@ -81,7 +82,7 @@ fn bytes_of<A: Allocator + Copy>(
     bytes.ok()
 }
 
-/// The bytes of a packet of this message to a node that is ready, of version two where it has flags.
+/// The bytes of a packet of this message to a ready node; of version two if it has flags.
 pub(super) fn letter<A: Allocator + Copy>(
     state: &State<A>,
     calm: A,

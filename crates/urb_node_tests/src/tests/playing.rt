@@ -1,4 +1,4 @@
-//! Plays rows at a node under test, with each growth of its memory refused where a test asks for that.
+//! Plays rows at a node under test, on request with each of its allocations refused in turn.
 
 use super::*;
 use crate::tests::calling::{arrive, submit};
@@ -15,7 +15,7 @@ use urb_node::Ready;
 use urb_refusing::Refusing;
 use urb_stable::MemStable;
 
-// The draft of a call is stored, where it is to be.
+// Stores the draft of a call, if the row says so.
 fn kept<A: Allocator + Copy>(
     (state, told): Went<A>,
     store: &mut MemStable<A>,
@@ -28,7 +28,7 @@ fn kept<A: Allocator + Copy>(
     }
 }
 
-// What a call is to lead to.
+// The expected result of a call.
 fn what_of(act: &Act) -> Option<&What> {
     match act {
         Act::Submit(_, what) | Act::Arrive(_, what) | Act::Tell(_, _, what) => Some(what),
@@ -36,7 +36,7 @@ fn what_of(act: &Act) -> Option<&What> {
     }
 }
 
-// Whether a row leaves what a node has stored as it was.
+// Whether a row leaves what a node has stored unchanged.
 fn is_to_stay(act: &Act) -> bool {
     match act {
         Act::Refuse(_) => true,
@@ -47,7 +47,7 @@ fn is_to_stay(act: &Act) -> bool {
     }
 }
 
-// Whether these are the names in order.
+// Whether the log is exactly these names in order.
 fn are_names(log: &[Name], names: &[(u8, u32)]) -> bool {
     for (index, (sender, seq)) in names.iter().enumerate() {
         match log.get(index) {
@@ -58,7 +58,7 @@ fn are_names(log: &[Name], names: &[(u8, u32)]) -> bool {
     log.len() == names.len()
 }
 
-// Whether a node has of a message what is said.
+// Whether a node knows about a message exactly what is expected.
 fn knows<A: Allocator + Copy>(
     state: &State<A>,
     named: Name,
@@ -70,7 +70,7 @@ fn knows<A: Allocator + Copy>(
         && state.certified(named) == certified
 }
 
-// The same of a message of client 7.
+// The same for a message of client 7.
 fn tells_of<A: Allocator + Copy>(
     state: &State<A>,
     calm: A,
@@ -88,7 +88,7 @@ fn tells_of<A: Allocator + Copy>(
     }
 }
 
-// Calls of a node that is ready.
+// Calls a ready node.
 fn call<A: Allocator + Copy>(
     state: State<A>,
     memory: (A, A),
@@ -105,7 +105,7 @@ fn call<A: Allocator + Copy>(
     }
 }
 
-// What is done in a row with a draft.
+// Plays a row that uses a draft.
 fn play_draft<A: Allocator + Copy>(
     state: State<A>,
     store: &mut MemStable<A>,
@@ -125,7 +125,7 @@ fn play_draft<A: Allocator + Copy>(
     }
 }
 
-// A crash, or a restart.
+// Plays a crash or a restart.
 fn play_fall<A: Allocator + Copy>(
     state: State<A>,
     store: &mut MemStable<A>,
@@ -140,7 +140,7 @@ fn play_fall<A: Allocator + Copy>(
     }
 }
 
-// A tick, or what a node tells.
+// Plays a tick or a query.
 fn play_told<A: Allocator + Copy>(
     state: State<A>,
     (heap, calm): (A, A),
@@ -160,7 +160,7 @@ fn play_told<A: Allocator + Copy>(
     }
 }
 
-// What is done in a row.
+// Plays a row.
 fn play_act<A: Allocator + Copy>(
     state: State<A>,
     store: &mut MemStable<A>,
@@ -178,12 +178,12 @@ fn play_act<A: Allocator + Copy>(
     }
 }
 
-// How many messages a node has broadcast and delivered, and whether it has one of this name.
+// How many messages a node has broadcast and delivered, and whether it has one with this name.
 fn told<A: Allocator + Copy>(state: &State<A>, named: Name) -> (u32, usize, bool) {
     (state.own_len(), state.log().len(), state.has(named))
 }
 
-// The same row once more, which is not refused again.
+// Plays the same row again, which must not be refused again.
 fn play_again<A: Allocator + Copy>(
     state: State<A>,
     store: &mut MemStable<A>,
@@ -197,7 +197,8 @@ fn play_again<A: Allocator + Copy>(
     }
 }
 
-// A row; where it is refused for memory, nothing has changed, and it goes through the second time. Whether it was refused.
+// Plays a row. If it is refused for memory, nothing has changed, and it succeeds the second time.
+// Returns whether it was refused.
 fn play_named<A: Allocator + Copy>(
     state: State<A>,
     store: &mut MemStable<A>,
@@ -229,10 +230,11 @@ fn play_row<A: Allocator + Copy>(
     }
 }
 
-// Whether a row was refused for memory, or the part and the place of the first one that led elsewhere.
+// Whether a row was refused for memory, or the part and the place of the first row with an
+// unexpected result.
 type Played = Result<bool, (usize, usize)>;
 
-// Rows, which are that part of a list.
+// Plays rows, which are this part of a list.
 fn play_part<A: Allocator + Copy>(
     mut state: State<A>,
     store: &mut MemStable<A>,
@@ -251,7 +253,7 @@ fn play_part<A: Allocator + Copy>(
     (state, Ok(refused))
 }
 
-// The parts of a list.
+// Plays the parts of a list.
 fn play_parts<A: Allocator + Copy>(
     mut state: State<A>,
     store: &mut MemStable<A>,
@@ -270,7 +272,7 @@ fn play_parts<A: Allocator + Copy>(
     (state, Ok(refused))
 }
 
-// The same at a node whose store is new.
+// The same at a node with a new store.
 fn play_from<A: Allocator + Copy>(ready: Ready<A>, memory: (A, A), parts: &[&[Row]]) -> Played {
     let mut store = MemStable::new(memory.1);
     let (state, played) = play_parts(State::Ready(ready), &mut store, memory, parts);
@@ -289,7 +291,7 @@ fn new<A: Allocator + Copy>(alloc: A, n: u8, number: u8, cap: u32) -> Option<Rea
     Ready::new(alloc, config, node).ok()
 }
 
-// The node under test; whether that was refused for memory the first time.
+// The node under test, and whether creating it was refused for memory the first time.
 fn begin<A: Allocator + Copy>(start: &Start, heap: A, calm: A) -> Option<(Ready<A>, bool)> {
     match start {
         Start::New(n, number, cap) => Some((new(heap, *n, *number, *cap)?, false)),
@@ -297,7 +299,7 @@ fn begin<A: Allocator + Copy>(start: &Start, heap: A, calm: A) -> Option<(Ready<
     }
 }
 
-// What a list leads to. A row that is refused for memory changes nothing, and goes through the second time.
+// Plays a list. A row that is refused for memory changes nothing and succeeds the second time.
 fn plays<A: Allocator + Copy>(list: &List, heap: A, calm: A) -> Played {
     match begin(&list.start, heap, calm) {
         Some((ready, was_refused)) => {
@@ -308,7 +310,7 @@ fn plays<A: Allocator + Copy>(list: &List, heap: A, calm: A) -> Played {
     }
 }
 
-// The first row of these lists that leads elsewhere: its list, part and place.
+// The first row of these lists with an unexpected result: its list, part and place.
 fn first_astray(alloc: Global, lists: &[List]) -> Option<(usize, usize, usize)> {
     for (index, list) in lists.iter().enumerate() {
         if let Err((part, place)) = plays(list, alloc, alloc) {
@@ -318,12 +320,13 @@ fn first_astray(alloc: Global, lists: &[List]) -> Option<(usize, usize, usize)> 
     None
 }
 
-/// Plays lists, each row of which leads where it is to.
+/// Plays lists, each row of which must have its expected result.
 pub(super) fn play_all(rt: &(impl Abort + AllocGlobal), lists: &[List]) {
     assert_eq!(rt; first_astray(rt.alloc(), lists), None);
 }
 
-// What a list leads to where the growth with this number is refused, and how many growths it asks for; at 0 none is refused.
+// Plays a list with this growth refused, and returns the result and the number of growths; with 0
+// none is refused.
 fn plays_refusing(alloc: Global, list: &List, number: u64) -> (Played, u64) {
     let calm = Refusing::new(alloc, 0);
     let heap = Refusing::new(alloc, number);
@@ -331,7 +334,7 @@ fn plays_refusing(alloc: Global, list: &List, number: u64) -> (Played, u64) {
     (played, heap.asked())
 }
 
-/// How many growths a list asks for; none where a row leads elsewhere.
+/// The number of growths in a list; `None` if a row has an unexpected result.
 pub(super) fn asked(alloc: Global, list: &List) -> Option<u64> {
     match plays_refusing(alloc, list, 0) {
         (Ok(false), count) => Some(count),
@@ -339,7 +342,8 @@ pub(super) fn asked(alloc: Global, list: &List) -> Option<u64> {
     }
 }
 
-/// Whether a list leads where it is to with each of these growths refused, and rows tell of that as is said.
+/// Whether a list has its expected results with each of these growths refused, and reports a
+/// refusal as `told` says.
 pub(super) fn plays_each(alloc: Global, list: &List, before: u64, last: u64, told: bool) -> bool {
     for growth in before..last {
         match plays_refusing(alloc, list, growth + 1).0 {
@@ -350,7 +354,7 @@ pub(super) fn plays_each(alloc: Global, list: &List, before: u64, last: u64, tol
     true
 }
 
-/// Whether each growth of a list may be refused, and it asks for more of them than that.
+/// Whether each growth of a list may be refused, and there are more than `least` of them.
 pub(super) fn gives_back(alloc: Global, list: &List, least: u64) -> bool {
     match asked(alloc, list) {
         Some(count) => least < count && plays_each(alloc, list, 0, count, true),
@@ -358,7 +362,7 @@ pub(super) fn gives_back(alloc: Global, list: &List, least: u64) -> bool {
     }
 }
 
-// Whether the later list asks for as much memory as the earlier one, and for some.
+// Whether the later list needs as many growths as the earlier one, and at least one.
 fn takes_no_more(alloc: Global, (earlier, later): &(List, List)) -> bool {
     match (asked(alloc, earlier), asked(alloc, later)) {
         (Some(before), Some(after)) => 0 < before && before == after,
@@ -366,7 +370,7 @@ fn takes_no_more(alloc: Global, (earlier, later): &(List, List)) -> bool {
     }
 }
 
-/// Whether each later list asks for as much memory as its earlier one, and for some.
+/// Whether each later list needs as many growths as its earlier one, and at least one.
 pub(super) fn take_no_more(alloc: Global, pairs: &[(List, List)]) -> bool {
     for pair in pairs {
         if !takes_no_more(alloc, pair) {

@@ -1,4 +1,4 @@
-//! What a node holds back until its store has taken a record, and what is left of it where the store has not.
+//! What a node holds back until its store has kept a record, and what is left if the store has not.
 
 use super::*;
 use crate::tests::playing::play_all;
@@ -6,7 +6,7 @@ use crate::tests::rows::{
     Act, CAP, CERTIFIED, DELIVERED, Form, HELD, List, NEITHER, NOTHING, PENDING, Row, Start, What,
 };
 
-/// At node 2 of four, a message of its own.
+/// Node 2 of four, with a message of its own.
 static ALL_AT_ONCE: [List; 1] = [List {
     start: Start::New(4, 2, CAP),
     parts: &[&[
@@ -34,7 +34,7 @@ fn packets_of_a_draft_come_all_with_its_receipt(rt: HostRuntime) {
     play_all(&rt, &ALL_AT_ONCE);
 }
 
-/// At node 3 of four, a message of node 1 that comes from node 2.
+/// Node 3 of four, with a message of node 1 that comes from node 2.
 static RELAYED: [List; 1] = [List {
     start: Start::New(4, 3, CAP),
     parts: &[&[
@@ -60,7 +60,7 @@ fn a_relayed_packet_carries_the_very_payload(rt: HostRuntime) {
     play_all(&rt, &RELAYED);
 }
 
-/// At node 1 of three, the certificate of its first message, which it knows after a crash too.
+/// Node 1 of three, with the certificate of its first message, which it knows after a crash too.
 static CERTIFIED_LATER: [List; 1] = [List {
     start: Start::New(3, 1, CAP),
     parts: &[&[
@@ -83,7 +83,7 @@ fn a_certificate_sends_nothing_and_releases(rt: HostRuntime) {
     play_all(&rt, &CERTIFIED_LATER);
 }
 
-/// Node 2 of four holds a draft: receipts of other drafts come back, and then it takes its own.
+/// Node 2 of four holds a draft. It returns receipts of other drafts, and then accepts its own.
 static OTHERS: [List; 1] = [List {
     start: Start::New(4, 2, CAP),
     parts: &[&[
@@ -114,7 +114,7 @@ fn a_receipt_of_another_draft_comes_back(rt: HostRuntime) {
     play_all(&rt, &OTHERS);
 }
 
-/// A node tells of the first of two messages alone.
+/// A node shows only the first of two messages.
 const THE_FIRST: &[Row] = &[
     (Act::Show(1, &[(1, 1)], DELIVERED), (1, 1), b"a"),
     (Act::Show(1, &[(1, 1)], NOTHING), (1, 2), b"b"),
@@ -128,7 +128,7 @@ const DRAFTS_THE_SECOND: &[Row] = &[(
     b"b",
 )];
 
-/// A node alone drafts its second message, and its store fails, or it crashes.
+/// A node alone drafts its second message, and then its store fails, or it crashes.
 static FALLS: [List; 2] = [
     List {
         start: Start::New(1, 1, CAP),

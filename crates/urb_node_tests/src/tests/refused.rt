@@ -1,4 +1,4 @@
-//! Calls of one node with each growth of its memory refused in turn, and calls that take no memory.
+//! Calls of one node with each of its allocations refused in turn, and calls that allocate nothing.
 
 use super::*;
 use crate::tests::playing::{gives_back, take_no_more};
@@ -7,7 +7,7 @@ use crate::tests::rows::{
     Row, Start, What,
 };
 
-// The calls at node 1 of five about the messages of node 1 and of node 2 with this number.
+// The calls at node 1 of five about the messages of nodes 1 and 2 with this number.
 macro_rules! calls {
     ($number:literal) => {
         &[
@@ -22,7 +22,7 @@ macro_rules! calls {
     };
 }
 
-/// All calls, a tick, and where they lead.
+/// All calls, a tick, and the expected state.
 static ALL: List = List {
     start: Start::New(5, 1, CAP),
     parts: &[
@@ -52,7 +52,8 @@ fn a_refused_growth_gives_the_node_back_as_it_was(rt: HostRuntime) {
     assert!(rt; gives_back(rt.alloc(), &ALL, 40));
 }
 
-/// Calls of node 1 of five that note an acknowledgement and certify a name, and then calls that take no memory.
+/// Calls of node 1 of five that note an acknowledgement and certify a name, followed by calls that
+/// allocate nothing.
 const BEFORE: &[Row] = &[
     (Act::Submit(1, PENDING), (1, 1), b"m"),
     (Act::Arrive(2, What::Noted), (1, 1), b"m"),
@@ -84,8 +85,8 @@ fn a_repeat_takes_no_memory(rt: HostRuntime) {
     assert!(rt; take_no_more(rt.alloc(), &REPEATED));
 }
 
-/// Drafts of node 1 of three, and their receipts: a message of its own, its certificate, and a message of node 2 that is
-/// certified at once.
+/// Drafts of node 1 of three and their receipts: a message of its own, its certificate, and a
+/// message of node 2 that is certified at once.
 const DRAFTS_FIRST: &[Row] = &[(
     Act::Submit(1, What::Drafted(Form::Pending, 1)),
     (1, 1),
@@ -172,7 +173,7 @@ fn a_receipt_takes_no_memory(rt: HostRuntime) {
     assert!(rt; take_no_more(rt.alloc(), &RECEIPTS));
 }
 
-/// A node that holds a draft falls: its store fails, or it crashes.
+/// A node that holds a draft goes down: its store fails, or it crashes.
 static FALLS: [(List, List); 2] = [
     (
         List {

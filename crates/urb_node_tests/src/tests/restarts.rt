@@ -1,4 +1,4 @@
-//! Restarts of one node: which images are taken, and what is left of what it held.
+//! Restarts of one node: which images it accepts, and what is left of what it held.
 
 use super::*;
 use crate::tests::playing::{asked, gives_back, play_all};
@@ -8,7 +8,7 @@ use crate::tests::rows::{
 use std::alloc::Global;
 use urb_stable::Failure;
 
-/// What node 1 of five stores, before it crashes.
+/// What node 1 of five stores before it crashes.
 const STORES: &[Row] = &[
     (Act::Submit(1, PENDING), (1, 1), b"m"),
     (Act::Arrive(2, PENDING), (2, 1), b"m"),
@@ -20,13 +20,13 @@ const STORES: &[Row] = &[
     (Act::Crash, (1, 1), b"m"),
 ];
 
-/// Its image is taken, and it has delivered what it had stored.
+/// The node accepts its image, and it has delivered what it had stored.
 const RISES: &[Row] = &[
     (Act::Rise, (1, 1), b"m"),
     (Act::Show(1, &[(2, 1), (1, 1)], DELIVERED), (1, 1), b"m"),
 ];
 
-/// Node 4 was counted for the message of node 3, and is not any more.
+/// Node 4 was counted for the message of node 3, and no longer is.
 const COUNTED_ANEW: &[Row] = &[
     (Act::Arrive(2, What::Noted), (3, 1), b"m"),
     (Act::Arrive(2, What::Again), (3, 1), b"m"),
@@ -44,9 +44,10 @@ fn the_image_of_what_was_stored_is_taken_and_acknowledgements_are_lost(rt: HostR
     play_all(&rt, &TAKEN);
 }
 
-/// Images that are not what node 1 of five has stored: that lack a record, have another one twice in its place, have one
-/// more, another payload, another order of the certificates, another form of a record, and a certificate of a message that
-/// no node of the group can have sent.
+/// Images that are not what node 1 of five has stored. One lacks a record; one has another record
+/// twice in its place; one has an extra record. Others have a different payload, a different order
+/// of certificates, or a different form of a record. One certifies a message that no node of the
+/// group can have sent.
 static OTHERS: [List; 1] = [List {
     start: Start::New(5, 1, CAP),
     parts: &[
@@ -139,7 +140,7 @@ fn another_image_is_refused_and_the_right_one_is_taken_then(rt: HostRuntime) {
     play_all(&rt, &OTHERS);
 }
 
-/// Node 1 of three has stored its first message, and holds the draft of its second one.
+/// Node 1 of three has stored its first message and holds the draft of its second one.
 const DRAFTS_THE_SECOND: &[Row] = &[
     (Act::Submit(1, PENDING), (1, 1), b"a"),
     (
@@ -217,7 +218,7 @@ static UP: List = List {
     parts: &[STORES, RISES],
 };
 
-// Whether a restart asks for memory, and each of its growths may be refused.
+// Whether a restart allocates memory, and each of its growths may be refused.
 fn restarts_again(alloc: Global) -> bool {
     match asked(alloc, &DOWN) {
         Some(before) => gives_back(alloc, &UP, before),

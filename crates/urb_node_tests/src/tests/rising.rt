@@ -5,7 +5,7 @@ use crate::tests::states::{State, Went, went};
 use urb_names::Refusal;
 use urb_stable::{MemStable, Stable};
 
-/// A crash of a node that holds no draft.
+/// Crashes a node that holds no draft.
 pub(super) fn crash<A: Allocator + Copy>(state: State<A>) -> Went<A> {
     match state {
         State::Ready(ready) => (State::Down(ready.crash()), Some(true)),
@@ -13,7 +13,7 @@ pub(super) fn crash<A: Allocator + Copy>(state: State<A>) -> Went<A> {
     }
 }
 
-// A record comes behind those of an image; whether it was there, and had room.
+// Appends a record to an image. Returns whether there was one, and memory for it.
 fn join<A: Allocator + Copy>(
     image: &mut Vec<Record<Message<A>>, A>,
     record: Option<Record<Message<A>>>,
@@ -38,7 +38,7 @@ fn image_of<A: Allocator + Copy>(calm: A, rows: &[Kept]) -> Option<Vec<Record<Me
     None
 }
 
-// Whether a restart was taken, or refused so.
+// Whether a restart had the expected outcome: accepted, or refused in this way.
 fn judged(refusal: Option<Refusal>, expected: Option<Refusal>) -> Option<bool> {
     if refusal == Some(Refusal::NoMemory) {
         return Some(false);
@@ -46,7 +46,7 @@ fn judged(refusal: Option<Refusal>, expected: Option<Refusal>) -> Option<bool> {
     went(refusal == expected)
 }
 
-// A restart with an image, which is taken, or refused so.
+// Restarts a node with an image, and compares the outcome with the expected one.
 fn restart<A: Allocator + Copy>(
     state: State<A>,
     heap: A,
@@ -65,7 +65,7 @@ fn restart<A: Allocator + Copy>(
     }
 }
 
-// The same, where there is memory for the image.
+// The same, if there is memory for the image.
 fn restart_with<A: Allocator + Copy>(
     state: State<A>,
     heap: A,
@@ -78,7 +78,7 @@ fn restart_with<A: Allocator + Copy>(
     }
 }
 
-/// A restart with the records of the store, which are taken.
+/// Restarts a node with the records of its store, which it must accept.
 pub(super) fn rise<A: Allocator + Copy>(
     state: State<A>,
     (heap, calm): (A, A),
@@ -87,7 +87,7 @@ pub(super) fn rise<A: Allocator + Copy>(
     restart_with(state, heap, store.retrieve(calm).ok(), None)
 }
 
-/// A restart with another image, which is refused.
+/// Restarts a node with another image, which it must refuse.
 pub(super) fn refuse<A: Allocator + Copy>(
     state: State<A>,
     (heap, calm): (A, A),

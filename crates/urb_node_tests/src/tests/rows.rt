@@ -1,21 +1,21 @@
-//! What is done to a node under test, and what that is to lead to: rows of plain data.
+//! Actions on a node under test and their expected results, as rows of plain data.
 
 use urb_names::Flags;
 use urb_stable::Failure;
 
-/// Which record was drafted.
+/// The form of the drafted record.
 pub(super) enum Form {
     Pending,
     Certified,
     Certificate,
 }
 
-/// What a call is to lead to.
+/// The expected result of a call.
 pub(super) enum What {
     Accepted,
     Noted,
     Again,
-    /// An answer to this node: whether its certificate was heard.
+    /// An answer to this node, and whether its certificate was heard.
     Answered(u8, bool),
     TooLong,
     Conflict,
@@ -24,7 +24,7 @@ pub(super) enum What {
     NoMemory,
     /// A draft of this form at this position, which isn't stored yet.
     Drafted(Form, u32),
-    /// A draft of this form, which is stored then.
+    /// A draft of this form, which is then stored.
     Stored(Form),
 }
 
@@ -34,7 +34,8 @@ pub(super) const CERTIFIED: What = What::Stored(Form::Certified);
 
 pub(super) const CERTIFICATE: What = What::Stored(Form::Certificate);
 
-/// The flags of a packet whose source has stored no certificate, or one, and which says that the target's was heard, or not.
+/// The flags of a packet: whether its source has stored a certificate, and whether it heard the
+/// target's.
 pub(super) const NEITHER: Flags = Flags {
     certified: false,
     heard: false,
@@ -55,13 +56,14 @@ pub(super) const BOTH: Flags = Flags {
     heard: true,
 };
 
-/// A packet that is sent: to which node, the number of its message, and its flags.
+/// A packet that is sent: its target, the number of its message, and its flags.
 pub(super) type Sent = (u8, u32, Flags);
 
-/// A record of an image: its form, the node whose first message it is about, and the payload of that.
+/// A record of an image: its form, the node whose first message it is about, and that message's
+/// payload.
 pub(super) type Kept = (Form, u8, &'static [u8]);
 
-/// Whether a node holds a message under a name, has any one there, and has certified the name.
+/// Whether a node holds a message under a name, has any message there, and has certified the name.
 pub(super) type Known = (bool, bool, bool);
 
 pub(super) const NOTHING: Known = (false, false, false);
@@ -70,7 +72,7 @@ pub(super) const HELD: Known = (true, true, false);
 
 pub(super) const DELIVERED: Known = (true, true, true);
 
-/// What is done to a node with a message of client 7.
+/// An action on a node, with a message of client 7.
 pub(super) enum Act {
     /// A submit of the message with this number.
     Submit(u32, What),
@@ -78,33 +80,37 @@ pub(super) enum Act {
     Arrive(u8, What),
     /// A packet of version two from this node, with these flags.
     Tell(u8, Flags, What),
-    /// Its draft is stored: whether a client's message is accepted by that, how many names are released, and what is sent.
+    /// Stores its draft. Says whether this accepts a client's message, how many names are released,
+    /// and what is sent.
     Store(bool, u32, &'static [Sent]),
-    /// A receipt of another draft comes back: of this node, at this position, of this form.
+    /// Offers the receipt of another draft, with this node, position and form, which the node
+    /// returns.
     GiveBack(u8, u32, Form),
-    /// Its store fails in this way, and the node with it.
+    /// The store fails in this way, and the node with it.
     Doubt(Failure),
-    /// Its draft is lost: its store fails, or it crashes.
+    /// The draft is lost: the store fails (true), or the node crashes (false).
     Lose(bool),
     /// What a tick sends.
     Tick(&'static [Sent]),
     /// How many packets a tick sends.
     Send(usize),
     Crash,
-    /// A restart with the records of its store, which are taken.
+    /// A restart with the records of its store, which it accepts.
     Rise,
-    /// A restart with another image, which is refused.
+    /// A restart with another image, which it refuses.
     Refuse(&'static [Kept]),
-    /// How many messages it has broadcast, the names that it has delivered, and what it has of the row's message.
+    /// How many messages it has broadcast, the names that it has delivered, and what it knows about
+    /// the row's message.
     Show(u32, &'static [(u8, u32)], Known),
 }
 
-/// What is done, the name of the message, and its payload. In a packet a message has the number of its name.
+/// The action, the name of the message, and its payload. In a packet a message has the number of
+/// its name.
 pub(super) type Row = (Act, (u8, u32), &'static [u8]);
 
-/// The node under test.
+/// How the node under test begins.
 pub(super) enum Start {
-    /// In a group of so many it is this one, and may broadcast so many messages.
+    /// In a group of this size it is this node, and may broadcast this many messages.
     New(u8, u8, u32),
     /// It is opened from its image.
     Opened,
@@ -116,5 +122,5 @@ pub(super) struct List {
     pub(super) parts: &'static [&'static [Row]],
 }
 
-/// How many messages a node may broadcast, where nothing else is said.
+/// How many messages a node may broadcast, unless a test says otherwise.
 pub(super) const CAP: u32 = 20;

@@ -6,7 +6,8 @@ use crate::tests::states::{State, Went, went};
 use urb_names::{NoMemory, Packet};
 use urb_stubborn::Outbox;
 
-// Whether a packet is of the message of client 7 with this number and payload, which has the number of its name.
+// Whether a packet carries client 7's message with this number and payload, and its name has the
+// same number.
 fn carries<A: Allocator + Copy>(packet: &Packet<A>, seq: u32, payload: &[u8]) -> bool {
     let message = packet.message();
     packet.name().seq == seq
@@ -15,7 +16,7 @@ fn carries<A: Allocator + Copy>(packet: &Packet<A>, seq: u32, payload: &[u8]) ->
         && message.payload() == payload
 }
 
-// Whether a packet comes from this node, is of a message of this sender, and is that one.
+// Whether a packet comes from this node, carries a message of this sender, and is the expected one.
 fn is_sent<A: Allocator + Copy>(
     packet: &Packet<A>,
     source: NodeId,
@@ -30,7 +31,8 @@ fn is_sent<A: Allocator + Copy>(
         && carries(packet, *seq, payload)
 }
 
-/// Whether the packets come from this node, are of messages of this sender, and are those in order.
+/// Whether the packets come from this node, carry messages of this sender, and are exactly the
+/// expected ones in order.
 pub(super) fn are_sent<A: Allocator + Copy>(
     packets: &Outbox<A>,
     source: NodeId,
@@ -65,7 +67,7 @@ fn ticks<A: Allocator + Copy>(
     }
 }
 
-/// A tick, and what it sends.
+/// Performs a tick and checks what it sends.
 pub(super) fn tick<A: Allocator + Copy>(
     state: State<A>,
     heap: A,
@@ -85,7 +87,7 @@ pub(super) fn tick<A: Allocator + Copy>(
     }
 }
 
-// Whether a tick sends so many packets.
+// Whether a tick sends this many packets.
 fn sends<A: Allocator + Copy>(sent: &Result<Outbox<A>, NoMemory>, count: usize) -> Option<bool> {
     match sent {
         Ok(packets) => went(packets.len() == count),
@@ -93,7 +95,7 @@ fn sends<A: Allocator + Copy>(sent: &Result<Outbox<A>, NoMemory>, count: usize) 
     }
 }
 
-/// A tick, and how many packets it sends.
+/// Performs a tick and checks how many packets it sends.
 pub(super) fn send<A: Allocator + Copy>(state: State<A>, heap: A, count: usize) -> Went<A> {
     match state {
         State::Ready(ready) => {

@@ -1,11 +1,11 @@
-//! A node under test in one of its states, and what it tells there.
+//! A node under test in one of its states, and queries of it.
 
 use std::alloc::Allocator;
 use urb_names::{Message, Name};
 use urb_node::{Down, Ready, Storing};
 use urb_stable::Draft;
 
-/// A node, with its draft where it holds one.
+/// A node, with its draft if it holds one.
 #[derive(Drop)]
 pub(super) enum State<A: Allocator> {
     Ready(Ready<A>),
@@ -13,10 +13,11 @@ pub(super) enum State<A: Allocator> {
     Down(Down<A>),
 }
 
-/// A node after a row: whether that went through, and was not refused for memory; none where it led elsewhere.
+/// A node after a row, and whether the row succeeded or was refused for memory; `None` if it had
+/// another result.
 pub(super) type Went<A> = (State<A>, Option<bool>);
 
-/// How a row went that is never refused for memory.
+/// The outcome of a row that is never refused for memory.
 pub(super) fn went(is_so: bool) -> Option<bool> {
     if is_so { Some(true) } else { None }
 }

@@ -1,10 +1,10 @@
-//! What a node sends by its ticks.
+//! What a node sends at its ticks.
 
 use super::*;
 use crate::tests::playing::play_all;
 use crate::tests::rows::{Act, CAP, List, NEITHER, PENDING, Row, Start};
 
-// The submits of the messages with these numbers.
+// Submits of the messages with these numbers.
 macro_rules! submits {
     ($($number:literal)*) => {
         &[$((Act::Submit($number, PENDING), (1, $number), b"m")),*]

@@ -1,8 +1,8 @@
-//! Each growth refused in turn.
+//! Refuses each allocation in turn.
 
 use super::*;
 
-// How many growths of a script there are, each of which was refused in turn; 0 where something is told otherwise.
+// The number of growths in a script, after each was refused in turn; 0 if a check fails.
 fn growths(alloc: Global, script: Script) -> u64 {
     for refused in 1..100 {
         match play(alloc, refused, script) {

@@ -1,4 +1,4 @@
-//! A client's messages by its numbers.
+//! A client's messages, by its own numbers.
 
 use super::*;
 

@@ -1,8 +1,8 @@
-//! Names in a round, behind a gap, and in whatever order they come.
+//! Names in cyclic order, after a gap, and added in any order.
 
 use super::*;
 
-// Plays a script on the set of a node, with no room reserved.
+// Plays a script on a node's set, without reservations.
 fn plays(alloc: Global, node: u8, rows: &[Row], checks: &[Check]) -> bool {
     let script = Script {
         node,

@@ -1,15 +1,15 @@
-//! What is told of a pending set.
+//! Checks of a pending set.
 
 use super::*;
 
-/// What is to be told.
+/// A check with its expected result.
 #[derive(Clone, Copy)]
 pub(super) enum Check<'a> {
-    /// How far a sender's names go without a gap, and how many are behind it.
+    /// How far a sender's names go without a gap, and how many come after it.
     Goes(u8, u32, u32),
-    /// A client's messages are those under these numbers of node 1, and its next number is the one behind them.
+    /// A client's messages have exactly these numbers at node 1, and its next number follows them.
     Numbers(u16, &'a [u32]),
-    /// The name that comes next in a round.
+    /// The name that comes next in cyclic order.
     Next(Option<(u8, u32)>, Option<(u8, u32)>),
     /// Whether this message is there under this name.
     Has(Row, bool),
@@ -17,7 +17,7 @@ pub(super) enum Check<'a> {
     Lacks(u8, u32),
 }
 
-// Whether a message is that of a row.
+// Whether a message is the one in a row.
 fn fits<A: Allocator + Copy>(message: Option<&Message<A>>, row: Row) -> bool {
     let (_sender, _seq, client, number) = row;
     match message {
@@ -30,7 +30,7 @@ fn fits<A: Allocator + Copy>(message: Option<&Message<A>>, row: Row) -> bool {
     }
 }
 
-// Whether the message of a row is there, also in the window of its sender, where no gap is before it.
+// Whether the message of a row is there, and also in its sender's window if no gap comes before it.
 fn has_row<A: Allocator + Copy>(pending: &Pending<A>, row: Row) -> bool {
     let (sender, seq, _client, _number) = row;
     let Some(name) = name(sender, seq) else {
@@ -41,7 +41,7 @@ fn has_row<A: Allocator + Copy>(pending: &Pending<A>, row: Row) -> bool {
         && (pending.low(name.sender) < name.seq || fits(window.get(name.seq as usize - 1), row))
 }
 
-// Whether the messages are those of these rows.
+// Whether the messages are exactly those of these rows.
 pub(super) fn holds<A: Allocator + Copy>(pending: &Pending<A>, rows: &[Row]) -> bool {
     for row in rows {
         if !has_row(pending, *row) {
@@ -76,13 +76,13 @@ fn is_numbered<A: Allocator + Copy>(pending: &Pending<A>, client: u16, owns: &[u
     pending.client_next(client) == next && pending.find(client, next).is_none()
 }
 
-// The name of a sender and a number, where there are some.
+// The name with this sender and number, if they are given.
 fn named(pair: Option<(u8, u32)>) -> Option<Name> {
     let (sender, seq) = pair?;
     name(sender, seq)
 }
 
-// Whether the message of a row is there under its name, made once more.
+// Whether a second copy of a row's message is found under its name.
 fn has<A: Allocator + Copy>(pending: &Pending<A>, messages: A, row: Row) -> Option<bool> {
     let (sender, seq, client, number) = row;
     let (name, client) = (name(sender, seq)?, ClientId::new(client)?);
@@ -112,7 +112,7 @@ fn is_told<A: Allocator + Copy>(pending: &Pending<A>, messages: A, check: Check)
     }
 }
 
-// Whether all of it is told.
+// Whether all checks pass.
 pub(super) fn are_told<A: Allocator + Copy>(
     pending: &Pending<A>,
     messages: A,

@@ -7,12 +7,12 @@ use std::test::Fail;
 use urb_refusing::{FailingReader, FailingWriter, Refusing};
 use urb_script::*;
 
-/// Whether a text is whole lines that begin the other.
+/// Says whether a text is whole lines that begin the other.
 fn begins_lines(text: &[u8], whole: &[u8]) -> bool {
     whole.starts_with(text) && (text.is_empty() || text.ends_with(b"\n"))
 }
 
-/// The number of the first line, from 0, that is not the same.
+/// Returns the number of the first line, from 0, that is not the same.
 fn first_other(text: &[u8], whole: &[u8]) -> usize {
     let mut line: usize = 0;
     for (byte, other) in text.iter().zip(whole) {
@@ -26,12 +26,12 @@ fn first_other(text: &[u8], whole: &[u8]) -> usize {
     line
 }
 
-/// The line with this number, from 0.
+/// Returns the line with this number, from 0.
 fn line_at(text: &[u8], number: usize) -> Option<&[u8]> {
     text.split(|byte| *byte == b'\n').nth(number)
 }
 
-/// Whether the answer says that the node is down whose record the line is to store.
+/// Says whether the answer says that the node is down whose record the line is to store.
 fn is_failed_store(line: Option<&[u8]>, answer: Option<&[u8]>) -> bool {
     match (line, answer) {
         (
@@ -46,7 +46,7 @@ fn is_failed_store(line: Option<&[u8]>, answer: Option<&[u8]>) -> bool {
 const MESSAGES: &[u8] =
     b" 1.1=a 1.2=a 1.3=a 1.4=a 1.5=a 1.6=a 1.7=a 1.8=a 1.9=a 1.10=a 1.11=a 1.12=a 1.13=a 1.14=a 1.15=a 1.16=a 1.17=a";
 
-/// Whether a line that shows a log shows the first of these messages, and nothing else.
+/// Says whether a line that shows a log shows the first of these messages, and nothing else.
 fn shows_a_beginning(line: &[u8], messages: &[u8]) -> bool {
     match line {
         [b'l', b'o', b'g', b' ', _, b':', entries @ ..] => match messages.strip_prefix(entries) {
@@ -57,18 +57,18 @@ fn shows_a_beginning(line: &[u8], messages: &[u8]) -> bool {
     }
 }
 
-/// What may come of a run to which one growth was refused.
+/// The permitted results of a run to which one growth was refused.
 #[derive(Clone, Copy, PartialEq, Eq, Debug)]
 enum Outcome {
-    /// It ended there, and what it wrote are whole answers that begin the others.
+    /// The run ended there. What it wrote are whole answers that begin the others.
     Ended,
-    /// A store failed in the place of one that was done, and each log is a beginning.
+    /// A store failed that would have succeeded, and each log is a beginning.
     Failed,
-    /// It was answered as ever.
+    /// The run was answered as without the refusal.
     Same,
 }
 
-/// Which of the three it is, if any.
+/// Returns which of the three it is, if any.
 fn outcome_of(
     ended: &Result<Ended, RunFault>,
     script: &[u8],
@@ -94,7 +94,7 @@ fn outcome_of(
     }
 }
 
-/// What came of a run, how many growths it asked for, and whether the one that was refused was among them.
+/// The result of a run, how many growths it asked for, and whether the refused one was among them.
 #[derive(Clone, Copy)]
 struct Ran {
     outcome: Option<Outcome>,
@@ -117,8 +117,8 @@ fn run_refused(alloc: Global, refused: u64, script: &[u8], answers: &[u8], messa
     }
 }
 
-/// With each growth refused in turn, until a run meets no refusal: how many runs ended early, and in how many a store failed.
-/// None where a run came to none of the three.
+/// Runs with each growth refused in turn, until a run meets no refusal. Returns how many runs ended
+/// early, and in how many a store failed. `None` if a run had another result than these three.
 fn counts(alloc: Global, script: &[u8], answers: &[u8], messages: &[u8]) -> Option<(u64, u64)> {
     let mut ended: u64 = 0;
     let mut failed: u64 = 0;
@@ -137,7 +137,7 @@ fn counts(alloc: Global, script: &[u8], answers: &[u8], messages: &[u8]) -> Opti
     None
 }
 
-/// The same of a text in which `@` is as in `spelled`.
+/// Does the same with texts that are written as for `spelled`.
 fn ran_spelled(
     alloc: Global,
     (script, answers): (&[u8], &[u8]),
@@ -149,7 +149,7 @@ fn ran_spelled(
     Ok(counts(alloc, &script, &answers, &messages))
 }
 
-/// Scripts with their answers, and the messages that their logs show a beginning of.
+/// Scripts with their answers, and the messages that each of their logs shows a beginning of.
 const REFUSED: [((&[u8], &[u8]), &[u8]); 8] = [
     ((ONE_NODE, ONE_NODE_ANSWERS), b" 1.1=hi"),
     ((LONG_PAYLOADS, LONG_PAYLOADS_ANSWERS), b" 1.1=- 1.2=@"),
@@ -173,15 +173,15 @@ fn each_refused_growth_ends_the_run_or_fails_a_store(rt: HostRuntime) -> Result<
     Ok(())
 }
 
-/// What came of a run whose reader or writer is set to fail: whether the failing call was asked for, and whether the run
-/// came to what it is to come to.
+/// The result of a run whose reader or writer is set to fail: whether the failing call was asked
+/// for, and whether the run ended as it should.
 #[derive(Clone, Copy)]
 struct Failed {
     met: bool,
     right: bool,
 }
 
-/// Runs a script of which this read fails.
+/// Runs a script and makes this read fail.
 fn run_read(alloc: Global, failing: u64) -> Failed {
     let mut reader = FailingReader::new(ONE_NODE, 5, failing);
     let mut room = [0u8; 300];
@@ -195,7 +195,7 @@ fn run_read(alloc: Global, failing: u64) -> Failed {
                 && begins_lines(written, ONE_NODE_ANSWERS)
                 && writer.is_flushed()
         }
-        // A byte a read, and one more at the end.
+        // One byte per read, and one more read at the end.
         Ok(Ended::Whole) => {
             !met && written == ONE_NODE_ANSWERS && reader.reads() == ONE_NODE.len() as u64 + 1
         }
@@ -204,7 +204,8 @@ fn run_read(alloc: Global, failing: u64) -> Failed {
     Failed { met, right }
 }
 
-/// The first read that isn't asked for any more. An error is a read after whose failure the run came to something else.
+/// Returns the first read that isn't asked for any more. An error is a read after whose failure the
+/// run ended otherwise than it should.
 fn first_unread(alloc: Global) -> Result<u64, u64> {
     for failing in 1..500u64 {
         let failed = run_read(alloc, failing);
@@ -224,8 +225,8 @@ fn each_failing_read_ends_the_run(rt: HostRuntime) -> Result<(), Fail> {
     Ok(())
 }
 
-/// Whether the line after the answer isn't read before it is flushed, nor after the fault, where this call of the writer failed
-/// and so many bytes were read.
+/// The writer's call `failing` failed after `reads` bytes were read. Says whether the next line was
+/// read neither before the answer was flushed, nor after the fault.
 fn is_read_so_far(reads: u64, failing: u64) -> bool {
     match ONE_NODE.get(..reads as usize) {
         Some(read) => {
@@ -236,9 +237,9 @@ fn is_read_so_far(reads: u64, failing: u64) -> bool {
     }
 }
 
-/// Runs a script of which this write or flush fails.
+/// Runs a script and makes this write or flush fail.
 fn run_write(alloc: Global, failing: u64) -> Failed {
-    // A byte a read, so that the reads count the bytes.
+    // One byte per read, so that the reads count the bytes.
     let mut reader = FailingReader::new(ONE_NODE, 1, 0);
     let mut room = [0u8; 300];
     let mut writer = FailingWriter::new(&mut room, 300, failing);
@@ -248,7 +249,7 @@ fn run_write(alloc: Global, failing: u64) -> Failed {
         Err(RunFault::Write) => {
             met && writer.failed_last() && is_read_so_far(reader.reads(), failing)
         }
-        // Each answer takes a write, and a flush behind it.
+        // Each answer takes a write, and a flush after it.
         Ok(Ended::Whole) => {
             !met && writer.written() == ONE_NODE_ANSWERS
                 && writer.calls() == 8
@@ -260,7 +261,8 @@ fn run_write(alloc: Global, failing: u64) -> Failed {
     Failed { met, right }
 }
 
-/// The first write or flush that isn't asked for any more. An error is one after whose failure the run came to something else.
+/// Returns the first write or flush that isn't asked for any more. An error is one after whose
+/// failure the run ended otherwise than it should.
 fn first_unwritten(alloc: Global) -> Result<u64, u64> {
     for failing in 1..500u64 {
         let failed = run_write(alloc, failing);

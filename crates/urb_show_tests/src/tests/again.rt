@@ -1,5 +1,7 @@
-//! Each growth that opening, settling or reading asks for is refused in turn. The same call is then made again, with memory, and
-//! gives what the first one would have given.
+//! Each growth that opening, settling or reading asks for is refused in turn.
+//!
+//! The test then makes the same call again, with memory. It gives what the first one would have
+//! given.
 ghost use Rattle.std.specs.Prelude.{◌≡◌, ◌≤◌, IfOk, length};
 ghost use Rattle.urb_show.specs.Lists.{lists_in};
 
@@ -11,10 +13,10 @@ use urb_group::{Group, MemStable, NoMemory, NodeId};
 use urb_refusing::Refusing;
 use urb_show::{House, HouseName, LogReader, Opened, ReadFault, Told};
 
-/// How many messages node 2 delivers.
+/// The number of messages that node 2 delivers.
 pub const MESSAGES: u32 = 12;
 
-/// How many calls were refused memory.
+/// The number of calls that were refused memory.
 #[derive(Clone, Copy, PartialEq, Eq, Debug)]
 pub struct Tally {
     pub opening: u32,
@@ -23,7 +25,7 @@ pub struct Tally {
 }
 
 impl Tally {
-    /// None was.
+    /// No call was refused.
     pub fn none() -> Tally {
         Tally {
             opening: 0,
@@ -32,7 +34,7 @@ impl Tally {
         }
     }
 
-    /// The calls of both.
+    /// The calls of both tallies.
     pub fn plus(self, other: Tally) -> Tally {
         Tally {
             opening: self.opening.saturating_add(other.opening),
@@ -41,7 +43,7 @@ impl Tally {
         }
     }
 
-    /// How many there were.
+    /// The number of all calls.
     pub fn all(self) -> u32 {
         let both = self.opening.saturating_add(self.settling);
         both.saturating_add(self.reading)
@@ -51,7 +53,8 @@ impl Tally {
 // Memory that is refused once.
 type Heap<'a> = &'a Refusing<Global>;
 
-// The house of three nodes, and how often opening was refused memory. After a refusal, what came back is opened again.
+// The house of three nodes, and how often opening was refused memory. After a refusal, this opens
+// what came back.
 fn site_of<'a, K: HouseName, R: Wait>(
     rt: &R,
     alloc: Global,
@@ -92,8 +95,8 @@ fn has<K: HouseName>(alloc: Global, reader: &mut LogReader<K, Heap<'_>>, total: 
     }
 }
 
-// Settles node 2, and tells how often that was refused memory. After a refusal readers still read the `before` entries
-// that were published before.
+// Settles node 2, and returns how often that was refused memory. After a refusal, readers still
+// read the `before` entries that were published before.
 fn settle<K: HouseName, R: Wait>(
     rt: &R,
     alloc: Global,
@@ -115,7 +118,8 @@ fn settle<K: HouseName, R: Wait>(
     }
 }
 
-// Reads node 2's list into memory that may be refused, and tells how often it was. It has `total` entries, which agree.
+// Reads node 2's list into memory that may be refused, and returns how often it was. The list has
+// `total` entries, which agree.
 fn read<'a, K: HouseName>(
     heap: Heap<'a>,
     reader: &mut LogReader<K, Heap<'a>>,
@@ -150,7 +154,7 @@ fn send<K: HouseName>(
     Some(())
 }
 
-// Node 2 delivers the messages behind the first `before`, up to this one.
+// Node 2 delivers the messages after the first `before`, up to this one.
 fn send_to<K: HouseName>(
     alloc: Global,
     house: &mut House<K, Heap<'_>>,
@@ -164,7 +168,7 @@ fn send_to<K: HouseName>(
     Some(())
 }
 
-// Node 2's new messages are settled, learnt and read.
+// Settles node 2's new messages, learns them and reads them.
 fn settle_and_read<'a, K: HouseName, R: Wait>(
     rt: &R,
     alloc: Global,
@@ -186,7 +190,7 @@ fn settle_and_read<'a, K: HouseName, R: Wait>(
     })
 }
 
-// Node 2 delivers all messages: one, one more, and all others, each time settled and read.
+// Node 2 delivers all messages: one, one more, and all others. Each time they are settled and read.
 fn send_all<'a, K: HouseName, R: Wait>(
     rt: &R,
     alloc: Global,
@@ -207,8 +211,8 @@ fn send_all<'a, K: HouseName, R: Wait>(
     Ok(tally)
 }
 
-/// Node 2 of a house of three nodes that was just opened delivers all messages. The group comes back, and how many calls were
-/// refused memory.
+/// Node 2 delivers all messages, in a house of three nodes that was just opened. Returns the group,
+/// and how many calls were refused memory.
 pub fn deliver<K: HouseName, R: Wait>(
     rt: &R,
     alloc: Global,
@@ -227,7 +231,8 @@ pub fn deliver<K: HouseName, R: Wait>(
     Ok((group, tally))
 }
 
-/// The group is opened again: its first reader and its last one read all messages at once. How many calls were refused memory.
+/// Opens the group again. Its first reader and its last one read all messages at once. Returns how
+/// many calls were refused memory.
 pub fn open_again<K: HouseName, R: Wait>(
     rt: &R,
     alloc: Global,

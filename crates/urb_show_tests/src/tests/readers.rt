@@ -7,7 +7,8 @@ use std::sync::{Mutex, MutexGuard, Wait};
 use urb_group::NodeId;
 use urb_show::{HouseName, LogReader, Page, ReadFault};
 
-/// Whether a page from the first entry on has of each sender the numbers 1, 2, 3, .., each with its message.
+/// Whether a page from the first entry on has the numbers 1, 2, 3, .. of each sender, each with its
+/// message.
 pub fn agrees<A: Allocator>(page: &Page<A>) -> bool {
     let mut first = 0u32;
     let mut second = 0u32;
@@ -30,7 +31,7 @@ pub fn agrees<A: Allocator>(page: &Page<A>) -> bool {
     page.total as usize == page.entries.len()
 }
 
-/// A node's list; read again where memory was refused.
+/// A node's list. If memory was refused, this reads it again.
 pub fn page_of<K: HouseName>(alloc: Global, reader: &mut LogReader<K>, node: NodeId) -> Option<Page>
     requires { node ≤ length K.base }
 {
@@ -40,7 +41,7 @@ pub fn page_of<K: HouseName>(alloc: Global, reader: &mut LogReader<K>, node: Nod
     }
 }
 
-// The length of a node's list, where its page agrees.
+// The length of a node's list, if its page agrees.
 fn length_of<K: HouseName>(alloc: Global, reader: &mut LogReader<K>, node: NodeId) -> Option<u32>
     requires { node ≤ length K.base }
 {
@@ -52,7 +53,7 @@ fn length_of<K: HouseName>(alloc: Global, reader: &mut LogReader<K>, node: NodeI
     }
 }
 
-// The length of each node's list, node 1's first, where their pages agree.
+// The length of each node's list, node 1's first, if their pages agree.
 fn lengths<K: HouseName>(alloc: Global, reader: &mut LogReader<K>) -> Option<[u32; 3]>
     requires { 3 ≤ length K.base }
 {
@@ -69,7 +70,7 @@ pub fn reads<K: HouseName>(alloc: Global, reader: &mut LogReader<K>, total: u32)
     lengths(alloc, reader) == Some([total; 3])
 }
 
-// Whether the writer has ended. What it had settled by then is in each page that is read afterwards.
+// Whether the writer has ended. Each page that is read afterwards has what it had settled by then.
 fn has_ended<K: HouseName, R: Wait>(rt: &R, board: &Mutex<Board<K>>) -> bool {
     let guard = board.lock(rt);
     let ended = guard.has_ended();
@@ -77,8 +78,8 @@ fn has_ended<K: HouseName, R: Wait>(rt: &R, board: &Mutex<Board<K>>) -> bool {
     ended
 }
 
-/// Reads all nodes in turn until each list is whole, and once more after the writer has ended. Whether all pages agreed, no
-/// list became shorter, and each was whole in the end.
+/// Reads all nodes in turn until each list is whole, and once more after the writer has ended.
+/// Returns whether all pages agreed, no list became shorter, and each was whole in the end.
 pub fn read_all<K: HouseName, R: Wait>(
     rt: &R,
     alloc: Global,
@@ -104,7 +105,7 @@ pub fn read_all<K: HouseName, R: Wait>(
     unreachable!()
 }
 
-// What was told next, or whether no more comes.
+// The next news, and whether no more comes.
 fn next<K: HouseName, R: Wait>(rt: &R, board: &Mutex<Board<K>>) -> (Option<News<K>>, bool) {
     let mut guard = board.lock(rt);
     let taken = guard.take();
@@ -112,7 +113,8 @@ fn next<K: HouseName, R: Wait>(rt: &R, board: &Mutex<Board<K>>) -> (Option<News<
     taken
 }
 
-// Learns what was told. Whether it then reads at least that, in a page that agrees.
+// Learns the token. Returns whether the reader then reads at least that much, in a page that
+// agrees.
 fn learns<K: HouseName>(alloc: Global, reader: &mut LogReader<K>, news: News<K>) -> bool
     requires { 3 ≤ length K.base }
 {
@@ -127,8 +129,8 @@ fn learns<K: HouseName>(alloc: Global, reader: &mut LogReader<K>, news: News<K>)
     }
 }
 
-/// Learns all that is settled. Whether it then read at least that, pages that agree, and whole lists in the end, which comes
-/// where the writer has ended and nothing is left to learn.
+/// Learns all that is settled. Returns whether it then read at least that, in pages that agree, and
+/// whole lists in the end. The end comes when the writer has ended and nothing is left to learn.
 pub fn learn_all<K: HouseName, R: Wait>(
     rt: &R,
     alloc: Global,

@@ -23,8 +23,8 @@ fn seven_stores(alloc: Global) -> [MemStable; 7] {
     ]
 }
 
-// The packet among these that is for this node is stored there, and the packet that it sends back to node 7 arrives: how many
-// names node 7 releases, if that makes it draft anything.
+// Stores the packet for this node there. Then the packet that the node sends back to node 7
+// arrives. Returns how many names node 7 releases, if the packet makes it draft anything.
 fn there_and_back<K: HouseName>(
     alloc: Global,
     house: &mut House<K>,
@@ -42,7 +42,8 @@ fn there_and_back<K: HouseName>(
     }
 }
 
-// Node 7 broadcasts, and the nodes 1, 2 and 3 take it: how many names node 7 releases each time.
+// Node 7 broadcasts, and nodes 1, 2 and 3 take the message. Returns how many names node 7 releases
+// each time.
 fn broadcast_at_seven<K: HouseName>(
     alloc: Global,
     house: &mut House<K>,
@@ -59,7 +60,7 @@ fn broadcast_at_seven<K: HouseName>(
     Some([first, second, third])
 }
 
-// How many entries a node's list has, if its page agrees.
+// The number of entries in a node's list, if its page agrees.
 fn length_of<K: HouseName>(alloc: Global, reader: &mut LogReader<K>, number: u8) -> Option<u32>
     requires { (7 ≤ length K.base) × (number ≤ 7) }
 {
@@ -83,7 +84,7 @@ fn lists_are<K: HouseName>(alloc: Global, reader: &mut LogReader<K>, at_seven: u
     length_of(alloc, reader, 7) == Some(at_seven)
 }
 
-// Node 7 is settled, and the reader learns it.
+// Settles node 7, and the reader learns the token.
 fn settle_seven<K: HouseName, R: Wait>(
     rt: &R,
     house: &mut House<K>,
@@ -127,7 +128,8 @@ fn calls<K: HouseName, R: Wait>(
     ])
 }
 
-/// All of them, on a house of seven nodes that was just opened, and its last reader of twenty-eight.
+/// All of these calls, on a house of seven nodes that was just opened. The reader is the last of
+/// twenty-eight.
 pub fn seven_nodes<K: HouseName, R: Wait>(
     rt: &R,
     alloc: Global,

@@ -10,14 +10,14 @@ use std::sync::Wait;
 use urb_group::{ClientId, Failure, MemStable, Name, NodeId, Outbox, Refusal, Stable, State};
 use urb_show::{House, HouseName, LogReader, Opened, Status};
 
-// Whether a submit whose number isn't the next is refused, and is no event.
+// Whether a submit is refused if its number isn't the next. The refusal is no event.
 fn is_refused<K: HouseName>(alloc: Global, house: &mut House<K>, node: NodeId) -> Option<bool> {
     let client = ClientId::new(7)?;
     let refusal = house.submit(alloc, node, client, 2, b"x").err();
     Some(refusal == Some(Refusal::Gap(1)) && house.events() == 0)
 }
 
-// The packets of a node's first message; the node stores meanwhile.
+// The packets of a node's first message. The node stores it meanwhile.
 fn sent_by<K: HouseName>(
     alloc: Global,
     house: &mut House<K>,
@@ -30,7 +30,7 @@ fn sent_by<K: HouseName>(
     if storing { Some(sent) } else { None }
 }
 
-// How many names the packet for a node releases there.
+// The number of names that the packet for a node releases there.
 fn released_by<K: HouseName>(
     alloc: Global,
     house: &mut House<K>,
@@ -42,12 +42,12 @@ fn released_by<K: HouseName>(
     Some(keep(house, stores, taken)?.released)
 }
 
-// How many packets a tick sends.
+// The number of packets that a tick sends.
 fn ticked_by<K: HouseName>(alloc: Global, house: &mut House<K>, node: NodeId) -> Option<usize> {
     Some(house.tick(alloc, node).ok()?.len())
 }
 
-// Whether the house answers for its nodes that the first one has sent a message, and the second one has delivered it.
+// Whether the house reports that node 1 has sent a message, and node 2 has delivered it.
 fn tells<K: HouseName>(house: &House<K>) -> Option<bool> {
     let (one, two, none) = (NodeId::new(1)?, NodeId::new(2)?, NodeId::new(4)?);
     let name = Name {
@@ -82,7 +82,8 @@ fn delivers<K: HouseName>(
         && ticked_by(alloc, house, from) == Some(2)
 }
 
-// Node 1 broadcasts and node 2 delivers; the statuses and the answers of both, and what refused calls leave.
+// Node 1 broadcasts and node 2 delivers. Checks the statuses and the answers of both, and what
+// refused calls leave.
 fn events<K: HouseName>(alloc: Global, house: &mut House<K>, stores: &mut [MemStable]) -> bool {
     let (one, two) = (NodeId::new(1).unwrap(), NodeId::new(2).unwrap());
     if is_refused(alloc, house, one) != Some(true) {
@@ -108,7 +109,7 @@ fn fails<K: HouseName>(
     house.fail(doubt).ok()
 }
 
-// A node comes back with what its store has.
+// A node restarts with what its store has.
 fn comes_back<K: HouseName>(
     alloc: Global,
     house: &mut House<K>,
@@ -120,7 +121,7 @@ fn comes_back<K: HouseName>(
     Some(up && house.state(node) == Some(State::Ready))
 }
 
-// Node 3's store fails, and it comes back; node 1 crashes.
+// Node 3's store fails, and the node restarts. Then node 1 crashes.
 fn failures<K: HouseName>(alloc: Global, house: &mut House<K>, store: &mut MemStable) -> bool {
     let (one, three) = (NodeId::new(1).unwrap(), NodeId::new(3).unwrap());
     let failed = fails(alloc, house, store, three).is_some();
@@ -130,7 +131,7 @@ fn failures<K: HouseName>(alloc: Global, house: &mut House<K>, store: &mut MemSt
     failed && back && crashed && again && house.events() == 9
 }
 
-// How long a node's list is, and how many entries its page from this place on has.
+// The length of a node's list, and the number of entries in its page from this place on.
 fn counts_from<K: HouseName>(
     alloc: Global,
     reader: &mut LogReader<K>,
@@ -143,7 +144,7 @@ fn counts_from<K: HouseName>(
     Some((page.total, page.entries.len()))
 }
 
-// How long node 2's list is, and how many entries a page of at most none has.
+// The length of node 2's list, and the number of entries in a page of at most none.
 fn counts_of_none<K: HouseName>(alloc: Global, reader: &mut LogReader<K>) -> Option<(u32, usize)>
     requires { 3 ≤ length K.base }
 {
@@ -151,7 +152,8 @@ fn counts_of_none<K: HouseName>(alloc: Global, reader: &mut LogReader<K>) -> Opt
     Some((page.total, page.entries.len()))
 }
 
-// Whether settling tells where nothing is new, and a reader that learns it reads what is there.
+// Whether settling gives a token if nothing is new, and a reader that learns it reads what is
+// there.
 fn settles_nothing<K: HouseName, R: Wait>(
     rt: &R,
     alloc: Global,
@@ -166,7 +168,7 @@ fn settles_nothing<K: HouseName, R: Wait>(
     Some(same && counts_of_none(alloc, reader)? == (1, 0))
 }
 
-// Whether a reader that learns what another one saw reads it.
+// Whether a reader that learns what another one saw reads that too.
 fn tells_another<K: HouseName>(
     alloc: Global,
     reader: &LogReader<K>,
@@ -180,7 +182,7 @@ fn tells_another<K: HouseName>(
     Some(counts == (1, 1))
 }
 
-// What is delivered is read once it is settled, and not before.
+// What is delivered can be read once it is settled, and not before.
 fn settles<K: HouseName, R: Wait>(
     rt: &R,
     alloc: Global,
@@ -222,7 +224,7 @@ fn calls<K: HouseName, R: Wait>(
     ])
 }
 
-/// All of them, on a house of three nodes that was just opened.
+/// All of these calls, on a house of three nodes that was just opened.
 pub fn walk<K: HouseName, R: Wait>(
     rt: &R,
     alloc: Global,

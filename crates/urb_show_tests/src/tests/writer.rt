@@ -1,4 +1,4 @@
-//! A thread that submits, carries packets, stores and settles, and tells what it settled.
+//! A thread that submits, carries packets, stores and settles, and reports what it settled.
 ghost use Rattle.std.specs.Prelude.{◌≤◌, length};
 
 use std::alloc::{Allocator, Global};
@@ -7,10 +7,10 @@ use urb_group::{ClientId, Done, Draft, MemStable, NodeId, Outbox, Taken};
 use urb_names::encode;
 use urb_show::{House, HouseName, Told};
 
-/// How many messages each of two nodes broadcasts.
+/// The number of messages that each of two nodes broadcasts.
 pub const ROUNDS: u32 = 8;
 
-/// A settling, as it is told: the token, of which node, and how long its list was.
+/// A report of a settling: the token, the node, and the length of its list.
 #[derive(Drop)]
 pub struct News<K: HouseName> {
     pub told: Told<K>,
@@ -80,7 +80,7 @@ pub fn keep<K: HouseName, A: Allocator + Copy>(
     house.commit(receipt).ok()
 }
 
-/// Client 7 sends a node its message of this number. Its payload is the node and the number.
+/// Client 7 sends a node its message of this number. The payload is the node and the number.
 pub fn submit<K: HouseName, A: Allocator + Copy>(
     alloc: Global,
     house: &mut House<K, A>,
@@ -109,7 +109,7 @@ pub fn arrive<K: HouseName, A: Allocator + Copy>(
     None
 }
 
-// Tells a settling.
+// Posts the report of a settling.
 fn tell<K: HouseName, R: Wait>(rt: &R, board: &Mutex<Board<K>>, news: News<K>) -> bool {
     let mut guard = board.lock(rt);
     let told = guard.post(news);
@@ -117,7 +117,7 @@ fn tell<K: HouseName, R: Wait>(rt: &R, board: &Mutex<Board<K>>, news: News<K>) -
     told
 }
 
-// What a node delivered is settled and told.
+// Settles what a node delivered, and reports it.
 fn settle<K: HouseName, R: Wait>(
     rt: &R,
     house: &mut House<K>,
@@ -135,7 +135,7 @@ fn settle<K: HouseName, R: Wait>(
     }
 }
 
-/// A node's message is stored. The packets for the others are handed out.
+/// Stores a node's message, and returns the packets for the others.
 pub fn broadcast<K: HouseName, A: Allocator + Copy>(
     alloc: Global,
     house: &mut House<K, A>,
@@ -147,7 +147,8 @@ pub fn broadcast<K: HouseName, A: Allocator + Copy>(
     Some(keep(house, stores, taken)?.sent)
 }
 
-// The packet among these that is for this node is stored there, and what that delivers is settled. Its packets are handed out.
+// Stores the packet for this node there, and settles what that delivers. Returns the node's
+// packets.
 fn deliver<K: HouseName, R: Wait>(
     rt: &R,
     alloc: Global,
@@ -165,8 +166,9 @@ fn deliver<K: HouseName, R: Wait>(
     Some(answered)
 }
 
-// A node's message is stored, and so is what it makes this other node draft; and then what that node's packet makes the
-// first one draft. Both have delivered it then, and the packets for the others are handed out.
+// A node's message is stored, and so is the draft that it causes at this other node. Then that
+// node's packet causes a draft at the first one, which is stored too. Now both have delivered the
+// message. Returns the packets for the others.
 fn there_and_back<K: HouseName, R: Wait>(
     rt: &R,
     alloc: Global,
@@ -185,7 +187,7 @@ fn there_and_back<K: HouseName, R: Wait>(
     Some(sent)
 }
 
-// Node 3 delivers the messages of both, that of node 2 first. Whether none was refused.
+// Node 3 delivers the messages of both, that of node 2 first. Returns whether no call was refused.
 fn third_delivers<K: HouseName, R: Wait>(
     rt: &R,
     alloc: Global,
@@ -201,7 +203,8 @@ fn third_delivers<K: HouseName, R: Wait>(
         && deliver(rt, alloc, house, stores, board, three, sent.0).is_some()
 }
 
-// Nodes 1 and 2 broadcast, and every node delivers both, node 3 in another order. Whether none was refused.
+// Nodes 1 and 2 broadcast, and every node delivers both messages, node 3 in another order. Returns
+// whether no call was refused.
 fn round<K: HouseName, R: Wait>(
     rt: &R,
     alloc: Global,
@@ -223,7 +226,7 @@ fn round<K: HouseName, R: Wait>(
     }
 }
 
-// Writes all rounds, one turn of the lock each. Whether none was refused.
+// Writes all rounds, one turn of the lock each. Returns whether no call was refused.
 fn write_rounds<K: HouseName, R: Wait>(
     rt: &R,
     alloc: Global,
@@ -244,7 +247,7 @@ fn write_rounds<K: HouseName, R: Wait>(
     true
 }
 
-/// Writes all rounds, and tells that no more comes. Whether none was refused.
+/// Writes all rounds, and reports that no more comes. Returns whether no call was refused.
 pub fn write<K: HouseName, R: Wait>(
     rt: &R,
     alloc: Global,

@@ -44,7 +44,8 @@ const RELAYED: &[u8] = b"UB\x02\x01\x02\x00\x01\x00\x00\x00\x01\x00\x07\x00\x00\
 
 const HEARD: &[u8] = b"UB\x02\x02\x01\x00\x01\x00\x00\x00\x01\x00\x07\x00\x00\x00\x01\x00\x01a";
 
-fn command(alloc: Global, event: Event) -> Option<Command> {
+/// What an event says to a cluster.
+pub fn command(alloc: Global, event: Event) -> Option<Command> {
     let (one, two) = (NodeId::new(1).unwrap(), NodeId::new(2).unwrap());
     match event {
         Event::Submit => Some(Command::Submit {
@@ -79,8 +80,9 @@ fn is_first(name: Name) -> bool {
     name.sender.number() == 1 && name.seq == 1
 }
 
-// What an event led to.
-enum Led {
+/// What an event led to.
+#[derive(Clone, Copy)]
+pub enum Led {
     /// The message is accepted under its name: by this store, or since it was stored before.
     Stored,
     Same,
@@ -89,7 +91,8 @@ enum Led {
     Other,
 }
 
-fn led_in(reply: &Reply) -> Led {
+/// What a reply tells of it.
+pub fn led_in(reply: &Reply) -> Led {
     match reply {
         Reply::Stored(done) if done.accepted && is_first(done.name) => Led::Stored,
         Reply::Same(Answer::Accepted(name)) if is_first(*name) => Led::Same,
@@ -144,8 +147,8 @@ fn has_delivered<S: Stable<Alloc = Global>>(cluster: &Cluster<S>, number: u8) ->
     }
 }
 
-// What the group tells of these events; none further happens where a store fails.
-fn tell<S: Stable<Alloc = Global>>(
+/// What the group tells of these events; none further happens where a store fails.
+pub fn tell<S: Stable<Alloc = Global>>(
     alloc: Global,
     cluster: &mut Cluster<S>,
     events: &[Event],

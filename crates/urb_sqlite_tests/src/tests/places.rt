@@ -153,6 +153,12 @@ impl<D: Disk + Drop> Place<D> {
         }
     }
 
+    /// What stands here leaves this place as the files.
+    pub fn files(&mut self) -> Option<Files<D>> {
+        self.release();
+        self.files.take()
+    }
+
     /// Whether one of the files has taken all the calls that it takes. What stands here becomes the files.
     pub fn is_spent(&mut self) -> bool {
         self.release();

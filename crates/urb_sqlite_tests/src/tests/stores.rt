@@ -84,6 +84,38 @@ const LIMIT: &[Step] = &[
     Step::Adopt(Err(StoreFault::BadRow(1))),
 ];
 
+const FIRST: Kept = (Form::Pending, 1, Load::Of(b"hi"));
+
+const SECOND: Kept = (Form::Certificate, 1, Load::Of(b""));
+
+/// The first two records, eight times.
+const SIXTEEN: &[Kept] = &[
+    FIRST, SECOND, FIRST, SECOND, FIRST, SECOND, FIRST, SECOND, FIRST, SECOND, FIRST, SECOND,
+    FIRST, SECOND, FIRST, SECOND,
+];
+
+/// The cursor reads two rows ahead at first, and then eight.
+const MANY: &[Step] = &[
+    Step::Leave,
+    Step::Sql(
+        "INSERT INTO journal2 SELECT pos + 2, kind, sender, seq, client, number, payload FROM journal2",
+        0,
+    ),
+    Step::Sql(
+        "INSERT INTO journal2 SELECT pos + 4, kind, sender, seq, client, number, payload FROM journal2",
+        0,
+    ),
+    Step::Sql(
+        "INSERT INTO journal2 SELECT pos + 8, kind, sender, seq, client, number, payload FROM journal2",
+        0,
+    ),
+    Step::Adopt(Ok(17)),
+    Step::Holds(SIXTEEN),
+    Step::Leave,
+    Step::Sql("UPDATE journal2 SET number = 0 WHERE pos = 11", 0),
+    Step::Adopt(Err(StoreFault::BadRow(11))),
+];
+
 /// What the first two records are changed to.
 const CHANGED: &[Kept] = &[
     (Form::Pending, 2, Load::Of(b"hi")),
@@ -112,7 +144,7 @@ const DOUBTFUL: &[Step] = &[
 ];
 
 /// What a journal does that is new or has two records, where nothing but the journal changes it, or what a statement did.
-pub static STORES: [Case; 7] = [
+pub static STORES: [Case; 8] = [
     ("what is stored is given back", Start::Empty, "", GIVEN),
     ("the same behind another table", Start::Empty, "", BEHIND),
     (
@@ -138,6 +170,12 @@ pub static STORES: [Case; 7] = [
         Start::Stored,
         "",
         LIMIT,
+    ),
+    (
+        "rows of several batches are read to their end",
+        Start::Stored,
+        "",
+        MANY,
     ),
     (
         "a store that failed waits for a retrieve",

@@ -1,27 +1,27 @@
-//! Calls on a store in memory, with what it answers.
+//! Calls on a store in memory, with their expected answers.
 
 use std::alloc::Allocator;
 use urb_names::{Message, NodeId};
 use urb_stable::*;
 
-/// A call, with its answer.
+/// A call with its expected answer.
 #[derive(Clone, Copy)]
 pub(super) enum Call {
     /// The next store is to fail.
     Arm(Failure),
-    /// A record is stored at a position.
+    /// Stores the record at a position.
     Store(u32, Result<(), StoreFault>),
-    /// A draft of it is kept there.
+    /// Keeps a draft of the record there.
     Keep(u32, Result<(), StoreFault>),
-    /// The position that is next.
+    /// The next position.
     Next(u32),
     /// Whether a record is in doubt.
     Doubtful(bool),
-    /// So many copies of the record are given back, and no other.
+    /// The retrieve returns this many copies of the record and nothing else.
     Retrieve(usize),
 }
 
-/// What a store gives back.
+/// What a retrieve returns.
 #[derive(Clone, Copy, PartialEq, Eq)]
 pub(super) enum Given {
     Copies(usize),
@@ -42,7 +42,7 @@ fn are_copies<A: Allocator + Copy>(
     true
 }
 
-// What a store gives back of the record.
+// What a retrieve returns: how many copies of the record, or something else.
 pub(super) fn given_back<A: Allocator + Copy>(
     store: &mut MemStable<A>,
     alloc: A,
@@ -62,7 +62,7 @@ pub(super) fn given_back<A: Allocator + Copy>(
     }
 }
 
-// Whether a receipt is of this node, position and record.
+// Whether a receipt belongs to this node, position and record.
 fn is_received<A: Allocator + Copy>(
     receipt: Receipt<A>,
     (node, pos): (NodeId, u32),
@@ -76,7 +76,8 @@ fn is_received<A: Allocator + Copy>(
     is_placed && is_same && is_given
 }
 
-// Keeps a draft of node 2. What becomes of it; none where it, its receipt or its doubt is of another.
+// Keeps a draft of node 2 and returns the result. `None` if the draft, its receipt or its doubt
+// doesn't match.
 pub(super) fn keep<A: Allocator + Copy>(
     store: &mut MemStable<A>,
     alloc: A,
@@ -110,7 +111,7 @@ pub(super) fn keep<A: Allocator + Copy>(
     }
 }
 
-// Whether a call is answered so.
+// Whether a call gets its expected answer.
 fn is_right<A: Allocator + Copy>(
     store: &mut MemStable<A>,
     alloc: A,
@@ -130,7 +131,7 @@ fn is_right<A: Allocator + Copy>(
     }
 }
 
-// Whether calls are answered so, one after the other.
+// Whether the calls, made in turn, all get their expected answers.
 pub(super) fn is_answered<A: Allocator + Copy>(
     store: &mut MemStable<A>,
     alloc: A,

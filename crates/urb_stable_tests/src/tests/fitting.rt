@@ -1,4 +1,4 @@
-//! Images that fit together, and the first misfit of others.
+//! Images that fit together, and the first misfit of those that don't.
 
 use super::rows::{Form, image, name};
 use std::alloc::{Allocator, Global};
@@ -7,7 +7,7 @@ use urb_stable::{Images, Misfit, Record};
 
 const CAP: u32 = 10;
 
-// Puts an image behind others. Whether there was memory, and such names.
+// Appends an image, and returns whether there was memory and the names exist.
 fn is_pushed<A: Allocator + Copy>(
     images: &mut Vec<Vec<Record<Message<A>>, A>, A>,
     alloc: A,
@@ -32,7 +32,7 @@ pub(super) fn images<A: Allocator + Copy>(
     if is_whole { Some(images) } else { None }
 }
 
-// What is told of images, one for each node.
+// The verdict on images, one for each node.
 fn told<A: Allocator + Copy>(
     alloc: A,
     images: &[Vec<Record<Message<A>>, A>],
@@ -54,7 +54,7 @@ fn told_of(alloc: Global, nodes: &[&[Form]]) -> Option<Option<Misfit>> {
     told
 }
 
-// A misfit by its rule, the node, and the sender and number of the name.
+// A misfit, given by its rule, the node, and the sender and number of the name.
 fn misfit(rule: Rule, node: u8, sender: u8, seq: u32) -> Option<Misfit> {
     let node = NodeId::new(node)?;
     let name = name(sender, seq)?;
@@ -73,7 +73,7 @@ fn images_fit_together(rt: HostRuntime) {
             "a message certified at a relay",
             &[&[Form::Pend(1, 1)], &[Form::PendCert(1, 1)], &[]],
         ),
-        // A whole image is looked at, and not its beginning.
+        // The check covers a whole image, not only its beginning.
         (
             "what a sender stores later",
             &[

@@ -1,4 +1,4 @@
-//! Each growth refused in turn: of a store, and of what judges images.
+//! Refuses each allocation in turn: of a store, and of the index and the images that judge records.
 
 use super::calls::{Call, Given, given_back, is_answered, keep};
 use super::fitting::images;
@@ -9,7 +9,7 @@ use urb_names::Message;
 use urb_refusing::Refusing;
 use urb_stable::*;
 
-/// What takes memory.
+/// What allocates memory.
 #[derive(Clone, Copy)]
 enum Taker {
     Store,
@@ -17,8 +17,8 @@ enum Taker {
     Images,
 }
 
-// Keeps the first record of a store. A draft that is refused memory has left nothing, and the record is taken then. Whether it
-// was refused; none where that is not so.
+// Keeps the first record of a store. If an allocation is refused, nothing is left, and the record
+// is kept on the next try. Returns whether it was refused, or `None` if that isn't so.
 fn is_kept_late<A: Allocator + Copy>(
     store: &mut MemStable<A>,
     calm: A,
@@ -40,7 +40,8 @@ fn is_kept_late<A: Allocator + Copy>(
     }
 }
 
-// Gives it back. A retrieve that is refused memory changes nothing, and the next gives the record.
+// Retrieves the record. A retrieve whose allocation is refused changes nothing, and the next one
+// returns the record.
 fn is_given_late<A: Allocator + Copy>(
     store: &mut MemStable<A>,
     alloc: A,
@@ -60,7 +61,7 @@ fn is_given_late<A: Allocator + Copy>(
     }
 }
 
-// Both of a new store.
+// Both on a new store.
 fn is_late<A: Allocator + Copy>(heap: A, calm: A, record: &Record<Message<A>>) -> Option<bool> {
     let mut store = MemStable::new(heap);
     let is_kept_late = is_kept_late(&mut store, calm, record);
@@ -69,7 +70,7 @@ fn is_late<A: Allocator + Copy>(heap: A, calm: A, record: &Record<Message<A>>) -
     Some(is_kept_late? || is_given_late?)
 }
 
-// Whether one of these calls is refused memory from this heap; none where something is otherwise.
+// Whether one of these calls is refused memory from this heap; `None` if anything else happens.
 fn is_refused<A: Allocator + Copy>(heap: A, calm: A, taker: Taker) -> Option<bool> {
     match taker {
         Taker::Store => {
@@ -95,7 +96,8 @@ fn is_refused<A: Allocator + Copy>(heap: A, calm: A, taker: Taker) -> Option<boo
     }
 }
 
-// The same where the growth of this number is refused; none also where that is not told, or another call is refused.
+// The same, with growth number `refused` refused. Also `None` if the result doesn't match whether
+// that growth was requested.
 fn is_refused_at(alloc: Global, refused: u64, taker: Taker) -> Option<bool> {
     let calm = Refusing::new(alloc, 0);
     let heap = Refusing::new(alloc, refused);
@@ -106,7 +108,7 @@ fn is_refused_at(alloc: Global, refused: u64, taker: Taker) -> Option<bool> {
     if told == Some(met) { told } else { None }
 }
 
-// How many growths there are, each of which was refused in turn; 0 where something is otherwise.
+// The number of growths, after each was refused in turn; 0 if anything else happens.
 fn growths(alloc: Global, taker: Taker) -> u64 {
     for refused in 1..100 {
         match is_refused_at(alloc, refused, taker) {

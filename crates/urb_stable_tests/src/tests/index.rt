@@ -1,11 +1,11 @@
-//! What an index finds, also of a name that stands twice.
+//! What an index finds, also for a name that occurs twice.
 
 use super::rows::{Form, image, message, name};
 use std::alloc::{Allocator, Global};
 use urb_names::Message;
 use urb_stable::{Index, Record};
 
-// The first name stands there twice, and the second one with a certificate.
+// The first name occurs twice; the second has a certificate.
 pub(super) const TWICE: [Form; 4] = [
     Form::Pend(1, 1),
     Form::PendCert(1, 2),
@@ -13,7 +13,7 @@ pub(super) const TWICE: [Form; 4] = [
     Form::Pend(1, 1),
 ];
 
-// The certificate has none.
+// The letters of the messages; the certificate has no message.
 pub(super) const LETTERS: &[u8] = b"ab-c";
 
 // Whether the index has the message with this letter under a name of node 1.
@@ -25,7 +25,7 @@ fn has<A: Allocator + Copy>(index: &Index<A>, alloc: A, seq: u32, letter: u8) ->
     Some(has_it)
 }
 
-// Whether an index of the image has the messages a, b and c under each name as it should.
+// Whether an index of the image finds exactly the expected messages a, b and c under each name.
 fn finds_each<A: Allocator + Copy>(alloc: A, image: &[Record<Message<A>>]) -> Option<bool> {
     let index = Index::new(alloc, image).ok()?;
     let mut finds = true;

@@ -1,10 +1,10 @@
-//! Records by row, and images of them.
+//! Records by row, and images made of them.
 
 use std::alloc::Allocator;
 use urb_names::{ClientId, Message, Name, NodeId};
 use urb_stable::Record;
 
-/// A record of a form and a name; its message is that of client 7 with the name's number.
+/// A record given by its form and name. Its message comes from client 7, with the name's number.
 #[derive(Clone, Copy)]
 pub(super) enum Form {
     Pend(u8, u32),
@@ -12,7 +12,7 @@ pub(super) enum Form {
     Cert(u8, u32),
 }
 
-// A name; none where there is no such sender or number.
+// A name, or `None` if there is no such sender or number.
 pub(super) fn name(sender: u8, seq: u32) -> Option<Name> {
     if seq == 0 {
         return None;
@@ -21,7 +21,7 @@ pub(super) fn name(sender: u8, seq: u32) -> Option<Name> {
     Some(Name { sender, seq })
 }
 
-// A message with this letter.
+// A message with this letter as its payload.
 pub(super) fn message<A: Allocator + Copy>(
     alloc: A,
     number: u32,
@@ -34,7 +34,7 @@ pub(super) fn message<A: Allocator + Copy>(
     Message::copied(alloc, client, number, &[letter]).ok()
 }
 
-// A record, with this letter in its message.
+// A record whose message has this letter.
 pub(super) fn record<A: Allocator + Copy>(
     alloc: A,
     form: Form,
@@ -53,7 +53,7 @@ pub(super) fn record<A: Allocator + Copy>(
     }
 }
 
-// Puts a record behind others. Whether there was memory, and such a name.
+// Appends a record, and returns whether there was memory and the name exists.
 fn is_pushed<A: Allocator + Copy>(
     image: &mut Vec<Record<Message<A>>, A>,
     alloc: A,
@@ -66,7 +66,7 @@ fn is_pushed<A: Allocator + Copy>(
     }
 }
 
-// An image with these records, each with its letter, and with m behind the last of these.
+// An image with these records, each with its letter. Records beyond the last letter get m.
 pub(super) fn image<A: Allocator + Copy>(
     alloc: A,
     forms: &[Form],

@@ -1,4 +1,4 @@
-//! Room that was made, and each growth refused in turn.
+//! Space reserved in advance, and each allocation refused in turn.
 
 use super::*;
 
@@ -9,7 +9,7 @@ fn hearing_takes_the_room_that_was_made(rt: HostRuntime) {
         names: &[],
         certified: &[],
         steps: &[Step::Hear(2, 1, 2), Step::Hear(2, 9, 2)],
-        // Also after all was forgotten.
+        // This holds also after everything heard was dropped.
         calm: &[
             Step::Hear(2, 1, 3),
             Step::Forget,
@@ -20,7 +20,7 @@ fn hearing_takes_the_room_that_was_made(rt: HostRuntime) {
     assert_eq!(rt; play(rt.alloc(), 0, script), Some(false));
 }
 
-// How many growths of a script there are, each of which was refused in turn; 0 where something is otherwise.
+// The number of growths in a script, after each was refused in turn; 0 if a check fails.
 fn growths(alloc: Global, script: Script) -> u64 {
     for refused in 1..100 {
         match play(alloc, refused, script) {

@@ -1,8 +1,8 @@
-//! What ticks send once certificates were heard.
+//! What ticks send once certificates have been heard.
 
 use super::*;
 
-// All packets of the names 1 to 3 of node 2.
+// All packets of node 2's names 1 to 3.
 const ALL: [(u8, u8, u32); 6] = [
     (2, 2, 1),
     (3, 2, 1),
@@ -14,10 +14,10 @@ const ALL: [(u8, u8, u32); 6] = [
 
 #[test]
 fn a_tick_sends_to_the_nodes_that_were_not_heard(rt: HostRuntime) {
-    // Each tick after it sends as many.
+    // The tick after it sends as many.
     let cases: [&[Step]; 5] = [
         &[Step::Tick(Sent::Packets(&ALL)), Step::Tick(Sent::Count(6))],
-        // A certificate of the node's own is none of another.
+        // A certificate of the node itself doesn't count for another node.
         &[
             Step::Hear(2, 1, 1),
             Step::Hear(2, 2, 1),

@@ -1,4 +1,4 @@
-//! What packets say, and whom they go to.
+//! What packets say, and which nodes they go to.
 
 use super::*;
 use urb_names::{Flags, Packet};
@@ -21,7 +21,8 @@ fn message<A: Allocator + Copy>(alloc: A) -> Option<Message<A>> {
     Message::copied(alloc, client, 1, b"a").ok()
 }
 
-// Whether the packet at a place goes to this node, with this message, and says of its certificate that it was heard, or not.
+// Whether the packet at a place goes to this node with this message, and its flags say `heard` as
+// given.
 fn carries<A: Allocator + Copy>(
     outbox: &Outbox<A>,
     (index, target, heard): (usize, u8, bool),
@@ -38,7 +39,7 @@ fn carries<A: Allocator + Copy>(
     }
 }
 
-// Whether these are two packets with the message, to node 1 and to node 3, of which the second was heard.
+// Whether these are two packets with the message, to nodes 1 and 3, and only node 3 was heard.
 fn are_two<A: Allocator + Copy>(outbox: &Outbox<A>, sent: &Message<A>) -> bool {
     outbox.len() == 2
         && outbox.get(2).is_none()
@@ -46,14 +47,14 @@ fn are_two<A: Allocator + Copy>(outbox: &Outbox<A>, sent: &Message<A>) -> bool {
         && carries(outbox, (1, 3, true), sent)
 }
 
-// The packets of a certified message of node 2 there, where node 3 was heard.
+// The packets of a certified message at its sender, node 2, which has heard node 3.
 fn outbox_of_two<A: Allocator + Copy>(alloc: A, sent: &Message<A>) -> Option<Outbox<A>> {
     let (config, name) = (Config::new(3, CAP)?, name(2, 1)?);
     let (node, heard) = (NodeId::new(2)?, NodeId::new(3)?);
     Outbox::of_pair(alloc, config, node, name, sent, true, Some(heard)).ok()
 }
 
-// Whether they go to nodes 1 and 3, and how many they are without the outbox.
+// Whether they go to nodes 1 and 3, and how many packets the outbox gives.
 fn goes_to_others<A: Allocator + Copy>(alloc: A, sent: &Message<A>) -> Option<(bool, usize)> {
     let outbox = outbox_of_two(alloc, sent)?;
     let are_two = are_two(&outbox, sent);
@@ -70,7 +71,7 @@ fn sends_to_others(alloc: Global) -> Option<(bool, usize)> {
     goes
 }
 
-// Whether an outbox of nothing has no packet.
+// Whether an empty outbox has no packets.
 fn is_empty(alloc: Global) -> bool {
     let outbox = Outbox::empty(alloc);
     let is_empty = outbox.len() == 0;
@@ -96,7 +97,7 @@ fn packet(alloc: Global) -> Option<Packet> {
     }
 }
 
-// Whether it alone is an outbox.
+// Whether an outbox can hold this packet alone.
 fn is_one(alloc: Global) -> Option<bool> {
     let outbox = Outbox::one(alloc, packet(alloc)?).ok()?;
     let is_one = match outbox.get(0) {

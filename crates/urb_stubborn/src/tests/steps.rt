@@ -1,4 +1,4 @@
-//! What is done with resends, step by step.
+//! Steps that tests make with resends.
 
 use super::*;
 use urb_names::{NoMemory, Packet};
@@ -8,32 +8,33 @@ use urb_names::{NoMemory, Packet};
 pub(super) enum Sent<'a> {
     /// These packets, each a target with a sender and its number.
     Packets(&'a [(u8, u8, u32)]),
-    /// One packet of each of these names of node 2, to it.
+    /// One packet of each of these names of node 2, to node 2.
     Names(&'a [u32]),
-    /// So many packets.
+    /// This many packets.
     Count(usize),
-    /// Packets that say so of certificates here.
+    /// Packets that say this about certificates here.
     Certified(&'a [bool]),
 }
 
-/// A step, with what it does.
+/// A step with its expected effect.
 #[derive(Clone, Copy)]
 pub(super) enum Step<'a> {
-    /// A node is heard of the name of a sender and a number.
+    /// Hears a node's certificate of the name with this sender and number.
     Hear(u8, u32, u8),
-    /// Node 2 is heard of these names of its own.
+    /// Hears node 2's certificates of these names of its own.
     HearAll(&'a [u32]),
-    /// Whether a node was heard of the name of a sender and a number.
+    /// Whether a node's certificate of the name with this sender and number was heard.
     Heard(u8, u32, u8, bool),
-    /// Nodes 2 and 3 are heard of the name of each with these numbers, one after another; a tick after each sends what is left
-    /// of 80 packets.
+    /// For each of these numbers in turn, hears the certificates of nodes 2 and 3 for both their
+    /// names. A tick after each sends what is left of 80 packets.
     Quiet(&'a [u32]),
     Forget,
     Rewind,
     Tick(Sent<'a>),
 }
 
-// Whether a packet of node 1 goes to this node, under this name, and doesn't say that a certificate was heard.
+// Whether node 1 sends this packet to this node under this name, without saying that a certificate
+// was heard.
 fn is_packet<A: Allocator + Copy>(
     packet: Option<&Packet<A>>,
     (target, sender, seq): (u8, u8, u32),
@@ -53,7 +54,7 @@ fn is_packet<A: Allocator + Copy>(
         && !heard
 }
 
-// Whether the packet at a place says so of a certificate here, and not that one was heard.
+// Whether a packet says this about a certificate here, and doesn't say that one was heard.
 fn is_certified<A: Allocator + Copy>(packet: Option<&Packet<A>>, certified: bool) -> bool {
     let Some(packet) = packet else {
         return false;
@@ -91,7 +92,7 @@ fn are_certified<A: Allocator + Copy>(outbox: &Outbox<A>, wanted: &[bool]) -> bo
     outbox.len() == wanted.len()
 }
 
-// Whether the packets of a tick are these.
+// Whether a tick sent these packets.
 fn is_sent<A: Allocator + Copy>(outbox: Outbox<A>, sent: Sent) -> bool {
     let is_sent = match sent {
         Sent::Packets(packets) => are_packets(&outbox, packets),
@@ -103,7 +104,8 @@ fn is_sent<A: Allocator + Copy>(outbox: Outbox<A>, sent: Sent) -> bool {
     is_sent
 }
 
-// A tick, made again where it is refused. Whether it was; none where it sends something else.
+// Performs a tick, again if it is refused. Returns whether it was refused, or `None` if it sends
+// something else.
 fn ticks<A: Allocator + Copy>(
     resend: &mut Resend<A>,
     alloc: A,
@@ -127,7 +129,7 @@ fn ticks<A: Allocator + Copy>(
     }
 }
 
-// A node's certificate is heard, with room of its own. Whether there was memory for it.
+// Reserves space for a name and hears a node's certificate of it.
 fn hear<A: Allocator + Copy>(
     resend: &mut Resend<A>,
     name: Name,
@@ -138,7 +140,8 @@ fn hear<A: Allocator + Copy>(
     Ok(())
 }
 
-// The same, once more where it is refused, which changes nothing. Whether it was; none where that is not so.
+// The same, tried again if it is refused, which must change nothing. Returns whether it was
+// refused, or `None` if that isn't so.
 fn hears_of<A: Allocator + Copy>(resend: &mut Resend<A>, name: Name, node: NodeId) -> Option<bool> {
     let known = resend.heard(name, node);
     if hear(resend, name, node).is_ok() {
@@ -157,7 +160,7 @@ fn hears_of<A: Allocator + Copy>(resend: &mut Resend<A>, name: Name, node: NodeI
     }
 }
 
-// The same of the name of a sender and a number.
+// The same for the name with this sender and number.
 fn hears<A: Allocator + Copy>(
     resend: &mut Resend<A>,
     sender: u8,
@@ -175,7 +178,7 @@ fn hears_all<A: Allocator + Copy>(resend: &mut Resend<A>, seqs: &[u32]) -> Optio
     Some(refused)
 }
 
-// Nodes 2 and 3 are heard of the name of each with this number.
+// Hears the certificates of nodes 2 and 3 for the names of both with this number.
 fn hears_both<A: Allocator + Copy>(resend: &mut Resend<A>, seq: u32) -> Option<bool> {
     let mut refused = false;
     for (sender, number) in [(2, 2), (2, 3), (3, 2), (3, 3)] {
@@ -200,7 +203,7 @@ fn is_quiet<A: Allocator + Copy>(
     if left == 0 { Some(refused) } else { None }
 }
 
-// Whether a node was heard of the name of a sender and a number.
+// Whether a node's certificate of the name with this sender and number was heard.
 fn has_heard<A: Allocator + Copy>(
     resend: &Resend<A>,
     sender: u8,
@@ -211,7 +214,7 @@ fn has_heard<A: Allocator + Copy>(
     Some(resend.heard(name, node))
 }
 
-// Does a step. Whether a call was refused; none where it does something else.
+// Performs a step. Returns whether a call was refused, or `None` if it has another effect.
 fn is_step_refused<A: Allocator + Copy>(
     resend: &mut Resend<A>,
     alloc: A,
@@ -241,7 +244,7 @@ fn is_step_refused<A: Allocator + Copy>(
     }
 }
 
-// Does steps one after the other.
+// Performs steps one after the other.
 pub(super) fn is_refused_in<A: Allocator + Copy>(
     resend: &mut Resend<A>,
     alloc: A,

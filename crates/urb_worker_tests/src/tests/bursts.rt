@@ -1,4 +1,4 @@
-//! A burst that comes while a node's store is held: the node stores and delivers all of it.
+//! A burst that comes while a node's store is held back: the node stores and delivers all of it.
 
 ghost use Rattle.std.specs.Prelude.{◌≡◌};
 ghost use Rattle.urb_show.specs.Lists.{lists_in};
@@ -23,23 +23,23 @@ use urb_worker::{
     receive, serve,
 };
 
-// How many messages node 2 has sent: as many as the group's cap.
+// The number of messages that node 2 has sent: the group's cap.
 const BURST: u32 = 100;
 
-// How many tickets node 1's channel has room for.
+// The number of tickets that node 1's channel has room for.
 const ROOM: usize = 4;
 
-// How often a thread looks for a sign or a packet, once a millisecond, before it gives up.
+// How often a thread checks for a sign or a packet, once a millisecond, before it gives up.
 const LOOKS: u32 = 10_000;
 
-// What the gate and the sender tell each other: whether a store is held, and whether it may go on.
+// What the gate and the sender signal to each other: a store is held, and it may go on.
 #[derive(Drop)]
 struct Signs {
     is_held: AtomicBool,
     may_go_on: AtomicBool,
 }
 
-// Waits for a sign, and says whether it came.
+// Waits for a sign, and returns whether it came.
 fn comes<R: Clock>(rt: &R, sign: &AtomicBool) -> bool {
     for _ in 0..LOOKS {
         if sign.load(Ordering::SeqCst) {
@@ -74,7 +74,7 @@ fn long_submit(alloc: Global, number: u32) -> Option<Job> {
     })
 }
 
-// Submits for a worker whose channel has closed behind them: as many as the burst has.
+// As many submits as the burst has, for a worker whose channel has closed behind them.
 fn submits<K: HouseName, R: Wait>(rt: &R, alloc: Global) -> Option<Receiver<Ticket<K>>> {
     let (line, jobs) = crossbeam_channel::bounded(alloc, BURST as usize).ok()?;
     for number in 1..=BURST {
@@ -87,7 +87,8 @@ fn submits<K: HouseName, R: Wait>(rt: &R, alloc: Global) -> Option<Receiver<Tick
     Some(jobs)
 }
 
-// How many packets node 1 sends to node 2, until they reach this count or it takes too long.
+// The number of packets that node 1 sends to node 2, until they reach this count or it takes too
+// long.
 fn answers<R: Wait + Clock>(rt: &R, link: &MemoryLink<'_, R>, count: usize) -> Option<usize> {
     let node = NodeId::new(2)?;
     let mut sent: usize = 0;
@@ -101,8 +102,9 @@ fn answers<R: Wait + Clock>(rt: &R, link: &MemoryLink<'_, R>, count: usize) -> O
     Some(sent)
 }
 
-// Has node 1 store a message of its own, which is held, and sends it these packets meanwhile. Whether it was held, and how many
-// packets node 1 sends then: its own message, and an answer to each of the burst.
+// Has node 1 store a message of its own, which is held, and sends it these packets meanwhile.
+// Returns whether the store was held, and how many packets node 1 then sends: its own message, and
+// an answer to each message of the burst.
 fn burst<K: HouseName, R: Wait + Clock>(
     rt: &R,
     alloc: Global,
@@ -139,7 +141,8 @@ fn station<R: Net<Listener = TcpListener, Stream = TcpStream>>(
     Some((vec![in alloc; station].ok()?, link))
 }
 
-// The receiver of the node of this number. A closure that owns nothing can't hold the node itself, whose type has an invariant.
+// The receiver of the node with this number. It takes the number because a closure that owns
+// nothing can't hold the node itself, whose type has an invariant.
 fn take_datagrams<K: HouseName, R: Wait + Clock>(
     rt: &R,
     alloc: Global,
@@ -153,7 +156,7 @@ fn take_datagrams<K: HouseName, R: Wait + Clock>(
     }
 }
 
-// The outcome of the burst, and how long node 1's log is at the end.
+// The outcome of the burst, and the length of node 1's log at the end.
 fn played<K: HouseName + Send + Sync, L: HubName + Send + Sync, R>(
     rt: &R,
     alloc: Global,

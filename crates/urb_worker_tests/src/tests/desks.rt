@@ -18,9 +18,11 @@ use urb_names::NodeId;
 use urb_show::{HouseName, LogReader, Opened};
 use urb_worker::{HubName, MemoryLink, NodeDesk, OpenGate, Ticket, serve};
 
-// What a client sends to a group of one node: a submit, a read that shows it, a status, a submit whose number isn't the next,
-// an unknown opcode, a read of the place 0, and one behind the end; then a crash, a second one, a status, a submit, a restart, a
-// second one, and a bad length.
+// What a client sends to a group of one node.
+//
+// A submit, a read that shows it, a status, a submit whose number isn't the next, an unknown
+// opcode, a read of place 0, and a read behind the end. Then a crash, a second crash, a status, a
+// submit, a restart, a second restart, and a bad length.
 const SENT: &[u8] = b"\x00\x09\x01\x00\x07\x00\x00\x00\x01hi\
 \x00\x06\x02\x00\x00\x00\x01\x08\
 \x00\x01\x03\
@@ -51,7 +53,8 @@ const ANSWERED: &[u8] = b"\x00\x05\x81\x00\x00\x00\x01\
 \x00\x06\xee\x0c\x00\x00\x00\x00\
 \x00\x06\xee\x13\x00\x00\x00\x01";
 
-// A session at the desk of a node, of a client that sends this. Whether it ended at a bad length, answered so.
+// A session of a client that sends this, at the desk of node 1. Returns whether it ended at a bad
+// length, and the desk's answers were exactly `answered`.
 fn is_answered<K: HouseName, R: Wait>(
     rt: &R,
     alloc: Global,
@@ -70,8 +73,8 @@ fn is_answered<K: HouseName, R: Wait>(
     ended == Ok(Ended::BadFrame) && output.as_slice() == answered
 }
 
-// One worker, and a session at its node's desk; and a session there once the worker has ended. Whether both were answered as they
-// should be, and the House's events.
+// One worker, and a session at its node's desk. Then a session there after the worker has ended.
+// Returns whether both were answered as they should be, and the House's events.
 fn served<K: HouseName + Send + Sync, L: HubName + Send + Sync, R: Threads + Wait + Sync>(
     rt: &R,
     alloc: Global,

@@ -11,13 +11,13 @@ use urb_worker::{
     Station,
 };
 
-// How many bytes the longest packet has.
+// The bytes of the longest packet.
 const LONGEST: usize = 16_403;
 
 // How long a sender waits in vain, in milliseconds.
 const WAIT: u64 = 100;
 
-// A datagram of this length. All its bytes have this value.
+// A datagram of this length. All of its bytes have this value.
 fn datagram(alloc: Global, value: u8, length: usize) -> Result<Vec<u8>, Fail> {
     Ok(Vec::from_elem(alloc, value, length)?)
 }
@@ -46,7 +46,7 @@ fn a_backlog_gives_what_came_first(rt: HostRuntime) -> Result<(), Fail> {
 #[test]
 fn a_backlog_has_room_to_its_bound(rt: HostRuntime) -> Result<(), Fail> {
     let mut backlog = Backlog::new(rt.alloc());
-    // Four of a quarter of its bound fill it to the last byte.
+    // Four datagrams, each with a quarter of the bound, fill it to the last byte.
     let length = BACKLOG / 4 - KEEPING;
     for value in 1..5u8 {
         assert!(rt; backlog.has_room(length) && !backlog.has_room(BACKLOG));
@@ -56,13 +56,13 @@ fn a_backlog_has_room_to_its_bound(rt: HostRuntime) -> Result<(), Fail> {
     let refused = backlog.push(datagram(rt.alloc(), 5, 0)?);
     assert!(rt; refused.is_err_and(|back| back.is_empty()));
     assert_eq!(rt; backlog.bytes(), BACKLOG);
-    // What is taken makes room again.
+    // Taking one makes room again.
     assert!(rt; backlog.pop().is_some() && backlog.has_room(length));
     assert!(rt; !backlog.has_room(length + 1));
     Ok(())
 }
 
-// A stranger may send as many of them as he likes.
+// A stranger may send as many of them as they like.
 #[test]
 fn empty_datagrams_have_a_bound_too(rt: HostRuntime) -> Result<(), Fail> {
     let mut backlog = Backlog::new(rt.alloc());
@@ -90,16 +90,17 @@ fn what_was_sent_and_not_taken_is_in_flight(rt: HostRuntime) -> Result<(), Fail>
         (flight.load(), flight.is_crowded()),
         (long + CARRYING, false)
     );
-    // What is gone when the socket is empty counts no more, and what came since still does.
+    // What is gone when the socket is empty no longer counts. What came since then still counts.
     flight.settle(long);
     assert_eq!(rt; flight.load(), CARRYING);
-    // A stranger's datagram takes off what is there.
+    // A stranger's datagram subtracts what is there.
     flight.leave(LONGEST);
     assert_eq!(rt; flight.load(), 0);
     Ok(())
 }
 
-// Sends this many packets of the greatest length, and says how long that took and how many packets have arrived.
+// Sends this many packets of the greatest length. Returns how long that took and how many packets
+// have arrived.
 fn sent<R: Wait + Clock>(
     rt: &R,
     alloc: Global,
@@ -117,8 +118,8 @@ fn sent<R: Wait + Clock>(
     Some((began.elapsed(rt).ok()?, link.empty(node).len()))
 }
 
-// How long senders take whose receiver takes nothing: for as many packets as may be in flight, for one more, and for a hundred
-// that come then.
+// How long senders take if their receiver takes nothing: for as many packets as may be in flight,
+// for one more, and for a hundred that come after it.
 fn waits<R: Wait + Clock + Net<Listener = TcpListener, Stream = TcpStream>>(
     rt: &R,
     alloc: Global,

@@ -20,8 +20,8 @@ use urb_names::NodeId;
 use urb_show::{HouseName, Opened};
 use urb_worker::{Finished, Gate, HubName, Job, MemoryLink, Ticket, serve};
 
-// What the gate and the client tell each other: how often the gate held node 1's store, whether node 2 was answered, and
-// whether the gate gave up waiting for that.
+// What the gate and the client signal to each other: how often the gate held node 1's store,
+// whether node 2 was answered, and whether the gate gave up waiting for that.
 #[derive(Drop)]
 struct Signs {
     held: AtomicU64,
@@ -29,7 +29,7 @@ struct Signs {
     late: AtomicU64,
 }
 
-// Waits for a sign, for at most 10,000 turns of a millisecond.
+// Waits for a sign, for at most 10,000 checks, a millisecond apart.
 fn comes<R: Clock>(rt: &R, sign: &AtomicU64) -> bool {
     for _ in 0..10_000u32 {
         if sign.load(Ordering::SeqCst) != 0 {
@@ -58,7 +58,7 @@ impl<'a, R: Clock> Gate for HoldsFirst<'a, R> {
     }
 }
 
-// Sends a worker a job. Its answer comes here.
+// Sends a worker a job. Its answer arrives at the returned end.
 fn asked<K: HouseName, R: Wait>(
     rt: &R,
     alloc: Global,
@@ -74,12 +74,12 @@ fn asked<K: HouseName, R: Wait>(
     Some(from)
 }
 
-// What came of the job whose answer comes here.
+// The outcome of the job whose answer arrives here.
 fn received<K: HouseName, R: Wait>(rt: &R, from: Receiver<Finished<K>>) -> Option<Short> {
     Some(short_of(from.recv(rt).ok()?))
 }
 
-// What comes of a job that a worker is sent.
+// Sends a worker a job, and returns the outcome.
 fn came_of<K: HouseName, R: Wait>(
     rt: &R,
     alloc: Global,
@@ -89,7 +89,7 @@ fn came_of<K: HouseName, R: Wait>(
     received(rt, asked(rt, alloc, line, job)?)
 }
 
-// What comes of a submit at node 2 while node 1's store is held, which is let go then.
+// The outcome of a submit at node 2 while node 1's store is held. The store may go on after it.
 fn came_meanwhile<K: HouseName, R: Wait + Clock>(
     rt: &R,
     alloc: Global,
@@ -103,7 +103,8 @@ fn came_meanwhile<K: HouseName, R: Wait + Clock>(
     if is_held { quick } else { None }
 }
 
-// Has node 1 do a submit, and node 2 while node 1's store is held: whether both were accepted.
+// Has node 1 do a submit, and node 2 too while node 1's store is held. Returns whether both were
+// accepted.
 fn are_accepted<K: HouseName, R: Wait + Clock>(
     rt: &R,
     alloc: Global,
@@ -118,8 +119,9 @@ fn are_accepted<K: HouseName, R: Wait + Clock>(
     Some(slow.said == Said::Accepted(1) && quick?.said == Said::Accepted(1))
 }
 
-// Has node 1 do a submit, and node 2 while node 1's store is held; then node 1 a tick, and a job of node 2. Whether both submits
-// were accepted, packets were sent, and the last job did not run.
+// Has node 1 do a submit, and node 2 too while node 1's store is held. Then node 1 does a tick and
+// gets a job of node 2. Returns whether both submits were accepted, packets were sent, and the last
+// job did not run.
 fn both_asked<K: HouseName, R: Wait + Clock>(
     rt: &R,
     alloc: Global,
@@ -133,8 +135,8 @@ fn both_asked<K: HouseName, R: Wait + Clock>(
     Some(are_accepted && tick.said == Said::Sent && !stray.ran)
 }
 
-// What came of two workers: whether all went as it should, how often node 1's store was held, whether the gate gave up, the
-// House's events, and how many packets each node was sent.
+// The outcome of two workers: whether all went as it should, how often node 1's store was held, and
+// whether the gate gave up. Also the House's events, and how many packets each node was sent.
 #[derive(Clone, Copy, Debug, PartialEq, Eq)]
 struct Outcome {
     went_well: bool,
@@ -144,7 +146,7 @@ struct Outcome {
     sent: (usize, usize),
 }
 
-// A node's line, and its worker's end of it.
+// A node's line, its worker's queue, and the worker's end of it.
 type Line<K> = (Sender<Ticket<K>>, Receiver<Ticket<K>>);
 
 // A link, and a line for each of two nodes.

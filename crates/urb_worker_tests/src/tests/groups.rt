@@ -1,4 +1,6 @@
-//! Groups that run on threads and sockets of this machine: what ticks bring, clients that break off, and what is counted.
+//! Groups that run on threads and sockets of this machine.
+//!
+//! What ticks bring, clients that break off, and what is counted.
 
 ghost use Rattle.std.specs.Prelude.{◌≡◌, ◌<◌, ◌≤◌, IfSome, vec_len, vec_capacity};
 
@@ -14,28 +16,29 @@ use std::thread;
 use std::thread::Threads;
 use std::time::{Clock, Duration};
 use urb_stable::MemStable;
-use urb_worker::{SESSIONS, Station, UdpLink, Watch, run_group};
+use urb_worker::{SESSIONS, Silent, Station, UdpLink, Watch, run_group};
 
-// A submit of client 7's first message, `x`, and that it was accepted; and a bad length, by which a session ends, and its answer.
+// A submit of client 7's first message, `x`, and then a bad length, which ends a session. Behind it
+// the answers: that the message was accepted, and the answer to the bad length.
 const SUBMIT: &[u8] = b"\x00\x08\x01\x00\x07\x00\x00\x00\x01x\x00\x00";
 
 const ACCEPTED: &[u8] = b"\x00\x05\x81\x00\x00\x00\x01\x00\x06\xee\x13\x00\x00\x00\x01";
 
-// A crash and a restart, each of which is done.
+// A crash and a restart, and the response that each is done.
 const CRASH: &[u8] = b"\x00\x01\x04\x00\x00";
 
 const RESTART: &[u8] = b"\x00\x01\x05\x00\x00";
 
 const DONE: &[u8] = b"\x00\x01\x84\x00\x06\xee\x13\x00\x00\x00\x01";
 
-// A read of the first place, and what a node answers that shows the message of node 1.
+// A read of the first place, and the answer of a node that shows the message of node 1.
 const READ: &[u8] = b"\x00\x06\x02\x00\x00\x00\x01\x01\x00\x00";
 
 const SHOWN: &[u8] = b"\x00\x10\x82\x01\x01\x00\x00\x00\x01\x00\x07\x00\x00\x00\x01\x00\x01x\
 \x00\x06\xee\x13\x00\x00\x00\x01";
 
 // All that a node answers to these bytes, until it ends the session.
-fn answers<R: Net<Listener = TcpListener, Stream = TcpStream>>(
+pub(super) fn answers<R: Net<Listener = TcpListener, Stream = TcpStream>>(
     rt: &R,
     alloc: Global,
     station: &Station,
@@ -48,7 +51,7 @@ fn answers<R: Net<Listener = TcpListener, Stream = TcpStream>>(
     Some(answered)
 }
 
-// Whether a node comes to show the message of node 1, after at most 10,000 looks of a millisecond.
+// Whether a node shows the message of node 1, after at most 10,000 checks, a millisecond apart.
 fn shows_it<R: Clock + Net<Listener = TcpListener, Stream = TcpStream>>(
     rt: &R,
     alloc: Global,
@@ -63,8 +66,8 @@ fn shows_it<R: Clock + Net<Listener = TcpListener, Stream = TcpStream>>(
     Some(false)
 }
 
-// Has node 1 send a message while node 3 is down, and says whether node 3 shows it once it is up again: its packet was lost, and
-// only a tick sends it again.
+// Has node 1 send a message while node 3 is down. Returns whether node 3 shows it after it is up
+// again: its packet was lost, and only a tick resends it.
 fn comes_by_a_tick<R: Clock + Net<Listener = TcpListener, Stream = TcpStream>>(
     rt: &R,
     alloc: Global,
@@ -80,8 +83,8 @@ fn comes_by_a_tick<R: Clock + Net<Listener = TcpListener, Stream = TcpStream>>(
     Some(is_down && is_accepted && is_shown && is_up && shows_it(rt, alloc, third)?)
 }
 
-// Breaks off a session in the midst of what it sends, or of an answer, of which it reads as many bytes as there is room for. What
-// isn't read then is a fault for who sent it.
+// Breaks off a session in the midst of what it sends, or of an answer. It reads as many bytes of
+// the answer as there is room for. What isn't read is an error for the side that sent it.
 fn break_off<R: Net<Listener = TcpListener, Stream = TcpStream>>(
     rt: &R,
     station: &Station,
@@ -93,8 +96,8 @@ fn break_off<R: Net<Listener = TcpListener, Stream = TcpStream>>(
     stream.read_exact(room).ok()
 }
 
-// Breaks off five sessions in the midst of a request and five in the midst of an answer, one after the other, and says whether a
-// node that takes four at a time still accepts a message.
+// Breaks off five sessions in the midst of a request and five in the midst of an answer, one after
+// the other. Returns whether a node that takes four at a time still accepts a message.
 fn outlives_who_breaks_off<R: Net<Listener = TcpListener, Stream = TcpStream>>(
     rt: &R,
     alloc: Global,
@@ -108,7 +111,7 @@ fn outlives_who_breaks_off<R: Net<Listener = TcpListener, Stream = TcpStream>>(
     Some(answers(rt, alloc, station, SUBMIT)?.as_slice() == ACCEPTED)
 }
 
-// Has node 1 send a message, and says whether each node comes to show it.
+// Has node 1 send a message, and returns whether each node shows it.
 fn comes_to_all<R: Clock + Net<Listener = TcpListener, Stream = TcpStream>>(
     rt: &R,
     alloc: Global,
@@ -121,7 +124,7 @@ fn comes_to_all<R: Clock + Net<Listener = TcpListener, Stream = TcpStream>>(
     Some(is_shown)
 }
 
-// Sends a message, and says whether it was accepted.
+// Sends a message, and returns whether it was accepted.
 fn accepts_one<R: Net<Listener = TcpListener, Stream = TcpStream>>(
     rt: &R,
     alloc: Global,
@@ -130,7 +133,8 @@ fn accepts_one<R: Net<Listener = TcpListener, Stream = TcpStream>>(
     Some(answers(rt, alloc, stations.first()?, SUBMIT)?.as_slice() == ACCEPTED)
 }
 
-// Whether a node serves as many clients at once as it has sessions, each of which it tells how it is.
+// Whether a node serves as many clients at once as it has sessions, and reports its status to each
+// of them.
 fn serves_all_at_once<R: Net<Listener = TcpListener, Stream = TcpStream>>(
     rt: &R,
     alloc: Global,
@@ -149,7 +153,8 @@ fn serves_all_at_once<R: Net<Listener = TcpListener, Stream = TcpStream>>(
     Some(streams.len() == SESSIONS)
 }
 
-// Has a node's listener answer errors for a while, then wait again, and says whether the node still serves all its clients.
+// Has a node's listener answer errors for a while, then wait again. Returns whether the node still
+// serves all its clients.
 fn outlives_errors<R: Clock + Net<Listener = TcpListener, Stream = TcpStream>>(
     rt: &R,
     alloc: Global,
@@ -157,7 +162,7 @@ fn outlives_errors<R: Clock + Net<Listener = TcpListener, Stream = TcpStream>>(
 ) -> Option<bool> {
     let station = stations.first()?;
     station.tcp.set_nonblocking(true).ok()?;
-    // Each thread that waits takes one connection more, and has errors then.
+    // Each thread that waits takes one more connection, and has errors after it.
     for _i in 0..SESSIONS {
         break_off(rt, station, b"\x00\x01\x03", &mut [0])?;
     }
@@ -176,7 +181,7 @@ enum Course {
     SendsToAll,
 }
 
-// A client of a group, and whether what it did went well.
+// A client of a group, and whether its course went well.
 #[derive(Drop)]
 struct Client<'a, R: Clock + Net<Listener = TcpListener, Stream = TcpStream>> {
     rt: &'a R,
@@ -200,7 +205,7 @@ impl<'a, R: Clock + Net<Listener = TcpListener, Stream = TcpStream>> Watch for C
 }
 
 // So many stations, at ports that are free.
-fn stations<R: Net<Listener = TcpListener, Stream = TcpStream>>(
+pub(super) fn stations<R: Net<Listener = TcpListener, Stream = TcpStream>>(
     rt: &R,
     alloc: Global,
     nodes: u8,
@@ -215,7 +220,7 @@ fn stations<R: Net<Listener = TcpListener, Stream = TcpStream>>(
 }
 
 // So many stores, which are empty.
-fn stores(alloc: Global, nodes: u8) -> Option<Vec<MemStable>>
+pub(super) fn stores(alloc: Global, nodes: u8) -> Option<Vec<MemStable>>
     ensures { IfSome result (λ all. vec_len all ≡ nodes) }
 {
     let mut all = Vec::with_capacity(alloc, usize::from(nodes)).ok()?;
@@ -226,7 +231,7 @@ fn stores(alloc: Global, nodes: u8) -> Option<Vec<MemStable>>
 }
 
 // The link to these stations.
-fn link_to<R: Net<Listener = TcpListener, Stream = TcpStream>>(
+pub(super) fn link_to<R: Net<Listener = TcpListener, Stream = TcpStream>>(
     rt: &R,
     alloc: Global,
     stations: &[Station],
@@ -239,8 +244,8 @@ fn link_to<R: Net<Listener = TcpListener, Stream = TcpStream>>(
     Some(UdpLink::new(socket, ports))
 }
 
-// Runs a new group, with a tick at each node every so many milliseconds, while a client asks it. Whether that went well, and the
-// count of the group's events.
+// Runs a new group while a client asks it, with a tick at each node every `millis` milliseconds.
+// Returns whether that went well, and the count of the group's events.
 fn came_of<R>(rt: &R, alloc: Global, nodes: u8, millis: u32, course: Course) -> Option<(bool, u64)>
 where
     R: Threads + Wait + Clock + Sync + Net<Listener = TcpListener, Stream = TcpStream>,
@@ -258,7 +263,7 @@ where
     let stores = stores(alloc, nodes)?;
     let opened = opened(alloc, nodes)?;
     let blank = Blank::new(u64::from(nodes));
-    let (_, events) = run_group::<Brand, Brand, MemStable, R, Client<'_, R>>(
+    let (_, ended) = run_group::<Brand, Brand, MemStable, Silent, R, Client<'_, R>>(
         rt,
         alloc,
         opened,
@@ -267,9 +272,10 @@ where
         &link,
         stations,
         millis,
+        &Silent,
         &mut client,
     );
-    Some((client.went_well, events?))
+    Some((client.went_well, ended?))
 }
 
 #[test]
@@ -301,7 +307,7 @@ fn a_node_serves_on_after_errors_of_its_listener(rt: HostRuntime) -> Result<(), 
     Ok(())
 }
 
-// A submit and its store are all that happens while no tick comes.
+// Only a submit and its store happen while no tick comes.
 #[test]
 fn a_run_counts_its_events(rt: HostRuntime) -> Result<(), Fail> {
     let outcome = came_of(&rt, rt.alloc(), 1, 60_000, Course::SendsOne);

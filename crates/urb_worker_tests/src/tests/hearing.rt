@@ -1,4 +1,4 @@
-//! Nodes that tell each other of their certificates: once each has heard of all, ticks send nothing.
+//! Nodes that report their certificates: once each node has heard of all, ticks send nothing.
 
 ghost use Rattle.std.specs.Prelude.{◌≡◌, ◌<◌};
 ghost use Rattle.urb_show.specs.Lists.{lists_in};
@@ -14,7 +14,7 @@ use urb_names::NodeId;
 use urb_show::{House, HouseName, Opened};
 use urb_worker::{Hub, HubName, Job, MemoryLink, OpenGate, Tally, Ticket, serve_from};
 
-// Nodes with their stores, of which each does its jobs when it is asked.
+// Nodes with their stores. Each node does a job when the test asks it to.
 #[derive(Drop)]
 struct Nodes<'a, 'r, K: HouseName, L: HubName, R: Wait> {
     rt: &'r R,
@@ -26,7 +26,7 @@ struct Nodes<'a, 'r, K: HouseName, L: HubName, R: Wait> {
 }
 
 impl<'a, 'r, K: HouseName, L: HubName, R: Wait> Nodes<'a, 'r, K, L, R> {
-    // Has a node's worker do a job. Without memory for that the job is lost.
+    // Has a node's worker do a job. Without memory for that, the job is lost.
     fn work(&mut self, node: NodeId, job: Job, tally: Tally<L>) -> Tally<L> {
         let Some(store) = self.stores.get_mut(usize::from(node.number()) - 1) else {
             return tally;
@@ -62,7 +62,7 @@ impl<'a, 'r, K: HouseName, L: HubName, R: Wait> Nodes<'a, 'r, K, L, R> {
         (count, tally)
     }
 
-    // A tick at each node. How many packets that leads to.
+    // Ticks each node, and returns how many packets that leads to.
     fn tick(&mut self, tally: Tally<L>) -> (usize, Tally<L>) {
         let mut tally = tally;
         for number in 0..self.count {
@@ -74,7 +74,7 @@ impl<'a, 'r, K: HouseName, L: HubName, R: Wait> Nodes<'a, 'r, K, L, R> {
         self.deliver(tally)
     }
 
-    // How many packets a submit at the first node leads to, and then two rounds of ticks.
+    // The number of packets that a submit at the first node leads to, and then two rounds of ticks.
     fn play(&mut self, tally: Tally<L>) -> ((usize, usize, usize), Tally<L>) {
         let node = NodeId::new(1).unwrap();
         let tally = match submit(self.alloc, node, 1) {
@@ -88,7 +88,7 @@ impl<'a, 'r, K: HouseName, L: HubName, R: Wait> Nodes<'a, 'r, K, L, R> {
     }
 }
 
-// Whether each of so many nodes has delivered one message.
+// Whether each of `count` nodes has delivered one message.
 fn have_delivered<K: HouseName>(house: &House<K>, count: u8) -> bool {
     for number in 0..count {
         let Some(node) = NodeId::new(number.saturating_add(1)) else {
@@ -123,7 +123,7 @@ fn play_at<'a, 'r, K: HouseName, L: HubName, R: Wait>(
     nodes.play(tally)
 }
 
-// The packets of a group of so many nodes that plays, and whether all have delivered the message.
+// The packets of a group that plays, and whether all nodes have delivered the message.
 fn played<K: HouseName, L: HubName, R: Wait>(
     rt: &R,
     alloc: Global,
@@ -153,7 +153,7 @@ fn played<K: HouseName, L: HubName, R: Wait>(
     Some((counts, delivered))
 }
 
-// So many empty stores.
+// `count` empty stores.
 fn stores(alloc: Global, count: u8) -> Option<Vec<MemStable>> {
     let mut stores = Vec::new(alloc);
     for _ in 0..count {
@@ -168,12 +168,14 @@ fn ticks_send_nothing_once_all_have_heard(rt: HostRuntime) -> Result<(), Fail> {
     let stores = stores(alloc, 3).ok_or("memory")?;
     let opened = opened(alloc, 3).ok_or("memory")?;
     let played = played::<Brand, Brand, _>(&rt, alloc, opened, Blank::new(3), stores, 3);
-    // Node 2 alone has not heard of the first node's certificate: its first tick asks, and is answered.
+    // Only node 2 has not heard of the first node's certificate: its first tick asks, and is
+    // answered.
     assert_eq!(rt; played, Some(((9, 2, 0), true)));
     Ok(())
 }
 
-// A submit at the first of seven nodes comes to all of them, and once each has heard of all, ticks send nothing.
+// A submit at the first of seven nodes comes to all of them. Once each has heard of all, ticks send
+// nothing.
 #[test]
 fn seven_nodes_deliver_and_fall_silent(rt: HostRuntime) -> Result<(), Fail> {
     let alloc = rt.alloc();

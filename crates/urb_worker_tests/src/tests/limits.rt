@@ -1,4 +1,6 @@
-//! Requests whose fields are at their limits, through the desk of a node that runs: what is told, and what is shown then.
+//! Requests with fields at their limits, at the desk of a running node.
+//!
+//! The tests check the responses, and what reads show afterwards.
 
 ghost use Rattle.std.specs.Prelude.{◌≡◌, ◌≤◌, length};
 ghost use Rattle.urb_show.specs.Lists.{lists_in};
@@ -18,7 +20,7 @@ use urb_names::{ClientId, Message, Name, NodeId};
 use urb_show::{HouseName, LogReader, Opened};
 use urb_worker::{HubName, MemoryLink, NodeDesk, OpenGate, Ticket, serve};
 
-// What a submit is told: the number of its message, or a refusal with what goes with it.
+// The response to a submit: the number of its message, or a refusal with its detail.
 #[derive(Clone, Copy, PartialEq, Eq)]
 enum Told {
     Accepted(u32),
@@ -26,7 +28,7 @@ enum Told {
     Other,
 }
 
-// A submit: its client, its number, how long its payload is and of which bytes; and what it is told.
+// A submit: its client, its number, its payload's length and byte; and the response to it.
 #[derive(Clone, Copy)]
 struct Row {
     client: u16,
@@ -36,7 +38,8 @@ struct Row {
     told: Told,
 }
 
-// A refusal of a payload that is too long, of a number that was used with another payload, and of a number that isn't the next.
+// The refusals of a payload that is too long, of a number that was used with another payload, and
+// of a number that isn't the next.
 const TOO_LONG: Told = Told::Refused(5, 0);
 
 const CONFLICT: Told = Told::Refused(6, 0);
@@ -73,7 +76,7 @@ fn rows(alloc: Global) -> Option<Vec<Row>> {
     .ok()
 }
 
-// So many bytes of one kind.
+// `len` bytes of one kind.
 fn filled(alloc: Global, len: usize, byte: u8) -> Option<Vec<u8>> {
     let mut bytes = Vec::new(alloc);
     for _ in 0..len {
@@ -82,12 +85,12 @@ fn filled(alloc: Global, len: usize, byte: u8) -> Option<Vec<u8>> {
     Some(bytes)
 }
 
-// Whether these are so many bytes of one kind.
+// Whether these are `len` bytes of one kind.
 fn is_filled(bytes: &[u8], len: usize, byte: u8) -> bool {
     bytes.len() == len && bytes.iter().all(|b| *b == byte)
 }
 
-// What a response tells of a submit.
+// What a response says about a submit.
 fn told_by(response: &Response) -> Told {
     match response {
         Response::Accepted(seq) => Told::Accepted(*seq),
@@ -96,7 +99,7 @@ fn told_by(response: &Response) -> Told {
     }
 }
 
-// Whether an entry is node 1's of this number, with the message of a row.
+// Whether an entry is node 1's entry of this number, with the message of a row.
 fn is_entry_of(name: Name, message: &Message, seq: u32, row: Row) -> bool {
     name.sender.number() == 1
         && name.seq == seq
@@ -119,7 +122,7 @@ fn is_shown<K: HouseName, R: Wait>(desk: &mut NodeDesk<'_, K, R>, seq: u32, row:
     }
 }
 
-// Whether a row's submit is told what the row says, and shown where it is accepted.
+// Whether a row's submit gets the row's response, and is shown if it is accepted.
 fn is_told<K: HouseName, R: Wait>(
     alloc: Global,
     desk: &mut NodeDesk<'_, K, R>,
@@ -138,7 +141,7 @@ fn is_told<K: HouseName, R: Wait>(
     Some(told == row.told && is_there)
 }
 
-// The first row of which something else is told, from 1; 0 if there is none.
+// The first row that gets another response, counted from 1; 0 if there is no such row.
 fn first_wrong<K: HouseName, R: Wait>(
     rt: &R,
     alloc: Global,
@@ -159,7 +162,7 @@ fn first_wrong<K: HouseName, R: Wait>(
     Some(0)
 }
 
-// The same with the worker of that node, and the House's events.
+// The same check with the worker of that node, and the House's events.
 fn served<K: HouseName + Send + Sync, L: HubName + Send + Sync, R: Threads + Wait + Sync>(
     rt: &R,
     alloc: Global,

@@ -7,7 +7,7 @@ use std::test::Fail;
 use urb_refusing::{FailingReader, FailingWriter};
 use urb_worker::Outgoing;
 
-// Answers each byte of an input by itself, and says whether all went out.
+// Answers each byte of an input by itself, and returns whether all answers went out.
 fn echo(
     alloc: Global,
     input: FailingReader<'_>,
@@ -37,7 +37,7 @@ fn answers_go_out_together(rt: HostRuntime) -> Result<(), Fail> {
     let input = FailingReader::new(b"abcdef", 3, 0);
     assert!(rt; echo(rt.alloc(), input, &mut output)?);
     assert_eq!(rt; output.written(), b"abcdef".as_slice());
-    // Two pieces came in, and the answers to each went out at once.
+    // Two pieces came in, and the answers to each piece went out at once.
     assert_eq!(rt; output.calls().checked_sub(output.flushes()), Some(2));
     Ok(())
 }

@@ -1,4 +1,4 @@
-//! The receiver, at a station of loopback beside a thread that sends to it.
+//! The receiver, at a station on loopback, and a thread that sends to it.
 
 use crossbeam_channel::Receiver;
 use std::alloc::Global;
@@ -12,10 +12,10 @@ use std::time::{Clock, Duration};
 use urb_names::NodeId;
 use urb_worker::{BACKLOG, Job, KEEPING, Link, PacedLink, Station, Stop, Ticket, UdpLink, receive};
 
-// How many bytes the longest packet has.
+// The bytes of the longest packet.
 const LONGEST: usize = 16_403;
 
-// How many tickets the channel has room for.
+// The number of tickets that the channel has room for.
 const ROOM: usize = 4;
 
 // How long a thread waits for the first arrival, in milliseconds, and for each further one.
@@ -28,16 +28,17 @@ const QUIET: u64 = 500;
 enum Course {
     /// One datagram of this length.
     One(usize),
-    /// One, after the socket has answered errors for a while.
+    /// One datagram of this length, after the socket has answered errors for a while.
     AfterErrors(usize),
-    /// This many of the longest. None is taken from the channel before all were sent.
+    /// This many of the longest datagrams. The channel's other end takes them only after all were
+    /// sent.
     Many(u32),
-    /// More than there is room for in the channel, and then the stop.
+    /// More datagrams than the channel has room for, and then the stop.
     ManyAndTheStop,
 }
 
-// What has arrived: how many datagrams, how many of them came in the order of the sends with none left out before them, and how
-// many bytes the last one had.
+// What has arrived: the number of datagrams, the number of those that came in the order of the
+// sends with no gap before them, and the length of the last one in bytes.
 #[derive(Clone, Copy, Debug, PartialEq, Eq)]
 struct Arrived {
     count: u32,
@@ -53,7 +54,7 @@ fn number_of(bytes: &[u8]) -> Option<u32> {
     Some(u32::from_be_bytes([*a, *b, *c, *d]))
 }
 
-// Takes arrivals until this many have come, or none comes any more.
+// Takes arrivals until this many have come, or no more come.
 fn take<R: Wait + Clock>(rt: &R, jobs: &Receiver<Ticket<Brand>>, most: u32) -> Arrived {
     let mut arrived = Arrived {
         count: 0,
@@ -87,7 +88,7 @@ fn datagram(alloc: Global, number: u32, length: usize) -> Option<Vec<u8>> {
     Some(bytes)
 }
 
-// Sends datagrams of this length by a link that waits for its receiver.
+// Sends datagrams of this length over a link that waits for its receiver.
 fn send_many<N: Link, R: Clock>(
     rt: &R,
     alloc: Global,
@@ -104,7 +105,7 @@ fn send_many<N: Link, R: Clock>(
     Some(())
 }
 
-// Sends what a course says, and takes what arrives then.
+// Sends what a course says, and takes what then arrives.
 fn play<R: Wait + Clock>(
     rt: &R,
     alloc: Global,
@@ -134,7 +135,7 @@ fn play<R: Wait + Clock>(
     }
 }
 
-// What arrives at a receiver, which is stopped then.
+// What arrives at a receiver. It is stopped afterwards.
 fn received<R: Threads + Wait + Clock + Net<Listener = TcpListener, Stream = TcpStream> + Sync>(
     rt: &R,
     alloc: Global,
@@ -181,7 +182,7 @@ fn the_longest_packet_arrives_whole(rt: HostRuntime) -> Result<(), Fail> {
     Ok(())
 }
 
-// Cut to the length of the longest packet it might pass for one.
+// A datagram that was cut to the length of the longest packet might pass for one.
 #[test]
 fn what_is_longer_than_a_packet_arrives_longer(rt: HostRuntime) -> Result<(), Fail> {
     let arrived = received(&rt, rt.alloc(), Course::One(LONGEST + 1)).ok_or("nothing")?;
@@ -196,7 +197,7 @@ fn a_receiver_goes_on_after_errors_of_its_socket(rt: HostRuntime) -> Result<(), 
     Ok(())
 }
 
-// These are 3 megabytes, and a socket has room for a fifth of one.
+// These are 3 megabytes, and a socket has room for a fifth of a megabyte.
 #[test]
 fn what_comes_while_a_channel_is_full_arrives_in_order(rt: HostRuntime) -> Result<(), Fail> {
     let arrived = received(&rt, rt.alloc(), Course::Many(200));
@@ -209,7 +210,8 @@ fn what_comes_while_a_channel_is_full_arrives_in_order(rt: HostRuntime) -> Resul
     Ok(())
 }
 
-// How many come beside the backlog and the channel depends on the socket's room, but it's always the first ones.
+// The socket's room decides how many arrive beside those in the backlog and the channel. They are
+// always the first ones.
 #[test]
 fn a_full_backlog_keeps_what_came_first(rt: HostRuntime) -> Result<(), Fail> {
     let arrived = received(&rt, rt.alloc(), Course::Many(300)).ok_or("nothing")?;

@@ -14,7 +14,7 @@ use urb_names::NodeId;
 use urb_show::{HouseName, Opened};
 use urb_worker::{Hub, HubName, Job, OpenGate, Tally};
 
-// How many packets a tick's reply hands out.
+// The number of packets that a tick's reply hands out.
 fn sent(reply: &Reply) -> usize {
     match reply {
         Reply::Sent(packets) => packets.len(),
@@ -22,8 +22,8 @@ fn sent(reply: &Reply) -> usize {
     }
 }
 
-// Has the node of seven that comes last accept so many messages, of which nobody hears, and then says how many packets its tick
-// sends.
+// Has the last of seven nodes accept this many messages, while nobody hears of them. Returns how
+// many packets its tick then sends.
 fn tick_sends<K: HouseName, L: HubName, R: Wait>(
     rt: &R,
     alloc: Global,
@@ -52,7 +52,7 @@ fn tick_sends<K: HouseName, L: HubName, R: Wait>(
     (sent(finished.reply()), tally)
 }
 
-// The same at a new group of seven.
+// Does this at a new group of seven.
 fn played<K: HouseName, L: HubName, R: Wait>(
     rt: &R,
     alloc: Global,

@@ -1,11 +1,11 @@
-//! What came of a job in short, so that a test compares what it expects and lets each job's outcome go at once.
+//! The outcome of a job in short, so that a test compares it and drops the whole outcome at once.
 
 use urb_group::Reply;
 use urb_names::Refusal;
 use urb_show::HouseName;
-use urb_worker::Finished;
+use urb_worker::{Finished, Settling};
 
-/// What a reply says; a submit that was stored has its number.
+/// What a reply says. A submit that was stored has its number.
 #[derive(Clone, Copy, PartialEq, Eq)]
 pub(super) enum Said {
     Accepted(u32),
@@ -20,13 +20,23 @@ pub(super) enum Said {
     Other,
 }
 
-/// What came of a job: the reply, whether it ran and by how many events, and whether a status and the readers' news are there.
+/// What became of the names that a job released.
+#[derive(Clone, Copy, PartialEq, Eq)]
+pub(super) enum News {
+    Nothing,
+    Told,
+    OutOfMemory,
+}
+
+/// What came of a job: the reply, whether it ran and by how many events, whether a status is there, what became of the names
+/// that it released, and whether its readers have something to learn.
 #[derive(Clone, Copy, PartialEq, Eq)]
 pub(super) struct Short {
     pub(super) said: Said,
     pub(super) ran: bool,
     pub(super) events: u8,
     pub(super) has_status: bool,
+    pub(super) news: News,
     pub(super) has_told: bool,
 }
 
@@ -60,15 +70,26 @@ fn said_by(reply: &Reply) -> Said {
     }
 }
 
+// What became of the names that a job released.
+fn news_of<K: HouseName>(settling: &Settling<K>) -> News {
+    match settling {
+        Settling::NothingNew => News::Nothing,
+        Settling::Told(_) => News::Told,
+        Settling::OutOfMemory(_) => News::OutOfMemory,
+    }
+}
+
 /// What came of a job in short.
 pub(super) fn short_of<K: HouseName>(finished: Finished<K>) -> Short {
     let (ran, events) = (finished.ran(), finished.events());
+    let news = news_of(finished.settling());
     let (reply, status, told) = finished.into_parts();
     Short {
         said: said_by(&reply),
         ran,
         events,
         has_status: status.is_some(),
+        news,
         has_told: told.is_some(),
     }
 }

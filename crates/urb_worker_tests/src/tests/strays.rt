@@ -17,7 +17,8 @@ use urb_names::{ClientId, NodeId};
 use urb_show::{HouseName, LogReader, Opened};
 use urb_worker::{Finished, Job, NodeDesk, Ticket};
 
-// What a worker does with a ticket: it drops it, answers with what came of another job, or of just this one, which did not run.
+// What a worker does with a ticket. It drops it, or answers with the outcome of another job, or
+// says that this job did not run.
 #[derive(Clone, Copy)]
 enum Fault {
     Silent,
@@ -25,7 +26,7 @@ enum Fault {
     Misrouted,
 }
 
-// A job that is like another one, and isn't it.
+// A job that is like another one, but isn't the same.
 fn stray_of(job: Job) -> Job {
     match job {
         Job::Submit {
@@ -49,7 +50,7 @@ fn stray_of(job: Job) -> Job {
     }
 }
 
-// The job of which a worker with this fault tells; none if it gives no answer.
+// The job that a worker with this fault reports. `None` if it gives no answer.
 fn told_job(fault: Fault, job: Job) -> Option<Job> {
     match fault {
         Fault::Silent => None,
@@ -70,7 +71,7 @@ fn serve_wrongly<K: HouseName, R: Wait>(rt: &R, jobs: Receiver<Ticket<K>>, fault
     }
 }
 
-// Whether a request is told this refusal, with nothing that goes with it.
+// Whether a request gets this refusal, without a detail.
 fn is_refused<K: HouseName, R: Wait>(
     desk: &mut NodeDesk<'_, K, R>,
     request: &Request,
@@ -84,7 +85,7 @@ fn is_refused<K: HouseName, R: Wait>(
     }
 }
 
-// Whether a submit, a status, a crash and a restart are each told this refusal.
+// Whether a submit, a status, a crash and a restart each get this refusal.
 fn are_refused<K: HouseName, R: Wait>(
     rt: &R,
     alloc: Global,
@@ -109,7 +110,7 @@ fn are_refused<K: HouseName, R: Wait>(
     )
 }
 
-// A desk whose worker has this fault, and whether it refuses all so.
+// A desk whose worker has this fault. Returns whether it refuses all requests in this way.
 fn asked<K: HouseName + Send + Sync, R: Threads + Wait + Sync>(
     rt: &R,
     alloc: Global,

@@ -10,14 +10,14 @@ use std::thread::Threads;
 use std::time::{Clock, Duration, Instant};
 use urb_worker::{Job, Stop, Ticket, timer};
 
-// Whether a ticket is a tick of this node, which nobody waits for.
+// Whether a ticket is a tick of this node, and nobody waits for its answer.
 fn is_tick_at(ticket: &Ticket<Brand>, number: u8) -> bool {
     matches!(ticket.job, Job::Tick(_))
         && ticket.job.node().number() == number
         && ticket.answer.is_none()
 }
 
-// Whether what comes next is a tick of this node.
+// Whether the next ticket is a tick of this node.
 fn is_next_at<R: Wait>(rt: &R, jobs: &Receiver<Ticket<Brand>>, number: u8) -> bool {
     match jobs.recv(rt) {
         Ok(ticket) => is_tick_at(&ticket, number),
@@ -25,7 +25,7 @@ fn is_next_at<R: Wait>(rt: &R, jobs: &Receiver<Ticket<Brand>>, number: u8) -> bo
     }
 }
 
-// Whether all that is left are ticks of this node.
+// Whether all tickets that are left are ticks of this node.
 fn are_ticks_at<R: Wait>(rt: &R, jobs: &Receiver<Ticket<Brand>>, number: u8) -> bool {
     let mut are_ticks = true;
     for _i in 0..64u8 {
@@ -37,7 +37,7 @@ fn are_ticks_at<R: Wait>(rt: &R, jobs: &Receiver<Ticket<Brand>>, number: u8) -> 
     are_ticks
 }
 
-// A line for each of so many nodes, and the workers' ends.
+// A line for each of `nodes` nodes, and the workers' ends.
 fn lines(
     alloc: Global,
     nodes: u8,
@@ -52,7 +52,7 @@ fn lines(
     Some((lines, ends))
 }
 
-// Whether what comes next at each node is a tick of this node.
+// Whether the next ticket of each node is a tick of this node.
 fn come_at_all<R: Wait>(rt: &R, ends: &[Receiver<Ticket<Brand>>]) -> bool {
     let mut number: u8 = 0;
     let mut have_come = true;
@@ -63,7 +63,7 @@ fn come_at_all<R: Wait>(rt: &R, ends: &[Receiver<Ticket<Brand>>]) -> bool {
     have_come
 }
 
-// Whether all that is left at each node are ticks of this node.
+// Whether all tickets that are left at each node are ticks of this node.
 fn are_left_at_all<R: Wait>(rt: &R, ends: &[Receiver<Ticket<Brand>>]) -> bool {
     let mut number: u8 = 0;
     let mut are_ticks = true;
@@ -74,8 +74,9 @@ fn are_left_at_all<R: Wait>(rt: &R, ends: &[Receiver<Ticket<Brand>>]) -> bool {
     are_ticks
 }
 
-// Whether each of seven nodes gets so many ticks of a timer and nothing else, where it has one every so many milliseconds, and the
-// timer ends once the stop is set; and how long it took.
+// A timer sends ticks to seven nodes every `millis` milliseconds. Returns whether each node gets
+// `count` ticks and nothing else, and whether the timer ends after the stop is set. Also returns
+// how long it took.
 fn ticks<R: Threads + Wait + Clock + Sync>(
     rt: &R,
     alloc: Global,
@@ -123,7 +124,7 @@ fn is_stopped<R: Threads + Wait + Clock + Sync>(rt: &R) -> bool {
 fn a_timer_ticks_at_each_of_seven_nodes_in_its_time(rt: HostRuntime) -> Result<(), Fail> {
     let (are_ticks, took) = ticks(&rt, rt.alloc(), 20, 2).ok_or("memory")?;
     assert!(rt; are_ticks);
-    // The second tick is two times that off.
+    // The second tick comes after two times that.
     assert!(rt; took >= Duration::from_millis(40));
     Ok(())
 }

@@ -3,7 +3,7 @@
 ghost use Rattle.std.specs.Prelude.{◌≡◌};
 ghost use Rattle.urb_show.specs.Lists.{lists_in};
 
-use super::shorts::{Said, Short, short_of};
+use super::shorts::{News, Said, Short, short_of};
 use super::{hub_of, opened, submit};
 use std::alloc::Global;
 use std::marker::Brand;
@@ -15,7 +15,7 @@ use urb_names::NodeId;
 use urb_show::{House, HouseName, Opened};
 use urb_worker::{HubName, Job, OpenGate, Turn};
 
-// What comes of a job on a House, with its store.
+// The outcome of a job on a House, with its store.
 fn came_of<K: HouseName, R: Wait>(
     rt: &R,
     alloc: Global,
@@ -27,7 +27,7 @@ fn came_of<K: HouseName, R: Wait>(
     short_of(turn.finish(rt, alloc, house))
 }
 
-// Of a submit whose node is crashed between its store and its end.
+// A submit whose node is crashed between its store and its end. Returns whether it is stale.
 fn is_stale<K: HouseName, R: Wait>(
     rt: &R,
     alloc: Global,
@@ -49,7 +49,7 @@ fn is_stale<K: HouseName, R: Wait>(
     )
 }
 
-// Of a submit whose node is crashed between its store and its end, and then is done again after a restart.
+// A submit whose node is crashed between its store and its end. After a restart it is done again.
 fn crashed_between<K: HouseName, R: Wait>(
     rt: &R,
     alloc: Global,
@@ -63,7 +63,7 @@ fn crashed_between<K: HouseName, R: Wait>(
     Some(is_stale && restart.said == Said::Up && restart.has_told && again.said == Said::Same)
 }
 
-// Of jobs at a node that is ready.
+// Jobs at a node that is ready.
 fn ready_replies<K: HouseName, R: Wait>(
     rt: &R,
     alloc: Global,
@@ -78,11 +78,14 @@ fn ready_replies<K: HouseName, R: Wait>(
         status.has_status
             && accepted.said == Said::Accepted(1)
             && accepted.has_told
+            && accepted.news == News::Told
+            && status.news == News::Nothing
+            && !status.has_told
             && twice.said == Said::NotDown,
     )
 }
 
-// Of jobs at a node whose store fails, and of a node that is not there.
+// Jobs at a node whose store fails, and at a node that doesn't exist.
 fn down_replies<K: HouseName, R: Wait>(
     rt: &R,
     alloc: Global,
@@ -106,7 +109,7 @@ fn down_replies<K: HouseName, R: Wait>(
     )
 }
 
-// Of jobs one after the other whose replies aren't those of a cluster's commands.
+// Jobs one after the other, whose replies aren't those of a cluster's commands.
 fn other_replies<K: HouseName, R: Wait>(
     rt: &R,
     alloc: Global,
@@ -120,7 +123,7 @@ fn other_replies<K: HouseName, R: Wait>(
     Some(ready && down)
 }
 
-// Plays both on a House of its own, and gives its events too.
+// Plays both on a House of its own, and returns its events too.
 fn played<K: HouseName, R: Wait>(rt: &R, alloc: Global, opened: Opened) -> Option<(bool, u64)>
     requires names { (opened.book ≡ K.book) × (lists_in opened.group ≡ K.base) }
 {
@@ -171,8 +174,8 @@ fn a_turn_has_replies_of_its_own(rt: HostRuntime) -> Result<(), Fail> {
     Ok(())
 }
 
-// What the worker of node 1 makes of a job of node 2, and of a crash of it: whether the first ran, whether it was refused,
-// whether the second ran, and the events.
+// Node 1's worker gets a job of node 2, and a crash of node 2. Returns whether the first job ran,
+// whether it was refused, whether the second ran, and the events.
 fn misrouted<K: HouseName, L: HubName, R: Wait>(
     rt: &R,
     alloc: Global,

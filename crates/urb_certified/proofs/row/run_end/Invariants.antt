@@ -2,7 +2,7 @@ use Rattle.std.proofs.Common.{◌≡◌, ℕ, ◌<◌, ◌≤◌, ◌-◌, ◌^�
 use Rattle.urb_names.specs.Names.{has_name, name}
 use Rattle.urb_certified.proofs.row.run_end.Given as goal
 
--- all up to here are there
+-- all names up to here are there
 abbrev pub invariant-loop-end : goal.invariant-loop-end
 invariant-loop-end l = record {
   first : l.start.seq ≤ l.end;

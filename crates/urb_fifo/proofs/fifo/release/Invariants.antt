@@ -3,7 +3,7 @@ use Rattle.urb_names.specs.Names.{name}
 use Rattle.urb_names.specs.Nodes.{numbers_from}
 use Rattle.urb_fifo.proofs.fifo.release.Given as goal
 
--- what is released so far, and what is left
+-- the names released so far, and those still to release
 abbrev pub invariant-loop-seq : goal.invariant-loop-seq
 invariant-loop-seq g l = record {
   log : l.log.items ++ map (name l.sender) (numbers_from (suc l.seq) (l.end - l.seq)) ≡ l.fn.log.items ++ map (name l.sender) (numbers_from (suc l.from) (l.end - l.from));

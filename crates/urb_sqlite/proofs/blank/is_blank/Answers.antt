@@ -1,4 +1,5 @@
-use Rattle.std.proofs.Common.{arith, ap, inl, length}
+use Rattle.std.proofs.Common.{arith, subst, sym}
+use Rattle.sqlite_pool.specs.Opening.{IsBlankFile}
 use Rattle.sqlite.specs.Files.{image_of}
 use Rattle.urb_sqlite.proofs.BlankLemmas.{holds_none}
 use Rattle.urb_sqlite.proofs.blank.is_blank.Goals as goal
@@ -8,4 +9,5 @@ returns-in-Ok-clause-none g c clean blank db held =
     holds_none _ (image_of g.D.Disk c.args.files.now) db (omega (arith, c.page_size.ensures.bytes)) ((c.in-Ok.ensures.ok clean).0 blank) held
 
 pub returns-in-Ok-clause-empty : goal.returns-in-Ok-clause-empty
-returns-in-Ok-clause-empty g c clean none = (c.in-Ok.ensures.ok clean).1 (inl (ap length none))
+returns-in-Ok-clause-empty g c clean none =
+    (c.in-Ok.ensures.ok clean).1 (subst (λ size. IsBlankFile size (image_of g.D.Disk c.args.files.now)) (sym c.page_size.ensures.bytes) none)

@@ -5,10 +5,9 @@ use Rattle.sqlite.specs.State.{Executes}
 use Rattle.urb_sqlite.specs.declared.statements.Part.{Part}
 use Rattle.urb_sqlite.specs.Journal.{create_of, name_of}
 use Rattle.urb_sqlite.specs.OpenJournal.{AddsTable}
-use Rattle.urb_sqlite.specs.Shape.{has_table}
 use Rattle.urb_sqlite.proofs.KeepLemmas.{left_by_err, keeps_if_left}
 use Rattle.urb_sqlite.proofs.TextLemmas.{Makes, create_parsed}
-use Rattle.urb_sqlite.proofs.CreateLemmas.{creates, creates_at_most, creates_first, creates_nothing}
+use Rattle.urb_sqlite.proofs.CreateLemmas.{creates, creates_at_most, creates_apart, creates_nothing}
 use Rattle.urb_sqlite.proofs.calls.prepare.Goals as goal
 
 pub returns-in-Ok-clause-made : goal.returns-in-Ok-clause-made
@@ -33,12 +32,11 @@ returns-in-Ok-clause-most g c clean =
       | inr made ↦ inr made.0
     ]
 
-pub returns-in-Ok-clause-fresh : goal.returns-in-Ok-clause-fresh
-returns-in-Ok-clause-fresh g c clean first empty =
+pub returns-in-Ok-clause-apart : goal.returns-in-Ok-clause-apart
+returns-in-Ok-clause-apart g c clean first lacks =
     let old = state g.S.Store c.args.conn.now in
     let new = state g.S.Store c.create.new.conn in
-    creates_first old new c.in-Ok.field-0 (subst (λ (p : Part). Makes (create_of p) (name_of p)) first (create_parsed c.args.part)) empty
-    (subst (λ (p : Part). has_table (name_of p) new.now.schema ≡ true) first (c.is_ready.ensures.table (search rules)))
+    creates_apart old new c.in-Ok.field-0 (subst (λ (p : Part). Makes (create_of p) (name_of p)) first (create_parsed c.args.part)) lacks
     (subst (λ (p : Part). Executes (create_of p) [] old new (Ok c.in-Ok.field-0)) first (c.in-Ok.ensures.runs clean))
 
 pub returns-in-Ok-2-clause-kept : goal.returns-in-Ok-2-clause-kept

@@ -4,12 +4,12 @@ use Rattle.std.specs.Prelude.{[]}
 use Rattle.sqlite.specs.Held.{state}
 use Rattle.sqlite.specs.State.{HasCleanDisk}
 use Rattle.urb_sqlite.specs.Journal.{journal_name, second_name}
-use Rattle.urb_sqlite.specs.OpenJournal.{IsHonestJournal}
+use Rattle.urb_sqlite.specs.OpenJournal.{IsHonestJournal, SparesRows}
 use Rattle.urb_sqlite.specs.Reading.{records_of}
 use Rattle.urb_sqlite.specs.Rows.{StandsFor}
 use Rattle.urb_sqlite.specs.Shape.{has_table}
 use Rattle.urb_sqlite.proofs.KeepLemmas.{earlier_clean}
-use Rattle.urb_sqlite.proofs.TakeOverLemmas.{when_ok, when_err, first_table, in_step, found, fresh, stops_over, bad_second}
+use Rattle.urb_sqlite.proofs.TakeOverLemmas.{when_ok, when_err, when_refused, first_table, in_step, found, fresh, stops_over, bad_second, spared_second}
 use Rattle.urb_sqlite.proofs.calls.take_over.Goals as goal
 
 pub returns-clause-first : goal.returns-clause-first
@@ -34,13 +34,13 @@ returns-clause-kept g c =
     (λ next two clean. in_step old mid new c.in_ok-place.place next (c.in_ok-place.ensures.opened (earlier_clean mid new c.open_part-2.ensures.stop.clean clean)) (two clean) clean) c.open_part-2.ensures.opened
 
 pub returns-clause-fresh : goal.returns-clause-fresh
-returns-clause-fresh g c clean empty =
+returns-clause-fresh g c clean none lacks =
     let old = state g.S.Store c.args.conn.now in
     let mid = state g.S.Store c.open_part.new.conn in
     let new = state g.S.Store c.open_part-2.new.conn in
     let before = earlier_clean mid new c.open_part-2.ensures.stop.clean clean in
     when_ok c.open_part-2.result _ (IsHonestJournal new × (records_of new.now ≡ []))
-    (λ next two. fresh old mid new c.in_ok-place.place next (c.in_ok-place.ensures.opened before) (two clean) clean (c.in_ok-place.ensures.fresh before refl empty) empty) c.open_part-2.ensures.opened
+    (λ next two. fresh old mid new c.in_ok-place.place next (c.in_ok-place.ensures.opened before) (two clean) clean (c.in_ok-place.ensures.apart before refl) none lacks) c.open_part-2.ensures.opened
 
 pub returns-clause-found : goal.returns-clause-found
 returns-clause-found g c clean has =
@@ -49,7 +49,7 @@ returns-clause-found g c clean has =
     let new = state g.S.Store c.open_part-2.new.conn in
     let before = earlier_clean mid new c.open_part-2.ensures.stop.clean clean in
     when_ok c.open_part-2.result _ (IsHonestJournal new × StandsFor old.now (records_of new.now))
-    (λ next two. found old mid new c.in_ok-place.place next (c.in_ok-place.ensures.opened before) (two clean) clean has) c.open_part-2.ensures.opened
+    (λ next two. found old mid new c.in_ok-place.place next (c.in_ok-place.ensures.opened before) (two clean) clean (c.in_ok-place.ensures.apart before refl) has) c.open_part-2.ensures.opened
 
 pub returns-clause-bad : goal.returns-clause-bad
 returns-clause-bad g c clean has =
@@ -57,7 +57,24 @@ returns-clause-bad g c clean has =
     let mid = state g.S.Store c.open_part.new.conn in
     let new = state g.S.Store c.open_part-2.new.conn in
     let before = earlier_clean mid new c.open_part-2.ensures.stop.clean clean in
-    when_err c.open_part-2.result _ _ (λ e two. bad_second old mid new c.in_ok-place.place e (c.in_ok-place.ensures.opened before) (two clean) has) c.open_part-2.ensures.refused
+    when_err c.open_part-2.result _ _
+    (λ e two. bad_second old mid new c.in_ok-place.place e (c.in_ok-place.ensures.opened before) (two clean) (c.in_ok-place.ensures.apart before refl) has) c.open_part-2.ensures.refused
+
+pub returns-clause-rowless : goal.returns-clause-rowless
+returns-clause-rowless g c clean none lacks =
+    let mid = state g.S.Store c.open_part.new.conn in
+    let new = state g.S.Store c.open_part-2.new.conn in
+    let before = earlier_clean mid new c.open_part-2.ensures.stop.clean clean in
+    when_err c.open_part-2.result _ _ (λ e two. (two clean).rowless (c.in_ok-place.ensures.apart before refl lacks)) c.open_part-2.ensures.refused
+
+pub returns-clause-spared : goal.returns-clause-spared
+returns-clause-spared g c clean =
+    let old = state g.S.Store c.args.conn.now in
+    let mid = state g.S.Store c.open_part.new.conn in
+    let new = state g.S.Store c.open_part-2.new.conn in
+    let before = earlier_clean mid new c.open_part-2.ensures.stop.clean clean in
+    when_refused c.open_part-2.result _ (SparesRows old new)
+    (λ e two. spared_second old mid new c.in_ok-place.place e (c.in_ok-place.ensures.opened before) (two clean)) c.open_part-2.ensures.refused
 
 pub returns-clause-stop : goal.returns-clause-stop
 returns-clause-stop g c =

@@ -4,7 +4,7 @@ use Rattle.urb_sqlite.proofs.AppliedLemmas.{applies-size}
 use Rattle.urb_sqlite.proofs.stopping.applied.Goals as goal
 
 pub returns-clause-sized : goal.returns-clause-sized
-returns-clause-sized g c = applies-size g.S.Stable c.args.cluster.now c.apply-reply.new.self c.args.command.now _ c.rests.ensures.sound c.apply-reply.ensures.applied
+returns-clause-sized g c = applies-size g.S.Stable c.args.cluster.now c.apply.new.self c.args.command.now _ c.rests.ensures.sound c.apply.ensures.applied
 
 pub returns-clause-leaves : goal.returns-clause-leaves
-returns-clause-leaves g c stores same secured = subst (λ (xs : List _). WouldLeave g.S.Stable secured.stocked.world xs) (sym same) (c.apply-reply.ensures.leaves secured)
+returns-clause-leaves g c stores same secured = subst (λ (xs : List _). WouldLeave g.S.Stable secured.stocked.world xs) (sym same) (c.apply.ensures.leaves secured)

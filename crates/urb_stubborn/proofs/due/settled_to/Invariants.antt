@@ -3,7 +3,7 @@ use Rattle.urb_names.specs.Carried.{is_due}
 use Rattle.urb_names.specs.Names.{name}
 use Rattle.urb_stubborn.proofs.due.settled_to.Given as goal
 
--- none is due so far
+-- no name is due so far
 abbrev pub invariant-loop-end : goal.invariant-loop-end
 invariant-loop-end g l = (l.from ≤ l.end) × ((k : ℕ) → l.from < k → k ≤ l.end → is_due l.config.n l.node l.heard.marks (name l.sender k) ≡ false)
 

@@ -3,7 +3,7 @@ use Rattle.urb_names.specs.Nodes.{nodes, numbers_from}
 use Rattle.urb_window.specs.Masks.{has_bit}
 use Rattle.urb_window.proofs.mask.bits_up_to.Given as goal
 
--- those counted so far, and those among the nodes that are left
+-- the nodes counted so far, and those still to count
 abbrev pub invariant-loop-number : goal.invariant-loop-number
 invariant-loop-number l = record {
   first : 1 ≤ l.number;

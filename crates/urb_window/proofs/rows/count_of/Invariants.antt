@@ -3,7 +3,7 @@ use Rattle.urb_window.specs.Rows.{entries_from}
 use Rattle.urb_window.proofs.Walked.{entries_at}
 use Rattle.urb_window.proofs.rows.count_of.Given as goal
 
--- those counted so far, and those of the rows that are left
+-- the values counted so far, and those of the remaining rows
 abbrev pub invariant-loop-row : goal.invariant-loop-row
 invariant-loop-row g l = record {
   all : l.count + length (entries_at l.row-index l.rows) ≡ length (entries_from 1 l.rows);

@@ -4,6 +4,6 @@ use Rattle.urb_window.proofs.Walked.{entries_at}
 use Rattle.urb_window.specs.Rows.{entries_from}
 use Rattle.urb_window.proofs.rows.entry_of.Given as goal
 
--- the entry stands among those of the rows that are left
+-- the entry is among those of the remaining rows
 abbrev pub invariant-loop-i : goal.invariant-loop-i
 invariant-loop-i g l = slice_get (entries_at l.i l.rows) l.left ≡ slice_get (entries_from 1 l.rows) l.index

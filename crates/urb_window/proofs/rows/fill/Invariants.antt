@@ -4,7 +4,7 @@ use Rattle.urb_window.specs.Row.{IsRow}
 use Rattle.urb_window.specs.Rows.{entries_from}
 use Rattle.urb_window.proofs.rows.fill.Given as goal
 
--- the same entries, in rows that are as before where there were seven
+-- the same entries, in rows that are unchanged if there were seven
 abbrev pub invariant-loop-alloc : goal.invariant-loop-alloc
 invariant-loop-alloc g l = record {
   entries : entries_from 1 l.rows.items ≡ entries_from 1 l.initial.rows.items;

@@ -3,7 +3,7 @@ use Rattle.std.specs.VecDeque.{deque_len}
 use Rattle.urb_window.specs.Row.{AreOver, counted_from}
 use Rattle.urb_window.proofs.window.close_gap.Given as goal
 
--- the same pairs, those above over the lower part, and room for them all
+-- the same pairs, an upper part above the lower one, and space for all of them
 abbrev pub invariant-loop-value : goal.invariant-loop-value
 invariant-loop-value g l = record {
   pairs : counted_from 1 l.low.items ++ l.above.items ≡ counted_from 1 l.initial.low.items ++ l.initial.above.items;

@@ -5,6 +5,6 @@ use Rattle.urb_worker.specs.Turns.{Ends}
 
 pub returns : goal.returns
 returns g c j before after came done turn said =
-    let kept = stored-in g.S.Stable before after j turn.lent turn.given_back turn.lent_again turn.left turn.at turn.new turn.events (came.events - turn.events) came.status came.told done turn.begins turn.stores
-    (subst (λ r. Ends turn.lent_again j turn.new turn.left r came.status came.told (came.events - turn.events)) said turn.finishes) in
+    let kept = stored-in g.S.Stable before after j turn.lent turn.given_back turn.lent_again turn.left turn.at turn.new turn.events (came.events - turn.events) came.status came.settling done turn.begins turn.stores
+    (subst (λ r. Ends turn.lent_again j turn.new turn.left r came.status came.settling (came.events - turn.events)) said turn.finishes) in
     (kept.draft, kept.drafted, kept.kept, kept.certain)

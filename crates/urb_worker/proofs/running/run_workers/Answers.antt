@@ -5,6 +5,6 @@ pub scoped-requires : goal.scoped-requires
 scoped-requires g c = record {
   at = λ _. (
     (c.requires.nodes.0, c.requires.nodes.1, c.requires.lines),
-    (search rules, search rules, search rules, search rules, search rules, search rules),
+    (search rules, search rules, search rules, search rules, search rules, search rules, search rules),
   );
 }

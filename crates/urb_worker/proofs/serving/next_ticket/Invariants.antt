@@ -1,7 +1,7 @@
 use Rattle.std.proofs.Common.{◌≤◌}
 use Rattle.urb_worker.proofs.serving.next_ticket.Given as goal
 
--- looks are only used up
+-- the number of polls only falls
 abbrev pub invariant-loop-looks : goal.invariant-loop-looks
 invariant-loop-looks g l = l.looks ≤ l.fn.looks
 

@@ -43,14 +43,14 @@ returns-in_err-add-clause-roomy g c =
 none_before : (g : _) (c : After-self-1 g) → has_name c.self.inside.certified.names c.args.name ≡ false
 none_before g c = search rules
 
--- the name stands in its place
+-- the name is at its place
 certified_is : (g : _) (c : After-self-1 g) → c.add.new.self.names ≡ placed name_lt c.self.inside.certified.names c.args.name
 certified_is g c =
     let old = c.self.inside.certified.names in
     let x = c.args.name in
     c.in_ok-add.ensures.ok ∙ cond-false (has_name old x) old (placed name_lt old x) (none_before g c)
 
--- the log goes on with what is released
+-- the released names are appended to the log
 log_is : (g : _) (c : After-self-1 g) → c.release.new.log.items ≡ c.self.inside.log.items ++ newly_released c.self.inside.log.items c.self.inside.certified.names c.args.name
 log_is g c =
     let names = ap (λ (d : Delivery). newly_released d.log d.certified c.args.name) c.self.view_is ∙ c.released_by-from.ensures.names in
@@ -71,13 +71,13 @@ returns-clause-release g c =
     λ older h.
     release_goes_on older (view_of c.self.inside) _ c.args.name (subst (IsReleaseOf older) (sym c.self.view_is) h) (log_is g c) (certified_is g c)
 
--- the log's growth was refused
+-- the allocation for the log was refused
 pub invariant_of-self : goal.invariant_of-self
 invariant_of-self g c =
     let grown = c.reserve.ensures in
     kept_bigger c.self.inside _ refl refl refl (λ room. room) grown.items grown.len grown.capacity c.self.invariant
 
--- the certificates' was
+-- the allocation for the certificates was refused
 pub invariant_of-self-in_err-add : goal.invariant_of-self-in_err-add
 invariant_of-self-in_err-add g c =
     let log = c.reserve.ensures in

@@ -19,7 +19,7 @@ invariant_of-self-in_err-make_room g c =
     let log = c.reserve.ensures in
     kept_bigger c.self.inside _ refl refl c.make_room.ensures.names c.in_err-make_room.ensures.err log.items log.len log.capacity c.self.invariant
 
--- the log's growth was refused
+-- the allocation for the log was refused
 pub invariant_of-self : goal.invariant_of-self
 invariant_of-self g c =
     let grown = c.reserve.ensures in

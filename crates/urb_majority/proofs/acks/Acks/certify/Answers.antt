@@ -6,7 +6,7 @@ use Rattle.urb_majority.specs.Acks.{AckSet}
 use Rattle.urb_majority.proofs.Rooms.{kept_bigger, kept_certified}
 use Rattle.urb_majority.proofs.acks.Acks.certify.Goals as goal
 
--- the growth was refused
+-- the allocation was refused
 pub invariant_of-self : goal.invariant_of-self
 invariant_of-self g c =
     let same = c.in_err-add.ensures.err in

@@ -6,7 +6,7 @@ use Rattle.urb_window.proofs.Roomy.{roomy_with}
 use Rattle.urb_majority.proofs.Rooms.{kept_bigger, kept_noted}
 use Rattle.urb_majority.proofs.acks.Acks.note.Goals as goal
 
--- the growth was refused
+-- the allocation was refused
 pub invariant_of-self : goal.invariant_of-self
 invariant_of-self g c = kept_bigger c.self.inside _ refl c.in_err-add.ensures.err refl (λ room. room) c.self.invariant
 

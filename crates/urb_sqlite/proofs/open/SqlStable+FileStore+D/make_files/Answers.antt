@@ -1,6 +1,8 @@
 use Rattle.sqlite.specs.State.{HasCleanDisk}
 use Rattle.sqlite.specs.Files.{file_state}
+use Rattle.urb_sqlite.specs.Journal.{journal_name, second_name}
 use Rattle.urb_sqlite.proofs.KeepLemmas.{earlier_clean}
+use Rattle.urb_sqlite.proofs.SchemaLemmas.{bare_lacks}
 use Rattle.urb_sqlite.proofs.open.SqlStable+FileStore+D.make_files.Goals as goal
 
 pub returns-in-Ok-adopt-clause-clean : goal.returns-in-Ok-adopt-clause-clean
@@ -11,4 +13,5 @@ pub returns-in-Ok-adopt-clause-fresh : goal.returns-in-Ok-adopt-clause-fresh
 returns-in-Ok-adopt-clause-fresh g c clean =
     let early : HasCleanDisk (file_state c.in-Ok.conn) =
     earlier_clean (file_state c.in-Ok.conn) (file_state c.in-Ok-adopt.journal.conn) c.in-Ok-adopt.ensures.stop.clean clean in
-    c.in-Ok-adopt.ensures.fresh clean (c.in-Ok.ensures.bare early)
+    let lacks = bare_lacks (file_state c.in-Ok.conn).now.schema (c.in-Ok.ensures.bare early) in
+    c.in-Ok-adopt.ensures.fresh clean (lacks journal_name) (lacks second_name)

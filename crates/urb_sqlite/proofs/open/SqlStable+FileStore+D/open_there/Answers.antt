@@ -1,7 +1,8 @@
 use Rattle.sqlite.specs.State.{HasCleanDisk}
 use Rattle.sqlite.specs.Files.{file_state, image_of}
 use Rattle.urb_sqlite.proofs.KeepLemmas.{earlier_clean}
-use Rattle.urb_sqlite.proofs.SchemaLemmas.{finds_journal, finds_nothing}
+use Rattle.urb_sqlite.proofs.SchemaLemmas.{empty_is_nothing, finds_bare, finds_base, finds_journal, finds_nothing}
+use Rattle.urb_sqlite.specs.Journal.{journal_name, second_name}
 use Rattle.urb_sqlite.proofs.open.SqlStable+FileStore+D.open_there.Goals as goal
 
 pub returns-in-Ok-adopt-clause-found : goal.returns-in-Ok-adopt-clause-found
@@ -26,4 +27,34 @@ returns-in-Ok-adopt-clause-fresh g c clean none =
     let early : HasCleanDisk conn = earlier_clean conn now c.in-Ok-adopt.ensures.stop.clean clean in
     let opened = c.in-Ok.ensures.opened early in
     let found = c.in-Ok.ensures.found early in
-    c.in-Ok-adopt.ensures.fresh clean (finds_nothing conn (image_of g.D.Disk c.args.files) opened.1 opened.0 none found.reads)
+    let lacks = finds_nothing conn (image_of g.D.Disk c.args.files) opened.1 opened.0 (empty_is_nothing (image_of g.D.Disk c.args.files) none) found.reads in
+    c.in-Ok-adopt.ensures.fresh clean (lacks journal_name) (lacks second_name)
+
+pub returns-in-Ok-adopt-clause-unmade : goal.returns-in-Ok-adopt-clause-unmade
+returns-in-Ok-adopt-clause-unmade g c clean none =
+    let conn = file_state c.in-Ok.conn in
+    let now = file_state c.in-Ok-adopt.journal.conn in
+    let early : HasCleanDisk conn = earlier_clean conn now c.in-Ok-adopt.ensures.stop.clean clean in
+    let opened = c.in-Ok.ensures.opened early in
+    let found = c.in-Ok.ensures.found early in
+    let lacks = finds_nothing conn (image_of g.D.Disk c.args.files) opened.1 opened.0 none found.reads in
+    c.in-Ok-adopt.ensures.fresh clean (lacks journal_name) (lacks second_name)
+
+pub returns-in-Ok-adopt-clause-empty : goal.returns-in-Ok-adopt-clause-empty
+returns-in-Ok-adopt-clause-empty g c clean db holds bare =
+    let conn = file_state c.in-Ok.conn in
+    let now = file_state c.in-Ok-adopt.journal.conn in
+    let early : HasCleanDisk conn = earlier_clean conn now c.in-Ok-adopt.ensures.stop.clean clean in
+    let opened = c.in-Ok.ensures.opened early in
+    let found = c.in-Ok.ensures.found early in
+    let lacks = finds_bare conn db opened.1 opened.0 (found.holds db holds) bare in
+    c.in-Ok-adopt.ensures.fresh clean (lacks journal_name) (lacks second_name)
+
+pub returns-in-Ok-adopt-clause-adopted : goal.returns-in-Ok-adopt-clause-adopted
+returns-in-Ok-adopt-clause-adopted g c clean db holds base =
+    let conn = file_state c.in-Ok.conn in
+    let now = file_state c.in-Ok-adopt.journal.conn in
+    let early : HasCleanDisk conn = earlier_clean conn now c.in-Ok-adopt.ensures.stop.clean clean in
+    let opened = c.in-Ok.ensures.opened early in
+    let found = c.in-Ok.ensures.found early in
+    finds_base conn now db opened.1 opened.0 (found.holds db holds) base (c.in-Ok-adopt.ensures.found clean)

@@ -3,7 +3,7 @@ use Rattle.urb_stubborn.specs.Walking.{between, due_pairs}
 use Rattle.urb_stubborn.proofs.Round.{Walks}
 use Rattle.urb_stubborn.proofs.resend.Resend.send.Given as goal
 
--- so many names have their packets
+-- the names so far have their packets
 abbrev pub invariant-loop-left : goal.invariant-loop-left
 invariant-loop-left g l =
     Walks l.self l.certified.names (between l.fn.from l.last (due_pairs l.self l.pending.pairs)) l.fn.turn l.fn.packets.items l.left (between l.at l.last (due_pairs l.self l.pending.pairs)) l.cursor l.packets.items

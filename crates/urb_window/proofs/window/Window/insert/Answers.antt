@@ -8,7 +8,7 @@ use Rattle.urb_window.proofs.Placed.{absent_low, over_placed, placed_above}
 use Rattle.urb_window.proofs.Rooms.{roomy_bigger, roomy_unreserved}
 use Rattle.urb_window.proofs.window.Window.insert.Goals as goal
 
--- the growth of the lower part was refused
+-- the lower part's allocation was refused
 pub invariant_of-self : goal.invariant_of-self
 invariant_of-self g c =
     let kept = c.in_err-extend.ensures in
@@ -28,7 +28,7 @@ returns-in_err-extend-clause-reserved g c =
     let ok = c.extend.ensures.roomy enough in
     search rules
 
--- the growth of the upper part was refused
+-- the upper part's allocation was refused
 pub invariant_of-self-in_err-put_above : goal.invariant_of-self-in_err-put_above
 invariant_of-self-in_err-put_above g c =
     let kept = c.in_err-put_above.ensures in

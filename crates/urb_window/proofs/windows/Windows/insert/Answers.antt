@@ -10,7 +10,7 @@ use Rattle.urb_window.proofs.Changed.{all_set}
 use Rattle.urb_window.proofs.Filed.{found_here, inserted_here, kept_filled, kept_unreserved, row_here}
 use Rattle.urb_window.proofs.windows.Windows.insert.Goals as goal
 
--- rows were refused
+-- the allocation of rows was refused
 pub invariant_of-self : goal.invariant_of-self
 invariant_of-self g c = kept_filled c.self.inside _ refl c.fill.ensures.most c.fill.ensures.rows (λ e. (c.fill.ensures.full e).0) c.self.invariant
 
@@ -33,7 +33,7 @@ insert-requires-clause-absent g c =
     ∙ (ap (λ y. value_of (entries_from 1 rows) y) c.name.view_is
     ∙ (ap (λ es. value_of es c.args.name) (c.fill.ensures.entries ∙ ap (λ set. set.entries) c.self.view_is) ∙ c.requires.absent))
 
--- the row was refused its growth
+-- the row's own allocation was refused
 pub invariant_of-self-in-Err-insert : goal.invariant_of-self-in-Err-insert
 invariant_of-self-in-Err-insert g c =
     let rows = c.fill.new.rows.items in

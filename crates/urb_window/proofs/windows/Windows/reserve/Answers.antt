@@ -6,11 +6,11 @@ use Rattle.urb_window.specs.Rows.{entries_from}
 use Rattle.urb_window.proofs.Filed.{kept_filled, kept_reserved, same_here}
 use Rattle.urb_window.proofs.windows.Windows.reserve.Goals as goal
 
--- rows were refused
+-- the allocation of rows was refused
 pub invariant_of-self : goal.invariant_of-self
 invariant_of-self g c = kept_filled c.self.inside _ refl c.fill.ensures.most c.fill.ensures.rows (λ e. (c.fill.ensures.full e).0) c.self.invariant
 
--- the row was refused its growth
+-- the row's own allocation was refused
 pub invariant_of-self-in_err-reserve : goal.invariant_of-self-in_err-reserve
 invariant_of-self-in_err-reserve g c =
     let rows = c.fill.new.rows.items in

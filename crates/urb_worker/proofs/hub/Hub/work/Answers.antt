@@ -12,7 +12,7 @@ returns-then-is_stored-clause-turn g c =
     (whole g.S.Stable c.args.node c.args.job c.args.store.now c.args.store.now c.finish-done.result _ _ _ _ c.begin-turn.result c.begin-turn.result runs c.begin-turn.ensures.job refl c.finish-done.ensures.sound
     c.begin-turn.ensures.step (stores_none g.S.Stable c.args.store.now c.args.store.now c.begin-turn.result.stage (search rules)) c.finish-done.ensures.step)
 
--- the store did its part in between
+-- the store did its part between the two events
 pub returns-clause-turn : goal.returns-clause-turn
 returns-clause-turn g c =
     let runs : runs_at c.args.node c.args.job ≡ true = search rules in

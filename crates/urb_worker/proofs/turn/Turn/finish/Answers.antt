@@ -1,7 +1,7 @@
 use Rattle.std.proofs.Common.{◌≡◌, ◌+◌, ◌-◌, arith}
 use Rattle.urb_worker.proofs.turn.Turn.finish.Goals as goal
 
--- the events of the last call alone
+-- only the events of the last call
 pub returns-clause-step : goal.returns-clause-step
 returns-clause-step g c =
     let alone : c.self.inside.count + c.ended-reply.result.events - c.self.inside.count ≡ c.ended-reply.result.events = omega arith in

@@ -1,0 +1,6 @@
+mod Parsing
+mod NumbersRead
+mod Digits
+mod Building
+mod Showing
+mod Pushing

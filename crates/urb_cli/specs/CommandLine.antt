@@ -1,0 +1,88 @@
+-- The command line of the program, in the terms of its parser.
+use Rattle.std.specs.Prelude.{◌≡◌, ◌⊎◌, ℕ, ℤ, pos, List, [], ◌∷◌, true, codes, Some}
+use Rattle.clap.specs.Words.{App, Rule, Text, new_app, new_rule, with_rule, with_subcommand, fault_of, Kinds, IsAmong}
+use Rattle.clap.specs.declared.builder.action.ArgAction.TheVariants.{Set}
+use Rattle.clap.specs.declared.builder.value_parser.ValueParser.{ValueParser}
+use Rattle.clap.specs.declared.builder.value_parser.ValueParser.TheVariants as vp
+use Rattle.clap.specs.declared.error.kind.ErrorKind.{ErrorKind}
+use Rattle.clap.specs.declared.error.kind.ErrorKind.TheVariants.{OutOfMemory, DisplayHelp}
+
+-- a required word at its place
+abbrev pub place_rule : Text → Rule
+place_rule name = record (new_rule name) { required = true; action = Some Set }
+
+-- a required option with a value that this parser takes
+abbrev pub option_rule : Text → ValueParser → Rule
+option_rule name parser = record (place_rule name) { long = Some name; parser = Some parser }
+
+-- a required option with any text except an empty one
+abbrev pub text_rule : Text → Rule
+text_rule name = option_rule name vp.NonEmptyString
+
+-- a required option with a number from low to high
+abbrev pub number_rule : Text → ℤ → ℤ → Rule
+number_rule name low high = option_rule name (vp.Signed low high)
+
+-- `replay` takes no words of its own
+abbrev pub replay_app : App
+replay_app = new_app (codes "replay")
+
+-- `serve` takes the number of nodes, the cap, the folder, the base of the ports, and how often
+-- nodes resend
+abbrev pub serve_app : App
+serve_app =
+    with_rule (with_rule (with_rule (with_rule (with_rule (new_app (codes "serve"))
+    (number_rule (codes "nodes") (pos 1) (pos 7)))
+    (number_rule (codes "cap") (pos 1) (pos 1000000)))
+    (text_rule (codes "dir")))
+    (number_rule (codes "base-port") (pos 1024) (pos 65000)))
+    (number_rule (codes "tick-ms") (pos 1) (pos 60000))
+
+-- `submit` takes a port, a client, its number, and the payload
+abbrev pub submit_app : App
+submit_app =
+    with_rule (with_rule (with_rule (with_rule (new_app (codes "submit"))
+    (number_rule (codes "port") (pos 1) (pos 65535)))
+    (number_rule (codes "client") (pos 1) (pos 65535)))
+    (number_rule (codes "number") (pos 0) (pos 4294967295)))
+    (place_rule (codes "TEXT"))
+
+-- `read` takes a port, a place, and the greatest number of entries
+abbrev pub read_app : App
+read_app =
+    with_rule (with_rule (with_rule (new_app (codes "read"))
+    (number_rule (codes "port") (pos 1) (pos 65535)))
+    (number_rule (codes "from") (pos 1) (pos 4294967295)))
+    (number_rule (codes "max") (pos 1) (pos 8))
+
+-- the program needs one of its subcommands
+abbrev pub bare_app : App
+bare_app = record { top = record (new_app (codes "urbd")).top { subcommand_required = true }; subs = [] }
+
+-- the program with its subcommands
+abbrev pub urbd_app : App
+urbd_app =
+    with_subcommand (with_subcommand (with_subcommand (with_subcommand bare_app
+    replay_app.top) serve_app.top) submit_app.top) read_app.top
+
+-- the faults that the parser finds first in these words: no fault if they are a command line of the
+-- program
+abbrev pub faults_of : List Text → Kinds
+faults_of words = fault_of urbd_app words
+
+-- 0 for help that was asked for, 1 if memory was refused, 3 for every other command line that the
+-- parser refuses
+abbrev pub parser_status : ErrorKind → ℕ
+parser_status OutOfMemory = 1
+parser_status DisplayHelp = 0
+parser_status _ = 3
+
+-- the status that a refused command line ends with: that of its kind, or 1 for help that could not
+-- be written
+abbrev pub IsToldBy : ErrorKind → ℕ → Type 0
+IsToldBy kind status = (status ≡ parser_status kind) ⊎ ((kind ≡ DisplayHelp) × (status ≡ 1))
+
+-- the status is that of one of these kinds, or of refused memory
+abbrev pub HasStatus : Kinds → ℕ → Type 0
+HasStatus kinds status =
+    (kind : ErrorKind) × ((kind ≡ OutOfMemory) ⊎ IsAmong kind kinds) × IsToldBy kind status

@@ -1,0 +1,52 @@
+-- The program's status after a run of a script, a response, or a client's command.
+use Rattle.std.specs.Prelude.{ℕ, Err, Ok, Result, ◌≡◌, ◌⊎◌}
+use Rattle.urb_names.specs.Refusing.{detail_of, number_of}
+use Rattle.urb_names.specs.declared.refusal.Refusal.{Refusal}
+use Rattle.urb_names.specs.declared.refusal.Refusal.TheVariants as refusal
+use Rattle.urb_cli.specs.declared.faults.Fault.{Fault}
+use Rattle.urb_cli.specs.declared.faults.Fault.TheVariants as fault
+use Rattle.urb_cli.specs.declared.lines.Errand.{Errand}
+use Rattle.urb_cli.specs.declared.lines.Errand.TheVariants as errand
+use Rattle.urb_client.specs.declared.receiving.ResponseFault.{ResponseFault}
+use Rattle.urb_client.specs.declared.receiving.ResponseFault.TheVariants as response
+use Rattle.urb_script.specs.declared.runs.Ended.{Ended}
+use Rattle.urb_script.specs.declared.runs.Ended.TheVariants.{Whole, BadLine}
+use Rattle.urb_script.specs.declared.runs.RunFault.{RunFault}
+use Rattle.urb_script.specs.declared.runs.RunFault.TheVariants.{Read, Write, NoMemory}
+
+-- 0 for a script that is whole, 2 for one with a bad line, 1 for a fault
+abbrev pub status_of : Result Ended RunFault → ℕ
+status_of (Ok Whole) = 0
+status_of (Ok (BadLine line)) = 2
+status_of (Err broken) = 1
+
+-- a run of a script ends well, with a fault, or with a bad line
+abbrev pub IsScriptsEnd : ℕ → Type 0
+IsScriptsEnd status = (status ≡ 0) ⊎ (status ≡ 1) ⊎ (status ≡ 2)
+
+-- a client's command ends well, with a fault, or with a refusal of the node
+abbrev pub IsClientsEnd : ℕ → Type 0
+IsClientsEnd status = (status ≡ 0) ⊎ (status ≡ 1) ⊎ (status ≡ 4)
+
+-- an errand ends like its run if it is a script, and else like a client's command
+abbrev pub IsErrandsEnd : Errand → ℕ → Type 0
+IsErrandsEnd errand.Replay status = IsScriptsEnd status
+IsErrandsEnd (errand.Submit submitting) status = IsClientsEnd status
+IsErrandsEnd (errand.Read reading) status = IsClientsEnd status
+
+-- the program's fault for a fault of a run
+abbrev pub fault_of_run : RunFault → Fault
+fault_of_run Read = fault.Read
+fault_of_run Write = fault.Write
+fault_of_run NoMemory = fault.NoMemory
+
+-- the program's fault if there is no response
+abbrev pub fault_of_response : ResponseFault → Fault
+fault_of_response response.Read = fault.Read
+fault_of_response response.NoMemory = fault.NoMemory
+fault_of_response response.NoResponse = fault.BadReply
+
+-- the program's fault for a refusal at an opening
+abbrev pub fault_of_refusal : Refusal → Fault
+fault_of_refusal refusal.NoMemory = fault.NoMemory
+fault_of_refusal r = fault.Refused (number_of r) (detail_of r)

@@ -1,0 +1,100 @@
+-- What a command line asks for.
+use Rattle.std.specs.Prelude.{ℕ, Bool, ◌&&◌, nat_lt, nat_le, List, [], ◌∷◌, length, Option, Some, None, option_and_then, if◌then◌else◌, codes}
+use Rattle.std.specs.List.{list_all}
+use Rattle.std.specs.Char.{digit_value}
+use Rattle.std.specs.Str.{bytes_eq}
+use Rattle.std.specs.Str.Parse.{digits_value, without_leading_plus}
+use Rattle.clap.specs.Words.{Row, Text, first_of, one_of}
+use Rattle.urb_client.specs.Reading.{◌>>=◌}
+use Rattle.urb_cli.specs.declared.serving.Serving.{Serving}
+use Rattle.urb_cli.specs.declared.lines.Submitting.{Submitting}
+use Rattle.urb_cli.specs.declared.lines.Reading.{Reading}
+use Rattle.urb_cli.specs.declared.lines.Errand.{Errand}
+use Rattle.urb_cli.specs.declared.lines.Errand.TheVariants as errand
+use Rattle.urb_cli.specs.declared.lines.Line.{Line}
+use Rattle.urb_cli.specs.declared.lines.Line.TheVariants as line
+
+-- What the program has to do: run a script; run a group; submit a text; or read entries. A group
+-- has its nodes, cap, folder, base of the ports, and pause between resends. A text is submitted at
+-- a port, as a client, under a number. Entries are read at a port, from a place on, up to a number
+-- of them.
+pub data Task : Type 0 where
+  Replay : Task
+  Serve : ℕ → ℕ → Text → ℕ → ℕ → Task
+  Submit : ℕ → ℕ → ℕ → Text → Task
+  Read : ℕ → ℕ → ℕ → Task
+
+-- the task of a group to run
+abbrev pub task_of_serving : Serving → Task
+task_of_serving s = Serve s.nodes s.cap s.dir.now s.base s.every
+
+-- the task of a message to submit
+abbrev pub task_of_submitting : Submitting → Task
+task_of_submitting s = Submit s.port s.client s.number s.text.now
+
+-- the task of entries to read
+abbrev pub task_of_reading : Reading → Task
+task_of_reading r = Read r.port r.from r.max
+
+-- the task of an errand
+abbrev pub task_of_errand : Errand → Task
+task_of_errand errand.Replay = Replay
+task_of_errand (errand.Submit s) = task_of_submitting s
+task_of_errand (errand.Read r) = task_of_reading r
+
+-- the task of a command line
+abbrev pub task_of : Line → Task
+task_of (line.Serve s) = task_of_serving s
+task_of (line.Errand e) = task_of_errand e
+
+-- the digits are a number in decimal
+abbrev pub is_decimal : Text → Bool
+is_decimal digits = nat_lt 0 (length digits) && list_all (λ d. nat_lt (digit_value d) 10) digits
+
+-- The number that a text writes in decimal, if it is from low to high. A plus may come before it.
+abbrev pub number_in : ℕ → ℕ → Text → Option ℕ
+number_in low high text =
+    let digits = without_leading_plus text in
+    if is_decimal digits && (nat_le low (digits_value 10 digits) && nat_le (digits_value 10 digits) high)
+    then Some (digits_value 10 digits) else None
+
+-- the value of an option, as a number
+abbrev pub number_of : Text → ℕ → ℕ → List Row → Option ℕ
+number_of name low high rows = option_and_then (number_in low high) (one_of name rows)
+
+-- a group to run, from its options
+unfoldable pub serve_task : List Row → Option Task
+serve_task rows = do
+  nodes ← number_of (codes "nodes") 1 7 rows
+  cap ← number_of (codes "cap") 1 1000000 rows
+  dir ← first_of (codes "dir") rows
+  base ← number_of (codes "base-port") 1024 65000 rows
+  every ← number_of (codes "tick-ms") 1 60000 rows
+  Some (Serve nodes cap dir base every)
+
+-- a message to submit, from its options and its text
+unfoldable pub submit_task : List Row → Option Task
+submit_task rows = do
+  port ← number_of (codes "port") 1 65535 rows
+  client ← number_of (codes "client") 1 65535 rows
+  number ← number_of (codes "number") 0 4294967295 rows
+  text ← first_of (codes "TEXT") rows
+  Some (Submit port client number text)
+
+-- entries to read, from their options
+unfoldable pub read_task : List Row → Option Task
+read_task rows = do
+  port ← number_of (codes "port") 1 65535 rows
+  from ← number_of (codes "from") 1 4294967295 rows
+  max ← number_of (codes "max") 1 8 rows
+  Some (Read port from max)
+
+-- the task of a subcommand, from what was found for it
+abbrev pub task_named : Option (Text × List Row) → Option Task
+task_named None = None
+task_named (Some (name, rows)) =
+    if bytes_eq name (codes "replay") then Some Replay
+    else if bytes_eq name (codes "serve") then serve_task rows
+    else if bytes_eq name (codes "submit") then submit_task rows
+    else if bytes_eq name (codes "read") then read_task rows
+    else None

@@ -1,0 +1,7 @@
+//! Tests of `urb_cli`, in a crate of their own.
+//!
+//! What the tests call is proved once, and the tests see what users of the crate see.
+#![tactic(auto)]
+
+#[cfg(test)]
+mod tests;

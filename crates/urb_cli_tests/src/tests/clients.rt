@@ -1,0 +1,269 @@
+//! The commands of a client, over bytes in memory and over a socket.
+
+ghost use Rattle.std.specs.Prelude.{◌<◌, ◌≤◌, length};
+
+use std::alloc::Global;
+use std::io::{Read, Write};
+use std::net::{Ipv4Addr, Net, TcpListener, TcpStream};
+use std::test::Fail;
+use std::thread;
+use std::thread::Threads;
+use urb_cli::{
+    Fault, Printed, Reading, Submitting, read_at, read_over, show, submit_at, submit_over,
+};
+use urb_names::MAX_PAYLOAD;
+use urb_terminal::Terminal;
+
+/// What client 7 submits as its first message.
+fn hi(port: u16) -> Submitting<'static>
+    requires { 0 < port }
+    ensures { length result.text.now ≤ MAX_PAYLOAD }
+{
+    Submitting {
+        port,
+        client: 7,
+        number: 1,
+        text: "hi",
+    }
+}
+
+/// The first page of a log.
+fn page(port: u16) -> Reading
+    requires { 0 < port }
+{
+    Reading {
+        port,
+        from: 1,
+        max: 8,
+    }
+}
+
+/// Whether this is shown, with this status.
+fn shows(outcome: &Result<Printed, Fault>, text: &[u8], status: u8) -> bool {
+    match outcome {
+        Ok(shown) => shown.text.as_slice() == text && shown.status == status,
+        Err(_) => false,
+    }
+}
+
+fn fails(outcome: &Result<Printed, Fault>, fault: Fault) -> bool {
+    match outcome {
+        Ok(_) => false,
+        Err(other) => *other == fault,
+    }
+}
+
+const ACCEPTED: &[u8] = b"\x00\x05\x81\x00\x00\x00\x01";
+
+const GAP: &[u8] = b"\x00\x06\xee\x07\x00\x00\x00\x02";
+
+/// Two entries: `hi`, and one without a payload.
+const ENTRIES: &[u8] =
+    b"\x00\x1e\x82\x02\x01\x00\x00\x00\x01\x00\x07\x00\x00\x00\x01\x00\x02hi\x03\x00\x00\x01\x00\x00\x09\x00\x00\x00\x0c\x00\x00";
+
+const ENTRIES_TEXT: &[u8] = b"1.1 7 1 6869\n3.256 9 12 -\n";
+
+/// Bytes that are no response, are cut, or answer neither a submit nor a read.
+const BAD: [&[u8]; 6] = [
+    b"",
+    b"\x00",
+    b"\x00\x05\x81\x00\x00\x00",
+    b"\x00\x00",
+    b"\x00\x01\x84",
+    b"\x00\x0a\x83\x01\x00\x00\x00\x01\x00\x00\x00\x01",
+];
+
+#[test]
+fn a_submit_shows_its_response(rt: HostRuntime) -> Result<(), Fail> {
+    let submitting = hi(1);
+    for (sent, text, status) in [
+        (ACCEPTED, b"accepted 1\n".as_slice(), 0),
+        (GAP, b"refused 7 2\n", 4),
+        (b"\x00\x06\xee\x13\x00\x00\x00\x04", b"refused 19 4\n", 4),
+        (
+            b"\x00\x05\x81\xff\xff\xff\xffmore",
+            b"accepted 4294967295\n",
+            0,
+        ),
+    ] {
+        let mut reader = sent;
+        let mut written = Vec::new(rt.alloc());
+        let outcome = submit_over(rt.alloc(), &mut reader, &mut written, submitting);
+        assert!(rt; shows(&outcome, text, status));
+        assert_eq!(rt;
+            written.as_slice(),
+            b"\x00\x09\x01\x00\x07\x00\x00\x00\x01hi".as_slice()
+        );
+    }
+    for sent in &BAD {
+        let mut reader = *sent;
+        let mut written = Vec::new(rt.alloc());
+        let outcome = submit_over(rt.alloc(), &mut reader, &mut written, submitting);
+        assert!(rt; fails(&outcome, Fault::BadReply));
+    }
+    let mut reader = ENTRIES;
+    let mut written = Vec::new(rt.alloc());
+    let outcome = submit_over(rt.alloc(), &mut reader, &mut written, submitting);
+    assert!(rt; fails(&outcome, Fault::BadReply));
+    Ok(())
+}
+
+#[test]
+fn a_read_shows_its_response(rt: HostRuntime) -> Result<(), Fail> {
+    for (sent, text, status) in [
+        (ENTRIES, ENTRIES_TEXT, 0),
+        (b"\x00\x02\x82\x00", b"", 0),
+        (b"\x00\x06\xee\x03\x00\x00\x00\x00", b"refused 3 0\n", 4),
+    ] {
+        let mut reader = sent;
+        let mut written = Vec::new(rt.alloc());
+        let outcome = read_over(rt.alloc(), &mut reader, &mut written, page(1));
+        assert!(rt; shows(&outcome, text, status));
+        assert_eq!(rt;
+            written.as_slice(),
+            b"\x00\x06\x02\x00\x00\x00\x01\x08".as_slice()
+        );
+    }
+    for sent in &BAD {
+        let mut reader = *sent;
+        let mut written = Vec::new(rt.alloc());
+        let outcome = read_over(rt.alloc(), &mut reader, &mut written, page(1));
+        assert!(rt; fails(&outcome, Fault::BadReply));
+    }
+    let mut reader = ACCEPTED;
+    let mut written = Vec::new(rt.alloc());
+    let outcome = read_over(rt.alloc(), &mut reader, &mut written, page(1));
+    assert!(rt; fails(&outcome, Fault::BadReply));
+    Ok(())
+}
+
+#[test]
+fn what_is_shown_goes_to_standard_output(rt: HostRuntime) -> Result<(), Fail> {
+    for (open, status, output, errors) in [
+        (true, 4, b"refused 5 0\n".as_slice(), b"".as_slice()),
+        (false, 1, b"", b"urbd: write failed\n"),
+    ] {
+        let terminal = Terminal::new(rt.alloc(), &[], b"", open);
+        let text = Vec::from_slice(rt.alloc(), b"refused 5 0\n")?;
+        let told = show(&terminal, Ok(Printed { text, status: 4 }));
+        let shown = terminal.into_shown(told);
+        assert!(rt; shown.is(status, output, errors, errors));
+    }
+    let terminal = Terminal::new(rt.alloc(), &[], b"", true);
+    let told = show(&terminal, Err(Fault::BadReply));
+    let shown = terminal.into_shown(told);
+    assert!(rt; shown.is(1, b"", b"urbd: bad reply\n", b"urbd: bad reply\n"));
+    Ok(())
+}
+
+/// Takes one connection, reads as many bytes as a request has, and sends these bytes.
+fn serve_once(
+    alloc: Global,
+    listener: &TcpListener,
+    request: usize,
+    answer: &[u8],
+) -> Option<Vec<u8>> {
+    let (mut stream, _) = listener.accept().ok()?;
+    let mut asked = Vec::new(alloc);
+    let mut byte = [0u8; 1];
+    for _ in 0..request {
+        if stream.read(&mut byte).ok()? != 1 {
+            return None;
+        }
+        asked.push(byte[0]).ok()?;
+    }
+    stream.write_all(answer).ok()?;
+    Some(asked)
+}
+
+/// A submit, beside a node that gives it this answer. Returns what the node was asked, and the
+/// outcome of the submit.
+fn submit_beside<R>(
+    rt: &R,
+    alloc: Global,
+    listener: &TcpListener,
+    answer: &[u8],
+    submitting: Submitting<'_>,
+) -> (Option<Vec<u8>>, Result<Printed, Fault>)
+where
+    R: Threads + Net<Listener = TcpListener, Stream = TcpStream> + Sync,
+{
+    thread::join(
+        rt,
+        move || serve_once(alloc, listener, 11, answer),
+        move || submit_at(rt, alloc, submitting),
+    )
+}
+
+/// Does this for a read.
+fn read_beside<R>(
+    rt: &R,
+    alloc: Global,
+    listener: &TcpListener,
+    answer: &[u8],
+    reading: Reading,
+) -> (Option<Vec<u8>>, Result<Printed, Fault>)
+where
+    R: Threads + Net<Listener = TcpListener, Stream = TcpStream> + Sync,
+{
+    thread::join(
+        rt,
+        move || serve_once(alloc, listener, 8, answer),
+        move || read_at(rt, alloc, reading),
+    )
+}
+
+#[test]
+fn a_submit_goes_over_a_socket(rt: HostRuntime) -> Result<(), Fail> {
+    let listener = TcpListener::bind(&rt, (Ipv4Addr::LOCALHOST, 0))?;
+    let port = listener.local_addr()?.port();
+    if port == 0 {
+        return Err("a port")?;
+    }
+    let submitting = hi(port);
+    let asked = b"\x00\x09\x01\x00\x07\x00\x00\x00\x01hi".as_slice();
+    for (answer, text, status) in [
+        (ACCEPTED, b"accepted 1\n".as_slice(), 0),
+        (GAP, b"refused 7 2\n", 4),
+    ] {
+        let (seen, outcome) = submit_beside(&rt, rt.alloc(), &listener, answer, submitting);
+        assert!(rt; shows(&outcome, text, status));
+        assert_eq!(rt; seen.ok_or("a request")?.as_slice(), asked);
+    }
+    for answer in [b"".as_slice(), b"\x00\x05\x81\x00", ENTRIES] {
+        let (_, outcome) = submit_beside(&rt, rt.alloc(), &listener, answer, submitting);
+        assert!(rt; fails(&outcome, Fault::BadReply));
+    }
+    // A text over 16,384 bytes isn't sent.
+    let long = Vec::from_elem(rt.alloc(), b'x', MAX_PAYLOAD + 1)?;
+    let text = str::from_utf8(long.as_slice()).or(Err("a text"))?;
+    let submitting = Submitting {
+        port,
+        client: 7,
+        number: 1,
+        text,
+    };
+    let outcome = submit_at(&rt, rt.alloc(), submitting);
+    assert!(rt; shows(&outcome, b"refused 5 0\n", 4));
+    Ok(())
+}
+
+#[test]
+fn a_read_goes_over_a_socket(rt: HostRuntime) -> Result<(), Fail> {
+    let listener = TcpListener::bind(&rt, (Ipv4Addr::LOCALHOST, 0))?;
+    let port = listener.local_addr()?.port();
+    if port == 0 {
+        return Err("a port")?;
+    }
+    let (seen, outcome) = read_beside(&rt, rt.alloc(), &listener, ENTRIES, page(port));
+    assert!(rt; shows(&outcome, ENTRIES_TEXT, 0));
+    let asked = b"\x00\x06\x02\x00\x00\x00\x01\x08".as_slice();
+    assert_eq!(rt; seen.ok_or("a request")?.as_slice(), asked);
+    let (_, outcome) = read_beside(&rt, rt.alloc(), &listener, ACCEPTED, page(port));
+    assert!(rt; fails(&outcome, Fault::BadReply));
+    // If no node listens, that is reported.
+    drop(listener);
+    let outcome = read_at(&rt, rt.alloc(), page(port));
+    assert!(rt; fails(&outcome, Fault::Network));
+    Ok(())
+}

@@ -1,0 +1,7 @@
+mod Running
+pub mod Sending
+mod Together
+mod Emptied
+mod Continuing
+mod Counted
+mod InOrder

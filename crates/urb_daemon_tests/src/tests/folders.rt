@@ -1,0 +1,65 @@
+//! Journals in a folder: what closing leaves of their files, also where others have come in their place.
+
+use std::fs;
+use std::rt::HostRuntime;
+use std::test::Fail;
+use urb_cli::Serving;
+use urb_daemon::{close_journals, open_journals};
+
+const FOLDER: &str = "urbd_folder";
+
+const AWAY: &str = "urbd_folder_away";
+
+// A group of two nodes whose journals are in the folder.
+fn two_nodes() -> Option<Serving<'static>> {
+    Serving::new(2, 10, FOLDER, 21_310, 1_000)
+}
+
+// Whether the folder has both nodes' journals, and beside each a log or none.
+fn has_journals(rt: &HostRuntime, has_logs: bool) -> bool {
+    fs::metadata(rt, "urbd_folder/node-1.db").is_ok()
+        && fs::metadata(rt, "urbd_folder/node-2.db").is_ok()
+        && fs::metadata(rt, "urbd_folder/node-1.db-wal").is_ok() == has_logs
+        && fs::metadata(rt, "urbd_folder/node-2.db-wal").is_ok() == has_logs
+}
+
+// Makes the folder anew, and says whether it could.
+fn is_cleared(rt: &HostRuntime) -> bool {
+    let _ = fs::remove_dir_all(rt, FOLDER);
+    fs::create_dir(rt, FOLDER).is_ok()
+}
+
+#[test]
+fn of_each_closed_journal_one_file_is_left(rt: HostRuntime) -> Result<(), Fail> {
+    let serving = two_nodes().ok_or("a group")?;
+    assert!(rt; is_cleared(&rt));
+    let Ok(journals) = open_journals(&rt, &rt, serving) else {
+        return Err("journals")?;
+    };
+    let were_open = has_journals(&rt, true);
+    close_journals(&rt, serving, journals);
+    assert!(rt; were_open && has_journals(&rt, false));
+    fs::remove_dir_all(&rt, FOLDER)?;
+    Ok(())
+}
+
+#[test]
+fn the_logs_of_journals_in_their_place_stay(rt: HostRuntime) -> Result<(), Fail> {
+    let serving = two_nodes().ok_or("a group")?;
+    let _ = fs::remove_dir_all(&rt, AWAY);
+    assert!(rt; is_cleared(&rt));
+    let Ok(moved) = open_journals(&rt, &rt, serving) else {
+        return Err("journals")?;
+    };
+    let is_moved = fs::rename(&rt, FOLDER, AWAY).is_ok() && is_cleared(&rt);
+    let Ok(others) = open_journals(&rt, &rt, serving) else {
+        return Err("others")?;
+    };
+    close_journals(&rt, serving, moved);
+    let stay = has_journals(&rt, true);
+    close_journals(&rt, serving, others);
+    assert!(rt; is_moved && stay && has_journals(&rt, false));
+    fs::remove_dir_all(&rt, FOLDER)?;
+    fs::remove_dir_all(&rt, AWAY)?;
+    Ok(())
+}

@@ -1,0 +1,337 @@
+//! Groups that run on threads and sockets of this machine, with their stores in memory, asked by clients over TCP.
+
+ghost use Rattle.std.specs.Prelude.{◌≡◌, ◌<◌, ◌≤◌, IfSome, vec_len, vec_capacity};
+
+use std::alloc::Global;
+use std::io::{Read, Write};
+use std::net::{Ipv4Addr, Net, TcpListener, TcpStream, UdpSocket};
+use std::test::Fail;
+use std::thread;
+use std::time::{Clock, Duration};
+use urb_cli::{Fault, Serving};
+use urb_daemon::{Host, link_to, open_sockets, run_opened};
+use urb_group::{Config, Group, MemStable};
+use urb_worker::{Station, Watch};
+
+// What a client sends to a group of one node: a submit, a read that shows it, a status, a submit whose number isn't the next,
+// an unknown opcode, a read of the place 0, one behind the end, and a bad length.
+const SENT: &[u8] = b"\x00\x09\x01\x00\x07\x00\x00\x00\x01hi\
+\x00\x06\x02\x00\x00\x00\x01\x08\
+\x00\x01\x03\
+\x00\x07\x01\x00\x07\x00\x00\x00\x03\
+\x00\x01\x09\
+\x00\x06\x02\x00\x00\x00\x00\x08\
+\x00\x06\x02\x00\x00\x00\x09\x08\
+\x00\x00";
+
+const ANSWERED: &[u8] = b"\x00\x05\x81\x00\x00\x00\x01\
+\x00\x11\x82\x01\x01\x00\x00\x00\x01\x00\x07\x00\x00\x00\x01\x00\x02hi\
+\x00\x0a\x83\x01\x00\x00\x00\x01\x00\x00\x00\x01\
+\x00\x06\xee\x07\x00\x00\x00\x02\
+\x00\x06\xee\x13\x00\x00\x00\x02\
+\x00\x06\xee\x13\x00\x00\x00\x04\
+\x00\x02\x82\x00\
+\x00\x06\xee\x13\x00\x00\x00\x01";
+
+// The answer to a bad length, by which a session ends.
+const ENDED: &[u8] = b"\x00\x06\xee\x13\x00\x00\x00\x01";
+
+// All that a node answers to these bytes, until it ends the session.
+fn answers<R: Net<Listener = TcpListener, Stream = TcpStream>>(
+    rt: &R,
+    alloc: Global,
+    station: &Station,
+    sent: &[u8],
+) -> Option<Vec<u8>> {
+    let mut stream = TcpStream::connect(rt, (Ipv4Addr::LOCALHOST, station.tcp_port)).ok()?;
+    stream.write_all(sent).ok()?;
+    let mut answered = Vec::new(alloc);
+    stream.read_to_end(&mut answered).ok()?;
+    Some(answered)
+}
+
+// The stations of so many nodes, at ports that are free.
+fn stations<R: Net<Listener = TcpListener, Stream = TcpStream>>(
+    rt: &R,
+    alloc: Global,
+    nodes: u8,
+) -> Option<Vec<Station>>
+    ensures { IfSome result (λ all. vec_len all ≡ nodes) }
+{
+    let mut all = Vec::with_capacity(alloc, usize::from(nodes)).ok()?;
+    for _i in 0..nodes {
+        all.push_reserved(Station::open(rt, 0, 0).ok()?);
+    }
+    Some(all)
+}
+
+// So many stores, which are empty.
+fn stores(alloc: Global, nodes: u8) -> Option<Vec<MemStable>>
+    ensures { IfSome result (λ all. vec_len all ≡ nodes) }
+{
+    let mut all = Vec::with_capacity(alloc, usize::from(nodes)).ok()?;
+    for _i in 0..nodes {
+        all.push_reserved(MemStable::new(alloc));
+    }
+    Some(all)
+}
+
+// Runs a new group, whose nodes resend every so many milliseconds, while the watch asks it. The count of its events.
+pub(super) fn events_of<R, W: Watch>(
+    rt: &R,
+    alloc: Global,
+    nodes: u8,
+    millis: u32,
+    watch: &mut W,
+) -> Option<u64>
+where
+    R: Host + Net<Listener = TcpListener, Stream = TcpStream>,
+    requires { (0 < nodes) × (nodes ≤ 7) }
+{
+    let config = Config::new(nodes, 100)?;
+    let stations = stations(rt, alloc, nodes)?;
+    let stations = stations.as_slice();
+    let link = link_to(rt, alloc, stations).ok()?;
+    let stores = stores(alloc, nodes)?;
+    let group = Group::new(alloc, config).ok()?;
+    let (_, events) = run_opened(rt, alloc, group, stations, &link, millis, stores, watch);
+    events
+}
+
+// One client of the first node, who sends `SENT`.
+#[derive(Drop)]
+struct OneClient<'a, R: Net<Listener = TcpListener, Stream = TcpStream>> {
+    rt: &'a R,
+    alloc: Global,
+    is_answered: bool,
+}
+
+impl<'a, R: Net<Listener = TcpListener, Stream = TcpStream>> Watch for OneClient<'a, R> {
+    fn watch(&mut self, stations: &[Station]) {
+        if let [station, ..] = stations
+            && let Some(answered) = answers(self.rt, self.alloc, station, SENT)
+        {
+            self.is_answered = answered.as_slice() == ANSWERED;
+        }
+    }
+}
+
+// Asks at so many sessions of a node, all of which stay open, for its status, and says whether the one that came last is
+// answered.
+fn is_answered_at_once<R: Net<Listener = TcpListener, Stream = TcpStream>>(
+    rt: &R,
+    alloc: Global,
+    station: &Station,
+    count: u8,
+) -> Option<bool> {
+    let mut sessions = Vec::new(alloc);
+    for _i in 0..count {
+        let mut stream = TcpStream::connect(rt, (Ipv4Addr::LOCALHOST, station.tcp_port)).ok()?;
+        stream
+            .set_read_timeout(Some(Duration::from_millis(10_000)))
+            .ok()?;
+        stream.write_all(&[0, 1, 3]).ok()?;
+        sessions.push(stream).ok()?;
+    }
+    let mut answer = [0u8; 12];
+    let last = sessions.last_mut()?;
+    last.read_exact(&mut answer).ok()?;
+    Some(answer.starts_with(&[0, 10, 0x83, 1]))
+}
+
+// As many clients of the first node as it takes at once.
+#[derive(Drop)]
+struct FourClients<'a, R: Net<Listener = TcpListener, Stream = TcpStream>> {
+    rt: &'a R,
+    alloc: Global,
+    are_answered: bool,
+}
+
+impl<'a, R: Net<Listener = TcpListener, Stream = TcpStream>> Watch for FourClients<'a, R> {
+    fn watch(&mut self, stations: &[Station]) {
+        if let [station, ..] = stations {
+            let is_answered = is_answered_at_once(self.rt, self.alloc, station, 4);
+            self.are_answered = is_answered == Some(true);
+        }
+    }
+}
+
+#[test]
+fn four_sessions_of_a_node_are_answered_at_once(rt: HostRuntime) -> Result<(), Fail> {
+    let mut clients = FourClients {
+        rt: &rt,
+        alloc: rt.alloc(),
+        are_answered: false,
+    };
+    let events = events_of(&rt, rt.alloc(), 1, 20, &mut clients);
+    assert!(rt; clients.are_answered);
+    assert!(rt; events.is_some());
+    Ok(())
+}
+
+// Whether both ports of a station are free at another address of this machine.
+fn is_alone<R: Net<Listener = TcpListener, Stream = TcpStream>>(rt: &R, station: &Station) -> bool {
+    let other = Ipv4Addr::new(127, 0, 0, 2);
+    UdpSocket::bind(rt, (other, station.udp_port)).is_ok()
+        && TcpListener::bind(rt, (other, station.tcp_port)).is_ok()
+}
+
+// Whether the stations of seven nodes above this base are those of their nodes, and can't be had twice; none where a port is in
+// use.
+fn are_of_their_nodes<R: Net<Listener = TcpListener, Stream = TcpStream>>(
+    rt: &R,
+    alloc: Global,
+    base: u16,
+) -> Option<bool> {
+    let serving = Serving::new(7, 1, ".", base, 1)?;
+    let base = serving.base;
+    let (stations, _link) = open_sockets(rt, alloc, serving.nodes, base).ok()?;
+    let again = open_sockets(rt, alloc, serving.nodes, base);
+    let mut are = stations.len() == 7 && again.err() == Some(Fault::Network);
+    for node in 1..8u16 {
+        let station = stations.get(usize::from(node) - 1)?;
+        are = are
+            && (station.udp_port, station.tcp_port) == (base + node, base + 10 + node)
+            && is_alone(rt, station);
+    }
+    Some(are)
+}
+
+#[test]
+fn sockets_are_those_of_their_nodes_at_loopback_alone(rt: HostRuntime) -> Result<(), Fail> {
+    for base in [22_350u16, 25_910, 29_470, 31_230] {
+        if let Some(are) = are_of_their_nodes(&rt, rt.alloc(), base) {
+            assert!(rt; are);
+            return Ok(());
+        }
+    }
+    Err("no port is free".into())
+}
+
+#[test]
+fn a_session_over_tcp_is_answered(rt: HostRuntime) -> Result<(), Fail> {
+    let mut client = OneClient {
+        rt: &rt,
+        alloc: rt.alloc(),
+        is_answered: false,
+    };
+    let events = events_of(&rt, rt.alloc(), 1, 20, &mut client);
+    assert!(rt; client.is_answered);
+    assert!(rt; events.is_some());
+    Ok(())
+}
+
+// Submits ten messages at a node, and says whether they were accepted as 1 to 10.
+fn has_accepted_ten<R: Net<Listener = TcpListener, Stream = TcpStream>>(
+    rt: &R,
+    alloc: Global,
+    station: &Station,
+) -> Option<bool> {
+    let mut sent = Vec::new(alloc);
+    let mut expected = Vec::new(alloc);
+    for number in 1..11u8 {
+        sent.extend_from_slice(&[0, 8, 1, 0, 7, 0, 0, 0, number, b'x'])
+            .ok()?;
+        expected
+            .extend_from_slice(&[0, 5, 0x81, 0, 0, 0, number])
+            .ok()?;
+    }
+    sent.extend_from_slice(&[0, 0]).ok()?;
+    expected.extend_from_slice(ENDED).ok()?;
+    let answered = answers(rt, alloc, station, sent.as_slice())?;
+    Some(answered.as_slice() == expected.as_slice())
+}
+
+// Whether a node shows thirty entries, after at most 10,000 looks of a millisecond.
+fn shows_thirty<R: Clock + Net<Listener = TcpListener, Stream = TcpStream>>(
+    rt: &R,
+    alloc: Global,
+    station: &Station,
+) -> Option<bool> {
+    for _ in 0..10_000u32 {
+        let answered = answers(rt, alloc, station, &[0, 6, 2, 0, 0, 0, 30, 1, 0, 0])?;
+        if answered.len() > 4 + ENDED.len() {
+            return Some(true);
+        }
+        thread::sleep(rt, Duration::from_millis(1));
+    }
+    Some(false)
+}
+
+// The answers to reads of the places 1 to 30, one entry each.
+fn thirty_entries<R: Net<Listener = TcpListener, Stream = TcpStream>>(
+    rt: &R,
+    alloc: Global,
+    station: &Station,
+) -> Option<Vec<u8>> {
+    let mut sent = Vec::new(alloc);
+    for place in 1..31u8 {
+        sent.extend_from_slice(&[0, 6, 2, 0, 0, 0, place, 1]).ok()?;
+    }
+    sent.extend_from_slice(&[0, 0]).ok()?;
+    answers(rt, alloc, station, sent.as_slice())
+}
+
+// Whether these entries, each of 18 bytes, show the messages 1 to 10 of a sender in their order.
+fn are_in_order(entries: &[u8], sender: u8) -> bool {
+    let mut last = 0u8;
+    for entry in entries.chunks_exact(18) {
+        if let [0, 16, 0x82, 1, of, 0, 0, 0, number, ..] = entry
+            && *of == sender
+        {
+            if *number != last.wrapping_add(1) {
+                return false;
+            }
+            last = *number;
+        }
+    }
+    last == 10
+}
+
+// Submits ten messages at each node of three, and says whether each log comes to show them all, of each sender in order.
+fn have_agreed<R: Clock + Net<Listener = TcpListener, Stream = TcpStream>>(
+    rt: &R,
+    alloc: Global,
+    stations: &[Station],
+) -> Option<bool> {
+    let mut went_well = true;
+    for station in stations {
+        went_well = went_well && has_accepted_ten(rt, alloc, station)?;
+    }
+    for station in stations {
+        went_well = went_well && shows_thirty(rt, alloc, station)?;
+        let entries = thirty_entries(rt, alloc, station)?;
+        for sender in 1..4u8 {
+            went_well = went_well && are_in_order(entries.as_slice(), sender);
+        }
+    }
+    Some(went_well)
+}
+
+// A client of each node.
+#[derive(Drop)]
+struct ThreeClients<'a, R: Clock + Net<Listener = TcpListener, Stream = TcpStream>> {
+    rt: &'a R,
+    alloc: Global,
+    have_agreed: bool,
+}
+
+impl<'a, R: Clock + Net<Listener = TcpListener, Stream = TcpStream>> Watch for ThreeClients<'a, R> {
+    fn watch(&mut self, stations: &[Station]) {
+        self.have_agreed = have_agreed(self.rt, self.alloc, stations) == Some(true);
+    }
+}
+
+#[test]
+fn three_nodes_over_udp_agree(rt: HostRuntime) -> Result<(), Fail> {
+    let mut clients = ThreeClients {
+        rt: &rt,
+        alloc: rt.alloc(),
+        have_agreed: false,
+    };
+    let events = events_of(&rt, rt.alloc(), 3, 20, &mut clients).ok_or("memory")?;
+    assert!(rt; clients.have_agreed);
+    // Each of thirty messages is at each node at least an arrival or a submit and a store, and at its own two more.
+    assert!(rt; events >= 240);
+    Ok(())
+}

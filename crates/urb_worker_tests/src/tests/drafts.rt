@@ -1,0 +1,104 @@
+//! For which jobs a gate is asked: those whose record a store is to keep.
+
+ghost use Rattle.std.specs.Prelude.{◌≡◌};
+ghost use Rattle.urb_show.specs.Lists.{lists_in};
+
+use super::{hub_of, opened, submit};
+use std::alloc::Global;
+use std::marker::Brand;
+use std::sync::Wait;
+use std::sync::atomic::{AtomicU64, Ordering};
+use std::sync::ledger::Blank;
+use std::test::Fail;
+use urb_group::MemStable;
+use urb_names::NodeId;
+use urb_show::{HouseName, Opened};
+use urb_worker::{Gate, Hub, HubName, Job, Tally};
+
+// How often each node was about to store a record: node 1 in ones, and all others in hundreds.
+#[derive(Drop)]
+struct Counter {
+    asked: AtomicU64,
+}
+
+impl Gate for Counter {
+    fn before_store(&self, node: NodeId) {
+        let step = if node.number() == 1 { 1 } else { 100 };
+        self.asked.fetch_add(step, Ordering::SeqCst);
+    }
+}
+
+// The jobs of a node, one after the other: of the submits, the second one repeats the first, and a crash comes before the last.
+fn jobs(alloc: Global, node: NodeId) -> Option<Vec<Job>> {
+    let mut jobs = Vec::new(alloc);
+    jobs.push(submit(alloc, node, 1)?).ok()?;
+    jobs.push(submit(alloc, node, 1)?).ok()?;
+    jobs.push(Job::Tick(node)).ok()?;
+    jobs.push(Job::Status(node)).ok()?;
+    jobs.push(Job::Arrive {
+        node,
+        bytes: Vec::new(alloc),
+    })
+    .ok()?;
+    jobs.push(Job::Crash(node)).ok()?;
+    jobs.push(submit(alloc, node, 2)?).ok()?;
+    jobs.push(Job::Restart(node)).ok()?;
+    jobs.push(submit(alloc, node, 2)?).ok()?;
+    Some(jobs)
+}
+
+// Has a node's worker do all of these, and gives how often the gate was asked after each, as digits.
+fn work_all<K: HouseName, L: HubName, R: Wait>(
+    rt: &R,
+    alloc: Global,
+    hub: &Hub<K, L>,
+    node: NodeId,
+    jobs: Vec<Job>,
+    tally: Tally<L>,
+) -> (u64, Tally<L>) {
+    let gate = Counter {
+        asked: AtomicU64::new(0),
+    };
+    let mut store = MemStable::new(alloc);
+    let mut tally = tally;
+    let mut digits: u64 = 0;
+    for job in jobs {
+        let (_, counted) = hub.work(rt, alloc, node, job, &mut store, &gate, tally);
+        tally = counted;
+        let asked = gate.asked.load(Ordering::SeqCst);
+        digits = digits.saturating_mul(10).saturating_add(asked);
+    }
+    (digits, tally)
+}
+
+// The same at a new group of one node.
+fn played<K: HouseName, L: HubName, R: Wait>(
+    rt: &R,
+    alloc: Global,
+    opened: Opened,
+    blank: Blank,
+    jobs: Vec<Job>,
+) -> Option<u64>
+    requires names { (opened.book ≡ K.book) × (lists_in opened.group ≡ K.base) }
+    requires name { blank.name ≡ L.name }
+    requires parts { (blank.parts ≡ L.parts) × (L.parts ≡ 1) × (opened.group.size.n ≡ 1) }
+    requires start { L.start ≡ 0 }
+{
+    let (hub, mut tallies, readers) = hub_of::<K, L, R>(rt, alloc, opened, blank)?;
+    drop(readers);
+    let tally = tallies.pop().unwrap();
+    let (digits, tally) = work_all(rt, alloc, &hub, NodeId::new(1).unwrap(), jobs, tally);
+    tallies.push_reserved(tally);
+    drop(hub.close(tallies).close(rt));
+    Some(digits)
+}
+
+#[test]
+fn a_gate_is_asked_for_drafts_alone(rt: HostRuntime) -> Result<(), Fail> {
+    let jobs = jobs(rt.alloc(), NodeId::new(1).unwrap()).ok_or("memory")?;
+    let opened = opened(rt.alloc(), 1).ok_or("memory")?;
+    let asked = played::<Brand, Brand, _>(&rt, rt.alloc(), opened, Blank::new(1), jobs);
+    // Of nine jobs the first and the last draft a record.
+    assert_eq!(rt; asked, Some(111_111_112));
+    Ok(())
+}
