@@ -50,8 +50,8 @@ def device(cause):
     return Fault(DEVICE, 0, cause)
 
 
-def look_at_file(path):
-    """Whether there is a file of this name with bytes in it; a fault if there is one that the program can't use."""
+def look_at_file(path, to_use=True):
+    """Whether there is a file of this name with bytes in it; a fault if there is one that the program can't use, or can't read."""
     try:
         found = os.lstat(path)
     except FileNotFoundError:
@@ -60,6 +60,10 @@ def look_at_file(path):
         raise device(f"{path}: {error.strerror}")
     if not stat.S_ISREG(found.st_mode):
         raise device(f"{path} is no regular file")
+    if not os.access(path, os.R_OK):
+        raise device(f"{path} can't be read by this user")
+    if not to_use:
+        return found.st_size > 0
     if found.st_nlink != 1:
         raise device(f"{path} has a second name (a hard link)")
     if not os.access(path, os.R_OK | os.W_OK):
@@ -73,18 +77,19 @@ def look_at_file(path):
 
 
 @contextmanager
-def opened(path):
-    """A connection to the database of these files, which it leaves as they are; None if there is none yet."""
-    if os.path.islink(path) and not os.path.exists(path):
+def opened(path, to_use=True):
+    """A connection to the database of these files, which it leaves as they are; None if there is none yet. Files that a start is to
+    use have to be its own; of others it reads the bytes alone."""
+    if to_use and os.path.islink(path) and not os.path.exists(path):
         raise device(f"{path} is a link that leads nowhere")
     path = os.path.realpath(path)
-    if not look_at_file(path):
+    if not look_at_file(path, to_use):
         yield None
         return
-    if look_at_file(path + "-journal"):
+    if to_use and look_at_file(path + "-journal"):
         raise device(f"{path}-journal: another program has stopped amid a transaction: open the file with sqlite3 once")
     with tempfile.TemporaryDirectory() as folder:
-        if look_at_file(path + "-wal"):
+        if look_at_file(path + "-wal", to_use):
             copy = os.path.join(folder, "journal.db")
             shutil.copyfile(path, copy)
             shutil.copyfile(path + "-wal", copy + "-wal")
@@ -130,9 +135,9 @@ def wrong_in(row, place, longest):
     return f"a payload of {len(payload)} bytes is over {longest}" if len(payload) > longest else None
 
 
-def rows_of(path):
+def rows_of(path, to_use=True):
     """Each row of a journal: table, place, the row, and why it is no record."""
-    with opened(path) as connection:
+    with opened(path, to_use) as connection:
         place = 0
         for table in LONGEST if connection else ():
             if is_there(connection, path, table):
@@ -141,15 +146,15 @@ def rows_of(path):
                     yield table, place, row, wrong_in(row, place, LONGEST[table])
 
 
-def records_of(path):
+def records_of(path, to_use=True):
     """The records of a journal; a fault at the first row that is none."""
-    with opened(path) as connection:
+    with opened(path, to_use) as connection:
         if connection:
             damage = [line.decode() for line, in connection.execute("PRAGMA integrity_check(3)") if line != b"ok"]
             if damage:
                 raise device(f"{path} is damaged: {'; '.join(damage)}")
     records = []
-    for table, place, row, wrong in rows_of(path):
+    for table, place, row, wrong in rows_of(path, to_use):
         if wrong:
             raise Fault(BAD_ROW, place, f"row {place} of {path} (table {table}) is no record: {wrong}")
         _, kind, sender, seq, client, number, payload = row
@@ -213,15 +218,19 @@ def first_misfit(images, nodes, cap):
     return None
 
 
-def strangers(folder, nodes):
-    """The journals of nodes above these that hold records, or can't be read. A start doesn't look at them."""
+def first_stranger(folder, nodes):
+    """The first journal of a node above these that a start refuses, as a fault: one with rows, or one that can't be read."""
     for node in range(nodes + 1, MOST_NODES + 1):
         path = path_of(folder, node)
         try:
-            if records_of(path):
-                yield path
-        except Fault:
-            yield path
+            has_rows = bool(records_of(path, to_use=False))
+        except Fault as fault:
+            if fault.number == DEVICE:
+                return fault
+            has_rows = True
+        if has_rows:
+            return Fault(INCONSISTENT, 0, f"{path} has records, of a group of more than {nodes} nodes: start with as many nodes as before")
+    return None
 
 
 def told(folder, node, records):
@@ -237,9 +246,13 @@ def told(folder, node, records):
 
 def judge(folder, nodes, cap):
     """What a start would be refused for; None if it opens the group. Prints a line for each node."""
-    if not os.path.isdir(folder) or not os.access(folder, os.R_OK | os.W_OK | os.X_OK):
-        print(f"node 1: {folder} is no folder that this user can write to")
+    if not os.path.isdir(folder):
+        print(f"node 1: {folder} is no folder")
         return device(f"{folder} can't be used")
+    stranger = first_stranger(folder, nodes)
+    if not os.access(folder, os.R_OK | os.W_OK | os.X_OK):
+        print(f"node 1: {folder} is no folder that this user can write to")
+        return stranger or device(f"{folder} can't be used")
     images, faults = {}, []
     for node in range(1, nodes + 1):
         try:
@@ -248,10 +261,9 @@ def judge(folder, nodes, cap):
         except Fault as fault:
             faults.append(fault)
             print(f"node {node}: {fault}")
-    for path in strangers(folder, nodes):
-        remark = "and a start does not look at it: start with the number that the group had"
-        print(f"warning: {path} is of a group of more than {nodes} nodes, {remark}")
-    return faults[0] if faults else first_misfit(images, nodes, cap)
+    if stranger or faults:
+        return stranger or faults[0]
+    return first_misfit(images, nodes, cap)
 
 
 def show(path):

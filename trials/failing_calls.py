@@ -180,6 +180,8 @@ def while_it_runs(program, room, base, case, is_killed):
     folder = os.path.join(room, "group")
     os.mkdir(folder)
     accepted = {node: [] for node in NODES}
+    # The journals are made first, by calls that don't fail.
+    Daemon(program, len(NODES), folder, base).stop()
     daemon = Failing(program, folder, base, case.inject)
     try:
         assert daemon.line == b"open 3\n", (daemon.line, daemon.process.stderr.read())

@@ -63,6 +63,19 @@ def in_place_of(act):
     return put
 
 
+def exchange(folder, one, other):
+    """Two nodes have got each other's files."""
+    for end in ("", "-wal"):
+        paths = [path_of(folder, node) + end for node in (one, other)]
+        held = [open(path, "rb").read() if os.path.exists(path) else None for path in paths]
+        for path, bytes_of_other in zip(paths, reversed(held)):
+            if bytes_of_other is not None:
+                with open(path, "wb") as file:
+                    file.write(bytes_of_other)
+            elif os.path.exists(path):
+                os.remove(path)
+
+
 def spoil(path, aside):
     with open(path, "wb") as file:
         file.write(b"x" * 4096)
@@ -128,8 +141,13 @@ CASES = [
     Case("more nodes, where a majority has all", THREE, 5, 10, "open 5", "no file: a start makes it"),
     Case("more nodes, where it hasn't", THREE, 7, 10, "refused 14 0", "rule d, node 1, name 1.1"),
     Case("a smaller cap that holds all", THREE, 3, 1, "open 3", "a log of 1"),
-    Case("fewer nodes than have records", THREE, 2, 10, "open 2", "node-3.db is of a group of more than 2 nodes"),
-    Case("one node of three", images([(PEND_CERT, "1.1")], [(PEND_CERT, "1.1")], []), 1, 10, "open 1", "node-2.db is of a group of more than 1 nodes"),
+    Case("fewer nodes than have records", THREE, 2, 10, "refused 14 0", "node-3.db has records, of a group of more than 2 nodes"),
+    Case("one node of three", images([(PEND_CERT, "1.1")], [(PEND_CERT, "1.1")], []), 1, 10, "refused 14 0", "node-2.db has records"),
     Case("fewer nodes, where the others have no records", images([(PEND, "1.1"), (CERT, "1.1")], [(PEND_CERT, "1.1")], []), 2, 10, "open 2", "a log of 1"),
-    Case("a journal above N that can't be read", then(THREE, "UPDATE journal2 SET kind = 9", node=3), 2, 10, "open 2", "node-3.db is of a group of more than 2 nodes"),
+    Case("records above N in the log beside the file", after(images([], *DELIVERED[1:]), lambda folder: (unmerged(folder), exchange(folder, 1, 3))), 2, 10, "refused 14 0", "node-3.db has records"),
+    Case("records above N go before a bad row", then(THREE, "UPDATE journal2 SET kind = 9"), 2, 10, "refused 14 0", "node-3.db has records"),
+    Case("a bad row above N", then(images([], [], [(PEND, "3.1")]), "UPDATE journal2 SET kind = 9", node=3), 2, 10, "refused 14 0", "node-3.db has records"),
+    Case("a file above N that is no database", after(images([], []), lambda folder: spoil(path_of(folder, 3), None)), 2, 10, "refused 15 0", "file is not a database"),
+    Case("a folder in the place of a journal above N", after(images([], []), lambda folder: os.mkdir(path_of(folder, 3))), 2, 10, "refused 15 0", "is no regular file"),
+    Case("a link above N that leads nowhere", after(images([], []), lambda folder: os.symlink(path_of(folder, 4), path_of(folder, 3))), 2, 10, "open 2", "0 records"),
 ]
