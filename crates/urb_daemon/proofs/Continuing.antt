@@ -1,5 +1,5 @@
--- What is known of a group that is opened over stores asked side by side: it goes on from the world
--- before, and a stop inside the call leaves no more of the stores than a stop before it.
+-- What is known of a group that is opened over stores asked side by side. It goes on from the world
+-- before. A stop inside the call leaves no more of the stores than a stop before it.
 use Rattle.std.proofs.Common.{Bool, Err, IfOk, List, Ok, Option, Result, Some, [], false, inl, inr, map, refl, subst, suc, sym, zero, ℕ, ◌++◌, ◌∙◌, ◌∷◌, ◌≡◌, ◌⊎◌}
 use Rattle.std.specs.List.{All}
 use Rattle.std.specs.Prelude.{Vec, length, slice_get}

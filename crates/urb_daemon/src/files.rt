@@ -40,7 +40,7 @@ fn node_at(place: usize) -> Option<NodeId>
     NodeId::new(u8::try_from(place.checked_add(1)?).ok()?)
 }
 
-// Which file has the name of a node's journal in this folder; none where none has.
+// The file that has the name of a node's journal in this folder, if there is one.
 fn file_of(rt: &HostRuntime, dir: &str, node: NodeId) -> Option<FileId> {
     let path = format!(in rt.alloc(); "{dir}/node-{}.db", node.number()).ok()?;
     let found = fs::metadata(rt, path.as_str()).ok()?;
@@ -50,7 +50,7 @@ fn file_of(rt: &HostRuntime, dir: &str, node: NodeId) -> Option<FileId> {
     })
 }
 
-// Opens the journal of the node at this place, where `K` stands for what the nodes' files hold.
+// Opens the journal of the node at this place. `K` stands for what the nodes' files hold.
 fn open_at<K: Contents>(
     rt: &HostRuntime,
     dir: &str,
@@ -58,7 +58,7 @@ fn open_at<K: Contents>(
 ) -> Result<FileJournal<K>, StoreFault>
     ensures fault { IfErr result (λ fault. is_place fault ≡ false) }
     ensures node { IfOk result (λ j. j.node ≡ suc place) }
-    // A journal that stood in this node's files is found with its records, and none where the database file was empty.
+    // A journal that was in this node's files is found with its records, and without any if the database file was empty.
     ensures found { IfOk result (λ j. IsFoundIn
         (held_by K.First.Start K.Second.Start K.Third.Start K.Fourth.Start K.Fifth.Start
         K.Sixth.Start K.Seventh.Start (suc place))
@@ -95,8 +95,8 @@ impl Opener<FileJournal<Brand>> for Folder<'_> {
         open_at::<Brand>(self.rt, self.dir, earlier.len())
     }
 
-    // It closes a journal by its name, and so only where this still leads to its file. Else the log beside the file of that name
-    // is another's; a journal that is dropped loses nothing.
+    // It closes a journal by its name, so only if the name still leads to its file. Otherwise the log beside the file of that
+    // name is another journal's. A journal that is dropped loses nothing.
     fn close(&self, journal: FileJournal<Brand>) {
         let (node, file, journal) = journal.into_parts();
         if file_of(self.rt, self.dir, node) == Some(file) {

@@ -73,8 +73,8 @@ fn spare_sockets<R: Net<Listener = TcpListener, Stream = TcpStream>>(
     Ok(sockets)
 }
 
-/// The stations of `nodes` nodes, and the link to them. Node P's station is at the ports base + P
-/// and base + 10 + P. The first port that can't be had is a fault, and so are too few descriptors
+/// The stations of `nodes` nodes, and the link to them. Node P's station has the two ports `base + P`
+/// and `base + 10 + P`. The first port that can't be had is a fault, and so are too few descriptors
 /// for the nodes' clients. After a fault nothing stays open.
 pub fn open_sockets<R: Net<Listener = TcpListener, Stream = TcpStream>>(
     rt: &R,

@@ -75,8 +75,9 @@ fn is_stranger(rt: &HostRuntime, dir: &str, node: NodeId) -> Result<bool, StoreF
     has_records(rt.alloc(), log.as_slice(), db.as_slice())
 }
 
-/// Why a group of so many nodes may not run in this folder: it has records of a node above these, which no log of the group would
-/// show (the refusal 14), or a journal above these that can't be read (1 or 15). None if it may. No file is changed, and none is made.
+/// Why a group of this many nodes may not run in this folder; none if it may. The folder has records of a node above these, which
+/// no log of the group would show (the refusal 14). Or it has a journal above these that can't be read (1 or 15). No file is
+/// changed, and none is made.
 pub fn fault_of_strangers(rt: &HostRuntime, dir: &str, nodes: u8) -> Option<Fault>
     ensures { IfSome result (λ why. IsOfOpening why ⊎ (why ≡ misfit)) }
 {

@@ -11,11 +11,12 @@ use std::sync::Arc;
 /// The greatest length of a payload, in bytes.
 pub const MAX_PAYLOAD: usize = 16384;
 
-/// The greatest length of a payload in a packet without flags (version one), in bytes.
+/// The greatest length of a payload in a packet of version one (which has no flags field), in
+/// bytes.
 pub const MAX_PLAIN_PAYLOAD: usize = 1024;
 
-/// What a client broadcasts: the client, the number that the client gave the message, 1 to
-/// 4,294,967,295, and the payload, at most `MAX_PAYLOAD` bytes.
+/// What a client submits: the client; the client's number for it (1 to 4,294,967,295); and the
+/// payload (at most `MAX_PAYLOAD` bytes).
 #[derive(Drop)]
 #[derive_where(Debug)]
 pub struct Message<A: Allocator = Global> {
@@ -92,7 +93,8 @@ impl<A: Allocator> Message<A> {
             && (*self.payload).as_slice() == (*other.payload).as_slice()
     }
 
-    /// States that every message is within its limits. It does nothing; only proofs use it.
+    /// Its clause states that every message is within its limits. Call it in code whose proof needs
+    /// this; it does nothing.
     pub fn limits(&self)
         ensures { IsContent self.now }
     {
@@ -103,8 +105,7 @@ impl<A: Allocator> Message<A> {
 }
 
 impl<A: Allocator + Copy> Message<A> {
-    /// The message made of these parts. The payload stays where it is in memory; only its reference
-    /// count is allocated.
+    /// The message made of these parts. Allocates only a reference count; the payload isn't moved.
     pub fn new(
         alloc: A,
         client: ClientId,

@@ -36,8 +36,8 @@ fn name(sender: u8, seq: u32) -> Option<Name>
     Some(Name { sender, seq })
 }
 
-// A message of this client, with a copy of the payload. `None` if there is no such message, or no
-// memory.
+// A message of this client, with a copy of the payload. `None` if a part is out of range, or there
+// is no memory.
 fn message<A: Allocator + Copy>(
     alloc: A,
     client: u16,
@@ -54,7 +54,9 @@ fn message<A: Allocator + Copy>(
     Message::copied(alloc, client, number, payload).ok()
 }
 
-// A record about a message of client 7 whose number is that of its name.
+// A record of this form. Its message is from client 7, and the client's number for it is the number
+// of its name. `calm` is an allocator that refuses nothing. `None` if the payload is too long, or
+// there is no memory.
 fn record_of<A: Allocator + Copy>(
     calm: A,
     form: &Form,
@@ -68,7 +70,7 @@ fn record_of<A: Allocator + Copy>(
     })
 }
 
-// The record for a row of an image.
+// The record of a row of an image (`Kept`), about the sender's message 1. `calm` refuses nothing.
 fn kept_record<A: Allocator + Copy>(
     calm: A,
     (form, sender, payload): &Kept,

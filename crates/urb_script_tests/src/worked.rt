@@ -1,6 +1,8 @@
 //! Worked scripts and their answers, byte for byte.
 //!
-//! Those with a name are also run with refused growths.
+//! `@` stands for 16,384 letters x. docs/FORMATS.md explains the commands and their answers. The
+//! scripts that are constants (`MAJORITY`, `HALF` and so on) are also run with each allocation
+//! refused in turn (tests/failing.rt).
 
 use crate::tests::gives;
 use std::process::Abort;
@@ -25,7 +27,7 @@ pub const FORGOTTEN: (&[u8], &[u8]) = (
     b"group 5 10\ndraft 1.1 at 1\naccepted 1.1 sent 4 released 0\ndraft 1.1 at 1\ntaken 1.1 sent 4 released 0\ndraft 1.1 at 1\ntaken 1.1 sent 4 released 0\nnoted 1.1\ndown 1\nup 1\nnoted 1.1\ndraft 1.1 at 2\nlog 1:\nlog 2:\nlog 3:\nlog 4:\nlog 5:\n",
 );
 
-/// Each tick resends the next sixteen names.
+/// Each tick resends the next sixteen names that are due, in a cycle: 1 to 16, then 17 and 1 to 15.
 pub const RESENT: (&[u8], &[u8]) = (
     b"group 2 20\nsubmit 1 7 1 a\nstored 1\nsubmit 1 7 2 a\nstored 1\nsubmit 1 7 3 a\nstored 1\nsubmit 1 7 4 a\nstored 1\nsubmit 1 7 5 a\nstored 1\nsubmit 1 7 6 a\nstored 1\nsubmit 1 7 7 a\nstored 1\nsubmit 1 7 8 a\nstored 1\nsubmit 1 7 9 a\nstored 1\nsubmit 1 7 10 a\nstored 1\nsubmit 1 7 11 a\nstored 1\nsubmit 1 7 12 a\nstored 1\nsubmit 1 7 13 a\nstored 1\nsubmit 1 7 14 a\nstored 1\nsubmit 1 7 15 a\nstored 1\nsubmit 1 7 16 a\nstored 1\nsubmit 1 7 17 a\nstored 1\ntick 1\ntick 1\ntick 2\nlog 1\nlog 2\n",
     b"group 2 20\ndraft 1.1 at 1\naccepted 1.1 sent 1 released 0\ndraft 1.2 at 2\naccepted 1.2 sent 1 released 0\ndraft 1.3 at 3\naccepted 1.3 sent 1 released 0\ndraft 1.4 at 4\naccepted 1.4 sent 1 released 0\ndraft 1.5 at 5\naccepted 1.5 sent 1 released 0\ndraft 1.6 at 6\naccepted 1.6 sent 1 released 0\ndraft 1.7 at 7\naccepted 1.7 sent 1 released 0\ndraft 1.8 at 8\naccepted 1.8 sent 1 released 0\ndraft 1.9 at 9\naccepted 1.9 sent 1 released 0\ndraft 1.10 at 10\naccepted 1.10 sent 1 released 0\ndraft 1.11 at 11\naccepted 1.11 sent 1 released 0\ndraft 1.12 at 12\naccepted 1.12 sent 1 released 0\ndraft 1.13 at 13\naccepted 1.13 sent 1 released 0\ndraft 1.14 at 14\naccepted 1.14 sent 1 released 0\ndraft 1.15 at 15\naccepted 1.15 sent 1 released 0\ndraft 1.16 at 16\naccepted 1.16 sent 1 released 0\ndraft 1.17 at 17\naccepted 1.17 sent 1 released 0\nsent 2:1.1 2:1.2 2:1.3 2:1.4 2:1.5 2:1.6 2:1.7 2:1.8 2:1.9 2:1.10 2:1.11 2:1.12 2:1.13 2:1.14 2:1.15 2:1.16\nsent 2:1.17 2:1.1 2:1.2 2:1.3 2:1.4 2:1.5 2:1.6 2:1.7 2:1.8 2:1.9 2:1.10 2:1.11 2:1.12 2:1.13 2:1.14 2:1.15\nsent\nlog 1:\nlog 2:\n",
@@ -37,8 +39,8 @@ pub const REOPENED: (&[u8], &[u8]) = (
     b"group 3 10\ndraft 1.1 at 1\naccepted 1.1 sent 2 released 0\ndraft 1.1 at 1\ntaken 1.1 sent 2 released 1\nlog 1:\ndraft 1.1 at 2\ntaken 1.1 sent 0 released 1\nopen\nlog 1: 1.1=a\nlog 2: 1.1=a\naccepted 1.1\nlog 3:\n",
 );
 
-/// Nodes report to each other what they have certified. A tick sends only to nodes that were not
-/// heard to have certified the name.
+/// Nodes report to each other what they have certified. A tick sends a message only to the nodes
+/// that haven't reported that they certified it.
 pub const TOLD: (&[u8], &[u8]) = (
     b"group 3 10\nsubmit 1 7 1 a\nstored 1\nraw 2 5542020102010100000001000700000001000161\nraw 2 5542020102040100000001000700000001000161\nraw 2 554202010201010000000100070000000100\narrive2 1 2 1 1 0\nstored 2\narrive 1 2 1 1\narrive2 1 2 1 1 0\narrive2 2 1 1 1 1\nstored 1\ntick 1\narrive2 1 2 1 1 1\narrive2 2 1 1 1 3\ntick 2\narrive2 2 3 1 1 1\nstored 3\ntick 3\ncrash 1\nrestart 1\ntick 1\nlog 1\nlog 2\nlog 3\n",
     b"group 3 10\ndraft 1.1 at 1\naccepted 1.1 sent 2 released 0\nrefused forged\nrefused packet range\nrefused packet short\ndraft 1.1 at 1\ntaken 1.1 sent 2 released 1\nagain 1.1\nanswered 1.1 to 1 flags 1\ndraft 1.1 at 2\ntaken 1.1 sent 0 released 1\nsent 3:1.1\nanswered 1.1 to 1 flags 3\nagain 1.1\nsent 3:1.1\ndraft 1.1 at 1\ntaken 1.1 sent 2 released 1\nsent 1:1.1\ndown 1\nup 1\nsent 2:1.1 3:1.1\nlog 1: 1.1=a\nlog 2: 1.1=a\nlog 3: 1.1=a\n",
@@ -46,8 +48,8 @@ pub const TOLD: (&[u8], &[u8]) = (
 
 /// Scripts, their answers, and how they end.
 const WORKED: [((&[u8], &[u8]), Ended); 27] = [
-    // What is refused by a node that is down, stores a record, or doesn't exist. Faults of bytes
-    // come before faults of nodes, and these before states.
+    // Calls of a node that is down, is storing, or doesn't exist. Of several reasons, bad bytes are
+    // reported first, then a bad node, then the node's state.
     (
         (
             b"group 3 10\ncrash 2\nraw 2 55\narrive 4 2 1 1\narrive 1 2 1 1\nsubmit 3 7 1 a\narrive 1 3 1 1\ntick 3\ntick 2\ntick 4\ncrash 4\nrestart 4\n",
@@ -55,7 +57,7 @@ const WORKED: [((&[u8], &[u8]), Ended); 27] = [
         ),
         Ended::Whole,
     ),
-    // A failure that is refused arms nothing.
+    // A `fail` without a draft is refused, and the next store works.
     (
         (
             b"group 1 10\nfail 1 old\nsubmit 1 7 1 a\nstored 1\n",
@@ -71,7 +73,8 @@ const WORKED: [((&[u8], &[u8]), Ended); 27] = [
         ),
         Ended::Whole,
     ),
-    // A node stops and comes back, and another node reports that a majority has its message.
+    // A node crashes and restarts. Then a packet shows that node 2 has stored its message, and with
+    // its own copy that is a majority.
     (
         (
             b"group 3 10\nsubmit 1 7 1 hi\nstored 1\narrive 1 2 1 1\nstored 2\ncrash 1\nrestart 1\ntick 1\narrive 2 1 1 1\nstored 1\nlog 1\nheld 1.1\n",
@@ -79,7 +82,7 @@ const WORKED: [((&[u8], &[u8]), Ended); 27] = [
         ),
         Ended::Whole,
     ),
-    // One node delivers at once.
+    // A group of one node delivers at once.
     (
         (
             b"group 1 10\nsubmit 1 7 1 hi\nstored 1\nlog 1\n",
@@ -96,8 +99,8 @@ const WORKED: [((&[u8], &[u8]), Ended); 27] = [
         ),
         Ended::Whole,
     ),
-    // A message that is too long for a packet without flags comes in one with flags 0, which is
-    // answered.
+    // A message that is too long for version 1 comes in a packet of version 2. Its repeat is
+    // answered, with the flag of the certificate.
     (
         (
             b"group 3 10\nsubmit 1 7 1 @\nstored 1\narrive 1 2 1 1\nstored 2\narrive 1 2 1 1\nlog 2\n",
@@ -105,8 +108,8 @@ const WORKED: [((&[u8], &[u8]), Ended); 27] = [
         ),
         Ended::Whole,
     ),
-    // A packet of a message that its source hasn't stored is forged. At the source itself, it is
-    // for another node.
+    // A packet of a message that its source hasn't stored is forged. If the source itself gets it,
+    // the refusal is `badnode`, since the packet's target is node 2.
     (
         (
             b"group 3 10\nsubmit 1 7 1 a\narrive 1 2 1 1\nraw 2 55420101020100000001000700000001000161\nraw 1 55420101020100000001000700000001000161\n",
@@ -156,8 +159,8 @@ const WORKED: [((&[u8], &[u8]), Ended); 27] = [
         ),
         Ended::Whole,
     ),
-    // A node that stores a record or is down does nothing else. A store is asked nothing if there
-    // is no draft.
+    // A node that is storing a record can only finish that or crash. A node that is down can only
+    // restart. Without a draft, `stored` and `fail` ask the store nothing.
     (
         (
             b"group 3 10\nsubmit 1 7 1 a\nsubmit 1 8 1 b\nrestart 1\ncrash 1\nsubmit 1 8 1 b\nstored 4\nstored 2\nstored 1\nfail 4 new\nfail 2 new\nfail 1 new\nrestart 1\nheld 1.1\n",
@@ -165,7 +168,8 @@ const WORKED: [((&[u8], &[u8]), Ended); 27] = [
         ),
         Ended::Whole,
     ),
-    // Bytes that are no packet are refused by their first fault.
+    // Bytes that are no packet are refused by their first fault. The last two are packets, and are
+    // refused for what they say.
     (
         (
             b"group 3 10\nraw 2 5542010102010000000100070000000100\nraw 2 55430101020100000001000700000001000161\nraw 2 55420901020100000001000700000001000161\nraw 2 5542010102010000000100070000000100016161\nraw 2 55420102020100000001000700000001000161\nraw 2 55420101020100000001000700000001000161\nraw 3 55420101020100000001000700000001000161\n",
@@ -173,7 +177,7 @@ const WORKED: [((&[u8], &[u8]), Ended); 27] = [
         ),
         Ended::Whole,
     ),
-    // A payload has at most its greatest length.
+    // Payloads of 0 and of 16,384 bytes are accepted, one of 16,385 isn't.
     (
         (
             b"group 1 3\nsubmit 1 7 1 -\nstored 1\nsubmit 1 7 2 @\nstored 1\nsubmit 1 7 3 @x\nlog 1\n",
@@ -192,7 +196,8 @@ const WORKED: [((&[u8], &[u8]), Ended); 27] = [
         ),
         Ended::Whole,
     ),
-    // All nodes stop at once: what was stored stays, a held record is lost, and numbers go on.
+    // All nodes stop at once. What was stored stays, and a draft that wasn't stored is lost. The
+    // client's next message at node 1 gets the next number.
     (
         (
             b"group 3 10\nsubmit 1 7 1 a\nstored 1\narrive 1 2 1 1\nstored 2\nsubmit 2 7 1 b\ncrash 3\nreopen\nlog 2\nlog 1\nheld 1.1\nheld 2.1\nsubmit 1 7 1 a\nsubmit 1 7 2 c\nrestart 3\n",
@@ -208,7 +213,7 @@ const WORKED: [((&[u8], &[u8]), Ended); 27] = [
         ),
         Ended::Whole,
     ),
-    // Refused commands, and a packet of a node to itself.
+    // Refused commands, and, as a bad line, a packet of a node to itself.
     (
         (
             b"group 3 10\nstored 1\nsubmit 4 7 1 a\narrive 4 1 1 1\ncrash 2\ncrash 2\nstored 2\nlog 2\narrive 1 1 1 1\n",

@@ -33,7 +33,7 @@ fn is_memory(error: Error) -> bool
     }
 }
 
-/// A refusal for memory is NoMemory, and any other counts as a failure of the device. Where the count is at its greatest
+/// A refusal for memory is NoMemory, and any other counts as a failure of the device. If the count is at its greatest
 /// value, the next failure answers NoMemory.
 pub fn blame(failures: &mut u64, error: Error) -> StoreFault
     ensures exact { (result, failures.new) ≡ blamed error failures.old }
@@ -238,8 +238,8 @@ fn is_ready<S: Alter>(conn: &Connection<S>, part: Part) -> bool
     conn.is_autocommit() && shape::has_table(conn.schema(), name_of(part))
 }
 
-/// Makes the table where it is absent. It refuses a connection with an open transaction, and then changes nothing; and one
-/// where another table, or a view, has the table's name.
+/// Makes the table if it is absent. It refuses a connection with an open transaction, and then changes nothing. It also
+/// refuses one in which another table, or a view, has the table's name.
 pub fn prepare<S: Alter>(
     conn: &mut Connection<S>,
     failures: &mut u64,
@@ -286,8 +286,8 @@ pub fn prepare<S: Alter>(
     }
 }
 
-/// Makes one table where it is absent, and reads its rows once, the first of which is at the place `first`: the place behind
-/// the last.
+/// Makes one table if it is absent, and reads its rows once, from the place `first` on. It gives the place after the last
+/// row.
 fn open_part<S: Alter>(
     alloc: Global,
     conn: &mut Connection<S>,
@@ -316,8 +316,8 @@ fn open_part<S: Alter>(
     Ok(first + records.len() as u32)
 }
 
-/// Makes both tables where they are absent, and reads their rows once: the next position. The first table is looked at and
-/// read before the second is made, so that a file which is refused for the first is left as it was.
+/// Makes both tables if they are absent, and reads their rows once. It gives the next position. It reads the first table
+/// before it makes the second, so that a file which is refused for the first is left as it was.
 pub fn take_over<S: Alter>(
     alloc: Global,
     conn: &mut Connection<S>,

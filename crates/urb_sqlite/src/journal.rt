@@ -16,11 +16,12 @@ use std::alloc::Global;
 use std::marker::Model;
 use urb_stable::{Record, Stable, StoreFault};
 
-/// A node's journal: stable storage in the tables `journal` and `journal2` of a database. New records go into `journal2` alone;
-/// those of `journal`, which stood first, come before them. A record is one row, stored by one INSERT outside any transaction. Nothing else may write the database while this holds it.
+/// A node's journal: stable storage in the tables `journal` and `journal2` of a database. New records go into `journal2` alone.
+/// Those of `journal`, the older table, come before them. A record is one row, stored by one INSERT outside any transaction.
+/// Nothing else may write the database while this holds it.
 ///
-/// `Device` stands for any refusal of the database but for memory, and each one raises the count of failures by one; where
-/// that count is at its greatest value, 2^64 - 1, the next failure answers `NoMemory`.
+/// `Device` is any refusal of the database but for memory, and each one raises the count of failures by one. If that count is
+/// at its greatest value, 2^64 - 1, the next failure answers `NoMemory`.
 pub struct SqlStable<S: Alter> {
     conn: Connection<S>,
     next: u32,

@@ -25,7 +25,7 @@ use urb_stable::{Stable, StoreFault};
 /// The journal of a node of any number, so that those of all nodes stand in one list.
 pub type NodeJournal<K> = SqlStable<FileStore<NodeFile<K>>>;
 
-/// The files at this path, where `S` stands for what they hold.
+/// The files at this path. `S` stands for what they hold.
 fn files_of<S: Start + Default>(
     rt: &HostRuntime,
     path: &str,
@@ -46,7 +46,7 @@ fn files_of<S: Start + Default>(
     }
 }
 
-/// The files at this path, where they are those of this node.
+/// The files at this path, which are those of this node.
 fn files_of_node<K: Contents>(
     rt: &HostRuntime,
     path: &str,
@@ -142,7 +142,7 @@ fn log_pages<D: Disk>(files: &mut Files<D>) -> Result<usize, StoreFault>
     }
 }
 
-/// Opens the journal of a node at this path, as of `SqlStable::open`, where `K` stands for what the node's files hold: for a
+/// Opens the journal of a node at this path, as `SqlStable::open` does. `K` stands for what the node's files hold. It is for a
 /// program that opens one journal a node, and comes back to what it stored before.
 pub fn open_node<K: Contents>(
     rt: &HostRuntime,
@@ -150,7 +150,7 @@ pub fn open_node<K: Contents>(
     node: NodeId,
 ) -> Result<NodeJournal<K>, StoreFault>
     ensures fault { IfErr result (λ e. is_place e ≡ false) }
-    // A journal that stood in the node's files is found with its records, and none where the database file was empty.
+    // A journal that was in the node's files is found with its records, and without any if the database file was empty.
     ensures found { IfOk result (λ j. IsFoundIn
         (held_by K.First.Start K.Second.Start K.Third.Start K.Fourth.Start K.Fifth.Start
         K.Sixth.Start K.Seventh.Start node) (⟦<NodeJournal<K> as Stable>⟧.is_clean j)
@@ -206,7 +206,7 @@ pub fn open_nodes<K: Contents>(
     ensures fault { IfErr result (λ e. is_place e.1 ≡ false) }
     // One for each node, in order.
     ensures count { IfOk result (λ journals. length journals.items ≡ config.n) }
-    // A journal that stood in a node's files is found with its records, and none where the database file was empty.
+    // A journal that was in a node's files is found with its records, and without any if the database file was empty.
     ensures found { IfOk result (λ journals. AreFoundIn ⟦<NodeJournal<K> as Stable>⟧
         (held_by K.First.Start K.Second.Start K.Third.Start K.Fourth.Start K.Fifth.Start
         K.Sixth.Start K.Seventh.Start) journals.items) }
@@ -266,7 +266,7 @@ pub fn close_node_in<K: Contents>(
     close_in(rt, directory, usize::from(node.number()), journal)
 }
 
-/// The first of two outcomes, where it is a fault, or else the second one.
+/// The first of two outcomes if it is a fault, and otherwise the second one.
 fn first_fault(
     first: Result<(), StoreFault>,
     second: Result<(), StoreFault>,
@@ -280,8 +280,8 @@ fn first_fault(
 }
 
 /// Closes the journals that `open_nodes` opened in this directory, so that one file is left of each: for a program that ends.
-/// Where one can't be closed, both of its files are left and no record is lost; the others are closed none the less, and the
-/// fault of the first such node is answered.
+/// If one can't be closed, both of its files are left and no record is lost. The others are closed all the same, and the
+/// answer is the fault of the first such node.
 pub fn close_nodes<K: Contents>(
     rt: &HostRuntime,
     directory: &str,

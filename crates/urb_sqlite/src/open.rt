@@ -28,14 +28,14 @@ pub fn fault_of(error: Error) -> StoreFault
 }
 
 impl SqlStable<FileStore<File>> {
-    /// Opens the journal at this path, and makes the file and its tables where they are absent; its directory has to be there.
+    /// Opens the journal at this path, and makes the file and its tables if they are absent. Its directory has to be there.
     /// The refusals are those of `adopt`. No clause says what a file held that was there: `open_from` does, for a caller that
     /// names it.
     pub fn open(rt: &HostRuntime, path: &str) -> Result<SqlStable<FileStore<File>>, StoreFault>
         ensures fault { IfErr result (λ e. is_place e ≡ false) }
         ensures new { IfOk result (λ s. (s.doubtful ≡ false) × (s.failures ≡ 0)) }
         ensures rest { IfOk result (λ s. IsSafeAtRest (file_state s.conn)) }
-        // Where there was no file, or an empty one, the journal has no record.
+        // If there was no file, or an empty one, the journal has no record.
         ensures fresh { IfOk result (λ s. HasCleanDisk (file_state s.conn)
             → IsHonestJournal (file_state s.conn) × (records_of (file_state s.conn).now ≡ [])) }
     {
@@ -44,7 +44,7 @@ impl SqlStable<FileStore<File>> {
 }
 
 impl<S: Start> SqlStable<FileStore<FileFrom<S>>> {
-    /// The same, where `S` stands for what the files at this path hold: the way to state a theorem over a real file.
+    /// The same. `S` stands for what the files at this path hold: the way to state a theorem over a real file.
     pub fn open_from(
         rt: &HostRuntime,
         path: &str,
@@ -53,11 +53,11 @@ impl<S: Start> SqlStable<FileStore<FileFrom<S>>> {
         ensures fault { IfErr result (λ e. is_place e ≡ false) }
         ensures new { IfOk result (λ s. (s.doubtful ≡ false) × (s.failures ≡ 0)) }
         ensures rest { IfOk result (λ s. IsSafeAtRest (file_state s.conn)) }
-        // Where there was no file, or an empty one, the journal has no record.
+        // If there was no file, or an empty one, the journal has no record.
         ensures fresh { IfOk result (λ s. HasCleanDisk (file_state s.conn)
             → S.Start.db ≡ []
             → IsHonestJournal (file_state s.conn) × (records_of (file_state s.conn).now ≡ [])) }
-        // Where the files hold a database that has the journal, its rows are records, and these are found.
+        // If the files hold a database that has the journal, its rows are records, and these are found.
         ensures found { IfOk result (λ s. HasCleanDisk (file_state s.conn)
             → (db : _)
             → HoldsDatabase (image_at S.Start) db
@@ -109,11 +109,11 @@ impl<D: Disk + Drop> SqlStable<FileStore<D>> {
         // A journal over a clean disk was opened over clean files.
         ensures clean { IfOk result
             (λ s. HasCleanDisk (file_state s.conn) → AreClean D.Disk files.log files.db) }
-        // Where the database file is empty, the journal has no record.
+        // If the database file is empty, the journal has no record.
         ensures fresh { IfOk result (λ s. HasCleanDisk (file_state s.conn)
             → (image_of D.Disk files).db ≡ []
             → IsHonestJournal (file_state s.conn) × (records_of (file_state s.conn).now ≡ [])) }
-        // Where the files hold a database that has the journal, its rows are records, and these are found.
+        // If the files hold a database that has the journal, its rows are records, and these are found.
         ensures found { IfOk result (λ s. HasCleanDisk (file_state s.conn)
             → (db : _)
             → HoldsDatabase (image_of D.Disk files) db
@@ -191,11 +191,11 @@ impl<D: Disk + Drop> SqlStable<FileStore<D>> {
         // A journal over a clean disk was opened over clean files.
         ensures clean { IfOk result
             (λ s. HasCleanDisk (file_state s.conn) → AreClean D.Disk files.log files.db) }
-        // Where the database file is empty, the journal has no record.
+        // If the database file is empty, the journal has no record.
         ensures fresh { IfOk result (λ s. HasCleanDisk (file_state s.conn)
             → (image_of D.Disk files).db ≡ []
             → IsHonestJournal (file_state s.conn) × (records_of (file_state s.conn).now ≡ [])) }
-        // Where the files hold a database that has the journal, its rows are records, and these are found.
+        // If the files hold a database that has the journal, its rows are records, and these are found.
         ensures found { IfOk result (λ s. HasCleanDisk (file_state s.conn)
             → (db : _)
             → HoldsDatabase (image_of D.Disk files) db

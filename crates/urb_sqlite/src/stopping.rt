@@ -74,7 +74,7 @@ pub fn stop_and_open_all<D: Crash + Drop>(
 ) -> Result<Cluster<SqlStable<FileStore<D>>>, Refusal>
     requires counted { length journals.items ≡ config.n }
     ensures sized { IfOk result (λ new. new.group.size ≡ config) }
-    // Where a stop leaves of each journal what it may leave of the nodes of a world that a group showed, the new cluster goes
+    // Let a stop leave of each journal what it may leave of the nodes of a world that a group showed. Then the new cluster goes
     // on from that world, as far as the disks have given back what was written.
     ensures goes_on { IfOk result (λ new. (old : GroupView) (w : World)
         → IsSound old
@@ -134,8 +134,8 @@ pub fn stop_and_reopen<D: Crash + Drop>(
 ) -> Result<Cluster<SqlStable<FileStore<D>>>, Refusal>
     requires same { cluster.group.size ≡ config }
     ensures sized { IfOk result (λ new. new.group.size ≡ config) }
-    // The new cluster goes on from the world that the old one showed, also where faults had shut some of its journals, as far as
-    // the disks have given back what was written; and it may be stopped in turn.
+    // The new cluster goes on from the world that the old one showed, also if faults had shut some of its journals. That holds as
+    // far as the disks have given back what was written. It may be stopped in turn.
     ensures goes_on { IfOk result
         (λ new. GoesOnFrom ⟦<SqlStable<FileStore<D>> as Stable>⟧ cluster new) }
     ensures secured { IfOk result (λ new. IsSecured ⟦<SqlStable<FileStore<D>> as Stable>⟧ cluster
@@ -158,8 +158,8 @@ pub fn apply_and_stop<D: Crash + Drop>(
 ) -> (Reply, Result<Cluster<SqlStable<FileStore<D>>>, Refusal>)
     requires same { cluster.group.size ≡ config }
     ensures sized { IfOk result.1 (λ new. new.group.size ≡ config) }
-    // The new cluster goes on from the world that the old one showed before the command, also where faults had shut some of
-    // its journals by then, as far as the disks have given back what was written; and it may be stopped in turn.
+    // The new cluster goes on from the world that the old one showed before the command, also if faults had shut some of its
+    // journals by then. That holds as far as the disks have given back what was written. It may be stopped in turn.
     ensures goes_on { IfOk result.1
         (λ new. GoesOnFrom ⟦<SqlStable<FileStore<D>> as Stable>⟧ cluster new) }
     // The command was done before the stop, with that reply, and the new cluster also goes on from the world that it led to.

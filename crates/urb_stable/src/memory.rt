@@ -10,12 +10,13 @@ use std::alloc::{Allocator, Global};
 use std::marker::Model;
 use urb_names::{Message, NoMemory};
 
-/// How a store in memory fails.
+/// How a call of `store` fails in memory, if a test or a script has armed it.
 #[derive(Clone, Copy, Debug, PartialEq, Eq)]
 pub enum Failure {
-    /// It keeps nothing of the record.
+    /// The answer is `Device`, and the records stay as they were.
     Old,
-    /// It keeps the record. If no memory is left for it, it answers `NoMemory` and keeps nothing.
+    /// The answer is `Device`, and the record is kept all the same. If there is no memory for it,
+    /// the answer is `NoMemory` and nothing is kept.
     New,
 }
 
@@ -25,7 +26,8 @@ pub enum Failure {
 pub struct MemStable<A: Allocator = Global> {
     #[derive_where(skip)]
     alloc: A,
-    // The certain records, followed by at most one doubtful record.
+    // Records that are surely stored (`certain` is their count), then perhaps one whose store
+    // failed and which may have been kept.
     records: Vec<Record<Message<A>>, A>,
     certain: u32,
     doubtful: bool,
@@ -64,7 +66,7 @@ fn keep<A: Allocator + Copy>(
     Ok(())
 }
 
-// Copies of all records.
+// Returns copies of all records, which share the payloads.
 fn copies<A: Allocator + Copy>(
     records: &[Record<Message<A>>],
     alloc: A,
@@ -93,9 +95,9 @@ impl<A: Allocator + Copy> MemStable<A> {
         }
     }
 
-    /// Makes the next store fail, except one that is answered `Place`. A new arming replaces an
-    /// unused one. After 2 ^ 64 - 1 failures no further one can be counted, so that store answers
-    /// `NoMemory` and keeps nothing.
+    /// Makes the next call of `store` fail that isn't answered `Place`. If a failure was armed
+    /// before and not used, this one replaces it. After 2 ^ 64 - 1 failures no further one can be
+    /// counted, so an armed call answers `NoMemory` and keeps nothing.
     pub fn arm(&mut self, failure: Failure)
         ensures { self.new ≡ armed_with failure self.old }
     {
@@ -158,8 +160,9 @@ impl<A: Allocator + Copy> Stable for MemStable<A> {
         ensures device { result ≡ Err StoreFault.Device → self.old.failures < self.new.failures }
         ensures counts { self.old.failures ≤ self.new.failures }
 
-        // The exact answer and effect if the store is in place: unarmed, and armed with each
-        // failure. If no further failure can be counted, an armed store answers `NoMemory`.
+        // The exact answer and effect if the position is right (the answer isn't `Place`): first
+        // without an armed failure, then with each of the two. If no further failure can be
+        // counted, an armed call answers `NoMemory`.
         ensures unarmed { is_out_of_place self.old.doubtful (length self.old.certain + 1) pos
             ≡ false
             → self.old.armed ≡ None

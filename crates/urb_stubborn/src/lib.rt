@@ -1,11 +1,11 @@
-//! Stubborn links over pending messages: each timeout sends again what was sent.
+//! Stubborn links: each timeout (tick) resends up to 16 pending messages that a node may lack.
 //!
 //! The book describes them in section 2.4 (Cachin, Guerraoui and Rodrigues 2011).
 //!
 //! ```text
 //! // after a store: one packet to every other node
 //! let outbox = Outbox::of_pair(alloc, config, node, name, &message, certified, heard)?;
-//! // before a message is pending: space to record the certificates heard
+//! // before a message is added: space to note which nodes have certified it
 //! resend.reserve(name)?;
 //! // a packet said that the node has stored a certificate of the name
 //! resend.hear(name, node);
@@ -14,10 +14,10 @@
 //! for packet in outbox.into_packets() { .. }
 //! ```
 //!
-//! A node hears another node's certificate when a packet reports it. A name is due until the
-//! certificates of all other nodes have been heard. It is sent only to the nodes whose certificates
-//! are missing. Once all are heard, a tick sends nothing. The crate itself never sends: the caller
-//! sends an `Outbox`, or drops it.
+//! A node hears another node's certificate when a packet from that node reports it. A name is due
+//! at a node until every other node has reported to it that it has certified the name. It is sent
+//! only to the nodes that haven't reported. Once no name is due, a tick sends nothing. The crate
+//! itself never sends: the caller sends an `Outbox`, or drops it.
 #![tactic(auto)]
 
 mod due;

@@ -49,8 +49,8 @@ fn has_mask<A: Allocator + Copy>(masks: &Windows<u8, A>, name: Name) -> bool
     masks.get(name).is_some()
 }
 
-#[tactic(auto, using(crate::proofs::Flattened::acked_bit))]
 // Whether the node with this number is marked for a name.
+#[tactic(auto, using(crate::proofs::Flattened::acked_bit))]
 fn is_marked<A: Allocator + Copy>(masks: &Windows<u8, A>, name: Name, number: u8) -> bool
     requires { (0 < number) × (number ≤ 7) }
     ensures { result ≡ acked (marks_in masks.now.entries) name number }
@@ -69,7 +69,7 @@ fn count_of<A: Allocator + Copy>(masks: &Windows<u8, A>, name: Name, n: u8) -> u
     bits_up_to(mask_of(masks, name), n)
 }
 
-// Reserves space for the marks of a name.
+// Allocates lasting space for the marks of a name.
 fn make_room<A: Allocator + Copy>(masks: &mut Windows<u8, A>, name: Name) -> Result<(), NoMemory>
     ensures ok { OnOk result (marks_of masks.new ≡ with_room (marks_of masks.old) name) }
     ensures err { OnErr result (masks.new ≡ masks.old) }
@@ -143,7 +143,8 @@ impl<A: Allocator + Copy> Marks<A> {
         }
     }
 
-    /// States what always holds of marks. It does nothing; only proofs use it.
+    /// Its clause states what always holds of marks. Call it in code whose proof needs this; it
+    /// does nothing.
     pub fn limits(&self)
         ensures { IsMarkSet self.now }
     {
@@ -166,16 +167,16 @@ impl<A: Allocator + Copy> Marks<A> {
         count_of(&self.masks, name, n)
     }
 
-    /// Whether a name has space for its marks, so that its `add` allocates nothing.
+    /// Whether a name has space for its marks, so that an `add` for it allocates nothing.
     pub fn is_roomy(&self, name: Name) -> bool
         ensures { result ≡ has_name self.now.roomy name }
     {
         has_mask(&self.masks, name)
     }
 
-    /// Reserves space for the marks of a name, without marking it yet. The space is promised until
-    /// another name gets its first mark or space of its own. `NoMemory` means that an allocation
-    /// was refused; the caller may make the call again.
+    /// Reserves space for the marks of a name, and marks nothing. The reservation ends when another
+    /// name gets its first mark, or space by `make_room` or `reserve`. `NoMemory` means that an
+    /// allocation was refused; the caller may make the call again.
     pub fn reserve(&mut self, name: Name) -> Result<(), NoMemory>
         ensures ok { OnOk result (self.new ≡ record self.old { reserved = Some name }) }
         ensures err { OnErr result (self.new ≡ self.old) }

@@ -7,21 +7,21 @@ use std::thread;
 use std::time::{Clock, Duration};
 
 /// How much may be in flight to one node before its senders wait, in bytes. Linux gives a socket
-/// 212,992 bytes at first, and counts up to twice a datagram's length against them. So what is in
-/// flight fits with a margin.
+/// 212,992 bytes at first. It counts more than a datagram's length against them: at most twice that
+/// of a long one, and some 800 bytes for a short one. So what is in flight fits with a margin.
 pub const MOST_IN_FLIGHT: u64 = 65_536;
 
-/// What a datagram counts for beside its bytes, in bytes. The system adds less than this to a short
-/// one.
+/// How much is added to a datagram's length when it is counted, in bytes. Linux adds less than this
+/// to a short one. What it adds to a long one is within the margin of `MOST_IN_FLIGHT`.
 pub const CARRYING: u64 = 1_024;
 
 // How long a sender sleeps before it checks again, in microseconds.
 const PAUSE: u64 = 100;
 
-// How often a sender checks for room before it sends anyway.
+// How many times a sender checks for room. After that it sends anyway.
 const PATIENCE: u32 = 1_000;
 
-// What a datagram of this length counts for.
+// What a datagram of this length counts for: its length and `CARRYING`.
 fn load_of(length: usize) -> u64
     requires { length < 2 ^ 63 }
     ensures { result ≡ length + CARRYING }
@@ -48,7 +48,7 @@ pub struct InFlight {
 }
 
 impl InFlight {
-    /// Nothing is in flight.
+    /// A count of nothing in flight.
     pub fn new() -> InFlight {
         InFlight {
             load: AtomicU64::new(0),
@@ -71,10 +71,10 @@ impl InFlight {
                 .is_ok()
     }
 
-    /// Counts a datagram of this length that is about to be sent. It waits while there is no room
-    /// for it, for at most a tenth of a second, or somewhat more if the machine is busy. After a
-    /// wait that found no room, nobody waits until the receiver takes a datagram again. So a node
-    /// that stands still holds the others up only once.
+    /// Counts a datagram of this length that is about to be sent. The call waits while there is no
+    /// room for the datagram, for at most a tenth of a second, or somewhat more if the machine is
+    /// busy. After a wait that found no room, no sender waits until the receiver takes a datagram
+    /// again. So a node that hangs delays its senders for about a tenth of a second in all.
     pub fn enter<R: Clock>(&self, rt: &R, length: usize)
         requires { length < 2 ^ 63 }
     {
@@ -92,8 +92,8 @@ impl InFlight {
         self.load.fetch_add(load, Ordering::SeqCst);
     }
 
-    /// From now on nobody waits, until the receiver takes a datagram again. A receiver calls this
-    /// when it ends.
+    /// From now on no sender waits, until the receiver takes a datagram again. A receiver calls
+    /// this when it ends, so that from then on nobody waits for it.
     pub fn give_up(&self) {
         self.is_stuck.store(true, Ordering::SeqCst);
     }
@@ -103,7 +103,8 @@ impl InFlight {
         self.load.fetch_sub(load.min(self.load()), Ordering::SeqCst);
     }
 
-    /// Subtracts a datagram of this length, which the receiver has taken.
+    /// Subtracts a datagram of this length, which the receiver has taken. From now on senders wait
+    /// again if there is no room.
     pub fn leave(&self, length: usize)
         requires { length < 2 ^ 63 }
     {
@@ -113,8 +114,8 @@ impl InFlight {
         }
     }
 
-    /// Subtracts what was in flight before the receiver found its socket empty. All of that was
-    /// taken or lost.
+    /// Subtracts `seen`: the count that the receiver read before it looked into its socket and
+    /// found it empty. All of that was taken or lost.
     pub fn settle(&self, seen: u64) {
         self.take_off(seen);
     }

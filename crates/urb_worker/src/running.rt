@@ -279,10 +279,10 @@ fn close_all<K: HouseName, L: HubName, R: Wait>(
     events
 }
 
-/// Runs a group that was opened, until the watch ends: a worker for each node, with its store; at each node's station its
-/// datagrams and its clients; and a tick at each node every so many milliseconds. The stores and the stations are those of
-/// the nodes 1, 2, ... The reporter hears of each node that goes down or comes back. It gives the stores back, and how many events
-/// there were. At the end it waits for sessions that have begun. None if memory or a thread was refused: then nothing runs any
+/// Runs a group that was opened, until the watch ends. Each node has a worker with its store, and a station that takes its
+/// datagrams and its clients. Each node gets a tick every `millis` milliseconds. The stores and the stations are those of the
+/// nodes 1, 2, ... The reporter hears of each node that goes down or comes back. The stores come back, with the count of events.
+/// At the end it waits for sessions that have begun. There is no count if memory or a thread was refused. Then nothing runs any
 /// more, and the watch was not asked.
 #[tactic(auto, using(crate::proofs::Served::unserved))]
 pub fn run_group<

@@ -1,6 +1,6 @@
 //! Runs in which memory is refused, or the reader or the writer fails.
 //!
-//! The failure comes at the first place, then at the second, and so on.
+//! The first allocation, read or write fails, in the next run the second, and so on.
 
 use super::frames::eight_entries;
 use super::node::OneNode;
@@ -15,16 +15,22 @@ use urb_refusing::{FailingReader, FailingWriter, Refusing};
 // What fails, and in which kind of run.
 #[derive(Clone, Copy)]
 enum Failing {
+    // An allocation of a session is refused.
     SessionGrowth,
+    // A read of a session fails.
     SessionRead,
+    // A write or a flush of a session fails.
     SessionWrite,
+    // An allocation is refused while an ENTRIES response is written and read again.
     PageGrowth,
+    // A read of a response fails.
     ResponseRead,
+    // An allocation is refused while a response is received.
     ResponseGrowth,
 }
 
-// The result of a run: the failure was reported, or it was not met and all went well, or something
-// else happened.
+// The result of a run. `Told`: the failure was reported. `Well`: no failure was met, and all went
+// well. `Other`: anything else, which is an error.
 #[derive(Clone, Copy)]
 enum Came {
     Told,
@@ -33,7 +39,7 @@ enum Came {
 }
 
 // Returns the result of a run. `met`: the failure was met. `told`: it was reported then. `well`:
-// all went well otherwise.
+// without a failure, all went well.
 fn came_of(met: bool, told: bool, well: bool) -> Came {
     match (met, told, well) {
         (true, true, _) => Came::Told,
@@ -42,8 +48,9 @@ fn came_of(met: bool, told: bool, well: bool) -> Came {
     }
 }
 
-// Where a session fails, and in what pieces it reads and writes. The place is the number of the
-// growth, of the read, and of the write or flush; 0 is nowhere.
+// Where a session fails, and in what pieces it reads and writes. `growth`, `read` and `write` say
+// which allocation, which read, and which write or flush fails; 0 means none. `pieces`: how many
+// bytes one read gives, and how many one write takes.
 #[derive(Clone, Copy)]
 struct Course {
     growth: u64,
@@ -60,18 +67,24 @@ const SMOOTH: Course = Course {
     pieces: (3, 100),
 };
 
-// The result of a session: how it ended, whether it met its failure, and whether that was its last
-// growth, read, write or flush. Also whether all answers were written, or some first answers, each
-// of them whole, and whether they were flushed. Last, how many reads and flushes there were.
+// The result of a session.
 #[derive(Clone, Copy)]
 struct Outcome {
+    // How it ended.
     ended: Result<Ended, SessionFault>,
+    // Its failure was met.
     met: bool,
+    // The call that failed was the last of its kind.
     last: bool,
+    // All answers were written.
     all: bool,
+    // The first answers were written, up to some number, none cut off.
     whole: bool,
+    // All that was written was flushed.
     flushed: bool,
+    // How many reads there were.
     reads: u64,
+    // How many flushes there were.
     flushes: u64,
 }
 
@@ -87,7 +100,7 @@ impl Outcome {
     }
 }
 
-// Says whether these bytes are some of the first answers, each of them whole.
+// Says whether these bytes are the first answers, up to some number, none cut off.
 fn are_whole_answers(written: &[u8]) -> bool {
     let (mut rest, mut answered) = (written, ANSWERED);
     for _ in 0..8u8 {
@@ -110,7 +123,7 @@ fn ended<A: Allocator + Copy>(
     session(alloc, reader, writer, &mut desk)
 }
 
-// Returns the result of the worked session on this course.
+// Plays the worked session (`SENT`) on this course, and returns its result.
 fn played(alloc: Global, course: Course) -> Outcome {
     let heap = Refusing::new(alloc, course.growth);
     let mut reader = FailingReader::new(SENT, course.pieces.0.max(1), course.read);
@@ -143,7 +156,8 @@ fn a_session_ends_at_a_bad_length_byte_by_byte(rt: HostRuntime) {
     assert_eq!(rt; outcome.reads, 52);
 }
 
-// A session in which this growth is refused, and answers are written in pieces.
+// Returns the result of a session in which this allocation is refused, and answers are written in
+// pieces.
 fn session_growth(alloc: Global, number: u64) -> Came {
     let outcome = played(
         alloc,
@@ -157,7 +171,7 @@ fn session_growth(alloc: Global, number: u64) -> Came {
     came_of(outcome.met, told, outcome.is_well())
 }
 
-// A session in which this read fails.
+// Returns the result of a session in which this read fails.
 fn session_read(alloc: Global, number: u64) -> Came {
     let outcome = played(
         alloc,
@@ -170,14 +184,14 @@ fn session_read(alloc: Global, number: u64) -> Came {
     came_of(outcome.met, told, outcome.is_well())
 }
 
-// Returns how many reads the first answers take: two per frame, but the last frame has no bytes
-// after its length.
+// Returns how many reads the first answers take: two per frame, but one for the eighth frame, whose
+// length is 0.
 fn reads_for(answers: u64) -> u64 {
     answers.saturating_mul(2).min(15)
 }
 
-// A session in which this write or flush fails. The frame after an answer is read neither before
-// the answer is flushed, nor after the fault.
+// Returns the result of a session in which this write or flush fails. The session reads a frame
+// only after the answer before it was flushed, and reads nothing after the fault.
 fn session_write(alloc: Global, number: u64) -> Came {
     let outcome = played(
         alloc,
@@ -196,17 +210,18 @@ fn session_write(alloc: Global, number: u64) -> Came {
     )
 }
 
-// The frame of a page, written and read, with this growth refused.
+// Returns the result of writing an ENTRIES response and reading it again, with this allocation
+// refused.
 fn page_growth(alloc: Global, number: u64) -> Came {
     let heap = Refusing::new(alloc, number);
     let read = eight_entries(&heap);
     came_of(heap.met(), read == Err(NoMemory), read == Ok(true))
 }
 
-// A page of one entry.
+// An ENTRIES response with one entry.
 const PAGE: &[u8] = b"\x00\x11\x82\x01\x01\x00\x00\x00\x01\x00\x07\x00\x00\x00\x01\x00\x02hi";
 
-// A response that is received, with this read failing.
+// Returns the result of receiving a response, with this read failing.
 fn response_read(alloc: Global, number: u64) -> Came {
     let mut reader = FailingReader::new(PAGE, 3, number);
     let read = has_entries(alloc, &mut reader);
@@ -214,7 +229,7 @@ fn response_read(alloc: Global, number: u64) -> Came {
     came_of(reader.met(), told, read == Ok(true))
 }
 
-// A response that is received, with this growth refused.
+// Returns the result of receiving a response, with this allocation refused.
 fn response_growth(alloc: Global, number: u64) -> Came {
     let heap = Refusing::new(alloc, number);
     let mut reader = PAGE;
@@ -235,8 +250,8 @@ fn came_at(alloc: Global, failing: Failing, number: u64) -> Came {
     }
 }
 
-// Returns the first place that no run comes to, if each failure before it was reported. Otherwise
-// returns the place of the first failure that was not.
+// Fails each place in turn, up to 199. Returns the first place that a run doesn't reach. Returns as
+// `Err` the first place at which a run went wrong, or 200 if each run reached its place.
 fn first_unmet(alloc: Global, failing: Failing) -> Result<u64, u64> {
     for number in 1..200u64 {
         match came_at(alloc, failing, number) {

@@ -13,8 +13,8 @@ use urb_daemon::{Host, link_to, open_sockets, run_opened};
 use urb_group::{Config, Group, MemStable};
 use urb_worker::{Station, Watch};
 
-// What a client sends to a group of one node: a submit, a read that shows it, a status, a submit whose number isn't the next,
-// an unknown opcode, a read of the place 0, one behind the end, and a bad length.
+// What a client sends to a group of one node. It is a submit, a read that shows it, a status, and a submit whose number isn't
+// the next. Then come an unknown opcode, a read of the place 0, a read after the end, and a bad length.
 const SENT: &[u8] = b"\x00\x09\x01\x00\x07\x00\x00\x00\x01hi\
 \x00\x06\x02\x00\x00\x00\x01\x08\
 \x00\x01\x03\

@@ -1,4 +1,4 @@
-//! Two nodes of three deliver a message, with each growth refused in turn.
+//! Two nodes of three deliver a message, with each allocation (growth) refused in turn.
 
 use super::{client, one, three, two};
 use std::alloc::{Allocator, Global};
@@ -8,6 +8,7 @@ use urb_names::encode;
 use urb_refusing::Refusing;
 
 /// A group, and the bytes of the packet that travels. All memory of the group comes from `heap`.
+/// `calm` never refuses; the stores and the packet use it.
 #[derive(Drop)]
 struct Walk<A: Allocator + Copy> {
     heap: A,
@@ -21,12 +22,13 @@ struct Walk<A: Allocator + Copy> {
 struct Step {
     /// How many names the step released.
     released: u32,
-    /// Whether the step was refused for memory first. The node was then ready as before, and the
-    /// same call was made again.
+    /// Whether an allocation of the step was refused at first. Then the same call was made again,
+    /// and had to succeed.
     refused: bool,
 }
 
-// Makes a group of three, and makes it again if its growth is refused. Says whether it was refused.
+// Makes a group of three, and makes it again if its allocation is refused. Says whether it was
+// refused.
 fn group<A: Allocator + Copy>(alloc: A) -> Option<(Group<A>, bool)> {
     match Group::new(alloc, three()) {
         Ok(group) => Some((group, false)),
@@ -34,7 +36,7 @@ fn group<A: Allocator + Copy>(alloc: A) -> Option<(Group<A>, bool)> {
     }
 }
 
-// Returns the draft.
+// Returns the draft, or `None` if the node has nothing to store.
 fn drafted<A: Allocator>(taken: Taken<A>) -> Option<Draft<A>> {
     match taken {
         Taken::Store(draft) => Some(draft),
@@ -43,7 +45,7 @@ fn drafted<A: Allocator>(taken: Taken<A>) -> Option<Draft<A>> {
 }
 
 impl<A: Allocator + Copy> Walk<A> {
-    // The client sends its message to node 1, or the packet comes to this node.
+    // With `None`, the client submits its message at node 1. With a node, the packet arrives at it.
     fn take(&mut self, node: Option<NodeId>) -> Result<Taken<A>, Refusal> {
         match node {
             None => self.group.submit(self.heap, one(), client(), 1, b"a"),
@@ -51,15 +53,15 @@ impl<A: Allocator + Copy> Walk<A> {
         }
     }
 
-    // Lets the first packet that a node sends travel on.
+    // Keeps the bytes of the first packet in `sent`: it is the one that arrives next.
     fn send(&mut self, sent: &Outbox<A>) -> Option<()> {
         let packet = sent.get(0)?;
         self.packet = encode(self.calm, packet).ok()?;
         Some(())
     }
 
-    // Gives the group a receipt, without asking for memory, and returns how many names are
-    // released.
+    // Gives the group a receipt, and returns how many names are released. Returns `None` if the
+    // group asked for memory.
     fn commit(&mut self, receipt: Receipt<A>, counted: &Refusing<Global>) -> Option<u32> {
         let asked = counted.asked();
         let done = self.group.commit(receipt).ok()?;
@@ -79,7 +81,9 @@ impl<A: Allocator + Copy> Walk<A> {
         self.commit(receipt, counted)
     }
 
-    // A node takes the client's message, or the packet, and stores the record.
+    // Lets a node take the client's message or the packet, and store the record. If memory is
+    // refused, makes the same call again. Returns the result, or `None` if something else went
+    // wrong.
     fn step(
         &mut self,
         node: Option<NodeId>,
@@ -105,7 +109,8 @@ impl<A: Allocator + Copy> Walk<A> {
     }
 }
 
-// Returns how many names nodes 1 and 2 release in the end, and whether a step was refused.
+// Returns how many names nodes 1 and 2 release in the end, and whether memory was refused at some
+// step.
 fn told(steps: [Option<Step>; 3]) -> Option<(u32, u32, bool)> {
     let [sent, relayed, certified] = steps;
     let (sent, relayed, certified) = (sent?, relayed?, certified?);
@@ -113,7 +118,8 @@ fn told(steps: [Option<Step>; 3]) -> Option<(u32, u32, bool)> {
     Some((certified.released, relayed.released, refused))
 }
 
-// Does the same for a new group, whose making may be refused too.
+// Makes a group, does the three steps, and returns what `told` returns. The allocation for the
+// group may be refused too.
 fn released<A: Allocator + Copy>(
     heap: A,
     calm: A,

@@ -5,19 +5,21 @@ use super::*;
 /// A check with its expected result.
 #[derive(Clone, Copy)]
 pub(super) enum Check<'a> {
-    /// How far a sender's names go without a gap, and how many come after it.
+    /// The sender has this last number before the first gap, and this many numbers after that gap.
     Goes(u8, u32, u32),
-    /// A client's messages have exactly these numbers at node 1, and its next number follows them.
+    /// The client's messages 1, 2, 3, .. at node 1 have names with these numbers. The client's next
+    /// number is one more than their count.
     Numbers(u16, &'a [u32]),
-    /// The name that comes next in cyclic order.
+    /// After the first name, the second comes next in cyclic order. `None` as the first means
+    /// before all names.
     Next(Option<(u8, u32)>, Option<(u8, u32)>),
-    /// Whether this message is there under this name.
+    /// The row's message is there under its name (true), or isn't (false).
     Has(Row, bool),
     /// No message has this name.
     Lacks(u8, u32),
 }
 
-// Whether a message is the one in a row.
+// Whether a message is the one in a row (`Row` of tests.rt).
 fn fits<A: Allocator + Copy>(message: Option<&Message<A>>, row: Row) -> bool {
     let (_sender, _seq, client, number) = row;
     match message {
@@ -30,7 +32,8 @@ fn fits<A: Allocator + Copy>(message: Option<&Message<A>>, row: Row) -> bool {
     }
 }
 
-// Whether the message of a row is there, and also in its sender's window if no gap comes before it.
+// Whether the message of a row is there. If no number of its sender below its own is missing, it
+// has to be in the sender's gapless part (`window`) too.
 fn has_row<A: Allocator + Copy>(pending: &Pending<A>, row: Row) -> bool {
     let (sender, seq, _client, _number) = row;
     let Some(name) = name(sender, seq) else {
@@ -51,6 +54,7 @@ pub(super) fn holds<A: Allocator + Copy>(pending: &Pending<A>, rows: &[Row]) -> 
     pending.count() as usize == rows.len()
 }
 
+// Whether `Check::Goes` holds.
 fn goes<A: Allocator + Copy>(pending: &Pending<A>, sender: u8, low: u32, above: u32) -> bool {
     match NodeId::new(sender) {
         Some(sender) => {
@@ -62,6 +66,7 @@ fn goes<A: Allocator + Copy>(pending: &Pending<A>, sender: u8, low: u32, above: 
     }
 }
 
+// Whether `Check::Numbers` holds.
 fn is_numbered<A: Allocator + Copy>(pending: &Pending<A>, client: u16, owns: &[u32]) -> bool {
     let Some(client) = ClientId::new(client) else {
         return false;
@@ -82,7 +87,8 @@ fn named(pair: Option<(u8, u32)>) -> Option<Name> {
     name(sender, seq)
 }
 
-// Whether a second copy of a row's message is found under its name.
+// Makes the row's message anew, with memory from `messages`, and says whether the pending set has
+// it under its name. `None` if the row is out of range, or there is no memory.
 fn has<A: Allocator + Copy>(pending: &Pending<A>, messages: A, row: Row) -> Option<bool> {
     let (sender, seq, client, number) = row;
     let (name, client) = (name(sender, seq)?, ClientId::new(client)?);
@@ -95,6 +101,7 @@ fn has<A: Allocator + Copy>(pending: &Pending<A>, messages: A, row: Row) -> Opti
     Some(has_it)
 }
 
+// Whether `Check::Lacks` holds.
 fn lacks<A: Allocator + Copy>(pending: &Pending<A>, sender: u8, seq: u32) -> bool {
     match name(sender, seq) {
         Some(name) => pending.message(name).is_none(),
@@ -102,6 +109,7 @@ fn lacks<A: Allocator + Copy>(pending: &Pending<A>, sender: u8, seq: u32) -> boo
     }
 }
 
+// Whether this check passes. `messages` is the allocator of the messages to compare with.
 fn is_told<A: Allocator + Copy>(pending: &Pending<A>, messages: A, check: Check) -> bool {
     match check {
         Check::Goes(sender, low, above) => goes(pending, sender, low, above),

@@ -28,8 +28,8 @@ pub(super) enum News {
     OutOfMemory,
 }
 
-/// What came of a job: the reply, whether it ran and by how many events, whether a status is there, what became of the names
-/// that it released, and whether its readers have something to learn.
+/// The outcome of a job: the reply, whether it ran, by how many events, and whether a status is there. It also has what became of
+/// the names that it released, and whether its readers have something to learn.
 #[derive(Clone, Copy, PartialEq, Eq)]
 pub(super) struct Short {
     pub(super) said: Said,
