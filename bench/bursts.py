@@ -21,7 +21,7 @@ PAUSE = 0.03  # seconds for which the other one is stopped
 
 
 class Asker:
-    """A connection by which one asks a node how it is."""
+    """A connection for asking a node for its status."""
 
     def __init__(self, port):
         self.socket = socket.create_connection(("127.0.0.1", port))
@@ -75,7 +75,7 @@ def answers(processes):
 
 
 def shown_after(daemon, count):
-    """Seconds until all logs have so many entries, and how many the shortest has then."""
+    """Seconds until all logs have this number of entries, and how many the shortest log has then."""
     begin = time.monotonic()
     askers = ask_all(daemon)
     while (shown := min(lengths(askers))) < count and time.monotonic() < begin + LONGEST:

@@ -41,7 +41,7 @@ def percentile(times, share):
 
 
 def listens(port):
-    """Waits until somebody listens at a port."""
+    """Waits until a program listens at a port."""
     end = time.monotonic() + STARTED
     while time.monotonic() < end:
         try:
@@ -152,7 +152,7 @@ class Etcd:
 
 
 def built_etcd_load(room):
-    """The program that puts into etcd; none where etcd or Go isn't there."""
+    """The program that puts into etcd; None if etcd or Go isn't installed."""
     if not shutil.which("etcd") or not shutil.which("go"):
         return None
     path = room / "etcd-load"
@@ -296,7 +296,7 @@ def measure_etcd(table, bench, room, seconds):
 
 
 def submit_all(port, messages, length):
-    """Submits so many messages at one node, with many requests under way."""
+    """Submits this number of messages at one node, with many requests in flight."""
     with socket.create_connection(("127.0.0.1", port)) as it:
         reader = it.makefile("rb")
         sent = got = 0
@@ -322,7 +322,7 @@ def log_length(port):
 
 
 def history(program, room, messages, length):
-    """Memory after so many messages on three nodes, and how long a start on their journals takes."""
+    """Memory after this number of messages on three nodes, and how long a start on their journals takes."""
     folder = Path(tempfile.mkdtemp(dir=room))
     daemon = Daemon(program, folder, 3)
     begin = time.perf_counter()

@@ -1,4 +1,4 @@
-// The least that nodes take which sync each record: what urbd does for a message, with nothing of urbd.
+// The least time that nodes need if they sync each record: the writes, syncs and packets of urbd for a message, and nothing else.
 //
 //   floor NODES CLIENTS SECONDS [visible|read]
 //

@@ -17,7 +17,7 @@ KINDS = ("alone", "tests", "edits")
 
 
 def check_of(gate, process, top):
-    """The crate that a process of the gate checks, as which of the kinds, and its seconds of a processor; none where it is no check."""
+    """The crate that a process of the gate checks, the kind of check, and its processor seconds; None if it is no check."""
     try:
         if os.getsid(int(process.name)) != gate or os.readlink(process / "exe").rsplit("/", 1)[-1] != "rattle":
             return None

@@ -3,8 +3,8 @@
 //   load KIND PORT CLIENTS SECONDS [PAYLOAD] [CLIENT] [MESSAGES]
 //
 // KIND  submit   urbd's SUBMIT, each thread with a client number of its own, from CLIENT on
-//       killed   the same, until the connections break: what counts then is what was answered
-//       read     urbd's READ of 8 entries from place 1 (fewer come where payloads are over 8,178 bytes)
+//       killed   the same, until the connections break: then the answered submits count
+//       read     urbd's READ of 8 entries from place 1 (fewer come if payloads are over 8,178 bytes)
 //       visible  SUBMIT at PORT, then READ until each node shows the entry: at PORT + 1 .. PORT + CLIENTS - 1, and at PORT,
 //                where it is shown last; one thread
 //       xadd     redis' XADD of one field

@@ -52,7 +52,7 @@ def submit(port, first, count, length):
 
 
 def await_logs(it, nodes, count):
-    """Waits until the logs of all nodes show so many messages."""
+    """Waits until the logs of all nodes show this number of messages."""
     end = time.monotonic() + PATIENCE
     while (shown := min(log_length(it.port(node)) for node in range(1, nodes + 1))) < count:
         if end < time.monotonic():

@@ -68,7 +68,7 @@ def answered(lines, answers):
 
 
 def built_raft(room):
-    """The program that drives etcd's raft; none where Go or the package isn't there."""
+    """The program that drives etcd's raft; None if Go or the package isn't installed."""
     if not shutil.which("go"):
         return None
     path = Path(room) / "raft"
@@ -78,7 +78,7 @@ def built_raft(room):
 
 
 def raft_seconds(raft, messages):
-    """The seconds of so many proposals, each applied at all nodes before the next."""
+    """The seconds for this number of proposals, each applied at all nodes before the next."""
     answer = subprocess.run([raft, str(messages)], check=True, capture_output=True, text=True).stdout
     return float(answer.split()[0])
 

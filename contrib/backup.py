@@ -1,11 +1,11 @@
 #!/usr/bin/env python3
-"""Copies the journals of a running group, all at one moment, and looks whether a start opens the copy.
+"""Copies the journals of a running group, all at one moment, and checks whether a start opens the copy.
 
     backup.py BASE DEST     BASE is the group's base port, DEST a folder that isn't there yet
 
-It stops the program by SIGSTOP, copies the files of all nodes, and lets it continue; clients wait meanwhile, and nothing else
-happens to them. On a file system that shares blocks (btrfs, xfs) that takes no time that counts; else it is the time of the
-copy, some milliseconds for each megabyte. If this command is killed, the program continues all the same. It must run as the
+It suspends the program by SIGSTOP, copies the files of all nodes, and lets it continue; clients wait meanwhile, and nothing
+else happens to them. On a file system that shares blocks (btrfs, xfs) that takes hardly any time; otherwise it is the time of
+the copy, some milliseconds for each megabyte. If this command is killed, the program continues all the same. It must run as the
 program's user or as root. Status 0 if the copy opens, 1 if not. Needs Python 3.8 or later with SQLite 3.37, on Linux."""
 import argparse
 import fcntl
@@ -26,7 +26,7 @@ PATIENCE = 10.0  # seconds until all threads have to stand
 
 
 def stands(pid):
-    """Whether each thread of the process is stopped, so that none is within a write."""
+    """Whether each thread of the process is suspended, so that no thread is in the middle of a write."""
     for path in glob(f"/proc/{pid}/task/*/stat"):
         with open(path) as file:
             if file.read().rpartition(")")[2].split()[0] not in "Tt":
@@ -36,7 +36,7 @@ def stands(pid):
 
 @contextmanager
 def stopped(pid):
-    """The process stands meanwhile. It continues at the end, also if this process is killed: a guard sees to it."""
+    """Suspends the process. It continues at the end, also if this process is killed: a guard process sees to that."""
     guard = subprocess.Popen(["sh", "-c", f"cat > /dev/null; kill -CONT {pid}"], stdin=subprocess.PIPE, start_new_session=True)
     try:
         os.kill(pid, signal.SIGSTOP)
@@ -68,7 +68,7 @@ def sync(path):
 
 
 def back_up(pid, folder, target):
-    """Copies the journals of this folder while the process stands; for how many seconds it stood."""
+    """Copies the journals of this folder while the process is suspended. Returns for how many seconds it was."""
     os.mkdir(target, 0o700)
     begin = time.monotonic()
     with stopped(pid):

@@ -1,13 +1,13 @@
 #!/usr/bin/env python3
-"""Copies one node's log into a redis stream or into etcd, entry by entry, for ever: nothing lost, nothing twice, in order.
+"""Copies one node's log into a redis stream or into etcd, entry by entry, forever: nothing lost, nothing twice, in order.
 
     bridge.py PORT redis HOST:PORT KEY                    XADD KEY 0-PLACE sender S seq N client C number K payload BYTES
     bridge.py PORT etcd HOST:PORT[,HOST:PORT..] PREFIX    PREFIX/entry/PLACE (ten digits), as JSON with the payload in base64
 
 PORT is the node's port for clients. The target itself holds how far the copy goes, in the same write as the entries: redis
-refuses an id that isn't behind the last one, and etcd's transaction compares PREFIX/checkpoint. So this command may stop or be
-killed at any moment, and so may either side. It ends with status 1 if the node's log isn't the one that was copied before: its
-folder was begun anew, or put back from a backup. docs/BRIDGE.md says what is promised. Needs Python 3.8 or later, and
+refuses an id that isn't after the last one, and etcd's transaction compares PREFIX/checkpoint. So this command, the node and the
+target may each stop or be killed at any moment. It ends with status 1 if the node's log isn't the one that was copied before: its
+folder was begun anew, or restored from a backup. docs/BRIDGE.md says what is promised. Needs Python 3.8 or later, and
 examples/client.py or a copy beside it."""
 import argparse
 import base64
@@ -38,7 +38,7 @@ class Redis:
         self.address, self.key, self.socket = address, key, None
 
     def ask(self, *words):
-        """One command's reply. OSError if it is an error, or doesn't come: then the connection is begun anew."""
+        """The reply to one command. OSError if it is an error, or doesn't come: then the connection is opened again."""
         try:
             if self.socket is None:
                 host, _, port = self.address.rpartition(":")
@@ -74,7 +74,7 @@ class Redis:
             self.socket = None
 
     def checkpoint(self, first):
-        """The place behind the last entry, and the digest of that entry; none if the stream was trimmed to nothing."""
+        """The place after the last entry, and the digest of that entry; no digest if the stream was trimmed to nothing."""
         self.ask("SET", f"{self.key}:first", first, "NX")
         same_first(first, self.ask("GET", f"{self.key}:first").decode())
         if self.ask("EXISTS", self.key) == b"0":
@@ -87,7 +87,7 @@ class Redis:
         return int(last[2:]) + 1, found[0][1][9].decode() if found else None
 
     def append(self, place, entries):
-        """One XADD after the other: where one fails, none behind it is sent."""
+        """Sends one XADD after the other. If one fails, no later one is sent."""
         for at, entry in enumerate(entries, place):
             fields = [word for name in entry._fields for word in (name, getattr(entry, name))]
             self.ask("XADD", self.key, f"0-{at}", *fields[:8], "digest", digest_of(entry), *fields[8:])
@@ -101,7 +101,7 @@ class Etcd:
         self.addresses, self.prefix, self.at, self.there = addresses.split(","), prefix, 0, None
 
     def ask(self, path, body):
-        """The answer of one member. OSError if it has none: the next one is asked then."""
+        """The answer of one member. OSError if it gives none: then the next member is asked."""
         host, _, port = self.addresses[self.at].rpartition(":")
         connection = http.client.HTTPConnection(host, int(port), timeout=LIMIT)
         try:
@@ -135,7 +135,7 @@ class Etcd:
         return now["next"], now["last"]
 
     def append(self, place, entries):
-        """One transaction: the entries and the checkpoint behind them, if the checkpoint is still the one that was read."""
+        """One transaction: the entries and the checkpoint after them, if the checkpoint is still the one that was read."""
         last = digest_of(entries[-1])
         there = json.dumps({"next": place + len(entries), "first": self.first, "last": last}).encode()
         is_first = {"target": "CREATE", "createRevision": "0"}
@@ -164,7 +164,7 @@ def same_first(first, was):
 
 
 def following(node, place, digest):
-    """The entries from this place on, a few pages at most. The one before it has to have this digest."""
+    """The entries from this place on, a few pages at most. The entry before the place must have this digest."""
     begin = max(place - 1, 1)
     entries = []
     for response in node.ask(*(reading(begin + PAGE * page) for page in range(PAGES))):
@@ -180,7 +180,7 @@ def following(node, place, digest):
 
 
 def checkpoint_of(node, target):
-    """Where the copy goes on; None while the log is empty and nothing was copied."""
+    """The place where the copy continues; None while the log is empty and nothing was copied."""
     first = node.read(1, 1)
     if first:
         return target.checkpoint(digest_of(first[0]))
@@ -188,7 +188,7 @@ def checkpoint_of(node, target):
 
 
 def bridge(node, target, note=print):
-    """Copies for ever. After a fault of either side it asks the target again how far the copy goes."""
+    """Copies forever. After a fault of either side it asks the target again how far the copy goes."""
     at, told, pause = None, None, LEAST_PAUSE
     while True:
         try:

@@ -1,11 +1,11 @@
 #!/usr/bin/env python3
-"""Looks into the folder of a stopped group, by docs/FORMATS.md: what a start would answer, and what is wrong where.
+"""Checks the folder of a stopped group, by docs/FORMATS.md: what a start would answer, and what is wrong, and where.
 
     check_journals.py DIR --nodes N --cap C    judges all journals as a start with these options does; names node, row and rule
     check_journals.py DIR --list P             prints the records of node P's journal
 
-It changes no file: a journal with a log beside it (`-wal`) is looked at in a copy. Status 0 if a start opens the group, 1 if it
-is refused, 2 if the command line is wrong. Needs Python 3.8 or later, with an SQLite of 3.37 or later (STRICT tables), on Linux."""
+It changes no file: it reads a journal with a log beside it (`-wal`) from a copy. Status 0 if a start opens the group, 1 if it
+is refused, 2 if the command line is wrong. Needs Python 3.8 or later, with SQLite 3.37 or later (STRICT tables), on Linux."""
 import argparse
 import fcntl
 import hashlib
@@ -51,7 +51,7 @@ def device(cause):
 
 
 def look_at_file(path, to_use=True):
-    """Whether there is a file of this name with bytes in it; a fault if there is one that the program can't use, or can't read."""
+    """Whether there is a file of this name with bytes in it. A fault if the program can't use the file, or it can't be read."""
     try:
         found = os.lstat(path)
     except FileNotFoundError:
@@ -147,7 +147,7 @@ def rows_of(path, to_use=True):
 
 
 def records_of(path, to_use=True):
-    """The records of a journal; a fault at the first row that is none."""
+    """The records of a journal; a fault at the first row that is no record."""
     with opened(path, to_use) as connection:
         if connection:
             damage = [line.decode() for line, in connection.execute("PRAGMA integrity_check(3)") if line != b"ok"]
@@ -168,7 +168,7 @@ def path_of(folder, node):
 
 
 def log_of(records):
-    """How many entries the log of these records has: of each sender the certified names up to the first that is missing."""
+    """How many entries the log of these records has: for each sender, its certified names up to the first missing one."""
     certified, count = {it.name for it in records if it.kind != PEND}, 0
     for sender in range(1, MOST_NODES + 1):
         seq = 1
@@ -178,7 +178,7 @@ def log_of(records):
 
 
 def first_misfit(images, nodes, cap):
-    """The first record that breaks a rule of docs/FORMATS.md, "Images that fit together", as a fault; None if none does."""
+    """The first record that breaks a rule of docs/FORMATS.md, "Images that fit together", as a fault; None if no record does."""
     pairs = {node: {it.name: it.message for it in records if it.kind != CERT} for node, records in images.items()}
     for node, records in images.items():
         had, certified, own, of_client = {}, set(), 0, {}
@@ -219,7 +219,7 @@ def first_misfit(images, nodes, cap):
 
 
 def first_stranger(folder, nodes):
-    """The first journal of a node above these that a start refuses, as a fault: one with rows, or one that can't be read."""
+    """The first journal of a node with a greater number that a start refuses, as a fault: it has rows, or can't be read."""
     for node in range(nodes + 1, MOST_NODES + 1):
         path = path_of(folder, node)
         try:
@@ -245,7 +245,7 @@ def told(folder, node, records):
 
 
 def judge(folder, nodes, cap):
-    """What a start would be refused for; None if it opens the group. Prints a line for each node."""
+    """Why a start would be refused, as a fault; None if it opens the group. Prints a line for each node."""
     if not os.path.isdir(folder):
         print(f"node 1: {folder} is no folder")
         return device(f"{folder} can't be used")

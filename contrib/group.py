@@ -23,7 +23,7 @@ def options_of(words):
 
 
 def process_of(base):
-    """The program that serves a group at this base port; None if there is none whose command line this user can read."""
+    """The program that serves a group at this base port; None if this user can read no such command line."""
     for path in glob("/proc/[0-9]*/cmdline"):
         try:
             with open(path, "rb") as file:
@@ -39,7 +39,7 @@ def process_of(base):
 
 
 def folder_of(pid):
-    """The folder that the process's relative paths begin at."""
+    """The working directory of the process."""
     try:
         return os.readlink(f"/proc/{pid}/cwd")
     except OSError:

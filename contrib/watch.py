@@ -3,12 +3,12 @@
 
     watch.py BASE              shows it again each second, until it is stopped (Ctrl-C)
     watch.py BASE --check S    one line and a status, for a monitoring system:
-                               0 fine, 1 a log lacks for longer than S seconds what was sent, 2 a node is down, 3 no answer
-    watch.py BASE --json       one look as JSON
+                               0 fine, 1 after S seconds a log still lacks messages, 2 a node is down, 3 no answer
+    watch.py BASE --json       the present state as JSON
 
 BASE is the group's base port. The number of nodes, the cap and the folder are those of the program's command line; give
---nodes, --cap and --dir if this user can't read that. Each look opens a connection to each node, with a limit of one second, and
-closes it: it never holds one of a node's four. Needs Python 3.8 or later, on Linux."""
+--nodes, --cap and --dir if this user can't read that. Each check opens a connection to each node, with a limit of one second, and
+closes it: it never keeps one of a node's four in use. Needs Python 3.8 or later, on Linux."""
 import argparse
 import json
 import os
@@ -23,8 +23,8 @@ from client import Node, Refused
 
 FINE, BEHIND, DOWN, NO_ANSWER = 0, 1, 2, 3
 LIMIT = 1.0  # seconds that a node has for its answer
-BETWEEN = 0.2  # seconds between the looks of a check
-KEPT = 1000  # looks that are kept; of more every second one goes
+BETWEEN = 0.2  # seconds between the polls of a check
+KEPT = 1000  # polls that are kept; if there are more, every second one is dropped
 
 Group = namedtuple("Group", "base nodes cap dir pid")
 
@@ -43,7 +43,7 @@ def look(group):
 
 
 class Lag:
-    """For how long each log has lacked what was sent: by looks, each with the count of messages that all nodes had sent."""
+    """For how long each log has lacked what was sent: by polls, each with the count of messages that all nodes had sent."""
 
     def __init__(self, nodes):
         self.sent, self.looks = [0] * nodes, []
@@ -55,16 +55,16 @@ class Lag:
         self.looks = (looks[::2] if len(looks) > KEPT else looks) + [(moment, sum(self.sent))]
 
     def behind(self, status):
-        """How many messages a log lacks of those that were sent at the last look."""
+        """How many of the messages that had been sent at the last poll a log lacks."""
         return max(sum(self.sent) - status.logged, 0)
 
     def seconds(self, status):
-        """Since when it lacks something that was sent then: the time to the last look from the first whose messages it lacks."""
+        """For how long it has lacked some message: the time from the first poll whose messages it lacks to the last poll."""
         return self.looks[-1][0] - next((moment for moment, sent in self.looks if sent > status.logged), self.looks[-1][0])
 
 
 def facts(group, statuses, lag):
-    """One look in plain values."""
+    """One poll in plain values."""
     nodes = []
     for node, status in enumerate(statuses, 1):
         it = {"node": node, "state": status.state if status else "no answer"}
@@ -117,7 +117,7 @@ def numbers(nodes):
 
 
 def check(group, seconds):
-    """A status and a line. It takes as long as a log lacks what was sent at its first look, at most so many seconds."""
+    """A status and a line. It waits until no log lacks what had been sent at the first poll, for a limited number of seconds."""
     begin, due = time.monotonic(), None
     while True:
         statuses = look(group)

@@ -5,10 +5,10 @@ As a module: a `Publisher` has each message accepted once, a `Follower` reads ea
 As a command, where PORT is a node's port for clients:
 
     client.py PORT submit CLIENT NUMBER TEXT    submits until the message is accepted, and prints its number at the node
-    client.py PORT publish CLIENT FILE          publishes each line of standard input once; FILE keeps the one under way
-    client.py PORT read PLACE                   prints the log's entries from this place on, as far as it goes today
-    client.py PORT[,PORT..] follow [FILE]       prints each entry, for ever; FILE keeps the position
-    client.py PORT status|crash|restart         asks for a node's state, has it go down, or has it come back
+    client.py PORT publish CLIENT FILE          publishes each line of standard input once; FILE keeps the line in progress
+    client.py PORT read PLACE                   prints the log's entries from this place on, to the present end
+    client.py PORT[,PORT..] follow [FILE]       prints each entry, forever; FILE keeps the position
+    client.py PORT status|crash|restart         asks for a node's state, takes it down, or brings it back
 """
 import fcntl
 import hashlib
@@ -23,12 +23,12 @@ from collections import namedtuple
 Entry = namedtuple("Entry", "sender seq client number payload")
 Status = namedtuple("Status", "state sent logged")
 STATES = ("down", "ready", "storing")
-AGAIN = {1, 3, 4, 11, 15, 16}  # refusals after which the same submit may be accepted
+AGAIN = {1, 3, 4, 11, 15, 16}  # refusals after which the same submit may be accepted later
 TOO_LONG, CONFLICT, GAP, FULL = 5, 6, 7, 8
 LONGEST = 16384  # bytes of a payload
 PAGE = 8  # entries of a READ, at most
 MOST_PAGES = 16  # READs in one write
-LEAST_PAUSE, MOST_PAUSE = 0.001, 0.2  # seconds between polls that bring nothing
+LEAST_PAUSE, MOST_PAUSE = 0.001, 0.2  # seconds between polls that find nothing new
 
 
 class Refused(Exception):
@@ -40,11 +40,11 @@ class Refused(Exception):
 
 
 class Stopped(Exception):
-    """To go on could repeat, lose or mix messages: somebody has to look first."""
+    """Continuing could repeat, lose or mix messages: somebody has to find out why first."""
 
 
 def until(call, patience=None):
-    """What the call gives in the end: it is made again after each fault that may pass, for so many seconds or for ever."""
+    """The result of the call. It is made again after each temporary fault, for `patience` seconds or forever."""
     pause, end = LEAST_PAUSE, None if patience is None else time.monotonic() + patience
     while True:
         try:
@@ -58,7 +58,7 @@ def until(call, patience=None):
 
 
 def receive(connection, count, end):
-    """So many bytes, until this moment."""
+    """Receives `count` bytes, or fails at the time `end`."""
     taken = bytearray()
     while len(taken) < count:
         connection.settimeout(max(end - time.monotonic(), 0.001))
@@ -70,7 +70,7 @@ def receive(connection, count, end):
 
 
 def fields_of(response, opcode):
-    """What stands behind this opcode; a refusal is raised."""
+    """The bytes after this opcode. A refusal is raised as an exception."""
     if response[0] == 0xEE:
         raise Refused(*struct.unpack(">BI", response[1:]))
     if response[0] != opcode:
@@ -97,13 +97,13 @@ def status_of(response):
 
 
 class Node:
-    """One node, by its port for clients. Each call has a connection of its own, and holds none of the node's four in between."""
+    """One node, by its port for clients. Each call opens a connection and closes it, so none of the node's four stays in use."""
 
     def __init__(self, port, timeout=2.0):
         self.port, self.timeout = port, timeout
 
     def ask(self, *requests):
-        """The responses to these requests, which go in one write. OSError if they don't all come in time."""
+        """The responses to these requests, which are sent in one write. OSError if not all responses come in time."""
         end = time.monotonic() + self.timeout
         with socket.create_connection(("127.0.0.1", self.port), self.timeout) as connection:
             connection.sendall(b"".join(struct.pack(">H", len(it)) + it for it in requests))
@@ -111,13 +111,13 @@ class Node:
             return [receive(connection, *struct.unpack(">H", receive(connection, 2, end)), end) for _ in requests]
 
     def submit(self, client, number, payload):
-        """Submits once; the number under which the node has accepted the message."""
+        """Submits once. Returns the number under which the node has accepted the message."""
         if len(payload) > LONGEST:
-            raise Refused(TOO_LONG, 0)  # as a node answers; it isn't sent
+            raise Refused(TOO_LONG, 0)  # the answer that a node would give; it isn't sent
         return struct.unpack(">I", fields_of(*self.ask(struct.pack(">BHI", 1, client, number) + payload), 0x81))[0]
 
     def next_number(self, client):
-        """The number that the node expects next of this client: it tells it when it is given 0."""
+        """The number that the node expects next from this client. The node's refusal of number 0 says it."""
         try:
             raise ConnectionError(f"number 0 was accepted as {self.submit(client, 0, b'')}")
         except Refused as refused:
@@ -126,11 +126,11 @@ class Node:
             return refused.detail
 
     def read(self, place, most=PAGE):
-        """The entries from this place on, at most so many, and fewer if a frame has no room for more."""
+        """The entries from this place on, at most `most`, and fewer if a frame has no room for more."""
         return entries_of(*self.ask(reading(place, most)))
 
     def log(self, place=1):
-        """Each entry from this place on, to the end of today."""
+        """Each entry from this place on, up to the present end of the log."""
         while page := self.read(place):
             yield from page
             place += len(page)
@@ -146,7 +146,7 @@ class Node:
 
 
 def keep(path, value):
-    """Puts this value into a file. Whatever stops on the way, the file has the old value or the new one."""
+    """Writes this value to a file. If the program stops meanwhile, the file has the old value or the new one."""
     with open(path + ".new", "w") as file:
         json.dump(value, file)
         file.flush()
@@ -160,7 +160,7 @@ def keep(path, value):
 
 
 def kept(path):
-    """What `keep` put there; None if it never did."""
+    """The value that `keep` wrote to this file; None if there is none."""
     try:
         with open(path) as file:
             return json.load(file)
@@ -169,12 +169,12 @@ def kept(path):
 
 
 class Publisher:
-    """Publishes at one node as one client. Each message is accepted once, whatever stops on either side.
+    """Publishes at one node as one client. Each message is accepted once, even if the client or the node stops.
 
-    A file keeps the message under way, with its number, before it is sent. If the program stops, the next one with this file
-    sends that message first: the node accepts a repeat under the name that it has. A file serves one program at a time.
+    Before it sends a message, it writes it to a file, with its number. If the program stops, the next Publisher with this file
+    sends that message first: the node accepts a repeat under the name that it has. Only one program may use a file at a time.
     `Stopped` is raised, now and at each later call, if another program uses this client's number, or if the node no longer has
-    what it accepted (its folder was begun anew, or put back from a backup)."""
+    what it accepted (its folder was begun anew, or restored from a backup)."""
 
     def __init__(self, port, client, path, patience=None, timeout=2.0):
         self.node, self.client, self.path, self.patience = Node(port, timeout), client, path, patience
@@ -185,11 +185,11 @@ class Publisher:
         if self.now and (self.now["port"], self.now["client"]) != (port, client):
             if not self.now["done"]:
                 self._stop("its file keeps a message of client {client} at port {port}: finish it there".format(**self.now))
-            self.now = None  # all that was sent there is accepted there: it begins here
+            self.now = None  # everything that was sent there was accepted there: start at this node
 
     def publish(self, payload):
         """The number under which the node has accepted this message. If `patience` ends before that, the fault is raised, and
-        the message stays under way: the next call, or `finish`, goes on with it. A message that a full node refuses doesn't."""
+        the message stays in progress: the next call, or `finish`, continues it. A message that a full node refuses is dropped."""
         if len(payload) > LONGEST:
             raise Refused(TOO_LONG, 0)
         self.finish()
@@ -197,7 +197,7 @@ class Publisher:
         return self.finish()
 
     def finish(self):
-        """Has the message under way accepted; its number at the node, or None if there is none."""
+        """Gets the message in progress accepted. Returns its number at the node, or None if no message is in progress."""
         if self.reason:
             raise Stopped(self.reason)
         if self.now is None or self.now["done"]:
@@ -213,11 +213,11 @@ class Publisher:
             if refused.number == FULL:
                 self._keep(number - 1, b"", True)
             raise
-        self.now["done"] = True  # the file says so at the next message, or by `close`: a repeat does no harm
+        self.now["done"] = True  # the next message, or `close`, writes this to the file: a repeat does no harm
         return seq
 
     def close(self):
-        """Finishes the message under way, and has the file say so: then it may begin at another node, or in another folder."""
+        """Finishes the message in progress, and notes that in the file. Then the file may be used at another node or folder."""
         self.finish()
         if self.now:
             keep(self.path, self.now)
@@ -243,10 +243,10 @@ def digest_of(entry):
 class Follower:
     """Reads each message of a group once: at one node while it answers and is up, then at the next.
 
-    `position` says what was read. Keep it, as JSON, together with what came of the entries, and give it to the next Follower:
-    that one goes on behind them, at whatever node. It has the last number of each sender, and for each port the place up to
-    which it was read there, with a digest of the entry before it. `Stopped` is raised if that entry has changed: the node's
-    folder was begun anew, or put back from a backup."""
+    `position` says what was read. Save it, as JSON, together with the results of the entries, and give it to the next Follower,
+    which continues after them, at any node. It has the last number of each sender. For each port it has the place up to which
+    the log was read there, with a digest of the entry before that place. `Stopped` is raised if that entry has changed: the
+    node's folder was begun anew, or restored from a backup."""
 
     def __init__(self, ports, position=None, timeout=2.0):
         self.nodes = [Node(port, timeout) for port in ports]
@@ -254,7 +254,7 @@ class Follower:
         self.position = position or {"seen": {}, "places": {}}
 
     def poll(self):
-        """The entries that came since the last poll, maybe none."""
+        """The entries that are new since the last poll; the list may be empty."""
         node = self.nodes[self.at]
         place, digest = self.position["places"].get(str(node.port), (1, None))
         first = place if digest is None else place - 1
@@ -276,7 +276,7 @@ class Follower:
         return new
 
     def __iter__(self):
-        """For ever: the entries of each poll that brings some. While nothing comes, the pauses between polls grow."""
+        """Yields, forever, the entries of each poll that finds some. While there are none, the pauses between polls grow."""
         pause = LEAST_PAUSE
         while True:
             entries = self.poll()
@@ -288,7 +288,7 @@ class Follower:
                 pause = min(2 * pause, MOST_PAUSE)
 
     def _joined(self, pages):
-        """The entries of these pages up to the first that isn't full: what follows it begins further behind."""
+        """The entries of these pages up to the first page that isn't full: the pages after it don't follow on directly."""
         entries = []
         for page in pages:
             entries += page
@@ -299,7 +299,7 @@ class Follower:
         return entries
 
     def _unseen(self, entries):
-        """Those of these entries that were not read at another node before."""
+        """The entries that were not read at another node before."""
         new, seen = [], dict(self.position["seen"])
         for entry in entries:
             last = seen.get(str(entry.sender), 0)

@@ -52,7 +52,7 @@ def logs_of(daemon):
 
 
 def opens(program, base, copy, accepted, logs):
-    """A start on the copy has all that was there before the copy began."""
+    """A start on the copy has everything that was there before the copy began."""
     daemon = Daemon(program, len(NODES), copy, base)
     try:
         for node, count in accepted.items():

@@ -62,7 +62,7 @@ class RedisServer:
         return int(self.reader.ask("XLEN", "log"))
 
     def held(self):
-        """All entries by their places."""
+        """All entries, by their places."""
         found = {}
         for id, fields in self.reader.ask("XRANGE", "log", "-", "+"):
             it = dict(zip(fields[::2], fields[1::2]))
@@ -142,7 +142,7 @@ class Real:
 
 
 class Load(threading.Thread):
-    """Publishes messages of many lengths and all bytes until it is told to stop."""
+    """Publishes messages of many lengths, with all bytes, until it is stopped."""
 
     def __init__(self, port):
         super().__init__(daemon=True)
@@ -165,7 +165,7 @@ def start_bridge(server, port):
 
 
 def disturb(server, source, port, seconds):
-    """Kills one of the three after the other, at random; now and then two bridges run at once. The bridge that runs in the end."""
+    """Kills one of the three at a time, at random; now and then two bridges run. Returns the bridge that runs in the end."""
     kills, bridges, end = {"bridge": 0, server.name: 0, "source": 0}, [start_bridge(server, port)], time.monotonic() + seconds
     while time.monotonic() < end:
         time.sleep(random.uniform(0.05, 0.8))
@@ -191,7 +191,7 @@ def disturb(server, source, port, seconds):
 
 
 def all_is_there(server, port, count):
-    """The target comes to hold what the log shows: each entry once, under its place."""
+    """In the end the target holds what the log shows: each entry once, under its place."""
     node, end = Node(port, 10), time.monotonic() + PATIENCE
     while len(list(node.log())) < count or server.count() < count:
         assert time.monotonic() < end, (count, server.count())

@@ -2,9 +2,10 @@
 """Publishers and followers at a running group, while they, the program and its nodes are killed at random: in Python and in Go.
 
 usage: clients.py PROGRAM [--seconds S] [--base-port B]
-No line is given to a publisher twice; those that it took are accepted once, in order. Each follower reads each message, in the order
-of its sender; what it had printed and not kept when it was killed comes again at its next start, and nothing else does. Beside them twelve more follow one node, and
-`urbd submit` is answered. Needs Python 3.8 or later; without `go` the clients in Go are left out."""
+No line is given to a publisher twice; the lines that it took are accepted once, in order. Each follower reads each message, in the
+order of its sender. What it had printed but not saved when it was killed comes again at its next start, and nothing else does.
+Twelve more followers read one node meanwhile, and `urbd submit` is answered. Needs Python 3.8 or later; without `go` the clients in
+Go are left out."""
 import argparse
 import os
 import random
@@ -58,7 +59,7 @@ class Publishing(Client):
         super().__init__([*command, base + 10 + node, "publish", 100 + node, file], file)
 
     def run(self, process):
-        """Gives it one new line after the other, a few ahead of those that were accepted."""
+        """Gives it one new line after the other, a few more than have been accepted."""
         ahead = threading.Semaphore(5)
 
         def count():
@@ -93,7 +94,7 @@ class Following(Client):
         super().start()
 
     def run(self, process):
-        """Takes its messages by their names. What it printed before comes again at its start alone."""
+        """Takes its messages by their names. Only at its start may it print again what it printed before."""
         at_start = True
         for line in process.stdout:
             if not line.endswith(b"\n"):
@@ -147,7 +148,7 @@ def disturb(daemon, program, folder, base, clients, seconds):
 
 
 def all_read(nodes, followers):
-    """Waits until each log and each follower has all; the logs."""
+    """Waits until each log and each follower has all messages. Returns the logs."""
     end = time.monotonic() + PATIENCE
     while True:
         whole = sum(node.status().sent for node in nodes)

@@ -19,7 +19,7 @@ DONE, CRASH, RESTART = 0x84, b"\x04", b"\x05"
 
 
 def payload_of(node, number):
-    """Mostly some hundred bytes; each fiftieth has 16,384, the most that a payload may."""
+    """Mostly some hundred bytes; each fiftieth payload has 16,384 bytes, the greatest length."""
     text = b"%d of %d " % (number, node)
     return (text * 16384)[:16384] if number % 50 == 0 else text * (1 + number % 50)
 
@@ -38,7 +38,7 @@ def submit(daemon, node, accepted, end):
 
 
 def follow(daemon, node, seen, end):
-    """One reader reads on from where it stopped."""
+    """One reader, which continues from where it stopped."""
     session = daemon.session(node)
     while time.monotonic() < end:
         page = session.ask(b"\x02" + struct.pack(">IB", len(seen) + 1, 8))

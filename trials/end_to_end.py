@@ -2,8 +2,8 @@
 """Runs the built program end to end: three nodes, twelve clients, killed under load and started again.
 
 usage: end_to_end.py PROGRAM [--kills K] [--seconds S] [--base-port B]
-Every name that was accepted is accepted again under its name after each start, and every log begins with what was read of it
-before. At the end the program is stopped in good order, and one file is left of each journal. Needs Python 3.8 or later."""
+Every message that was accepted is accepted again under its name after each start, and every log begins with what was read of it
+before. At the end the program is stopped in order, and one file is left of each journal. Needs Python 3.8 or later."""
 import argparse
 import os
 import random
@@ -46,7 +46,7 @@ class Client(threading.Thread):
 
 
 def payload_of(client, message):
-    """Mostly a few bytes; each hundredth has 16,384, the most that a payload may."""
+    """Mostly a few bytes; each hundredth payload has 16,384 bytes, the greatest length."""
     text = b"%d:%d" % (client, message)
     return (text * 16384)[:16384] if message % 100 == 0 else text * (1 + message % 5)
 
@@ -78,7 +78,7 @@ def logs_of(daemon):
 
 
 def begin_one_another(logs):
-    """Of any two logs the parts of each sender begin one another, and each part has the numbers 1, 2, 3, .."""
+    """For each sender, its messages in one of two logs are a prefix of those in the other, with the numbers 1, 2, 3, .."""
     for sender in range(1, NODES + 1):
         parts = [[entry for entry in log if entry[0] == sender] for log in logs]
         for part in parts:
@@ -88,7 +88,7 @@ def begin_one_another(logs):
 
 
 def killed_while_opening(program, base):
-    """An opening that is killed at any moment leaves a folder that opens."""
+    """If an opening is killed at any moment, the folder still opens."""
     folder = tempfile.mkdtemp()
     try:
         for turn in range(30):

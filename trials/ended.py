@@ -1,5 +1,5 @@
 #!/usr/bin/env python3
-"""Takes a folder that is full to its end, as docs/OPERATIONS.md says ("The end of a folder"): nothing is lost, nothing comes twice.
+"""Takes a folder that is full to its end, as docs/OPERATIONS.md says ("When a folder is full"): nothing is lost, nothing comes twice.
 
 usage: ended.py PROGRAM [--base-port B]
 Needs Python 3.8 or later."""
@@ -105,8 +105,8 @@ def main():
 
 
 def forgetful(program, base, room, daemon):
-    """Who skips the steps is stopped: a message that is under way isn't sent to another port, and at the same port a folder that
-    was begun anew is noticed by publishers and followers."""
+    """Clients that skip the steps are stopped: a message in progress isn't sent to another port, and at the same port publishers
+    and followers notice a folder that was begun anew."""
     file, folder = os.path.join(room, "forgetful"), os.path.join(room, "anew")
     publisher = Publisher(base + 41, 9, file, 5)
     for number in (1, 2):

@@ -2,10 +2,10 @@
 """A running group whose system calls fail: syncs, writes, datagrams, accepted connections, reads at a start.
 
 usage: failing_calls.py PROGRAM [--only TEXT] [--base-port B]
-`strace` makes the calls fail, once or for good, while clients submit at three nodes and restart nodes that are down. Then the
-program is stopped or killed and started again with a sound system: what was accepted is accepted again under its name, each log
-begins with what was read before, and the group goes on. A write that claims what it didn't do is a disk that lies: there the next
-start has to refuse the folder. Needs Python 3.8 or later and strace, on Linux."""
+`strace` makes the calls fail, once or always, while clients submit at three nodes and restart nodes that are down. Then the
+program is stopped or killed, and started again without failing calls. What was accepted is accepted again under its name, each log
+begins with what was read before, and the group goes on. In one case a write reports success but does nothing, like a disk that
+lies: then the next start has to refuse the folder. Needs Python 3.8 or later and strace, on Linux."""
 import argparse
 import os
 import re
@@ -60,7 +60,7 @@ AT_A_START = [
 
 
 class Failing(Daemon):
-    """A group under strace. With paths, calls on these files alone fail."""
+    """A group under strace. With paths, only calls on these files fail."""
 
     def __init__(self, program, folder, base, inject, paths=()):
         self.base = base
@@ -125,7 +125,7 @@ class Load(threading.Thread):
 
 
 def logs_of(daemon):
-    """What each log shows; nothing of one whose sessions fail."""
+    """What each log shows; nothing for a log whose sessions fail."""
     logs = {}
     for node in NODES:
         logs[node] = []
@@ -149,7 +149,7 @@ def load_all(daemon, accepted):
 
 
 def has_all(program, folder, base, accepted, before, what):
-    """A start with a sound system has what was accepted and read, and goes on."""
+    """A start without failing calls has what was accepted and read, and the group goes on."""
     daemon = Daemon(program, len(NODES), folder, base, 20)
     try:
         for node in NODES:
@@ -225,7 +225,7 @@ def at_a_start(program, room, base, cases):
 
 
 def lies(program, room, base):
-    """Writes of node 1's log claim to have been done, and are not: a start that can't have all refuses the folder."""
+    """Writes to node 1's log report success and do nothing: a start that can't have all messages refuses the folder."""
     folder = os.path.join(room, "group")
     os.mkdir(folder)
     accepted = {node: [] for node in NODES}

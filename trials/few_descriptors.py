@@ -2,8 +2,8 @@
 """A group under limits on descriptors (`ulimit -n`), up to the first few that are enough.
 
 usage: few_descriptors.py PROGRAM [--base-port B]
-Too few, and the start is refused, with a text and status 1. Enough, and four clients at each node are served at once, and a stop ends
-the program. It never hangs. Needs Python 3.8 or later, on Linux."""
+With too few, the start is refused, with a text and status 1. With enough, four clients at each node are served at the same time, and
+a stop ends the program. It never hangs. Needs Python 3.8 or later, on Linux."""
 import argparse
 import resource
 import shutil
@@ -28,7 +28,7 @@ def start(program, nodes, folder, base, limit):
 
 
 def serve_all(nodes, base):
-    """Four clients at each node, each of which is served while the others stay."""
+    """Four clients at each node; each is served while the others stay connected."""
     sessions = [Session(base + 10 + node) for node in range(1, nodes + 1) for _ in range(4)]
     for session in sessions:
         assert session.ask(STATUS)[0] == HAS_STATUS

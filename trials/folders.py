@@ -1,5 +1,5 @@
-"""Folders of journals, right and wrong, with what a start on each has to answer: for the test of contrib/check_journals.py, and
-for the trial that asks the program the same."""
+"""Folders of journals, right and wrong, with the answer that a start on each must give. They are for the test of
+contrib/check_journals.py, and for the trial that asks the program the same."""
 import os
 import shutil
 import sqlite3
@@ -53,7 +53,7 @@ def unmerged(folder):
 
 
 def in_place_of(act):
-    """Node 1's file is taken away, and something else put there."""
+    """Removes node 1's file, and puts something else there."""
 
     def put(folder):
         path = path_of(folder, 1)
@@ -64,7 +64,7 @@ def in_place_of(act):
 
 
 def exchange(folder, one, other):
-    """Two nodes have got each other's files."""
+    """Exchanges the files of two nodes."""
     for end in ("", "-wal"):
         paths = [path_of(folder, node) + end for node in (one, other)]
         held = [open(path, "rb").read() if os.path.exists(path) else None for path in paths]

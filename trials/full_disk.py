@@ -2,9 +2,9 @@
 """A running group whose disk fills up, and has room again.
 
 usage: full_disk.py PROGRAM [--base-port B]
-Clients of three nodes submit until no node takes more. What was accepted is read then as before; a node that is restarted is up
-or tells that it can't be. Once there is room each node is restarted, what wasn't accepted is submitted again, and the same holds
-after a kill and another start. Needs Python 3.8 or later and a root who may mount, on Linux."""
+Clients of three nodes submit until no node accepts more. Then what was accepted can still be read, and a restart of a node succeeds
+or reports that it can't. Once there is room, each node is restarted, and what wasn't accepted is submitted again. The same holds
+after a kill and another start. Needs Python 3.8 or later, and root rights to mount, on Linux."""
 import argparse
 import os
 import subprocess
@@ -24,7 +24,7 @@ def payload_of(node, number):
 
 
 def submit(daemon, node, number):
-    """The name's number, or the refusal; what is busy is asked again."""
+    """The name's number, or the refusal. A busy node is asked again."""
     session = daemon.session(node)
     while True:
         seq, refusal = session.submit(node, number, payload_of(node, number))
@@ -50,7 +50,7 @@ def logs_of(daemon):
 
 
 def filled(daemon, accepted):
-    """Each node submits until its disk takes no more."""
+    """Submits at each node until its disk takes no more."""
     refusals = {}
     while len(refusals) < len(NODES):
         for node in NODES:
@@ -71,7 +71,7 @@ def same_again(daemon, accepted):
 
 
 def all_shown(daemon, accepted, before):
-    """Waits until each log has all, and begins with what was read before."""
+    """Waits until each log has all messages, and begins with what was read before."""
     whole = sum(map(len, accepted.values()))
     end = time.monotonic() + 120
     while True:

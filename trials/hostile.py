@@ -2,8 +2,8 @@
 """Ill-behaved clients and packets at a running group, and openings that must be refused.
 
 usage: hostile.py PROGRAM [--base-port B]
-Whatever they send, others are served, memory stays bounded, nothing is delivered that no client submitted, and only 127.0.0.1
-listens. A refused opening tells its text at once and changes no file. Needs Python 3.8 or later, on Linux."""
+Whatever they send, others are served, memory stays bounded, nothing is delivered that no client submitted, and the program listens
+only on 127.0.0.1. A refused opening prints its text at once and changes no file. Needs Python 3.8 or later, on Linux."""
 import argparse
 import hashlib
 import os
@@ -23,7 +23,7 @@ BAD_LENGTH = bytes.fromhex("0006ee1300000001")
 PACKET = bytes.fromhex("55420101020100000001000700000001000161")
 LONGEST = 16384  # bytes of a payload
 LONG_PACKET = bytes.fromhex("5542020102000100000001000700000001") + struct.pack(">H", LONGEST)
-# every length to twice that of version 1, those round the longest packet and round what a node reads, and the greatest of a datagram
+# each length up to twice version 1's limit, lengths near that of the longest packet and near what a node reads, and a datagram's greatest
 LENGTHS = (*range(2101), *range(16_380, 16_660), 65_507)
 
 
@@ -32,7 +32,7 @@ def connect(port):
 
 
 def until_closed(connection):
-    """All that comes until the node ends the session."""
+    """Everything that comes until the node ends the session."""
     got = b""
     while True:
         more = connection.recv(65536)
@@ -79,7 +79,7 @@ def bad_frames(daemon):
 
 
 def silent_and_deaf(daemon):
-    """Three sessions of a node are held: two say nothing, one never reads what it is sent."""
+    """Occupies three sessions of a node: two send nothing, one never reads what it is sent."""
     held = [connect(daemon.base + 11) for _ in range(3)]
     held[2].setblocking(False)
     ask = (b"\x00\x06\x02" + struct.pack(">IB", 1, 8)) * 1000
@@ -136,7 +136,7 @@ def datagrams(daemon):
 
 
 def listens_here_alone(daemon):
-    """All sockets of the process stand at 127.0.0.1."""
+    """All sockets of the process listen on 127.0.0.1."""
     own = set()
     for entry in os.listdir(f"/proc/{daemon.process.pid}/fd"):
         try:
@@ -194,7 +194,7 @@ def contents(folder):
 
 
 def is_refused(program, folder, base, text, what):
-    """The opening ends at once with this text and status 1, and leaves all files as they were."""
+    """The opening ends at once with this text and status 1, and changes no file."""
     before = contents(folder)
     process = start(program, 3, folder, base)
     output, errors = process.communicate(timeout=30)
@@ -202,7 +202,7 @@ def is_refused(program, folder, base, text, what):
     after = contents(folder)
     changed = {path for path, bytes_of in before.items() if after.get(path) != bytes_of}
     assert not changed, (what, changed)
-    # Beside a journal that was refused the database leaves its log, without a record.
+    # The database leaves its log, without a record, beside a journal that was refused.
     assert all(path.endswith("-wal") for path in set(after) - set(before)), (what, set(after) - set(before))
     print(f"{what}: {errors.decode().strip()}", flush=True)
 

@@ -14,7 +14,7 @@ def path_of(folder, node):
 
 
 def record(kind, name, client=7, number=None, payload=None):
-    """A record of a name "S.N"; its message is, if nothing else is said, number N of client 7."""
+    """A record of a name "S.N". By default its message is number N of client 7."""
     sender, seq = map(int, name.split("."))
     if kind == CERT:
         return kind, sender, seq, 0, 0, b""
@@ -31,7 +31,7 @@ def change(path, *statements):
 
 
 def write(folder, node, records=(), old=()):
-    """A node's journal: old records in `journal`, the others behind them in `journal2`."""
+    """A node's journal: old records in `journal`, the others after them in `journal2`."""
     rows = [("INSERT INTO journal VALUES(?, ?, ?, ?, ?, ?, ?)", (pos, *it)) for pos, it in enumerate(old, 1)]
     rows += [("INSERT INTO journal2 VALUES(?, ?, ?, ?, ?, ?, ?)", (pos, *it)) for pos, it in enumerate(records, len(old) + 1)]
     tables = [f"CREATE TABLE {table}{COLUMNS}" for table in ("journal", "journal2")]

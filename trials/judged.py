@@ -1,10 +1,10 @@
 #!/usr/bin/env python3
-"""Asks the program and contrib/check_journals.py of the same folders: their answers have to be the same.
+"""Asks the program and contrib/check_journals.py about the same folders: their answers have to be the same.
 
 usage: judged.py PROGRAM [--turns T] [--base-port B]
-The folders are those of folders.py, and T (60) that a running group has left and that were spoilt at random: a row that is changed
-or removed, a file that is lost, exchanged or older, another cap, another number of nodes. Needs Python 3.8 or later with SQLite
-3.37."""
+The folders are those of folders.py, and T (60) folders that a running group has left and that were damaged at random: a row that is
+changed or removed, a file that is lost, exchanged or older, another cap, another number of nodes. Needs Python 3.8 or later with
+SQLite 3.37."""
 import argparse
 import io
 import os
@@ -29,7 +29,7 @@ def program_says(program, folder, nodes, cap, base):
 
 
 def command_says(folder, nodes, cap):
-    """What the command says that a start answers, and the rest of what it says."""
+    """What a start would answer, by the command, and the rest of what the command prints."""
     with redirect_stdout(io.StringIO()) as output:
         check([folder, "--nodes", str(nodes), "--cap", str(cap)])
     lines = output.getvalue().splitlines()
@@ -44,7 +44,7 @@ def agree(program, folder, nodes, cap, base, what):
 
 
 def left_by_a_group(program, folder, base):
-    """A folder of three nodes, some of whose messages are certified at two nodes alone; and what it was some messages before."""
+    """A folder of three nodes, with some messages that only two nodes certified; and the same folder some messages earlier."""
     daemon = Daemon(program, 3, folder, base, 50)
     for part in ("before", "after"):
         for node in (1, 2, 3):
@@ -61,7 +61,7 @@ def left_by_a_group(program, folder, base):
 
 
 def spoilt(folder, whole):
-    """A copy of a whole folder that is spoilt in one way, or in none; the way, and the options to start it with."""
+    """A copy of a folder, damaged in one way or not at all. Returns the way, and the options to start it with."""
     shutil.copytree(whole, folder)
     nodes, cap, node = 3, 10, random.choice((1, 2, 3))
     path = path_of(folder, node)

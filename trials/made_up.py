@@ -1,7 +1,7 @@
-"""A group that is made up here, by docs/FORMATS.md: nodes that speak the frames of clients, in this process, with faults on demand.
+"""A simulated group, by docs/FORMATS.md: nodes in this process that serve clients' frames, with faults on demand.
 
-Its nodes share one list of messages, which each shows up to a place of its own. For the tests of clients and tools, which need
-no program then. Needs Python 3.8 or later."""
+Its nodes share one list of messages, and each shows it up to a place of its own. It is for tests of clients and tools, which then
+need no program. Needs Python 3.8 or later."""
 import socket
 import struct
 import threading
@@ -28,7 +28,7 @@ class Group:
         self.ports = [node.port for node in self.nodes]
 
     def shown(self, node):
-        """All, or as many as `shows` says, or the list that it is."""
+        """All messages, or as many as `shows` says, or the list `shows` itself."""
         return node.shows if isinstance(node.shows, list) else self.entries[: node.shows]
 
     def close(self):
@@ -37,8 +37,8 @@ class Group:
 
 
 class Node(threading.Thread):
-    """One node. At a request it does what is next in `troubles`: "close" the connection, "lose" the answer, "hang" for a while,
-    answer in "drips", refuse with a number, or send these bytes and close."""
+    """One node. At each request it does what is next in `troubles`: "close" the connection, "lose" the answer, "hang" for a while,
+    answer in "drips", refuse with a number, or send the given bytes and close."""
 
     def __init__(self, group, node, port):
         super().__init__(daemon=True)
@@ -50,7 +50,7 @@ class Node(threading.Thread):
         self.start()
 
     def close(self):
-        """As the program's end: nobody listens, and no session goes on."""
+        """Acts like the end of the program: nothing listens, and all sessions end."""
         try:
             self.listener.shutdown(socket.SHUT_RDWR)
         except OSError:  # it is closed

@@ -2,8 +2,8 @@
 """A running group whose folder is moved away while another group takes its place, and groups without standard streams.
 
 usage: moved.py PROGRAM [--base-port B]
-Nothing that either group accepted is lost, whichever stops first and however. A program without a standard input ends at once, and
-one without an output can't tell that it has opened. Needs Python 3.8 or later, on Linux."""
+Nothing that either group accepted is lost, whichever stops first, and in whatever way. A program without a standard input ends at
+once, and a program without an output can't report that it has opened. Needs Python 3.8 or later, on Linux."""
 import argparse
 import os
 import shutil
@@ -35,7 +35,7 @@ def holds(program, folder, base, payloads):
 
 
 def move(program, base, top, replaces):
-    """Moves a running group away by this function, has another take its place, stops the first and kills the second."""
+    """Moves a running group's folder by this function, starts another group in its place, stops the first and kills the second."""
     folder, away = os.path.join(top, "group"), os.path.join(top, "away")
     os.mkdir(folder)
     first = Daemon(program, 1, folder, base)
@@ -63,7 +63,7 @@ def move_files(folder, away):
 
 
 def end_of(program, base, closed):
-    """How a group ends that is started without these standard streams, and with an open input that stays open else."""
+    """How a group ends if it is started without these standard streams. Otherwise its input stays open."""
     folder = tempfile.mkdtemp(prefix="urbd-streams-")
 
     def close():

@@ -2,11 +2,12 @@
 """Journals of an older program, which had the table `journal` alone, opened by this one.
 
 usage: old_files.py PROGRAM [--base-port B]
-The files are made by Python's sqlite3 from docs/FORMATS.md alone. The program opens them: each log is the one that the records say,
-each old message is accepted again under its name, and new ones, of up to 16,384 bytes, go into `journal2` behind the old ones, of
-which no row changes. The same holds after a stop and after a kill. An old file with a bad row is refused, stays as it is, byte for
-byte, and keeps no other journal from being opened later; of two such files that of the lower node is told. Files whose two tables don't go together are refused, as where an older
-program has gone on in the first. Needs Python 3.8 or later, with an SQLite that has STRICT tables (3.37)."""
+The files are made by Python's sqlite3 from docs/FORMATS.md alone. The program opens them. Each log is the log of the records, and
+each old message is accepted again under its name. New messages, of up to 16,384 bytes, go into `journal2` after the old ones, whose
+rows don't change. The same holds after a stop and after a kill. An old file with a bad row is refused, stays as it is, byte for
+byte, and doesn't keep other journals from being opened later. If there are two such files, the fault is that of the lower node.
+Files whose two tables don't fit together are refused, for example if an older program has continued in the first. Needs Python 3.8
+or later, with an SQLite that has STRICT tables (3.37)."""
 import argparse
 import os
 import shutil
@@ -29,7 +30,7 @@ CREATE = (
 
 Record = namedtuple("Record", "kind sender seq client number payload")
 
-# The messages of old by their names: of node 1 with the shortest and the longest payload that there was, of node 2 fewer.
+# The old messages by their names. Node 1's have the shortest and the longest payload of that time, and node 2 has fewer.
 MESSAGES = {(1, seq): (7, seq, b"%d of node 1 " % seq * seq) for seq in range(1, 21)}
 MESSAGES.update({(1, 21): (7, 21, b""), (1, 22): (7, 22, b"x" * OLD_LONGEST)})
 MESSAGES.update({(2, seq): (8, seq, b"%d of node 2" % seq) for seq in range(1, 4)})
@@ -50,7 +51,7 @@ def old_records(node):
 
 
 def log_of(records):
-    """The log of a list of records: behind each certificate of a sender its next names, as long as they are certified."""
+    """The log of a list of records: after each certificate of a sender its next names, as long as they are certified."""
     certified, counts, log = set(), {}, []
     for it in records:
         if it.kind == PEND:
@@ -77,7 +78,7 @@ def changed(path, *statements):
 
 
 def make(folder):
-    """The files of an older program. That of node 2 has a further table before the journal, which takes nothing from it."""
+    """The files of an older program. Node 2's file has another table before the journal, which makes no difference."""
     os.mkdir(folder)
     for node in NODES:
         rows = [("INSERT INTO journal VALUES(?, ?, ?, ?, ?, ?, ?)", (pos, *it)) for pos, it in enumerate(old_records(node), 1)]
@@ -114,7 +115,7 @@ def logs_of(daemon):
 
 
 def all_shown(daemon, count, before):
-    """Waits until each log has so many entries; each begins with what it was before."""
+    """Waits until each log has this number of entries. Each log begins with the log from before."""
     end = time.monotonic() + 60
     while True:
         logs = logs_of(daemon)
@@ -138,7 +139,7 @@ def same_again(daemon, messages):
 
 
 def pages(daemon, node, place):
-    """How many entries each read has that goes on behind the last one."""
+    """How many entries each read has, if it continues after the last entry."""
     session, counts = daemon.session(node), []
     while not counts or counts[-1]:
         counts.append(session.ask(b"\x02" + place.to_bytes(4, "big") + b"\x08")[1])
@@ -199,7 +200,7 @@ def refused(program, folder, base, text):
 
 
 def are_closed(folder, rows):
-    """The other journals were opened side by side with the bad one: each is one file again, and has the rows that it had."""
+    """The other journals were opened in parallel with the bad one: each is one file again, and has the rows that it had."""
     left = os.listdir(folder)
     for node, was in rows.items():
         assert f"node-{node}.db-wal" not in left, node
@@ -207,7 +208,7 @@ def are_closed(folder, rows):
 
 
 def tells_the_first_node(program, folder, base):
-    """Of two journals with a bad row that of the lower node is told."""
+    """If two journals have a bad row, the fault is that of the lower node."""
     make(folder)
     for node, place in ((3, 1), (2, 4)):
         changed(path_of(folder, node), ("UPDATE journal SET kind = 4 WHERE pos = ?", (place,)))
@@ -215,7 +216,7 @@ def tells_the_first_node(program, folder, base):
 
 
 def refuses_bad_rows(program, folder, base):
-    """A bad row of an old file is told by its place, and the file stays; with the good one in its place the group opens."""
+    """For a bad row of an old file, the fault names its place, and the file stays. With the good file the group opens."""
     for name, node, statement, values, place in (
         ("kind", 1, "UPDATE journal SET kind = 4 WHERE pos = 2", (), b"2"),
         ("payload", 2, "UPDATE journal SET payload = ? WHERE pos = 22", (b"x" * (OLD_LONGEST + 1),), b"22"),
@@ -240,7 +241,7 @@ def refuses_bad_rows(program, folder, base):
 
 
 def refuses_what_does_not_fit(program, whole, base):
-    """Of a folder that has gone on, node 1's journal is changed so; it keeps its rows. Unchanged, it opens still."""
+    """Changes node 1's journal in a folder that has new messages; the refused journal keeps its rows. Unchanged, it still opens."""
     end = len(old_records(1))
     longer = "UPDATE {} SET payload = zeroblob({}) WHERE pos = {}".format
     for name, statements, text in (

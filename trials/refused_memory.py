@@ -1,10 +1,10 @@
 #!/usr/bin/env python3
-"""A running group that is refused one growth of memory: growth 1, 2, 3, .. in turn.
+"""A running group that is refused one allocation (growth) of memory: the first, second, third and so on.
 
 usage: refused_memory.py PROGRAM [--first K] [--last K] [--step D] [--base-port B]
-Each start on an empty folder is refused another growth (refuse.c beside this file, preloaded: needs a C compiler), and clients talk to
-what runs. Then the group starts again on the same folder with all its memory: each accepted name is accepted again under its
-number, and each log begins with what was read before. A start that can't be says so, and ends at once. Needs Python 3.8 or later,
+Each start on an empty folder is refused another growth (refuse.c beside this file, preloaded: needs a C compiler), and clients use
+what runs. Then the group starts again on the same folder with all its memory. Each accepted message is accepted again under its
+name, and each log begins with what was read before. A start that fails says so, and ends at once. Needs Python 3.8 or later,
 on Linux."""
 import argparse
 import os
@@ -38,7 +38,7 @@ def started(program, folder, base, library, growth, met):
 
 
 def submit_at(daemon, node, accepted):
-    """Submits two messages at a node; what was accepted joins the table."""
+    """Submits two messages at a node, and adds what was accepted to the table."""
     try:
         session = daemon.session(node)
         for number in (1, 2):
@@ -55,7 +55,7 @@ def submit_at(daemon, node, accepted):
 
 
 def seen_at(daemon, node):
-    """What a node's log shows; nothing where its session ends before."""
+    """What a node's log shows; nothing if the session ends before that."""
     try:
         session = daemon.session(node)
         entries = session.log()
@@ -73,7 +73,7 @@ class Running(Daemon):
 
 
 def try_growth(program, room, base, library, growth):
-    """What came of it: whether the growth was asked for, whether the group opened, and how many submits were accepted."""
+    """The outcome: whether the growth was requested, whether the group opened, and how many submits were accepted."""
     folder, met = tempfile.mkdtemp(dir=room), f"{room}/met"
     process = started(program, folder, base, library, growth, met)
     line = process.stdout.readline()

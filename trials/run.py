@@ -1,12 +1,12 @@
 #!/usr/bin/env python3
-"""Runs the trials one after the other, and prints a table of what came of them.
+"""Runs the trials one after the other, and prints a table of their results.
 
-    run.py                          those that need no program: the clients and tools over groups that are made up
+    run.py                          those that need no program: the clients and tools over simulated groups
     run.py PROGRAM                  all of them, in some minutes; PROGRAM is the built urbd
     run.py [PROGRAM] --only NAME..  those of these names; --list shows the names
 
-Each trial is a script beside this one, and can be run alone, for longer. One that needs something that isn't here is left out, and
-the table says so. Status 0 if all that ran went well. Needs Python 3.8 or later, on Linux."""
+Each trial is a script beside this one, and can be run alone, for longer. If a trial needs something that isn't installed, it is left
+out, and the table says so. Status 0 if all trials that ran succeeded. Needs Python 3.8 or later, on Linux."""
 import argparse
 import os
 import shutil

@@ -25,7 +25,7 @@ PATIENCE = 60  # seconds for a step
 
 
 def settings():
-    """The unit's lines by their names; one that stands twice would be lost, and none does."""
+    """The unit's lines by their names. A name that occurs twice would lose a line, and no name does."""
     lines = [KEY.fullmatch(line) for line in UNIT.read_text().splitlines() if line and line[0] not in "#["]
     assert all(lines) and len({line[1] for line in lines}) == len(lines)
     return {line[1]: line[2] for line in lines}
@@ -138,7 +138,7 @@ def attend(program, room, base):
 
 
 def held(service, node, accept):
-    """A client keeps its session: a stop waits for it, and what is killed after TimeoutStopSec has lost nothing."""
+    """A client keeps its session: a stop waits for it, and a kill after TimeoutStopSec loses nothing."""
     import socket
 
     accept()
@@ -171,7 +171,7 @@ def from_a_terminal(words):
 
 
 def at_any_moment(words):
-    """A signal at any moment of a start ends all, and leaves no program behind."""
+    """A signal at any moment of a start ends everything, and leaves no program running."""
     for turn in range(30):
         process = subprocess.Popen(words, stdin=subprocess.DEVNULL, stdout=subprocess.PIPE, start_new_session=True)
         time.sleep(0.001 * turn)

@@ -42,7 +42,7 @@ class OverAWriter(unittest.TestCase):
         shutil.rmtree(self.room)
 
     def numbers(self, folder):
-        """The numbers that stand in the two files."""
+        """The numbers in the two files."""
         found = []
         for name in ("node-1.db", "node-2.db"):
             with open(os.path.join(folder, name), "rb") as file:

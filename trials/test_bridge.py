@@ -13,7 +13,7 @@ from made_up import Group
 
 
 class Enough(Exception):
-    """Ends a bridge, which goes on for ever."""
+    """Ends a bridge, which would run forever."""
 
 
 class Target:
@@ -57,7 +57,7 @@ class OverAGroup(unittest.TestCase):
         self.group.entries += [(1, begin + it, 7, begin + it, payload) for it in range(1, count + 1)]
 
     def copied(self, target):
-        """What the target has when it has all."""
+        """What the target has once it has everything."""
         target.enough = len(self.group.entries)
         told = []
         with self.assertRaises(Enough):

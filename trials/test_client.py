@@ -240,7 +240,7 @@ class AFollower(OverAGroup):
             self.group.entries.append((sender, number, 7, number, payload))
 
     def drained(self, follower, polls=60):
-        """What so many polls bring."""
+        """The entries of this number of polls."""
         return [entry for _ in range(polls) for entry in follower.poll()]
 
     def follower(self, position=None):

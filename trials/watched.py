@@ -1,5 +1,5 @@
 #!/usr/bin/env python3
-"""Looks at a running group by contrib/watch.py: whole, with a node down, while it stands, with all sessions held, and stopped.
+"""Watches a group by contrib/watch.py: well, with a node down, suspended, with all sessions of a node in use, and stopped.
 
 usage: watched.py PROGRAM [--base-port B]
 Needs Python 3.8 or later, on Linux."""

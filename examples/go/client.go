@@ -1,7 +1,7 @@
 // Package client talks to a running group of urbd, by docs/FORMATS.md alone. Copy this file: it needs the standard library.
 //
 // A Publisher has each message accepted once, a Follower reads each message once, a Node asks one thing. Every call takes a
-// context and has a time limit of its own: a node serves four connections, and without a limit a fifth would wait for ever.
+// context and has a time limit of its own: a node serves four connections, and without a limit a fifth would wait forever.
 // The files and positions are those of examples/client.py.
 package client
 
@@ -45,7 +45,7 @@ type Entry struct {
 	Payload []byte
 }
 
-// Digest tells entries apart: it is of all fields.
+// Digest is a digest of all fields of an entry, to tell entries apart.
 func (e Entry) Digest() string {
 	head := binary.BigEndian.AppendUint32([]byte{e.Sender}, e.Seq)
 	head = binary.BigEndian.AppendUint32(binary.BigEndian.AppendUint16(head, e.Client), e.Number)
@@ -53,7 +53,7 @@ func (e Entry) Digest() string {
 	return hex.EncodeToString(sum[:])
 }
 
-// Status is what a node says of itself. State is "down", "ready" or "storing".
+// Status is what a node reports about itself. State is "down", "ready" or "storing".
 type Status struct {
 	State        string
 	Sent, Logged uint32
@@ -70,7 +70,7 @@ func (r Refused) Error() string { return fmt.Sprintf("refused %d %d", r.Number, 
 // Temporary says whether the same request may be accepted later.
 func (r Refused) Temporary() bool { return bytes.IndexByte([]byte{1, 3, 4, 11, 15, 16}, r.Number) >= 0 }
 
-// Stopped says why a Publisher or a Follower doesn't go on: that could repeat, lose or mix messages.
+// Stopped says why a Publisher or a Follower doesn't continue: continuing could repeat, lose or mix messages.
 type Stopped struct{ Reason string }
 
 func (s Stopped) Error() string { return s.Reason }
@@ -81,7 +81,7 @@ type Node struct {
 	Timeout time.Duration
 }
 
-// Ask sends these requests in one write and gives their responses.
+// Ask sends these requests in one write and returns their responses.
 func (n *Node) Ask(ctx context.Context, requests ...[]byte) ([][]byte, error) {
 	limit := n.Timeout
 	if limit == 0 {
@@ -147,7 +147,7 @@ func (n *Node) one(ctx context.Context, request []byte, opcode byte) ([]byte, er
 	return fields(responses[0], opcode)
 }
 
-// Submit submits once; the number under which the node has accepted the message.
+// Submit submits once, and returns the number under which the node has accepted the message.
 func (n *Node) Submit(ctx context.Context, client uint16, number uint32, payload []byte) (uint32, error) {
 	if len(payload) > Longest {
 		return 0, Refused{tooLong, 0}
@@ -163,7 +163,7 @@ func (n *Node) Submit(ctx context.Context, client uint16, number uint32, payload
 	return binary.BigEndian.Uint32(body), nil
 }
 
-// NextNumber is the number that the node expects next of this client: it tells it when it is given 0.
+// NextNumber is the number that the node expects next from this client. The node's refusal of number 0 says it.
 func (n *Node) NextNumber(ctx context.Context, client uint16) (uint32, error) {
 	_, err := n.Submit(ctx, client, 0, nil)
 	var refused Refused
@@ -201,7 +201,7 @@ func entries(response []byte) ([]Entry, error) {
 	return all, nil
 }
 
-// Read gives the entries from a place on, at most so many (1 to 8), and fewer if a frame has no room for more.
+// Read returns the entries from a place on, at most the given number (1 to 8), and fewer if a frame has no room for more.
 func (n *Node) Read(ctx context.Context, place uint32, most uint8) ([]Entry, error) {
 	responses, err := n.Ask(ctx, reading(place, most))
 	if err != nil {
@@ -231,7 +231,7 @@ func (n *Node) Status(ctx context.Context) (Status, error) {
 	return status(responses[0])
 }
 
-// Crash has the node go down; Restart has it come back with what its journal holds.
+// Crash takes the node down; Restart brings it back with what its journal holds.
 func (n *Node) Crash(ctx context.Context) error   { _, err := n.one(ctx, []byte{4}, 0x84); return err }
 func (n *Node) Restart(ctx context.Context) error { _, err := n.one(ctx, []byte{5}, 0x84); return err }
 
@@ -249,7 +249,7 @@ func sleep(ctx context.Context, pause *time.Duration) error {
 	}
 }
 
-// Until makes a call again after each fault that may pass, until the context ends.
+// Until makes a call again after each temporary fault, until the context ends.
 func Until(ctx context.Context, call func() (uint32, error)) (uint32, error) {
 	pause := leastPause
 	for {
@@ -264,7 +264,7 @@ func Until(ctx context.Context, call func() (uint32, error)) (uint32, error) {
 	}
 }
 
-// Keep puts a value into a file. Whatever stops on the way, the file has the old value or the new one.
+// Keep writes a value to a file. If the program stops meanwhile, the file has the old value or the new one.
 func Keep(path string, value any) error {
 	text, err := json.Marshal(value)
 	if err != nil {
@@ -295,7 +295,7 @@ func Keep(path string, value any) error {
 	return folder.Sync()
 }
 
-// Kept reads what Keep put there; false if it never did.
+// Kept reads the value that Keep wrote; false if there is none.
 func Kept(path string, value any) (bool, error) {
 	text, err := os.ReadFile(path)
 	if errors.Is(err, os.ErrNotExist) {
@@ -315,8 +315,8 @@ type underWay struct {
 	Done    bool   `json:"done"`
 }
 
-// Publisher publishes at one node as one client. Each message is accepted once, whatever stops on either side: a file keeps the
-// message under way, with its number, before it is sent. One goroutine uses it at a time.
+// Publisher publishes at one node as one client. Each message is accepted once, even if the client or the node stops: before it
+// sends a message, it writes it to a file, with its number. Only one goroutine may use it at a time.
 type Publisher struct {
 	node   *Node
 	client uint16
@@ -326,8 +326,8 @@ type Publisher struct {
 	reason error
 }
 
-// OpenPublisher takes the file at this path, which serves one program at a time. If it keeps a message under way, the next call
-// sends that one first.
+// OpenPublisher opens the file at this path, which only one program may use at a time. If it keeps a message in progress, the
+// next call sends that one first.
 func OpenPublisher(node *Node, client uint16, path string) (*Publisher, error) {
 	lock, err := os.OpenFile(path+".lock", os.O_CREATE|os.O_RDWR, 0o600)
 	if err != nil {
@@ -365,8 +365,8 @@ func (p *Publisher) keep(number uint32, payload []byte, done bool) error {
 	return nil
 }
 
-// Publish has a message accepted; its number at the node. If the context ends before that, the message stays under way: the next
-// call, or Finish, goes on with it. A message that a full node refuses doesn't.
+// Publish gets a message accepted, and returns its number at the node. If the context ends before that, the message stays in
+// progress: the next call, or Finish, continues it. A message that a full node refuses is dropped.
 func (p *Publisher) Publish(ctx context.Context, payload []byte) (uint32, error) {
 	if len(payload) > Longest {
 		return 0, Refused{tooLong, 0}
@@ -390,7 +390,7 @@ func (p *Publisher) Publish(ctx context.Context, payload []byte) (uint32, error)
 	return p.Finish(ctx)
 }
 
-// Finish has the message under way accepted; its number at the node, or 0 if there is none.
+// Finish gets the message in progress accepted, and returns its number at the node, or 0 if no message is in progress.
 func (p *Publisher) Finish(ctx context.Context) (uint32, error) {
 	if p.reason != nil {
 		return 0, p.reason
@@ -426,7 +426,7 @@ func (p *Publisher) Finish(ctx context.Context) (uint32, error) {
 	return seq, nil
 }
 
-// Close finishes the message under way, and has the file say so: then it may begin at another node, or in another folder.
+// Close finishes the message in progress, and notes that in the file. Then the file may be used at another node or folder.
 func (p *Publisher) Close(ctx context.Context) error {
 	if _, err := p.Finish(ctx); err != nil {
 		return err
@@ -439,7 +439,7 @@ func (p *Publisher) Close(ctx context.Context) error {
 	return p.lock.Close()
 }
 
-// Abandon lets the file go and leaves the message under way to the next Publisher.
+// Abandon closes the file, and leaves the message in progress to the next Publisher.
 func (p *Publisher) Abandon() { p.lock.Close() }
 
 // Place says how far one node's log was read: the next place, and a digest of the entry before it, "" at the beginning.
@@ -456,7 +456,7 @@ func (p *Place) UnmarshalJSON(text []byte) error {
 	return json.Unmarshal(text, &[]any{&p.Next, &p.Digest})
 }
 
-// Position says what a Follower has read. Keep it, as JSON, together with what came of the entries.
+// Position says what a Follower has read. Save it, as JSON, together with the results of the entries.
 type Position struct {
 	Seen   map[string]uint32 `json:"seen"`   // the last number of each sender
 	Places map[string]Place  `json:"places"` // by the node's port
@@ -479,8 +479,8 @@ func NewFollower(position Position, nodes ...*Node) *Follower {
 
 func (f *Follower) turn() { f.at, f.pages = (f.at+1)%len(f.nodes), 1 }
 
-// Poll gives the entries that came since the last poll, maybe none. A fault of the node isn't one of the call: the next poll asks
-// the next node. An error is Stopped, or the end of the context.
+// Poll returns the entries that are new since the last poll; there may be none. A fault of the node is no error: the next poll
+// asks the next node. An error is Stopped, or the end of the context.
 func (f *Follower) Poll(ctx context.Context) ([]Entry, error) {
 	node := f.nodes[f.at]
 	port := fmt.Sprint(node.Port)
@@ -527,7 +527,7 @@ func (f *Follower) Poll(ctx context.Context) ([]Entry, error) {
 	return unseen, nil
 }
 
-// ask gives the entries of the pages up to the first that isn't full: what follows it begins further behind.
+// ask returns the entries of the pages up to the first page that isn't full: the pages after it don't follow on directly.
 func (f *Follower) ask(ctx context.Context, node *Node, requests [][]byte) ([]Entry, bool, error) {
 	responses, err := node.Ask(ctx, requests...)
 	if err != nil {
@@ -555,8 +555,8 @@ func (f *Follower) ask(ctx context.Context, node *Node, requests [][]byte) ([]En
 	return all, now.State == "down", nil
 }
 
-// Follow calls `take` with the entries of each poll that brings some, until it fails or the context ends. While nothing comes, the
-// pauses between polls grow. The position is behind these entries when `take` is called: it may keep both in one place.
+// Follow calls `take` with the entries of each poll that finds some, until it fails or the context ends. While there are none, the
+// pauses between polls grow. When `take` is called, the position is after these entries, so `take` may save both together.
 func (f *Follower) Follow(ctx context.Context, take func([]Entry, Position) error) error {
 	pause := leastPause
 	for {

@@ -12,4 +12,11 @@ pub name_lt-strict : (x : Label) → name_lt x x ≡ false
 name_lt-strict x = false_from_ne_true _ (λ e. false≢true (sym (name_lt-other_way x x e) ∙ e))
 
 pub names_in_order : IsOrder name_lt same_name
-names_in_order = record { transitive = name_lt-trans; one_way = name_lt-one_way; strict = name_lt-strict; equal = same_name-true; itself = same_name-same }
+names_in_order = record {
+  transitive = name_lt-trans;
+  one_way = name_lt-one_way;
+  strict =
+      name_lt-strict;
+  equal = same_name-true;
+  itself = same_name-same;
+}

@@ -1,5 +1,6 @@
 -- Two pairs of parts that hold the same names are equal.
-use Rattle.std.proofs.Common.{◌≡◌, ℕ, zero, suc, ◌+◌, ◌-◌, ◌<◌, ◌≤◌, true, List, [], ◌∷◌, length, get_or, refl, sym, ap, ap₂, ◌∙◌, subst, inl, inr, ◌⊎◌, arith}
+use Rattle.std.proofs.Common.{◌≡◌, ℕ, zero, suc, ◌+◌, ◌-◌, ◌<◌, ◌≤◌, true, List, [], ◌∷◌, length}
+use Rattle.std.proofs.Common.{get_or, refl, sym, ap, ap₂, ◌∙◌, subst, inl, inr, ◌⊎◌, arith}
 use Rattle.urb_names.specs.Naming.{Label, IsLabel}
 use Rattle.urb_names.specs.Names.{has_name, name_lt, same_name}
 use Rattle.urb_names.specs.Release.{beginning}
@@ -9,18 +10,26 @@ use Rattle.urb_certified.proofs.Orders.{names_in_order}
 use Rattle.urb_certified.proofs.Members.{IsInRows, all_above, all_true}
 use Rattle.urb_certified.proofs.Reaches.{held, held_has, reach_low}
 
-same_numbers : (xs ys : List ℕ) → length xs ≡ length ys → ((i : ℕ) → get_or xs i 0 ≡ get_or ys i 0) → xs ≡ ys
+same_numbers : (xs ys : List ℕ) → length xs ≡ length ys → ((i : ℕ) → get_or xs i 0 ≡ get_or ys i 0)
+    → xs ≡ ys
 same_numbers [] [] e h = refl
 same_numbers [] (y ∷ ys) e h = absurd (omega arith)
 same_numbers (x ∷ xs) [] e h = absurd (omega arith)
-same_numbers (x ∷ xs) (y ∷ ys) e h = ap₂ (λ (z : ℕ) (zs : List ℕ). z ∷ zs) (h 0) (same_numbers xs ys (omega arith) (λ i. h (suc i)))
+same_numbers (x ∷ xs) (y ∷ ys) e h =
+    ap₂ (λ (z : ℕ) (zs : List ℕ). z ∷ zs) (h 0) (same_numbers xs ys (omega arith) (λ i. h (suc i)))
 
-module _ (low low' : List ℕ) (above above' : List Label) (parts : IsParts low above) (parts' : IsParts low' above') (same : held low above ≡ held low' above') where
+module _ (low low' : List ℕ) (above above' : List Label) (parts : IsParts low above)
+    (parts' : IsParts low' above') (same : held low above ≡ held low' above') where
   same_reach : (s : ℕ) → 1 ≤ s → low_of low s ≡ low_of low' s
-  same_reach s h = sym (reach_low low above s parts h) ∙ (ap (λ xs. length (beginning s xs)) same ∙ reach_low low' above' s parts' h)
+  same_reach s h =
+      sym (reach_low low above s parts h)
+      ∙ (ap (λ xs. length (beginning s xs)) same ∙ reach_low low' above' s parts' h)
 
   pub same_low : low ≡ low'
-  same_low = same_numbers low low' (parts.seven ∙ sym parts'.seven) (λ i. let one : suc i - 1 ≡ i = omega arith in subst (λ (j : ℕ). get_or low j 0 ≡ get_or low' j 0) one (same_reach (suc i) (omega arith)))
+  same_low =
+      same_numbers low low' (parts.senders ∙ sym parts'.senders)
+      (λ i. let one : suc i - 1 ≡ i = omega arith in
+      subst (λ (j : ℕ). get_or low j 0 ≡ get_or low' j 0) one (same_reach (suc i) (omega arith)))
 
   same_all : (y : Label) → has_name (all_names low above) y ≡ has_name (all_names low' above') y
   same_all y = sym (held_has low above y) ∙ (ap (λ xs. has_name xs y) same ∙ held_has low' above' y)
@@ -48,4 +57,6 @@ module _ (low low' : List ℕ) (above above' : List Label) (parts : IsParts low 
           absurd (omega arith)
 
   pub same_above : above ≡ above'
-  same_above = rising_same name_lt same_name names_in_order above above' parts.order parts'.order (λ y. both_ways _ _ (there y) (back y))
+  same_above =
+      rising_same name_lt same_name names_in_order above above' parts.order parts'.order
+      (λ y. both_ways _ _ (there y) (back y))

@@ -9,7 +9,11 @@ use Rattle.urb_certified.specs.declared.certified.Certified.TheInside.{Inside}
 
 -- the names of both parts in order, and whether the upper part has space
 abbrev pub view_of : {A : Type 0} → Inside A → Certificates
-view_of a = record { names = set_of name_lt same_name (all_names a.low a.above.items); room = nat_lt (vec_len a.above) (vec_capacity a.above) }
+view_of a = record {
+  names = set_of name_lt same_name (all_names a.low a.above.items);
+  room =
+      nat_lt (vec_len a.above) (vec_capacity a.above);
+}
 
 -- the fields are two such parts
 abbrev pub IsKept : {A : Type 0} → Inside A → Type 0

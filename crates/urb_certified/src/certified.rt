@@ -1,23 +1,25 @@
 //! The set of certified names, whose look-ups stay fast however long the history is.
 
-ghost use Rattle.std.specs.Prelude.{◌≡◌, ℕ, suc, ◌+◌, ◌-◌, ◌<◌, ◌≤◌, ◌^◌, true, false, [], ◌∷◌, None, Some, length, slice_index_or, vec_len, vec_capacity, OnOk, OnErr, IfOk, IsOk};
+ghost use Rattle.std.specs.Prelude.{◌≡◌, ℕ, suc, ◌+◌, ◌-◌, ◌<◌, ◌≤◌, ◌^◌, true, false, [], ◌∷◌};
+ghost use Rattle.std.specs.Prelude.{None, Some, length, slice_index_or, vec_len, vec_capacity};
+ghost use Rattle.std.specs.Prelude.{OnOk, OnErr, IfOk, IsOk};
 ghost use Rattle.std.specs.Bool.{Decides};
 ghost use Rattle.urb_names.specs.Names.{has_name, name_lt, same_name};
 ghost use Rattle.urb_names.specs.Release.{beginning};
 ghost use Rattle.urb_certified.specs.Certificates.{IsCertificates, with_name};
 
-use crate::parts::{MOST_SENDERS, has, join, low_of, reach_with};
+use crate::parts::{has, join, low_of, reach_with};
 use crate::row::are_same;
 use std::alloc::{Allocator, Global};
 use std::marker::Model;
-use urb_names::{Name, NoMemory, NodeId};
+use urb_names::{MAX_SENDERS, Name, NoMemory, NodeId};
 
 /// Certified names, each once. For each sender it keeps the number up to which its names have no
 /// gap, and the names above the gap in order.
 #[derive(Drop)]
 #[derive_where(Debug)]
 pub struct Certified<A: Allocator = Global> {
-    low: [u32; MOST_SENDERS],
+    low: [u32; MAX_SENDERS],
     above: Vec<Name, A>,
 }
 
@@ -39,13 +41,13 @@ impl<A: Allocator + Copy> Certified<A> {
         ensures { result.names ≡ [] }
     {
         Certified {
-            low: [0; MOST_SENDERS],
+            low: [0; MAX_SENDERS],
             above: Vec::new(alloc),
         }
     }
 
-    /// States what always holds of certified names. It does nothing; only proofs use it.
-    pub fn limits(&self)
+    /// Does nothing at run time; it brings the value's invariant into the proof.
+    pub fn recall(&self)
         ensures { IsCertificates self.now }
     {
         let _above = &self.above;
@@ -105,7 +107,7 @@ impl<A: Allocator + Copy> Certified<A> {
     pub fn clear(&mut self)
         ensures { self.new.names ≡ [] }
     {
-        self.low = [0; MOST_SENDERS];
+        self.low = [0; MAX_SENDERS];
         self.above.clear();
     }
 

@@ -1,6 +1,8 @@
 //! The two parts of the certified names, as plain fields: those without a gap, and those above it.
 
-ghost use Rattle.std.specs.Prelude.{◌≡◌, ℕ, suc, ◌+◌, ◌-◌, ◌<◌, ◌≤◌, ◌^◌, true, false, ◌∷◌, filter, length, slice_index_or, vec_len, vec_capacity, OnOk, OnErr, IfOk, IsOk, IsTrue};
+ghost use Rattle.std.specs.Prelude.{◌≡◌, ℕ, suc, ◌+◌, ◌-◌, ◌<◌, ◌≤◌, ◌^◌, true, false, ◌∷◌, filter};
+ghost use Rattle.std.specs.Prelude.{length, slice_index_or, vec_len, vec_capacity, OnOk, OnErr};
+ghost use Rattle.std.specs.Prelude.{IfOk, IsOk, IsTrue};
 ghost use Rattle.urb_names.specs.Naming.{Label};
 ghost use Rattle.urb_names.specs.Names.{has_name, name_lt, same_name};
 ghost use Rattle.urb_names.specs.Ordered.{is_rising, placed};
@@ -10,44 +12,41 @@ ghost use Rattle.urb_certified.specs.Sets.{set_of};
 
 use crate::row::{drop_to, holds, place_of, run_end};
 use std::alloc::Allocator;
-use urb_names::{Name, NoMemory, NodeId};
-
-// The greatest possible number of senders.
-pub(crate) const MOST_SENDERS: usize = 7;
+use urb_names::{MAX_SENDERS, Name, NoMemory, NodeId};
 
 // The number up to which a sender's names have no gap.
-pub(crate) fn low_of(low: &[u32; MOST_SENDERS], sender: NodeId) -> u32
+pub(crate) fn low_of(low: &[u32; MAX_SENDERS], sender: NodeId) -> u32
     ensures { result ≡ low_of low.now sender }
 {
     low[sender.number() as usize - 1]
 }
 
 // Whether a name is in one of the parts.
-pub(crate) fn has(low: &[u32; MOST_SENDERS], above: &[Name], name: Name) -> bool
+pub(crate) fn has(low: &[u32; MAX_SENDERS], above: &[Name], name: Name) -> bool
     requires { IsParts low.now above.now }
     ensures { result ≡ has_name (all_names low.now above.now) name }
 {
-    name.limits();
+    name.recall();
     name.seq <= low_of(low, name.sender) || holds(above, name)
 }
 
 // Whether a name is its sender's next one after those without a gap.
-pub(crate) fn is_next(low: &[u32; MOST_SENDERS], name: Name) -> bool
+pub(crate) fn is_next(low: &[u32; MAX_SENDERS], name: Name) -> bool
     ensures cases { result ≡ true → name.seq ≡ low_of low.now name.sender + 1 }
     ensures other { result ≡ false → name.seq ≡ low_of low.now name.sender + 1 → ⊥ }
 {
-    name.limits();
+    name.recall();
     name.seq - 1 == low_of(low, name.sender)
 }
 
 // How far the sender's names would go without a gap if this name were among them.
-pub(crate) fn reach_with(low: &[u32; MOST_SENDERS], above: &[Name], name: Name) -> u32
+pub(crate) fn reach_with(low: &[u32; MAX_SENDERS], above: &[Name], name: Name) -> u32
     requires { IsParts low.now above.now }
     ensures { result
         ≡ length (beginning name.sender
         (name ∷ set_of name_lt same_name (all_names low.now above.now))) }
 {
-    name.limits();
+    name.recall();
     if is_next(low, name) {
         return run_end(above, name);
     }
@@ -56,7 +55,7 @@ pub(crate) fn reach_with(low: &[u32; MOST_SENDERS], above: &[Name], name: Name) 
 
 // Adds the next name to the lower part, together with the names that follow it without a gap.
 pub(crate) fn close_gap<A: Allocator>(
-    low: &mut [u32; MOST_SENDERS],
+    low: &mut [u32; MAX_SENDERS],
     above: &mut Vec<Name, A>,
     name: Name,
 )
@@ -64,7 +63,7 @@ pub(crate) fn close_gap<A: Allocator>(
     requires next { name.seq ≡ low_of low.old name.sender + 1 }
     ensures joined { IsJoined low.old above.old.items name low.new above.new.items }
 {
-    name.limits();
+    name.recall();
     let end = run_end(above, name);
     drop_run(above, name, end);
     low[name.sender.number() as usize - 1] = end;
@@ -102,7 +101,7 @@ pub(crate) fn put_above<A: Allocator>(above: &mut Vec<Name, A>, name: Name) -> R
 // Adds a name that is in neither part to the part where it belongs. `NoMemory` means that the
 // allocation was refused, and nothing has changed.
 pub(crate) fn join<A: Allocator>(
-    low: &mut [u32; MOST_SENDERS],
+    low: &mut [u32; MAX_SENDERS],
     above: &mut Vec<Name, A>,
     name: Name,
 ) -> Result<(), NoMemory>
@@ -115,7 +114,7 @@ pub(crate) fn join<A: Allocator>(
         × (vec_capacity above.old ≤ vec_capacity above.new)) }
     ensures roomy { vec_len above.old < vec_capacity above.old → IsOk result }
 {
-    name.limits();
+    name.recall();
     if is_next(low, name) {
         close_gap(low, above, name);
         return Ok(());

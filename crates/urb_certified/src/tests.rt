@@ -154,7 +154,7 @@ fn each_growth_may_be_refused(rt: HostRuntime) -> Result<(), Fail> {
         let is_reached = reaches(&names, 1, 4) && reaches(&names, 3, 2);
         drop(names);
         assert!(rt; is_added && is_reached);
-        if heap.met() {
+        if heap.has_failed() {
             met = refused;
         }
     }
@@ -170,9 +170,9 @@ fn asks_for_nothing<'a, A: Allocator>(
     if names.make_room().is_err() {
         return false;
     }
-    names.limits();
-    let asked = heap.asked();
-    adds_all(names, &[(1, 5), (1, 1)]) && heap.asked() == asked
+    names.recall();
+    let asked = heap.growths();
+    adds_all(names, &[(1, 5), (1, 1)]) && heap.growths() == asked
 }
 
 #[test]

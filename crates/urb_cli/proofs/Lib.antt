@@ -1,6 +1,6 @@
-mod Parsing
+mod ParserPromise
 mod NumbersRead
-mod Digits
-mod Building
-mod Showing
-mod Pushing
+mod PayloadDigits
+mod BuiltCommands
+mod SilentResponses
+mod PushedLines

@@ -1,16 +1,19 @@
 -- The numbers read from the values that the parser found.
-use Rattle.std.proofs.Common.{◌≡◌, ◌∙◌, ◌&&◌, ◌<◌, ◌≤◌, ◌^◌, ap, ap₂, sym, refl, ℕ, Bool, true, false, cond, List, [], ◌∷◌, length, Option, Some, None, Result, Ok, Err, option_map, arith}
+use Rattle.std.proofs.Common.{◌≡◌, ◌∙◌, ◌&&◌, ◌<◌, ◌≤◌, ◌^◌, ap, ap₂, sym, refl, ℕ, Bool, true}
+use Rattle.std.proofs.Common.{false, cond, List, [], ◌∷◌, length, Option, Some, None, Result, Ok}
+use Rattle.std.proofs.Common.{Err, option_map, arith}
 use Rattle.std.specs.Prelude.{IsSome, IfSome, nat_lt, nat_le, option_and_then}
 use Rattle.std.specs.List.{list_all}
 use Rattle.std.specs.Borrow.{Bor}
 use Rattle.std.specs.Char.{digit_value}
-use Rattle.std.specs.Str.Parse.{AllDigits, IsNumeral, ParsesUnsigned, digits_value, without_leading_plus}
+use Rattle.std.specs.Str.Parse.{AllDigits, IsNumeral, ParsesUnsigned, digits_value}
+use Rattle.std.specs.Str.Parse.{without_leading_plus}
 use Rattle.std.proofs.lemmas.Bool.{leb-true, lt-ltb, ltb-true}
 use Rattle.clap.specs.Words.{Text, one_of, one_text, rows_of}
 use Rattle.clap.proofs.WalkLemmas.{one_text-rows}
 use Rattle.clap.specs.Matches.{ReadsOne}
 use Rattle.clap.specs.declared.parser.matches.Found.{Found}
-use Rattle.urb_cli.specs.declared.serving.Serving.{Serving}
+use Rattle.urb_cli.specs.declared.command_line.options.ServeOptions.{ServeOptions}
 use Rattle.urb_cli.specs.Tasks.{Task, Serve, is_decimal, number_in, number_of, task_of_serving}
 
 digits_pass : (ds : List ℕ) → AllDigits 10 ds → list_all (λ d. nat_lt (digit_value d) 10) ds ≡ true
@@ -40,14 +43,17 @@ numeral_from ds e =
 abbrev bounded : ℕ → ℕ → Option ℕ → Option ℕ
 bounded low high = option_and_then (λ n. cond (nat_le low n && nat_le n high) (Some n) None)
 
-pub number_read : {E : Type 0} (G : List ℕ → Result ℕ E → Type 0) (low high : ℕ) (text : Text) (r : Option ℕ)
-    → ReadsOne G text r → ((u : List ℕ) (x : Result ℕ E) → G u x → ParsesUnsigned 32 10 u x) → high < 2 ^ 32
+pub number_read : {E : Type 0} (G : List ℕ → Result ℕ E → Type 0) (low high : ℕ) (text : Text)
+    (r : Option ℕ)
+    → ReadsOne G text r → ((u : List ℕ) (x : Result ℕ E) → G u x → ParsesUnsigned 32 10 u x)
+    → high < 2 ^ 32
     → bounded low high r ≡ number_in low high text
 number_read G low high text (Some n) reads only fits =
     let h = only text (Ok n) reads in
     let ds = without_leading_plus text in
     rw (numeral_passes ds h.0.0, h.1) refl
-number_read G low high text None reads only fits = go (is_decimal ds) (nat_le low value && nat_le value high) refl refl
+number_read G low high text None reads only fits =
+    go (is_decimal ds) (nat_le low value && nat_le value high) refl refl
   where
     ds : List ℕ
     ds = without_leading_plus text
@@ -55,7 +61,8 @@ number_read G low high text None reads only fits = go (is_decimal ds) (nat_le lo
     value : ℕ
     value = digits_value 10 ds
 
-    go : (a b : Bool) → is_decimal ds ≡ a → (nat_le low value && nat_le value high) ≡ b → None ≡ number_in low high text
+    go : (a b : Bool) → is_decimal ds ≡ a → (nat_le low value && nat_le value high) ≡ b
+        → None ≡ number_in low high text
     go true true d e =
         let small : value ≤ high = leb-true _ _ (both _ _ e).1 in
         absurd (only text (Err reads.0) reads.1 (numeral_from ds d, omega arith))
@@ -63,20 +70,26 @@ number_read G low high text None reads only fits = go (is_decimal ds) (nat_le lo
     go false b d e = rw d refl
 
 -- the number of an option that the parser found
-pub number_found : {E : Type 0} (G : List ℕ → Result ℕ E → Type 0) (low high : ℕ) (found : Found) (name : Text) (r : Option ℕ)
-    → (one_text found name ≡ None → r ≡ None) → ((t : List ℕ) → one_text found name ≡ Some t → ReadsOne G t r)
+pub number_found : {E : Type 0} (G : List ℕ → Result ℕ E → Type 0) (low high : ℕ) (found : Found)
+    (name : Text) (r : Option ℕ)
+    → (one_text found name ≡ None → r ≡ None)
+    → ((t : List ℕ) → one_text found name ≡ Some t → ReadsOne G t r)
     → ((u : List ℕ) (x : Result ℕ E) → G u x → ParsesUnsigned 32 10 u x) → high < 2 ^ 32
     → bounded low high r ≡ number_of name low high (rows_of found)
 number_found G low high found name r none some only fits =
-    go (one_text found name) refl ∙ ap (option_and_then (number_in low high)) (one_text-rows found name)
+    go (one_text found name) refl
+    ∙ ap (option_and_then (number_in low high)) (one_text-rows found name)
   where
-    go : (o : Option Text) → one_text found name ≡ o → bounded low high r ≡ option_and_then (number_in low high) o
+    go : (o : Option Text) → one_text found name ≡ o
+        → bounded low high r ≡ option_and_then (number_in low high) o
     go None e = ap (bounded low high) (none e)
     go (Some t) e = number_read G low high t r (some t e) only fits
 
 -- if the values are within their ranges, the group is made
-pub serving_made : (r : Option Serving) (nodes cap : ℕ) (dir : Bor Text) (base every : ℕ) → IsSome r
-    → IfSome r (λ s. (s.nodes ≡ nodes) × (s.cap ≡ cap) × (s.dir ≡ dir) × (s.base ≡ base) × (s.every ≡ every))
+pub serving_made : (r : Option ServeOptions) (nodes cap : ℕ) (dir : Bor Text) (base every : ℕ)
+    → IsSome r
+    → IfSome r (λ s. (s.nodes ≡ nodes) × (s.cap ≡ cap) × (s.dir ≡ dir) × (s.base ≡ base)
+    × (s.every ≡ every))
     → option_map task_of_serving r ≡ Some (Serve nodes cap dir.now base every)
 serving_made (Some s) nodes count dir base every some is = rw (is.0, is.1, is.2, is.3, is.4) refl
 serving_made None nodes count dir base every some is = absurd cc

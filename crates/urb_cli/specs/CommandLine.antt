@@ -1,6 +1,11 @@
 -- The command line of the program, in the terms of its parser.
 use Rattle.std.specs.Prelude.{◌≡◌, ◌⊎◌, ℕ, ℤ, pos, List, [], ◌∷◌, true, codes, Some}
-use Rattle.clap.specs.Words.{App, Rule, Text, new_app, new_rule, with_rule, with_subcommand, fault_of, Kinds, IsAmong}
+use Rattle.urb_names.specs.declared.limits.TheConstants.{MAX_CAP, MAX_NODES}
+use Rattle.urb_client.specs.declared.format.TheConstants.{MOST_ENTRIES}
+use Rattle.urb_cli.specs.declared.limits.TheConstants.{MIN_BASE_PORT, MAX_BASE_PORT}
+use Rattle.urb_cli.specs.declared.limits.TheConstants.{MAX_TICK_MILLIS}
+use Rattle.clap.specs.Words.{App, Rule, Text, new_app, new_rule, with_rule, with_subcommand}
+use Rattle.clap.specs.Words.{fault_of, Kinds, IsAmong}
 use Rattle.clap.specs.declared.builder.action.ArgAction.TheVariants.{Set}
 use Rattle.clap.specs.declared.builder.value_parser.ValueParser.{ValueParser}
 use Rattle.clap.specs.declared.builder.value_parser.ValueParser.TheVariants as vp
@@ -32,11 +37,11 @@ replay_app = new_app (codes "replay")
 abbrev pub serve_app : App
 serve_app =
     with_rule (with_rule (with_rule (with_rule (with_rule (new_app (codes "serve"))
-    (number_rule (codes "nodes") (pos 1) (pos 7)))
-    (number_rule (codes "cap") (pos 1) (pos 1000000)))
+    (number_rule (codes "nodes") (pos 1) (pos MAX_NODES)))
+    (number_rule (codes "cap") (pos 1) (pos MAX_CAP)))
     (text_rule (codes "dir")))
-    (number_rule (codes "base-port") (pos 1024) (pos 65000)))
-    (number_rule (codes "tick-ms") (pos 1) (pos 60000))
+    (number_rule (codes "base-port") (pos MIN_BASE_PORT) (pos MAX_BASE_PORT)))
+    (number_rule (codes "tick-ms") (pos 1) (pos MAX_TICK_MILLIS))
 
 -- `submit` takes a port, a client, its number, and the payload
 abbrev pub submit_app : App
@@ -53,11 +58,15 @@ read_app =
     with_rule (with_rule (with_rule (new_app (codes "read"))
     (number_rule (codes "port") (pos 1) (pos 65535)))
     (number_rule (codes "from") (pos 1) (pos 4294967295)))
-    (number_rule (codes "max") (pos 1) (pos 8))
+    (number_rule (codes "max") (pos 1) (pos MOST_ENTRIES))
 
 -- the program needs one of its subcommands
 abbrev pub bare_app : App
-bare_app = record { top = record (new_app (codes "urbd")).top { subcommand_required = true }; subs = [] }
+bare_app = record {
+  top = record (new_app (codes "urbd")).top { subcommand_required = true };
+  subs =
+      [];
+}
 
 -- the program with its subcommands
 abbrev pub urbd_app : App

@@ -1,5 +1,5 @@
+pub mod ClientOutput
 pub mod CommandLine
-pub mod Served
-pub mod Shown
+pub mod OptionRanges
 pub mod Statuses
 pub mod Tasks

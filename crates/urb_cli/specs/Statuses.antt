@@ -5,10 +5,10 @@ use Rattle.urb_names.specs.declared.refusal.Refusal.{Refusal}
 use Rattle.urb_names.specs.declared.refusal.Refusal.TheVariants as refusal
 use Rattle.urb_cli.specs.declared.faults.Fault.{Fault}
 use Rattle.urb_cli.specs.declared.faults.Fault.TheVariants as fault
-use Rattle.urb_cli.specs.declared.lines.Errand.{Errand}
-use Rattle.urb_cli.specs.declared.lines.Errand.TheVariants as errand
-use Rattle.urb_client.specs.declared.receiving.ResponseFault.{ResponseFault}
-use Rattle.urb_client.specs.declared.receiving.ResponseFault.TheVariants as response
+use Rattle.urb_cli.specs.declared.command_line.task.Errand.{Errand}
+use Rattle.urb_cli.specs.declared.command_line.task.Errand.TheVariants as errand
+use Rattle.urb_client.specs.declared.response_receiver.ResponseFault.{ResponseFault}
+use Rattle.urb_client.specs.declared.response_receiver.ResponseFault.TheVariants as response
 use Rattle.urb_script.specs.declared.runs.Ended.{Ended}
 use Rattle.urb_script.specs.declared.runs.Ended.TheVariants.{Whole, BadLine}
 use Rattle.urb_script.specs.declared.runs.RunFault.{RunFault}

@@ -1,18 +1,23 @@
 -- What a command line asks for.
-use Rattle.std.specs.Prelude.{ℕ, Bool, ◌&&◌, nat_lt, nat_le, List, [], ◌∷◌, length, Option, Some, None, option_and_then, if◌then◌else◌, codes}
+use Rattle.std.specs.Prelude.{ℕ, Bool, ◌&&◌, nat_lt, nat_le, List, [], ◌∷◌, length, Option, Some}
+use Rattle.std.specs.Prelude.{None, option_and_then, if◌then◌else◌, codes}
 use Rattle.std.specs.List.{list_all}
 use Rattle.std.specs.Char.{digit_value}
 use Rattle.std.specs.Str.{bytes_eq}
 use Rattle.std.specs.Str.Parse.{digits_value, without_leading_plus}
+use Rattle.urb_names.specs.declared.limits.TheConstants.{MAX_CAP, MAX_NODES}
+use Rattle.urb_client.specs.declared.format.TheConstants.{MOST_ENTRIES}
+use Rattle.urb_cli.specs.declared.limits.TheConstants.{MIN_BASE_PORT, MAX_BASE_PORT}
+use Rattle.urb_cli.specs.declared.limits.TheConstants.{MAX_TICK_MILLIS}
 use Rattle.clap.specs.Words.{Row, Text, first_of, one_of}
-use Rattle.urb_client.specs.Reading.{◌>>=◌}
-use Rattle.urb_cli.specs.declared.serving.Serving.{Serving}
-use Rattle.urb_cli.specs.declared.lines.Submitting.{Submitting}
-use Rattle.urb_cli.specs.declared.lines.Reading.{Reading}
-use Rattle.urb_cli.specs.declared.lines.Errand.{Errand}
-use Rattle.urb_cli.specs.declared.lines.Errand.TheVariants as errand
-use Rattle.urb_cli.specs.declared.lines.Line.{Line}
-use Rattle.urb_cli.specs.declared.lines.Line.TheVariants as line
+use Rattle.urb_client.specs.ParsedResponses.{◌>>=◌}
+use Rattle.urb_cli.specs.declared.command_line.options.ServeOptions.{ServeOptions}
+use Rattle.urb_cli.specs.declared.command_line.task.SubmitOptions.{SubmitOptions}
+use Rattle.urb_cli.specs.declared.command_line.task.ReadOptions.{ReadOptions}
+use Rattle.urb_cli.specs.declared.command_line.task.Errand.{Errand}
+use Rattle.urb_cli.specs.declared.command_line.task.Errand.TheVariants as errand
+use Rattle.urb_cli.specs.declared.command_line.task.Line.{Line}
+use Rattle.urb_cli.specs.declared.command_line.task.Line.TheVariants as line
 
 -- What the program has to do: run a script; run a group; submit a text; or read entries. A group
 -- has its nodes, cap, folder, base of the ports, and pause between resends. A text is submitted at
@@ -25,15 +30,15 @@ pub data Task : Type 0 where
   Read : ℕ → ℕ → ℕ → Task
 
 -- the task of a group to run
-abbrev pub task_of_serving : Serving → Task
+abbrev pub task_of_serving : ServeOptions → Task
 task_of_serving s = Serve s.nodes s.cap s.dir.now s.base s.every
 
 -- the task of a message to submit
-abbrev pub task_of_submitting : Submitting → Task
+abbrev pub task_of_submitting : SubmitOptions → Task
 task_of_submitting s = Submit s.port s.client s.number s.text.now
 
 -- the task of entries to read
-abbrev pub task_of_reading : Reading → Task
+abbrev pub task_of_reading : ReadOptions → Task
 task_of_reading r = Read r.port r.from r.max
 
 -- the task of an errand
@@ -55,7 +60,8 @@ is_decimal digits = nat_lt 0 (length digits) && list_all (λ d. nat_lt (digit_va
 abbrev pub number_in : ℕ → ℕ → Text → Option ℕ
 number_in low high text =
     let digits = without_leading_plus text in
-    if is_decimal digits && (nat_le low (digits_value 10 digits) && nat_le (digits_value 10 digits) high)
+    if is_decimal digits && (nat_le low (digits_value 10 digits)
+    && nat_le (digits_value 10 digits) high)
     then Some (digits_value 10 digits) else None
 
 -- the value of an option, as a number
@@ -65,11 +71,11 @@ number_of name low high rows = option_and_then (number_in low high) (one_of name
 -- a group to run, from its options
 unfoldable pub serve_task : List Row → Option Task
 serve_task rows = do
-  nodes ← number_of (codes "nodes") 1 7 rows
-  cap ← number_of (codes "cap") 1 1000000 rows
+  nodes ← number_of (codes "nodes") 1 MAX_NODES rows
+  cap ← number_of (codes "cap") 1 MAX_CAP rows
   dir ← first_of (codes "dir") rows
-  base ← number_of (codes "base-port") 1024 65000 rows
-  every ← number_of (codes "tick-ms") 1 60000 rows
+  base ← number_of (codes "base-port") MIN_BASE_PORT MAX_BASE_PORT rows
+  every ← number_of (codes "tick-ms") 1 MAX_TICK_MILLIS rows
   Some (Serve nodes cap dir base every)
 
 -- a message to submit, from its options and its text
@@ -86,7 +92,7 @@ unfoldable pub read_task : List Row → Option Task
 read_task rows = do
   port ← number_of (codes "port") 1 65535 rows
   from ← number_of (codes "from") 1 4294967295 rows
-  max ← number_of (codes "max") 1 8 rows
+  max ← number_of (codes "max") 1 MOST_ENTRIES rows
   Some (Read port from max)
 
 -- the task of a subcommand, from what was found for it

@@ -1,27 +1,27 @@
-//! Errands: what the program does by itself, once, and the status that it ends with.
+//! Errands: what the program does by itself, once; and the program's status after it.
 
 ghost use Rattle.std.specs.Prelude.{◌≡◌};
 ghost use Rattle.urb_cli.specs.Statuses.{IsErrandsEnd, status_of};
 
-use crate::clients::{read, submit};
-use crate::faults::{Fault, tell};
-use crate::lines::Errand;
-use crate::replaying::replay;
+use crate::client::run::{run_read, run_submit};
+use crate::command_line::task::Errand;
+use crate::faults::{Fault, report_fault};
+use crate::script::replay;
 use std::net::{Net, TcpListener, TcpStream};
 use urb_script::{Ended, RunFault};
 
 /// The status of a script with a bad line.
 const BAD_LINE: u8 = 2;
 
-/// Reports the fault at which a run of a script broke off, and returns the program's status: 0 for
-/// a script that is whole, 2 for one with a bad line, 1 for a fault.
-pub fn finish<R: Eprint>(rt: &R, outcome: Result<Ended, RunFault>) -> u8
+/// Reports the fault that stopped the run of a script, if any, and returns the program's status. It
+/// is 0 for a whole script, 2 for a script with a bad line, and 1 for a fault.
+pub fn report_script_end<R: Eprint>(rt: &R, outcome: Result<Ended, RunFault>) -> u8
     ensures { result ≡ status_of outcome }
 {
     match outcome {
         Ok(Ended::Whole) => 0,
         Ok(Ended::BadLine(_)) => BAD_LINE,
-        Err(fault) => tell(rt, Fault::from(fault)),
+        Err(fault) => report_fault(rt, Fault::from(fault)),
     }
 }
 
@@ -33,8 +33,8 @@ where
     ensures { IsErrandsEnd errand.entry result }
 {
     match errand {
-        Errand::Replay => finish(rt, replay(rt)),
-        Errand::Submit(submitting) => submit(rt, submitting),
-        Errand::Read(reading) => read(rt, reading),
+        Errand::Replay => report_script_end(rt, replay(rt)),
+        Errand::Submit(submitting) => run_submit(rt, submitting),
+        Errand::Read(reading) => run_read(rt, reading),
     }
 }

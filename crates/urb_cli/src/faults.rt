@@ -15,13 +15,13 @@ pub enum Fault {
     #[error("read failed")]
     Read,
     /// Standard output or a request to a node could not be written: nothing, a part or all of it
-    /// may have gone out.
+    /// may have been written.
     #[error("write failed")]
     Write,
     /// Memory or a thread was refused.
     #[error("no memory")]
     NoMemory,
-    /// A port could not be had, or nothing listens there.
+    /// A port wasn't available, or nothing listens there.
     #[error("network failed")]
     Network,
     /// What a node sent is no response to the request.
@@ -104,7 +104,7 @@ impl From<Refusal> for Fault {
 const FAULT: u8 = 1;
 
 /// Reports a fault on standard error, and returns its status.
-pub fn tell<R: Eprint>(rt: &R, fault: Fault) -> u8
+pub fn report_fault<R: Eprint>(rt: &R, fault: Fault) -> u8
     ensures { result ≡ 1 }
 {
     let _ = eprintln!(rt; "urbd: {fault}");

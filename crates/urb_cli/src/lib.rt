@@ -1,12 +1,12 @@
 //! The command line of `urbd`, and what it does by itself: scripts, and the commands of a client.
 //!
-//! `words` takes the words of the command line, and `line` reads them. A line asks for a group to
-//! run, which is the daemon's part, or for an errand, which `run_errand` does. Both write what a
-//! mistake or a fault shows, and return the program's status.
+//! `read_words` takes the words of the command line, and `parse_line` reads them. A line asks for a
+//! group to run, which is the daemon's part, or for an errand, which `run_errand` does. Both write
+//! what a mistake or a fault shows, and return the program's status.
 //!
 //! ```text
-//! let words = match words(&rt) { Ok(words) => words, Err(status) => return status };
-//! match line(&rt, rt.alloc(), words.as_slice()) {
+//! let words = match read_words(&rt) { Ok(words) => words, Err(status) => return status };
+//! match parse_line(&rt, rt.alloc(), words.as_slice()) {
 //!     Ok(Line::Serve(serving)) => ..,                    // run a group with these limits
 //!     Ok(Line::Errand(errand)) => run_errand(&rt, errand),
 //!     Err(status) => status,
@@ -14,26 +14,22 @@
 //! ```
 //!
 //! What the program's `submit` and `read` show is a stated function of the response
-//! (`specs/Shown.antt`). No call opens a file, and no call starts a thread.
+//! (`specs/ClientOutput.antt`). No call opens a file, and no call starts a thread.
 #![tactic(auto)]
 
-mod arguments;
-mod clients;
-mod commands;
+mod client;
+mod command_line;
 mod errands;
 mod faults;
-mod lines;
-mod printed;
-mod printing;
-mod replaying;
-mod serving;
-mod values;
+mod limits;
+mod script;
 
-pub use arguments::{line, words};
-pub use clients::{read_at, read_over, show, submit_at, submit_over};
-pub use errands::{finish, run_errand};
-pub use faults::{Fault, tell};
-pub use lines::{Errand, Line, Reading, Submitting};
-pub use printed::Printed;
-pub use replaying::replay;
-pub use serving::Serving;
+pub use client::printed::Printed;
+pub use client::run::{read_at, read_over, show, submit_at, submit_over};
+pub use command_line::options::ServeOptions;
+pub use command_line::parse::{parse_line, read_words};
+pub use command_line::task::{Errand, Line, ReadOptions, SubmitOptions};
+pub use errands::{report_script_end, run_errand};
+pub use faults::{Fault, report_fault};
+pub use limits::{CLIENT_PORT_OFFSET, MAX_BASE_PORT, MAX_TICK_MILLIS, MIN_BASE_PORT};
+pub use script::replay;

@@ -5,7 +5,7 @@ mod lines;
 mod scripts;
 
 use std::alloc::Global;
-use urb_cli::{Errand, Line, finish, line, replay, words};
+use urb_cli::{Errand, Line, parse_line, read_words, replay, report_script_end};
 use urb_terminal::{Shown, Terminal};
 
 /// The status of a command line that asks for a network. No terminal has one.
@@ -13,12 +13,12 @@ const WANTS_A_NETWORK: u8 = 9;
 
 /// The program, except for the parts that need a network.
 fn program(terminal: &Terminal<'_>) -> u8 {
-    let words = match words(terminal) {
+    let words = match read_words(terminal) {
         Ok(words) => words,
         Err(status) => return status,
     };
-    match line(terminal, terminal.alloc(), words.as_slice()) {
-        Ok(Line::Errand(Errand::Replay)) => finish(terminal, replay(terminal)),
+    match parse_line(terminal, terminal.alloc(), words.as_slice()) {
+        Ok(Line::Errand(Errand::Replay)) => report_script_end(terminal, replay(terminal)),
         Ok(_) => WANTS_A_NETWORK,
         Err(status) => status,
     }

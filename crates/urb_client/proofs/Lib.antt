@@ -1,12 +1,12 @@
-pub mod Filled
-pub mod Loop
-pub mod Once
-pub mod Pushing
-pub mod Parts
-pub mod Pieces
-pub mod Progress
+pub mod FullReads
+pub mod EntryLoop
+pub mod ReadOnce
+pub mod EntryBytes
+pub mod ResponseParts
+pub mod FramePieces
+pub mod SessionProgress
 pub mod RequestLaws
 pub mod ResponseLaws
-mod Limits
-pub mod Paging
-mod Received
+mod ResponseLimits
+pub mod PageLists
+mod ReceivedFrames

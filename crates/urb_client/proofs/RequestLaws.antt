@@ -1,84 +1,128 @@
--- What is read as a request has its spelling, and what has the spelling is read.
-use Rattle.std.proofs.Common.{◌≡◌, ℕ, ◌<◌, ◌≤◌, true, false, cond, Bool, List, [], ◌∷◌, ◌++◌, length, drop, Result, Ok, Err, refl, sym, ap, subst, ◌∙◌, arith, drop-cons}
+-- If bytes are read as a request, they are its encoding; and the encoding of a request is read as
+-- that request.
+use Rattle.std.proofs.Common.{◌≡◌, ℕ, ◌<◌, ◌≤◌, true, false, cond, Bool, List, [], ◌∷◌, ◌++◌}
+use Rattle.std.proofs.Common.{length, drop, Result, Ok, Err, refl, sym, ap, subst, ◌∙◌, arith}
+use Rattle.std.proofs.Common.{drop-cons}
 use Rattle.std.specs.Prelude.{nat_lt, ◌==◌, slice_index, IfOk}
 use Rattle.std.proofs.lemmas.Bool.{eqb-true, ltb-false}
 use Rattle.std.proofs.lemmas.Bool.Decides.{nat_tests}
 use Rattle.std.proofs.lemmas.List.{nil_from_length, drop-drop, length-drop}
+use Rattle.urb_client.specs.declared.format.TheConstants.{MOST_ENTRIES}
 use Rattle.byteorder.specs.Endian.{big_number, big_bytes}
 use Rattle.urb_names.specs.declared.refusal.Refusal.{Refusal}
-use Rattle.urb_client.specs.Requests.{Asked, Submit, Read, Status, Crash, Restart, IsAsked, IsSubmit, Gives, submit_fields, read_fields, no_fields, request_of, request_body}
-use Rattle.urb_client.proofs.Parts.{IsBytes, IsBytes-rest, IsBytes-drop, by_test, two, four}
+use Rattle.urb_client.specs.Requests.{Asked, Submit, Read, Status, Crash, Restart, IsAsked}
+use Rattle.urb_client.specs.Requests.{IsSubmit, Gives, submit_fields, read_fields, no_fields}
+use Rattle.urb_client.specs.Requests.{request_of, request_body}
+use Rattle.urb_client.proofs.ResponseParts.{IsBytes, IsBytes-rest, IsBytes-drop, by_test, two, four}
 
 -- fields that are long enough, with a client that isn't 0, are a submit
-pub is_submit : (fields : List ℕ) → 6 ≤ length fields → 0 < big_number 2 fields → IsSubmit (submit_fields fields)
-is_submit fields long client = (big_number 2 fields, big_number 4 (drop 2 fields), drop 6 fields, grind (arith, nat_tests))
+pub is_submit : (fields : List ℕ) → 6 ≤ length fields → 0 < big_number 2 fields
+    → IsSubmit (submit_fields fields)
+is_submit fields long client =
+    (big_number 2 fields, big_number 4 (drop 2 fields), drop 6 fields, grind (arith, nat_tests))
 
--- these bytes spell this request
+-- these bytes encode this request
 record Spells (fields : List ℕ) (opcode : ℕ) (asked : Asked) : Type 0 where
   pub is : IsAsked asked
   pub bytes : opcode ∷ fields ≡ request_body asked
 
 -- a test that found no fault
-passed : {A E : Type 0} (b : Bool) (fault : E) (r : Result A E) (y : A) → cond b (Err fault) r ≡ Ok y → (b ≡ false) × (r ≡ Ok y)
+passed : {A E : Type 0} (b : Bool) (fault : E) (r : Result A E) (y : A)
+    → cond b (Err fault) r ≡ Ok y → (b ≡ false) × (r ≡ Ok y)
 passed true fault r y e = absurd cc
 passed false fault r y e = (refl, e)
 
--- a test that found no fault, the other way round
-held : {A E : Type 0} (b : Bool) (fault : E) (r : Result A E) (y : A) → cond b r (Err fault) ≡ Ok y → (b ≡ true) × (r ≡ Ok y)
+-- the same for a test that is true if there is no fault
+held : {A E : Type 0} (b : Bool) (fault : E) (r : Result A E) (y : A) → cond b r (Err fault) ≡ Ok y
+    → (b ≡ true) × (r ≡ Ok y)
 held true fault r y e = (refl, e)
 held false fault r y e = absurd cc
 
 not_zero : (n : ℕ) → (n == 0) ≡ false → 0 < n
 not_zero n e = grind (arith, nat_tests)
 
-submit_takes : (fields : List ℕ) (asked : Asked) → IsBytes fields → submit_fields fields ≡ Ok asked → Spells fields 1 asked
+submit_takes : (fields : List ℕ) (asked : Asked) → IsBytes fields → submit_fields fields ≡ Ok asked
+    → Spells fields 1 asked
 submit_takes fields asked fits e =
     let long = passed (nat_lt (length fields) 6) 3 _ asked e in
     let client = passed (big_number 2 fields == 0) 4 _ asked long.1 in
-    let made : Asked = Submit (big_number 2 fields) (big_number 4 (drop 2 fields)) (drop 6 fields) in
+    let made : Asked =
+    Submit (big_number 2 fields) (big_number 4 (drop 2 fields)) (drop 6 fields) in
     let same : made ≡ asked = cc (client.1) in
     let size : 6 ≤ length fields = ltb-false _ _ long.0 in
     let left : big_bytes 4 (big_number 4 (drop 2 fields)) ++ drop 6 fields ≡ drop 2 fields =
-    subst (λ (r : List ℕ). big_bytes 4 (big_number 4 (drop 2 fields)) ++ r ≡ drop 2 fields) (drop-drop 4 2 fields) (four.back (drop 2 fields) (omega (arith, size, length-drop 2 fields)) (IsBytes-drop 2 fields fits)) in
-    let all : fields ≡ big_bytes 2 (big_number 2 fields) ++ (big_bytes 4 (big_number 4 (drop 2 fields)) ++ drop 6 fields) =
-    sym (two.back fields (omega (arith, size)) fits) ∙ ap (λ (r : List ℕ). big_bytes 2 (big_number 2 fields) ++ r) (sym left) in
-    subst (Spells fields 1) same (record { is = (not_zero _ client.0, two.below fields fits, four.below (drop 2 fields) (IsBytes-drop 2 fields fits)); bytes = ap (λ (r : List ℕ). 1 ∷ r) all })
+    subst (λ (r : List ℕ). big_bytes 4 (big_number 4 (drop 2 fields)) ++ r ≡ drop 2 fields)
+    (drop-drop 4 2 fields) (four.back (drop 2 fields)
+    (omega (arith, size, length-drop 2 fields)) (IsBytes-drop 2 fields fits)) in
+    let all : fields ≡ big_bytes 2 (big_number 2 fields)
+    ++ (big_bytes 4 (big_number 4 (drop 2 fields)) ++ drop 6 fields) =
+    sym (two.back fields (omega (arith, size)) fits)
+    ∙ ap (λ (r : List ℕ). big_bytes 2 (big_number 2 fields) ++ r) (sym left) in
+    subst (Spells fields 1) same (record {
+      is = (
+        not_zero _ client.0,
+        two.below fields fits,
+        four.below (drop 2 fields) (IsBytes-drop 2 fields fits),
+      );
+      bytes =
+          ap (λ (r : List ℕ). 1 ∷ r) all;
+    })
 
-read_takes : (fields : List ℕ) (asked : Asked) → IsBytes fields → read_fields fields ≡ Ok asked → Spells fields 2 asked
+read_takes : (fields : List ℕ) (asked : Asked) → IsBytes fields → read_fields fields ≡ Ok asked
+    → Spells fields 2 asked
 read_takes fields asked fits e =
     let len = held (length fields == 5) 3 _ asked e in
     let place = passed (big_number 4 fields == 0) 4 _ asked len.1 in
     let some = passed (slice_index fields 4 == 0) 4 _ asked place.1 in
-    let few = passed (nat_lt 8 (slice_index fields 4)) 4 _ asked some.1 in
+    let few = passed (nat_lt MOST_ENTRIES (slice_index fields 4)) 4 _ asked some.1 in
     let made : Asked = Read (big_number 4 fields) (slice_index fields 4) in
     let same : made ≡ asked = cc (few.1) in
     let five : length fields ≡ 5 = eqb-true _ _ len.0 in
-    let nothing : drop 5 fields ≡ [] = nil_from_length (drop 5 fields) (omega (arith, five, length-drop 5 fields)) in
-    let last : drop 4 fields ≡ slice_index fields 4 ∷ [] = drop-cons fields 4 0 (omega (arith, five)) ∙ ap (λ (r : List ℕ). slice_index fields 4 ∷ r) nothing in
+    let nothing : drop 5 fields ≡ [] =
+    nil_from_length (drop 5 fields) (omega (arith, five, length-drop 5 fields)) in
+    let last : drop 4 fields ≡ slice_index fields 4 ∷ [] =
+    drop-cons fields 4 0 (omega (arith, five))
+    ∙ ap (λ (r : List ℕ). slice_index fields 4 ∷ r) nothing in
     let all : fields ≡ big_bytes 4 (big_number 4 fields) ++ slice_index fields 4 ∷ [] =
-    sym (four.back fields (omega (arith, five)) fits) ∙ ap (λ (r : List ℕ). big_bytes 4 (big_number 4 fields) ++ r) last in
-    subst (Spells fields 2) same (record { is = (not_zero _ place.0, four.below fields fits, not_zero _ some.0, ltb-false _ _ few.0); bytes = ap (λ (r : List ℕ). 2 ∷ r) all })
+    sym (four.back fields (omega (arith, five)) fits)
+    ∙ ap (λ (r : List ℕ). big_bytes 4 (big_number 4 fields) ++ r) last in
+    subst (Spells fields 2) same (record {
+      is = (not_zero _ place.0, four.below fields fits, not_zero _ some.0, ltb-false _ _ few.0);
+      bytes = ap (λ (r : List ℕ). 2 ∷ r) all;
+    })
 
-alone_takes : (opcode : ℕ) (alone : Asked) (fields : List ℕ) (asked : Asked) → IsAsked alone → opcode ∷ [] ≡ request_body alone → no_fields alone fields ≡ Ok asked → Spells fields opcode asked
+alone_takes : (opcode : ℕ) (alone : Asked) (fields : List ℕ) (asked : Asked) → IsAsked alone
+    → opcode ∷ [] ≡ request_body alone → no_fields alone fields ≡ Ok asked
+    → Spells fields opcode asked
 alone_takes opcode alone fields asked is body e =
     let len = held (length fields == 0) 3 (Ok alone) asked e in
     let same : alone ≡ asked = cc (len.1) in
     let nothing : fields ≡ [] = nil_from_length fields (eqb-true _ _ len.0) in
-    subst (Spells fields opcode) same (record { is = is; bytes = ap (λ (r : List ℕ). opcode ∷ r) nothing ∙ body })
+    subst (Spells fields opcode) same
+    (record { is = is; bytes = ap (λ (r : List ℕ). opcode ∷ r) nothing ∙ body })
 
-pub asked_takes : (bytes : List ℕ) (asked : Asked) → IsBytes bytes → request_of bytes ≡ Ok asked → IsAsked asked × (bytes ≡ request_body asked)
+pub asked_takes : (bytes : List ℕ) (asked : Asked) → IsBytes bytes → request_of bytes ≡ Ok asked
+    → IsAsked asked × (bytes ≡ request_body asked)
 asked_takes [] asked fits e = absurd cc
 asked_takes (opcode ∷ fields) asked fits e =
     let rest = IsBytes-rest opcode fields fits in
     let P : Type 0 = IsAsked asked × (opcode ∷ fields ≡ request_body asked) in
-    let from : (n : ℕ) → (opcode == n) ≡ true → Spells fields n asked → P = λ n same s. (s.is, ap (λ (b : ℕ). b ∷ fields) (eqb-true opcode n same) ∙ s.bytes) in
-    by_test (opcode == 1) _ _ (Ok asked) P e (λ same h. from 1 same (submit_takes fields asked rest h))
-    (λ e. by_test (opcode == 2) _ _ (Ok asked) P e (λ same h. from 2 same (read_takes fields asked rest h))
-    (λ e. by_test (opcode == 3) _ _ (Ok asked) P e (λ same h. from 3 same (alone_takes 3 Status fields asked tt refl h))
-    (λ e. by_test (opcode == 4) _ _ (Ok asked) P e (λ same h. from 4 same (alone_takes 4 Crash fields asked tt refl h))
-    (λ e. by_test (opcode == 5) _ _ (Ok asked) P e (λ same h. from 5 same (alone_takes 5 Restart fields asked tt refl h))
+    let from : (n : ℕ) → (opcode == n) ≡ true → Spells fields n asked → P =
+    λ n same s. (s.is, ap (λ (b : ℕ). b ∷ fields) (eqb-true opcode n same) ∙ s.bytes) in
+    by_test (opcode == 1) _ _ (Ok asked) P e
+    (λ same h. from 1 same (submit_takes fields asked rest h))
+    (λ e. by_test (opcode == 2) _ _ (Ok asked) P e
+    (λ same h. from 2 same (read_takes fields asked rest h))
+    (λ e. by_test (opcode == 3) _ _ (Ok asked) P e
+    (λ same h. from 3 same (alone_takes 3 Status fields asked tt refl h))
+    (λ e. by_test (opcode == 4) _ _ (Ok asked) P e
+    (λ same h. from 4 same (alone_takes 4 Crash fields asked tt refl h))
+    (λ e. by_test (opcode == 5) _ _ (Ok asked) P e
+    (λ same h. from 5 same (alone_takes 5 Restart fields asked tt refl h))
     (λ e. absurd cc)))))
 
-pub is_found : {A : Type 0} (view : A → Asked) (bytes : List ℕ) (read : Result A Refusal) → IsBytes bytes → Gives view read (request_of bytes) → IfOk read (λ request. IsAsked (view request) × (bytes ≡ request_body (view request)))
+pub is_found : {A : Type 0} (view : A → Asked) (bytes : List ℕ) (read : Result A Refusal)
+    → IsBytes bytes → Gives view read (request_of bytes)
+    → IfOk read (λ request. IsAsked (view request) × (bytes ≡ request_body (view request)))
 is_found view bytes (Ok request) fits e = asked_takes bytes (view request) fits e
 is_found view bytes (Err refusal) fits e = tt

@@ -2,6 +2,6 @@ pub mod Requests
 pub mod Listings
 pub mod Responses
 pub mod Pages
-pub mod Reading
+pub mod ParsedResponses
 pub mod Sessions
-pub mod Receiving
+pub mod ReceivedResponses

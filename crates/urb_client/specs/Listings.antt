@@ -12,7 +12,9 @@ IsEntry entry = IsLabel entry.0 × IsContent entry.1
 -- the bytes of an entry before its payload: its name, the client, the number, and the payload's
 -- length
 abbrev pub entry_head : Label → Content → List ℕ
-entry_head name m = name.sender ∷ (big_bytes 4 name.seq ++ (big_bytes 2 m.client ++ (big_bytes 4 m.number ++ big_bytes 2 (length m.payload))))
+entry_head name m =
+    name.sender ∷ (big_bytes 4 name.seq
+    ++ (big_bytes 2 m.client ++ (big_bytes 4 m.number ++ big_bytes 2 (length m.payload))))
 
 -- the bytes of an entry
 abbrev pub entry_bytes : Label × Content → List ℕ

@@ -1,16 +1,20 @@
 -- What the bytes of a request's frame say, after its length.
-use Rattle.std.specs.Prelude.{◌≡◌, ◌<◌, ◌≤◌, ◌^◌, ◌⊎◌, ◌++◌, ◌==◌, ℕ, List, [], ◌∷◌, length, slice_index, drop, Result, Ok, Err, nat_lt, if◌then◌else◌}
+use Rattle.std.specs.Prelude.{◌≡◌, ◌<◌, ◌≤◌, ◌^◌, ◌⊎◌, ◌++◌, ◌==◌, ℕ, List, [], ◌∷◌, length}
+use Rattle.std.specs.Prelude.{slice_index, drop, Result, Ok, Err, nat_lt, if◌then◌else◌}
 use Rattle.byteorder.specs.Endian.{big_number, big_bytes}
 use Rattle.urb_names.specs.declared.refusal.Refusal.{Refusal}
 use Rattle.urb_names.specs.declared.refusal.Refusal.TheVariants.{Frame, NoMemory}
 use Rattle.urb_client.specs.declared.request.Request.{Request}
 use Rattle.urb_client.specs.declared.request.Request.TheVariants as code
-use Rattle.urb_client.specs.declared.format.TheConstants.{ASK_SUBMIT, ASK_READ, ASK_STATUS, ASK_CRASH, ASK_RESTART, UNKNOWN_OPCODE, WRONG_LENGTH, BAD_VALUE, SUBMIT_HEAD, READ_FIELDS, MOST_ENTRIES}
-use Rattle.urb_names.specs.declared.message.TheConstants.{MAX_PAYLOAD}
+use Rattle.urb_client.specs.declared.format.TheConstants.{ASK_SUBMIT, ASK_READ, ASK_STATUS}
+use Rattle.urb_client.specs.declared.format.TheConstants.{ASK_CRASH, ASK_RESTART, UNKNOWN_OPCODE}
+use Rattle.urb_client.specs.declared.format.TheConstants.{WRONG_LENGTH, BAD_VALUE, SUBMIT_HEAD}
+use Rattle.urb_client.specs.declared.format.TheConstants.{READ_FIELDS, MOST_ENTRIES}
+use Rattle.urb_names.specs.declared.limits.TheConstants.{MAX_PAYLOAD}
 
--- What a client asks, wherever it lies in memory. It may ask to broadcast a payload under its
--- number. It may ask for entries of the log from a place on, up to a number of them. Or it asks for
--- the state of the node, a crash, or a restart.
+-- What a client asks, as contracts see it. It may ask to broadcast a payload under its number. It
+-- may ask for entries of the log from a place on, up to a number of them. Or it asks for the state
+-- of the node, a crash, or a restart.
 pub data Asked : Type 0 where
   Submit : ℕ → ℕ → List ℕ → Asked
   Read : ℕ → ℕ → Asked
@@ -20,13 +24,13 @@ pub data Asked : Type 0 where
 
 -- what a request asks
 abbrev pub asked_by : {A : Type 0} → Request A → Asked
-asked_by (code.Submit client number payload) = Submit client number payload.items
+asked_by (code.Submit client number payload) = Submit client number payload
 asked_by (code.Read place max) = Read place max
 asked_by code.Status = Status
 asked_by code.Crash = Crash
 asked_by code.Restart = Restart
 
--- a request's values: a client and a place from 1, and one to eight entries
+-- a request's values: a client and a place from 1, and one to MOST_ENTRIES entries
 abbrev pub IsAsked : Asked → Type 0
 IsAsked (Submit client number payload) = (0 < client) × (client < 2 ^ 16) × (number < 2 ^ 32)
 IsAsked (Read place max) = (0 < place) × (place < 2 ^ 32) × (0 < max) × (max ≤ MOST_ENTRIES)
@@ -42,22 +46,23 @@ IsShort Status = Unit {0}
 IsShort Crash = Unit {0}
 IsShort Restart = Unit {0}
 
--- the one spelling of a request, after its length: the opcode, and the fields in order
+-- the only encoding of a request, after its length: the opcode, and the fields in order
 abbrev pub request_body : Asked → List ℕ
-request_body (Submit client number payload) = ASK_SUBMIT ∷ (big_bytes 2 client ++ (big_bytes 4 number ++ payload))
+request_body (Submit client number payload) =
+    ASK_SUBMIT ∷ (big_bytes 2 client ++ (big_bytes 4 number ++ payload))
 request_body (Read place max) = ASK_READ ∷ (big_bytes 4 place ++ max ∷ [])
 request_body Status = ASK_STATUS ∷ []
 request_body Crash = ASK_CRASH ∷ []
 request_body Restart = ASK_RESTART ∷ []
 
--- behind the opcode of a submit: a client, a number, and the payload is the rest
+-- after the opcode of a submit: a client, a number, and the rest as the payload
 abbrev pub submit_fields : List ℕ → Result Asked ℕ
 submit_fields fields =
     if nat_lt (length fields) SUBMIT_HEAD then Err WRONG_LENGTH
     else if big_number 2 fields == 0 then Err BAD_VALUE
     else Ok (Submit (big_number 2 fields) (big_number 4 (drop 2 fields)) (drop SUBMIT_HEAD fields))
 
--- behind the opcode of a read: a place, and the greatest number of entries
+-- after the opcode of a read: a place, and the greatest number of entries
 abbrev pub read_fields : List ℕ → Result Asked ℕ
 read_fields fields =
     if length fields == READ_FIELDS then
@@ -67,7 +72,7 @@ read_fields fields =
     else Ok (Read (big_number 4 fields) (slice_index fields 4)))
     else Err WRONG_LENGTH
 
--- behind an opcode without fields: nothing
+-- after an opcode without fields: nothing
 abbrev pub no_fields : Asked → List ℕ → Result Asked ℕ
 no_fields asked fields = if length fields == 0 then Ok asked else Err WRONG_LENGTH
 
@@ -84,12 +89,15 @@ request_of (opcode ∷ fields) =
 
 -- the request is a submit, the only request that takes memory
 abbrev pub IsSubmit : Result Asked ℕ → Type 0
-IsSubmit read = (client number : ℕ) × (payload : List ℕ) × (read ≡ Ok (Submit client number payload))
+IsSubmit read =
+    (client number : ℕ) × (payload : List ℕ) × (read ≡ Ok (Submit client number payload))
 
 -- A refusal of bytes with this reading: the code of their fault, or no memory for the payload of a
 -- submit.
 abbrev pub Refuses : Refusal → Result Asked ℕ → Type 0
-Refuses refusal read = ((code : ℕ) × (refusal ≡ Frame code) × (read ≡ Err code)) ⊎ ((refusal ≡ NoMemory) × IsSubmit read)
+Refuses refusal read =
+    ((code : ℕ) × (refusal ≡ Frame code) × (read ≡ Err code))
+    ⊎ ((refusal ≡ NoMemory) × IsSubmit read)
 
 -- what a call returned is what reading gives, if no memory was refused
 abbrev pub Gives : {X : Type 0} → (X → Asked) → Result X Refusal → Result Asked ℕ → Type 0

@@ -1,5 +1,6 @@
 -- What a session reads and writes.
-use Rattle.std.specs.Prelude.{◌≡◌, ℕ, ◌<◌, ◌≤◌, ◌^◌, ◌⊎◌, List, [], ◌∷◌, ◌++◌, length, take, Option, IfSome, IsSomeAnd, Result, Ok, Err}
+use Rattle.std.specs.Prelude.{◌≡◌, ℕ, ◌<◌, ◌≤◌, ◌^◌, ◌⊎◌, List, [], ◌∷◌, ◌++◌, length, take, Option}
+use Rattle.std.specs.Prelude.{IfSome, IsSomeAnd, Result, Ok, Err}
 use Rattle.std.specs.Io.KnownBytes.{Consumes, Appends, IsAtEnd}
 use Rattle.byteorder.specs.Endian.{big_bytes}
 use Rattle.urb_client.specs.declared.sessions.Ended.{Ended}
@@ -22,24 +23,30 @@ abbrev pub Says : List ℕ → Event → Type 0
 Says body (Asks asked) = request_of body ≡ Ok asked
 Says body (Fault code) = request_of body ≡ Err code
 
--- The bytes begin with whole frames, which say this, and then comes the rest. No frame is empty or
+-- The bytes begin with whole frames that say this, and the rest follows them. No frame is empty or
 -- too long.
 abbrev pub Begins : List ℕ → List Event → List ℕ → Type 0
 Begins bytes [] rest = bytes ≡ rest
-Begins bytes (event ∷ events) rest = (body : List ℕ) × (mid : List ℕ) × (0 < length body) × (length body ≤ LONGEST_REQUEST) × (bytes ≡ frame body ++ mid) × Says body event × Begins mid events rest
+Begins bytes (event ∷ events) rest =
+    (body : List ℕ) × (mid : List ℕ) × (0 < length body) × (length body ≤ LONGEST_REQUEST)
+    × (bytes ≡ frame body ++ mid) × Says body event × Begins mid events rest
 
 -- the bytes begin with a length of 0, or over that of the longest request, and the rest follows it
 abbrev pub HasBadLength : List ℕ → List ℕ → Type 0
-HasBadLength bytes rest = (n : ℕ) × (bytes ≡ big_bytes 2 n ++ rest) × (n < 2 ^ 16) × ((n ≡ 0) ⊎ (LONGEST_REQUEST < n))
+HasBadLength bytes rest =
+    (n : ℕ) × (bytes ≡ big_bytes 2 n ++ rest) × (n < 2 ^ 16) × ((n ≡ 0) ⊎ (LONGEST_REQUEST < n))
 
 -- the bytes begin a frame: at least one byte of it, and not all of it
 abbrev pub IsCut : List ℕ → Type 0
-IsCut bytes = (length bytes ≡ 1) ⊎ ((n : ℕ) × (more : List ℕ) × (bytes ≡ big_bytes 2 n ++ more) × (0 < n) × (n ≤ LONGEST_REQUEST) × (length more < n))
+IsCut bytes =
+    (length bytes ≡ 1) ⊎ ((n : ℕ) × (more : List ℕ) × (bytes ≡ big_bytes 2 n ++ more) × (0 < n)
+    × (n ≤ LONGEST_REQUEST) × (length more < n))
 
--- The bytes begin with no frame, by the code of the fault. Either they have a bad length, with the
--- rest behind it. Or they are cut inside a frame, and nothing is left.
+-- The bytes don't begin with a frame, and this is the code of the fault. Either they begin with a
+-- bad length, and the rest follows it. Or they end inside a frame, and nothing is left.
 abbrev pub IsBroken : List ℕ → ℕ → List ℕ → Type 0
-IsBroken bytes code rest = (HasBadLength bytes rest × (code ≡ BAD_LENGTH)) ⊎ (IsCut bytes × (rest ≡ []) × (code ≡ CUT))
+IsBroken bytes code rest =
+    (HasBadLength bytes rest × (code ≡ BAD_LENGTH)) ⊎ (IsCut bytes × (rest ≡ []) × (code ≡ CUT))
 
 -- How bytes end a session, the faults in them, and what is left: nothing if the session is closed,
 -- or a broken frame.
@@ -47,9 +54,10 @@ abbrev pub Ends : List ℕ → Ended → List Event → List ℕ → Type 0
 Ends bytes Closed events rest = (bytes ≡ []) × (events ≡ []) × (rest ≡ [])
 Ends bytes BadFrame events rest = (code : ℕ) × IsBroken bytes code rest × (events ≡ Fault code ∷ [])
 
--- Everything that the input says: requests and faults in order, how it ends, and what is left
--- behind a bad length.
-pub record Reads (input : List ℕ) (ended : Ended) (events : List Event) (left : List ℕ) : Type 0 where
+-- Everything that the input says: requests and faults in order, how it ends, and what is left after
+-- a bad length.
+pub record Reads (input : List ℕ) (ended : Ended) (events : List Event)
+    (left : List ℕ) : Type 0 where
   pub whole : List Event
   pub last : List Event
   pub rest : List ℕ
@@ -59,29 +67,40 @@ pub record Reads (input : List ℕ) (ended : Ended) (events : List Event) (left 
 
 -- no input says two different things
 abbrev pub IsReadOnce : Type 0
-IsReadOnce = (input : List ℕ) (ended other : Ended) (events others : List Event) (left rest : List ℕ) → Reads input ended events left → Reads input other others rest → (ended ≡ other) × (events ≡ others) × (left ≡ rest)
+IsReadOnce =
+    (input : List ℕ) (ended other : Ended) (events others : List Event) (left rest : List ℕ)
+    → Reads input ended events left → Reads input other others rest
+    → (ended ≡ other) × (events ≡ others) × (left ≡ rest)
 
 -- A desk that answers by this relation may answer these events with these bytes, and goes from the
 -- old state to the new one. A fault is refused with its code, and the desk doesn't see it.
-abbrev pub Replies : {S : Type 0} → (S → Asked → Said → S → Type 0) → S → List Event → List ℕ → S → Type 0
+abbrev pub Replies : {S : Type 0} → (S → Asked → Said → S → Type 0) → S → List Event → List ℕ → S
+    → Type 0
 Replies {S} answers old [] output new = (output ≡ []) × (new ≡ old)
-Replies {S} answers old (Asks asked ∷ events) output new = (said : Said) × (mid : S) × (rest : List ℕ) × answers old asked said mid × (output ≡ encoding said ++ rest) × Replies answers mid events rest new
-Replies {S} answers old (Fault code ∷ events) output new = (rest : List ℕ) × (output ≡ encoding (Refused 19 code) ++ rest) × Replies answers old events rest new
+Replies {S} answers old (Asks asked ∷ events) output new =
+    (said : Said) × (mid : S) × (rest : List ℕ) × answers old asked said mid
+    × (output ≡ encoding said ++ rest) × Replies answers mid events rest new
+Replies {S} answers old (Fault code ∷ events) output new =
+    (rest : List ℕ) × (output ≡ encoding (Refused 19 code) ++ rest)
+    × Replies answers old events rest new
 
 -- the answer to one frame: the desk's answer, or the refusal
-abbrev pub Answers : {S : Type 0} → (S → Asked → Said → S → Type 0) → S → Result Asked ℕ → Said → S → Type 0
+abbrev pub Answers : {S : Type 0} → (S → Asked → Said → S → Type 0) → S → Result Asked ℕ → Said → S
+    → Type 0
 Answers {S} answers old (Ok asked) said new = answers old asked said new
 Answers {S} answers old (Err code) said new = (said ≡ Refused 19 code) × (new ≡ old)
 
 -- A frame that was read is not answered, since memory was refused. The desk is as it was, or, if
 -- the frame is a request, as the refused memory left it.
-abbrev pub GoesUnanswered : {S : Type 0} → (S → Asked → S → Type 0) → S → Result Asked ℕ → S → Type 0
+abbrev pub GoesUnanswered : {S : Type 0} → (S → Asked → S → Type 0) → S → Result Asked ℕ → S
+    → Type 0
 GoesUnanswered {S} refuses old (Ok asked) new = (new ≡ old) ⊎ refuses old asked new
 GoesUnanswered {S} refuses old (Err code) new = new ≡ old
 
 -- A session from its first byte to its end. Everything that the input says is answered, and the
 -- answers are written. `left` is what the reader still has.
-pub record WholeSession {S : Type 0} (answers : S → Asked → Said → S → Type 0) (input : List ℕ) (ended : Ended) (left : List ℕ) (old new : S) (before after : Option (List ℕ)) : Type 0 where
+pub record WholeSession {S : Type 0} (answers : S → Asked → Said → S → Type 0) (input : List ℕ)
+    (ended : Ended) (left : List ℕ) (old new : S) (before after : Option (List ℕ)) : Type 0 where
   pub events : List Event
   pub output : List ℕ
   pub reads : Reads input ended events left
@@ -89,7 +108,8 @@ pub record WholeSession {S : Type 0} (answers : S → Asked → Said → S → T
   pub written : Appends before after output
 
 -- the frames before the rest are answered, and their answers are written
-pub record Served {S : Type 0} (answers : S → Asked → Said → S → Type 0) (input rest : List ℕ) (old new : S) (before after : Option (List ℕ)) : Type 0 where
+pub record Served {S : Type 0} (answers : S → Asked → Said → S → Type 0) (input rest : List ℕ)
+    (old new : S) (before after : Option (List ℕ)) : Type 0 where
   pub events : List Event
   pub output : List ℕ
   pub begins : Begins input events rest
@@ -98,8 +118,10 @@ pub record Served {S : Type 0} (answers : S → Asked → Said → S → Type 0)
 
 -- What one frame leaves of a desk if memory was refused before its answer was written. The desk is
 -- as it was; or, if the frame is a request, it is as its answer or as the refused memory left it.
-abbrev pub Leaves : {S : Type 0} → (S → Asked → Said → S → Type 0) → (S → Asked → S → Type 0) → S → Event → S → Type 0
-Leaves {S} answers refuses old (Asks asked) new = (new ≡ old) ⊎ (((said : Said) × answers old asked said new) ⊎ refuses old asked new)
+abbrev pub Leaves : {S : Type 0} → (S → Asked → Said → S → Type 0) → (S → Asked → S → Type 0) → S
+    → Event → S → Type 0
+Leaves {S} answers refuses old (Asks asked) new =
+    (new ≡ old) ⊎ (((said : Said) × answers old asked said new) ⊎ refuses old asked new)
 Leaves {S} answers refuses old (Fault code) new = new ≡ old
 
 -- What one frame leaves of a desk if its answer was made and not written: the desk as its answer
@@ -108,30 +130,41 @@ abbrev pub Meets : {S : Type 0} → (S → Asked → Said → S → Type 0) → 
 Meets {S} answers old (Asks asked) new = (said : Said) × answers old asked said new
 Meets {S} answers old (Fault code) new = new ≡ old
 
--- one frame, whole or broken, is taken from the front, and this holds of it
+-- one frame, whole or broken, is taken from the front, and this holds for it
 abbrev pub TakesFrame : (Event → Type 0) → List ℕ → List ℕ → Type 0
-TakesFrame P bytes rest = ((event : Event) × Begins bytes (event ∷ []) rest × P event) ⊎ ((code : ℕ) × IsBroken bytes code rest × P (Fault code))
+TakesFrame P bytes rest =
+    ((event : Event) × Begins bytes (event ∷ []) rest × P event)
+    ⊎ ((code : ℕ) × IsBroken bytes code rest × P (Fault code))
 
 -- less than a frame is taken from the front
 abbrev pub TakesPart : List ℕ → List ℕ → Type 0
 TakesPart bytes rest = (part : List ℕ) × (bytes ≡ part ++ rest) × ((part ≡ []) ⊎ IsCut part)
 
 -- A session that broke off, with what the reader has left, and the desk. After a failed read, all
--- frames that were read whole are answered. Without memory, all but the last one that was read are
--- answered, and the desk is as that one leaves it, whatever became of it. After a failed write, the
--- desk has answered every request that was read whole, the last one too, and nothing is said of the
--- output.
-abbrev pub BreaksOff : {S : Type 0} → (S → Asked → Said → S → Type 0) → (S → Asked → S → Type 0) → List ℕ → SessionFault → List ℕ → S → S → Option (List ℕ) → Option (List ℕ) → Type 0
-BreaksOff {S} answers refuses input fault.Read left old new before after = (rest : List ℕ) × Served answers input rest old new before after × TakesPart rest left
-BreaksOff {S} answers refuses input fault.NoMemory left old new before after = (rest : List ℕ) × (mid : S) × Served answers input rest old mid before after × TakesFrame (λ event. Leaves answers refuses mid event new) rest left
-BreaksOff {S} answers refuses input fault.Write left old new before after = (rest : List ℕ) × (mid : S) × (events : List Event) × (output : List ℕ) × Begins input events rest × Replies answers old events output mid × TakesFrame (λ event. Meets answers mid event new) rest left
+-- frames that were read whole are answered. Without memory, all frames but the last one that was
+-- read are answered. The desk is as the last frame leaves it, answered or not. After a failed
+-- write, the desk has answered every request that was read whole, the last one too. This doesn't
+-- speak of the output.
+abbrev pub BreaksOff : {S : Type 0} → (S → Asked → Said → S → Type 0) → (S → Asked → S → Type 0)
+    → List ℕ → SessionFault → List ℕ → S → S → Option (List ℕ) → Option (List ℕ) → Type 0
+BreaksOff {S} answers refuses input fault.Read left old new before after =
+    (rest : List ℕ) × Served answers input rest old new before after × TakesPart rest left
+BreaksOff {S} answers refuses input fault.NoMemory left old new before after =
+    (rest : List ℕ) × (mid : S) × Served answers input rest old mid before after
+    × TakesFrame (λ event. Leaves answers refuses mid event new) rest left
+BreaksOff {S} answers refuses input fault.Write left old new before after =
+    (rest : List ℕ) × (mid : S) × (events : List Event) × (output : List ℕ)
+    × Begins input events rest × Replies answers old events output mid
+    × TakesFrame (λ event. Meets answers mid event new) rest left
 
 -- What is read from the front of the known bytes, into the body: nothing at their end, a broken
 -- frame, or a whole one.
 abbrev pub ReadsPiece : Option (List ℕ) → Option (List ℕ) → List ℕ → Piece → Type 0
 ReadsPiece known left body End = Consumes known left [] × IsAtEnd left
-ReadsPiece known left body (Broken code) = IfSome known (λ bytes. IsSomeAnd left (IsBroken bytes code))
-ReadsPiece known left body (Whole n) = (0 < n) × (n ≤ LONGEST_REQUEST) × Consumes known left (frame (take n body))
+ReadsPiece known left body (Broken code) =
+    IfSome known (λ bytes. IsSomeAnd left (IsBroken bytes code))
+ReadsPiece known left body (Whole n) =
+    (0 < n) × (n ≤ LONGEST_REQUEST) × Consumes known left (frame (take n body))
 
 -- fewer than n bytes are read
 abbrev pub ReadsUnder : ℕ → Option (List ℕ) → Option (List ℕ) → Type 0

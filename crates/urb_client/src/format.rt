@@ -1,7 +1,13 @@
 //! The numbers of the format: lengths, opcodes, and the codes of faults.
 
-/// The greatest length that a request's frame may have.
-pub const LONGEST_REQUEST: usize = 16_600;
+use urb_names::MAX_PAYLOAD;
+
+/// The greatest length that a request's frame may have: that of the longest submit, and `SPARE`.
+pub const LONGEST_REQUEST: usize = 1 + SUBMIT_HEAD + MAX_PAYLOAD + SPARE;
+
+// If a submit's payload is over the limit by at most `SPARE` bytes, it gets the refusal `TooLong`.
+// If it is longer, its frame is no request, and the connection ends.
+const SPARE: usize = 209;
 
 /// The greatest length that a frame can have: its two length bytes can't say more.
 pub const LONGEST_FRAME: usize = 65_535;
@@ -20,6 +26,12 @@ pub const LISTING_HEAD: usize = 2;
 
 /// The number of bytes of an entry before its payload.
 pub const ENTRY_HEAD: usize = 13;
+
+// A frame has room for one entry, whatever its payload.
+const _: () = prove!(LISTING_HEAD + ENTRY_HEAD + MAX_PAYLOAD <= LONGEST_FRAME);
+
+// A frame has room for the longest request.
+const _: () = prove!(LONGEST_REQUEST <= LONGEST_FRAME);
 
 /// The opcode of a submit.
 pub const ASK_SUBMIT: u8 = 1;

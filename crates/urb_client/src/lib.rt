@@ -11,8 +11,8 @@
 //! let response = parse_response(alloc, &bytes)?;
 //! ```
 //!
-//! A `Desk` is what answers the requests. `NodeDesk` of `urb_worker` is the desk of a running node.
-//! A session runs over the input and the output of a connection (`reader`, `writer`). It reads a
+//! A `Desk` answers the requests. `NodeDesk` of `urb_worker` is the desk of a running node. A
+//! session runs over the input and the output of a connection (`reader`, `writer`). It reads a
 //! frame, asks the desk, writes the response and flushes it. Then it reads the next frame. It sends
 //! one response for each frame and nothing else, and holds at most one frame and its response in
 //! memory. It ends when the client closes the connection, after bytes that are no frame, or at a
@@ -23,17 +23,18 @@
 #![tactic(auto)]
 
 mod format;
-mod input;
+mod full_read;
 mod pages;
-mod reading;
-mod receiving;
 mod request;
 mod response;
+mod response_parser;
+mod response_receiver;
 mod sessions;
 
+pub use format::MOST_ENTRIES;
 pub use pages::one_page_after_another;
-pub use reading::parse_response;
-pub use receiving::{ResponseFault, read_response};
 pub use request::{Request, encode_request, parse_request};
 pub use response::{Entries, NodeState, Response, encode_response};
+pub use response_parser::parse_response;
+pub use response_receiver::{ResponseFault, read_response};
 pub use sessions::{Desk, Ended, SessionFault, one_reading, session};

@@ -9,7 +9,7 @@ use std::alloc::Allocator;
 use urb_names::{Message, Name};
 
 // Returns how many entries a frame has room for, from the first on.
-pub(crate) fn longest_beginning<A: Allocator>(entries: &[(Name, Message<A>)]) -> usize
+pub(crate) fn count_fitting<A: Allocator>(entries: &[(Name, Message<A>)]) -> usize
     ensures within { result ≤ length entries.now }
     ensures fits { length (listing_body (take result entries.now)) ≤ LONGEST_FRAME }
     ensures longest { (count : ℕ)

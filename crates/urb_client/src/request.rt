@@ -1,7 +1,8 @@
 //! Requests of clients, and their frames.
 
 ghost use Rattle.std.specs.Prelude.{◌≡◌, ◌≤◌, ◌<◌, ◌^◌, ℕ, List, [], ◌∷◌, length, IfOk, Ok};
-ghost use Rattle.urb_client.specs.Requests.{Asked, Gives, IsAsked, IsShort, request_of, asked_by, submit_fields, read_fields, no_fields, request_body};
+ghost use Rattle.urb_client.specs.Requests.{Asked, Gives, IsAsked, IsShort, request_of, asked_by};
+ghost use Rattle.urb_client.specs.Requests.{submit_fields, read_fields, no_fields, request_body};
 ghost use Rattle.urb_client.specs.Responses.{frame};
 ghost use Rattle.urb_client.specs.Sessions.{Begins, Asks};
 
@@ -11,7 +12,7 @@ use crate::format::{
 };
 use byteorder::{BigEndian, ByteOrder};
 use std::alloc::{Allocator, Global};
-use urb_names::{ClientId, NoMemory, Refusal};
+use urb_names::{ClientId, NoMemory, Payload, Refusal};
 
 /// A request of a client to a node.
 #[derive(Drop)]
@@ -21,9 +22,10 @@ pub enum Request<A: Allocator = Global> {
     Submit {
         client: ClientId,
         number: u32,
-        payload: Vec<u8, A>,
+        payload: Payload<A>,
     },
-    /// Show the entries of the node's log from `place` on (from 1), at most `max` of them (1 to 8).
+    /// Show the entries of the node's log from `place` on (from 1), at most `max` of them (1 to
+    /// `MOST_ENTRIES`).
     Read {
         place: u32,
         max: u8,
@@ -36,41 +38,41 @@ pub enum Request<A: Allocator = Global> {
     Restart,
 }
 
-/// Returns the request that the bytes of a frame, after its length, spell.
+/// Parses the bytes of a frame after its length, and returns the request that they encode.
 ///
 /// `Refusal::Frame` has the code of the first fault. 2: an unknown opcode, or no bytes at all. 3: a
 /// length that the opcode doesn't have. 4: a value outside its range. `Refusal::NoMemory` comes
 /// only if there was no memory for a submit's payload. A payload of any length and a number 0 are
 /// passed on, for the node to refuse.
-pub fn parse_request<A: Allocator>(alloc: A, bytes: &[u8]) -> Result<Request<A>, Refusal>
-    // The result is the request that the bytes are, or the first fault.
+pub fn parse_request<A: Allocator + Copy>(alloc: A, bytes: &[u8]) -> Result<Request<A>, Refusal>
+    // The result is the request that the bytes encode, or their first fault.
     ensures exact { Gives asked_by result (request_of bytes.now) }
-    // What is read has this spelling, with each of its bytes.
+    // If a request is returned, the bytes are exactly its encoding.
     ensures found { IfOk result
         (λ request. IsAsked (asked_by request) × (bytes.now ≡ request_body (asked_by request))) }
-    // What has this spelling is read.
+    // The encoding of a request is always read as that request.
     ensures only { (asked : Asked)
         → IsAsked asked
         → bytes.now ≡ request_body asked
         → Gives asked_by result (Ok asked) }
 {
-    parsed(alloc, bytes)
+    parse_by_opcode(alloc, bytes)
 }
 
-fn parsed<A: Allocator>(alloc: A, bytes: &[u8]) -> Result<Request<A>, Refusal>
+fn parse_by_opcode<A: Allocator + Copy>(alloc: A, bytes: &[u8]) -> Result<Request<A>, Refusal>
     ensures { Gives asked_by result (request_of bytes.now) }
 {
     match bytes {
         [ASK_SUBMIT, fields @ ..] => submit_of(alloc, fields),
         [ASK_READ, fields @ ..] => read_of(fields),
-        [ASK_STATUS, fields @ ..] => alone(Request::Status, fields),
-        [ASK_CRASH, fields @ ..] => alone(Request::Crash, fields),
-        [ASK_RESTART, fields @ ..] => alone(Request::Restart, fields),
+        [ASK_STATUS, fields @ ..] => require_no_fields(Request::Status, fields),
+        [ASK_CRASH, fields @ ..] => require_no_fields(Request::Crash, fields),
+        [ASK_RESTART, fields @ ..] => require_no_fields(Request::Restart, fields),
         _ => Err(Refusal::Frame(UNKNOWN_OPCODE)),
     }
 }
 
-fn submit_of<A: Allocator>(alloc: A, fields: &[u8]) -> Result<Request<A>, Refusal>
+fn submit_of<A: Allocator + Copy>(alloc: A, fields: &[u8]) -> Result<Request<A>, Refusal>
     ensures { Gives asked_by result (submit_fields fields.now) }
 {
     if fields.len() < SUBMIT_HEAD {
@@ -85,7 +87,7 @@ fn submit_of<A: Allocator>(alloc: A, fields: &[u8]) -> Result<Request<A>, Refusa
     Ok(Request::Submit {
         client,
         number,
-        payload: Vec::from_slice(alloc, payload)?,
+        payload: Payload::copied(alloc, payload)?,
     })
 }
 
@@ -106,7 +108,10 @@ fn read_of<A: Allocator>(fields: &[u8]) -> Result<Request<A>, Refusal>
     Ok(Request::Read { place, max })
 }
 
-fn alone<A: Allocator>(request: Request<A>, fields: &[u8]) -> Result<Request<A>, Refusal>
+fn require_no_fields<A: Allocator>(
+    request: Request<A>,
+    fields: &[u8],
+) -> Result<Request<A>, Refusal>
     ensures { Gives asked_by result (no_fields (asked_by request) fields.now) }
 {
     if !fields.is_empty() {
@@ -115,8 +120,8 @@ fn alone<A: Allocator>(request: Request<A>, fields: &[u8]) -> Result<Request<A>,
     Ok(request)
 }
 
-/// Returns the whole frame of a request, for a client to send. Its place is from 1, its `max` is 1
-/// to 8, and its payload has at most 16,384 bytes.
+/// Returns the whole frame of a request, for a client to send. The request's place must be 1 or
+/// more, its `max` 1 to `MOST_ENTRIES`, and its payload at most `MAX_PAYLOAD` bytes long.
 pub fn encode_request<A: Allocator>(alloc: A, request: &Request<A>) -> Result<Vec<u8, A>, NoMemory>
     requires values { IsAsked (asked_by request.now) }
     requires short { IsShort (asked_by request.now) }
@@ -124,10 +129,10 @@ pub fn encode_request<A: Allocator>(alloc: A, request: &Request<A>) -> Result<Ve
     // A session that reads these bytes reads this one request, and nothing after it.
     ensures reads { IfOk result (λ v. Begins v.items (Asks (asked_by request.now) ∷ []) []) }
 {
-    encoded(alloc, request)
+    build_frame(alloc, request)
 }
 
-fn encoded<A: Allocator>(alloc: A, request: &Request<A>) -> Result<Vec<u8, A>, NoMemory>
+fn build_frame<A: Allocator>(alloc: A, request: &Request<A>) -> Result<Vec<u8, A>, NoMemory>
     requires values { IsAsked (asked_by request.now) }
     requires short { IsShort (asked_by request.now) }
     ensures { IfOk result (λ v. v.items ≡ frame (request_body (asked_by request.now))) }
@@ -139,12 +144,13 @@ fn encoded<A: Allocator>(alloc: A, request: &Request<A>) -> Result<Vec<u8, A>, N
             number,
             payload,
         } => {
+            let payload = payload.as_slice();
             let mut head = [0, 0, ASK_SUBMIT, 0, 0, 0, 0, 0, 0];
             BigEndian::write_u16(&mut head, (1 + SUBMIT_HEAD + payload.len()) as u16);
             BigEndian::write_u16(&mut head[3..], client.number());
             BigEndian::write_u32(&mut head[5..], *number);
             frame.extend_from_slice(&head)?;
-            frame.extend_from_slice(payload.as_slice())?;
+            frame.extend_from_slice(payload)?;
         }
         Request::Read { place, max } => {
             let mut head = [0, 1 + READ_FIELDS as u8, ASK_READ, 0, 0, 0, 0, *max];

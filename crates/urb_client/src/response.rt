@@ -4,20 +4,21 @@ ghost use Rattle.std.specs.Prelude.{◌≡◌, ◌≤◌, ◌++◌, length, IfOk
 ghost use Rattle.std.specs.List.{All, flat_map};
 ghost use Rattle.urb_client.specs.Pages.{SaysPage};
 ghost use Rattle.urb_client.specs.Listings.{IsEntry, entry_bytes, entry_head, listing_body};
-ghost use Rattle.urb_client.specs.Responses.{IsSaid, Listing, encoding, response_body, state_byte, said_by};
+ghost use Rattle.urb_client.specs.Responses.{IsSaid, Listing, encoding, response_body, state_byte};
+ghost use Rattle.urb_client.specs.Responses.{said_by};
 
 use crate::format::{
     ENTRY_HEAD, LONGEST_FRAME, MOST_ENTRIES, SAY_ACCEPTED, SAY_DONE, SAY_ENTRIES, SAY_REFUSED,
     SAY_STATUS,
 };
-use crate::pages::longest_beginning;
+use crate::pages::count_fitting;
 use byteorder::{BigEndian, ByteOrder};
 use std::alloc::{Allocator, Global};
 use std::marker::Model;
 use urb_names::{Message, Name, NoMemory, Refusal};
 
-/// At most 8 entries of a log, in its order, and no more than a frame has room for. Each entry is a
-/// name and its message.
+/// At most `MOST_ENTRIES` entries of a log, in its order, and no more than a frame has room for.
+/// Each entry is a name and its message.
 #[derive(Drop)]
 #[derive_where(Debug)]
 pub struct Entries<A: Allocator = Global> {
@@ -57,12 +58,12 @@ impl<A: Allocator> Entries<A> {
         self.entries.as_slice()
     }
 
-    // States that these are entries of a log, and fit in a frame. This call does nothing: it is for
-    // proofs only.
-    fn limits(&self)
+    // Does nothing at run time; it brings the value's invariant into the proof: these are entries
+    // of a log, and they fit in a frame.
+    fn recall(&self)
         ensures { IsSaid (Listing self.now) }
     {
-        limits_of(self.as_slice());
+        recall_entries(self.as_slice());
     }
 }
 
@@ -90,11 +91,12 @@ impl NodeState {
 #[derive(Drop)]
 #[derive_where(Debug)]
 pub enum Response<A: Allocator = Global> {
-    /// The message is stored. The number is its place among the messages that the node sent.
+    /// The message is stored. The number is that of its name: its place among the node's own
+    /// messages.
     Accepted(u32),
     /// Entries of the node's log.
     Entries(Entries<A>),
-    /// The node's state, how many messages it has sent, and how many its log has.
+    /// The node's state, how many messages it has broadcast, and how many entries its log has.
     Status {
         state: NodeState,
         own: u32,
@@ -114,15 +116,15 @@ impl<A: Allocator> Response<A> {
     ghost use Rattle.urb_names.specs.Refusing.{number_of, detail_of};
     ghost use Rattle.urb_client.specs.Responses.{Refused};
 
-    /// Returns the response to a read, with a page of at most 8 entries. It lists as many of them,
-    /// from the first on, as a frame has room for. It moves the entries and allocates no memory. A
-    /// page that isn't empty gives at least one entry. So a client that reads on after them gets
-    /// every entry once (`one_page_after_another`).
+    /// Returns the response to a read, with a page of at most `MOST_ENTRIES` entries. It lists as
+    /// many of them, from the first on, as a frame has room for. It moves the entries and allocates
+    /// no memory. A page that isn't empty gives at least one entry. So a client that reads on after
+    /// them gets every entry once (`one_page_after_another`).
     pub fn entries(page: Vec<(Name, Message<A>), A>) -> Result<Response<A>, NoMemory>
         requires { vec_len page ≤ MOST_ENTRIES }
         ensures { IsOkAnd result (λ response. SaysPage page.items (said_by response)) }
     {
-        let count = longest_beginning(&page);
+        let count = count_fitting(&page);
         let mut entries = page;
         entries.truncate(count);
         Ok(Response::Entries(Entries::of(entries)))
@@ -138,25 +140,25 @@ impl<A: Allocator> Response<A> {
         }
     }
 
-    /// States that every response is one that can be said, and fits in a frame. This call does
-    /// nothing: it is for proofs only.
-    pub fn limits(&self)
+    /// Does nothing at run time; it brings the value's invariant into the proof. The response can
+    /// be encoded, and it fits in a frame.
+    pub fn recall(&self)
         ensures said { IsSaid (said_by self.now) }
         ensures short { length (response_body (said_by self.now)) ≤ LONGEST_FRAME }
     {
-        self.values();
+        self.recall_values();
     }
 
-    // States that the values of a response are within their ranges. This call does nothing: it is
-    // for proofs only.
-    fn values(&self)
+    // Does nothing at run time; it brings the value's invariant into the proof: the values of a
+    // response are within their ranges.
+    fn recall_values(&self)
         ensures { IsSaid (said_by self.now) }
     {
         match self {
             Response::Accepted(seq) => {
                 let _seq = *seq;
             }
-            Response::Entries(entries) => entries.limits(),
+            Response::Entries(entries) => entries.recall(),
             Response::Status { own, logged, .. } => {
                 let _counts = (*own, *logged);
             }
@@ -168,15 +170,15 @@ impl<A: Allocator> Response<A> {
     }
 }
 
-/// Returns the whole frame of a response. Each response has one, by its `limits`.
+/// Returns the whole frame of a response. Each response has one, by its `recall`.
 pub fn encode_response<A: Allocator + Copy>(
     alloc: A,
     response: &Response<A>,
 ) -> Result<Vec<u8, A>, NoMemory>
     ensures { IfOk result (λ v. v.items ≡ encoding (said_by response.now)) }
 {
-    let body = body(alloc, response)?;
-    response.limits();
+    let body = build_body(alloc, response)?;
+    response.recall();
     let mut len = [0; 2];
     BigEndian::write_u16(&mut len, body.len() as u16);
     let mut frame = Vec::with_capacity(alloc, 2 + body.len())?;
@@ -185,7 +187,7 @@ pub fn encode_response<A: Allocator + Copy>(
     Ok(frame)
 }
 
-fn body<A: Allocator>(alloc: A, response: &Response<A>) -> Result<Vec<u8, A>, NoMemory>
+fn build_body<A: Allocator>(alloc: A, response: &Response<A>) -> Result<Vec<u8, A>, NoMemory>
     ensures { IfOk result (λ v. v.items ≡ response_body (said_by response.now)) }
 {
     let mut body = Vec::new(alloc);
@@ -240,13 +242,13 @@ fn push_entry<A: Allocator, B: Allocator>(
     Ok(())
 }
 
-// States that each of these is an entry of a log. This call does nothing: it is for proofs only.
-fn limits_of<A: Allocator>(entries: &[(Name, Message<A>)])
+// States that each element is an entry of a log. This call does nothing: it is for proofs only.
+fn recall_entries<A: Allocator>(entries: &[(Name, Message<A>)])
     ensures { All IsEntry entries.now }
 {
     for (name, message) in entries {
-        name.limits();
-        message.limits();
+        name.recall();
+        message.recall();
     }
 }
 

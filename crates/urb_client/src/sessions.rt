@@ -1,14 +1,16 @@
 //! Sessions: frames in, frames out.
 
-ghost use Rattle.std.specs.Prelude.{◌≡◌, ℕ, List, ◌≢◌, IfOk, IfErr, OnOk, OnErr, IfSome, IsSomeAnd, length};
+ghost use Rattle.std.specs.Prelude.{◌≡◌, ℕ, List, ◌≢◌, IfOk, IfErr, OnOk, OnErr, IfSome, IsSomeAnd};
+ghost use Rattle.std.specs.Prelude.{length};
 ghost use Rattle.std.specs.Io.KnownBytes.{Appends};
 ghost use Rattle.byteorder.specs.Endian.{big_bytes};
 ghost use Rattle.urb_client.specs.Requests.{Asked, IsAsked, asked_by, request_of};
 ghost use Rattle.urb_client.specs.Responses.{Said, said_by, Refused, encoding};
-ghost use Rattle.urb_client.specs.Sessions.{ReadsPiece, PartRead, Answers, GoesUnanswered, WholeSession, BreaksOff, IsReadOnce};
+ghost use Rattle.urb_client.specs.Sessions.{ReadsPiece, PartRead, Answers, GoesUnanswered};
+ghost use Rattle.urb_client.specs.Sessions.{WholeSession, BreaksOff, IsReadOnce};
 
 use crate::format::{BAD_LENGTH, CUT, LONGEST_REQUEST};
-use crate::input::{ReadFailed, read_full};
+use crate::full_read::{ReadFailed, read_full};
 use crate::{Request, Response, encode_response, parse_request};
 use byteorder::{BigEndian, ByteOrder};
 use std::alloc::Allocator;
@@ -61,10 +63,11 @@ pub trait Desk {
     /// The allocator of payloads and entries.
     type Alloc: Allocator + Copy;
 
-    /// In the first state it may give a request this answer. It is in the second state then.
+    /// In the first state the desk may give a request this answer. Then it is in the second state.
     ghost answers: { Self → Asked → Said → Self → Type 0 };
 
-    /// If memory is refused for a request in the first state, it may be in the second state then.
+    /// If memory is refused for a request in the first state, the desk may be in the second state
+    /// afterwards.
     ghost refuses: { Self → Asked → Self → Type 0 };
 
     /// Answers one request. The request's values are in range, except that its payload may be too
@@ -134,7 +137,7 @@ fn write_frame<W: Write>(writer: &mut W, frame: &[u8]) -> Result<(), SessionFaul
 }
 
 // Writes the frame of a response.
-fn reply<A: Allocator + Copy, W: Write>(
+fn write_response<A: Allocator + Copy, W: Write>(
     alloc: A,
     writer: &mut W,
     response: &Response<A>,
@@ -192,12 +195,12 @@ pub fn session<R: Read, W: Write, D: Desk>(
             Piece::End => return Ok(Ended::Closed),
             Piece::Broken(code) => {
                 let refused = Response::refused(&Refusal::Frame(code));
-                reply(alloc, writer, &refused)?;
+                write_response(alloc, writer, &refused)?;
                 return Ok(Ended::BadFrame);
             }
             Piece::Whole(len) => {
                 let response = respond(alloc, desk, &body[..len])?;
-                reply(alloc, writer, &response)?;
+                write_response(alloc, writer, &response)?;
             }
         }
     }

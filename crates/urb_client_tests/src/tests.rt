@@ -1,10 +1,10 @@
 //! Sessions at the port of node 1 of a group of one, which stores everything at once.
 
-mod failing;
+mod failures;
 mod frames;
 mod node;
 mod receiving;
-mod said;
+mod summaries;
 
 use node::OneNode;
 use std::alloc::Global;
@@ -47,7 +47,7 @@ fn first_frame(bytes: &[u8]) -> (&[u8], &[u8]) {
 type Line<'a> = (&'a [u8], &'a [u8], Ended);
 
 // Says whether a session at the desk goes as this line says.
-fn goes_so(alloc: Global, desk: &mut OneNode<Global>, line: Line<'_>) -> bool {
+fn session_matches(alloc: Global, desk: &mut OneNode<Global>, line: Line<'_>) -> bool {
     let (sent, answered, end) = line;
     let mut input = sent;
     let mut room = [0u8; 40];
@@ -57,7 +57,7 @@ fn goes_so(alloc: Global, desk: &mut OneNode<Global>, line: Line<'_>) -> bool {
 }
 
 // Returns how many lines of the worked session go as they say, each in its own session at one desk.
-fn lines_that_go_so(alloc: Global) -> usize {
+fn count_matching_lines(alloc: Global) -> usize {
     let mut desk = OneNode::new(alloc);
     let (mut sent, mut answered) = (SENT, ANSWERED);
     let mut count: usize = 0;
@@ -68,7 +68,7 @@ fn lines_that_go_so(alloc: Global) -> usize {
         } else {
             Ended::Closed
         };
-        if goes_so(alloc, &mut desk, (request, answer, end)) {
+        if session_matches(alloc, &mut desk, (request, answer, end)) {
             count = count.saturating_add(1);
         }
         (sent, answered) = (requests, answers);
@@ -78,10 +78,10 @@ fn lines_that_go_so(alloc: Global) -> usize {
 
 // Runs these sessions at one desk, one after the other. Returns the first that doesn't go as its
 // line says.
-fn first_other(alloc: Global, lines: &[Line<'_>]) -> Option<usize> {
+fn first_mismatch(alloc: Global, lines: &[Line<'_>]) -> Option<usize> {
     let mut desk = OneNode::new(alloc);
     for (place, line) in lines.iter().enumerate() {
-        if !goes_so(alloc, &mut desk, *line) {
+        if !session_matches(alloc, &mut desk, *line) {
             return Some(place);
         }
     }
@@ -90,7 +90,7 @@ fn first_other(alloc: Global, lines: &[Line<'_>]) -> Option<usize> {
 
 #[test]
 fn each_line_of_the_worked_session(rt: HostRuntime) {
-    assert_eq!(rt; lines_that_go_so(rt.alloc()), 8);
+    assert_eq!(rt; count_matching_lines(rt.alloc()), 8);
 }
 
 /// The answer to a session that is cut inside a frame.
@@ -126,7 +126,7 @@ const CUTS: [Line<'_>; 12] = [
 
 #[test]
 fn an_input_that_ends_inside_a_frame_is_refused(rt: HostRuntime) {
-    assert_eq!(rt; first_other(rt.alloc(), &CUTS), None);
+    assert_eq!(rt; first_mismatch(rt.alloc(), &CUTS), None);
 }
 
 /// Frames with a fault, and the fault's code.
@@ -153,7 +153,7 @@ const FAULTS: [(&[u8], u8); 18] = [
 
 // Sends each of these frames alone in a session. Returns the first whose fault doesn't have this
 // code. The session ends at the fault, unless the frame is whole and the fault is inside.
-fn first_other_fault(alloc: Global, faults: &[(&[u8], u8)]) -> Option<usize> {
+fn first_wrong_code(alloc: Global, faults: &[(&[u8], u8)]) -> Option<usize> {
     let mut desk = OneNode::new(alloc);
     for (place, (frame, code)) in faults.iter().enumerate() {
         let goes_on = 2 <= *code && *code <= 4;
@@ -163,7 +163,7 @@ fn first_other_fault(alloc: Global, faults: &[(&[u8], u8)]) -> Option<usize> {
             Ended::BadFrame
         };
         let answered = [0, 6, 0xee, 19, 0, 0, 0, *code];
-        if !goes_so(alloc, &mut desk, (*frame, answered.as_slice(), end)) {
+        if !session_matches(alloc, &mut desk, (*frame, answered.as_slice(), end)) {
             return Some(place);
         }
     }
@@ -172,7 +172,7 @@ fn first_other_fault(alloc: Global, faults: &[(&[u8], u8)]) -> Option<usize> {
 
 #[test]
 fn each_fault_of_a_frame_has_its_code(rt: HostRuntime) {
-    assert_eq!(rt; first_other_fault(rt.alloc(), &FAULTS), None);
+    assert_eq!(rt; first_wrong_code(rt.alloc(), &FAULTS), None);
 }
 
 // Returns how many entries the desk gives to a read from each of these places on. Its log has eight
@@ -196,8 +196,8 @@ fn a_reader_goes_on_behind_what_a_frame_had_room_for(rt: HostRuntime) {
     assert_eq!(rt; counts_from(rt.alloc(), [1, 4, 7, 9]), Some([3, 3, 2, 0]));
 }
 
-// Returns two submits: one with the longest payload that a frame has room for, which is too long
-// for a message, and one with the number 0.
+// Returns two submits. One has the longest payload that a frame has room for, which is too long for
+// a message. The other has the number 0.
 fn bad_submits(alloc: Global) -> Result<Vec<u8>, NoMemory> {
     let mut sent = Vec::with_capacity(alloc, 16_611)?;
     sent.extend_from_slice(b"\x40\xd8\x01\x00\x07\x00\x00\x00\x01")?;
@@ -211,6 +211,6 @@ fn a_long_payload_and_number_zero_are_passed_on(rt: HostRuntime) -> Result<(), F
     let sent = bad_submits(rt.alloc())?;
     let refused = b"\x00\x06\xee\x05\x00\x00\x00\x00\x00\x06\xee\x07\x00\x00\x00\x01";
     let line = (sent.as_slice(), refused.as_slice(), Ended::Closed);
-    assert_eq!(rt; first_other(rt.alloc(), &[line]), None);
+    assert_eq!(rt; first_mismatch(rt.alloc(), &[line]), None);
     Ok(())
 }

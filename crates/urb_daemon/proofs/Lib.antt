@@ -1,7 +1,7 @@
-mod Running
-pub mod Sending
-mod Together
-mod Emptied
-mod Continuing
-mod Counted
-mod InOrder
+mod StoresComeBack
+pub mod SendableFiles
+mod StoresAsked
+mod EmptiedLists
+mod RunsAfterStop
+mod RecordCounts
+mod PlacesInOrder

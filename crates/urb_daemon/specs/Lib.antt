@@ -1,7 +1,7 @@
-pub mod Continuing
-pub mod Held
-pub mod Opened
-pub mod Openers
+pub mod RunsAfterStop
+pub mod OpenedJournals
+pub mod Outcomes
+pub mod OpenedPlaces
 pub mod Runs
-pub mod Strangers
-pub mod Together
+pub mod ForeignJournals
+pub mod StoresAsked

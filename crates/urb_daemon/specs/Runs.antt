@@ -1,5 +1,6 @@
--- What a run of a group makes of its stores, and how it ends.
-use Rattle.std.specs.Prelude.{Bool, Err, List, None, Ok, Option, Result, Some, [], false, true, ℕ, ◌∷◌, ◌≡◌, ◌⊎◌}
+-- How a run of a group ends, and its stores after it.
+use Rattle.std.specs.Prelude.{Bool, Err, List, None, Ok, Option, Result, Some, [], false, true, ℕ}
+use Rattle.std.specs.Prelude.{◌∷◌, ◌≡◌, ◌⊎◌}
 use Rattle.urb_names.specs.Naming.{Limits}
 use Rattle.urb_names.specs.declared.refusal.Refusal.{Refusal}
 use Rattle.urb_stable.specs.Entries.{Entry}
@@ -7,18 +8,18 @@ use Rattle.urb_stable.specs.declared.stable.Stable.{Ghosts}
 use Rattle.urb_stable.specs.declared.stable.StoreFault.{StoreFault}
 use Rattle.urb_group.specs.Asked.{Gives}
 use Rattle.urb_group.specs.Shown.{GroupView}
-use Rattle.urb_worker.specs.Served.{AreServed}
+use Rattle.urb_worker.specs.ServedStores.{AreServed}
 use Rattle.urb_cli.specs.Statuses.{fault_of_refusal}
 use Rattle.urb_cli.specs.declared.faults.Fault.{Fault}
 use Rattle.urb_cli.specs.declared.faults.Fault.TheVariants as fault
-use Rattle.urb_cli.specs.declared.serving.Serving.{Serving}
-use Rattle.urb_daemon.specs.Together.{OpensTogether}
+use Rattle.urb_cli.specs.declared.command_line.options.ServeOptions.{ServeOptions}
+use Rattle.urb_daemon.specs.StoresAsked.{OpensTogether}
 
 -- the limits of the group in these settings
-abbrev pub limits_of : Serving → Limits
+abbrev pub limits_of : ServeOptions → Limits
 limits_of serving = record { n = serving.nodes; cap = serving.cap }
 
--- the faults of opening sockets: a port can't be had, or memory was refused
+-- the faults of opening sockets: a port isn't available, or memory was refused
 abbrev pub IsOfSockets : Fault → Type 0
 IsOfSockets why = (why ≡ fault.Network) ⊎ (why ≡ fault.NoMemory)
 
@@ -39,15 +40,17 @@ end_of None told = Err fault.NoMemory
 module _ {S A : Type 0} (g : Ghosts S A) where
   -- a store was asked for its records, or was left as it was
   abbrev pub MayBeAsked : S → S → Type 0
-  MayBeAsked before after = (after ≡ before) ⊎ ((answer : Result (List Entry) StoreFault) × Gives g before answer after)
+  MayBeAsked before after =
+      (after ≡ before) ⊎ ((answer : Result (List Entry) StoreFault) × Gives g before answer after)
 
   -- the same for each of these stores, in the same order
   abbrev pub MayAllBeAsked : List S → List S → Type 0
   MayAllBeAsked [] [] = Unit {0}
-  MayAllBeAsked (before ∷ stores) (after ∷ asked) = MayBeAsked before after × MayAllBeAsked stores asked
+  MayAllBeAsked (before ∷ stores) (after ∷ asked) =
+      MayBeAsked before after × MayAllBeAsked stores asked
   MayAllBeAsked stores asked = ⊥
 
-  -- The stores come back in their order. Each was asked for its records at most once, and then
+  -- The stores are returned in their order. Each was asked for its records at most once, and then
   -- served its own node's turns.
   pub record ComeBack (stores lasts : List S) : Type 0 where
     pub asked : List S
@@ -55,20 +58,23 @@ module _ {S A : Type 0} (g : Ghosts S A) where
     pub then : AreServed g asked lasts
 
   -- the group could not be opened from these stores, and the run ends with that refusal
-  pub record EndsUnopened (size : Limits) (stores : List S) (end : Result ℕ Fault) (lasts : List S) : Type 0 where
+  pub record EndsUnopened (size : Limits) (stores : List S) (end : Result ℕ Fault)
+      (lasts : List S) : Type 0 where
     pub why : Refusal
     pub opens : OpensTogether g size stores (Err why) lasts
     pub ends : end ≡ Err (fault_of_refusal why)
 
   -- the group was opened from these stores, and they served it until the run ended
-  pub record EndsOpened (size : Limits) (stores : List S) (told : Bool) (end : Result ℕ Fault) (lasts : List S) : Type 0 where
+  pub record EndsOpened (size : Limits) (stores : List S) (told : Bool) (end : Result ℕ Fault)
+      (lasts : List S) : Type 0 where
     pub group : GroupView
     pub asked : List S
     pub opens : OpensTogether g size stores (Ok group) asked
     pub served : AreServed g asked lasts
     pub ends : EndsAs told end
 
-  -- how a run over these stores ends and what is left of them, depending on whether its opening was
+  -- how a run over these stores ends, and the stores after it, depending on whether its opening was
   -- reported
   abbrev pub EndsFrom : Limits → List S → Bool → Result ℕ Fault → List S → Type 0
-  EndsFrom size stores told end lasts = EndsUnopened size stores end lasts ⊎ EndsOpened size stores told end lasts
+  EndsFrom size stores told end lasts =
+      EndsUnopened size stores end lasts ⊎ EndsOpened size stores told end lasts

@@ -1,4 +1,4 @@
-//! The console of a run: it says that the group is open, and stays until its input ends.
+//! The console of a run. It says that the group is open, and waits until its input ends.
 
 ghost use Rattle.std.specs.Prelude.{◌≡◌, false};
 
@@ -24,7 +24,7 @@ impl<P: Print, I: Read + Drop> Drop for Console<'_, P, I> {
 }
 
 impl<'a, P: Print, I: Read + Drop> Console<'a, P, I> {
-    /// A console at this terminal, which has said nothing yet.
+    /// A console at this terminal that has said nothing yet.
     pub fn new(terminal: &'a P, input: I) -> Console<'a, P, I>
         ensures { result.is_told ≡ false }
     {

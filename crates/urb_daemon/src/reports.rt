@@ -1,9 +1,10 @@
-//! What operators hear of a running group, on standard error.
+//! What operators read about a running group, on standard error.
 
 use urb_names::{NodeId, Refusal};
 use urb_worker::{Change, Reporter};
 
-/// Tells on standard error of each node that goes down or comes back, in a line of its own. A line that can't be written is lost.
+/// Reports on standard error each node that goes down or comes back, each in a line of its own. A
+/// line that can't be written is lost.
 #[derive(Drop)]
 pub struct Reports<'a, R: Eprint> {
     rt: &'a R,
@@ -15,7 +16,7 @@ impl<'a, R: Eprint> Reports<'a, R> {
         Reports { rt }
     }
 
-    // That a node's store failed.
+    // Reports that a node's store failed.
     fn tell_failure(&self, node: NodeId, refusal: Refusal) {
         let (node, number) = (node.number(), refusal.number());
         let _ = eprintln!(self.rt; "urbd: node {node} is down: {refusal} ({number})");

@@ -1,29 +1,42 @@
 //! The sockets of a group: a station for each node, and the link to all of them.
 
 ghost use Rattle.std.specs.Prelude.{◌≡◌, ◌≤◌, ◌+◌, ◌*◌, IfErr, IfOk, map, vec_capacity, vec_len};
+ghost use Rattle.urb_cli.specs.declared.limits.TheConstants.{MAX_BASE_PORT};
+ghost use Rattle.urb_names.specs.declared.limits.TheConstants.{MAX_NODES};
 ghost use Rattle.urb_worker.specs.declared.stations.TheConstants.{SESSIONS};
 ghost use Rattle.urb_daemon.specs.Runs.{IsOfSockets};
 
 use std::alloc::Global;
 use std::net::{Ipv4Addr, Net, TcpListener, TcpStream, UdpSocket};
-use urb_cli::Fault;
+use urb_cli::{CLIENT_PORT_OFFSET, Fault, ServeOptions};
 use urb_worker::{SESSIONS, Station, UdpLink};
 
-// The stations of `nodes` nodes, in their order.
+/// What connects the nodes of a group with each other and with their clients.
+#[derive(Drop)]
+pub struct Network {
+    /// The stations of the nodes, in their order.
+    pub stations: Vec<Station>,
+    /// The link to these stations.
+    pub link: UdpLink,
+    /// Milliseconds from one tick of a node to the next.
+    pub every: u32,
+}
+
+// Opens the stations of `nodes` nodes, in their order.
 fn open_stations<R: Net<Listener = TcpListener, Stream = TcpStream>>(
     rt: &R,
     alloc: Global,
     nodes: u8,
     base: u16,
 ) -> Result<Vec<Station>, Fault>
-    requires { (nodes ≤ 7) × (base ≤ 65000) }
+    requires { (nodes ≤ MAX_NODES) × (base ≤ MAX_BASE_PORT) }
     ensures count { IfOk result (λ stations. vec_len stations ≡ nodes) }
     ensures fault { IfErr result IsOfSockets }
 {
     let mut stations = Vec::with_capacity(alloc, usize::from(nodes))?;
     for place in 0..nodes {
-        let first = base + u16::from(place);
-        let Ok(station) = Station::open(rt, first + 1, first + 11) else {
+        let udp_port = base + u16::from(place) + 1;
+        let Ok(station) = Station::open(rt, udp_port, udp_port + CLIENT_PORT_OFFSET) else {
             return Err(Fault::Network);
         };
         stations.push_reserved(station);
@@ -31,8 +44,8 @@ fn open_stations<R: Net<Listener = TcpListener, Stream = TcpStream>>(
     Ok(stations)
 }
 
-/// A link to these stations, in their order.
-pub fn link_to<R: Net<Listener = TcpListener, Stream = TcpStream>>(
+/// Opens a link to these stations, in their order.
+pub fn open_link<R: Net<Listener = TcpListener, Stream = TcpStream>>(
     rt: &R,
     alloc: Global,
     stations: &[Station],
@@ -50,15 +63,15 @@ pub fn link_to<R: Net<Listener = TcpListener, Stream = TcpStream>>(
     }
 }
 
-// As many more sockets as the nodes take descriptors while they run: one for each client, and one
-// that a stop needs to wake them. If they can be opened and closed again, no client waits for a
-// descriptor, and a stop can wake everybody.
-fn spare_sockets<R: Net<Listener = TcpListener, Stream = TcpStream>>(
+// Opens as many sockets as the nodes will take descriptors while they run. That is one for each
+// client, and one that a stop needs to wake them. If they can be opened and closed again, no client
+// waits for a descriptor, and a stop can wake everybody.
+fn open_spare_sockets<R: Net<Listener = TcpListener, Stream = TcpStream>>(
     rt: &R,
     alloc: Global,
     nodes: u8,
 ) -> Result<Vec<UdpSocket>, Fault>
-    requires { nodes ≤ 7 }
+    requires { nodes ≤ MAX_NODES }
     ensures count { IfOk result (λ sockets. vec_len sockets ≡ SESSIONS * nodes + 1) }
     ensures fault { IfErr result IsOfSockets }
 {
@@ -73,23 +86,27 @@ fn spare_sockets<R: Net<Listener = TcpListener, Stream = TcpStream>>(
     Ok(sockets)
 }
 
-/// The stations of `nodes` nodes, and the link to them. Node P's station has the two ports `base + P`
-/// and `base + 10 + P`. The first port that can't be had is a fault, and so are too few descriptors
-/// for the nodes' clients. After a fault nothing stays open.
-pub fn open_sockets<R: Net<Listener = TcpListener, Stream = TcpStream>>(
+/// Opens the stations of the nodes and the link to them. Node P's station has the UDP port
+/// `base + P`, and the TCP port that is `CLIENT_PORT_OFFSET` above it. A port that isn't available
+/// is a fault, and so are too few descriptors for the nodes' clients. The first fault ends the
+/// call. After a fault nothing stays open.
+pub fn open_network<R: Net<Listener = TcpListener, Stream = TcpStream>>(
     rt: &R,
     alloc: Global,
-    nodes: u8,
-    base: u16,
-) -> Result<(Vec<Station>, UdpLink), Fault>
-    requires { (nodes ≤ 7) × (base ≤ 65000) }
-    ensures count { IfOk result (λ it. vec_len it.0 ≡ nodes) }
+    serving: ServeOptions<'_>,
+) -> Result<Network, Fault>
+    ensures count { IfOk result (λ it. vec_len it.stations ≡ serving.entry.nodes) }
     // The link's ports are those of the stations, in their order.
-    ensures ports { IfOk result (λ it. it.1.ports.items ≡ map (λ s. s.udp_port) it.0.items) }
+    ensures ports { IfOk result
+        (λ it. it.link.ports.items ≡ map (λ s. s.udp_port) it.stations.items) }
     ensures fault { IfErr result IsOfSockets }
 {
-    let stations = open_stations(rt, alloc, nodes, base)?;
-    let link = link_to(rt, alloc, stations.as_slice())?;
-    drop(spare_sockets(rt, alloc, nodes)?);
-    Ok((stations, link))
+    let stations = open_stations(rt, alloc, serving.nodes, serving.base)?;
+    let link = open_link(rt, alloc, stations.as_slice())?;
+    drop(open_spare_sockets(rt, alloc, serving.nodes)?);
+    Ok(Network {
+        stations,
+        link,
+        every: serving.every,
+    })
 }

@@ -1,4 +1,5 @@
-//! Tests of `urb_daemon`, in a crate of their own: what they call is proved once, and they see what its users see.
+//! Tests of `urb_daemon`. They are a crate of their own, so that what they call is proved only
+//! once. They use only what every user may call.
 #![tactic(auto)]
 
 #[cfg(test)]

@@ -1,6 +1,9 @@
--- A log's length is limited, because it has a limited number of names of each of seven senders.
-use Rattle.std.proofs.Common.{◌≡◌, ℕ, suc, ◌+◌, ◌*◌, ◌<◌, ◌≤◌, Bool, true, false, cond, ◌==◌, nat_lt, List, [], ◌∷◌, length, filter, refl, sym, ap, ◌∙◌, arith, ltb-true, ltb-false, lt-ltb}
+-- A log's length is limited, because it has a limited number of names of each sender.
+use Rattle.std.proofs.Common.{◌≡◌, ℕ, zero, suc, ◌+◌, ◌*◌, ◌<◌, ◌≤◌, Bool, true, false, cond, ◌==◌}
+use Rattle.std.proofs.Common.{nat_lt, List, [], ◌∷◌, length, filter, refl, sym, ap, ◌∙◌, arith}
+use Rattle.std.proofs.Common.{ltb-true, ltb-false, lt-ltb}
 use Rattle.std.proofs.lemmas.Bool.{eqb-false, or_left, or_right}
+use Rattle.urb_names.specs.declared.limits.TheConstants.{MAX_NODES}
 use Rattle.urb_names.specs.Naming.{Label}
 use Rattle.urb_names.specs.Names.{has_name, same_name}
 use Rattle.urb_names.specs.Release.{part_of}
@@ -11,13 +14,20 @@ below : ℕ → List Label → List Label
 below m names = filter (λ x. nat_lt x.sender m) names
 
 -- one more sender
-below_more : (m : ℕ) (names : List Label) → length (below (suc m) names) ≤ length (below m names) + length (part_of m names)
+below_more : (m : ℕ) (names : List Label)
+    → length (below (suc m) names) ≤ length (below m names) + length (part_of m names)
 unfolding below
 below_more m [] = omega arith
-below_more m (x ∷ xs) = at (below_more m xs) (nat_lt x.sender (suc m)) refl (nat_lt x.sender m) refl (x.sender == m) refl
+below_more m (x ∷ xs) =
+    at (below_more m xs) (nat_lt x.sender (suc m)) refl (nat_lt x.sender m) refl
+    (x.sender == m) refl
   where
-    at : length (below (suc m) xs) ≤ length (below m xs) + length (part_of m xs) → (a : Bool) → nat_lt x.sender (suc m) ≡ a → (b : Bool) → nat_lt x.sender m ≡ b → (c : Bool) → (x.sender == m) ≡ c
-        → length (cond a (x ∷ below (suc m) xs) (below (suc m) xs)) ≤ length (cond b (x ∷ below m xs) (below m xs)) + length (cond c (x ∷ part_of m xs) (part_of m xs))
+    at : length (below (suc m) xs) ≤ length (below m xs) + length (part_of m xs) → (a : Bool)
+        → nat_lt x.sender (suc m) ≡ a → (b : Bool) → nat_lt x.sender m ≡ b → (c : Bool)
+        → (x.sender == m) ≡ c
+        → length (cond a (x ∷ below (suc m) xs) (below (suc m) xs)) ≤ length
+        (cond b (x ∷ below m xs) (below m xs)) + length
+        (cond c (x ∷ part_of m xs) (part_of m xs))
     at ih false e true f true h = omega arith
     at ih false e true f false h = omega arith
     at ih false e false f true h = omega arith
@@ -36,38 +46,34 @@ unfolding below
 none_below [] = refl
 none_below (x ∷ xs) = at (none_below xs) (nat_lt x.sender 0) refl
   where
-    at : length (below 0 xs) ≡ 0 → (b : Bool) → nat_lt x.sender 0 ≡ b → length (cond b (x ∷ below 0 xs) (below 0 xs)) ≡ 0
+    at : length (below 0 xs) ≡ 0 → (b : Bool) → nat_lt x.sender 0 ≡ b
+        → length (cond b (x ∷ below 0 xs) (below 0 xs)) ≡ 0
     at ih true e = let no : x.sender < 0 = ltb-true x.sender 0 e in absurd (omega arith)
     at ih false e = ih
 
-all_below : (m : ℕ) (names : List Label) → ((x : Label) → has_name names x ≡ true → x.sender < m) → length names ≡ length (below m names)
+all_below : (m : ℕ) (names : List Label) → ((x : Label) → has_name names x ≡ true → x.sender < m)
+    → length names ≡ length (below m names)
 unfolding below
 all_below m [] h = refl
 all_below m (x ∷ xs) h =
     ap suc (all_below m xs (λ y e. h y (or_right (same_name x y) (has_name xs y) e)))
-    ∙ sym (ap (λ (b : Bool). length (cond b (x ∷ below m xs) (below m xs))) (lt-ltb x.sender m (h x (or_left (same_name x x) (has_name xs x) (same_name-same x)))))
+    ∙ sym (ap (λ (b : Bool). length (cond b (x ∷ below m xs) (below m xs)))
+    (lt-ltb x.sender m (h x (or_left (same_name x x) (has_name xs x) (same_name-same x)))))
 
--- at most cap names of each of the senders 0 to 7, and none of sender 0
-pub seven_parts : (names : List Label) (cap : ℕ) → ((x : Label) → has_name names x ≡ true → x.sender < 8) → length (part_of 0 names) ≡ 0 → ((s : ℕ) → length (part_of s names) ≤ cap) → length names ≤ 7 * cap
-seven_parts names cap senders none few =
+-- at most cap names of each of the senders 1 to m, and none of sender 0
+below_few : (names : List Label) (cap : ℕ) → length (part_of 0 names) ≡ 0
+    → ((s : ℕ) → length (part_of s names) ≤ cap) → (m : ℕ) → length (below (suc m) names) ≤ m * cap
+below_few names cap none few zero = omega (arith, none_below names, none, below_more 0 names)
+below_few names cap none few (suc m) =
+    omega (arith, below_few names cap none few m, below_more (suc m) names, few (suc m))
+
+-- at most cap names of each sender
+pub all_parts : (names : List Label) (cap : ℕ)
+    → ((x : Label) → has_name names x ≡ true → x.sender ≤ MAX_NODES) → length (part_of 0 names) ≡ 0
+    → ((s : ℕ) → length (part_of s names) ≤ cap) → length names ≤ MAX_NODES * cap
+all_parts names cap senders none few =
     omega (
       arith,
-      all_below 8 names senders,
-      none_below names,
-      none,
-      below_more 0 names,
-      below_more 1 names,
-      below_more 2 names,
-      below_more 3 names,
-      below_more 4 names,
-      below_more 5 names,
-      below_more 6 names,
-      below_more 7 names,
-      few 1,
-      few 2,
-      few 3,
-      few 4,
-      few 5,
-      few 6,
-      few 7,
+      all_below (suc MAX_NODES) names (λ x h. let most = senders x h in omega arith),
+      below_few names cap none few MAX_NODES,
     )

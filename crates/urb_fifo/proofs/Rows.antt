@@ -4,7 +4,9 @@ use Rattle.urb_names.specs.Names.{name}
 use Rattle.urb_names.specs.Nodes.{numbers_from}
 
 -- the next name, and those after it
-pub row_next : (s k end : ℕ) → k < end → map (name s) (numbers_from (suc k) (end - k)) ≡ name s (k + 1) ∷ map (name s) (numbers_from (suc (k + 1)) (end - (k + 1)))
+pub row_next : (s k end : ℕ) → k < end
+    → map (name s) (numbers_from (suc k) (end - k)) ≡ name s (k + 1) ∷ map (name s)
+    (numbers_from (suc (k + 1)) (end - (k + 1)))
 row_next s k end h =
     let left : end - k ≡ suc (end - (k + 1)) = omega arith in
     let next : suc k ≡ k + 1 = omega arith in

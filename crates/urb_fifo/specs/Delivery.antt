@@ -1,5 +1,6 @@
--- The certified names and the log, as contracts see them, and what always holds of them.
+-- The certified names and the log, as contracts see them, and their invariant.
 use Rattle.std.specs.Prelude.{◌≡◌, ℕ, ◌*◌, ◌≤◌, true, IsTrue, List, length, Option}
+use Rattle.urb_names.specs.declared.limits.TheConstants.{MAX_NODES}
 use Rattle.urb_names.specs.Naming.{Limits, IsLimits, Label, IsLabel}
 use Rattle.urb_names.specs.Names.{has_name, name_lt}
 use Rattle.urb_names.specs.Ordered.{is_rising}
@@ -26,11 +27,11 @@ pub record IsReleaseOf (certificates : List Label) (d : Delivery) : Type 0 where
 
 -- The invariant. The certified names are in strictly rising order, and each is a name of the group.
 -- The log is the release of certificates. For each sender it holds the certified names from 1 on
--- without a gap. Its length is at most seven times the cap.
+-- without a gap. Its length is at most MAX_NODES times the cap.
 pub record IsDelivery (d : Delivery) : Type 0 where
   pub limits : IsLimits d.limits
   pub order : IsTrue (is_rising name_lt d.certified)
   pub within : (x : Label) → has_name d.certified x ≡ true → IsNameOf d.limits x
   pub released : (certificates : List Label) × IsReleaseOf certificates d
   pub parts : (sender : ℕ) → part_of sender d.log ≡ beginning sender d.certified
-  pub few : length d.log ≤ 7 * d.limits.cap
+  pub few : length d.log ≤ MAX_NODES * d.limits.cap

@@ -10,13 +10,20 @@ use Rattle.urb_fifo.specs.declared.fifo.Fifo.TheInside.{Inside}
 
 -- what contracts see of the fields
 abbrev pub view_of : {A : Type 0} → Inside A → Delivery
-view_of a = record { limits = a.config; certified = a.certified.names; log = a.log.items; reserved = a.reserved }
+view_of a = record {
+  limits = a.config;
+  certified = a.certified.names;
+  log = a.log.items;
+  reserved =
+      a.reserved;
+}
 
 -- if the name is not certified yet, there is space for it and for all that its certificate would
 -- release
 pub record HasRoom {A : Type 0} (a : Inside A) (x : Label) : Type 0 where
   pub certified : has_name a.certified.names x ≡ false → a.certified.room ≡ true
-  pub log : has_name a.certified.names x ≡ false → vec_len a.log + length (newly_released a.log.items a.certified.names x) ≤ vec_capacity a.log
+  pub log : has_name a.certified.names x ≡ false
+      → vec_len a.log + length (newly_released a.log.items a.certified.names x) ≤ vec_capacity a.log
 
 -- the invariant of the fields: their value, and the space that is promised
 pub record IsKept {A : Type 0} (a : Inside A) : Type 0 where

@@ -1,10 +1,12 @@
 //! Release by number: the certified names, and the log that they deliver.
 
-ghost use Rattle.std.specs.Prelude.{◌≡◌, ℕ, suc, ◌<◌, ◌≤◌, ◌+◌, ◌-◌, ◌*◌, ◌^◌, ◌==◌, true, false, [], ◌∷◌, ◌++◌, None, Some, map, length, count_by, vec_len, vec_capacity, List, IsOk, IfOk, OnOk, OnErr};
+ghost use Rattle.std.specs.Prelude.{◌≡◌, ℕ, suc, ◌<◌, ◌≤◌, ◌+◌, ◌-◌, ◌*◌, ◌^◌, ◌==◌, true, false};
+ghost use Rattle.std.specs.Prelude.{[], ◌∷◌, ◌++◌, None, Some, map, length, count_by, vec_len};
+ghost use Rattle.std.specs.Prelude.{vec_capacity, List, IsOk, IfOk, OnOk, OnErr};
 ghost use Rattle.std.specs.Bool.{Decides};
 ghost use Rattle.urb_names.specs.Nodes.{numbers_from};
 ghost use Rattle.urb_names.specs.Names.{has_name, name, name_lt};
-ghost use Rattle.urb_names.specs.Naming.{IsLabel, IsLimits, Label};
+ghost use Rattle.urb_names.specs.Naming.{IsLabel, Label};
 ghost use Rattle.urb_names.specs.Ordered.{reserved_for};
 ghost use Rattle.urb_names.specs.Release.{part_of};
 ghost use Rattle.urb_fifo.specs.Delivery.{IsDelivery, IsReleaseOf};
@@ -16,7 +18,8 @@ use urb_certified::Certified;
 use urb_names::{Config, Name, NoMemory, NodeId};
 
 /// The certified names, and the log of the released ones. A name is released once it and all lower
-/// numbers of its sender are certified (broadcast with sequence number, section 3.9 of the book).
+/// numbers of its sender are certified (broadcast with sequence number, section 3.9 of the
+/// textbook).
 #[derive(Drop)]
 #[derive_where(Debug)]
 pub struct Fifo<A: Allocator = Global> {
@@ -38,16 +41,8 @@ impl<A: Allocator> Model for Fifo<A> {
     ghost invariant = { IsKept };
 }
 
-// States that every configuration is within its limits. It does nothing; only proofs use it.
-fn limits_of(config: Config)
-    ensures { IsLimits config }
-{
-    let _n = config.n();
-    let _cap = config.cap();
-}
-
 // The reservation left once this name has been added.
-fn reserved_for(reserved: Option<Name>, name: Name) -> Option<Name>
+fn reservation_after(reserved: Option<Name>, name: Name) -> Option<Name>
     ensures { result ≡ reserved_for reserved name }
 {
     match reserved {
@@ -84,7 +79,7 @@ impl<A: Allocator + Copy> Fifo<A> {
     pub fn new(alloc: A, config: Config) -> Fifo<A>
         ensures { result ≡ record { limits = config; certified = []; log = []; reserved = None } }
     {
-        limits_of(config);
+        config.recall();
         Fifo {
             config,
             certified: Certified::new(alloc),
@@ -93,9 +88,8 @@ impl<A: Allocator + Copy> Fifo<A> {
         }
     }
 
-    /// States what always holds of the certified names and the log. It does nothing; only proofs
-    /// use it.
-    pub fn limits(&self)
+    /// Does nothing at run time; it brings the value's invariant into the proof.
+    pub fn recall(&self)
         ensures { IsDelivery self.now }
     {
         let _log = &self.log;
@@ -150,7 +144,7 @@ impl<A: Allocator + Copy> Fifo<A> {
 
     // The names of its sender that a certificate would release: those after the first number
     // returned, up to the second.
-    fn released_by(&self, certificate: Name) -> (u32, u32)
+    fn range_released_by(&self, certificate: Name) -> (u32, u32)
         requires sender { certificate.sender ≤ self.now.limits.n }
         requires seq { certificate.seq ≤ self.now.limits.cap }
         ensures range { result.0 ≤ result.1 }
@@ -158,7 +152,7 @@ impl<A: Allocator + Copy> Fifo<A> {
             ≡ map (name certificate.sender) (numbers_from (suc result.0) (result.1 - result.0)) }
         ensures label { IsLabel certificate }
     {
-        certificate.limits();
+        certificate.recall();
         let from = self.certified.reach(certificate.sender);
         let end = self.certified.reach_with(certificate);
         (from, end)
@@ -173,7 +167,7 @@ impl<A: Allocator + Copy> Fifo<A> {
         ensures ok { OnOk result (self.new ≡ record self.old { reserved = Some name }) }
         ensures err { OnErr result (self.new ≡ self.old) }
     {
-        let (from, end) = self.released_by(name);
+        let (from, end) = self.range_released_by(name);
         self.log.reserve((end - from) as usize)?;
         self.certified.make_room()?;
         self.reserved = Some(name);
@@ -204,12 +198,12 @@ impl<A: Allocator + Copy> Fifo<A> {
         if self.is_certified(name) {
             return Ok(0);
         }
-        let (from, end) = self.released_by(name);
+        let (from, end) = self.range_released_by(name);
         let released = end - from;
         self.log.reserve(released as usize)?;
         self.certified.add(name)?;
         release(&mut self.log, name.sender, from, end);
-        self.reserved = reserved_for(self.reserved, name);
+        self.reserved = reservation_after(self.reserved, name);
         Ok(released)
     }
 }

@@ -1,7 +1,7 @@
 //! Release by sequence number: a name joins the log once it and all lower ones are certified.
 //!
-//! This is broadcast with sequence number, section 3.9 of the book. The lower names are those of
-//! the same sender.
+//! This is broadcast with sequence number, section 3.9 of the textbook (Cachin, Guerraoui and
+//! Rodrigues 2011). The lower names are those of the same sender.
 //!
 //! ```text
 //! fifo.reserve(name)?;

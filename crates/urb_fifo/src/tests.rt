@@ -7,11 +7,11 @@ use std::alloc::{Allocator, Global};
 use urb_names::{Config, Name, NoMemory, NodeId};
 use urb_refusing::Refusing;
 
-/// A call for the name of a sender and a number.
+/// A call of a `Fifo`, with the sender and the number of its name.
 #[derive(Clone, Copy)]
 enum Step {
     Reserve(u8, u32),
-    /// Certifies the name, which releases this many names.
+    /// Certifies the name. The last number is how many names this releases.
     Certify(u8, u32, u32),
 }
 
@@ -19,7 +19,7 @@ enum Step {
 #[derive(Clone, Copy)]
 struct Script<'a> {
     steps: &'a [Step],
-    /// Steps after these, which must not allocate.
+    /// Further steps, after `steps`. They must not allocate.
     calm: &'a [Step],
     log: &'a [(u8, u32)],
     /// The number of released names of each sender.
@@ -40,8 +40,8 @@ fn config() -> Option<Config>
     Config::new(3, 40)
 }
 
-// Reserves space for a name. If an allocation is refused, nothing has changed, and it tries again.
-// Returns whether it was refused, or `None` if that isn't so.
+// Reserves space for a name. If an allocation is refused, checks that nothing has changed, and
+// tries again. Returns whether it was refused, or `None` if a check fails.
 fn reserve<A: Allocator + Copy>(fifo: &mut Fifo<A>, name: Name) -> Option<bool>
     requires sender { name.sender ≤ fifo.old.limits.n }
     requires seq { name.seq ≤ fifo.old.limits.cap }
@@ -144,7 +144,8 @@ fn has_log<A: Allocator + Copy>(fifo: &Fifo<A>, names: &[(u8, u32)]) -> bool {
     true
 }
 
-// Whether each sender has exactly this many released names, and its next name is not certified.
+// Whether each sender has exactly the given number of released names, and its next name is not
+// certified.
 fn has_counts<A: Allocator + Copy>(fifo: &Fifo<A>, counts: &[(u8, u32)]) -> bool {
     for (sender, count) in counts {
         match name(*sender, count.saturating_add(1)) {
@@ -165,9 +166,9 @@ fn is_refused<A: Allocator + Copy>(
     let config = config()?;
     let mut fifo = Fifo::new(alloc, config);
     let refused = is_refused_in(&mut fifo, script.steps);
-    let asked = heap.asked();
+    let asked = heap.growths();
     let again = is_refused_in(&mut fifo, script.calm);
-    let is_calm = heap.asked() == asked;
+    let is_calm = heap.growths() == asked;
     let is_told = has_log(&fifo, script.log) && has_counts(&fifo, script.counts);
     drop(fifo);
     if is_calm && is_told {
@@ -177,12 +178,12 @@ fn is_refused<A: Allocator + Copy>(
     }
 }
 
-// The same with growth number `refused` refused; with 0 none is. Also `None` if another call was
-// refused.
+// The same while allocation (growth) number `refused` is refused, or none if that is 0. Also `None`
+// if another call was refused.
 fn play(alloc: Global, refused: u64, script: Script) -> Option<bool> {
     let heap = Refusing::new(alloc, refused);
     let told = is_refused(&heap, &heap, script);
-    let met = heap.met();
+    let met = heap.has_failed();
     drop(heap);
     if told == Some(met) { told } else { None }
 }

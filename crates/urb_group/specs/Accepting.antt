@@ -13,4 +13,5 @@ HasStored w p x m = (x.sender ≡ p) × IsTrue (has_pair (pend (stored w p)) x m
 
 -- a stored record's message is the node's own, under the name in the reply, and stays stored
 abbrev pub StoresOwn : World → ℕ → Entry → Done → Type 0
-StoresOwn w p entry done = (m : Content) × IsTrue (has_pair (pend (entry ∷ [])) done.name m) × HasStored w p done.name m
+StoresOwn w p entry done =
+    (m : Content) × IsTrue (has_pair (pend (entry ∷ [])) done.name m) × HasStored w p done.name m

@@ -5,6 +5,6 @@ use Rattle.urb_group.specs.World.{World}
 use Rattle.urb_names.specs.Carried.{Carried}
 use Rattle.urb_node.specs.Replies.{packets_in}
 
--- the packets that are handed out at once when this packet comes to p
+-- the packets with which p answers this packet at once
 abbrev pub answers_to : World → ℕ → Carried → List Carried
 answers_to w p packet = packets_in (step w (Arrive p (Ok packet))).0

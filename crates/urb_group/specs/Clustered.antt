@@ -1,5 +1,6 @@
 -- A group with its stores, and the drafts that its nodes hold.
-use Rattle.std.specs.Prelude.{List, None, Option, Some, if◌then◌else◌, length, slice_index_or, suc, zero, ℕ, ◌≡◌}
+use Rattle.std.specs.Prelude.{List, None, Option, Some, if◌then◌else◌, length, slice_index_or, suc}
+use Rattle.std.specs.Prelude.{zero, ℕ, ◌≡◌}
 use Rattle.urb_names.specs.Nodes.{is_node}
 use Rattle.urb_stable.specs.Placed.{Placed}
 use Rattle.urb_node.specs.Part.{Down, Ready, State, Storing}
@@ -18,7 +19,9 @@ held_in (Down doubtful) p count = None
 
 -- the draft that node p of the group holds
 abbrev pub held_draft : GroupView → ℕ → Option Placed
-held_draft group p = if is_node group.size.n p then held_in (view_of group p).state p (view_of group p).count else None
+held_draft group p =
+    if is_node group.size.n p then held_in (view_of group p).state p
+    (view_of group p).count else None
 
 -- the draft that is kept for node p
 abbrev pub draft_at : List (Option Placed) → ℕ → Option Placed

@@ -27,26 +27,34 @@ abbrev pub is_no_memory : {A : Type 0} → Reply A → Bool
 is_no_memory (reply.Refused refusal.NoMemory) = true
 is_no_memory _ = false
 
--- The event is this command's. For a store, it is what the store made of it. For a restart, it is
--- one with an image.
+-- The event belongs to this command. For a Store, it depends on the store's answer. For a restart,
+-- it has some image.
 abbrev pub IsEventOf : {A : Type 0} → Command A → Event → Type 0
-IsEventOf (command.Submit p client number payload) event = event ≡ Submit p (record { client = client; number = number; payload = payload.items })
+IsEventOf (command.Submit p client number payload) event =
+    event ≡ Submit p (record { client = client; number = number; payload = payload.items })
 IsEventOf (command.Arrive p bytes) event = event ≡ Arrive p (packet_of bytes.items)
 IsEventOf (command.Tick p) event = event ≡ Tick p
-IsEventOf (command.Store p) event = ((position : ℕ) × (entry : Entry) × (event ≡ Commit p position entry)) ⊎ (event ≡ Fail p)
+IsEventOf (command.Store p) event =
+    ((position : ℕ) × (entry : Entry) × (event ≡ Commit p position entry)) ⊎ (event ≡ Fail p)
 IsEventOf (command.Crash p) event = event ≡ Crash p
 IsEventOf (command.Restart p) event = (image : List Entry) × (event ≡ Restart p image)
 
--- a restart whose store gave no records: this is no event, and is refused with the store's fault
+-- a restart whose store returned a fault: this is no event, and it is refused with that fault
 abbrev pub IsUnread : {A : Type 0} → Command A → told.Reply → Type 0
-IsUnread (command.Restart p) reply = (fault : StoreFault) × (reply ≡ told.Refused (refusal_of fault))
+IsUnread (command.Restart p) reply =
+    (fault : StoreFault) × (reply ≡ told.Refused (refusal_of fault))
 IsUnread _ reply = ⊥
 
--- There is a reply for each of the first commands. These commands are these events, one after the
--- other, each with its reply. Commands that are no event are left out.
-pub data AreEvents {A : Type 0} : List (Command A) → List told.Reply → List Event → List told.Reply → Type 0 where
+-- The first commands, one for each reply, are these events in order, each with its reply. Commands
+-- that are no event are left out.
+pub data AreEvents {A : Type 0} : List (Command A) → List told.Reply → List Event → List told.Reply
+    → Type 0 where
   At_end : (commands : List (Command A)) → AreEvents commands [] [] []
-  By_event : (command : Command A) (commands : List (Command A)) (reply : told.Reply) (replies : List told.Reply) (event : Event) (events : List Event) (seen : List told.Reply)
-      → IsEventOf command event → AreEvents commands replies events seen → AreEvents (command ∷ commands) (reply ∷ replies) (event ∷ events) (reply ∷ seen)
-  By_none : (command : Command A) (commands : List (Command A)) (reply : told.Reply) (replies : List told.Reply) (events : List Event) (seen : List told.Reply)
-      → IsUnread command reply → AreEvents commands replies events seen → AreEvents (command ∷ commands) (reply ∷ replies) events seen
+  By_event : (command : Command A) (commands : List (Command A)) (reply : told.Reply)
+      (replies : List told.Reply) (event : Event) (events : List Event) (seen : List told.Reply)
+      → IsEventOf command event → AreEvents commands replies events seen
+      → AreEvents (command ∷ commands) (reply ∷ replies) (event ∷ events) (reply ∷ seen)
+  By_none : (command : Command A) (commands : List (Command A)) (reply : told.Reply)
+      (replies : List told.Reply) (events : List Event) (seen : List told.Reply)
+      → IsUnread command reply → AreEvents commands replies events seen
+      → AreEvents (command ∷ commands) (reply ∷ replies) events seen

@@ -1,5 +1,6 @@
 -- What each node of a group has delivered, by what it holds in memory, and when nodes agree on it.
-use Rattle.std.specs.Prelude.{List, Option, Some, filter, filter_map, length, map, option_map, ℕ, ◌<◌, ◌==◌, ◌^◌, ◌≡◌}
+use Rattle.std.specs.Prelude.{List, Option, Some, filter, filter_map, length, map, option_map, ℕ}
+use Rattle.std.specs.Prelude.{◌<◌, ◌==◌, ◌^◌, ◌≡◌}
 use Rattle.urb_names.specs.Beginnings.{OneBegins}
 use Rattle.urb_names.specs.Naming.{Content, Label}
 use Rattle.urb_names.specs.Nodes.{numbers_from}
@@ -29,10 +30,11 @@ known delivery = (delivery.0, Some delivery.1)
 abbrev pub sent_by : ℕ → List Delivery → List Delivery
 sent_by sender list = filter (λ delivery. delivery.0.sender == sender) list
 
--- In each list the numbers of each sender are 1, 2, 3, .. in order. Take two lists' parts of one
--- sender: one begins the other. Each list has fewer than 2^32 deliveries.
+-- In each list the numbers of each sender are 1, 2, 3, .. in order. For each sender, its deliveries
+-- in one of two lists are a prefix of those in the other. Each list has fewer than 2^32 deliveries.
 pub record Agree (of : ℕ → List Delivery) : Type 0 where
-  pub numbers : (p s : ℕ) → map (λ delivery. delivery.0.seq) (sent_by s (of p)) ≡ numbers_from 1 (length (sent_by s (of p)))
+  pub numbers : (p s : ℕ) → map (λ delivery. delivery.0.seq) (sent_by s (of p)) ≡ numbers_from 1
+      (length (sent_by s (of p)))
   pub one_begins : (p q s : ℕ) → OneBegins (sent_by s (of p)) (sent_by s (of q))
   pub short : (p : ℕ) → length (of p) < 2 ^ 32
 

@@ -1,5 +1,6 @@
 -- The reply to a call of the group, and the places for the drafts after it.
-use Rattle.std.specs.Prelude.{Err, List, None, Ok, Option, Result, Some, slice_set, ℕ, ◌-◌, ◌<◌, ◌≡◌, ◌≤◌}
+use Rattle.std.specs.Prelude.{Err, List, None, Ok, Option, Result, Some, slice_set, ℕ, ◌-◌, ◌<◌}
+use Rattle.std.specs.Prelude.{◌≡◌, ◌≤◌}
 use Rattle.urb_names.specs.declared.refusal.Refusal.{Refusal}
 use Rattle.urb_names.specs.declared.refusal.Refusal.TheVariants as refusal
 use Rattle.urb_stable.specs.Entries.{Entry, name_of}
@@ -23,7 +24,8 @@ told_of (Ok (taken.Store draft)) = Drafted (name_of draft.entry) draft.pos
 told_of (Err r) = Refused r
 
 -- the places after the call: a draft goes into the place of its node
-abbrev pub noted_in : {A : Type 0} → List (Option Placed) → Result (Taken A) Refusal → List (Option Placed)
+abbrev pub noted_in : {A : Type 0} → List (Option Placed) → Result (Taken A) Refusal
+    → List (Option Placed)
 noted_in drafts (Ok (taken.Same answer)) = drafts
 noted_in drafts (Ok (taken.Store draft)) = slice_set drafts (draft.node - 1) (Some draft)
 noted_in drafts (Err r) = drafts
@@ -58,4 +60,5 @@ unfallen_in (Some state.Storing) = Some refusal.NotDown
 -- reason, with whatever image.
 abbrev pub IsUnfallen : GroupView → ℕ → Option Refusal → Type 0
 IsUnfallen group p None = (is_fallen group p ≡ true) × (held_draft group p ≡ None)
-IsUnfallen group p (Some r) = (is_fallen group p ≡ false) × ((image : List Entry) → IsRefused group (Restart p image) r group)
+IsUnfallen group p (Some r) =
+    (is_fallen group p ≡ false) × ((image : List Entry) → IsRefused group (Restart p image) r group)

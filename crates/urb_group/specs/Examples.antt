@@ -1,8 +1,10 @@
 -- Words of the worked examples: records, images and packets.
-use Rattle.std.specs.Prelude.{List, None, Option, Some, false, true, replicate, ℕ, ◌∷◌, [], ◌≡◌, zero, suc, map}
+use Rattle.std.specs.Prelude.{List, None, Option, Some, false, true, replicate, ℕ, ◌∷◌, [], ◌≡◌}
+use Rattle.std.specs.Prelude.{zero, suc, map}
 use Rattle.urb_group.specs.InMemory.{in_memory}
 use Rattle.urb_group.specs.World.{World, image_of, started}
-use Rattle.urb_group.specs.Scripts.{Accepts, Drafts, Line, Told, flags_of, message, store, submit, ◌⇒◌}
+use Rattle.urb_group.specs.Scripts.{Accepts, Drafts, Line, Told, flags_of, message, store, submit}
+use Rattle.urb_group.specs.Scripts.{◌⇒◌}
 use Rattle.urb_names.specs.Carried.{Carried}
 use Rattle.urb_names.specs.Names.{name}
 use Rattle.urb_names.specs.Naming.{Content, Label, Limits}
@@ -34,11 +36,13 @@ Judged n cap images answer = first_misfit (limits n cap) (image_of images) ≡ a
 
 -- the record of this node and name breaks the rule
 abbrev pub misfit : Rule → ℕ → ℕ → ℕ → Option Misfit
-misfit rule node sender number = Some (record { rule = rule; node = node; name = name sender number })
+misfit rule node sender number =
+    Some (record { rule = rule; node = node; name = name sender number })
 
 -- a node in this state that has stored these records, and has counted and broadcast nothing
 abbrev pub node_in : State → List Entry → Node
-node_in state records = record { records = records; state = state; acks = []; heard = []; cursor = None; broadcast = [] }
+node_in state records = record
+    { records = records; state = state; acks = []; heard = []; cursor = None; broadcast = [] }
 
 -- a world all of whose nodes are this one
 abbrev pub world_of : Node → World
@@ -46,25 +50,30 @@ world_of node = record (started (limits 1 10)) { node = λ p. node }
 
 -- the ghost values of a store in memory, if a failure shut it
 abbrev pub shut_by_failures : Ghosts Memory (Unit {0})
-shut_by_failures = record (in_memory (Unit {0})) { is_honest = λ s. s.doubtful ≡ false; is_shut = λ s. s.doubtful ≡ true }
+shut_by_failures = record (in_memory (Unit {0}))
+    { is_honest = λ s. s.doubtful ≡ false; is_shut = λ s. s.doubtful ≡ true }
 
 -- a message whose payload is `count` letters x
 abbrev pub filled : ℕ → ℕ → ℕ → Content
-filled client number count = record { client = client; number = number; payload = replicate count 120 }
+filled client number count = record
+    { client = client; number = number; payload = replicate count 120 }
 
 -- a packet of version one from q to p
 abbrev pub carried : ℕ → ℕ → ℕ → ℕ → Content → Carried
-carried q p sender number m = record { source = q; target = p; name = name sender number; message = m; flags = None }
+carried q p sender number m =
+    record { source = q; target = p; name = name sender number; message = m; flags = None }
 
 -- one of version two, with the flags of this number
 abbrev pub flagged : ℕ → ℕ → ℕ → ℕ → ℕ → Content → Carried
-flagged flags q p sender number m = record (carried q p sender number m) { flags = Some (flags_of flags) }
+flagged flags q p sender number m =
+    record (carried q p sender number m) { flags = Some (flags_of flags) }
 
 -- node 1 of two submits `count` messages, from this number on, and stores each
 abbrev pub stored_from : ℕ → ℕ → List (Line × Told)
 stored_from first zero = []
 stored_from first (suc count) =
-    submit 1 (message 7 first "a") ⇒ Drafts (name 1 first) first ∷ store 1 ⇒ Accepts (name 1 first) 1 0 ∷ stored_from (suc first) count
+    submit 1 (message 7 first "a") ⇒ Drafts (name 1 first) first ∷ store 1 ⇒ Accepts
+    (name 1 first) 1 0 ∷ stored_from (suc first) count
 
 -- to node 2: `count` names of node 1, from this number on
 abbrev pub to_two : ℕ → ℕ → List (ℕ × Label)

@@ -5,7 +5,7 @@ use Rattle.urb_names.specs.Beginnings.{Begins, OneBegins}
 use Rattle.urb_names.specs.Carried.{Carried}
 use Rattle.urb_stable.specs.Log.{entries, entries_of, log}
 
--- What the old world has of its nodes, the new one has too, perhaps with more behind it. What was
+-- In the new world each node has what it had in the old one, perhaps with more after it. What was
 -- truthful stays truthful.
 pub record GoesOn (old new : World) : Type 0 where
   pub records : (p : ℕ) → Begins (stored old p) (stored new p)
@@ -17,7 +17,8 @@ pub record GoesOn (old new : World) : Type 0 where
 abbrev pub EntriesGrow : World → World → Type 0
 EntriesGrow old new = (p : ℕ) → Begins (entries (stored old p)) (entries (stored new p))
 
--- Take what one node delivers from a sender in the old world, and another node in the new world:
--- one list begins the other.
+-- Compare what any node delivers from a sender in the old world with what any node delivers from it
+-- in the new world. One list is a prefix of the other.
 abbrev pub AgreeInTime : World → World → Type 0
-AgreeInTime old new = (p q s : ℕ) → OneBegins (entries_of s (stored old p)) (entries_of s (stored new q))
+AgreeInTime old new =
+    (p q s : ℕ) → OneBegins (entries_of s (stored old p)) (entries_of s (stored new q))

@@ -10,7 +10,9 @@ use Rattle.urb_stable.specs.Records.{pend}
 
 -- each certificate that the node has heard belongs to a name that is pending there
 abbrev pub HearsOfPending : Node → Type 0
-HearsOfPending node = (x : Label) (q : ℕ) → acked node.heard x q ≡ true → is_some (message_of (pend node.records) x) ≡ true
+HearsOfPending node =
+    (x : Label) (q : ℕ) → acked node.heard x q ≡ true
+    → is_some (message_of (pend node.records) x) ≡ true
 
 -- the packet says that its target's certificate was heard exactly if the node has heard it
 abbrev pub SaysWhatWasHeard : Node → Carried → Type 0

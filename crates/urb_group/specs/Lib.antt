@@ -24,6 +24,7 @@ pub mod Plays
 pub mod Examples
 pub mod Scripts
 pub mod Stocked
+pub mod InPlace
 pub mod InMemory
 pub mod Reopening
 pub mod Delivering

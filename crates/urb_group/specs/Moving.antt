@@ -1,6 +1,7 @@
 -- What each call does with the node in one place, by the definition's outcome for every node that
 -- the place shows.
-use Rattle.std.specs.Prelude.{Bool, Err, List, Ok, Result, Some, if◌then◌else◌, not, slice_get, slice_set, true, ℕ, ◌≡◌}
+use Rattle.std.specs.Prelude.{Bool, Err, List, Ok, Result, Some, if◌then◌else◌, not, slice_get}
+use Rattle.std.specs.Prelude.{slice_set, true, ℕ, ◌≡◌}
 use Rattle.urb_names.specs.Carried.{Carried}
 use Rattle.urb_names.specs.Naming.{Content, Limits}
 use Rattle.urb_names.specs.declared.refusal.Refusal.{Refusal}
@@ -10,16 +11,18 @@ use Rattle.urb_stable.specs.Placed.{Placed}
 use Rattle.urb_node.specs.Moves.{IsForNode, IsRefusedAs}
 use Rattle.urb_node.specs.Part.{Node}
 use Rattle.urb_node.specs.Replies.{Done, Drafted, Reply, Same, Sent, Stored, Up, WentDown}
-use Rattle.urb_node.specs.Steps.{arrives, commits, crashes, fails, is_down, is_storing, refuses, restarts, submits, ticks}
+use Rattle.urb_node.specs.Steps.{arrives, commits, crashes, fails, is_down, is_storing, refuses}
+use Rattle.urb_node.specs.Steps.{restarts, submits, ticks}
 use Rattle.urb_node.specs.Values.{IsSameNode, draft_of}
 use Rattle.urb_group.specs.Places.{ShowsAt, memory_in}
-use Rattle.urb_group.specs.declared.places.Node.{Node as Place}
-use Rattle.urb_group.specs.declared.places.Node.TheVariants as place
+use Rattle.urb_group.specs.declared.node_moves.Node.{Node as Place}
+use Rattle.urb_group.specs.declared.node_moves.Node.TheVariants as place
 use Rattle.urb_group.specs.declared.taken.Taken.{Taken}
 use Rattle.urb_group.specs.declared.taken.Taken.TheVariants as taken
 
 -- the item in this place moves, and the others stay
-pub record Moved {T R : Type 0} (moves : T → T × R → Type 0) (old : List T) (at : ℕ) (result : R) (new : List T) : Type 0 where
+pub record Moved {T R : Type 0} (moves : T → T × R → Type 0) (old : List T) (at : ℕ) (result : R)
+    (new : List T) : Type 0 where
   pub node : T
   pub moved : T
   pub was : slice_get old at ≡ Some node
@@ -31,7 +34,8 @@ abbrev pub Told : Type 0
 Told = Result Reply Refusal
 
 -- the node moved, by its outcome and with its reply
-pub record Moves {A : Type 0} (outcome : Reply × Node) (reply : Reply) (old new : Place A) : Type 0 where
+pub record Moves {A : Type 0} (outcome : Reply × Node) (reply : Reply)
+    (old new : Place A) : Type 0 where
   pub told : outcome.0 ≡ reply
   pub shows : ShowsAt new outcome.1
   pub same : IsSameNode (memory_in old) (memory_in new)
@@ -41,13 +45,15 @@ abbrev pub Leads : {A : Type 0} → Reply × Node → Place A → Told → Place
 Leads outcome old (Ok reply) new = Moves outcome reply old new
 Leads outcome old (Err r) new = IsRefusedAs outcome.0 r × (new ≡ old)
 
--- what the definition makes of a node, by the limits of its group and by its number
+-- a defined outcome for a node, depending on the limits of its group and on its number
 abbrev pub Outcomes : Type 0
 Outcomes = Limits → ℕ → Node → Reply × Node
 
 -- this is so for every node that the place shows
 abbrev pub LeadsAt : {A : Type 0} → Outcomes → Place A → Told → Place A → Type 0
-LeadsAt outcome old told new = (node : Node) → ShowsAt old node → Leads (outcome (memory_in old).limits (memory_in old).node node) old told new
+LeadsAt outcome old told new =
+    (node : Node) → ShowsAt old node
+    → Leads (outcome (memory_in old).limits (memory_in old).node node) old told new
 
 -- ---- the result of each call
 
@@ -79,22 +85,24 @@ told_sent (Err r) = Err r
 
 -- ---- each call at one place
 
--- the draft that was handed out is the one that the node holds
+-- the draft that was returned is the one that the node holds
 abbrev pub IsHeldAt : {A : Type 0} → Place A → Placed → Type 0
 IsHeldAt (place.Ready a) draft = ⊥
 IsHeldAt (place.Storing h) draft = draft ≡ draft_of h
 IsHeldAt (place.Down f) draft = ⊥
 
--- if a draft was handed out, the node holds it
+-- if a draft was returned, the node holds it
 abbrev pub HoldsAt : {A : Type 0} → Place A → Result (Taken A) Refusal → Type 0
 HoldsAt new (Ok (taken.Same answer)) = Unit {0}
 HoldsAt new (Ok (taken.Store draft)) = IsHeldAt new draft
 HoldsAt new (Err r) = Unit {0}
 
 -- a client's message
-abbrev pub SubmitsAt : {A : Type 0} → Place A → Content → Place A × Result (Taken A) Refusal → Type 0
+abbrev pub SubmitsAt : {A : Type 0} → Place A → Content → Place A × Result (Taken A) Refusal
+    → Type 0
 SubmitsAt old m r = (node : Node) → ShowsAt old node
-    → Leads (submits (memory_in old).limits (memory_in old).node m node) old (told_taken r.1) r.0 × HoldsAt r.0 r.1
+    → Leads (submits (memory_in old).limits (memory_in old).node m node) old (told_taken r.1) r.0
+    × HoldsAt r.0 r.1
 
 -- a packet comes to p, which is truthful or not
 abbrev pub arrives_as : Carried → Bool → Limits → ℕ → Node → Reply × Node
@@ -105,9 +113,11 @@ arrives_as packet is_truthful size p node =
     else arrives size p packet.source packet.name packet.message packet.flags node))
 
 -- a packet
-abbrev pub ArrivesAt : {A : Type 0} → Place A → Carried → Bool → Place A × Result (Taken A) Refusal → Type 0
+abbrev pub ArrivesAt : {A : Type 0} → Place A → Carried → Bool → Place A × Result (Taken A) Refusal
+    → Type 0
 ArrivesAt old packet is_truthful r = (node : Node) → ShowsAt old node
-    → Leads (arrives_as packet is_truthful (memory_in old).limits (memory_in old).node node) old (told_taken r.1) r.0 × HoldsAt r.0 r.1
+    → Leads (arrives_as packet is_truthful (memory_in old).limits (memory_in old).node node) old
+    (told_taken r.1) r.0 × HoldsAt r.0 r.1
 
 -- a truthful packet may reach the node, if the node is ready
 abbrev pub MayReach : {A : Type 0} → Place A → Carried → Bool → Type 0
@@ -119,14 +129,17 @@ MayReach (place.Down f) packet is_truthful = Unit {0}
 abbrev pub commits_as : Placed → Limits → ℕ → Node → Reply × Node
 commits_as receipt size p node = commits size.n p receipt.pos receipt.entry node node.state
 
--- if a receipt is refused, it is handed back
+-- if a receipt is refused, it is returned
 abbrev pub HandsBack : Placed → Result Done (Placed × Refusal) → Type 0
 HandsBack receipt (Ok done) = Unit {0}
 HandsBack receipt (Err e) = e.0 ≡ receipt
 
 -- a receipt of a draft of the node
-abbrev pub CommitsAt : {A : Type 0} → Place A → Placed → Place A × Result Done (Placed × Refusal) → Type 0
-CommitsAt old receipt r = (receipt.node ≡ (memory_in old).node → LeadsAt (commits_as receipt) old (told_stored r.1) r.0) × HandsBack receipt r.1
+abbrev pub CommitsAt : {A : Type 0} → Place A → Placed → Place A × Result Done (Placed × Refusal)
+    → Type 0
+CommitsAt old receipt r =
+    (receipt.node ≡ (memory_in old).node → LeadsAt (commits_as receipt) old (told_stored r.1) r.0)
+    × HandsBack receipt r.1
 
 -- the store of p failed
 abbrev pub fails_as : Limits → ℕ → Node → Reply × Node
@@ -157,5 +170,6 @@ abbrev pub restarts_as : List Entry → Limits → ℕ → Node → Reply × Nod
 restarts_as image size p node = restarts p image node node.state
 
 -- a restart with this image
-abbrev pub RestartsAt : {A : Type 0} → Place A → List Entry → Place A × Result (Unit {0}) Refusal → Type 0
+abbrev pub RestartsAt : {A : Type 0} → Place A → List Entry → Place A × Result (Unit {0}) Refusal
+    → Type 0
 RestartsAt old image r = LeadsAt (restarts_as image) old (told_up (memory_in old).node r.1) r.0

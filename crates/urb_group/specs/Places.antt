@@ -5,8 +5,8 @@ use Rattle.urb_node.specs.Part.{Down, Node, Ready, State, Storing}
 use Rattle.urb_node.specs.Shown.{NodeView}
 use Rattle.urb_node.specs.Values.{Memory, ShowsIn, view_in}
 use Rattle.urb_group.specs.Shown.{GroupView, IsSound}
-use Rattle.urb_group.specs.declared.places.Node.{Node as Place}
-use Rattle.urb_group.specs.declared.places.Node.TheVariants as place
+use Rattle.urb_group.specs.declared.node_moves.Node.{Node as Place}
+use Rattle.urb_group.specs.declared.node_moves.Node.TheVariants as place
 
 -- what the node in this place holds in memory
 abbrev pub memory_in : {A : Type 0} → Place A → Memory
@@ -20,11 +20,11 @@ state_in (place.Ready a) = Ready
 state_in (place.Storing h) = Storing h.entry h.cause
 state_in (place.Down f) = Down f.doubt
 
--- what it shows
+-- what the node in this place shows
 abbrev pub view_at : {A : Type 0} → Place A → NodeView
 view_at node = view_in (state_in node) (memory_in node)
 
--- it shows this node of a world
+-- the node in this place shows this node of a world
 abbrev pub ShowsAt : {A : Type 0} → Place A → Node → Type 0
 ShowsAt place node = ShowsIn (state_in place) (memory_in place) node
 

@@ -1,5 +1,4 @@
--- Rounds of a cluster that runs: what its commands count for by their replies, as `play` returns
--- them.
+-- Rounds of a running cluster: what its commands count as, by the replies that `play` returns.
 use Rattle.std.specs.Prelude.{List, ℕ}
 use Rattle.urb_group.specs.Rounds.{Act, IsRoundAmong, acts_by, arrival_by, disturbance, tick_by}
 use Rattle.urb_group.specs.World.{World}
@@ -9,7 +8,7 @@ use Rattle.urb_names.specs.Nodes.{is_node}
 use Rattle.urb_names.specs.Packets.{packet_of}
 use Rattle.urb_node.specs.Replies.{Reply}
 
--- what a command with this reply counts for
+-- what a command with this reply counts as
 abbrev pub act_of_command : {A : Type 0} → Command A → Reply → List Act
 act_of_command (command.Submit p client number payload) reply = disturbance reply
 act_of_command (command.Arrive p bytes) reply = arrival_by (packet_of bytes.items) reply
@@ -20,4 +19,5 @@ act_of_command (command.Restart p) reply = disturbance reply
 
 -- the commands, with these replies, are a round of all nodes that ends in this world
 abbrev pub IsPlayedRound : {A : Type 0} → List (Command A) → List Reply → World → Type 0
-IsPlayedRound commands replies end = IsRoundAmong (is_node end.size.n) (acts_by act_of_command commands replies) end
+IsPlayedRound commands replies end =
+    IsRoundAmong (is_node end.size.n) (acts_by act_of_command commands replies) end

@@ -1,6 +1,7 @@
--- No state is a dead end: what is stored can still be delivered at every node, by events that need
--- no new message, no crash and no failed store.
-use Rattle.std.specs.Prelude.{Bool, Err, IsTrue, List, Ok, Result, Some, [], length, map, slice_get, ℕ, ◌∷◌, ◌≡◌}
+-- No state is a dead end: what is stored can still be delivered at every node. This needs no new
+-- message, no crash and no failed store.
+use Rattle.std.specs.Prelude.{Bool, Err, IsTrue, List, Ok, Result, Some, [], length, map, slice_get}
+use Rattle.std.specs.Prelude.{ℕ, ◌∷◌, ◌≡◌}
 use Rattle.urb_group.specs.Growing.{GoesOn}
 use Rattle.urb_group.specs.Recovering.{after, recovery}
 use Rattle.urb_group.specs.Step.{Arrive, Commit, Crash, Event, Fail, Restart, Submit, Tick, step}
@@ -49,14 +50,18 @@ IsHarmless w (Restart p image) = Unit {0}
 -- each of these events, one after the other, is harmless and isn't refused
 abbrev pub Goes : World → List Event → Type 0
 Goes w [] = Unit {0}
-Goes w (event ∷ events) = IsHarmless w event × IsDone (step w event).0 × Goes (step w event).1 events
+Goes w (event ∷ events) =
+    IsHarmless w event × IsDone (step w event).0 × Goes (step w event).1 events
 
 -- node p is ready, and its log has, for each sender, the names of all messages that this sender's
 -- storage took, with these messages
 pub record HasDelivered (w : World) (p : ℕ) : Type 0 where
   pub ready : (w.node p).state ≡ Ready
-  pub names : (s : ℕ) → IsTrue (is_node w.size.n s) → part_of s (log (stored w p)) ≡ names s (length (w.node s).broadcast)
-  pub messages : (s : ℕ) → IsTrue (is_node w.size.n s) → map (message_of (pend (stored w p))) (part_of s (log (stored w p))) ≡ map Some (w.node s).broadcast
+  pub names : (s : ℕ) → IsTrue (is_node w.size.n s)
+      → part_of s (log (stored w p)) ≡ names s (length (w.node s).broadcast)
+  pub messages : (s : ℕ) → IsTrue (is_node w.size.n s)
+      → map (message_of (pend (stored w p))) (part_of s (log (stored w p))) ≡ map Some
+      (w.node s).broadcast
 
 -- this is so for every node
 abbrev pub AllDelivered : World → Type 0
@@ -66,7 +71,9 @@ AllDelivered w = (p : ℕ) → IsTrue (is_node w.size.n p) → HasDelivered w p
 -- that is alone certifies a message as it takes it. But it may be opened from the image of a node
 -- that was not alone.)
 abbrev pub IsNotStranded : World → Type 0
-IsNotStranded w = w.size.n ≡ 1 → (x : Label) (m : Content) → IsTrue (has_pair (pend (stored w 1)) x m) → IsTrue (has_name (cert (stored w 1)) x)
+IsNotStranded w =
+    w.size.n ≡ 1 → (x : Label) (m : Content) → IsTrue (has_pair (pend (stored w 1)) x m)
+    → IsTrue (has_name (cert (stored w 1)) x)
 
 -- These events go on from the world. Each is harmless, and none is refused. After them everything
 -- is delivered.
@@ -96,7 +103,7 @@ IsAsSent w (Fail p) = Unit {0}
 IsAsSent w (Crash p) = Unit {0}
 IsAsSent w (Restart p image) = Unit {0}
 
--- this holds of each of these events, one after the other
+-- this holds for each of these events, one after the other
 abbrev pub AreAsSent : World → List Event → Type 0
 AreAsSent w [] = Unit {0}
 AreAsSent w (event ∷ events) = IsAsSent w event × AreAsSent (step w event).1 events

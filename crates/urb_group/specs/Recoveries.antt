@@ -19,7 +19,8 @@ kept_all p = true
 
 -- the group of these images
 abbrev pub opened_group : Limits → List (List Entry) → Scene
-opened_group size images = record { world = opened size (image_of images); storage = image_of images }
+opened_group size images = record
+    { world = opened size (image_of images); storage = image_of images }
 
 -- the scene after these lines
 abbrev pub scene_after : Scene → List Line → Scene
@@ -34,8 +35,11 @@ logs w = map (λ p. log (stored w p)) (nodes w.size.n)
 -- delivered
 abbrev pub ComesTo : Scene → List Line → (ℕ → Bool) → List (List Label) → List (List Label) → Type 0
 ComesTo scene lines keeps_doubtful before delivered =
-    let w = (scene_after scene lines).world in (logs w ≡ before) × (logs (after w (recovery keeps_doubtful w)) ≡ delivered)
+    let w =
+    (scene_after scene lines).world in
+    (logs w ≡ before) × (logs (after w (recovery keeps_doubtful w)) ≡ delivered)
 
 -- after these lines, these events deliver everything that is stored
 abbrev pub RecoversBy : Scene → List Line → (ℕ → Bool) → List Event → Type 0
-RecoversBy scene lines keeps_doubtful events = recovery keeps_doubtful (scene_after scene lines).world ≡ events
+RecoversBy scene lines keeps_doubtful events =
+    recovery keeps_doubtful (scene_after scene lines).world ≡ events

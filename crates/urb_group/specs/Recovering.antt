@@ -1,6 +1,7 @@
 -- How a group delivers everything that is stored: a list of events for each world, made by going
 -- through it.
-use Rattle.std.specs.Prelude.{Bool, List, None, Ok, Option, Some, [], flat_map, if◌then◌else◌, length, replicate, ℕ, ◌++◌, ◌∷◌}
+use Rattle.std.specs.Prelude.{Bool, List, None, Ok, Option, Some, [], flat_map, if◌then◌else◌}
+use Rattle.std.specs.Prelude.{length, replicate, ℕ, ◌++◌, ◌∷◌}
 use Rattle.urb_group.specs.Step.{Arrive, Commit, Event, Restart, Tick, run}
 use Rattle.urb_group.specs.World.{World, stored}
 use Rattle.urb_names.specs.Carried.{Carried}
@@ -50,7 +51,8 @@ image_with keeps_doubtful records (Some r) = if keeps_doubtful then records ++ r
 abbrev pub readied : Bool → ℕ → Node → State → List Event
 readied keeps_doubtful p node Ready = []
 readied keeps_doubtful p node (Storing entry cause) = Commit p (next_position node) entry ∷ []
-readied keeps_doubtful p node (Down doubtful) = Restart p (image_with keeps_doubtful node.records doubtful) ∷ []
+readied keeps_doubtful p node (Down doubtful) =
+    Restart p (image_with keeps_doubtful node.records doubtful) ∷ []
 
 -- p comes back if it isn't ready, with its doubtful record if its storage kept that
 abbrev pub comes_back : (ℕ → Bool) → ℕ → Plan
@@ -66,7 +68,7 @@ carries packet = both (λ w. Arrive packet.target (Ok packet) ∷ []) (stores pa
 abbrev pub ticks_of : ℕ → Plan
 ticks_of p w = replicate (length (pend (stored w p))) (Tick p)
 
--- the packets that are handed out while these events happen
+-- the packets of the replies to these events
 abbrev pub packets_of : World → List Event → List Carried
 packets_of w events = flat_map packets_in (run w events).0
 
@@ -84,7 +86,7 @@ rounds w = each round_of (nodes w.size.n) w
 abbrev pub all_back : (ℕ → Bool) → Plan
 all_back keeps_doubtful w = each (comes_back keeps_doubtful) (nodes w.size.n) w
 
--- All nodes come back. In a first round each message comes to every node. In a second one each node
--- hears from all others that they have it.
+-- All nodes come back. In a first round each message comes to every node. In a second round each
+-- node hears from all others that they have it.
 abbrev pub recovery : (ℕ → Bool) → Plan
 recovery keeps_doubtful = both (all_back keeps_doubtful) (both rounds rounds)

@@ -1,4 +1,4 @@
--- A cluster that is opened over stores with records, and how it goes on from the cluster before.
+-- A cluster that is opened over stores with records, and how it goes on from the earlier cluster.
 use Rattle.std.specs.Prelude.{Err, List, Ok, Result, Vec, [], length, map, ℕ, ◌++◌, ◌∷◌, ◌≡◌, ◌⊎◌}
 use Rattle.std.specs.List.{All}
 use Rattle.urb_names.specs.Naming.{Limits}
@@ -17,7 +17,7 @@ use Rattle.urb_group.specs.Stocked.{AllHold, AreChosen, IsKnown}
 use Rattle.urb_group.specs.Stopping.{GoesOnIn}
 use Rattle.urb_group.specs.World.{World, image_of, opened}
 
--- the stores of the cluster that was opened, or those that come back
+-- the stores of the opened cluster, or the stores that are returned
 abbrev pub stores_in : {S A : Type 0} → Result (Clustered S) (Vec S A × Refusal) → List S
 stores_in (Ok cluster) = cluster.stores
 stores_in (Err e) = e.0.items
@@ -26,11 +26,12 @@ module _ {S A : Type 0} (g : Ghosts S A) where
   -- each store was asked and gave its list, one after the other
   abbrev pub AllGive : List S → List (List Entry) → List S → Type 0
   AllGive [] [] [] = Unit {0}
-  AllGive (before ∷ stores) (image ∷ images) (after ∷ asked) = Gives g before (Ok image) after × AllGive stores images asked
+  AllGive (before ∷ stores) (image ∷ images) (after ∷ asked) =
+      Gives g before (Ok image) after × AllGive stores images asked
   AllGive stores images asked = ⊥
 
-  -- The first stores gave their lists. The next one answered with this fault, and those behind it
-  -- were not asked.
+  -- The first stores gave their lists. The next one answered with this fault, and the stores after
+  -- it were not asked.
   pub record FirstFails (stores : List S) (fault : StoreFault) (asked : List S) : Type 0 where
     pub earlier : List S
     pub images : List (List Entry)
@@ -46,15 +47,19 @@ module _ {S A : Type 0} (g : Ghosts S A) where
   -- The stores did not give all their lists. The refusal says the first fault; or memory was
   -- refused before any store was asked.
   abbrev pub AreRefused : List S → Refusal → List S → Type 0
-  AreRefused stores why asked = ((fault : StoreFault) × FirstFails stores fault asked × (why ≡ refusal_of fault)) ⊎ ((asked ≡ stores) × (why ≡ refusal.NoMemory))
+  AreRefused stores why asked =
+      ((fault : StoreFault) × FirstFails stores fault asked × (why ≡ refusal_of fault))
+      ⊎ ((asked ≡ stores) × (why ≡ refusal.NoMemory))
 
   -- the result of asking all stores
   abbrev pub RetrievesAll : List S → Result (Vec (Vec Entry A) A) Refusal → List S → Type 0
-  RetrievesAll stores (Ok images) asked = AllGive stores (map (λ image. image.items) images.items) asked
+  RetrievesAll stores (Ok images) asked =
+      AllGive stores (map (λ image. image.items) images.items) asked
   RetrievesAll stores (Err why) asked = AreRefused stores why asked
 
   -- all stores gave their lists, and these were opened as a group
-  pub record OpensGiven (size : Limits) (stores asked : List S) (result : Result GroupView Refusal) : Type 0 where
+  pub record OpensGiven (size : Limits) (stores asked : List S)
+      (result : Result GroupView Refusal) : Type 0 where
     pub images : List (List Entry)
     pub given : AllGive stores images asked
     pub opens : Opens size images result
@@ -63,9 +68,10 @@ module _ {S A : Type 0} (g : Ghosts S A) where
   -- the lists that the stores gave.
   abbrev pub OpensFrom : Limits → List S → Result GroupView Refusal → List S → Type 0
   OpensFrom size stores (Ok group) asked = OpensGiven size stores asked (Ok group)
-  OpensFrom size stores (Err why) asked = AreRefused stores why asked ⊎ OpensGiven size stores asked (Err why)
+  OpensFrom size stores (Err why) asked =
+      AreRefused stores why asked ⊎ OpensGiven size stores asked (Err why)
 
-  -- a cluster of that group with its stores; or all stores come back in order
+  -- a cluster of that group with its stores; or all stores are returned in order
   abbrev pub OpensStores : Limits → List S → Result (Clustered S) (Vec S A × Refusal) → Type 0
   OpensStores size stores (Ok cluster) = OpensFrom size stores (Ok cluster.group) cluster.stores
   OpensStores size stores (Err e) = OpensFrom size stores (Err e.1) e.0.items
@@ -73,7 +79,8 @@ module _ {S A : Type 0} (g : Ghosts S A) where
   -- A process stopped whose group, with these limits, showed this world. The stores that are passed
   -- now may be any that hold what a stop may leave of its nodes. Each holds its node's records, or
   -- these with the held or the doubtful record.
-  pub record HasStopped (old : GroupView) (w : World) (limits : Limits) (passed : List S) : Type 0 where
+  pub record HasStopped (old : GroupView) (w : World) (limits : Limits)
+      (passed : List S) : Type 0 where
     pub sound : IsSound old
     pub counted : length old.nodes ≡ limits.n
     pub size : old.size ≡ limits
@@ -91,10 +98,13 @@ module _ {S A : Type 0} (g : Ghosts S A) where
     pub ready : (p : ℕ) → (view_of new p).state ≡ Ready
 
   -- Over honest stores the cluster goes on, unless memory is refused or a device fails. This holds
-  -- also if that failure, or one before, has shut a store. After a refusal the stores still hold
-  -- what the stop may have left, so the opening may be asked for again.
-  abbrev pub Continues : GroupView → World → Limits → List S → Result (Clustered S) (Vec S A × Refusal) → Type 0
-  Continues old w limits passed (Ok new) = All g.is_honest new.stores → ContinuesFrom w passed new.group
+  -- also if that failure, or an earlier one, has shut a store. After a refusal the stores still
+  -- hold what the stop may have left, so the opening may be tried again.
+  abbrev pub Continues : GroupView → World → Limits → List S
+      → Result (Clustered S) (Vec S A × Refusal) → Type 0
+  Continues old w limits passed (Ok new) =
+      All g.is_honest new.stores → ContinuesFrom w passed new.group
   Continues old w limits passed (Err e) =
       HasStopped old w limits e.0.items
-      × (All g.is_honest e.0.items ⊎ (All (IsKnown g) passed × All g.is_clean e.0.items) → (e.1 ≡ refusal.NoMemory) ⊎ (e.1 ≡ refusal.Device))
+      × (All g.is_honest e.0.items ⊎ (All (IsKnown g) passed × All g.is_clean e.0.items)
+      → (e.1 ≡ refusal.NoMemory) ⊎ (e.1 ≡ refusal.Device))

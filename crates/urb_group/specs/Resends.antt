@@ -16,12 +16,13 @@ abbrev pub resent_over : Option Label → List (List (Label × Content)) → Lis
 resent_over cursor [] = []
 resent_over cursor (due ∷ dues) = resent cursor due ++ resent_over (cursor_next cursor due) dues
 
--- how many of all pairs stand before this name in cyclic order
+-- how many of all pairs come before this name in cyclic order
 abbrev pub turn_of : List (Label × Content) → Option Label → Label → ℕ
 turn_of all cursor x = prefix_len (λ pair. not (same_name pair.0 x)) (cyclic cursor all)
 
 -- Some of all pairs are due, in rising order, and the pair of x and m is among them.
-pub record IsDueAmong (all : List (Label × Content)) (x : Label) (m : Content) (due : List (Label × Content)) : Type 0 where
+pub record IsDueAmong (all : List (Label × Content)) (x : Label) (m : Content)
+    (due : List (Label × Content)) : Type 0 where
   pub rises : are_rising due ≡ true
   pub among : AllByRecursion (λ pair. has_pair all pair.0 pair.1 ≡ true) due
   pub there : has_pair due x m ≡ true

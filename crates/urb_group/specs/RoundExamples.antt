@@ -1,7 +1,9 @@
 -- Words of the worked examples of rounds: plans of ticks and arrivals, and tests of the things that
 -- a round asks for.
-use Rattle.std.specs.Prelude.{Bool, List, None, Ok, Option, Some, [], false, length, map, nat_lt, not, suc, true, ℕ, ◌&&◌, ◌*◌, ◌++◌, ◌==◌, ◌||◌, ◌∷◌, ◌≡◌}
+use Rattle.std.specs.Prelude.{Bool, List, None, Ok, Option, Some, [], false, length, map, nat_lt}
+use Rattle.std.specs.Prelude.{not, suc, true, ℕ, ◌&&◌, ◌*◌, ◌++◌, ◌==◌, ◌||◌, ◌∷◌, ◌≡◌}
 use Rattle.std.specs.List.{list_all}
+use Rattle.urb_names.specs.declared.limits.TheConstants.{NAMES_PER_TICK}
 use Rattle.urb_group.specs.Recoveries.{logs, scene_after}
 use Rattle.urb_group.specs.Recovering.{Plan, after, carries, each, packets_of}
 use Rattle.urb_group.specs.Rounds.{Act, Arrives, Disturbs, Ticks, acts_of, ticks_of}
@@ -25,7 +27,8 @@ broadcast_of_two p = scene_after (new_group 2 10) (submit p (message 7 1 "a") �
 -- nodes 1 and 3 of three have stored a message each, and what they sent is lost or late
 abbrev pub two_of_three_nodes_broadcast : Scene
 two_of_three_nodes_broadcast =
-    scene_after (new_group 3 10) (submit 1 (message 7 1 "a") ∷ store 1 ∷ submit 3 (message 8 1 "c") ∷ store 3 ∷ [])
+    scene_after (new_group 3 10) (submit 1 (message 7 1 "a") ∷ store 1 ∷ submit 3
+    (message 8 1 "c") ∷ store 3 ∷ [])
 
 -- ---- plans
 
@@ -36,7 +39,9 @@ arrivals packets = map (λ packet. Arrive packet.target (Ok packet)) packets
 -- Nodes tick in this order. Then their chosen packets arrive in the chosen order, and what they
 -- draft is stored.
 abbrev pub in_order : List ℕ → (List Carried → List Carried) → Plan
-in_order order choice w = let ticks = map Tick order in ticks ++ each carries (choice (packets_of w ticks)) (after w ticks)
+in_order order choice w =
+    let ticks = map Tick order in
+    ticks ++ each carries (choice (packets_of w ticks)) (after w ticks)
 
 -- all of the packets, as they were sent
 abbrev pub as_sent : List Carried → List Carried
@@ -62,13 +67,15 @@ busy_at_first order w =
     let packets = packets_of w ticks in
     let first = ticks ++ arrivals packets in first ++ each carries packets (after w first)
 
--- Nodes tick in this order, and their packets arrive. The packets that are handed out on these
--- arrivals arrive too.
+-- Nodes tick in this order, and their packets arrive. The packets that answer these arrivals arrive
+-- too.
 abbrev pub with_answers : List ℕ → Plan
 with_answers order w =
     let ticks = map Tick order in
     let packets = each carries (packets_of w ticks) (after w ticks) in
-    let first = ticks ++ packets in first ++ each carries (packets_of (after w ticks) packets) (after w first)
+    let first =
+    ticks ++ packets in first ++ each carries (packets_of (after w ticks) packets)
+    (after w first)
 
 -- nodes tick in this order, and their packets arrive, but no record is stored
 abbrev pub without_receipts : List ℕ → Plan
@@ -105,13 +112,15 @@ is_undisturbed (Disturbs ∷ acts) = false
 abbrev pub does_arrive : Carried → List Act → Bool
 does_arrive packet [] = false
 does_arrive packet (Ticks p packets ∷ acts) = does_arrive packet acts
-does_arrive packet (Arrives other answers ∷ acts) = same_packet other packet || does_arrive packet acts
+does_arrive packet (Arrives other answers ∷ acts) =
+    same_packet other packet || does_arrive packet acts
 does_arrive packet (Disturbs ∷ acts) = does_arrive packet acts
 
 -- whether everything that ticks send arrives later
 abbrev pub ticks_arrive : List Act → Bool
 ticks_arrive [] = true
-ticks_arrive (Ticks p packets ∷ acts) = list_all (λ packet. does_arrive packet acts) packets && ticks_arrive acts
+ticks_arrive (Ticks p packets ∷ acts) =
+    list_all (λ packet. does_arrive packet acts) packets && ticks_arrive acts
 ticks_arrive (Arrives packet answers ∷ acts) = ticks_arrive acts
 ticks_arrive (Disturbs ∷ acts) = ticks_arrive acts
 
@@ -135,7 +144,9 @@ judged w events =
     let end = after w events in
     record {
       undisturbed = is_undisturbed acts;
-      ticks = list_all (λ p. nat_lt (length (pend (stored end p))) (suc (16 * ticks_of p acts))) (nodes w.size.n);
+      ticks =
+          list_all (λ p. nat_lt (length (pend (stored end p)))
+          (suc (NAMES_PER_TICK * ticks_of p acts))) (nodes w.size.n);
       arrive = ticks_arrive acts;
       settled = list_all (λ p. is_ready (end.node p).state) (nodes w.size.n);
     }
@@ -164,11 +175,13 @@ leaves_a_draft = record a_round { settled = false }
 abbrev pub TicksSend : Scene → Plan → List (ℕ × Label) → Type 0
 TicksSend scene plan sends =
     let w = scene.world in
-    map (λ packet. (packet.target, packet.name)) (packets_of (after w (plan w)) (map Tick (nodes w.size.n))) ≡ sends
+    map (λ packet. (packet.target, packet.name))
+    (packets_of (after w (plan w)) (map Tick (nodes w.size.n))) ≡ sends
 
 -- in this scene the two plans have these verdicts, and these are the logs of all nodes after them
 abbrev pub RoundsCome : Scene → Plan → Verdict → Plan → Verdict → List (List Label) → Type 0
 RoundsCome scene first one second two delivered =
     let w = scene.world in
     let u = after w (first w) in
-    (judged w (first w) ≡ one) × (judged u (second u) ≡ two) × (logs (after u (second u)) ≡ delivered)
+    (judged w (first w) ≡ one) × (judged u (second u) ≡ two)
+    × (logs (after u (second u)) ≡ delivered)

@@ -1,8 +1,10 @@
 -- Rounds: what has to happen, in whatever order, for a group to deliver all that its storages took.
 -- The laws of src/fairness.rt rest on this file. Whether events are a round follows from the events
 -- and their replies. Nothing here says that rounds come.
-use Rattle.std.specs.Prelude.{Bool, Err, List, Ok, Result, [], false, if◌then◌else◌, is_some, length, suc, true, ℕ, ◌&&◌, ◌*◌, ◌++◌, ◌==◌, ◌∷◌, ◌≡◌, ◌≤◌, ◌⊎◌}
+use Rattle.std.specs.Prelude.{Bool, Err, List, Ok, Result, [], false, if◌then◌else◌, is_some}
+use Rattle.std.specs.Prelude.{length, suc, true, ℕ, ◌&&◌, ◌*◌, ◌++◌, ◌==◌, ◌∷◌, ◌≡◌, ◌≤◌, ◌⊎◌}
 use Rattle.std.specs.List.{AllByRecursion, sum_by}
+use Rattle.urb_names.specs.declared.limits.TheConstants.{NAMES_PER_TICK}
 use Rattle.urb_group.specs.Recovering.{after}
 use Rattle.urb_group.specs.Step.{Arrive, Commit, Crash, Event, Fail, Restart, Submit, Tick, run}
 use Rattle.urb_group.specs.World.{World, stored}
@@ -16,15 +18,16 @@ use Rattle.urb_names.specs.Pairs.{message_of}
 use Rattle.urb_names.specs.Release.{part_of}
 use Rattle.urb_names.specs.declared.refusal.PacketFault.{PacketFault}
 use Rattle.urb_node.specs.Part.{Ready}
-use Rattle.urb_node.specs.Replies.{Drafted, Refused, Reply, Same, Sent, Stored, Up, WentDown, packets_with}
+use Rattle.urb_node.specs.Replies.{Drafted, Refused, Reply, Same, Sent, Stored, Up, WentDown}
+use Rattle.urb_node.specs.Replies.{packets_with}
 use Rattle.urb_node.specs.Steps.{is_down}
 use Rattle.urb_stable.specs.Log.{log}
 use Rattle.urb_stable.specs.Records.{pend}
 
 -- ---- what counts
 
--- What counts in a round: a tick of a node, with the packets that it sends; a packet that arrives,
--- with the packets that answer it; and a disturbance.
+-- What counts in a round. It is a tick of a node, with the packets that it sends; or a packet that
+-- arrives, with the packets that answer it; or a disturbance.
 pub data Act : Type 0 where
   Ticks : (p : ℕ) (packets : List Carried) → Act
   Arrives : (packet : Carried) (answers : List Carried) → Act
@@ -51,8 +54,8 @@ tick_by p (WentDown q) = []
 tick_by p (Up q) = []
 tick_by p (Refused refusal) = []
 
--- Bytes that come count if they are a packet, unless it is refused, as by a node that stores a
--- record.
+-- Bytes that come count if they are a packet, unless it is refused. (A node that stores a record
+-- refuses packets.)
 abbrev pub arrival_by : Result Carried PacketFault → Reply → List Act
 arrival_by (Err fault) reply = []
 arrival_by (Ok packet) (Drafted x position) = Arrives packet [] ∷ []
@@ -63,7 +66,7 @@ arrival_by (Ok packet) (WentDown q) = []
 arrival_by (Ok packet) (Up q) = []
 arrival_by (Ok packet) (Refused refusal) = []
 
--- what an event with this reply counts for
+-- what an event with this reply counts as
 abbrev pub act_of : Event → Reply → List Act
 act_of (Submit p m) reply = disturbance reply
 act_of (Arrive p bytes) reply = arrival_by bytes reply
@@ -73,13 +76,13 @@ act_of (Fail p) reply = disturbance reply
 act_of (Crash p) reply = disturbance reply
 act_of (Restart p image) reply = disturbance reply
 
--- what these count for, each with its reply, in order
+-- what these count as, each with its reply, in order
 abbrev pub acts_by : {A : Type 0} → (A → Reply → List Act) → List A → List Reply → List Act
 acts_by act [] replies = []
 acts_by act (x ∷ xs) [] = []
 acts_by act (x ∷ xs) (reply ∷ replies) = act x reply ++ acts_by act xs replies
 
--- what these events count for in this world
+-- what these events count as in this world
 abbrev pub acts_of : World → List Event → List Act
 acts_of w events = acts_by act_of events (run w events).0
 
@@ -109,7 +112,8 @@ DoesArrive packet (Disturbs ∷ acts) = DoesArrive packet acts
 -- the packets that go from one of these nodes to another arrive
 abbrev pub DoArrive : (ℕ → Bool) → List Carried → List Act → Type 0
 DoArrive among packets acts =
-    AllByRecursion (λ packet. (among packet.source && among packet.target) ≡ true → DoesArrive packet acts) packets
+    AllByRecursion (λ packet. (among packet.source && among packet.target) ≡ true
+    → DoesArrive packet acts) packets
 
 -- what a tick of one of these nodes sends to another arrives later
 abbrev pub TicksArrive : (ℕ → Bool) → List Act → Type 0
@@ -118,13 +122,15 @@ TicksArrive among (Ticks p packets ∷ acts) = DoArrive among packets acts × Ti
 TicksArrive among (Arrives packet answers ∷ acts) = TicksArrive among acts
 TicksArrive among (Disturbs ∷ acts) = TicksArrive among acts
 
--- A round among these nodes. Nothing disturbs. Each of the nodes ticks at least a sixteenth as
--- often as it has pending names at the end, since a tick resends sixteen. What they send each other
--- at ticks arrives later. At the end each of them is ready, so none holds a record that isn't
--- stored. All else is free: the order, which other packets come, what is refused, and receipts.
+-- A round among these nodes. Nothing disturbs. A tick resends up to NAMES_PER_TICK names. The ticks
+-- of each of the nodes are enough to resend all names that it has pending at the end. What they
+-- send each other at ticks arrives later. At the end each of them is ready, so none holds a record
+-- that isn't stored. All else is free: the order, which other packets come, what is refused, and
+-- receipts.
 pub record IsRoundAmong (among : ℕ → Bool) (acts : List Act) (end : World) : Type 0 where
   pub undisturbed : IsUndisturbed acts
-  pub ticks : (p : ℕ) → among p ≡ true → length (pend (stored end p)) ≤ 16 * ticks_of p acts
+  pub ticks : (p : ℕ) → among p ≡ true
+      → length (pend (stored end p)) ≤ NAMES_PER_TICK * ticks_of p acts
   pub arrive : TicksArrive among acts
   pub settled : (p : ℕ) → among p ≡ true → (end.node p).state ≡ Ready
 
@@ -150,18 +156,21 @@ TickAtLeast count w acts = (p : ℕ) → is_node w.size.n p ≡ true → count �
 
 -- these are nodes that are up
 abbrev pub AreUp : (ℕ → Bool) → World → Type 0
-AreUp among w = (p : ℕ) → among p ≡ true → (is_node w.size.n p ≡ true) × (is_down (w.node p).state ≡ false)
+AreUp among w =
+    (p : ℕ) → among p ≡ true → (is_node w.size.n p ≡ true) × (is_down (w.node p).state ≡ false)
 
 -- one of these nodes has stored a message under the name
 abbrev pub IsHeldAmong : (ℕ → Bool) → World → Label → Type 0
-IsHeldAmong among w x = (p : ℕ) × (among p ≡ true) × (is_some (message_of (pend (stored w p)) x) ≡ true)
+IsHeldAmong among w x =
+    (p : ℕ) × (among p ≡ true) × (is_some (message_of (pend (stored w p)) x) ≡ true)
 
--- Each of these nodes has delivered, of each sender, at least the longest beginning of messages that
--- one of them had stored in the old world. So if each of the names 1 to count was stored there, the
--- log's part of the sender begins with these names.
+-- For each sender, each of these nodes has delivered at least a certain prefix of its messages. It
+-- is the longest one in which each message was stored by one of these nodes in the old world. So if
+-- each of the names 1 to count was stored there, the sender's names in the log begin with these.
 abbrev pub HaveDeliveredHeld : (ℕ → Bool) → World → World → Type 0
 HaveDeliveredHeld among old new =
-    (q s count : ℕ) → among q ≡ true → ((i : ℕ) → 1 ≤ i → i ≤ count → IsHeldAmong among old (name s i))
+    (q s count : ℕ) → among q ≡ true
+    → ((i : ℕ) → 1 ≤ i → i ≤ count → IsHeldAmong among old (name s i))
     → Begins (names s count) (part_of s (log (stored new q)))
 
 -- ---- answers
@@ -170,13 +179,16 @@ HaveDeliveredHeld among old new =
 abbrev pub AnswersArrive : List Act → Type 0
 AnswersArrive [] = Unit {0}
 AnswersArrive (Ticks p packets ∷ acts) = AnswersArrive acts
-AnswersArrive (Arrives packet answers ∷ acts) = AllByRecursion (λ answer. DoesArrive answer acts) answers × AnswersArrive acts
+AnswersArrive (Arrives packet answers ∷ acts) =
+    AllByRecursion (λ answer. DoesArrive answer acts) answers × AnswersArrive acts
 AnswersArrive (Disturbs ∷ acts) = AnswersArrive acts
 
 -- no name is due at any node: each node has heard every other node's certificate of each name that
 -- it has pending
 abbrev pub NoneDue : World → Type 0
-NoneDue w = (p : ℕ) → is_node w.size.n p ≡ true → due_of w.size.n p (w.node p).heard (rising (pend (stored w p))) ≡ []
+NoneDue w =
+    (p : ℕ) → is_node w.size.n p ≡ true
+    → due_of w.size.n p (w.node p).heard (rising (pend (stored w p))) ≡ []
 
 -- no tick sends anything
 abbrev pub TicksAreSilent : List Act → Type 0

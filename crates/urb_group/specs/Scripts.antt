@@ -1,6 +1,8 @@
 -- Scripts: the lines that drive a group, each beside its answer.
 use Prim.Native.String.{String}
-use Rattle.std.specs.Prelude.{Bool, Err, List, None, Ok, Option, Some, [], codes, false, filter, if◌then◌else◌, is_some, length, map, nat_lt, true, ℕ, ◌++◌, ◌==◌, ◌||◌, ◌∷◌, ◌≡◌}
+use Rattle.std.specs.Prelude.{Bool, Err, List, None, Ok, Option, Some, [], codes, false, filter}
+use Rattle.std.specs.Prelude.{if◌then◌else◌, is_some, length, map, nat_lt, true, ℕ, ◌++◌, ◌==◌}
+use Rattle.std.specs.Prelude.{◌||◌, ◌∷◌, ◌≡◌}
 use Rattle.urb_group.specs.Step.{Arrive, Commit, Crash, Event, Fail, Restart, Submit, Tick, step}
 use Rattle.urb_group.specs.World.{World, opened, started, stored, updated}
 use Rattle.urb_names.specs.Carried.{Carried}
@@ -9,7 +11,7 @@ use Rattle.urb_names.specs.Naming.{Content, Label, Limits}
 use Rattle.urb_names.specs.Nodes.{nodes}
 use Rattle.urb_names.specs.Pairs.{message_of}
 use Rattle.urb_names.specs.declared.flags.Flags.{Flags}
-use Rattle.urb_names.specs.declared.message.TheConstants.{MAX_PLAIN_PAYLOAD}
+use Rattle.urb_names.specs.declared.limits.TheConstants.{MAX_PLAIN_PAYLOAD}
 use Rattle.urb_names.specs.declared.refusal.PacketFault.{PacketFault}
 use Rattle.urb_names.specs.declared.refusal.Refusal.{Refusal}
 use Rattle.urb_names.specs.declared.refusal.Refusal.TheVariants as refusal
@@ -57,11 +59,16 @@ again sender number = Answers (Again (name sender number))
 -- The flags of this number: 1 if a certificate is reported, 2 if one was heard, 3 for both, 0 for
 -- neither.
 abbrev pub flags_of : ℕ → Flags
-flags_of number = record { certified = (number == 1) || (number == 3); heard = (number == 2) || (number == 3) }
+flags_of number = record {
+  certified = (number == 1) || (number == 3);
+  heard =
+      (number == 2) || (number == 3);
+}
 
 -- this name is certified, and a packet with these flags says so to q
 abbrev pub answered : ℕ → ℕ → ℕ → ℕ → Told
-answered sender number q flags = Answers (Answered (name sender number) ((q, Some (flags_of flags)) ∷ []))
+answered sender number q flags =
+    Answers (Answered (name sender number) ((q, Some (flags_of flags)) ∷ []))
 
 -- the node went down
 abbrev pub down : ℕ → Told
@@ -81,7 +88,8 @@ abbrev pub told_answer : Answer (List Carried) → Answer (List (ℕ × Option F
 told_answer (Accepted x) = Accepted x
 told_answer (Noted x) = Noted x
 told_answer (Again x) = Again x
-told_answer (Answered x packets) = Answered x (map (λ packet. (packet.target, packet.flags)) packets)
+told_answer (Answered x packets) =
+    Answered x (map (λ packet. (packet.target, packet.flags)) packets)
 
 -- a reply, in short
 abbrev pub told : Reply → Told
@@ -111,7 +119,8 @@ new_group n cap = record { world = started (record { n = n; cap = cap }); storag
 -- an event, after which storage holds this
 abbrev pub happens_with : (ℕ → List Entry) → Event → Line
 happens_with storage event scene =
-    let outcome = step scene.world event in (told outcome.0, record { world = outcome.1; storage = storage })
+    let outcome =
+    step scene.world event in (told outcome.0, record { world = outcome.1; storage = storage })
 
 -- an event that leaves storage as it was
 abbrev pub happens : Event → Line
@@ -143,7 +152,8 @@ receipt p node (Down doubtful) = Commit p 1 (Cert (name 1 1))
 
 -- p's storage takes the held record
 abbrev pub store : ℕ → Line
-store p scene = happens_with (keeping p scene) (receipt p (scene.world.node p) (scene.world.node p).state) scene
+store p scene =
+    happens_with (keeping p scene) (receipt p (scene.world.node p) (scene.world.node p).state) scene
 
 -- p's storage fails, and has kept nothing
 abbrev pub fail_old : ℕ → Line
@@ -181,7 +191,14 @@ flags_with (Some flags) m = Some flags
 abbrev pub arrive_with : Option Flags → ℕ → ℕ → ℕ → ℕ → Line
 arrive_with flags q p sender number scene =
     let m = or_nothing (message_of (pend (stored scene.world q)) (name sender number)) in
-    happens (Arrive p (Ok (record { source = q; target = p; name = name sender number; message = m; flags = flags_with flags m }))) scene
+    happens (Arrive p (Ok (record {
+      source = q;
+      target = p;
+      name = name sender number;
+      message = m;
+      flags =
+          flags_with flags m;
+    }))) scene
 
 -- What q has stored under the name comes to p, in a packet of version one. If the payload is too
 -- long for that, it comes in one of version two with flags 0.
@@ -196,7 +213,8 @@ arrive2 q p sender number flags = arrive_with (Some (flags_of flags)) q p sender
 -- the group is opened, or the first misfit is given
 abbrev pub told_open : Option Misfit → Scene → Told × Scene
 told_open None scene = (Opens, record scene { world = opened scene.world.size scene.storage })
-told_open (Some misfit) scene = (Refuses (refusal.Inconsistent misfit.rule misfit.node misfit.name), scene)
+told_open (Some misfit) scene =
+    (Refuses (refusal.Inconsistent misfit.rule misfit.node misfit.name), scene)
 
 -- the process stops, and opens the group with what storage holds
 abbrev pub reopen : Line
@@ -208,8 +226,11 @@ log_of p scene = (Logs (entries (stored scene.world p)), scene)
 
 -- the nodes that have the name stored
 abbrev pub held : ℕ → ℕ → Line
-held sender number scene =
-    (Holds (filter (λ p. is_some (message_of (pend (stored scene.world p)) (name sender number))) (nodes scene.world.size.n)), scene)
+held sender number scene = (
+  Holds (filter (λ p. is_some (message_of (pend (stored scene.world p)) (name sender number)))
+      (nodes scene.world.size.n)),
+  scene,
+)
 
 -- ---- lines that no storage and no link would give
 
@@ -255,4 +276,5 @@ Plays n cap script = PlaysFrom (new_group n cap) script
 
 -- in the group that these images of the nodes 1, 2, .. open, each line has this answer
 abbrev pub PlaysOpened : Limits → (ℕ → List Entry) → List (Line × Told) → Type 0
-PlaysOpened size images script = PlaysFrom (record { world = opened size images; storage = images }) script
+PlaysOpened size images script =
+    PlaysFrom (record { world = opened size images; storage = images }) script

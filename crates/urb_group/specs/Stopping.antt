@@ -1,4 +1,4 @@
--- What a stop of the whole process may leave, and what an opened group makes of it.
+-- What a stop of the whole process may leave, and how an opened group goes on from it.
 use Rattle.std.specs.Prelude.{IsTrue, List, ℕ, ◌≡◌}
 use Rattle.urb_group.specs.Step.{Submit, step}
 use Rattle.urb_group.specs.World.{World, opened, stored}
@@ -21,15 +21,17 @@ abbrev pub MayLeave : Node → List Entry → Type 0
 MayLeave node image = IsContents node.records (doubt node.state) image
 
 -- These images of the nodes open a group that goes on from this world. They fit together. Each log
--- begins with the log before, its names with their messages. A submit of an own pair that the node
--- had stored is accepted under its name.
+-- begins with the node's log in that world, its names with their messages. If a node had stored a
+-- message of its own, a submit of it is accepted under its name.
 pub record GoesOnIn (w : World) (images : ℕ → List Entry) : Type 0 where
   pub fits : Fits w.size images
   pub delivered : (p : ℕ) → Begins (log (stored w p)) (log (images p))
   pub entries : (p : ℕ) → Begins (entries (stored w p)) (entries (images p))
   pub again : (p : ℕ) (x : Label) (m : Content) → IsTrue (is_node w.size.n p) → x.sender ≡ p
-      → IsTrue (has_pair (pend (stored w p)) x m) → (step (opened w.size images) (Submit p m)).0 ≡ Same (Accepted x)
+      → IsTrue (has_pair (pend (stored w p)) x m)
+      → (step (opened w.size images) (Submit p m)).0 ≡ Same (Accepted x)
 
 -- whatever a stop leaves of each node, the group that opens from it goes on from this world
 abbrev pub SurvivesStop : World → Type 0
-SurvivesStop w = (images : ℕ → List Entry) → ((p : ℕ) → MayLeave (w.node p) (images p)) → GoesOnIn w images
+SurvivesStop w =
+    (images : ℕ → List Entry) → ((p : ℕ) → MayLeave (w.node p) (images p)) → GoesOnIn w images

@@ -14,6 +14,6 @@ AreTruthful w packets = AllByRecursion (λ packet. IsTrue (truthful w packet)) p
 abbrev pub AllTruthful : World → Type 0
 AllTruthful w = AreTruthful w w.sent
 
--- each packet that these replies hand out is truthful
+-- each packet of these replies is truthful
 abbrev pub ToldTruth : World → List Reply → Type 0
 ToldTruth w replies = AllByRecursion (λ reply. AreTruthful w (packets_in reply)) replies

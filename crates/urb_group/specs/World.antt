@@ -40,7 +40,8 @@ pub record AreImages (size : Limits) (images : List (List Entry)) : Type 0 where
 -- whether these records confirm a packet: they have its pair, and its certificate if it reports one
 abbrev pub bears_out : List Entry → Carried → Bool
 bears_out records packet =
-    has_pair (pend records) packet.name packet.message && (not (says_certified packet.flags) || has_name (cert records) packet.name)
+    has_pair (pend records) packet.name packet.message
+    && (not (says_certified packet.flags) || has_name (cert records) packet.name)
 
 -- whether the source has stored the packet's pair, and its certificate if the packet reports one
 abbrev pub truthful : World → Carried → Bool

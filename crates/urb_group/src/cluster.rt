@@ -5,15 +5,20 @@ ghost use Rattle.std.specs.Prelude.{◌≡◌, length, IfOk};
 ghost use Rattle.urb_names.specs.Packets.{packet_of};
 ghost use Rattle.urb_group.specs.Asked.{IsBlank};
 ghost use Rattle.urb_group.specs.Clustered.{held_draft};
-ghost use Rattle.urb_group.specs.Clusters.{Alone, Applies, FailsHeld, RestartsBy, Starts, StoresHeld, is_fallen};
+ghost use Rattle.urb_group.specs.Clusters.{Alone, Applies, FailsHeld, RestartsBy, Starts};
+ghost use Rattle.urb_group.specs.Clusters.{StoresHeld, is_fallen};
 ghost use Rattle.urb_group.specs.Commands.{reply_of};
 ghost use Rattle.urb_group.specs.InMemory.{in_memory};
+ghost use Rattle.urb_group.specs.InPlace.{AppliesInPlace, FailsInPlace};
 ghost use Rattle.urb_group.specs.Shown.{IsSound};
-ghost use Rattle.urb_group.specs.Stocked.{ContentsFit, IsGenuine, IsSecured, IsStocked, StopLeaves, WouldLeave};
+ghost use Rattle.urb_group.specs.Stocked.{ContentsFit, IsGenuine, IsSecured, IsStocked, StopLeaves};
+ghost use Rattle.urb_group.specs.Stocked.{WouldLeave};
 ghost use Rattle.urb_group.specs.Step.{Arrive, Crash, Submit, Tick};
 
-use crate::drafts::{dropped, no_drafts, noted, taken_out};
-use crate::stores::{broken, lost, read, stored, unfallen, unstored};
+use crate::held_drafts::{drop_draft, hold_draft, no_drafts, take_draft};
+use crate::stores::{
+    break_store, refusal_to_restart, refusal_to_store, restart_from_store, store_draft, take_down,
+};
 use crate::{Command, Group, Reply};
 use std::alloc::Allocator;
 use std::marker::Model;
@@ -41,7 +46,7 @@ impl<S: Stable> Model for Cluster<S> {
 
 impl<S: Stable> Cluster<S> {
     /// Makes a cluster of a new group. Takes a store for each node; nothing was stored in any of
-    /// them. A refusal gives the stores back.
+    /// them. A refusal returns the stores.
     pub fn new(
         alloc: S::Alloc,
         config: Config,
@@ -54,11 +59,11 @@ impl<S: Stable> Cluster<S> {
         ensures secured { All (IsGenuine S.Stable) stores.items
             → IfOk result (λ cluster. IsSecured S.Stable cluster) }
     {
-        Cluster::started(alloc, config, stores)
+        Cluster::start(alloc, config, stores)
     }
 
-    // Does the same; its contract speaks of the group only.
-    fn started(
+    // Does the same; its contract speaks only of the group.
+    fn start(
         alloc: S::Alloc,
         config: Config,
         stores: Vec<S, S::Alloc>,
@@ -87,15 +92,15 @@ impl<S: Stable> Cluster<S> {
         &self.group
     }
 
-    /// States that a stop of the process loses nothing (sections 2.2 and 3.7 of the book).
+    /// Does nothing at run time; it brings into the proof that a stop of the process loses nothing
+    /// (sections 2.2 and 3.7 of the textbook).
     ///
     /// Whatever the stores of a stocked cluster may turn out to hold fits together, and opens a
-    /// group that goes on from this one. A new cluster is stocked, and each call keeps it so. This
-    /// call does nothing: it is for proofs only.
-    pub fn contents_fit(&self)
+    /// group that goes on from this one. A new cluster is stocked, and each call keeps it so.
+    pub fn recall_contents(&self)
         ensures { IsStocked S.Stable self.now → ContentsFit S.Stable self.now }
     {
-        self.group.promise();
+        self.group.recall();
     }
 
     // Submits a client's message.
@@ -112,7 +117,7 @@ impl<S: Stable> Cluster<S> {
             (reply_of result) self.new }
     {
         let taken = self.group.submit(alloc, node, client, number, payload);
-        noted(&mut self.drafts, taken)
+        hold_draft(&mut self.drafts, taken)
     }
 
     // Delivers bytes to a node.
@@ -120,7 +125,7 @@ impl<S: Stable> Cluster<S> {
         ensures { Alone self.old (Arrive node (packet_of bytes.now)) (reply_of result) self.new }
     {
         let taken = self.group.arrive(alloc, node, bytes);
-        noted(&mut self.drafts, taken)
+        hold_draft(&mut self.drafts, taken)
     }
 
     // Makes a node send again.
@@ -139,7 +144,7 @@ impl<S: Stable> Cluster<S> {
     {
         match self.group.crash(node) {
             Ok(()) => {
-                dropped(&mut self.drafts, node);
+                drop_draft(&mut self.drafts, node);
                 Reply::WentDown(node)
             }
             Err(refusal) => Reply::Refused(refusal),
@@ -151,12 +156,12 @@ impl<S: Stable> Cluster<S> {
         ensures { StoresHeld S.Stable self.old node (held_draft self.old.group node)
             (reply_of result) self.new }
     {
-        if let Some(refusal) = unstored(&self.group, node) {
+        if let Some(refusal) = refusal_to_store(&self.group, node) {
             return Reply::Refused(refusal);
         }
-        let draft = taken_out(&mut self.drafts, node);
+        let draft = take_draft(&mut self.drafts, node);
         let at = usize::from(node.number()) - 1;
-        stored(&mut self.group, draft, &mut self.stores[at])
+        store_draft(&mut self.group, draft, &mut self.stores[at])
     }
 
     // Brings a node back with the records that its store gives.
@@ -164,11 +169,11 @@ impl<S: Stable> Cluster<S> {
         ensures { RestartsBy S.Stable (is_fallen self.old.group node) self.old node
             (reply_of result) self.new }
     {
-        if let Some(refusal) = unfallen(&self.group, node) {
+        if let Some(refusal) = refusal_to_restart(&self.group, node) {
             return Reply::Refused(refusal);
         }
         let at = usize::from(node.number()) - 1;
-        read(&mut self.group, alloc, node, &mut self.stores[at])
+        restart_from_store(&mut self.group, alloc, node, &mut self.stores[at])
     }
 
     /// Does one command, with the store of its node. On `Store`, the store is asked to keep the
@@ -176,7 +181,7 @@ impl<S: Stable> Cluster<S> {
     /// changes nothing, except what a restart's store did. A store that fails takes its node down.
     pub fn apply(&mut self, alloc: S::Alloc, command: &Command<S::Alloc>) -> Reply<S::Alloc>
         ensures applied { Applies S.Stable self.old command.now (reply_of result) self.new }
-        // A stop after the call, or inside it, leaves what the opening goes on from.
+        // A stop inside the call, or after it, leaves stores over which an opened cluster goes on.
         ensures stocked { IsStocked S.Stable self.old → IsStocked S.Stable self.new }
         ensures stop { (stocked : IsStocked S.Stable self.old)
             → StopLeaves S.Stable stocked.world self.old.stores self.new.stores }
@@ -184,12 +189,17 @@ impl<S: Stable> Cluster<S> {
         ensures secured { IsSecured S.Stable self.old → IsSecured S.Stable self.new }
         ensures leaves { (secured : IsSecured S.Stable self.old)
             → WouldLeave S.Stable secured.stocked.world self.new.stores }
+        // An honest store takes the draft of its node or fails. It never returns `Place`.
+        ensures in_place { IsStocked S.Stable self.old
+            → AppliesInPlace S.Stable self.old command.now (reply_of result) self.new }
     {
-        self.applied(alloc, command)
+        // This call is for its clause about the limits of the group.
+        self.group().recall_deliveries();
+        self.apply_command(alloc, command)
     }
 
     // Does a command, by its kind.
-    fn applied(&mut self, alloc: S::Alloc, command: &Command<S::Alloc>) -> Reply<S::Alloc>
+    fn apply_command(&mut self, alloc: S::Alloc, command: &Command<S::Alloc>) -> Reply<S::Alloc>
         ensures { Applies S.Stable self.old command.now (reply_of result) self.new }
     {
         match command {
@@ -214,25 +224,31 @@ impl<A: Allocator + Copy> Cluster<MemStable<A>> {
     pub fn fail(&mut self, node: NodeId, failure: Failure) -> Reply<A>
         ensures failed { FailsHeld self.old node (held_draft self.old.group node) failure
             (reply_of result) self.new }
-        // A stop after the call, or inside it, leaves what the opening goes on from.
+        // A stop inside the call, or after it, leaves stores over which an opened cluster goes on.
         ensures stocked { IsStocked (in_memory A) self.old → IsStocked (in_memory A) self.new }
         ensures stop { (stocked : IsStocked (in_memory A) self.old)
             → StopLeaves (in_memory A) stocked.world self.old.stores self.new.stores }
+        // The draft was in place for the store, so the store did fail.
+        ensures in_place { IsStocked (in_memory A) self.old
+            → FailsInPlace self.old (held_draft self.old.group node) failure (reply_of result)
+            self.new }
     {
-        self.failed(node, failure)
+        // This call is for its clause about the limits of the group.
+        self.group().recall_deliveries();
+        self.fail_store(node, failure)
     }
 
-    // Does the same; its contract speaks of the group and the one store only.
-    fn failed(&mut self, node: NodeId, failure: Failure) -> Reply<A>
+    // Does the same; its contract speaks only of the group and the one store.
+    fn fail_store(&mut self, node: NodeId, failure: Failure) -> Reply<A>
         ensures { FailsHeld self.old node (held_draft self.old.group node) failure (reply_of result)
             self.new }
     {
-        if let Some(why) = unstored(&self.group, node) {
+        if let Some(why) = refusal_to_store(&self.group, node) {
             return Reply::Refused(why);
         }
-        let draft = taken_out(&mut self.drafts, node);
+        let draft = take_draft(&mut self.drafts, node);
         let at = usize::from(node.number()) - 1;
-        broken(&mut self.stores[at], &draft, failure);
-        lost(&mut self.group, draft)
+        break_store(&mut self.stores[at], &draft, failure);
+        take_down(&mut self.group, draft)
     }
 }

@@ -10,7 +10,8 @@ ghost use Rattle.urb_node.specs.Replies.{Done, Stored};
 ghost use Rattle.urb_stable.specs.Entries.{Entry};
 ghost use Rattle.urb_stable.specs.Log.{entries, log};
 ghost use Rattle.urb_group.specs.Calls.{Steps};
-ghost use Rattle.urb_group.specs.Delivering.{Agree, Follows, StoresNothing, delivered_at, event_node, known};
+ghost use Rattle.urb_group.specs.Delivering.{Agree, Follows, StoresNothing, delivered_at};
+ghost use Rattle.urb_group.specs.Delivering.{event_node, known};
 ghost use Rattle.urb_group.specs.Shown.{GroupView, IsSound, Shows};
 ghost use Rattle.urb_group.specs.Step.{Commit, Event, step};
 ghost use Rattle.urb_group.specs.World.{World, stored};
@@ -66,8 +67,8 @@ pub fn deliveries_only_grow()
 {}
 
 /// The deliveries of a sound group's nodes agree: uniform agreement and FIFO order of the logs
-/// (sections 3.7 and 3.9 of the book). They are short, since each of seven senders has at most a
-/// million names.
+/// (sections 3.7 and 3.9 of the textbook). They are short, since each of at most `MAX_NODES`
+/// senders has at most `MAX_CAP` names.
 pub fn deliveries_agree()
     ensures { (group : GroupView)
         → IsSound group
@@ -83,15 +84,15 @@ impl<A: Allocator + Copy> Group<A> {
         self.config
     }
 
-    /// States that every group's size is within its limits, and that the deliveries of its nodes
-    /// agree. This call does nothing: it is for proofs only.
-    pub fn deliveries(&self)
+    /// Does nothing at run time; it brings the value's invariant into the proof. The group's size
+    /// is within its limits, and the deliveries of its nodes agree.
+    pub fn recall_deliveries(&self)
         ensures limits { IsLimits self.now.size }
         ensures counted { length self.now.nodes ≡ self.now.size.n }
         ensures sound { IsSound self.now }
         ensures agree { Agree (delivered_at self.now) }
     {
-        let _n = self.config.n();
-        let _cap = self.config.cap();
+        let size = self.config;
+        size.recall();
     }
 }

@@ -4,8 +4,10 @@
 //! The laws don't promise that packets arrive, nor that nodes tick. They say what follows once both
 //! have happened (`specs/Rounds.antt`).
 
-ghost use Rattle.std.specs.Prelude.{◌≡◌, Bool, List, Option, true, ℕ, ◌⊎◌, ◌≤◌, ◌<◌, ◌*◌, ◌+◌, length};
+ghost use Rattle.std.specs.Prelude.{◌≡◌, Bool, List, Option, true, ℕ, ◌⊎◌, ◌≤◌, ◌<◌, ◌*◌, ◌+◌};
+ghost use Rattle.std.specs.Prelude.{length};
 ghost use Rattle.std.specs.List.{AllByRecursion};
+ghost use Rattle.urb_names.specs.declared.limits.TheConstants.{NAMES_PER_TICK};
 ghost use Rattle.urb_names.specs.Cyclic.{are_rising, resent};
 ghost use Rattle.urb_names.specs.Naming.{Content, Label};
 ghost use Rattle.urb_names.specs.Nodes.{is_node, majority_passes};
@@ -13,7 +15,9 @@ ghost use Rattle.urb_names.specs.Pairs.{has_pair};
 ghost use Rattle.urb_group.specs.Recovered.{AllDelivered, IsNotStranded};
 ghost use Rattle.urb_group.specs.Recovering.{after};
 ghost use Rattle.urb_group.specs.Resends.{IsDueAmong, cursor_next, resent_over, turn_of};
-ghost use Rattle.urb_group.specs.Rounds.{Act, AllUp, AnswersArrive, AreUp, HaveDeliveredHeld, IsRound, IsRoundAmong, IsUndisturbed, NoneDue, TickAtLeast, TicksAreSilent, acts_of, taken, ticks_of};
+ghost use Rattle.urb_group.specs.Rounds.{Act, AllUp, AnswersArrive, AreUp, HaveDeliveredHeld};
+ghost use Rattle.urb_group.specs.Rounds.{IsRound, IsRoundAmong, IsUndisturbed, NoneDue};
+ghost use Rattle.urb_group.specs.Rounds.{TickAtLeast, TicksAreSilent, acts_of, taken, ticks_of};
 ghost use Rattle.urb_group.specs.Step.{Event, IsReached};
 ghost use Rattle.urb_group.specs.PlayedRounds.{IsPlayedRound};
 ghost use Rattle.urb_group.specs.Plays.{Runs};
@@ -26,9 +30,9 @@ ghost use Rattle.urb_stable.specs.Records.{pend};
 use std::alloc::Allocator;
 
 /// Two rounds deliver, in whatever order their events come, and whatever else arrives or is refused
-/// among them. They start from any world of a run, if every node is ready or holds a record there.
-/// The group must not be stranded. After the second round, every node has delivered all that each
-/// sender's storage took. Nodes that were down must have come back before the first round.
+/// among them. They start from any world of a run in which every node is ready or holds a record.
+/// The group must not be stranded. After the second round, every node has delivered everything that
+/// each sender's storage took. Nodes that were down must have come back before the first round.
 pub fn two_fair_rounds_deliver()
     ensures { (w : World) (first second : List Event)
         → IsReached w
@@ -43,7 +47,8 @@ pub fn two_fair_rounds_deliver()
 /// the replies that came back. If these replies make both lists rounds, every node has delivered
 /// all that each sender's storage took. `Runs` is what `play` promises.
 pub fn two_played_rounds_deliver<A: Allocator>()
-    ensures { (w : World) (first second : List (Command A)) (told answered : List Reply) (between behind : GroupView)
+    ensures { (w : World) (first second : List (Command A)) (told answered : List Reply)
+        (between behind : GroupView)
         → (one : Runs w first told between)
         → (two : Runs one.after second answered behind)
         → IsReached w
@@ -55,9 +60,9 @@ pub fn two_played_rounds_deliver<A: Allocator>()
 {}
 
 /// While some nodes are down, a majority of nodes that are up delivers what it holds. This takes
-/// two rounds among these nodes. Then each of them has delivered, of each sender, at least the
-/// longest beginning of messages that one of them had stored. No other node can know what only
-/// nodes that are down have stored.
+/// two rounds among these nodes. Then, for each sender, each of them has delivered at least the
+/// longest prefix of messages that were each stored by one of them. No other node can know what
+/// only nodes that are down have stored.
 pub fn a_majority_delivers_what_it_holds()
     ensures { (among : ℕ → Bool) (w : World) (first second : List Event)
         → IsReached w
@@ -75,17 +80,17 @@ pub fn rounds_exist()
     ensures { (w : World) → IsReached w → (events : List Event) × IsRound w events }
 {}
 
-/// Says how many ticks are enough. Let each node tick at least `count` times. If 16 times `count`
-/// is at least the number of messages that all storages took, each node ticks often enough for a
-/// round.
+/// Says how many ticks are enough. Let each node tick at least `count` times. If `NAMES_PER_TICK`
+/// times `count` is at least the number of messages that all storages took, each node ticks often
+/// enough for a round.
 pub fn so_many_ticks_are_enough()
     ensures { (count : ℕ) (w : World) (acts : List Act)
         → IsReached w
-        → taken w ≤ 16 * count
+        → taken w ≤ NAMES_PER_TICK * count
         → TickAtLeast count w acts
         → (p : ℕ)
         → is_node w.size.n p ≡ true
-        → length (pend (stored w p)) ≤ 16 * ticks_of p acts }
+        → length (pend (stored w p)) ≤ NAMES_PER_TICK * ticks_of p acts }
 {}
 
 /// Ticks end. After two rounds, and a third one whose answers arrive too, no name is due at any
@@ -105,26 +110,28 @@ pub fn ticks_end()
         × TicksAreSilent (acts_of (after (after (after w first) second) third) later) }
 {}
 
-/// A tick that leaves out a pair that is due passes at least sixteen others that stood before it.
+/// If a tick leaves out a due pair, the cursor passes at least `NAMES_PER_TICK` other pairs that
+/// came before this one in the cyclic order.
 pub fn a_tick_passes_sixteen()
     ensures { (all : List (Label × Content)) (cursor : Option Label) (x : Label) (m : Content)
         (due : List (Label × Content))
         → are_rising all ≡ true
         → IsDueAmong all x m due
         → (has_pair (resent cursor due) x m ≡ true)
-        ⊎ (turn_of all (cursor_next cursor due) x + 16 ≤ turn_of all cursor x) }
+        ⊎ (turn_of all (cursor_next cursor due) x + NAMES_PER_TICK ≤ turn_of all cursor x) }
 {}
 
-/// A pair that stays due gets its turn, whatever other pairs come and go between ticks. It is
-/// resent once the ticks number more than a sixteenth of the pairs that stood before it at first.
-/// It is also resent once they number a sixteenth of all pairs that were due at any of these ticks.
+/// A pair that stays due gets its turn, whatever other pairs come and go between ticks. Count
+/// `NAMES_PER_TICK` names for each tick. The pair is resent once this count exceeds the number of
+/// pairs that came before it at first. It is also resent once this count reaches the number of all
+/// pairs that were due at any of these ticks.
 pub fn what_stays_due_is_resent()
     ensures turn { (all : List (Label × Content)) (cursor : Option Label) (x : Label) (m : Content)
         (dues : List (List (Label × Content)))
         → are_rising all ≡ true
         → has_pair all x m ≡ true
         → AllByRecursion (IsDueAmong all x m) dues
-        → turn_of all cursor x < 16 * length dues
+        → turn_of all cursor x < NAMES_PER_TICK * length dues
         → has_pair (resent_over cursor dues) x m ≡ true }
     ensures below { (all : List (Label × Content)) (cursor : Option Label) (x : Label) (m : Content)
         → are_rising all ≡ true
@@ -135,6 +142,6 @@ pub fn what_stays_due_is_resent()
         → are_rising all ≡ true
         → has_pair all x m ≡ true
         → AllByRecursion (IsDueAmong all x m) dues
-        → length all ≤ 16 * length dues
+        → length all ≤ NAMES_PER_TICK * length dues
         → has_pair (resent_over cursor dues) x m ≡ true }
 {}

@@ -8,13 +8,14 @@ ghost use Rattle.urb_group.specs.Step.{Crash, Fail, Restart, Submit, Tick};
 ghost use Rattle.urb_group.specs.World.{started};
 
 use crate::Taken;
-use crate::places::{
-    Node, committed, crashed, failed, move_at, place_of, restarted, submitted, ticked,
+use crate::node_moves::{
+    Node, commit_at, crash_at, fail_at, move_at, place_of, restart_at, submit_at,
+    submit_sharing_at, tick_at,
 };
-use crate::sharing::share_image;
+use crate::shared_payloads::share_image;
 use std::alloc::{Allocator, Global};
 use std::marker::Model;
-use urb_names::{ClientId, Config, Message, NoMemory, NodeId, Refusal};
+use urb_names::{ClientId, Config, Message, NoMemory, NodeId, Payload, Refusal};
 use urb_node::{Done, Ready};
 use urb_stable::{Doubt, Receipt, Record};
 use urb_stubborn::Outbox;
@@ -58,9 +59,9 @@ impl<A: Allocator + Copy> Group<A> {
     /// node.
     ///
     /// `BadNode`: the group has no such node. `Down`, `Busy`: ask again when the node is up, or has
-    /// stored its record. `TooLong`: the payload has over 16,384 bytes. `Conflict`: the number was
-    /// used with another payload. `Gap`: the number isn't the next one; the refusal says which is.
-    /// `Full`: the node has broadcast as many messages as it may. `NoMemory`: ask again.
+    /// stored its record. `TooLong`: the payload has over `MAX_PAYLOAD` bytes. `Conflict`: the
+    /// number was used with another payload. `Gap`: the number isn't the next one; the refusal says
+    /// which is. `Full`: the node has broadcast as many messages as it may. `NoMemory`: ask again.
     pub fn submit(
         &mut self,
         alloc: A,
@@ -77,7 +78,29 @@ impl<A: Allocator + Copy> Group<A> {
             return Err(Refusal::BadNode);
         };
         move_at(&mut self.nodes, at, |node| {
-            submitted(node, alloc, client, number, payload)
+            submit_at(node, alloc, client, number, payload)
+        })
+    }
+
+    /// Does the same, with the same refusals, but the node's message shares the memory of the
+    /// payload.
+    pub fn submit_sharing(
+        &mut self,
+        alloc: A,
+        node: NodeId,
+        client: ClientId,
+        number: u32,
+        payload: &Payload<A>,
+    ) -> Result<Taken<A>, Refusal>
+        ensures { Takes self.old node
+            (Submit node (record { client = client; number = number; payload = payload.now }))
+            result self.new }
+    {
+        let Some(at) = place_of(self.config, node) else {
+            return Err(Refusal::BadNode);
+        };
+        move_at(&mut self.nodes, at, |node| {
+            submit_sharing_at(node, alloc, client, number, payload)
         })
     }
 
@@ -85,14 +108,14 @@ impl<A: Allocator + Copy> Group<A> {
     /// on, and its packets may be sent. Allocates no memory.
     ///
     /// `BadNode`: the receipt belongs to no node of this group. `Down`: the node crashed in
-    /// between. `Stale`: the node holds no draft, or another one. A refused receipt comes back.
+    /// between. `Stale`: the node holds no draft, or another one. A refused receipt is returned.
     pub fn commit(&mut self, receipt: Receipt<A>) -> Result<Done<A>, (Receipt<A>, Refusal)>
         ensures { Commits self.old receipt result self.new }
     {
         let Some(at) = place_of(self.config, receipt.node()) else {
             return Err((receipt, Refusal::BadNode));
         };
-        move_at(&mut self.nodes, at, move |node| committed(node, receipt))
+        move_at(&mut self.nodes, at, move |node| commit_at(node, receipt))
     }
 
     /// Takes the doubt about a draft: the node's store may or may not have kept the draft's record.
@@ -106,7 +129,7 @@ impl<A: Allocator + Copy> Group<A> {
         let Some(at) = place_of(self.config, doubt.node()) else {
             return Err(Refusal::BadNode);
         };
-        move_at(&mut self.nodes, at, failed)
+        move_at(&mut self.nodes, at, fail_at)
     }
 
     /// Makes a node send pending messages again, as on each timeout of its links.
@@ -119,7 +142,7 @@ impl<A: Allocator + Copy> Group<A> {
         let Some(at) = place_of(self.config, node) else {
             return Err(Refusal::BadNode);
         };
-        move_at(&mut self.nodes, at, |node| ticked(node, alloc))
+        move_at(&mut self.nodes, at, |node| tick_at(node, alloc))
     }
 
     /// Stops a node, which loses what it has not stored. Allocates no memory.
@@ -131,15 +154,16 @@ impl<A: Allocator + Copy> Group<A> {
         let Some(at) = place_of(self.config, node) else {
             return Err(Refusal::BadNode);
         };
-        move_at(&mut self.nodes, at, crashed)
+        move_at(&mut self.nodes, at, crash_at)
     }
 
-    /// Brings a node up again with all the records that its storage gave back. The node sends
+    /// Brings a node up again with all the records that its storage returned. The node sends
     /// nothing. If another node has stored the same message too, the two share one payload, unless
     /// memory for that is refused.
     ///
-    /// `BadNode`: the group has no such node. `NotDown`: the node is up. `BadImage`: the image is neither what the node had stored, nor
-    /// that plus the record in doubt. `NoMemory`: read the image again, and ask again.
+    /// `BadNode`: the group has no such node. `NotDown`: the node is up. `BadImage`: the image is
+    /// neither what the node had stored, nor that plus the record in doubt. `NoMemory`: read the
+    /// image again, and ask again.
     pub fn restart(
         &mut self,
         alloc: A,
@@ -157,7 +181,7 @@ impl<A: Allocator + Copy> Group<A> {
             at,
             move |node| -> (Node<A>, Result<(), Refusal>)
                 ensures { RestartsAt node shared.items result }
-            { restarted(node, alloc, shared) },
+            { restart_at(node, alloc, shared) },
         )
     }
 }

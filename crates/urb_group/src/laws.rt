@@ -1,17 +1,19 @@
 //! What holds in every world of a group; each law is the contract of a function that does nothing.
 //!
-//! The book is C. Cachin, R. Guerraoui and L. Rodrigues, Introduction to Reliable and Secure
+//! The textbook is C. Cachin, R. Guerraoui and L. Rodrigues, Introduction to Reliable and Secure
 //! Distributed Programming (second edition, 2011). Uniform FIFO order is that of V. Hadzilacos and
 //! S. Toueg, A Modular Approach to Fault-Tolerant Broadcasts and Related Problems (1994).
 
-ghost use Rattle.std.specs.Prelude.{◌≡◌, ℕ, IsTrue, List, None, [], true};
+ghost use Rattle.std.specs.Prelude.{◌≡◌, ◌+◌, ℕ, IsTrue, List, None, Some, [], false, length, true};
 ghost use Rattle.urb_names.specs.Carried.{Carried};
 ghost use Rattle.std.specs.List.{AllByRecursion};
-ghost use Rattle.urb_names.specs.Naming.{Limits, Label, Content};
+ghost use Rattle.urb_names.specs.Naming.{IsLimits, Limits, Label, Content};
 ghost use Rattle.urb_names.specs.declared.refusal.Refusal.{Refusal};
 ghost use Rattle.urb_stable.specs.Entries.{Entry};
 ghost use Rattle.urb_stable.specs.Fitting.{Fits};
 ghost use Rattle.urb_stable.specs.Log.{DeliversExactly};
+ghost use Rattle.urb_stable.specs.Placed.{Placed};
+ghost use Rattle.urb_stable.specs.Storing.{is_out_of_place};
 ghost use Rattle.urb_node.specs.Replies.{Reply, Done, Same, Stored, Refused};
 ghost use Rattle.urb_node.specs.Steps.{says_heard};
 ghost use Rattle.urb_node.specs.declared.answer.Answer.TheVariants.{Accepted};
@@ -24,19 +26,23 @@ ghost use Rattle.urb_group.specs.Growing.{GoesOn, EntriesGrow, AgreeInTime};
 ghost use Rattle.urb_group.specs.Accepting.{HasStored, StoresOwn};
 ghost use Rattle.urb_group.specs.Stopping.{SurvivesStop};
 ghost use Rattle.urb_group.specs.Shown.{GroupView, Shows, IsSound};
+ghost use Rattle.urb_group.specs.Clustered.{held_draft};
+ghost use Rattle.urb_group.specs.Stocked.{IsStoreOf};
+
+use urb_stable::Stable;
 
 /// Every run is safe, whatever was lost, repeated or reordered, and whatever crashed. Each node's
 /// log holds, for each sender, the first messages that this sender's storage took, in order and
-/// once. A majority's storages hold each of them. This is no creation, no duplication and the
-/// reason of uniform agreement of logged uniform reliable broadcast (section 3.7). It is also FIFO
+/// once. A majority's storages hold each of them. These are no creation, no duplication, and what
+/// gives uniform agreement, of logged uniform reliable broadcast (section 3.7). It is also FIFO
 /// delivery (section 3.9; Hadzilacos and Toueg 1994, uniform FIFO order).
 pub fn every_run_is_safe()
     ensures { (w : World) → IsReached w → Safe w }
 {}
 
-/// Every packet that was ever sent is truthful, at the moment of its sending and for good. Its
-/// source has stored its message. If the packet reports a certificate, its source has stored that
-/// too. So the links and the broadcast create nothing (no creation, sections 2.4 and 3.7).
+/// Every packet that was ever sent is truthful, when it is sent and from then on. Its source has
+/// stored its message. If the packet reports a certificate, its source has stored that too. So the
+/// links and the broadcast create nothing (no creation, sections 2.4 and 3.7).
 pub fn every_packet_is_truthful()
     ensures sent { (w : World) → IsReached w → AllTruthful w }
     ensures for_good { (old new : World) (events : List Event) (replies : List Reply) →
@@ -45,9 +51,9 @@ pub fn every_packet_is_truthful()
         IsReached old → Run old events replies new → ToldTruth new replies }
 {}
 
-/// Answers end: no two nodes answer each other for ever. A packet is not answered at once if it
-/// says that the certificate of its target was heard, nor if it is of version one. Whatever happens
-/// in between, the answer to an answer is not answered either.
+/// Answers end: no two nodes answer each other forever. A packet is not answered at once if it says
+/// that the certificate of its target was heard, nor if it is of version one. Whatever happens in
+/// between, the answer to an answer is not answered either.
 pub fn answers_end()
     ensures heard { (w : World) (p : ℕ) (packet : Carried) →
         says_heard packet.flags ≡ true → answers_to w p packet ≡ [] }
@@ -64,9 +70,9 @@ pub fn a_name_has_one_message()
     ensures { (w : World) → IsReached w → OneMessage w }
 {}
 
-/// Take what two nodes have delivered from one sender, at one moment or at two: one of the lists
-/// begins the other. This is uniform agreement and FIFO order of the logs (sections 3.7 and 3.9;
-/// Hadzilacos and Toueg 1994, uniform FIFO order).
+/// For each sender, what one of two nodes has delivered is a prefix of what the other has
+/// delivered, at one moment or at two. This is uniform agreement and FIFO order of the logs
+/// (sections 3.7 and 3.9; Hadzilacos and Toueg 1994, uniform FIFO order).
 pub fn logs_agree()
     ensures { (old new : World) (events : List Event) (replies : List Reply) →
         IsReached old → Run old events replies new → AgreeInTime old new }
@@ -84,8 +90,8 @@ pub fn everything_grows()
 
 /// The whole process may stop at any moment. A stop leaves each node's list of records, with or
 /// without the record that was held or is doubtful. Whatever it leaves opens a group whose logs
-/// begin with the logs before. A repeated submit of a message that its node had stored is accepted
-/// under its name (recovery, sections 2.2 and 3.7).
+/// begin with the logs before the stop. A repeated submit of a message that its node had stored is
+/// accepted under its name (recovery, sections 2.2 and 3.7).
 pub fn every_stop_is_survived()
     ensures { (w : World) → IsReached w → SurvivesStop w }
 {}
@@ -97,9 +103,9 @@ pub fn a_log_is_the_release_of_its_certificates()
     ensures { (records : List Entry) → DeliversExactly records }
 {}
 
-/// A submit is accepted only when its sender's storage holds its message under the name in the
-/// reply. A repeat is accepted at once. A new message is accepted by the reply that the record is
-/// stored (a broadcast counts from then on, section 3.7).
+/// A submit is accepted only if its sender's storage holds its message under the name in the reply.
+/// A repeat is accepted at once. A new message is accepted by the reply that the record is stored
+/// (a broadcast counts from then on, section 3.7).
 pub fn an_accepted_message_is_stored()
     ensures again { (w : World) (p : ℕ) (m : Content) (x : Label) →
         IsReached w → (step w (Submit p m)).0 ≡ Same (Accepted x) → HasStored w p x m }
@@ -114,9 +120,9 @@ pub fn a_refusal_changes_nothing()
         (step w event).0 ≡ Refused refusal → (step w event).1 ≡ w }
 {}
 
-/// Groups stay sound. A group that shows a new world is sound, and so is one that shows the opened
-/// world of images that fit. Let a sound group change so that, for each world that it showed, it
-/// shows the world after an event. Then it is still sound.
+/// Groups stay sound. A group that shows a new world is sound. So is a group that shows the world
+/// which is opened from images that fit together. If a sound group changes so that, for each world
+/// that it showed, it then shows the world after an event, it is still sound.
 pub fn groups_stay_sound()
     ensures new { (group : GroupView) (limits : Limits) →
         Shows group (started limits) → IsSound group }
@@ -127,8 +133,8 @@ pub fn groups_stay_sound()
         IsSound old → ((w : World) → Shows old w → Shows new (step w event).1) → IsSound new }
 {}
 
-/// Every world that a sound group shows is safe, has one message per name, and survives a stop. It
-/// accepts a repeat only of what is stored (sections 3.7 and 3.9).
+/// Every world that a sound group shows is safe, has one message per name, and survives a stop. In
+/// it a repeat is accepted only if its message is stored (sections 3.7 and 3.9).
 pub fn every_sound_group_is_safe()
     ensures safe { (group : GroupView) (w : World) → IsSound group → Shows group w → Safe w }
     ensures one_message { (group : GroupView) (w : World) →
@@ -142,7 +148,7 @@ pub fn every_sound_group_is_safe()
         → HasStored w p x m }
 {}
 
-/// A run from any world that a sound group shows hands out packets that are truthful at its end.
+/// The packets of a run from any world that a sound group shows are truthful at the end of the run.
 /// Packets that were truthful before stay so (no creation, sections 2.4 and 3.7).
 pub fn every_sound_group_tells_the_truth()
     ensures told { (group : GroupView) (old new : World) (events : List Event)
@@ -160,9 +166,9 @@ pub fn every_sound_group_tells_the_truth()
         → AllTruthful new }
 {}
 
-/// Start from any world that a sound group shows. Take what two nodes have delivered from one
-/// sender, at one moment or at two: one of the lists begins the other. Each node's log, its names
-/// with their messages, only grows at its end (sections 3.7 and 3.9).
+/// From any world on that a sound group shows, logs agree. For each sender, what one of two nodes
+/// has delivered is a prefix of what the other has delivered, at one moment or at two. Each node's
+/// log, its names with their messages, only grows at its end (sections 3.7 and 3.9).
 pub fn every_sound_groups_logs_agree()
     ensures agree { (group : GroupView) (old new : World) (events : List Event)
         (replies : List Reply)
@@ -176,4 +182,18 @@ pub fn every_sound_groups_logs_agree()
         → Shows group old
         → Run old events replies new
         → EntriesGrow old new }
+{}
+
+/// The draft that a node holds is in place for the node's store, if the store is honest. No
+/// retrieve has to come first, the position is the one after the store's records, and the list may
+/// grow. So the store never returns `Place` for it.
+pub fn a_held_draft_is_in_place<S: Stable>()
+    ensures { (group : GroupView) (w : World) (p : ℕ) (draft : Placed) (store : S)
+        → IsSound group
+        → IsLimits group.size
+        → Shows group w
+        → held_draft group p ≡ Some draft
+        → IsStoreOf S.Stable (w.node p) store
+        → S.is_honest store
+        → is_out_of_place (S.is_doubtful store) (length (S.certain store) + 1) draft.pos ≡ false }
 {}

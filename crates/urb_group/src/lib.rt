@@ -8,7 +8,7 @@
 //! let mut group = Group::new(alloc, config)?;            // or Group::open(alloc, config, images)
 //! let taken = group.submit(alloc, node, client, number, payload)?;
 //! let done = group.commit(receipt)?;                     // or group.fail(doubt)
-//! group.promise();                                       // states what holds of every group
+//! group.recall();                                        // states what holds of every group
 //!
 //! let mut cluster = Cluster::new(alloc, config, stores)?;  // a group with a store for each node
 //! let reply = cluster.apply(alloc, &command);            // one event, with the node's store
@@ -21,24 +21,24 @@
 //! No call here waits, sends, or reads a clock.
 #![tactic(auto)]
 
-mod arriving;
 mod cluster;
 mod command;
+mod command_list;
 pub mod delivering;
-mod drafts;
 pub mod fairness;
 mod group;
-pub mod heard;
+pub mod heard_laws;
+mod held_drafts;
 pub mod laws;
+mod node_moves;
 mod opening;
-mod places;
-mod playing;
-mod promise;
+mod packet_arrival;
 mod queries;
+mod recall;
 pub mod recovering;
 mod reopening;
 mod reply;
-mod sharing;
+mod shared_payloads;
 mod state;
 mod stores;
 mod taken;
@@ -46,8 +46,8 @@ pub mod worked;
 
 pub use cluster::Cluster;
 pub use command::Command;
+pub use command_list::play;
 pub use group::Group;
-pub use playing::play;
 pub use reply::Reply;
 pub use state::State;
 pub use taken::Taken;

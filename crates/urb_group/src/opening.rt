@@ -1,6 +1,7 @@
 //! Opening a group from the images of its nodes.
 
-ghost use Rattle.std.specs.Prelude.{◌≡◌, ◌<◌, ◌≤◌, length, map, suc, slice_get, slice_index_or, Some, [], vec_capacity, vec_len, IfOk};
+ghost use Rattle.std.specs.Prelude.{◌≡◌, ◌<◌, ◌≤◌, length, map, suc, slice_get, slice_index_or};
+ghost use Rattle.std.specs.Prelude.{Some, [], vec_capacity, vec_len, IfOk};
 ghost use Rattle.std.specs.List.{All};
 ghost use Rattle.urb_stable.specs.Entries.{IsEntry};
 ghost use Rattle.urb_stable.specs.Fitting.{first_misfit};
@@ -8,19 +9,19 @@ ghost use Rattle.urb_stable.specs.Images.{image_of};
 ghost use Rattle.urb_group.specs.Calls.{Opens};
 
 use crate::Group;
-use crate::places::Node;
-use crate::sharing::opened_beside;
+use crate::node_moves::Node;
+use crate::shared_payloads::open_beside;
 use std::alloc::Allocator;
 use urb_names::{Config, Message, NoMemory, NodeId, Refusal};
-use urb_stable::{Images, Misfit, Record, limits_of};
+use urb_stable::{Images, Misfit, Record, recall_records};
 
-// States that every record of the images is within its limits. This call does nothing: it is for
-// proofs only.
-fn limits_of_images<A: Allocator>(images: &[Vec<Record<Message<A>>, A>])
+// Changes nothing; it brings the invariant of each record of the images into the proof. The loop
+// may stay in the program.
+fn recall_images<A: Allocator>(images: &[Vec<Record<Message<A>>, A>])
     ensures { All (All IsEntry) (map (λ image. image.items) images.now) }
 {
     for image in images {
-        limits_of(image);
+        recall_records(image);
     }
 }
 
@@ -41,8 +42,8 @@ fn misfit_of<A: Allocator + Copy>(
 
 impl<A: Allocator + Copy> Group<A> {
     /// Opens a group whose nodes come up with what their storages hold, as after a stop of the
-    /// whole process. This is the recovery of all processes (sections 2.2 and 3.7 of the book). The
-    /// image of node 1 comes first. The group takes the records as they lie in memory. Equal
+    /// whole process. This is the recovery of all processes (sections 2.2 and 3.7 of the textbook).
+    /// The image of node 1 comes first. The group takes the records as they lie in memory. Equal
     /// messages under one name share one payload from then on, unless memory for that is refused.
     ///
     /// `Inconsistent`: the images don't fit together. Some are not of this group, or a storage has
@@ -58,7 +59,7 @@ impl<A: Allocator + Copy> Group<A> {
     {
         let n = config.n();
         let mut nodes = Vec::with_capacity(alloc, usize::from(n))?;
-        limits_of_images(&images);
+        recall_images(&images);
         if let Some(misfit) = misfit_of(alloc, config, &images)? {
             return Err(Refusal::Inconsistent {
                 rule: misfit.rule,
@@ -70,7 +71,7 @@ impl<A: Allocator + Copy> Group<A> {
         for image in images {
             number += 1;
             let node = NodeId::new(number).unwrap();
-            let ready = opened_beside(&nodes, alloc, config, node, image)?;
+            let ready = open_beside(&nodes, alloc, config, node, image)?;
             nodes.push_reserved(Node::Ready(ready));
         }
         Ok(Group { config, nodes })

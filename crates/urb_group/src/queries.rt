@@ -1,12 +1,13 @@
 //! Queries about a node of a group, whatever state the node is in.
 
 ghost use Rattle.std.specs.Prelude.{◌≡◌, Some, option_map};
-ghost use Rattle.urb_node.specs.Moves.{CountsOwn as CountsOwnAt, FindsMessage as FindsMessageAt, IsCertified, TellsLog as TellsLogAt};
+ghost use Rattle.urb_node.specs.Moves.{CountsOwn as CountsOwnAt, FindsMessage as FindsMessageAt};
+ghost use Rattle.urb_node.specs.Moves.{IsCertified, TellsLog as TellsLogAt};
 ghost use Rattle.urb_group.specs.Calls.{Answers, CountsOwn, FindsMessage, Holds, TellsLog};
 ghost use Rattle.urb_group.specs.Places.{ShowsAt, state_in};
 ghost use Rattle.urb_group.specs.States.{state_of};
 
-use crate::places::{Node, place_of};
+use crate::node_moves::{Node, place_of};
 use crate::{Group, State};
 use std::alloc::Allocator;
 use urb_names::{Message, Name, NodeId};

@@ -17,13 +17,14 @@ ghost use Rattle.urb_group.specs.Step.{Event, IsReached, Run};
 ghost use Rattle.urb_group.specs.World.{AreImages, World, image_of, opened, started, stored};
 
 /// From every world that a run leads to, some events deliver everything. After them, every node is
-/// ready and has delivered all that each sender's storage took. None of these events is refused.
-/// They are nodes that come back, receipts, ticks, and arrivals of packets that were sent. No
-/// submit, no crash and no failed store is among them.
+/// ready and has delivered everything that each sender's storage took. None of these events is
+/// refused. They are restarts, receipts, ticks, and arrivals of packets that were sent. No submit,
+/// no crash and no failed store is among them.
 ///
 /// This holds whatever was lost, whatever crashed, and whatever the storages of nodes that are down
-/// turn out to hold. There is one exception: a group of one node that was opened from an image with
-/// a record that isn't certified. A node that was not alone leaves such an image.
+/// turn out to hold. There is one exception, a stranded group: a group of one node that was opened
+/// from an image with a pair that isn't certified. A node that was not alone in its group leaves
+/// such an image.
 pub fn no_state_is_a_dead_end()
     ensures { (w : World) → IsReached w → IsNotStranded w → CanDeliver w }
 {}
@@ -37,8 +38,8 @@ pub fn no_run_strands_a_group()
 {}
 
 /// A stranded group stays stranded, whatever happens, unless packets arrive that nobody sent. Its
-/// one node never certifies what it was opened with and had not certified. So it is a true
-/// exception.
+/// one node never certifies what it was opened with and had not certified. So the exception is
+/// needed.
 pub fn a_stranded_group_stays_so()
     ensures { (size : Limits) (images : List (List Entry))
         → AreImages size images

@@ -2,18 +2,20 @@
 
 ghost use Rattle.std.specs.Prelude.{◌≡◌, IfOk, length};
 ghost use Rattle.std.specs.List.{All};
-ghost use Rattle.urb_group.specs.Reopening.{Continues, HasStopped, OpensFrom, OpensStores, RetrievesAll, stores_in};
+ghost use Rattle.urb_group.specs.Reopening.{Continues, HasStopped, OpensFrom, OpensStores};
+ghost use Rattle.urb_group.specs.Reopening.{RetrievesAll, stores_in};
 ghost use Rattle.urb_group.specs.Shown.{GroupView};
-ghost use Rattle.urb_group.specs.Stocked.{AllHold, IsKnown, IsSecured, IsStocked, RestLeaves, StopLeaves};
+ghost use Rattle.urb_group.specs.Stocked.{AllHold, IsKnown, IsSecured, IsStocked, RestLeaves};
+ghost use Rattle.urb_group.specs.Stocked.{StopLeaves};
 ghost use Rattle.urb_group.specs.World.{World};
 
-use crate::drafts::no_drafts;
+use crate::held_drafts::no_drafts;
 use crate::{Cluster, Group};
 use urb_names::{Config, Message, Refusal};
 use urb_stable::{Record, Stable};
 
-// Asks all stores for their lists, in order. The first fault ends it.
-fn retrieved<S: Stable>(
+// Asks all stores for their lists, in order. The first fault ends the call.
+fn retrieve_all<S: Stable>(
     alloc: S::Alloc,
     stores: &mut [S],
 ) -> Result<Vec<Vec<Record<Message<S::Alloc>>, S::Alloc>, S::Alloc>, Refusal>
@@ -30,7 +32,7 @@ fn retrieved<S: Stable>(
 }
 
 // Opens the group of the records that the stores give.
-fn group_of<S: Stable>(
+fn open_group<S: Stable>(
     alloc: S::Alloc,
     config: Config,
     stores: &mut [S],
@@ -38,19 +40,19 @@ fn group_of<S: Stable>(
     requires { length stores.old ≡ config.n }
     ensures { OpensFrom S.Stable config stores.old result stores.new }
 {
-    let images = retrieved(alloc, stores)?;
+    let images = retrieve_all(alloc, stores)?;
     Group::open(alloc, config, images)
 }
 
 impl<S: Stable> Cluster<S> {
     /// Opens a cluster over stores that hold what a cluster of these limits stored. The whole
     /// process may have stopped at any moment, also inside a store. This is the recovery of all
-    /// processes (sections 2.2 and 3.7 of the book). Each store is asked for its records, that of
-    /// node 1 first. The records are certain from then on, and the nodes come up with them. Drafts
-    /// that were held are lost.
+    /// processes (sections 2.2 and 3.7 of the textbook). Each store is asked for its records, that
+    /// of node 1 first. The records are certain from then on, and the nodes come up with them.
+    /// Drafts that were held are lost.
     ///
-    /// A refusal gives all stores back. `Device`, `BadRow`: a store failed, and the stores behind
-    /// it were not asked. `Inconsistent`: the stores' records don't fit together, as for
+    /// A refusal returns all stores. `Device`, `BadRow`: a store failed, and the stores after it
+    /// were not asked. `Inconsistent`: the stores' records don't fit together, as for
     /// `Group::open`. `NoMemory`: ask again.
     pub fn open(
         alloc: S::Alloc,
@@ -68,15 +70,15 @@ impl<S: Stable> Cluster<S> {
             → RestLeaves S.Stable w stores.items
             → StopLeaves S.Stable w stores.items (stores_in result) }
         ensures stocked { IfOk result (λ cluster. IsStocked S.Stable cluster) }
-        // A failure may have shut some stores. If they opened, none was shut.
+        // A failure may have shut some stores. If the cluster opened, no store was shut.
         ensures secured { All (IsKnown S.Stable) stores.items
             → IfOk result (λ cluster. IsSecured S.Stable cluster) }
     {
-        Cluster::opened(alloc, config, stores)
+        Cluster::open_stores(alloc, config, stores)
     }
 
     // Does the same; its contract speaks of the stores and the group only.
-    fn opened(
+    fn open_stores(
         alloc: S::Alloc,
         config: Config,
         stores: Vec<S, S::Alloc>,
@@ -88,9 +90,9 @@ impl<S: Stable> Cluster<S> {
         let Ok(drafts) = no_drafts(alloc, config.n()) else {
             return Err((stores, Refusal::NoMemory));
         };
-        match group_of(alloc, config, &mut stores) {
+        match open_group(alloc, config, &mut stores) {
             Ok(group) => {
-                group.promise();
+                group.recall();
                 Ok(Cluster {
                     group,
                     stores,
@@ -101,9 +103,9 @@ impl<S: Stable> Cluster<S> {
         }
     }
 
-    /// Stops all nodes at once, and opens the cluster again over its stores. What was stored comes
-    /// back. Held drafts and acknowledgements are lost. A refusal gives the stores back alone, as
-    /// for `Cluster::open`.
+    /// Stops all nodes at once, and opens the cluster again over its stores. What was stored is
+    /// kept. Held drafts and acknowledgements are lost. A refusal returns only the stores, as for
+    /// `Cluster::open`.
     pub fn reopen(self, alloc: S::Alloc) -> Result<Cluster<S>, (Vec<S, S::Alloc>, Refusal)>
         ensures opened { OpensStores S.Stable self.group.size self.stores result }
         ensures goes_on { (stocked : IsStocked S.Stable self)
@@ -115,7 +117,7 @@ impl<S: Stable> Cluster<S> {
             → IfOk result (λ cluster. IsSecured S.Stable cluster) }
     {
         let Cluster { group, stores, .. } = self;
-        group.promise();
+        group.recall();
         Cluster::open(alloc, group.config, stores)
     }
 
@@ -123,7 +125,7 @@ impl<S: Stable> Cluster<S> {
     /// memory.
     pub fn into_stores(self) -> Vec<S, S::Alloc>
         ensures value { result.items ≡ self.stores }
-        // One for each node.
+        // There is one store for each node.
         ensures counted { length result.items ≡ self.group.size.n }
     {
         self.stores

@@ -8,6 +8,7 @@ pub enum State {
     Down,
     /// The node takes submits, packets and ticks.
     Ready,
-    /// The node has handed out a draft of a record, and waits for its store's receipt or doubt.
+    /// The node has returned a draft of a record to its caller, and waits for its store's receipt
+    /// or doubt.
     Storing,
 }

@@ -16,7 +16,7 @@ use urb_names::{Message, NodeId, Refusal};
 use urb_stable::{Doubt, Draft, Failure, MemStable, Receipt, Record, Stable};
 
 // Says why a node in this state has nothing for its store.
-fn unstored_by(state: Option<State>) -> Option<Refusal>
+fn refusal_to_store_in(state: Option<State>) -> Option<Refusal>
     ensures { result ≡ unstored_in state }
 {
     match state {
@@ -28,7 +28,7 @@ fn unstored_by(state: Option<State>) -> Option<Refusal>
 }
 
 // Says why a node in this state can't be restarted.
-fn unfallen_by(state: Option<State>) -> Option<Refusal>
+fn refusal_to_restart_in(state: Option<State>) -> Option<Refusal>
     ensures { result ≡ unfallen_in state }
 {
     match state {
@@ -39,23 +39,29 @@ fn unfallen_by(state: Option<State>) -> Option<Refusal>
 }
 
 // Says why a node has nothing for its store. `None` if it holds a draft.
-pub(crate) fn unstored<A: Allocator + Copy>(group: &Group<A>, node: NodeId) -> Option<Refusal>
+pub(crate) fn refusal_to_store<A: Allocator + Copy>(
+    group: &Group<A>,
+    node: NodeId,
+) -> Option<Refusal>
     requires { IsSound group.now }
     ensures { IsUnstored group.now node result }
 {
-    unstored_by(group.state(node))
+    refusal_to_store_in(group.state(node))
 }
 
 // Says why a node can't be restarted. `None` if it is down.
-pub(crate) fn unfallen<A: Allocator + Copy>(group: &Group<A>, node: NodeId) -> Option<Refusal>
+pub(crate) fn refusal_to_restart<A: Allocator + Copy>(
+    group: &Group<A>,
+    node: NodeId,
+) -> Option<Refusal>
     requires { IsSound group.now }
     ensures { IsUnfallen group.now node result }
 {
-    unfallen_by(group.state(node))
+    refusal_to_restart_in(group.state(node))
 }
 
 // Commits the draft that the node holds, since the store took it.
-fn committed<A: Allocator + Copy>(group: &mut Group<A>, receipt: Receipt<A>) -> Reply<A>
+fn commit_draft<A: Allocator + Copy>(group: &mut Group<A>, receipt: Receipt<A>) -> Reply<A>
     requires sound { IsSound group.old }
     requires held { held_draft group.old receipt.node ≡ Some receipt }
     ensures event { Steps group.old (Commit receipt.node receipt.pos receipt.entry)
@@ -66,7 +72,7 @@ fn committed<A: Allocator + Copy>(group: &mut Group<A>, receipt: Receipt<A>) -> 
 }
 
 // Takes the node down: the store failed, and the node holds a draft.
-fn failed<A: Allocator + Copy>(group: &mut Group<A>, doubt: Doubt) -> Reply<A>
+fn fail_draft<A: Allocator + Copy>(group: &mut Group<A>, doubt: Doubt) -> Reply<A>
     requires sound { IsSound group.old }
     requires held { (draft : Placed)
         × (draft.node ≡ doubt.node)
@@ -80,7 +86,7 @@ fn failed<A: Allocator + Copy>(group: &mut Group<A>, doubt: Doubt) -> Reply<A>
 }
 
 // Asks a store to keep the draft that its node holds.
-pub(crate) fn stored<S: Stable>(
+pub(crate) fn store_draft<S: Stable>(
     group: &mut Group<S::Alloc>,
     draft: Draft<S::Alloc>,
     store: &mut S,
@@ -92,13 +98,13 @@ pub(crate) fn stored<S: Stable>(
     ensures free { held_draft group.new draft.node ≡ None }
 {
     match draft.keep(store) {
-        Ok(receipt) => committed(group, receipt),
-        Err(doubt) => failed(group, doubt),
+        Ok(receipt) => commit_draft(group, receipt),
+        Err(doubt) => fail_draft(group, doubt),
     }
 }
 
 // Brings a node back with these records.
-fn restarted<A: Allocator + Copy>(
+fn restart_with<A: Allocator + Copy>(
     group: &mut Group<A>,
     alloc: A,
     node: NodeId,
@@ -116,7 +122,7 @@ fn restarted<A: Allocator + Copy>(
 }
 
 // Brings a node back with the records that its store gives.
-pub(crate) fn read<S: Stable>(
+pub(crate) fn restart_from_store<S: Stable>(
     group: &mut Group<S::Alloc>,
     alloc: S::Alloc,
     node: NodeId,
@@ -128,14 +134,14 @@ pub(crate) fn read<S: Stable>(
     ensures free { held_draft group.new node ≡ None }
 {
     match store.retrieve(alloc) {
-        Ok(image) => restarted(group, alloc, node, image),
+        Ok(image) => restart_with(group, alloc, node, image),
         Err(fault) => Reply::Refused(fault.refusal()),
     }
 }
 
 // Takes a node down whose store failed on its draft. For a node that holds a draft, a crash is the
 // same.
-pub(crate) fn lost<A: Allocator + Copy>(group: &mut Group<A>, draft: Draft<A>) -> Reply<A>
+pub(crate) fn take_down<A: Allocator + Copy>(group: &mut Group<A>, draft: Draft<A>) -> Reply<A>
     requires sound { IsSound group.old }
     requires held { held_draft group.old draft.node ≡ Some draft }
     ensures event { Steps group.old (Fail draft.node) (λ told. told ≡ reply_of result) group.new }
@@ -147,7 +153,7 @@ pub(crate) fn lost<A: Allocator + Copy>(group: &mut Group<A>, draft: Draft<A>) -
 }
 
 // Asks a store in memory to keep a draft, and makes it fail in this way.
-pub(crate) fn broken<A: Allocator + Copy>(
+pub(crate) fn break_store<A: Allocator + Copy>(
     store: &mut MemStable<A>,
     draft: &Draft<A>,
     failure: Failure,

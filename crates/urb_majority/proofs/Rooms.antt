@@ -10,35 +10,47 @@ use Rattle.urb_majority.specs.Room.{HasRoom, IsKept}
 use Rattle.urb_majority.specs.declared.acks.Acks.TheInside.{Inside}
 
 -- if only the space for certificates grows
-pub kept_bigger : {A : Type 0} (a b : Inside A) → b.reserved ≡ a.reserved → b.counted ≡ a.counted → b.certified.names ≡ a.certified.names → (a.certified.room ≡ true → b.certified.room ≡ true)
+pub kept_bigger : {A : Type 0} (a b : Inside A) → b.reserved ≡ a.reserved → b.counted ≡ a.counted
+    → b.certified.names ≡ a.certified.names → (a.certified.room ≡ true → b.certified.room ≡ true)
     → IsKept a → IsKept b
 kept_bigger a b reserved counted certified certified_room kept = λ x e.
     let room : HasRoom a x = kept x (sym reserved ∙ e) in
     record {
-      counted = subst (λ s. has_name s.roomy x ≡ false → s.reserved ≡ Some x) (sym counted) room.counted;
-      certified = λ none. certified_room (room.certified (ap (λ xs. has_name xs x) (sym certified) ∙ none));
+      counted =
+          subst (λ s. has_name s.roomy x ≡ false → s.reserved ≡ Some x) (sym counted) room.counted;
+      certified =
+          λ none. certified_room (room.certified (ap (λ xs. has_name xs x) (sym certified) ∙ none));
     }
 
 -- if one more node is counted for a name
-pub kept_noted : {A : Type 0} (a b : Inside A) (x : Label) → has_name b.counted.roomy x ≡ true → b.reserved ≡ reserved_for a.reserved x → b.certified ≡ a.certified
+pub kept_noted : {A : Type 0} (a b : Inside A) (x : Label) → has_name b.counted.roomy x ≡ true
+    → b.reserved ≡ reserved_for a.reserved x → b.certified ≡ a.certified
     → IsKept a → IsKept b
 kept_noted a b x there reserved certified kept = λ y e.
     let parts = reserved_for-some a.reserved x y (sym reserved ∙ e) in
-    let room : HasRoom a x = kept x (subst (λ (z : Label). a.reserved ≡ Some z) (sym parts.1) parts.0) in
+    let room : HasRoom a x =
+    kept x (subst (λ (z : Label). a.reserved ≡ Some z) (sym parts.1) parts.0) in
     subst (HasRoom b) parts.1 (record {
       counted = λ none. absurd (false≢true (sym none ∙ there));
-      certified = subst (λ s. has_name s.names x ≡ false → s.room ≡ true) (sym certified) room.certified;
+      certified =
+          subst (λ s. has_name s.names x ≡ false → s.room ≡ true) (sym certified) room.certified;
     })
 
 -- if one more name is certified
-pub kept_certified : {A : Type 0} (a b : Inside A) (x : Label) → b.reserved ≡ reserved_for a.reserved x → b.certified.names ≡ placed name_lt a.certified.names x → b.counted ≡ a.counted
+pub kept_certified : {A : Type 0} (a b : Inside A) (x : Label)
+    → b.reserved ≡ reserved_for a.reserved x
+    → b.certified.names ≡ placed name_lt a.certified.names x → b.counted ≡ a.counted
     → IsKept a → IsKept b
 kept_certified a b x reserved certified counted kept = λ y e.
     let parts = reserved_for-some a.reserved x y (sym reserved ∙ e) in
-    let room : HasRoom a x = kept x (subst (λ (z : Label). a.reserved ≡ Some z) (sym parts.1) parts.0) in
+    let room : HasRoom a x =
+    kept x (subst (λ (z : Label). a.reserved ≡ Some z) (sym parts.1) parts.0) in
     let there : has_name b.certified.names x ≡ true =
-    ap (λ xs. has_name xs x) certified ∙ (any_insert (λ z. same_name z x) a.certified.names _ x ∙ or_left (same_name x x) (has_name a.certified.names x) (same_name-same x)) in
+    ap (λ xs. has_name xs x) certified
+    ∙ (any_insert (λ z. same_name z x) a.certified.names _ x
+    ∙ or_left (same_name x x) (has_name a.certified.names x) (same_name-same x)) in
     subst (HasRoom b) parts.1 (record {
-      counted = subst (λ s. has_name s.roomy x ≡ false → s.reserved ≡ Some x) (sym counted) room.counted;
+      counted =
+          subst (λ s. has_name s.roomy x ≡ false → s.reserved ≡ Some x) (sym counted) room.counted;
       certified = λ gone. absurd (false≢true (sym gone ∙ there));
     })

@@ -8,7 +8,13 @@ use Rattle.urb_majority.specs.declared.acks.Acks.TheInside.{Inside}
 
 -- what contracts see of the fields
 abbrev pub view_of : {A : Type 0} → Inside A → AckSet
-view_of a = record { limits = a.config; counted = a.counted.marks; certified = a.certified.names; reserved = a.reserved }
+view_of a = record {
+  limits = a.config;
+  counted = a.counted.marks;
+  certified =
+      a.certified.names;
+  reserved = a.reserved;
+}
 
 -- If the name has no mask yet, there is space for one. If it isn't certified yet, there is space
 -- for its certificate.

@@ -5,7 +5,8 @@ ghost use Rattle.urb_names.specs.Names.{has_name};
 ghost use Rattle.urb_names.specs.Acknowledged.{acked};
 ghost use Rattle.urb_names.specs.Ordered.{reserved_for};
 ghost use Rattle.urb_majority.specs.Acks.{IsAckSet};
-ghost use Rattle.urb_majority.specs.Counting.{answer_of, certifying, counting, has_majority, has_majority_with};
+ghost use Rattle.urb_majority.specs.Counting.{answer_of, certifying, counting, has_majority};
+ghost use Rattle.urb_majority.specs.Counting.{has_majority_with};
 
 use std::alloc::{Allocator, Global};
 use std::marker::Model;
@@ -24,9 +25,9 @@ pub enum Noted {
     Reached,
 }
 
-/// What one node knows: which nodes hold each message, and which names a majority holds. The book
-/// calls them `ack` and `delivered`, in logged majority-ack uniform reliable broadcast (section
-/// 3.7).
+/// What one node knows: which nodes hold each message, and which names a majority holds. The
+/// textbook calls them `ack` and `delivered`, in logged majority-ack uniform reliable broadcast
+/// (section 3.7).
 #[derive(Drop)]
 #[derive_where(Debug)]
 pub struct Acks<A: Allocator = Global> {
@@ -49,7 +50,7 @@ impl<A: Allocator> Model for Acks<A> {
 }
 
 // The reservation left once this name has been added.
-fn reserved_for(reserved: Option<Name>, name: Name) -> Option<Name>
+fn reservation_after(reserved: Option<Name>, name: Name) -> Option<Name>
     ensures { result ≡ reserved_for reserved name }
 {
     match reserved {
@@ -72,12 +73,13 @@ impl<A: Allocator + Copy> Acks<A> {
         }
     }
 
-    /// States that all lists are in order. It does nothing; only proofs use it.
-    pub fn limits(&self)
+    /// Does nothing at run time; it brings the value's invariant into the proof: all lists are in
+    /// order.
+    pub fn recall(&self)
         ensures { IsAckSet self.now }
     {
-        self.counted.limits();
-        self.certified.limits();
+        self.counted.recall();
+        self.certified.recall();
     }
 
     /// Whether a node is counted for a name.
@@ -156,7 +158,7 @@ impl<A: Allocator + Copy> Acks<A> {
         }
         let answer = self.answer(name, node);
         self.counted.add(name, node)?;
-        self.reserved = reserved_for(self.reserved, name);
+        self.reserved = reservation_after(self.reserved, name);
         Ok(answer)
     }
 
@@ -188,7 +190,7 @@ impl<A: Allocator + Copy> Acks<A> {
             return Ok(());
         }
         self.certified.add(name)?;
-        self.reserved = reserved_for(self.reserved, name);
+        self.reserved = reservation_after(self.reserved, name);
         Ok(())
     }
 

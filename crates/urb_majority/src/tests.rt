@@ -163,13 +163,13 @@ fn asks_for_nothing<'a, A: Allocator>(
     note_all(acks, &[(3, 1, Noted::Counted), (1, 7, Noted::Counted)])?;
     certify_all(acks, &[3])?;
     acks.reserve(name(1)?).ok()?;
-    let asked = heap.asked();
+    let asked = heap.growths();
     certify_all(acks, &[1])?;
     for number in 1..8 {
         acks.note(name(1)?, NodeId::new(number)?).ok()?;
     }
     certify_all(acks, &[1])?;
-    Some(heap.asked() == asked)
+    Some(heap.growths() == asked)
 }
 
 #[test]
@@ -207,8 +207,8 @@ fn each_growth_may_be_refused(rt: HostRuntime) -> Result<(), Fail> {
         let mut acks = Acks::new(&heap, config);
         let told = counts_on(&mut acks);
         drop(acks);
-        assert_eq!(rt; told, Some(heap.met()));
-        if heap.met() {
+        assert_eq!(rt; told, Some(heap.has_failed()));
+        if heap.has_failed() {
             met = refused;
         }
     }

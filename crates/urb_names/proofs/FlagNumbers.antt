@@ -15,7 +15,9 @@ number_again (suc (suc (suc (suc more)))) h = absurd (omega (arith, h))
 pub said_again : (flags : Flags) → flags_said (flags_number flags) ≡ flags
 said_again flags = at flags.certified flags.heard
   where
-    at : (certified heard : Bool) → flags_said (flags_number (record { certified = certified; heard = heard })) ≡ record { certified = certified; heard = heard }
+    at : (certified heard : Bool)
+        → flags_said (flags_number (record { certified = certified; heard = heard })) ≡ record
+        { certified = certified; heard = heard }
     at true true = refl
     at true false = refl
     at false true = refl
@@ -25,7 +27,8 @@ said_again flags = at flags.certified flags.heard
 pub number_below : (flags : Flags) → flags_number flags < 4
 number_below flags = at flags.certified flags.heard
   where
-    at : (certified heard : Bool) → flags_number (record { certified = certified; heard = heard }) < 4
+    at : (certified heard : Bool)
+        → flags_number (record { certified = certified; heard = heard }) < 4
     at true true = omega arith
     at true false = omega arith
     at false true = omega arith

@@ -1,5 +1,6 @@
 -- Bytes that are read as a number and encoded again.
-use Rattle.std.proofs.Common.{◌≡◌, ◌∙◌, sym, ℕ, ◌+◌, ◌%◌, ◌/◌, ◌≤◌, ◌<◌, List, [], ◌∷◌, ◌++◌, length, drop, slice_index, ap, arith, length-drop}
+use Rattle.std.proofs.Common.{◌≡◌, ◌∙◌, sym, ℕ, ◌+◌, ◌%◌, ◌/◌, ◌≤◌, ◌<◌, List, [], ◌∷◌, ◌++◌}
+use Rattle.std.proofs.Common.{length, drop, slice_index, ap, arith, length-drop}
 use Rattle.std.proofs.lemmas.List.{drop-drop, get_or-drop}
 use Rattle.byteorder.specs.Endian.{big_number, big_bytes}
 
@@ -7,7 +8,8 @@ use Rattle.byteorder.specs.Endian.{big_number, big_bytes}
 abbrev pub AreBytes : List ℕ → Type 0
 AreBytes xs = (i : ℕ) → slice_index xs i < 256
 
-front_two : (xs : List ℕ) → 2 ≤ length xs → AreBytes xs → big_bytes 2 (big_number 2 xs) ++ drop 2 xs ≡ xs
+front_two : (xs : List ℕ) → 2 ≤ length xs → AreBytes xs
+    → big_bytes 2 (big_number 2 xs) ++ drop 2 xs ≡ xs
 front_two [] long fit = absurd (omega (arith, long))
 front_two (a ∷ []) long fit = absurd (omega (arith, long))
 front_two (a ∷ b ∷ rest) long fit =
@@ -16,7 +18,8 @@ front_two (a ∷ b ∷ rest) long fit =
     let low : x % 256 ≡ b = omega (arith, fit 0, fit 1) in
     λ i. high i ∷ low i ∷ rest
 
-front_four : (xs : List ℕ) → 4 ≤ length xs → AreBytes xs → big_bytes 4 (big_number 4 xs) ++ drop 4 xs ≡ xs
+front_four : (xs : List ℕ) → 4 ≤ length xs → AreBytes xs
+    → big_bytes 4 (big_number 4 xs) ++ drop 4 xs ≡ xs
 front_four [] long fit = absurd (omega (arith, long))
 front_four (a ∷ []) long fit = absurd (omega (arith, long))
 front_four (a ∷ b ∷ []) long fit = absurd (omega (arith, long))
@@ -34,13 +37,16 @@ pub left_are_bytes : (k : ℕ) (xs : List ℕ) → AreBytes xs → AreBytes (dro
 left_are_bytes k xs fit = λ i. rw (get_or-drop k xs i 0) (fit (k + i))
 
 -- two bytes at a place, and the rest after them
-pub two_at : (k : ℕ) (xs : List ℕ) → k + 2 ≤ length xs → AreBytes xs → drop k xs ≡ big_bytes 2 (big_number 2 (drop k xs)) ++ drop (k + 2) xs
+pub two_at : (k : ℕ) (xs : List ℕ) → k + 2 ≤ length xs → AreBytes xs
+    → drop k xs ≡ big_bytes 2 (big_number 2 (drop k xs)) ++ drop (k + 2) xs
 two_at k xs long fit =
     let again = front_two (drop k xs) (omega (arith, length-drop k xs)) (left_are_bytes k xs fit) in
     sym again ∙ ap (λ rest. big_bytes 2 (big_number 2 (drop k xs)) ++ rest) (drop-drop 2 k xs)
 
 -- four bytes at a place, and the rest after them
-pub four_at : (k : ℕ) (xs : List ℕ) → k + 4 ≤ length xs → AreBytes xs → drop k xs ≡ big_bytes 4 (big_number 4 (drop k xs)) ++ drop (k + 4) xs
+pub four_at : (k : ℕ) (xs : List ℕ) → k + 4 ≤ length xs → AreBytes xs
+    → drop k xs ≡ big_bytes 4 (big_number 4 (drop k xs)) ++ drop (k + 4) xs
 four_at k xs long fit =
-    let again = front_four (drop k xs) (omega (arith, length-drop k xs)) (left_are_bytes k xs fit) in
+    let again =
+    front_four (drop k xs) (omega (arith, length-drop k xs)) (left_are_bytes k xs fit) in
     sym again ∙ ap (λ rest. big_bytes 4 (big_number 4 (drop k xs)) ++ rest) (drop-drop 4 k xs)

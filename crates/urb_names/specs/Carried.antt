@@ -1,5 +1,6 @@
 -- A packet, as contracts see it.
-use Rattle.std.specs.Prelude.{Bool, IsTrue, List, None, Option, Some, false, filter, map, not, true, ℕ, ◌==◌, ◌≡◌}
+use Rattle.std.specs.Prelude.{Bool, IsTrue, List, None, Option, Some, false, filter, map, not, true}
+use Rattle.std.specs.Prelude.{ℕ, ◌==◌, ◌≡◌}
 use Rattle.std.specs.List.{AllByRecursion, list_any}
 use Rattle.urb_names.specs.Acknowledged.{acked}
 use Rattle.urb_names.specs.Names.{has_name}
@@ -28,9 +29,17 @@ others n p = filter (λ q. not (q == p)) (nodes n)
 
 -- the packets that carry a pair from p to these nodes, each with the flags for its target
 abbrev pub packets_to : ℕ → (ℕ → Flags) → List ℕ → Label × Content → List Carried
-packets_to p flags targets pair = map (λ q. record { source = p; target = q; name = pair.0; message = pair.1; flags = Some (flags q) }) targets
+packets_to p flags targets pair =
+    map (λ q. record {
+      source = p;
+      target = q;
+      name = pair.0;
+      message = pair.1;
+      flags =
+          Some (flags q);
+    }) targets
 
--- whether this is the node that was heard, if one was
+-- whether the first node, if there is one, is the second
 abbrev pub is_heard_of : Option ℕ → ℕ → Bool
 is_heard_of None q = false
 is_heard_of (Some node) q = q == node
@@ -39,7 +48,9 @@ is_heard_of (Some node) q = q == node
 -- argument says whether the pair's record also certifies it. The fourth is the node whose
 -- certificate p heard of, if any.
 abbrev pub to_others : ℕ → ℕ → Bool → Option ℕ → Label × Content → List Carried
-to_others n p certified heard pair = packets_to p (λ q. record { certified = certified; heard = is_heard_of heard q }) (others n p) pair
+to_others n p certified heard pair =
+    packets_to p (λ q. record { certified = certified; heard = is_heard_of heard q })
+    (others n p) pair
 
 -- whether some other node's certificate of the name has not been heard
 abbrev pub is_due : ℕ → ℕ → List (Label × ℕ) → Label → Bool
@@ -53,11 +64,13 @@ due_of n p heard pairs = filter (λ pair. is_due n p heard pair.0) pairs
 -- rising
 abbrev pub to_unheard : ℕ → ℕ → List Label → List (Label × ℕ) → Label × Content → List Carried
 to_unheard n p certified heard pair =
-    packets_to p (λ q. record { certified = has_name certified pair.0; heard = false }) (filter (λ q. not (acked heard pair.0 q)) (others n p)) pair
+    packets_to p (λ q. record { certified = has_name certified pair.0; heard = false })
+    (filter (λ q. not (acked heard pair.0 q)) (others n p)) pair
 
 -- The packet carries one of these pairs, and its source is p. If it says that p has stored a
 -- certificate, its name is one of the certified ones.
-pub record IsFrom (p : ℕ) (pairs : List (Label × Content)) (certified : List Label) (packet : Carried) : Type 0 where
+pub record IsFrom (p : ℕ) (pairs : List (Label × Content)) (certified : List Label)
+    (packet : Carried) : Type 0 where
   pub source : packet.source ≡ p
   pub pair : IsTrue (has_pair pairs packet.name packet.message)
   pub certificate : says_certified packet.flags ≡ true → has_name certified packet.name ≡ true

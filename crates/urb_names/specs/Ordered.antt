@@ -1,5 +1,6 @@
 -- Lists in rising order, and space reserved for one name.
-use Rattle.std.specs.Prelude.{Bool, true, ◌&&◌, if◌then◌else◌, List, [], ◌∷◌, insert, Option, Some, None}
+use Rattle.std.specs.Prelude.{Bool, true, ◌&&◌, if◌then◌else◌, List, [], ◌∷◌, insert, Option, Some}
+use Rattle.std.specs.Prelude.{None}
 use Rattle.std.specs.List.{list_all, prefix_len}
 use Rattle.urb_names.specs.Naming.{Label}
 use Rattle.urb_names.specs.Names.{same_name}

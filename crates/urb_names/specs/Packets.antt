@@ -1,9 +1,11 @@
 -- The packet grammar in two versions: the encoding of a packet, and the first fault of other bytes.
-use Rattle.std.specs.Prelude.{◌≡◌, ◌≢◌, ◌<◌, ◌≤◌, ◌^◌, ◌+◌, ◌/◌, ◌%◌, ◌==◌, ◌&&◌, ◌||◌, not, nat_lt, ℕ, Bool, true, List, [], ◌∷◌, ◌++◌, length, drop, slice_index, Option, Some, None, is_some, IfNone, IfSome, Result, Ok, Err, if◌then◌else◌}
+use Rattle.std.specs.Prelude.{◌≡◌, ◌≢◌, ◌<◌, ◌≤◌, ◌^◌, ◌+◌, ◌/◌, ◌%◌, ◌==◌, ◌&&◌, ◌||◌, not, nat_lt}
+use Rattle.std.specs.Prelude.{ℕ, Bool, true, List, [], ◌∷◌, ◌++◌, length, drop, slice_index, Option}
+use Rattle.std.specs.Prelude.{Some, None, is_some, IfNone, IfSome, Result, Ok, Err, if◌then◌else◌}
 use Rattle.byteorder.specs.Endian.{big_bytes, big_number}
 use Rattle.urb_names.specs.Naming.{IsLabel, IsContent}
 use Rattle.urb_names.specs.declared.flags.Flags.{Flags}
-use Rattle.urb_names.specs.declared.message.TheConstants.{MAX_PAYLOAD, MAX_PLAIN_PAYLOAD}
+use Rattle.urb_names.specs.declared.limits.TheConstants.{MAX_NODES, MAX_PAYLOAD, MAX_PLAIN_PAYLOAD}
 use Rattle.urb_names.specs.declared.refusal.PacketFault.{PacketFault}
 use Rattle.urb_names.specs.declared.refusal.PacketFault.TheVariants as fault
 use Rattle.urb_names.specs.Carried.{Carried}
@@ -13,11 +15,11 @@ use Rattle.urb_names.specs.Nodes.{is_node}
 abbrev pub FitsVersion : Option Flags → List ℕ → Type 0
 FitsVersion flags payload = IfNone flags (length payload ≤ MAX_PLAIN_PAYLOAD)
 
--- A packet joins two different nodes, each from 1 to 7. Its name and message are within their
--- limits, and its payload is within the limit of its version.
+-- A packet joins two different nodes, each from 1 to MAX_NODES. Its name and message are within
+-- their limits, and its payload is within the limit of its version.
 pub record IsPacket (p : Carried) : Type 0 where
-  pub source : (0 < p.source) × (p.source ≤ 7)
-  pub target : (0 < p.target) × (p.target ≤ 7)
+  pub source : (0 < p.source) × (p.source ≤ MAX_NODES)
+  pub target : (0 < p.target) × (p.target ≤ MAX_NODES)
   pub apart : p.source ≢ p.target
   pub name : IsLabel p.name
   pub message : IsContent p.message
@@ -68,7 +70,8 @@ flags_spelled (Some flags) = flags ∷ []
 abbrev pub spelled : Fields → List ℕ
 spelled f =
     (big_bytes 2 f.magic ++ f.version ∷ f.source ∷ f.target ∷ flags_spelled f.flags)
-    ++ (f.sender ∷ big_bytes 4 f.seq ++ big_bytes 2 f.client ++ big_bytes 4 f.number ++ big_bytes 2 f.size)
+    ++ (f.sender ∷ big_bytes 4 f.seq ++ big_bytes 2 f.client ++ big_bytes 4 f.number
+    ++ big_bytes 2 f.size)
     ++ f.payload
 
 -- the version of a packet: two if it has flags, otherwise one
@@ -130,14 +133,16 @@ abbrev pub are_flags : Option ℕ → Bool
 are_flags None = true
 are_flags (Some byte) = nat_lt byte 4
 
--- whether the nodes are from 1 to 7, source and target differ, no number is 0, and the flags are at
--- most three
+-- whether the nodes are from 1 to MAX_NODES, source and target differ, no number is 0, and the
+-- flags are at most three
 abbrev pub is_in_range : Fields → Bool
 is_in_range f =
-    ((is_node 7 f.source && is_node 7 f.target) && (is_node 7 f.sender && not (f.source == f.target)))
+    ((is_node MAX_NODES f.source && is_node MAX_NODES f.target)
+    && (is_node MAX_NODES f.sender && not (f.source == f.target)))
     && ((nat_lt 0 f.seq && nat_lt 0 f.client) && (nat_lt 0 f.number && are_flags f.flags))
 
--- the greatest length of a payload: 16,384 with a byte of flags (version two), 1,024 without
+-- the greatest length of a payload: MAX_PAYLOAD with a byte of flags (version two),
+-- MAX_PLAIN_PAYLOAD without
 -- (version one)
 abbrev pub longest_payload : Option ℕ → ℕ
 longest_payload None = MAX_PLAIN_PAYLOAD
@@ -149,7 +154,8 @@ unfoldable pub judged : Fields → Result Carried PacketFault
 judged f =
     if not (f.magic == 0x5542) then Err fault.Magic
     else if not ((f.version == 1) || (f.version == 2)) then Err fault.Version
-    else if nat_lt (longest_payload f.flags) f.size || not (f.size == length f.payload) then Err fault.Length
+    else if nat_lt (longest_payload f.flags) f.size
+    || not (f.size == length f.payload) then Err fault.Length
     else if is_in_range f then Ok (carried_of f)
     else Err fault.Range
 
@@ -192,4 +198,6 @@ fields_at bytes =
 
 -- the packet that bytes encode, or their first fault
 abbrev pub packet_of : List ℕ → Result Carried PacketFault
-packet_of bytes = if nat_lt (length bytes) (header_length bytes) then Err fault.Short else judged (fields_at bytes)
+packet_of bytes =
+    if nat_lt (length bytes) (header_length bytes) then Err fault.Short else judged
+    (fields_at bytes)

@@ -1,5 +1,6 @@
 -- Pairs of a name and its message, as a pending set holds them.
-use Rattle.std.specs.Prelude.{ℕ, suc, Bool, ◌&&◌, ◌==◌, if◌then◌else◌, List, [], ◌∷◌, count_by, Option, Some, None}
+use Rattle.std.specs.Prelude.{ℕ, suc, Bool, ◌&&◌, ◌==◌, if◌then◌else◌, List, [], ◌∷◌, count_by}
+use Rattle.std.specs.Prelude.{Option, Some, None}
 use Rattle.std.specs.List.{list_any}
 use Rattle.urb_names.specs.Naming.{Label, Content}
 use Rattle.urb_names.specs.Names.{same_name, same_message}
@@ -16,7 +17,8 @@ message_of (pair ∷ pairs) x = if same_name pair.0 x then Some pair.1 else mess
 -- the messages of this sender's pairs, in order
 abbrev pub own : ℕ → List (Label × Content) → List Content
 own sender [] = []
-own sender (pair ∷ pairs) = if pair.0.sender == sender then pair.1 ∷ own sender pairs else own sender pairs
+own sender (pair ∷ pairs) =
+    if pair.0.sender == sender then pair.1 ∷ own sender pairs else own sender pairs
 
 -- whether the message has this client and number
 abbrev pub is_numbered : ℕ → ℕ → Content → Bool

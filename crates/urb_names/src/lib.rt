@@ -6,7 +6,7 @@
 //!
 //! ```text
 //! let config = Config::new(3, 1000)?;                    // three nodes, each with up to a thousand messages
-//! let message = Message::copied(alloc, client, 1, b"hi")?;
+//! let message = Message::copy_of(alloc, client, 1, b"hi")?;
 //! let flags = Flags { certified: true, heard: false };  // without flags: version one, at most 1,024 bytes of payload
 //! let packet = Packet::new(source, target, name, message, Some(flags));
 //! let bytes = encode(alloc, &packet)?;                   // its only encoding
@@ -20,21 +20,25 @@
 mod client;
 mod config;
 mod flags;
+mod limits;
 mod message;
 mod name;
 mod node;
 mod packet;
+mod packet_view;
+mod payload;
 mod refusal;
 mod spelling;
-mod view;
 
 pub use client::ClientId;
 pub use config::{Config, is_majority};
 pub use flags::Flags;
-pub use message::{MAX_PAYLOAD, MAX_PLAIN_PAYLOAD, Message};
+pub use limits::{MAX_CAP, MAX_NODES, MAX_PAYLOAD, MAX_PLAIN_PAYLOAD, MAX_SENDERS, NAMES_PER_TICK};
+pub use message::Message;
 pub use name::Name;
 pub use node::NodeId;
 pub use packet::Packet;
+pub use packet_view::PacketView;
+pub use payload::Payload;
 pub use refusal::{NoMemory, PacketFault, Refusal, Rule};
-pub use spelling::{decode, encode, parse};
-pub use view::PacketView;
+pub use spelling::{MAX_PACKET, decode, encode, encode_into, parse};

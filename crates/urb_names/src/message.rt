@@ -1,19 +1,12 @@
 //! Client messages.
-ghost use Rattle.std.specs.Prelude.{◌≡◌, ◌≤◌, ◌<◌, IfOk, IfErr, length, vec_len};
+ghost use Rattle.std.specs.Prelude.{◌≡◌, ◌≤◌, ◌<◌, IfOk, length, vec_len};
 ghost use Rattle.std.specs.Bool.{MatchBool};
 ghost use Rattle.urb_names.specs.Naming.{IsContent};
 
-use crate::{ClientId, NoMemory};
+use crate::{ClientId, MAX_PAYLOAD, NoMemory, Payload};
 use std::alloc::{Allocator, Global};
 use std::marker::Model;
 use std::sync::Arc;
-
-/// The greatest length of a payload, in bytes.
-pub const MAX_PAYLOAD: usize = 16384;
-
-/// The greatest length of a payload in a packet of version one (which has no flags field), in
-/// bytes.
-pub const MAX_PLAIN_PAYLOAD: usize = 1024;
 
 /// What a client submits: the client; the client's number for it (1 to 4,294,967,295); and the
 /// payload (at most `MAX_PAYLOAD` bytes).
@@ -29,7 +22,7 @@ impl<A: Allocator> Model for Message<A> {
     ghost use Rattle.std.specs.Prelude.{◌<◌, ◌≤◌, vec_len};
     ghost use Rattle.std.specs.Arc.{arc_value};
     ghost use Rattle.urb_names.specs.Naming.{Content};
-    ghost use Rattle.urb_names.specs.declared.message.TheConstants.{MAX_PAYLOAD};
+    ghost use Rattle.urb_names.specs.declared.limits.TheConstants.{MAX_PAYLOAD};
 
     ghost Value = { Content };
 
@@ -63,27 +56,6 @@ impl<A: Allocator> Message<A> {
         (*self.payload).as_slice()
     }
 
-    /// The payload, moved out without copying or allocating, if no other message shares it.
-    /// Otherwise returns the message unchanged.
-    pub fn into_payload(self) -> Result<Vec<u8, A>, Message<A>>
-        ensures ok { IfOk result (λ bytes. bytes.items ≡ self.payload) }
-        ensures shared { IfErr result (λ m. m ≡ self) }
-    {
-        let Message {
-            client,
-            number,
-            payload,
-        } = self;
-        match Arc::try_unwrap(payload) {
-            Ok(bytes) => Ok(bytes),
-            Err(payload) => Err(Message {
-                client,
-                number,
-                payload,
-            }),
-        }
-    }
-
     /// Whether the two messages are the same: same client, same number, same payload.
     pub fn is_same(&self, other: &Message<A>) -> bool
         ensures { MatchBool result (self.now ≡ other.now) (¬ (self.now ≡ other.now)) }
@@ -93,9 +65,9 @@ impl<A: Allocator> Message<A> {
             && (*self.payload).as_slice() == (*other.payload).as_slice()
     }
 
-    /// Its clause states that every message is within its limits. Call it in code whose proof needs
-    /// this; it does nothing.
-    pub fn limits(&self)
+    /// Does nothing at run time; it brings the value's invariant into the proof: the message is
+    /// within its limits.
+    pub fn recall(&self)
         ensures { IsContent self.now }
     {
         let _client = self.client.number();
@@ -128,7 +100,7 @@ impl<A: Allocator + Copy> Message<A> {
     }
 
     /// A message with a copy of the payload, allocated from `alloc`.
-    pub fn copied(
+    pub fn copy_of(
         alloc: A,
         client: ClientId,
         number: u32,
@@ -142,6 +114,27 @@ impl<A: Allocator + Copy> Message<A> {
         Message::new(alloc, client, number, Vec::from_slice(alloc, payload)?)
     }
 
+    /// The message made of these parts, which shares the payload's memory. It copies the payload
+    /// only if the reference count has no room for one more owner.
+    pub fn sharing(
+        alloc: A,
+        client: ClientId,
+        number: u32,
+        payload: &Payload<A>,
+    ) -> Result<Message<A>, NoMemory>
+        requires number { 0 < number }
+        requires payload { length payload.now ≤ MAX_PAYLOAD }
+        ensures { IfOk result
+            (λ m. m ≡ record { client = client; number = number; payload = payload.now }) }
+    {
+        let Payload { bytes } = payload.share(alloc)?;
+        Ok(Message {
+            client,
+            number,
+            payload: bytes,
+        })
+    }
+
     /// Another message with the same content, which shares the payload's memory. It copies the
     /// payload only if the reference count has no room for one more owner.
     pub fn share(&self, alloc: A) -> Result<Message<A>, NoMemory>
@@ -153,7 +146,7 @@ impl<A: Allocator + Copy> Message<A> {
                 number: self.number,
                 payload,
             }),
-            Err(_) => Message::copied(alloc, self.client, self.number, (*self.payload).as_slice()),
+            Err(_) => Message::copy_of(alloc, self.client, self.number, (*self.payload).as_slice()),
         }
     }
 }

@@ -6,8 +6,9 @@ ghost use Rattle.urb_names.specs.Names.{name_lt};
 use crate::NodeId;
 use std::marker::Model;
 
-/// A message's name: the node that broadcasts it, and its number among that sender's messages, from
-/// 1. No two messages of a group have the same name. Names are ordered by sender, then by number.
+/// A message's name: the node that broadcasts it, and its number among that sender's messages, which
+/// are numbered 1, 2, 3, .. No two messages of a group have the same name. Names are ordered by
+/// sender, then by number.
 #[derive(Clone, Copy, Debug, PartialEq, Eq, PartialOrd, Ord)]
 pub struct Name {
     /// The node that broadcasts it.
@@ -38,11 +39,12 @@ impl Name {
         self < other
     }
 
-    /// States that every name is within its limits. It does nothing; only proofs use it.
-    pub fn limits(self)
+    /// Does nothing at run time; it brings the value's invariant into the proof: the name is within
+    /// its limits.
+    pub fn recall(self)
         ensures { IsLabel self }
     {
-        let _sender = self.sender.number();
+        self.sender.recall();
         let _seq = self.seq;
     }
 }

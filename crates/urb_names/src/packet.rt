@@ -102,21 +102,14 @@ impl<A: Allocator> Packet<A> {
         self.flags
     }
 
-    /// Its message, without a copy.
-    pub fn into_message(self) -> Message<A>
-        ensures { result ≡ self.message }
-    {
-        let Packet { message, .. } = self;
-        message
-    }
-
-    /// States that every packet meets the grammar. It does nothing; only proofs use it.
-    pub fn limits(&self)
+    /// Does nothing at run time; it brings the value's invariant into the proof: the packet meets
+    /// the grammar.
+    pub fn recall(&self)
         ensures { IsPacket self.now }
     {
-        let _source = self.source.number();
-        let _target = self.target.number();
-        self.name.limits();
-        self.message.limits();
+        self.source.recall();
+        self.target.recall();
+        self.name.recall();
+        self.message.recall();
     }
 }

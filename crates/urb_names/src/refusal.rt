@@ -40,8 +40,8 @@ pub enum PacketFault {
     /// the header.
     #[error("the packet has another length")]
     Length,
-    /// A node is not 1 to 7, a number is 0, source and target are the same, or the flags are over
-    /// 3.
+    /// A node is not 1 to `MAX_NODES`, a number is 0, source and target are the same, or the flags
+    /// are over 3.
     #[error("a field of the packet is out of range")]
     Range,
 }
@@ -54,7 +54,7 @@ pub enum Rule {
     A,
     /// A node's own messages are numbered 1, 2, 3, .., and so are each client's among them.
     B,
-    /// What a node holds of another node is pending at that node.
+    /// A pair that a node holds from another sender is pending at that sender.
     C,
     /// What is certified is pending at a majority of the nodes.
     D,
@@ -158,8 +158,8 @@ impl Refusal {
         }
     }
 
-    /// The detail that goes with the number: the number that a client has to use next, the next
-    /// position, the place of a row, or the code of a frame's fault. Otherwise 0.
+    /// The detail that goes with the number. It is the client's next number, the next position, the
+    /// place of a row, or the code of a frame's fault. Otherwise it is 0.
     pub fn detail(&self) -> u32
         ensures { result ≡ detail_of self.now }
     {

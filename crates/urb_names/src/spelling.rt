@@ -1,8 +1,12 @@
 //! Packets as bytes: decoding and encoding.
-ghost use Rattle.std.specs.Prelude.{◌≡◌, ◌≤◌, ◌⊎◌, length, Ok, Err, Some, None, IfNone, IfOk, IfErr, MatchResult, if◌then◌else◌, [], ◌∷◌, ◌++◌};
+ghost use Rattle.std.specs.Prelude.{◌≡◌, ◌≤◌, ◌⊎◌, length, Ok, Err, Some, None, IfNone, IfOk};
+ghost use Rattle.std.specs.Prelude.{IfErr, OnOk, MatchResult, if◌then◌else◌, [], ◌∷◌, ◌++◌};
 ghost use Rattle.byteorder.specs.Endian.{big_bytes};
 ghost use Rattle.urb_names.specs.Carried.{Carried};
-ghost use Rattle.urb_names.specs.Packets.{IsPacket, IsFirstFault, are_flags, begins_with_flags, carried_of, fields_at, fields_with, flags_of, header_length, is_in_range, judged, longest_payload, packet_of, spelling, version_of};
+ghost use Rattle.urb_names.specs.Packets.{IsPacket, IsFirstFault, are_flags, begins_with_flags};
+ghost use Rattle.urb_names.specs.Packets.{carried_of, fields_at, fields_with, flags_of};
+ghost use Rattle.urb_names.specs.Packets.{header_length, is_in_range, judged, longest_payload};
+ghost use Rattle.urb_names.specs.Packets.{packet_of, spelling, version_of};
 
 use crate::{
     ClientId, Flags, MAX_PAYLOAD, MAX_PLAIN_PAYLOAD, Name, NoMemory, NodeId, Packet, PacketFault,
@@ -24,6 +28,15 @@ const WITH_FLAGS: u8 = 2;
 const FRONT: usize = 5;
 
 const BACK: usize = 13;
+
+/// The greatest length of a packet, in bytes: a header with flags, and a payload.
+pub const MAX_PACKET: usize = FRONT + 1 + BACK + MAX_PAYLOAD;
+
+// A datagram of UDP over IPv4 has at most 65,507 bytes, and a packet says the length of its payload
+// in two.
+const _: () = prove!(MAX_PACKET <= 65_507);
+
+const _: () = prove!(MAX_PLAIN_PAYLOAD <= MAX_PAYLOAD);
 
 // The values in the fields of bytes that may be a packet.
 #[derive(Drop)]
@@ -124,7 +137,7 @@ fn flags_in(byte: Option<u8>) -> Option<Option<Flags>>
 }
 
 // The packet that the fields describe, if each field is in range.
-fn in_range<'a>(fields: &Fields<'a>) -> Option<PacketView<'a>>
+fn packet_in_range<'a>(fields: &Fields<'a>) -> Option<PacketView<'a>>
     requires payload { length fields.now.payload ≤ MAX_PAYLOAD }
     requires version { IfNone fields.now.flags (length fields.now.payload ≤ MAX_PLAIN_PAYLOAD) }
     ensures { result ≡ (if is_in_range fields.now then Some (carried_of fields.now) else None) }
@@ -164,7 +177,7 @@ fn longest_payload(flags: Option<u8>) -> usize
 
 #[tactic(auto, unfolding(crate::specs::Packets::judged))]
 // The packet that the fields describe, or their first fault.
-fn judged<'a>(fields: &Fields<'a>) -> Result<PacketView<'a>, PacketFault>
+fn judge_fields<'a>(fields: &Fields<'a>) -> Result<PacketView<'a>, PacketFault>
     ensures { result ≡ judged fields.now }
 {
     if fields.magic != MAGIC {
@@ -177,7 +190,7 @@ fn judged<'a>(fields: &Fields<'a>) -> Result<PacketView<'a>, PacketFault>
     if size > longest_payload(fields.flags) || size != fields.payload.len() {
         return Err(PacketFault::Length);
     }
-    in_range(fields).ok_or(PacketFault::Range)
+    packet_in_range(fields).ok_or(PacketFault::Range)
 }
 
 /// The packet that a datagram's bytes encode. Allocates no memory. An error is the first fault in
@@ -194,7 +207,7 @@ pub fn parse(bytes: &[u8]) -> Result<PacketView<'_>, PacketFault>
     if bytes.len() < header_length(bytes) {
         return Err(PacketFault::Short);
     }
-    judged(&fields_at(bytes))
+    judge_fields(&fields_at(bytes))
 }
 
 /// The packet that bytes encode, in memory of its own. If the bytes are not a packet, the error is
@@ -249,13 +262,28 @@ fn back(name: Name, client: u16, number: u32, size: u16) -> [u8; BACK]
     bytes
 }
 
-/// The only encoding of a packet, for a datagram: at most 16,403 bytes.
+/// The only encoding of a packet, for a datagram: at most `MAX_PACKET` bytes.
 pub fn encode<A: Allocator>(alloc: A, packet: &Packet<A>) -> Result<Vec<u8, A>, NoMemory>
     ensures { IfOk result (λ v. v.items ≡ spelling packet.now) }
 {
+    let mut bytes = Vec::new(alloc);
+    encode_into(packet, &mut bytes)?;
+    Ok(bytes)
+}
+
+/// Puts the same encoding into `bytes`, and replaces what is there. It allocates only if `bytes`
+/// has too little room, so a caller that sends many packets keeps one buffer for all. After
+/// `NoMemory` the content of `bytes` is unspecified.
+pub fn encode_into<A: Allocator, B: Allocator>(
+    packet: &Packet<A>,
+    bytes: &mut Vec<u8, B>,
+) -> Result<(), NoMemory>
+    ensures { OnOk result (bytes.new.items ≡ spelling packet.now) }
+{
     let message = packet.message();
     let payload = message.payload();
-    let mut bytes = Vec::with_capacity(alloc, FRONT + 1 + BACK + payload.len())?;
+    bytes.clear();
+    bytes.reserve(FRONT + 1 + BACK + payload.len())?;
     bytes.extend_from_slice(&front(packet))?;
     if let Some(flags) = packet.flags() {
         bytes.push(flags.number())?;
@@ -268,5 +296,5 @@ pub fn encode<A: Allocator>(alloc: A, packet: &Packet<A>) -> Result<Vec<u8, A>, 
         payload.len() as u16,
     ))?;
     bytes.extend_from_slice(payload)?;
-    Ok(bytes)
+    Ok(())
 }

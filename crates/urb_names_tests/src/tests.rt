@@ -49,7 +49,7 @@ fn first(
 {
     let (source, target) = (node(source)?, node(target)?);
     let (name, client) = (name(1, 1)?, ClientId::new(7)?);
-    match Message::copied(alloc, client, 1, payload) {
+    match Message::copy_of(alloc, client, 1, payload) {
         Ok(message) => Some(Packet::new(source, target, name, message, flags)),
         Err(NoMemory) => None,
     }
@@ -139,9 +139,8 @@ fn shows_parts(view: &PacketView) -> bool {
 
 // Whether a packet made of the same parts has the payload.
 fn has_payload(alloc: Global) -> Option<bool> {
-    let message = first(alloc, 1, 2, b"a", None)?.into_message();
-    let payload = message.into_payload().ok()?;
-    Some(payload.as_slice() == b"a".as_slice())
+    let packet = first(alloc, 1, 2, b"a", None)?;
+    Some(packet.message().payload() == b"a".as_slice())
 }
 
 #[test]

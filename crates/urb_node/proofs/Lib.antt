@@ -21,3 +21,4 @@ pub mod Verdicts
 pub mod RestartLeads
 pub mod Falling
 pub mod AnswersEnd
+pub mod SubmitCases

@@ -1,5 +1,6 @@
 -- A node opened from its image.
-use Rattle.std.proofs.Common.{List, None, [], ap, false, length, refl, subst, true, ℕ, ◌++◌, ◌∷◌, ◌≡◌}
+use Rattle.std.proofs.Common.{List, None, [], ap, false, length, refl, subst, true, ℕ, ◌++◌, ◌∷◌}
+use Rattle.std.proofs.Common.{◌≡◌}
 use Rattle.urb_names.specs.Acknowledged.{acked}
 use Rattle.urb_names.specs.Cyclic.{are_rising}
 use Rattle.urb_names.specs.Names.{has_name}
@@ -16,26 +17,62 @@ use Rattle.urb_stable.specs.Log.{log}
 use Rattle.urb_stable.specs.Records.{cert, pend}
 
 -- to show the node opened from an image, a memory only has to say what it holds of the image
-pub shows-opened_node : (size : Limits) (p : ℕ) (view : NodeView) (records : List Entry) → KeepsOwn size p [] records
-    → ((x : Label) (m : Content) → has_pair view.pairs x m ≡ has_pair (pend records) x m) → ((x : Label) → has_name view.certified x ≡ has_name (cert records) x)
+pub shows-opened_node : (size : Limits) (p : ℕ) (view : NodeView) (records : List Entry)
+    → KeepsOwn size p [] records
+    → ((x : Label) (m : Content) → has_pair view.pairs x m ≡ has_pair (pend records) x m)
+    → ((x : Label) → has_name view.certified x ≡ has_name (cert records) x)
     → view.log ≡ log records → view.count ≡ length records → view.state ≡ Ready → view.cursor ≡ None
-    → ((x : Label) (q : ℕ) → has_name (cert records) x ≡ false → acked view.acks x q ≡ acked (own_acks p records) x q)
+    → ((x : Label) (q : ℕ) → has_name (cert records) x ≡ false
+    → acked view.acks x q ≡ acked (own_acks p records) x q)
     → view.heard ≡ [] → ShowsNode size p view (opened_node p records)
-shows-opened_node size p view records k pairs certified l n s c a h = record { pairs = pairs; certified = certified; log = l; count = n; state = s; cursor = c; acks = a; heard = λ x q. ap (λ heard. acked heard x q) h; rules = k; broadcast = refl }
+shows-opened_node size p view records k pairs certified l n s c a h =
+    record {
+      pairs = pairs;
+      certified = certified;
+      log = l;
+      count = n;
+      state = s;
+      cursor = c;
+      acks =
+          a;
+      heard = λ x q. ap (λ heard. acked heard x q) h;
+      rules = k;
+      broadcast = refl;
+    }
 
 -- an empty memory shows a node that has read nothing
 pub nothing-shows : (size : Limits) (p : ℕ) → ShowsNode size p no_view (opened_node p [])
-nothing-shows size p = record { pairs = λ x m. refl; certified = λ x. refl; log = refl; count = refl; state = refl; cursor = refl; acks = λ x q c. refl; heard = λ x q. refl; rules = tt; broadcast = refl }
+nothing-shows size p = record {
+  pairs = λ x m. refl;
+  certified = λ x. refl;
+  log = refl;
+  count = refl;
+  state = refl;
+  cursor =
+      refl;
+  acks = λ x q c. refl;
+  heard = λ x q. refl;
+  rules = tt;
+  broadcast = refl;
+}
 
 -- one more record of the image is read
-pub opened-more : (size : Limits) (p : ℕ) (view new : NodeView) (before : List Entry) (r : Entry) (behind : List Entry) → KeepsOwn size p [] (before ++ r ∷ behind)
-    → ShowsNode size p view (opened_node p before) → are_rising view.pairs ≡ true → SaysMore view new r → new.state ≡ Ready → new.cursor ≡ None
-    → ((x : Label) (q : ℕ) → has_name new.certified x ≡ false → acked new.acks x q ≡ acked (self_acks p new.pairs) x q)
-    → new.heard ≡ [] → IsNext size p view.pairs view.certified r × ShowsNode size p new (opened_node p (before ++ r ∷ []))
+pub opened-more : (size : Limits) (p : ℕ) (view new : NodeView) (before : List Entry) (r : Entry)
+    (behind : List Entry) → KeepsOwn size p [] (before ++ r ∷ behind)
+    → ShowsNode size p view (opened_node p before) → are_rising view.pairs ≡ true
+    → SaysMore view new r → new.state ≡ Ready → new.cursor ≡ None
+    → ((x : Label) (q : ℕ) → has_name new.certified x ≡ false
+    → acked new.acks x q ≡ acked (self_acks p new.pairs) x q)
+    → new.heard ≡ [] → IsNext size p view.pairs view.certified r
+    × ShowsNode size p new (opened_node p (before ++ r ∷ []))
 opened-more size p view new before r behind k s rise more state cursor acks nothing =
     let parts = own-parts size p [] before r behind k in
-    let next : IsNext size p view.pairs view.certified r = keeps-next size p view (opened_node p before) r s rise parts.0.1 parts.1 in (
+    let next : IsNext size p view.pairs view.certified r =
+    keeps-next size p view (opened_node p before) r s rise parts.0.1 parts.1 in (
       next,
-      subst (λ (messages : List Content). ShowsNode size p new (record (opened_node p (before ++ r ∷ [])) { broadcast = messages })) (own-after p before r (own p (pend before)) refl)
-          (up-joined-shows size p view new (opened_node p before) r s rise next more state cursor acks nothing),
+      subst (λ (messages : List Content).
+          ShowsNode size p new (record (opened_node p (before ++ r ∷ [])) { broadcast = messages }))
+          (own-after p before r (own p (pend before)) refl)
+          (up-joined-shows size p view new
+          (opened_node p before) r s rise next more state cursor acks nothing),
     )

@@ -1,5 +1,7 @@
 -- What a memory holds once its record is stored is the definition's for every node that it shows.
-use Rattle.std.proofs.Common.{◌≡◌, ℕ, suc, ◌-◌, Bool, true, false, not, ◌&&◌, ◌||◌, ◌==◌, List, ◌∷◌, ◌++◌, length, filter, Option, Some, None, refl, sym, ap, ap₂, ◌∙◌, subst, eq-eqb}
+use Rattle.std.proofs.Common.{◌≡◌, ℕ, suc, ◌-◌, Bool, true, false, not, ◌&&◌, ◌||◌, ◌==◌, List, ◌∷◌}
+use Rattle.std.proofs.Common.{◌++◌, length, filter, Option, Some, None, refl, sym, ap, ap₂, ◌∙◌}
+use Rattle.std.proofs.Common.{subst, eq-eqb}
 use Rattle.std.specs.Prelude.{if◌then◌else◌}
 use Rattle.std.proofs.lemmas.Bool.{and_from, cond-true}
 use Rattle.urb_names.specs.Naming.{Label, Limits}
@@ -20,12 +22,15 @@ use Rattle.urb_node.specs.Part.{Node, State, Ready, Storing}
 use Rattle.urb_node.specs.Next.{IsNext}
 use Rattle.urb_node.specs.Replies.{Done, Reply, Stored}
 use Rattle.urb_node.specs.Shown.{NodeView, ShowsNode}
-use Rattle.urb_node.specs.Steps.{acks_after, commits, done, heard_after, heard_of, is_accepted, keeps_record, packets_of, same_record, with_heard}
+use Rattle.urb_node.specs.Steps.{acks_after, commits, done, heard_after, heard_of, is_accepted}
+use Rattle.urb_node.specs.Steps.{keeps_record, packets_of, same_record, with_heard}
 use Rattle.urb_node.specs.Values.{Memory, Holding, ShowsReady, ShowsStoring, view_in, ready_view}
-use Rattle.urb_node.specs.Layers.{counted_with, certified_with, delivered_with, heard_with, with_record}
+use Rattle.urb_node.specs.Layers.{counted_with, certified_with, delivered_with, heard_with}
+use Rattle.urb_node.specs.Layers.{with_record}
 use Rattle.urb_node.proofs.Calls.{same_record-same}
 use Rattle.urb_node.proofs.ShownNodes.{with-same}
-use Rattle.urb_node.proofs.JoinedMemory.{SaysMore, confirm-shows, done-shown, log-stays, log-released}
+use Rattle.urb_node.proofs.JoinedMemory.{SaysMore, confirm-shows, done-shown, log-stays}
+use Rattle.urb_node.proofs.JoinedMemory.{log-released}
 use Rattle.urb_node.proofs.ArriveOutcomes.{counted-with}
 use Rattle.urb_node.specs.declared.cause.Cause.{Cause}
 
@@ -53,66 +58,90 @@ none_more false = refl
 
 -- ---- certificates
 
-named-with : (certified : List Label) (x y : Label) → has_name certified x ≡ false → has_name (certified_with certified x) y ≡ (has_name certified y || (same_name x y || false))
+named-with : (certified : List Label) (x y : Label) → has_name certified x ≡ false
+    → has_name (certified_with certified x) y ≡ (has_name certified y || (same_name x y || false))
 named-with certified x y new =
     ap (λ (c : Bool). has_name (if c then certified else placed name_lt certified x) y) new
-    ∙ (any_insert (λ z. same_name z y) certified _ x ∙ behind (same_name x y) (has_name certified y))
+    ∙ (any_insert (λ z. same_name z y) certified _ x
+    ∙ behind (same_name x y) (has_name certified y))
 
 -- what a memory delivers with one more certificate
-delivers-more : (a : Memory) (x : Label) (h : IsReleased a) → has_name a.certified x ≡ false → delivered_with a.log a.certified x ≡ released (x ∷ h.certificates)
+delivers-more : (a : Memory) (x : Label) (h : IsReleased a) → has_name a.certified x ≡ false
+    → delivered_with a.log a.certified x ≡ released (x ∷ h.certificates)
 delivers-more a x h new =
     ap (λ (c : Bool). if c then a.log else a.log ++ newly_released a.log a.certified x) new
-    ∙ ap₂ (λ (before beginnings : List Label). before ++ filter (λ y. not (has_name before y)) beginnings) h.log begins
+    ∙ ap₂ (λ (before beginnings : List Label).
+    before ++ filter (λ y. not (has_name before y)) beginnings) h.log begins
   where
     begins : beginning x.sender (x ∷ a.certified) ≡ beginning x.sender (x ∷ h.certificates)
     begins =
         beginning_is x.sender (x ∷ a.certified)
-        ∙ (ap (row x.sender 1) (reach-same x.sender (x ∷ a.certified) (x ∷ h.certificates) (λ y. ap (λ b. same_name x y || b) (sym (h.certified y))))
+        ∙ (ap (row x.sender 1) (reach-same x.sender (x ∷ a.certified) (x ∷ h.certificates)
+        (λ y. ap (λ b. same_name x y || b) (sym (h.certified y))))
         ∙ sym (beginning_is x.sender (x ∷ h.certificates)))
 
 -- ---- the memory with the record
 
-pub record-more : (state new : State) (a : Memory) (r : Entry) (cause : Option Cause) → IsReleased a → IsFirst a r → SaysMore (view_in state a) (view_in new (with_record a r cause)) r
+pub record-more : (state new : State) (a : Memory) (r : Entry) (cause : Option Cause) → IsReleased a
+    → IsFirst a r → SaysMore (view_in state a) (view_in new (with_record a r cause)) r
 record-more state new a (Pend x m) cause h f =
     record {
-      pairs = λ y o. has_pair-inserted (x, m) a.pairs y o ∙ behind (same_name x y && same_message m o) (has_pair a.pairs y o);
+      pairs =
+          λ y o. has_pair-inserted (x, m) a.pairs y o
+          ∙ behind (same_name x y && same_message m o) (has_pair a.pairs y o);
       certified = λ y. none_more (has_name a.certified y);
       log = log-stays (view_in state a) a.log (Pend x m) refl refl;
       count = refl;
     }
 record-more state new a (PendCert x m) cause h f =
     record {
-      pairs = λ y o. has_pair-inserted (x, m) a.pairs y o ∙ behind (same_name x y && same_message m o) (has_pair a.pairs y o);
+      pairs =
+          λ y o. has_pair-inserted (x, m) a.pairs y o
+          ∙ behind (same_name x y && same_message m o) (has_pair a.pairs y o);
       certified = λ y. named-with a.certified x y f;
-      log = log-released (view_in state a) (delivered_with a.log a.certified x) h.certificates (PendCert x m) x refl h.log h.certified (delivers-more a x h f);
+      log =
+          log-released (view_in state a) (delivered_with a.log a.certified x) h.certificates
+          (PendCert x m) x refl h.log h.certified (delivers-more a x h f);
       count = refl;
     }
 record-more state new a (Cert x) cause h f =
     record {
       pairs = λ y o. none_more (has_pair a.pairs y o);
       certified = λ y. named-with a.certified x y f;
-      log = log-released (view_in state a) (delivered_with a.log a.certified x) h.certificates (Cert x) x refl h.log h.certified (delivers-more a x h f);
+      log =
+          log-released (view_in state a) (delivered_with a.log a.certified x) h.certificates
+          (Cert x) x refl h.log h.certified (delivers-more a x h f);
       count = refl;
     }
 
-pub record-acks : (a : Memory) (r : Entry) (cause : Option Cause) (y : Label) (z : ℕ) → acked (with_record a r cause).acks y z ≡ acked (acks_after a.node r cause a.acks) y z
+pub record-acks : (a : Memory) (r : Entry) (cause : Option Cause) (y : Label) (z : ℕ)
+    → acked (with_record a r cause).acks y z ≡ acked (acks_after a.node r cause a.acks) y z
 record-acks a (Pend x m) None y z = counted-with a.acks x a.node y z
 record-acks a (PendCert x m) None y z = counted-with a.acks x a.node y z
 record-acks a (Cert x) cause y z = refl
-record-acks a (Pend x m) (Some cause) y z = counted-with (counted_with a.acks x a.node) x cause.source y z ∙ with-same (counted_with a.acks x a.node) (with_ack a.acks x a.node) x cause.source y z (counted-with a.acks x a.node y z)
-record-acks a (PendCert x m) (Some cause) y z = counted-with (counted_with a.acks x a.node) x cause.source y z ∙ with-same (counted_with a.acks x a.node) (with_ack a.acks x a.node) x cause.source y z (counted-with a.acks x a.node y z)
+record-acks a (Pend x m) (Some cause) y z =
+    counted-with (counted_with a.acks x a.node) x cause.source y z
+    ∙ with-same (counted_with a.acks x a.node) (with_ack a.acks x a.node) x cause.source y z
+    (counted-with a.acks x a.node y z)
+record-acks a (PendCert x m) (Some cause) y z =
+    counted-with (counted_with a.acks x a.node) x cause.source y z
+    ∙ with-same (counted_with a.acks x a.node) (with_ack a.acks x a.node) x cause.source y z
+    (counted-with a.acks x a.node y z)
 
 -- what was heard, with what the cause reported
-heard-with : (heard : List (Label × ℕ)) (x : Label) (o : Option ℕ) (y : Label) (z : ℕ) → acked (heard_with heard x o) y z ≡ acked (with_heard heard x o) y z
+heard-with : (heard : List (Label × ℕ)) (x : Label) (o : Option ℕ) (y : Label) (z : ℕ)
+    → acked (heard_with heard x o) y z ≡ acked (with_heard heard x o) y z
 heard-with heard x None y z = refl
 heard-with heard x (Some q) y z = counted-with heard x q y z
 
-pub record-heard : (a : Memory) (r : Entry) (cause : Option Cause) (y : Label) (z : ℕ) → acked (with_record a r cause).heard y z ≡ acked (heard_after r cause a.heard) y z
+pub record-heard : (a : Memory) (r : Entry) (cause : Option Cause) (y : Label) (z : ℕ)
+    → acked (with_record a r cause).heard y z ≡ acked (heard_after r cause a.heard) y z
 record-heard a (Pend x m) cause y z = heard-with a.heard x (heard_of cause) y z
 record-heard a (PendCert x m) cause y z = heard-with a.heard x (heard_of cause) y z
 record-heard a (Cert x) cause y z = refl
 
-pub same_limits : (a : Memory) (r : Entry) (cause : Option Cause) → ((with_record a r cause).limits ≡ a.limits) × ((with_record a r cause).node ≡ a.node)
+pub same_limits : (a : Memory) (r : Entry) (cause : Option Cause)
+    → ((with_record a r cause).limits ≡ a.limits) × ((with_record a r cause).node ≡ a.node)
 same_limits a (Pend x m) cause = (refl, refl)
 same_limits a (PendCert x m) cause = (refl, refl)
 same_limits a (Cert x) cause = (refl, refl)
@@ -129,15 +158,23 @@ told_of h =
       released = length (with_record h.memory h.entry h.cause).log - length h.memory.log;
     }
 
--- For every node that a node with a draft shows: the draft's receipt is committed, and the memory
--- with the record shows the node after it.
-pub commit-says : (h : Holding) (node : Node) → ShowsStoring h node → are_rising h.memory.pairs ≡ true
-    → IsNext h.memory.limits h.memory.node h.memory.pairs h.memory.certified h.entry → IsReleased h.memory → IsFirst h.memory h.entry
-    → ((commits h.memory.limits.n h.memory.node (suc h.memory.count) h.entry node node.state).0 ≡ Stored (told_of h))
-    × ShowsReady (with_record h.memory h.entry h.cause) (commits h.memory.limits.n h.memory.node (suc h.memory.count) h.entry node node.state).1
+-- This holds for every node that a node with a draft shows. The draft's receipt is committed, and
+-- the memory with the record shows the node after it.
+pub commit-says : (h : Holding) (node : Node) → ShowsStoring h node
+    → are_rising h.memory.pairs ≡ true
+    → IsNext h.memory.limits h.memory.node h.memory.pairs h.memory.certified h.entry
+    → IsReleased h.memory → IsFirst h.memory h.entry
+    → ((commits h.memory.limits.n h.memory.node (suc h.memory.count) h.entry node node.state).0
+    ≡ Stored (told_of h))
+    × ShowsReady (with_record h.memory h.entry h.cause)
+    (commits h.memory.limits.n h.memory.node (suc h.memory.count) h.entry node node.state).1
 commit-says h node s rise next released first =
-    subst (λ (told : Reply × Node). (told.0 ≡ Stored (told_of h)) × ShowsReady (with_record h.memory h.entry h.cause) told.1) (sym committed)
-    (ap Stored (done-shown h.memory.limits h.memory.limits.n h.memory.node before after node h.entry h.cause s more), shows)
+    subst (λ (told : Reply × Node). (told.0 ≡ Stored (told_of h))
+    × ShowsReady (with_record h.memory h.entry h.cause) told.1) (sym committed) (
+      ap Stored (done-shown h.memory.limits h.memory.limits.n h.memory.node before after node h.entry
+          h.cause s more),
+      shows,
+    )
   where
     before : NodeView
     before = view_in (Storing h.entry h.cause) h.memory
@@ -153,15 +190,28 @@ commit-says h node s rise next released first =
     cursor (PendCert x m) = refl
     cursor (Cert x) = refl
 
-    shows : ShowsReady (with_record h.memory h.entry h.cause) (keeps_record h.memory.node h.entry h.cause node)
+    shows : ShowsReady (with_record h.memory h.entry h.cause)
+        (keeps_record h.memory.node h.entry h.cause node)
     shows =
         let same = same_limits h.memory h.entry h.cause in
-        subst (λ (limits : Limits). ShowsNode limits (with_record h.memory h.entry h.cause).node after (keeps_record h.memory.node h.entry h.cause node)) (sym same.0)
-        (subst (λ (p : ℕ). ShowsNode h.memory.limits p after (keeps_record h.memory.node h.entry h.cause node)) (sym same.1)
-        (confirm-shows h.memory.limits h.memory.node before after node h.entry h.cause s rise next more refl (cursor h.entry) (λ x q c. record-acks h.memory h.entry h.cause x q) (record-heard h.memory h.entry h.cause)))
+        subst (λ (limits : Limits). ShowsNode limits
+        (with_record h.memory h.entry h.cause).node after
+        (keeps_record h.memory.node h.entry h.cause node)) (sym same.0)
+        (subst (λ (p : ℕ). ShowsNode h.memory.limits p after
+        (keeps_record h.memory.node h.entry h.cause node)) (sym same.1)
+        (confirm-shows h.memory.limits h.memory.node before after node h.entry h.cause s rise next
+        more refl (cursor h.entry) (λ x q c. record-acks h.memory h.entry h.cause x q)
+        (record-heard h.memory h.entry h.cause)))
 
-    committed : commits h.memory.limits.n h.memory.node (suc h.memory.count) h.entry node node.state ≡ (Stored (done h.memory.limits.n h.memory.node h.entry h.cause node), keeps_record h.memory.node h.entry h.cause node)
+    committed : commits h.memory.limits.n h.memory.node (suc h.memory.count) h.entry node node.state
+        ≡ (
+          Stored (done h.memory.limits.n h.memory.node h.entry h.cause node),
+          keeps_record h.memory.node h.entry h.cause node,
+        )
     committed =
         ap (commits h.memory.limits.n h.memory.node (suc h.memory.count) h.entry node) (sym s.state)
-        ∙ cond-true ((suc h.memory.count == suc (length node.records)) && same_record h.entry h.entry) _ _
-        (and_from (suc h.memory.count == suc (length node.records)) _ (eq-eqb (suc h.memory.count) (suc (length node.records)) (ap suc s.count)) (same_record-same h.entry))
+        ∙ cond-true ((suc h.memory.count == suc (length node.records))
+        && same_record h.entry h.entry) _ _
+        (and_from (suc h.memory.count == suc (length node.records)) _
+        (eq-eqb (suc h.memory.count) (suc (length node.records)) (ap suc s.count))
+        (same_record-same h.entry))

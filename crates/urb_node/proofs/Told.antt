@@ -12,4 +12,6 @@ use Rattle.urb_node.specs.Outcomes.{Outcome, Answers, Refuses, Wants}
 abbrev pub Says : Reply × Node → Outcome → Type 0
 Says told (Answers answer a) = (told.0 ≡ Same answer) × ShowsReady a told.1
 Says told (Refuses refusal) = told.0 ≡ Refused refusal
-Says told (Wants entry cause a) = (told.0 ≡ Drafted (name_of entry) (suc a.count)) × ShowsStoring (record { memory = a; entry = entry; cause = cause }) told.1
+Says told (Wants entry cause a) =
+    (told.0 ≡ Drafted (name_of entry) (suc a.count))
+    × ShowsStoring (record { memory = a; entry = entry; cause = cause }) told.1

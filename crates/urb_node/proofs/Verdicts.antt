@@ -1,5 +1,7 @@
 -- What an image says about a memory, with and without a doubtful record.
-use Rattle.std.proofs.Common.{◌≡◌, ◌∙◌, ◌≤◌, Bool, List, None, Option, Some, [], ap, ap₂, arith, false, length, refl, subst, suc, sym, true, ℕ, ◌&&◌, ◌+◌, ◌++◌, ◌==◌, ◌∷◌, ◌||◌, lt-ltb, nat_lt, ⊎_elim}
+use Rattle.std.proofs.Common.{◌≡◌, ◌∙◌, ◌≤◌, Bool, List, None, Option, Some, [], ap, ap₂, arith}
+use Rattle.std.proofs.Common.{false, length, refl, subst, suc, sym, true, ℕ, ◌&&◌, ◌+◌, ◌++◌, ◌==◌}
+use Rattle.std.proofs.Common.{◌∷◌, ◌||◌, lt-ltb, nat_lt, ⊎_elim}
 use Rattle.std.specs.Bool.{MatchBool}
 use Rattle.std.specs.List.{list_all}
 use Rattle.std.specs.Option.{ForSome}
@@ -18,9 +20,10 @@ use Rattle.urb_stable.specs.Log.{log}
 use Rattle.urb_stable.specs.Records.{cert, pend}
 use Rattle.urb_stable.specs.declared.record.Record.TheVariants.{Cert, Pend, PendCert}
 use Rattle.urb_node.specs.declared.held.Held.{Held}
-use Rattle.urb_node.specs.declared.judging.Verdict.TheVariants.{Neither}
+use Rattle.urb_node.specs.declared.image_verdict.Verdict.TheVariants.{Neither}
 use Rattle.urb_node.specs.Held.{memory_of, IsHeld, IsNextHeld, IsNextIn}
-use Rattle.urb_node.specs.Judging.{certified_by, delivered_by, pairs_with, IsOtherThan, IsVerdict, SaysWith}
+use Rattle.urb_node.specs.ImageVerdicts.{certified_by, delivered_by, pairs_with, IsOtherThan}
+use Rattle.urb_node.specs.ImageVerdicts.{IsVerdict, SaysWith}
 use Rattle.urb_node.specs.Layers.{with_record}
 use Rattle.urb_node.specs.Steps.{same_list, same_names, same_pairs, tells}
 use Rattle.urb_node.specs.Values.{Memory}
@@ -29,15 +32,19 @@ use Rattle.urb_node.proofs.ShownNodes.{all_named, pairs-told}
 
 -- ---- ranges
 
-range_is : (size : Limits) (x : Label) → in_range size x ≡ true → (x.sender ≤ size.n) × (x.seq ≤ size.cap)
+range_is : (size : Limits) (x : Label) → in_range size x ≡ true
+    → (x.sender ≤ size.n) × (x.seq ≤ size.cap)
 range_is size x h =
     let parts = and_parts (nat_lt x.sender (suc size.n)) (nat_lt x.seq (suc size.cap)) h in
     let sender = ltb-true x.sender (suc size.n) parts.0 in
     let seq = ltb-true x.seq (suc size.cap) parts.1 in
     (omega arith, omega arith)
 
-in_range_is : (size : Limits) (x : Label) → x.sender ≤ size.n → x.seq ≤ size.cap → in_range size x ≡ true
-in_range_is size x sender seq = and_from (nat_lt x.sender (suc size.n)) _ (lt-ltb x.sender (suc size.n) (omega arith)) (lt-ltb x.seq (suc size.cap) (omega arith))
+in_range_is : (size : Limits) (x : Label) → x.sender ≤ size.n → x.seq ≤ size.cap
+    → in_range size x ≡ true
+in_range_is size x sender seq =
+    and_from (nat_lt x.sender (suc size.n)) _ (lt-ltb x.sender (suc size.n) (omega arith))
+    (lt-ltb x.seq (suc size.cap) (omega arith))
 
 -- the group may have the name of a record that is next
 next_in_range : (a : Memory) (r : Entry) → IsNextIn a r → in_range a.limits (name_of r) ≡ true
@@ -45,15 +52,20 @@ next_in_range a (Pend x m) next = (and_parts (in_range a.limits x) _ next.new).0
 next_in_range a (PendCert x m) next = (and_parts (in_range a.limits x) _ next.new).0
 next_in_range a (Cert x) next = (and_parts (in_range a.limits x) _ next.new).0
 
-pub next_range : (a : Memory) (r : Entry) → IsNextIn a r → ((name_of r).sender ≤ a.limits.n) × ((name_of r).seq ≤ a.limits.cap)
+pub next_range : (a : Memory) (r : Entry) → IsNextIn a r
+    → ((name_of r).sender ≤ a.limits.n) × ((name_of r).seq ≤ a.limits.cap)
 next_range a r next = range_is a.limits (name_of r) (next_in_range a r next)
 
 -- ---- a certificate that the group can't have
 
-not_told : (image : List Entry) (pairs : List (Label × Content)) (certified delivered : List Label) (count : ℕ) (x : Label) → has_name (cert image) x ≡ true → has_name certified x ≡ false → tells image pairs certified delivered count ≡ false
-not_told image pairs certified delivered count x here gone = at (tells image pairs certified delivered count) refl
+not_told : (image : List Entry) (pairs : List (Label × Content)) (certified delivered : List Label)
+    (count : ℕ) (x : Label) → has_name (cert image) x ≡ true → has_name certified x ≡ false
+    → tells image pairs certified delivered count ≡ false
+not_told image pairs certified delivered count x here gone =
+    at (tells image pairs certified delivered count) refl
   where
-    at : (b : Bool) → tells image pairs certified delivered count ≡ b → tells image pairs certified delivered count ≡ false
+    at : (b : Bool) → tells image pairs certified delivered count ≡ b
+        → tells image pairs certified delivered count ≡ false
     at false e = e
     at true e =
         let behind = and_parts (same_pairs (pend image) pairs) _ e in
@@ -62,8 +74,14 @@ not_told image pairs certified delivered count x here gone = at (tells image pai
         absurd (false≢true (sym gone ∙ all_named (cert image) certified all.0 x here))
 
 -- no memory of the group has it
-pub strange_is_neither : {A : Type 0} (h : Held A) (doubt : Option Entry) (image : List Entry) (x : Label) → IsHeld h → IsDelivery h.fifo → ForSome doubt (IsNextHeld h) → has_name (cert image) x ≡ true → in_range h.config x ≡ false → IsVerdict image (memory_of h) doubt Neither
-strange_is_neither h doubt image x held delivery next here strange = (not_told image h.pending.pairs h.acks.certified h.fifo.log h.stored x here gone, with_doubt doubt next)
+pub strange_is_neither : {A : Type 0} (h : Held A) (doubt : Option Entry) (image : List Entry)
+    (x : Label) → IsHeld h → IsDelivery h.fifo → ForSome doubt (IsNextHeld h)
+    → has_name (cert image) x ≡ true → in_range h.config x ≡ false
+    → IsVerdict image (memory_of h) doubt Neither
+strange_is_neither h doubt image x held delivery next here strange = (
+  not_told image h.pending.pairs h.acks.certified h.fifo.log h.stored x here gone,
+  with_doubt doubt next,
+)
   where
     gone : has_name h.acks.certified x ≡ false
     gone = at (has_name h.acks.certified x) refl
@@ -73,27 +91,39 @@ strange_is_neither h doubt image x held delivery next here strange = (not_told i
         at true e =
             let within = delivery.within x (ap (λ names. has_name names x) held.certified ∙ e) in
             let limits = held.fifo_limits in
-            absurd (false≢true (sym strange ∙ subst (λ (size : Limits). in_range size x ≡ true) limits (in_range_is h.fifo.limits x within.sender within.seq)))
+            absurd (false≢true (sym strange
+            ∙ subst (λ (size : Limits). in_range size x ≡ true) limits
+            (in_range_is h.fifo.limits x within.sender within.seq)))
 
     apart : (r : Entry) → IsNextHeld h r → same_name (name_of r) x ≡ false
     apart r n = at (same_name (name_of r) x) refl
       where
         at : (b : Bool) → same_name (name_of r) x ≡ b → same_name (name_of r) x ≡ false
         at false e = e
-        at true e = absurd (false≢true (sym strange ∙ subst (λ (y : Label). in_range h.config y ≡ true) (same_name-true (name_of r) x e) (next_in_range (memory_of h) r n)))
+        at true e =
+            absurd (false≢true (sym strange
+            ∙ subst (λ (y : Label). in_range h.config y ≡ true) (same_name-true (name_of r) x e)
+            (next_in_range (memory_of h) r n)))
 
-    joined : (y : Label) → same_name y x ≡ false → has_name (certified_by h.acks.certified (Some (Cert y))) x ≡ false
+    joined : (y : Label) → same_name y x ≡ false
+        → has_name (certified_by h.acks.certified (Some (Cert y))) x ≡ false
     joined y n = at (has_name (certified_by h.acks.certified (Some (Cert y))) x) refl
       where
-        at : (b : Bool) → has_name (certified_by h.acks.certified (Some (Cert y))) x ≡ b → has_name (certified_by h.acks.certified (Some (Cert y))) x ≡ false
+        at : (b : Bool) → has_name (certified_by h.acks.certified (Some (Cert y))) x ≡ b
+            → has_name (certified_by h.acks.certified (Some (Cert y))) x ≡ false
         at false e = e
-        at true e = ⊎_elim (λ k. absurd (false≢true (sym gone ∙ k))) (λ k. absurd (false≢true (sym n ∙ k))) (with-cases h.acks.certified y x e)
+        at true e =
+            ⊎_elim (λ k. absurd (false≢true (sym gone ∙ k))) (λ k. absurd (false≢true (sym n ∙ k)))
+            (with-cases h.acks.certified y x e)
 
-    with_doubt : (doubt : Option Entry) → ForSome doubt (IsNextHeld h) → IsOtherThan image (memory_of h) doubt
+    with_doubt : (doubt : Option Entry) → ForSome doubt (IsNextHeld h)
+        → IsOtherThan image (memory_of h) doubt
     with_doubt None n = tt
     with_doubt (Some (Pend y m)) n = not_told image _ h.acks.certified _ _ x here gone
-    with_doubt (Some (PendCert y m)) n = not_told image _ _ _ _ x here (joined y (apart (PendCert y m) (n (PendCert y m) refl)))
-    with_doubt (Some (Cert y)) n = not_told image _ _ _ _ x here (joined y (apart (Cert y) (n (Cert y) refl)))
+    with_doubt (Some (PendCert y m)) n =
+        not_told image _ _ _ _ x here (joined y (apart (PendCert y m) (n (PendCert y m) refl)))
+    with_doubt (Some (Cert y)) n =
+        not_told image _ _ _ _ x here (joined y (apart (Cert y) (n (Cert y) refl)))
 
 -- ---- the memory with the doubtful record
 
@@ -104,12 +134,21 @@ behind false true = refl
 behind false false = refl
 
 -- what an image says about the pairs doesn't depend on their order
-moved : (image : List Entry) (pairs : List (Label × Content)) (x : Label) (m : Content) (certified delivered : List Label) (count : ℕ) → tells image (pairs ++ (x, m) ∷ []) certified delivered count ≡ tells image (inserted (x, m) pairs) certified delivered count
+moved : (image : List Entry) (pairs : List (Label × Content)) (x : Label) (m : Content)
+    (certified delivered : List Label) (count : ℕ)
+    → tells image (pairs ++ (x, m) ∷ []) certified delivered count ≡ tells image
+    (inserted (x, m) pairs) certified delivered count
 moved image pairs x m certified delivered count =
-    ap (λ b. b && (same_names (cert image) certified && (same_list (log image) delivered && (length image == count)))) (pairs-told (pend image) (pairs ++ (x, m) ∷ []) (inserted (x, m) pairs) each)
+    ap (λ b. b && (same_names (cert image) certified
+    && (same_list (log image) delivered && (length image == count))))
+    (pairs-told (pend image) (pairs ++ (x, m) ∷ []) (inserted (x, m) pairs) each)
   where
-    each : (y : Label) (o : Content) → has_pair (pairs ++ (x, m) ∷ []) y o ≡ has_pair (inserted (x, m) pairs) y o
-    each y o = list_any-append (λ pair. same_name pair.0 y && same_message pair.1 o) pairs ((x, m) ∷ []) ∙ (behind (has_pair pairs y o) (same_name x y && same_message m o) ∙ sym (has_pair-inserted (x, m) pairs y o))
+    each : (y : Label) (o : Content)
+        → has_pair (pairs ++ (x, m) ∷ []) y o ≡ has_pair (inserted (x, m) pairs) y o
+    each y o =
+        list_any-append (λ pair. same_name pair.0 y && same_message pair.1 o) pairs ((x, m) ∷ [])
+        ∙ (behind (has_pair pairs y o) (same_name x y && same_message m o)
+        ∙ sym (has_pair-inserted (x, m) pairs y o))
 
 one : (n : ℕ) → n + 1 ≡ suc n
 one n = omega arith
@@ -119,30 +158,52 @@ none_more [] = refl
 none_more (pair ∷ pairs) = ap (λ ps. pair ∷ ps) (none_more pairs)
 
 -- what it says together with the doubtful record's pair, certificate and release
-pub told_with : (a : Memory) (r : Entry) (image : List Entry) → tells image (pairs_with a.pairs (Some r)) (certified_by a.certified (Some r)) (delivered_by a.log a.certified (Some r)) (a.count + 1)
-    ≡ tells image (with_record a r None).pairs (with_record a r None).certified (with_record a r None).log (with_record a r None).count
-told_with a (Pend x m) image = ap (tells image (a.pairs ++ (x, m) ∷ []) a.certified a.log) (one a.count) ∙ moved image a.pairs x m a.certified a.log (suc a.count)
+pub told_with : (a : Memory) (r : Entry) (image : List Entry)
+    → tells image (pairs_with a.pairs (Some r)) (certified_by a.certified (Some r))
+    (delivered_by a.log a.certified (Some r)) (a.count + 1)
+    ≡ tells image (with_record a r None).pairs (with_record a r None).certified
+    (with_record a r None).log (with_record a r None).count
+told_with a (Pend x m) image =
+    ap (tells image (a.pairs ++ (x, m) ∷ []) a.certified a.log) (one a.count)
+    ∙ moved image a.pairs x m a.certified a.log (suc a.count)
 told_with a (PendCert x m) image =
-    ap (tells image (a.pairs ++ (x, m) ∷ []) (certified_by a.certified (Some (Cert x))) (delivered_by a.log a.certified (Some (Cert x)))) (one a.count)
-    ∙ moved image a.pairs x m (certified_by a.certified (Some (Cert x))) (delivered_by a.log a.certified (Some (Cert x))) (suc a.count)
+    ap (tells image (a.pairs ++ (x, m) ∷ []) (certified_by a.certified (Some (Cert x)))
+    (delivered_by a.log a.certified (Some (Cert x)))) (one a.count)
+    ∙ moved image a.pairs x m (certified_by a.certified (Some (Cert x)))
+    (delivered_by a.log a.certified (Some (Cert x))) (suc a.count)
 told_with a (Cert x) image =
-    ap₂ (λ pairs count. tells image pairs (certified_by a.certified (Some (Cert x))) (delivered_by a.log a.certified (Some (Cert x))) count) (none_more a.pairs) (one a.count)
+    ap₂ (λ pairs count. tells image pairs (certified_by a.certified (Some (Cert x)))
+    (delivered_by a.log a.certified (Some (Cert x))) count) (none_more a.pairs) (one a.count)
 
 -- whether it says that, if the layers hold these
-pub joined_decides : {A : Type 0} (h : Held A) (doubt : Option Entry) (r : Entry) (image : List Entry) (certified delivered : List Label) (result : Bool) → IsHeld h → doubt ≡ Some r
-    → certified ≡ certified_by h.fifo.certified doubt → delivered ≡ delivered_by h.fifo.log h.fifo.certified doubt
-    → result ≡ tells image (pairs_with h.pending.pairs doubt) certified delivered (h.stored + 1) → MatchBool result (SaysWith image (memory_of h) doubt) (IsOtherThan image (memory_of h) doubt)
+pub joined_decides : {A : Type 0} (h : Held A) (doubt : Option Entry) (r : Entry)
+    (image : List Entry) (certified delivered : List Label) (result : Bool) → IsHeld h
+    → doubt ≡ Some r
+    → certified ≡ certified_by h.fifo.certified doubt
+    → delivered ≡ delivered_by h.fifo.log h.fifo.certified doubt
+    → result ≡ tells image (pairs_with h.pending.pairs doubt) certified delivered (h.stored + 1)
+    → MatchBool result (SaysWith image (memory_of h) doubt)
+    (IsOtherThan image (memory_of h) doubt)
 joined_decides h doubt r image certified delivered result held there names released e =
-    subst (λ (o : Option Entry). MatchBool result (SaysWith image (memory_of h) o) (IsOtherThan image (memory_of h) o)) (sym there) (at result told)
+    subst (λ (o : Option Entry). MatchBool result (SaysWith image (memory_of h) o)
+    (IsOtherThan image (memory_of h) o)) (sym there) (at result told)
   where
-    told : result ≡ tells image (with_record (memory_of h) r None).pairs (with_record (memory_of h) r None).certified (with_record (memory_of h) r None).log (with_record (memory_of h) r None).count
+    told : result ≡ tells image (with_record (memory_of h) r None).pairs
+        (with_record (memory_of h) r None).certified (with_record (memory_of h) r None).log
+        (with_record (memory_of h) r None).count
     told =
         e
-        ∙ (ap₂ (λ xs ys. tells image (pairs_with h.pending.pairs doubt) xs ys (h.stored + 1)) names released
-        ∙ (ap₂ (λ (xs : List Label) (o : Option Entry). tells image (pairs_with h.pending.pairs o) (certified_by xs o) (delivered_by h.fifo.log xs o) (h.stored + 1)) held.certified there
+        ∙ (ap₂ (λ xs ys. tells image (pairs_with h.pending.pairs doubt) xs ys (h.stored + 1))
+        names released
+        ∙ (ap₂ (λ (xs : List Label) (o : Option Entry).
+        tells image (pairs_with h.pending.pairs o) (certified_by xs o)
+        (delivered_by h.fifo.log xs o) (h.stored + 1)) held.certified there
         ∙ told_with (memory_of h) r image))
 
-    at : (b : Bool) → b ≡ tells image (with_record (memory_of h) r None).pairs (with_record (memory_of h) r None).certified (with_record (memory_of h) r None).log (with_record (memory_of h) r None).count
-        → MatchBool b (SaysWith image (memory_of h) (Some r)) (IsOtherThan image (memory_of h) (Some r))
+    at : (b : Bool) → b ≡ tells image (with_record (memory_of h) r None).pairs
+        (with_record (memory_of h) r None).certified (with_record (memory_of h) r None).log
+        (with_record (memory_of h) r None).count
+        → MatchBool b (SaysWith image (memory_of h) (Some r))
+        (IsOtherThan image (memory_of h) (Some r))
     at true f = sym f
     at false f = sym f

@@ -3,9 +3,9 @@ use Rattle.std.specs.Prelude.{◌≡◌, suc, Result, Ok, Err}
 use Rattle.urb_names.specs.declared.refusal.Refusal.{Refusal}
 use Rattle.urb_names.specs.declared.refusal.Refusal.TheVariants as refusal
 use Rattle.urb_node.specs.declared.answer.Answer.TheVariants as answer
-use Rattle.urb_node.specs.declared.found.Wanted.{Wanted}
-use Rattle.urb_node.specs.declared.found.Found.{Found}
-use Rattle.urb_node.specs.declared.found.Found.TheVariants as found
+use Rattle.urb_node.specs.declared.call_outcomes.Wanted.{Wanted}
+use Rattle.urb_node.specs.declared.call_outcomes.Found.{Found}
+use Rattle.urb_node.specs.declared.call_outcomes.Found.TheVariants as found
 use Rattle.urb_node.specs.declared.held.Held.{Held}
 use Rattle.urb_node.specs.declared.step.Step.{Step}
 use Rattle.urb_node.specs.declared.step.Step.TheVariants as step
@@ -47,4 +47,6 @@ Finds old outcome (Err r) new = IsRefusalOf outcome r × (new ≡ old)
 -- the step that follows
 abbrev pub step_from : {A : Type 0} → Memory → Found A → Step A
 step_from a (found.Known told) = step.Same a told
-step_from a (found.New w) = step.Store (record { memory = a; entry = w.entry; cause = w.cause }) (record { node = a.node; pos = suc a.count; entry = w.copy })
+step_from a (found.New w) =
+    step.Store (record { memory = a; entry = w.entry; cause = w.cause })
+    (record { node = a.node; pos = suc a.count; entry = w.copy })

@@ -39,8 +39,10 @@ pub record IsHeld {A : Type 0} (h : Held A) : Type 0 where
   pub resend_limits : h.resend.limits ≡ h.config
   pub resend_node : h.resend.node ≡ h.node
   pub certified : h.fifo.certified ≡ h.acks.certified
-  pub pending : (x : Label) → has_name h.acks.certified x ≡ true → is_some (message_of h.pending.pairs x) ≡ true
-  pub room_to_hear : (x : Label) → is_some (message_of h.pending.pairs x) ≡ true → has_name h.resend.roomy x ≡ true
+  pub pending : (x : Label) → has_name h.acks.certified x ≡ true
+      → is_some (message_of h.pending.pairs x) ≡ true
+  pub room_to_hear : (x : Label) → is_some (message_of h.pending.pairs x) ≡ true
+      → has_name h.resend.roomy x ≡ true
   pub count : h.stored ≤ length h.pending.pairs + length h.acks.certified
 
 -- the record may come next after what this memory holds
@@ -53,14 +55,18 @@ IsNextHeld h r = IsNextIn (memory_of h) r
 
 -- space is reserved for everything that the record will add
 abbrev pub HasRoom : {A : Type 0} → Held A → Entry → Type 0
-HasRoom h (Pend x m) = (h.pending.reserved ≡ Some (x, m.client)) × (h.acks.reserved ≡ Some x) × (has_name h.resend.roomy x ≡ true)
+HasRoom h (Pend x m) =
+    (h.pending.reserved ≡ Some (x, m.client)) × (h.acks.reserved ≡ Some x)
+    × (has_name h.resend.roomy x ≡ true)
 HasRoom h (PendCert x m) =
-    (h.pending.reserved ≡ Some (x, m.client)) × (h.acks.reserved ≡ Some x) × (h.fifo.reserved ≡ Some x) × (has_name h.resend.roomy x ≡ true)
+    (h.pending.reserved ≡ Some (x, m.client)) × (h.acks.reserved ≡ Some x)
+    × (h.fifo.reserved ≡ Some x) × (has_name h.resend.roomy x ≡ true)
 HasRoom h (Cert x) = (h.acks.reserved ≡ Some x) × (h.fifo.reserved ≡ Some x)
 
 -- A draft of the record can be held. The record is next, there is space for it, and these are its
 -- packets. If a node caused it, that node belongs to the group.
-pub record IsDrafted {A : Type 0} (h : Held A) (entry : Entry) (cause : Option Cause) (packets : List Carried) : Type 0 where
+pub record IsDrafted {A : Type 0} (h : Held A) (entry : Entry) (cause : Option Cause)
+    (packets : List Carried) : Type 0 where
   pub held : IsHeld h
   pub next : IsNextHeld h entry
   pub room : HasRoom h entry

@@ -34,7 +34,8 @@ certified_with certified x = if has_name certified x then certified else placed 
 
 -- the log with what this certificate releases
 abbrev pub delivered_with : List Label → List Label → Label → List Label
-delivered_with log certified x = if has_name certified x then log else log ++ newly_released log certified x
+delivered_with log certified x =
+    if has_name certified x then log else log ++ newly_released log certified x
 
 -- the memory with one more pending pair, for which the node itself and the node that caused it are
 -- counted
@@ -49,7 +50,8 @@ with_pair a x m cause =
 
 -- the memory with one more certificate
 abbrev pub with_certificate : Memory → Label → Memory
-with_certificate a x = record a { certified = certified_with a.certified x; log = delivered_with a.log a.certified x }
+with_certificate a x = record a
+    { certified = certified_with a.certified x; log = delivered_with a.log a.certified x }
 
 -- the memory once a record is stored
 abbrev pub with_record : Memory → Entry → Option Cause → Memory

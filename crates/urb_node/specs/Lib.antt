@@ -9,4 +9,4 @@ pub mod Outcomes
 pub mod Held
 pub mod Found
 pub mod Moves
-pub mod Judging
+pub mod ImageVerdicts

@@ -1,5 +1,6 @@
 -- The outcome of a call at a ready node, computed from its memory, with the checks in their order.
-use Rattle.std.specs.Prelude.{ℕ, Bool, suc, not, true, false, ◌==◌, nat_lt, bytes_eq, if◌then◌else◌, length, List, [], ◌∷◌, Option, None, Some}
+use Rattle.std.specs.Prelude.{ℕ, Bool, suc, not, true, false, ◌==◌, nat_lt, bytes_eq, if◌then◌else◌}
+use Rattle.std.specs.Prelude.{length, List, [], ◌∷◌, Option, None, Some}
 use Rattle.urb_names.specs.Naming.{Label, Content}
 use Rattle.urb_names.specs.Names.{name, has_name}
 use Rattle.urb_names.specs.Nodes.{is_majority, majority_passes}
@@ -7,7 +8,7 @@ use Rattle.urb_names.specs.Pairs.{message_of, own, next_number}
 use Rattle.urb_names.specs.Acknowledged.{acked, with_ack}
 use Rattle.urb_names.specs.Carried.{Carried, says_certified}
 use Rattle.urb_names.specs.declared.flags.Flags.{Flags}
-use Rattle.urb_names.specs.declared.message.TheConstants.{MAX_PAYLOAD}
+use Rattle.urb_names.specs.declared.limits.TheConstants.{MAX_PAYLOAD}
 use Rattle.urb_names.specs.declared.refusal.Refusal.{Refusal}
 use Rattle.urb_names.specs.declared.refusal.Refusal.TheVariants as refusal
 use Rattle.urb_stable.specs.Entries.{Entry}
@@ -42,14 +43,17 @@ own_record a m =
 -- a message with a new number
 abbrev pub fresh_outcome : Memory → Content → Outcome
 fresh_outcome a m =
-    if not (m.number == next_number m.client (own_of a)) then Refuses (refusal.Gap (next_number m.client (own_of a)))
+    if not (m.number == next_number m.client (own_of a)) then Refuses
+    (refusal.Gap (next_number m.client (own_of a)))
     else if not (nat_lt (length (own_of a)) a.limits.cap) then Refuses refusal.Full
     else Wants (own_record a m) None a
 
 -- a message with the number of a message that is pending under this name
 abbrev pub repeat_outcome : Memory → Content → Label → Option Content → Outcome
 repeat_outcome a m x None = Refuses refusal.Conflict
-repeat_outcome a m x (Some first) = if bytes_eq first.payload m.payload then Answers (answer.Accepted x) a else Refuses refusal.Conflict
+repeat_outcome a m x (Some first) =
+    if bytes_eq first.payload m.payload then Answers
+    (answer.Accepted x) a else Refuses refusal.Conflict
 
 -- a submit, by the name of the message with its client number, if there is one
 abbrev pub numbered_outcome : Memory → Content → Option Label → Outcome
@@ -70,19 +74,28 @@ with_counted a x q = record a { acks = counted_with a.acks x q }
 
 -- the memory once the certificate is heard that these flags report, if they report one
 abbrev pub hearing : Memory → ℕ → Label → Option Flags → Memory
-hearing a q x flags = record a { heard = if says_certified flags then counted_with a.heard x q else a.heard }
+hearing a q x flags = record a
+    { heard = if says_certified flags then counted_with a.heard x q else a.heard }
 
 -- a packet whose name is pending and not certified
 abbrev pub counted_outcome : Memory → ℕ → Label → Option Flags → Outcome
 counted_outcome a q x flags =
     let after = hearing a q x flags in
-    if majority_passes a.limits.n (acked (with_ack a.acks x q) x) then Wants (Cert x) (Some (packet_from q (says_certified flags))) (with_counted after x q)
+    if majority_passes a.limits.n (acked (with_ack a.acks x q) x) then Wants (Cert x)
+    (Some (packet_from q (says_certified flags))) (with_counted after x q)
     else if acked a.acks x q then Answers (answer.Again x) after
     else Answers (answer.Noted x) (with_counted after x q)
 
 -- the answer of p to q: the name is certified at p, and whether p heard the certificate of q
 abbrev pub answer_with : ℕ → ℕ → Label → Content → Bool → Carried
-answer_with p q x m heard = record { source = p; target = q; name = x; message = m; flags = Some (record { certified = true; heard = heard }) }
+answer_with p q x m heard = record {
+  source = p;
+  target = q;
+  name = x;
+  message = m;
+  flags =
+      Some (record { certified = true; heard = heard });
+}
 
 -- whether a packet of a certified name is answered: if it is of version two and doesn't say that
 -- the certificate was heard
@@ -93,15 +106,18 @@ wants_answer (Some flags) = not flags.heard
 -- a packet whose name is certified
 abbrev pub certified_outcome : Memory → ℕ → Label → Content → Option Flags → Outcome
 certified_outcome a q x m flags =
-    if wants_answer flags then Answers (answer.Answered x (answer_with a.node q x m (acked a.heard x q) ∷ [])) a
+    if wants_answer flags then Answers
+    (answer.Answered x (answer_with a.node q x m (acked a.heard x q) ∷ [])) a
     else Answers (answer.Again x) a
 
 -- a packet from q, by the message that is pending under its name, if there is one
 abbrev pub pending_outcome : Memory → ℕ → Label → Content → Option Flags → Option Content → Outcome
 pending_outcome a q x m flags None =
-    Wants (if is_majority 2 a.limits.n then PendCert x m else Pend x m) (Some (packet_from q (says_certified flags))) a
+    Wants (if is_majority 2 a.limits.n then PendCert x m else Pend x m)
+    (Some (packet_from q (says_certified flags))) a
 pending_outcome a q x m flags (Some first) =
-    if has_name a.certified x then certified_outcome (hearing a q x flags) q x m flags else counted_outcome a q x flags
+    if has_name a.certified x then certified_outcome
+    (hearing a q x flags) q x m flags else counted_outcome a q x flags
 
 -- a packet from q
 abbrev pub arrive_outcome : Memory → ℕ → Label → Content → Option Flags → Outcome

@@ -38,4 +38,12 @@ own_acks p records = self_acks p (pend records)
 
 -- a ready node that has read these records
 abbrev pub opened_node : ℕ → List Entry → Node
-opened_node p records = record { records = records; state = Ready; acks = own_acks p records; heard = []; cursor = None; broadcast = own p (pend records) }
+opened_node p records = record {
+  records = records;
+  state = Ready;
+  acks = own_acks p records;
+  heard = [];
+  cursor =
+      None;
+  broadcast = own p (pend records);
+}

@@ -22,7 +22,17 @@ pub record NodeView : Type 0 where
 
 -- a node that holds nothing
 abbrev pub no_view : NodeView
-no_view = record { pairs = []; certified = []; log = []; count = 0; state = Ready; acks = []; heard = []; cursor = None }
+no_view = record {
+  pairs = [];
+  certified = [];
+  log = [];
+  count = 0;
+  state = Ready;
+  acks =
+      [];
+  heard = [];
+  cursor = None;
+}
 
 -- The memory holds this node. Pairs, certified names, acknowledgements and certificates heard are
 -- compared as sets.
@@ -33,7 +43,8 @@ pub record ShowsNode (size : Limits) (p : ℕ) (view : NodeView) (node : Node) :
   pub count : view.count ≡ length node.records
   pub state : view.state ≡ node.state
   pub cursor : view.cursor ≡ node.cursor
-  pub acks : (x : Label) (q : ℕ) → has_name (cert node.records) x ≡ false → acked view.acks x q ≡ acked node.acks x q
+  pub acks : (x : Label) (q : ℕ) → has_name (cert node.records) x ≡ false
+      → acked view.acks x q ≡ acked node.acks x q
   pub heard : (x : Label) (q : ℕ) → acked view.heard x q ≡ acked node.heard x q
   pub rules : KeepsOwn size p [] node.records
   pub broadcast : node.broadcast ≡ own p (pend node.records)

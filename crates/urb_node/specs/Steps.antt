@@ -1,6 +1,8 @@
 -- One node's part of each step: each function gives the reply, and the node after the event.
 use Rattle.std.specs.List.{list_all, position_or_len}
-use Rattle.std.specs.Prelude.{Bool, List, None, Option, Some, [], bytes_eq, false, find, flat_map, if◌then◌else◌, is_none, length, nat_lt, not, suc, true, ℕ, ◌&&◌, ◌++◌, ◌-◌, ◌==◌, ◌||◌, ◌∷◌}
+use Rattle.std.specs.Prelude.{Bool, List, None, Option, Some, [], bytes_eq, false, find, flat_map}
+use Rattle.std.specs.Prelude.{if◌then◌else◌, is_none, length, nat_lt, not, suc, true, ℕ, ◌&&◌, ◌++◌}
+use Rattle.std.specs.Prelude.{◌-◌, ◌==◌, ◌||◌, ◌∷◌}
 use Rattle.urb_names.specs.Acknowledged.{acked, with_ack}
 use Rattle.urb_names.specs.Carried.{Carried, due_of, says_certified, to_others, to_unheard}
 use Rattle.urb_names.specs.Cyclic.{last_name, resent, rising}
@@ -9,10 +11,11 @@ use Rattle.urb_names.specs.Naming.{Content, Label, Limits}
 use Rattle.urb_names.specs.Nodes.{majority_passes}
 use Rattle.urb_names.specs.Pairs.{has_pair, is_numbered, message_of, next_number}
 use Rattle.urb_names.specs.declared.flags.Flags.{Flags}
-use Rattle.urb_names.specs.declared.message.TheConstants.{MAX_PAYLOAD}
+use Rattle.urb_names.specs.declared.limits.TheConstants.{MAX_PAYLOAD}
 use Rattle.urb_names.specs.declared.refusal.Refusal.{Refusal}
 use Rattle.urb_node.specs.Part.{Down, Node, Ready, State, Storing, own_acks, packet_from}
-use Rattle.urb_node.specs.Replies.{Done, Drafted, Refused, Reply, Same, Sent, Stored, Up, WentDown, packets_in}
+use Rattle.urb_node.specs.Replies.{Done, Drafted, Refused, Reply, Same, Sent, Stored, Up, WentDown}
+use Rattle.urb_node.specs.Replies.{packets_in}
 use Rattle.urb_node.specs.declared.cause.Cause.{Cause}
 use Rattle.urb_node.specs.declared.answer.Answer.TheVariants.{Accepted, Again, Answered, Noted}
 use Rattle.urb_stable.specs.Entries.{Entry, name_of}
@@ -39,7 +42,8 @@ next_position node = suc (length node.records)
 
 -- the node holds a draft of this record, with its cause if there is one
 abbrev pub drafts : Node → Entry → Option Cause → Reply × Node
-drafts node entry cause = (Drafted (name_of entry) (next_position node), record node { state = Storing entry cause })
+drafts node entry cause =
+    (Drafted (name_of entry) (next_position node), record node { state = Storing entry cause })
 
 -- a refusal: the node stays as it is
 abbrev pub refuses : Node → Refusal → Reply × Node
@@ -50,7 +54,8 @@ refuses node refusal = (Refused refusal, node)
 -- once if the node is alone.
 abbrev pub submits_new : Limits → ℕ → Content → Node → Reply × Node
 submits_new size p m node =
-    if not (m.number == next_number m.client node.broadcast) then refuses node (refusal.Gap (next_number m.client node.broadcast))
+    if not (m.number == next_number m.client node.broadcast) then refuses node
+    (refusal.Gap (next_number m.client node.broadcast))
     else (if not (nat_lt (length node.broadcast) size.cap) then refuses node refusal.Full
     else (let x = name p (suc (length node.broadcast)) in
     if size.n == 1 then drafts node (PendCert x m) None else drafts node (Pend x m) None))
@@ -60,7 +65,11 @@ submits_new size p m node =
 abbrev pub submits_again : ℕ → Content → Content → Node → Reply × Node
 submits_again p m first node =
     if bytes_eq first.payload m.payload
-    then (Same (Accepted (name p (suc (position_or_len (is_numbered m.client m.number) node.broadcast)))), node)
+    then (
+      Same (Accepted (name p (suc
+          (position_or_len (is_numbered m.client m.number) node.broadcast)))),
+      node,
+    )
     else refuses node refusal.Conflict
 
 -- a submit, by the message with its client number, if there is one
@@ -81,38 +90,50 @@ submits size p m node =
 abbrev pub takes : Limits → ℕ → ℕ → Label → Content → Option Flags → Node → Reply × Node
 takes size p q x m flags node =
     let cause = Some (packet_from q (says_certified flags)) in
-    if majority_passes size.n (λ z. (z == p) || (z == q)) then drafts node (PendCert x m) cause else drafts node (Pend x m) cause
+    if majority_passes size.n (λ z. (z == p) || (z == q)) then drafts node
+    (PendCert x m) cause else drafts node (Pend x m) cause
 
 -- An arrival from q of a name that is pending and not certified. q is counted, and a certificate is
 -- drafted if the counted nodes are a majority.
 abbrev pub counts : Limits → ℕ → Label → Option Flags → Node → Reply × Node
 counts size q x flags node =
     let after = record node { acks = with_ack node.acks x q } in
-    if majority_passes size.n (acked after.acks x) then drafts after (Cert x) (Some (packet_from q (says_certified flags)))
+    if majority_passes size.n (acked after.acks x) then drafts after (Cert x)
+    (Some (packet_from q (says_certified flags)))
     else (if acked node.acks x q then (Same (Again x), after) else (Same (Noted x), after))
 
 -- the node once it heard that q has stored a certificate of a pending name, if these flags say so
 abbrev pub hears : ℕ → Label → Option Flags → Node → Node
-hears q x flags node = if says_certified flags then record node { heard = with_ack node.heard x q } else node
+hears q x flags node =
+    if says_certified flags then record node { heard = with_ack node.heard x q } else node
 
 -- the answer of p to q: p has stored its certificate, and whether p heard that of q
 abbrev pub reply_to : ℕ → ℕ → Label → Content → Node → Carried
 reply_to p q x m node =
-    record { source = p; target = q; name = x; message = m; flags = Some (record { certified = true; heard = acked node.heard x q }) }
+    record {
+      source = p;
+      target = q;
+      name = x;
+      message = m;
+      flags =
+          Some (record { certified = true; heard = acked node.heard x q });
+    }
 
 -- An arrival from q of a name that is certified. A packet is answered exactly if it is of version
 -- two and doesn't say that the certificate was heard.
 abbrev pub answers : ℕ → ℕ → Label → Content → Option Flags → Node → Reply × Node
 answers p q x m None node = (Same (Again x), node)
 answers p q x m (Some flags) node =
-    if flags.heard then (Same (Again x), node) else (Same (Answered x (reply_to p q x m node ∷ [])), node)
+    if flags.heard then (Same (Again x), node) else
+    (Same (Answered x (reply_to p q x m node ∷ [])), node)
 
 -- a truthful packet comes from q to a ready node
 abbrev pub arrives : Limits → ℕ → ℕ → Label → Content → Option Flags → Node → Reply × Node
 arrives size p q x m flags node =
     if is_none (message_of (pend node.records) x) then takes size p q x m flags node
     else (let told = hears q x flags node in
-    if not (has_name (cert node.records) x) then counts size q x flags told else answers p q x m flags told)
+    if not (has_name (cert node.records) x)
+    then counts size q x flags told else answers p q x m flags told)
 
 -- whether these flags say that the target's certificate was heard
 abbrev pub says_heard : Option Flags → Bool
@@ -121,7 +142,9 @@ says_heard (Some flags) = flags.heard
 
 -- the packets with which this node, the packet's target, answers the packet
 abbrev pub answers_of : Limits → Carried → Node → List Carried
-answers_of size packet node = packets_in (arrives size packet.target packet.source packet.name packet.message packet.flags node).0
+answers_of size packet node =
+    packets_in (arrives size packet.target packet.source packet.name packet.message packet.flags
+    node).0
 
 -- the acknowledgements once the causing node, if there is one, is counted
 abbrev pub with_cause : List (Label × ℕ) → Label → Option Cause → List (Label × ℕ)
@@ -225,7 +248,8 @@ doubt (Down doubtful) = doubtful
 
 -- the node loses what it has counted and heard, and a record that it holds becomes doubtful
 abbrev pub goes_down : ℕ → Node → Reply × Node
-goes_down p node = (WentDown p, record node { state = Down (doubt node.state); acks = []; heard = [] })
+goes_down p node =
+    (WentDown p, record node { state = Down (doubt node.state); acks = []; heard = [] })
 
 -- the store of the held record failed, and the node goes down; this is refused if the node holds no
 -- draft
@@ -240,7 +264,9 @@ crashes p node = if is_down node.state then refuses node refusal.Down else goes_
 
 -- whether two lists have the same pairs
 abbrev pub same_pairs : List (Label × Content) → List (Label × Content) → Bool
-same_pairs xs ys = list_all (λ pair. has_pair ys pair.0 pair.1) xs && list_all (λ pair. has_pair xs pair.0 pair.1) ys
+same_pairs xs ys =
+    list_all (λ pair. has_pair ys pair.0 pair.1) xs
+    && list_all (λ pair. has_pair xs pair.0 pair.1) ys
 
 -- whether two lists have the same names
 abbrev pub same_names : List Label → List Label → Bool
@@ -265,17 +291,29 @@ says image records = tells image (pend records) (cert records) (log records) (le
 
 -- the node is ready again, with these records
 abbrev pub comes_up : ℕ → List Entry → List Content → Reply × Node
-comes_up p records messages =
-    (Up p, record { records = records; state = Ready; acks = own_acks p records; heard = []; cursor = None; broadcast = messages })
+comes_up p records messages = (
+  Up p,
+  record {
+    records = records;
+    state = Ready;
+    acks = own_acks p records;
+    heard =
+        [];
+    cursor = None;
+    broadcast = messages;
+  },
+)
 
 -- The image must be that of the stored records, or of these followed by the doubtful one, which
 -- then counts as stored.
 abbrev pub restarts_with : ℕ → List Entry → Node → Option Entry → Reply × Node
 restarts_with p image node None =
-    if says image node.records then comes_up p node.records node.broadcast else refuses node refusal.BadImage
+    if says image node.records then comes_up p node.records node.broadcast else refuses node
+    refusal.BadImage
 restarts_with p image node (Some entry) =
     if says image node.records then comes_up p node.records node.broadcast
-    else (if says image (node.records ++ entry ∷ []) then comes_up p (node.records ++ entry ∷ []) (broadcast_after p entry node.broadcast)
+    else (if says image (node.records ++ entry ∷ []) then comes_up p (node.records ++ entry ∷ [])
+    (broadcast_after p entry node.broadcast)
     else refuses node refusal.BadImage)
 
 -- a restart with this image
@@ -291,8 +329,10 @@ due n p node = resent node.cursor (due_of n p node.heard (rising (pend node.reco
 -- the pairs of a tick go to each other node whose certificate was not heard, and the cursor becomes
 -- the last of their names
 abbrev pub resends : ℕ → ℕ → Node → Reply × Node
-resends n p node =
-    (Sent (flat_map (to_unheard n p (cert node.records) node.heard) (due n p node)), record node { cursor = last_name node.cursor (due n p node) })
+resends n p node = (
+  Sent (flat_map (to_unheard n p (cert node.records) node.heard) (due n p node)),
+  record node { cursor = last_name node.cursor (due n p node) },
+)
 
 -- a tick: it is refused if the node is down or holds a draft; otherwise the node resends
 abbrev pub ticks : ℕ → ℕ → Node → Reply × Node

@@ -74,4 +74,15 @@ draft_of h = record { node = h.memory.node; pos = suc h.memory.count; entry = h.
 
 -- the memory of a node of a group that has stored nothing
 abbrev pub new_memory : Limits → ℕ → Memory
-new_memory limits p = record { limits = limits; node = p; pairs = []; certified = []; log = []; count = 0; acks = []; heard = []; cursor = None }
+new_memory limits p = record {
+  limits = limits;
+  node = p;
+  pairs = [];
+  certified = [];
+  log =
+      [];
+  count = 0;
+  acks = [];
+  heard = [];
+  cursor = None;
+}

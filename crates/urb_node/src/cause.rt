@@ -5,7 +5,7 @@ ghost use Rattle.urb_names.specs.Carried.{says_certified};
 ghost use Rattle.urb_node.specs.Part.{packet_from};
 ghost use Rattle.urb_node.specs.Steps.{heard_of};
 
-use crate::hearing::says_certified;
+use crate::heard_certificates::says_certified;
 use urb_names::{Flags, NodeId};
 
 /// The packet that caused a draft.
@@ -28,7 +28,7 @@ pub(crate) fn cause_of(source: NodeId, flags: Option<Flags>) -> Cause
 }
 
 /// The source of the packet that caused a draft, if that packet reported a certificate.
-pub(crate) fn heard_of(cause: &Option<Cause>) -> Option<NodeId>
+pub(crate) fn certified_source(cause: &Option<Cause>) -> Option<NodeId>
     ensures { result ≡ heard_of cause.now }
 {
     match cause {

@@ -8,16 +8,16 @@ ghost use Rattle.urb_node.specs.Moves.{Restarts};
 
 use crate::Ready;
 use crate::held::Held;
-use crate::judging::{Verdict, judge};
-use crate::storing::stored;
+use crate::image_verdict::{Verdict, judge_restart};
+use crate::storing::apply_record;
 use std::alloc::{Allocator, Global};
 use std::marker::Model;
 use urb_names::{Message, NoMemory, Refusal};
 use urb_stable::Record;
 
 /// A node that is down. It takes no event until it is restarted with what its storage holds. What
-/// it had counted and heard no longer counts. The memory for that is handed back at the restart, so
-/// the time a crash takes doesn't grow with the history.
+/// it had counted and heard no longer counts. The memory for that is freed at the restart. So the
+/// time of a crash doesn't grow with the history.
 #[derive(Drop)]
 #[derive_where(Debug)]
 pub struct Down<A: Allocator = Global> {
@@ -39,7 +39,7 @@ impl<A: Allocator> Model for Down<A> {
 }
 
 // Takes a node down: it loses what it has counted and heard, and a record may be in doubt.
-pub(crate) fn fallen<A: Allocator + Copy>(
+pub(crate) fn take_down<A: Allocator + Copy>(
     held: Held<A>,
     doubt: Option<Record<Message<A>>>,
 ) -> Down<A>
@@ -52,7 +52,10 @@ pub(crate) fn fallen<A: Allocator + Copy>(
 }
 
 // Drops what the node had counted and heard.
-fn unheard<A: Allocator + Copy>(mut held: Held<A>, doubt: &Option<Record<Message<A>>>) -> Held<A>
+fn forget_heard<A: Allocator + Copy>(
+    mut held: Held<A>,
+    doubt: &Option<Record<Message<A>>>,
+) -> Held<A>
     requires kept { IsHeld held }
     requires next { ForSome doubt.now (IsNextHeld held) }
     ensures fallen { IsFallen result doubt.now }
@@ -64,7 +67,7 @@ fn unheard<A: Allocator + Copy>(mut held: Held<A>, doubt: &Option<Record<Message
 }
 
 // Brings a node up with what it holds; its resends begin again.
-fn risen<A: Allocator + Copy>(mut held: Held<A>) -> Ready<A>
+fn bring_up<A: Allocator + Copy>(mut held: Held<A>) -> Ready<A>
     requires { IsHeld held }
     ensures { result ≡ record (memory_of held) { cursor = None } }
 {
@@ -73,7 +76,7 @@ fn risen<A: Allocator + Copy>(mut held: Held<A>) -> Ready<A>
 }
 
 // What the node holds once the doubtful record, if any, counts as stored.
-fn with_doubtful<A: Allocator + Copy>(held: Held<A>, doubt: Option<Record<Message<A>>>) -> Held<A>
+fn join_doubtful<A: Allocator + Copy>(held: Held<A>, doubt: Option<Record<Message<A>>>) -> Held<A>
     requires kept { IsHeld held }
     requires next { ForSome doubt (IsNextHeld held) }
     requires room { ForSome doubt (HasRoom held) }
@@ -81,7 +84,7 @@ fn with_doubtful<A: Allocator + Copy>(held: Held<A>, doubt: Option<Record<Messag
     ensures memory { memory_of result ≡ with_doubtful (memory_of held) doubt }
 {
     match doubt {
-        Some(record) => stored(held, record, None).0,
+        Some(record) => apply_record(held, record, None).0,
         None => held,
     }
 }
@@ -97,20 +100,20 @@ fn recover<A: Allocator + Copy>(
     ensures { Restarts (record { memory = memory_of held; doubt = doubt }) image.items result }
 {
     // Only the proof needs these calls: they state the invariants of the layers.
-    held.pending.limits();
-    held.fifo.limits();
-    match judge(&mut held, alloc, &doubt, &image) {
+    held.pending.recall();
+    held.fifo.recall();
+    match judge_restart(&mut held, alloc, &doubt, &image) {
         Ok(verdict) => match verdict {
-            Verdict::Stored => Ok(risen(held)),
-            Verdict::WithDoubtful => Ok(risen(with_doubtful(held, doubt))),
-            Verdict::Neither => Err((fallen(held, doubt), Refusal::BadImage)),
+            Verdict::Stored => Ok(bring_up(held)),
+            Verdict::WithDoubtful => Ok(bring_up(join_doubtful(held, doubt))),
+            Verdict::Neither => Err((take_down(held, doubt), Refusal::BadImage)),
         },
-        Err(NoMemory) => Err((fallen(held, doubt), Refusal::NoMemory)),
+        Err(NoMemory) => Err((take_down(held, doubt), Refusal::NoMemory)),
     }
 }
 
 impl<A: Allocator + Copy> Down<A> {
-    /// Restarts the node from its image. This is the recovery of the book's algorithm (section
+    /// Restarts the node from its image. This is the recovery of the textbook's algorithm (section
     /// 3.7), which retrieves `pending` and `delivered`. The image must say what the node had
     /// stored, or that followed by the record in doubt, which then counts as stored. Otherwise the
     /// image is another node's, or storage has lost or made up a record (`BadImage`). Nothing is
@@ -124,6 +127,6 @@ impl<A: Allocator + Copy> Down<A> {
         ensures { Restarts self image.items result }
     {
         let Down { held, doubt } = self;
-        recover(unheard(held, &doubt), doubt, alloc, image)
+        recover(forget_heard(held, &doubt), doubt, alloc, image)
     }
 }

@@ -11,7 +11,7 @@ use urb_names::{Config, NodeId};
 use urb_pending::Pending;
 use urb_stubborn::Resend;
 
-/// What a node keeps in memory of what it has stored and counted.
+/// A node's memory: what it has stored, counted and heard.
 #[derive(Drop)]
 #[derive_where(Debug)]
 pub(crate) struct Held<A: Allocator = Global> {
@@ -32,7 +32,7 @@ impl<A: Allocator + Copy> Held<A> {
         ensures rising { are_rising self.now.pending.pairs ≡ true }
     {
         // Only the proof needs this call: it states the invariant of the pending pairs.
-        self.pending.limits();
+        self.pending.recall();
         self.pending.own_len()
     }
 }

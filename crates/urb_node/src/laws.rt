@@ -1,6 +1,7 @@
 //! Laws of one node's drafts and packets, each as the contract of a function that does nothing.
 
-ghost use Rattle.std.specs.Prelude.{◌≡◌, ◌<◌, ◌≤◌, ◌∷◌, [], ℕ, Bool, suc, true, false, List, Option, None, flat_map, is_some, length};
+ghost use Rattle.std.specs.Prelude.{◌≡◌, ◌<◌, ◌≤◌, ◌∷◌, [], ℕ, Bool, suc, true, false, List};
+ghost use Rattle.std.specs.Prelude.{Option, None, flat_map, is_some, length};
 ghost use Rattle.std.specs.List.{AllByRecursion};
 ghost use Rattle.urb_names.specs.Naming.{Content, Label, Limits};
 ghost use Rattle.urb_names.specs.Names.{has_name, name};
@@ -13,9 +14,9 @@ ghost use Rattle.urb_node.specs.Outcomes.{answer_with};
 ghost use Rattle.urb_node.specs.Part.{Node};
 ghost use Rattle.urb_node.specs.Steps.{answers_of, says_heard};
 
-/// What a node drafts keeps the rules about its own image, following what it holds. A draft is one
-/// of three: the next message of the node's own; a message that may arrive and isn't pending; a
-/// certificate of a name that is pending and not certified.
+/// A draft, after what its node holds, meets the rules about the node's own image. There are three
+/// kinds of drafts. A draft is the next message of the node's own, or a message that may arrive and
+/// isn't pending. Or it is a certificate of a name that is pending and not certified.
 pub fn drafts_are_next()
     ensures submit { (size : Limits) (p : ℕ) (pairs : List (Label × Content))
         (certified : List Label) (m : Content)
@@ -41,7 +42,7 @@ pub fn drafts_are_next()
 
 /// The packets of a stored pair, of a tick and of an answer have the node as their source. They
 /// carry pairs that are pending at the node. They claim a certificate only if the node has stored
-/// one. This is the property "no creation" of links (sections 2.4 and 3.7 of the book).
+/// one. This is the property "no creation" of links (sections 2.4 and 3.7 of the textbook).
 pub fn packets_are_of_held_pairs()
     ensures pair { (n p : ℕ) (pairs : List (Label × Content)) (certified : List Label)
         (is_certified : Bool) (heard : Option ℕ) (pair : Label × Content)

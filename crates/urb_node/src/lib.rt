@@ -15,24 +15,25 @@
 //! ```
 //!
 //! A node that is storing takes no other event, and a node that is down takes only a restart: the
-//! types have no such call. A refused call gives the node back as it was. The node never touches a
+//! types have no such call. A refused call returns the node as it was. The node never touches a
 //! store, a socket or a clock.
 #![tactic(auto)]
 
 mod answer;
+mod call_outcomes;
 mod cause;
 mod down;
-mod found;
-mod hearing;
+mod heard_certificates;
 mod held;
-mod judging;
-mod known_pairs;
+mod image_pairs;
+mod image_verdict;
 pub mod laws;
 mod opening;
 mod queries;
 mod ready;
 mod step;
 mod storing;
+mod submission;
 
 pub use answer::Answer;
 pub use down::Down;

@@ -8,15 +8,15 @@ ghost use Rattle.urb_node.specs.Part.{opened_node};
 ghost use Rattle.urb_node.specs.Values.{ShowsReady};
 
 use crate::Ready;
-use crate::found::make_room_for;
+use crate::call_outcomes::make_room_for;
 use crate::held::Held;
-use crate::storing::stored;
+use crate::storing::apply_record;
 use std::alloc::Allocator;
 use urb_names::{Config, Message, NoMemory, NodeId};
 use urb_stable::Record;
 
 // What the node knows (`Held`) after one more stored record.
-fn joined<A: Allocator + Copy>(
+fn join_record<A: Allocator + Copy>(
     mut held: Held<A>,
     entry: Record<Message<A>>,
 ) -> Result<Held<A>, NoMemory>
@@ -26,14 +26,14 @@ fn joined<A: Allocator + Copy>(
         (λ h. IsHeld h × (memory_of h ≡ with_record (memory_of held) entry None)) }
 {
     make_room_for(&mut held, &entry)?;
-    let (held, _released) = stored(held, entry, None);
+    let (held, _released) = apply_record(held, entry, None);
     Ok(held)
 }
 
 impl<A: Allocator + Copy> Ready<A> {
     /// Starts a node from its stored records: the recovery of a process (sections 2.2 and 3.7 of
-    /// the book). The payloads of the records are moved into the node, without a copy. `NoMemory`:
-    /// an allocation was refused, and the records are dropped.
+    /// the textbook). The payloads of the records are moved into the node, without a copy.
+    /// `NoMemory`: an allocation was refused, and the records are dropped.
     pub fn open(
         alloc: A,
         config: Config,
@@ -42,7 +42,7 @@ impl<A: Allocator + Copy> Ready<A> {
     ) -> Result<Ready<A>, NoMemory>
         requires node { node ≤ config.n }
 
-        // The records keep the rules A and B of docs/FORMATS.md, which concern one image alone.
+        // The records meet the rules A and B of docs/FORMATS.md, which concern one image alone.
         requires rules { KeepsOwn config node [] records.items }
         ensures { IfOk result (λ ready. (ready.limits ≡ config)
             × (ready.node ≡ node)
@@ -51,10 +51,10 @@ impl<A: Allocator + Copy> Ready<A> {
         let ready = Ready::new(alloc, config, node)?;
         let Ready { mut held } = ready;
         for record in records {
-            // These two calls do nothing. They tell the prover the invariants of the two layers.
-            held.pending.limits();
-            held.fifo.limits();
-            held = joined(held, record)?;
+            // Only the proof needs these two calls: they state the invariants of two layers.
+            held.pending.recall();
+            held.fifo.recall();
+            held = join_record(held, record)?;
         }
         Ok(Ready { held })
     }

@@ -6,19 +6,20 @@ ghost use Rattle.urb_names.specs.Carried.{AreFrom};
 ghost use Rattle.urb_stubborn.specs.Resending.{tick_packets, ticked};
 ghost use Rattle.urb_node.specs.Held.{memory_of, IsHeld};
 ghost use Rattle.urb_node.specs.Found.{IsFoundIn, step_from};
-ghost use Rattle.urb_node.specs.Moves.{AnswersFrom, AnswersOfStored, Arrives, AreOfStored, Crashes, IsForNode, Submits, Ticks};
+ghost use Rattle.urb_node.specs.Moves.{AnswersFrom, AnswersOfStored, Arrives, AreOfStored, Crashes};
+ghost use Rattle.urb_node.specs.Moves.{IsForNode, Submits, Ticks};
 ghost use Rattle.urb_node.specs.Part.{opened_node};
 ghost use Rattle.urb_node.specs.Values.{ShowsReady, new_memory};
 
-use crate::down::fallen;
-use crate::found::{Found, arrived, submitted};
+use crate::call_outcomes::{Found, judge_packet, judge_submit};
+use crate::down::take_down;
 use crate::held::Held;
 use crate::{Answer, Down, Step, Storing};
 use std::alloc::{Allocator, Global};
 use std::marker::Model;
 use urb_fifo::Fifo;
 use urb_majority::Acks;
-use urb_names::{ClientId, Config, Message, NoMemory, NodeId, PacketView, Refusal};
+use urb_names::{ClientId, Config, Message, NoMemory, NodeId, PacketView, Payload, Refusal};
 use urb_pending::Pending;
 use urb_stable::Draft;
 use urb_stubborn::{Outbox, Resend};
@@ -51,8 +52,8 @@ fn step_of<A: Allocator + Copy>(held: Held<A>, found: Found<A>) -> Step<A>
         Found::Known(answer) => Step::Same(Ready { held }, answer),
         Found::New(wanted) => {
             // Only the proof needs these calls: they state the invariants of the layers.
-            held.pending.limits();
-            held.fifo.limits();
+            held.pending.recall();
+            held.fifo.recall();
             let draft = Draft::new(held.node, held.stored + 1, wanted.copy);
             let storing = Storing {
                 held,
@@ -66,7 +67,7 @@ fn step_of<A: Allocator + Copy>(held: Held<A>, found: Found<A>) -> Step<A>
 }
 
 // The packets of a tick for these pending pairs and certificates.
-fn resent<A: Allocator + Copy>(
+fn resend_due<A: Allocator + Copy>(
     resend: &mut Resend<A>,
     alloc: A,
     pending: &Pending<A>,
@@ -81,8 +82,8 @@ fn resent<A: Allocator + Copy>(
 }
 
 impl<A: Allocator + Copy> Ready<A> {
-    /// A node of a group that has stored nothing: a process of the book's logged uniform reliable
-    /// broadcast right after its initialization (section 3.7).
+    /// A node of a group that has stored nothing: a process of the textbook's logged uniform
+    /// reliable broadcast right after its initialization (section 3.7).
     pub fn new(alloc: A, config: Config, node: NodeId) -> Result<Ready<A>, NoMemory>
         requires { node ≤ config.n }
         ensures memory { IfOk result (λ ready. ready ≡ new_memory config node) }
@@ -91,7 +92,7 @@ impl<A: Allocator + Copy> Ready<A> {
         ensures shows { IfOk result (λ ready. ShowsReady ready (opened_node node [])) }
     {
         // Only the proof needs this call: it states the range of a node's number.
-        let _range = node.number();
+        node.recall();
         Ok(Ready {
             held: Held {
                 config,
@@ -105,9 +106,9 @@ impl<A: Allocator + Copy> Ready<A> {
         })
     }
 
-    /// Takes a client's message, up to its store. This is the broadcast of the book's majority-ack
-    /// algorithm with logging (section 3.7), under the node's next number (broadcast with sequence
-    /// number, section 3.9).
+    /// Takes a client's message, up to its store. This is the broadcast of the textbook's
+    /// majority-ack algorithm with logging (section 3.7), under the node's next number (broadcast
+    /// with sequence number, section 3.9).
     pub fn submit(
         self,
         alloc: A,
@@ -118,20 +119,56 @@ impl<A: Allocator + Copy> Ready<A> {
         ensures event { Submits self
             (record { client = client; number = number; payload = payload.now }) result }
 
-        // After a refusal the node is as it was, whatever it shows.
+        // After a refusal the node is as it was, whichever world it shows, if any.
+        ensures refused { IfErr result (λ e. e.0 ≡ self) }
+    {
+        self.take_submit(alloc, client, number, payload, &None)
+    }
+
+    /// Does the same, but the node's message shares the memory of the payload.
+    pub fn submit_sharing(
+        self,
+        alloc: A,
+        client: ClientId,
+        number: u32,
+        payload: &Payload<A>,
+    ) -> Result<Step<A>, (Ready<A>, Refusal)>
+        ensures event { Submits self
+            (record { client = client; number = number; payload = payload.now }) result }
+
+        // After a refusal the node is as it was, whichever world it shows, if any.
+        ensures refused { IfErr result (λ e. e.0 ≡ self) }
+    {
+        let shared = payload.share(alloc).ok();
+        self.take_submit(alloc, client, number, payload.as_slice(), &shared)
+    }
+
+    // Takes a client's message, up to its store. `shared` is the same payload, if it is in shared
+    // memory: then the node's message shares that.
+    fn take_submit(
+        self,
+        alloc: A,
+        client: ClientId,
+        number: u32,
+        payload: &[u8],
+        shared: &Option<Payload<A>>,
+    ) -> Result<Step<A>, (Ready<A>, Refusal)>
+        requires shared { ForSome shared.now (λ p. p ≡ payload.now) }
+        ensures event { Submits self
+            (record { client = client; number = number; payload = payload.now }) result }
         ensures refused { IfErr result (λ e. e.0 ≡ self) }
     {
         let Ready { mut held } = self;
         // Only the proof needs this call: it states the invariant of the pending pairs.
-        held.pending.limits();
-        match submitted(&mut held, alloc, client, number, payload) {
+        held.pending.recall();
+        match judge_submit(&mut held, alloc, client, number, payload, shared) {
             Ok(found) => Ok(step_of(held, found)),
             Err(refusal) => Err((Ready { held }, refusal)),
         }
     }
 
     /// Takes a packet of another node of the group, up to its store; its source holds the message.
-    /// This is the delivery of a stubborn best-effort broadcast in the book's majority-ack
+    /// This is the delivery of a stubborn best-effort broadcast in the textbook's majority-ack
     /// algorithm with logging (section 3.7).
     pub fn arrive(self, alloc: A, packet: PacketView<'_>) -> Result<Step<A>, (Ready<A>, Refusal)>
         requires { IsForNode self packet }
@@ -142,7 +179,7 @@ impl<A: Allocator + Copy> Ready<A> {
         ensures memory { IfOk result AnswersFrom }
         ensures stored { IfOk result AnswersOfStored }
 
-        // After a refusal the node is as it was, whatever it shows.
+        // After a refusal the node is as it was, whichever world it shows, if any.
         ensures refused { IfErr result (λ e. e.0 ≡ self) }
     {
         self.arrive_sharing(alloc, packet, None)
@@ -165,23 +202,22 @@ impl<A: Allocator + Copy> Ready<A> {
         ensures memory { IfOk result AnswersFrom }
         ensures stored { IfOk result AnswersOfStored }
 
-        // After a refusal the node is as it was, whatever it shows.
+        // After a refusal the node is as it was, whichever world it shows, if any.
         ensures refused { IfErr result (λ e. e.0 ≡ self) }
     {
         let Ready { mut held } = self;
         // Only the proof needs these calls: they state that a packet's nodes differ, and the range
         // of their numbers.
-        let _apart = packet.target();
-        let _range = packet.source().number();
-        match arrived(&mut held, alloc, &packet, known) {
+        packet.recall();
+        match judge_packet(&mut held, alloc, &packet, known) {
             Ok(found) => Ok(step_of(held, found)),
             Err(refusal) => Err((Ready { held }, refusal)),
         }
     }
 
     /// A timeout: sends pending messages again to the nodes whose certificates of them were not
-    /// heard (stubborn links, section 2.4 of the book). If memory is refused, the next tick sends
-    /// what this one would have sent.
+    /// heard (stubborn links, section 2.4 of the textbook). If memory is refused, the next tick
+    /// sends what this one would have sent.
     pub fn tick(self, alloc: A) -> (Ready<A>, Result<Outbox<A>, NoMemory>)
         ensures event { Ticks self result }
 
@@ -191,8 +227,8 @@ impl<A: Allocator + Copy> Ready<A> {
     {
         let Ready { mut held } = self;
         // Only the proof needs this call: it states the invariant of the pending pairs.
-        held.pending.limits();
-        let sent = resent(&mut held.resend, alloc, &held.pending, &held.acks);
+        held.pending.recall();
+        let sent = resend_due(&mut held.resend, alloc, &held.pending, &held.acks);
         (Ready { held }, sent)
     }
 
@@ -201,6 +237,6 @@ impl<A: Allocator + Copy> Ready<A> {
         ensures { Crashes (ShowsReady self) self result }
     {
         let Ready { held } = self;
-        fallen(held, None)
+        take_down(held, None)
     }
 }

@@ -1,21 +1,23 @@
 //! A node that holds a draft.
 
-ghost use Rattle.std.specs.Prelude.{◌≡◌, ◌≤◌, ◌<◌, ◌+◌, ◌^◌, true, false, length, is_some, IfOk, Some};
+ghost use Rattle.std.specs.Prelude.{◌≡◌, ◌≤◌, ◌<◌, ◌+◌, ◌^◌, true, false, length, is_some, IfOk};
+ghost use Rattle.std.specs.Prelude.{Some};
 ghost use Rattle.std.specs.Bool.{MatchBool};
 ghost use Rattle.urb_names.specs.Carried.{AreFrom};
 ghost use Rattle.urb_names.specs.Names.{has_name};
 ghost use Rattle.urb_names.specs.Pairs.{message_of};
 ghost use Rattle.urb_stable.specs.declared.record.Record.TheVariants.{Pend};
 ghost use Rattle.urb_node.specs.Held.{memory_of, HasRoom, IsHeld, IsNextHeld};
-ghost use Rattle.urb_node.specs.Layers.{counted_cause, counted_with, with_certificate, with_pair, with_record};
+ghost use Rattle.urb_node.specs.Layers.{counted_cause, counted_with, with_certificate, with_pair};
+ghost use Rattle.urb_node.specs.Layers.{with_record};
 ghost use Rattle.urb_node.specs.Moves.{AreOfStored, Confirms, Crashes, Fails};
 ghost use Rattle.urb_node.specs.Steps.{is_accepted};
 ghost use Rattle.urb_node.specs.Values.{ShowsReady, ShowsStoring};
 
-use crate::cause::{Cause, heard_of};
-use crate::down::fallen;
-use crate::found::note;
-use crate::hearing::hear;
+use crate::call_outcomes::note;
+use crate::cause::{Cause, certified_source};
+use crate::down::take_down;
+use crate::heard_certificates::hear;
 use crate::held::Held;
 use crate::{Done, Down, Ready};
 use std::alloc::{Allocator, Global};
@@ -49,7 +51,12 @@ impl<A: Allocator> Model for Storing<A> {
 
 // Counts the acknowledgements of a stored message: the node's own, and that of the source of the
 // packet that caused it.
-fn count<A: Allocator + Copy>(acks: &mut Acks<A>, name: Name, node: NodeId, cause: Option<Cause>)
+fn count_acks<A: Allocator + Copy>(
+    acks: &mut Acks<A>,
+    name: Name,
+    node: NodeId,
+    cause: Option<Cause>,
+)
     requires { acks.old.reserved ≡ Some name }
     ensures counted { acks.new.counted
         ≡ counted_cause (counted_with acks.old.counted name node) name cause }
@@ -80,9 +87,9 @@ fn join_pair<A: Allocator + Copy>(
     ensures room { (held.new.acks.reserved ≡ Some name) × (held.new.fifo ≡ held.old.fifo) }
 {
     let node = held.node;
-    let heard = heard_of(&cause);
+    let heard = certified_source(&cause);
     held.pending.add(name, message).unwrap();
-    count(&mut held.acks, name, node, cause);
+    count_acks(&mut held.acks, name, node, cause);
     hear(&mut held.resend, name, heard);
     held.stored += 1;
 }
@@ -104,7 +111,7 @@ fn join_certificate<A: Allocator + Copy>(held: &mut Held<A>, name: Name) -> u32
 }
 
 /// What a node holds once its record is stored, and how many names this releases.
-pub(crate) fn stored<A: Allocator + Copy>(
+pub(crate) fn apply_record<A: Allocator + Copy>(
     mut held: Held<A>,
     entry: Record<Message<A>>,
     cause: Option<Cause>,
@@ -117,8 +124,8 @@ pub(crate) fn stored<A: Allocator + Copy>(
     ensures released { length (memory_of result.0).log ≡ length (memory_of held).log + result.1 }
 {
     // Only the proof needs these calls: they state the invariants of the layers.
-    held.pending.limits();
-    held.fifo.limits();
+    held.pending.recall();
+    held.fifo.recall();
     match entry {
         Record::Pend(name, message) => {
             join_pair(&mut held, name, message, cause);
@@ -165,8 +172,8 @@ fn is_own_message<A: Allocator>(entry: &Record<Message<A>>, node: NodeId) -> boo
 
 impl<A: Allocator + Copy> Storing<A> {
     /// Continues after the store kept the record, and returns the packets to send. The receipt is
-    /// the proof that it is stored, so a receipt of another draft comes back with the node.
-    /// Allocates no memory.
+    /// the proof that it is stored, so a receipt of another draft is returned together with the
+    /// node. Allocates no memory.
     pub fn confirm(
         self,
         receipt: Receipt<A>,
@@ -184,8 +191,8 @@ impl<A: Allocator + Copy> Storing<A> {
             packets,
         } = self;
         // Only the proof needs these calls: they state the invariants of the layers.
-        held.pending.limits();
-        held.fifo.limits();
+        held.pending.recall();
+        held.fifo.recall();
         if !is_receipt_of(&receipt, held.node, held.stored + 1, &entry) {
             let storing = Storing {
                 held,
@@ -197,7 +204,7 @@ impl<A: Allocator + Copy> Storing<A> {
         }
         let name = entry.name();
         let accepted = is_own_message(&entry, held.node);
-        let (held, released) = stored(held, entry, cause);
+        let (held, released) = apply_record(held, entry, cause);
         let done = Done {
             accepted,
             name,
@@ -213,7 +220,7 @@ impl<A: Allocator + Copy> Storing<A> {
         ensures { Fails self result }
     {
         let Storing { held, entry, .. } = self;
-        fallen(held, Some(entry))
+        take_down(held, Some(entry))
     }
 
     /// Stops the node while it holds a draft; same as `fail`.

@@ -51,7 +51,7 @@ fn message<A: Allocator + Copy>(
         return None;
     }
     let client = ClientId::new(client)?;
-    Message::copied(alloc, client, number, payload).ok()
+    Message::copy_of(alloc, client, number, payload).ok()
 }
 
 // A record of this form. Its message is from client 7, and the client's number for it is the number

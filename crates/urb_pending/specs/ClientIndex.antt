@@ -1,5 +1,6 @@
 -- When the rows of clients are the index of a node's own messages.
-use Rattle.std.specs.Prelude.{◌≡◌, ℕ, zero, suc, ◌==◌, Bool, false, List, [], length, count_by, find, Option, Some, None, option_map, slice_get}
+use Rattle.std.specs.Prelude.{◌≡◌, ℕ, zero, suc, ◌==◌, Bool, false, List, [], length, count_by}
+use Rattle.std.specs.Prelude.{find, Option, Some, None, option_map, slice_get}
 use Rattle.std.specs.List.{position_or_len}
 use Rattle.urb_names.specs.Naming.{Content}
 use Rattle.urb_names.specs.Pairs.{is_numbered}
@@ -31,10 +32,13 @@ nth numbers (suc before) = slice_get numbers before
 -- the place, from 1, of the first message with this client and number
 abbrev pub place_given : ℕ → ℕ → List Content → Option ℕ
 place_given client number messages =
-    option_map (λ m. suc (position_or_len (is_numbered client number) messages)) (find (is_numbered client number) messages)
+    option_map (λ m. suc (position_or_len (is_numbered client number) messages))
+    (find (is_numbered client number) messages)
 
 -- Each client has as many numbers as messages. The number at place k belongs to the message that
 -- the client numbered k.
 pub record IsIndexOf (messages : List Content) (rows : List Row) : Type 0 where
-  pub counts : (client : ℕ) → length (given_to client rows) ≡ count_by (λ m. m.client == client) messages
-  pub finds : (client number : ℕ) → place_given client number messages ≡ nth (given_to client rows) number
+  pub counts : (client : ℕ) → length (given_to client rows) ≡ count_by
+      (λ m. m.client == client) messages
+  pub finds : (client number : ℕ)
+      → place_given client number messages ≡ nth (given_to client rows) number

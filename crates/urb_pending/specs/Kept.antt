@@ -8,7 +8,13 @@ use Rattle.urb_pending.specs.declared.pending.Pending.TheInside.{Inside}
 
 -- the pairs are the entries of the windows
 abbrev pub view_of : {A : Type 0} → Inside A → PendingSet
-view_of a = record { limits = a.config; node = a.node; pairs = a.windows.entries; reserved = a.reserved }
+view_of a = record {
+  limits = a.config;
+  node = a.node;
+  pairs = a.windows.entries;
+  reserved =
+      a.reserved;
+}
 
 -- there is space for a name, and for its client if the name is the node's own
 pub record HasRoomFor {A : Type 0} (a : Inside A) (x : Label) (client : ℕ) : Type 0 where

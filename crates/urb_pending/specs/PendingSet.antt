@@ -1,5 +1,6 @@
 -- A node's pending set, as contracts see it.
-use Rattle.std.specs.Prelude.{◌≡◌, ◌≤◌, ℕ, suc, Bool, ◌&&◌, nat_le, IsTrue, List, [], ◌∷◌, length, map, find, Option, Some, None, option_map}
+use Rattle.std.specs.Prelude.{◌≡◌, ◌≤◌, ℕ, suc, Bool, ◌&&◌, nat_le, IsTrue, List, [], ◌∷◌, length}
+use Rattle.std.specs.Prelude.{map, find, Option, Some, None, option_map}
 use Rattle.std.specs.List.{list_all, position_or_len}
 use Rattle.urb_names.specs.Naming.{Limits, Label, Content, IsLimits}
 use Rattle.urb_names.specs.Nodes.{is_node}
@@ -23,7 +24,9 @@ added x m set = record set { pairs = inserted (x, m) set.pairs; reserved = None 
 -- the name that the node gave to the message with this client and number, if it is among the node's
 -- messages
 abbrev pub name_given : ℕ → ℕ → ℕ → List Content → Option Label
-name_given node client number messages = option_map (λ m. name node (suc (position_or_len (is_numbered client number) messages))) (find (is_numbered client number) messages)
+name_given node client number messages =
+    option_map (λ m. name node (suc (position_or_len (is_numbered client number) messages)))
+    (find (is_numbered client number) messages)
 
 -- the name of the first pair, if there is one
 abbrev pub first_name : List (Label × Content) → Option Label
@@ -40,5 +43,6 @@ pub record IsPendingSet (set : PendingSet) : Type 0 where
   pub limits : IsLimits set.limits
   pub rising : IsTrue (are_rising set.pairs)
   pub within : IsTrue (list_all (λ pair. is_within set.limits pair.0) set.pairs)
-  pub numbered : part_of set.node (map (λ pair. pair.0) set.pairs) ≡ names set.node (length (own set.node set.pairs))
+  pub numbered : part_of set.node (map (λ pair. pair.0) set.pairs) ≡ names set.node
+      (length (own set.node set.pairs))
   pub capped : length (own set.node set.pairs) ≤ set.limits.cap

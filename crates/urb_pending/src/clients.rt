@@ -1,6 +1,8 @@
 //! The index of a node's own messages by client, found by binary search.
 
-ghost use Rattle.std.specs.Prelude.{◌≡◌, ◌+◌, ◌<◌, ◌≤◌, ◌&&◌, ◌==◌, ℕ, true, false, nat_lt, IsTrue, IsOk, OnOk, OnErr, [], ◌∷◌, ◌++◌, length, if◌then◌else◌, Some, None, option_map, is_some};
+ghost use Rattle.std.specs.Prelude.{◌≡◌, ◌+◌, ◌<◌, ◌≤◌, ◌&&◌, ◌==◌, ℕ, true, false, nat_lt, IsTrue};
+ghost use Rattle.std.specs.Prelude.{IsOk, OnOk, OnErr, [], ◌∷◌, ◌++◌, length, if◌then◌else◌, Some};
+ghost use Rattle.std.specs.Prelude.{None, option_map, is_some};
 ghost use Rattle.std.specs.List.{prefix_len};
 ghost use Rattle.urb_pending.specs.Rows.{row_of, are_in_order};
 ghost use Rattle.urb_pending.specs.ClientIndex.{given_to, has_room, nth};
@@ -43,7 +45,7 @@ impl<A: Allocator + Copy> Clients<A> {
         ensures { result ≡ length (given_to client self.now) }
     {
         match row_of(&self.rows, client) {
-            Some(row) => row.given().len(),
+            Some(row) => row.numbers().len(),
             None => 0,
         }
     }
@@ -56,7 +58,7 @@ impl<A: Allocator + Copy> Clients<A> {
             return None;
         }
         let row = row_of(&self.rows, client)?;
-        row.given().get(number as usize - 1).copied()
+        row.numbers().get(number as usize - 1).copied()
     }
 
     /// Reserves space for one more message of the client.
@@ -89,7 +91,7 @@ impl<A: Allocator + Copy> Clients<A> {
     }
 
     /// Reserves space for one more message of the client if the message is the node's own.
-    pub(crate) fn make_room_where(&mut self, own: bool, client: ClientId) -> Result<(), NoMemory>
+    pub(crate) fn make_room_if(&mut self, own: bool, client: ClientId) -> Result<(), NoMemory>
         ensures given { (c : ℕ) → given_to c self.new ≡ given_to c self.old }
         ensures kept { (c : ℕ) → has_room c self.old ≡ true → has_room c self.new ≡ true }
         ensures ok { OnOk result (own ≡ true → has_room client self.new ≡ true) }
@@ -103,7 +105,7 @@ impl<A: Allocator + Copy> Clients<A> {
 
     /// Records that the client's next message has the name with number `seq`, if it is the node's
     /// own.
-    pub(crate) fn add_where(&mut self, own: bool, client: ClientId, seq: u32)
+    pub(crate) fn add_if(&mut self, own: bool, client: ClientId, seq: u32)
         requires { own ≡ true → has_room client self.old ≡ true }
         ensures { (c : ℕ)
             → given_to c self.new

@@ -1,6 +1,7 @@
 //! The set of pending pairs, each a name with its message.
 
-ghost use Rattle.std.specs.Prelude.{◌≡◌, ◌≤◌, ◌+◌, ◌*◌, ◌&&◌, ◌==◌, [], length, IsOk, OnOk, OnErr, IfErr, None, Some, option_map, slice_get, filter};
+ghost use Rattle.std.specs.Prelude.{◌≡◌, ◌≤◌, ◌+◌, ◌*◌, ◌&&◌, ◌==◌, [], length, IsOk, OnOk, OnErr};
+ghost use Rattle.std.specs.Prelude.{IfErr, None, Some, option_map, slice_get, filter};
 ghost use Rattle.urb_names.specs.Names.{same_message};
 ghost use Rattle.urb_names.specs.Pairs.{has_pair, message_of, own, next_number};
 ghost use Rattle.urb_names.specs.Cyclic.{cyclic, is_after};
@@ -58,14 +59,14 @@ impl<A: Allocator + Copy> Pending<A> {
         ensures err { OnErr result (self.new ≡ self.old) }
     {
         let own = name.sender == self.node;
-        self.clients.make_room_where(own, client)?;
+        self.clients.make_room_if(own, client)?;
         self.windows.reserve(name)?;
         self.reserved = Some((name, client));
         Ok(())
     }
 
     /// Adds a message under a name that is not pending, as a node does once it has stored the
-    /// record (section 3.7 of the book). If memory is refused, the message comes back.
+    /// record (section 3.7 of the textbook). If memory is refused, the message is returned.
     pub fn add(&mut self, name: Name, message: Message<A>) -> Result<(), (Message<A>, NoMemory)>
         requires absent { message_of self.old.pairs name ≡ None }
         requires sender { name.sender ≤ self.old.limits.n }
@@ -79,14 +80,14 @@ impl<A: Allocator + Copy> Pending<A> {
         ensures err { IfErr result (λ e. (e.0 ≡ message) × (self.new ≡ self.old)) }
         ensures reserved { self.old.reserved ≡ Some (name, message.client) → IsOk result }
     {
-        name.limits();
+        name.recall();
         let own = name.sender == self.node;
         let client = message.client();
-        if self.clients.make_room_where(own, client).is_err() {
+        if self.clients.make_room_if(own, client).is_err() {
             return Err((message, NoMemory));
         }
         self.windows.insert(name, message)?;
-        self.clients.add_where(own, client, name.seq);
+        self.clients.add_if(own, client, name.seq);
         self.reserved = None;
         Ok(())
     }
@@ -193,8 +194,8 @@ impl<A: Allocator + Copy> Pending<A> {
         self.windows.above(sender)
     }
 
-    /// States what holds of every pending set. It does nothing; only proofs use it.
-    pub fn limits(&self)
+    /// Does nothing at run time; it brings the value's invariant into the proof.
+    pub fn recall(&self)
         ensures { IsPendingSet self.now }
     {
         let _windows = &self.windows;

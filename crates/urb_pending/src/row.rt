@@ -47,7 +47,7 @@ impl<A: Allocator + Copy> ClientRow<A> {
         self.client
     }
 
-    pub(crate) fn given(&self) -> &[u32]
+    pub(crate) fn numbers(&self) -> &[u32]
         ensures { result.now ≡ self.now.given }
     {
         &self.given

@@ -18,8 +18,8 @@ const CAP: u32 = 40;
 /// A message to add: the sender and number of its name, its client, and the client's number for it.
 type Row = (u8, u32, u16, u32);
 
-/// What is added to a node's set, whether space is reserved for each message first, and the checks
-/// to make then.
+/// The messages to add to a node's set, whether space is reserved for each of them first, and the
+/// checks to make afterwards.
 #[derive(Clone, Copy)]
 struct Script<'a> {
     node: u8,
@@ -59,8 +59,8 @@ impl<A: Allocator + Copy> Tested<A> {
     }
 
     // Adds a message, with its number as the payload, after those before it. If the allocation is
-    // refused, nothing has changed and the message comes back; the second try succeeds. Returns
-    // whether it was refused, or `None` if that isn't so or the message can't be added.
+    // refused, checks that nothing has changed, and adds the returned message again. Returns
+    // whether it was refused, or `None` if a check fails or the message can't be added.
     fn add(&mut self, messages: A, row: Row, before: &[Row]) -> Option<bool> {
         let (sender, seq, client, number) = row;
         let (name, client) = (name(sender, seq)?, ClientId::new(client)?);
@@ -77,7 +77,7 @@ impl<A: Allocator + Copy> Tested<A> {
         if own && number != self.pending.client_next(client) {
             return None;
         }
-        let message = Message::copied(messages, client, number, &number.to_be_bytes()).ok()?;
+        let message = Message::copy_of(messages, client, number, &number.to_be_bytes()).ok()?;
         let Err((back, NoMemory)) = self.pending.add(name, message) else {
             return Some(false);
         };
@@ -114,9 +114,9 @@ impl<A: Allocator + Copy> Tested<A> {
         before: &[Row],
     ) -> Option<bool> {
         let refused = reserving && self.reserve(row, before)?;
-        let asked = heap.asked();
+        let asked = heap.growths();
         let again = self.add(messages, row, before)?;
-        if reserving && heap.asked() != asked {
+        if reserving && heap.growths() != asked {
             return None;
         }
         Some(refused || again)
@@ -148,13 +148,13 @@ fn is_refused<A: Allocator + Copy>(
     if is_told { refused } else { None }
 }
 
-// Plays a script with growth number `refused` refused; with 0 none is. Returns whether it was
-// refused. `None` means that a check failed or a different call was refused.
+// Plays a script while allocation (growth) number `refused` is refused, or none if that is 0.
+// Returns whether it was refused. `None` means that a check failed or a different call was refused.
 fn play(alloc: Global, refused: u64, script: Script) -> Option<bool> {
     let calm = Refusing::new(alloc, 0);
     let heap = Refusing::new(alloc, refused);
     let told = is_refused(&heap, &calm, &heap, script);
-    let met = heap.met();
+    let met = heap.has_failed();
     drop(heap);
     drop(calm);
     if told == Some(met) { told } else { None }

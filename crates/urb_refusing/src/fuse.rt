@@ -21,7 +21,7 @@ impl Fuse {
     }
 
     /// The number of calls requested so far.
-    pub fn asked(self) -> u64
+    pub fn calls(self) -> u64
         ensures { result ≡ self.asked }
     {
         self.asked
@@ -38,7 +38,7 @@ impl Fuse {
     }
 
     /// Whether the failing call has been requested.
-    pub fn met(self) -> bool
+    pub fn has_failed(self) -> bool
         ensures { IsTrue result ↔ IsMet self }
     {
         0 < self.refused && self.refused <= self.asked

@@ -15,11 +15,11 @@ fn grows(heap: &Refusing<Global>) -> Result<(), AllocError> {
 fn the_growth_of_that_number_is_refused_and_no_other(rt: HostRuntime) {
     for refused in 0..5u64 {
         let heap = Refusing::new(rt.alloc(), refused);
-        assert!(rt; heap.asked() == 0 && !heap.met());
+        assert!(rt; heap.growths() == 0 && !heap.has_failed());
         for growth in 1..4u64 {
             assert_eq!(rt; grows(&heap).is_err(), growth == refused);
-            assert_eq!(rt; heap.asked(), growth);
-            assert_eq!(rt; heap.met(), refused != 0 && refused <= growth);
+            assert_eq!(rt; heap.growths(), growth);
+            assert_eq!(rt; heap.has_failed(), refused != 0 && refused <= growth);
         }
     }
 }
@@ -36,7 +36,7 @@ fn a_reader_fails_at_the_read_of_its_number(rt: HostRuntime) {
         (Some(0), true, false),
     ] {
         assert_eq!(rt; reader.read(&mut buffer).ok(), given);
-        assert_eq!(rt; (reader.met(), reader.failed_last()), (met, last));
+        assert_eq!(rt; (reader.has_failed(), reader.failed_last()), (met, last));
     }
     assert_eq!(rt; reader.reads(), 5);
     assert_eq!(rt; buffer, *b"ed\0\0");
@@ -55,8 +55,8 @@ fn a_writer_fails_at_the_call_of_its_number(rt: HostRuntime) {
         let mut room = [0u8; 5];
         let mut writer = FailingWriter::new(&mut room, 2, failing);
         let done = writer.write_all(b"abcd").is_ok() && writer.flush().is_ok();
-        assert_eq!(rt; done, !writer.met());
-        assert_eq!(rt; writer.failed_last(), writer.met());
+        assert_eq!(rt; done, !writer.has_failed());
+        assert_eq!(rt; writer.failed_last(), writer.has_failed());
         assert_eq!(rt; writer.written(), written);
         assert_eq!(rt; writer.is_flushed(), flushed);
         assert_eq!(rt; writer.flushes() == 1, done);

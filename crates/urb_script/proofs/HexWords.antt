@@ -1,10 +1,13 @@
--- Words of hexadecimal digits and the bytes that they spell.
-use Rattle.std.proofs.Common.{◌≡◌, ◌≢◌, ◌⊎◌, ◌↔◌, inl, inr, Bool, true, false, ℕ, suc, ◌+◌, ◌-◌, ◌*◌, ◌/◌, ◌%◌, ◌<◌, ◌≤◌, List, [], ◌∷◌, ◌++◌, length, get_or, drop, refl, sym, ap, ap₂, ◌∙◌, subst, arith, append_assoc}
+-- Words of hexadecimal digits, and the bytes that they encode.
+use Rattle.std.proofs.Common.{◌≡◌, ◌≢◌, ◌⊎◌, ◌↔◌, inl, inr, Bool, true, false, ℕ, suc, ◌+◌, ◌-◌}
+use Rattle.std.proofs.Common.{◌*◌, ◌/◌, ◌%◌, ◌<◌, ◌≤◌, List, [], ◌∷◌, ◌++◌, length, get_or, drop}
+use Rattle.std.proofs.Common.{refl, sym, ap, ap₂, ◌∙◌, subst, arith, append_assoc}
 use Rattle.std.specs.List.{AllByRecursion}
 use Rattle.std.specs.Prelude.{IsTrue}
 use Rattle.std.proofs.lemmas.Bool.Decides.{nat_tests}
 use Rattle.std.proofs.lemmas.List.{drop_more}
-use Rattle.urb_script.specs.Hex.{IsDigit, AreDigits, IsHexWord, IsHexDigit, digit_value, byte_of, bytes_of, ArePairs}
+use Rattle.urb_script.specs.Hex.{IsDigit, AreDigits, IsHexWord, IsHexDigit, digit_value, byte_of}
+use Rattle.urb_script.specs.Hex.{bytes_of, ArePairs}
 
 -- ---- one digit
 
@@ -40,12 +43,14 @@ at_low d from to =
 
 at_upper : (d : ℕ) → 65 ≤ d → d ≤ 70 → IsDigit (digit_value d) d
 at_upper d from to =
-    let e : digit_value d ≡ d - 55 = value_upper (d - 55) d (omega arith) (omega arith) (omega arith) in
+    let e : digit_value d ≡ d - 55 =
+    value_upper (d - 55) d (omega arith) (omega arith) (omega arith) in
     subst (λ (v : ℕ). IsDigit v d) (sym e) (inr (omega arith, omega arith, inr (omega arith)))
 
 at_lower : (d : ℕ) → 97 ≤ d → d ≤ 102 → IsDigit (digit_value d) d
 at_lower d from to =
-    let e : digit_value d ≡ d - 87 = value_lower (d - 87) d (omega arith) (omega arith) (omega arith) in
+    let e : digit_value d ≡ d - 87 =
+    value_lower (d - 87) d (omega arith) (omega arith) (omega arith) in
     subst (λ (v : ℕ). IsDigit v d) (sym e) (inr (omega arith, omega arith, inl (omega arith)))
 
 digit_of : (d : ℕ) → IsHexDigit d → IsDigit (digit_value d) d
@@ -86,12 +91,15 @@ are_digits (h ∷ l ∷ digits) p =
       l,
       digits,
       refl,
-      subst (λ (v : ℕ). IsDigit v h) (sym (high_of (digit_value h) (digit_value l) small)) (digit_of h p.1.0),
-      subst (λ (v : ℕ). IsDigit v l) (sym (low_of (digit_value h) (digit_value l) small)) (digit_of l p.1.1.0),
+      subst (λ (v : ℕ). IsDigit v h) (sym (high_of (digit_value h) (digit_value l) small))
+          (digit_of h p.1.0),
+      subst (λ (v : ℕ). IsDigit v l) (sym (low_of (digit_value h) (digit_value l) small))
+          (digit_of l p.1.1.0),
       are_digits digits (even_less (length digits) p.0, p.1.1.1),
     )
 
-pub is_word : (digits : List ℕ) → 0 < length digits → ArePairs digits → IsHexWord (bytes_of digits) digits
+pub is_word : (digits : List ℕ) → 0 < length digits → ArePairs digits
+    → IsHexWord (bytes_of digits) digits
 is_word [] some p = absurd (omega (arith, some))
 is_word (digit ∷ []) some p = absurd (odd_one p.0)
 is_word (h ∷ l ∷ digits) some p = are_digits (h ∷ l ∷ digits) p
@@ -100,25 +108,33 @@ pub are_pairs : (bytes digits : List ℕ) → AreDigits bytes digits → ArePair
 are_pairs [] digits e = subst ArePairs (sym e) (refl, tt)
 are_pairs (byte ∷ bytes) digits d =
     let more = are_pairs bytes d.2 d.6 in
-    subst ArePairs (sym d.3) (even_more (length d.2) more.0, (is_hex (byte / 16) d.0 d.4, (is_hex (byte % 16) d.1 d.5, more.1)))
+    subst ArePairs (sym d.3) (
+      even_more (length d.2) more.0,
+      (is_hex (byte / 16) d.0 d.4, (is_hex (byte % 16) d.1 d.5, more.1)),
+    )
 
--- only pairs of digits, or a hyphen alone, spell bytes
-pub only_pairs : (bytes word : List ℕ) → IsHexWord bytes word → (ArePairs word → ⊥) → (word ≡ 45 ∷ [] → ⊥) → ⊥
+-- only pairs of digits, or a hyphen alone, stand for bytes
+pub only_pairs : (bytes word : List ℕ) → IsHexWord bytes word → (ArePairs word → ⊥)
+    → (word ≡ 45 ∷ [] → ⊥) → ⊥
 only_pairs [] word w pairs hyphen = hyphen w
 only_pairs (byte ∷ bytes) word w pairs hyphen = pairs (are_pairs (byte ∷ bytes) word w)
 
--- no empty word spells bytes
+-- the empty word doesn't stand for bytes
 pub no_word : (bytes word : List ℕ) → length word ≡ 0 → IsHexWord bytes word → ⊥
 no_word [] word e w = omega (arith, e, ap length w)
 no_word (byte ∷ bytes) word e w = omega (arith, e, ap length w.3)
 
-pub odd_word : (bytes word : List ℕ) → length word % 2 ≢ 0 → word ≢ 45 ∷ [] → IsHexWord bytes word → ⊥
+pub odd_word : (bytes word : List ℕ) → length word % 2 ≢ 0 → word ≢ 45 ∷ [] → IsHexWord bytes word
+    → ⊥
 odd_word bytes word odd hyphen w = only_pairs bytes word w (λ p. odd p.0) hyphen
 
-pub other_word : (all : Bool) (bytes word : List ℕ) → (IsTrue all ↔ AllByRecursion IsHexDigit word) → all ≡ false → word ≢ 45 ∷ [] → IsHexWord bytes word → ⊥
-other_word all bytes word tells none hyphen w = only_pairs bytes word w (λ p. let f : all ≡ true = tells.1 p.1 in absurd (cc)) hyphen
+pub other_word : (all : Bool) (bytes word : List ℕ) → (IsTrue all ↔ AllByRecursion IsHexDigit word)
+    → all ≡ false → word ≢ 45 ∷ [] → IsHexWord bytes word → ⊥
+other_word all bytes word tells none hyphen w =
+    only_pairs bytes word w (λ p. let f : all ≡ true = tells.1 p.1 in absurd (cc)) hyphen
 
-pub digits_word : (all : Bool) (word : List ℕ) → length word ≢ 0 → length word % 2 ≡ 0 → (IsTrue all ↔ AllByRecursion IsHexDigit word) → all ≡ true → IsHexWord (bytes_of word) word
+pub digits_word : (all : Bool) (word : List ℕ) → length word ≢ 0 → length word % 2 ≡ 0
+    → (IsTrue all ↔ AllByRecursion IsHexDigit word) → all ≡ true → IsHexWord (bytes_of word) word
 digits_word all word some even tells is = is_word word (above (length word) some) (even, tells.0 is)
   where
     above : (n : ℕ) → n ≢ 0 → 0 < n
@@ -132,31 +148,41 @@ whole byte h l e f = omega arith
 the_bytes : (bytes digits : List ℕ) → AreDigits bytes digits → bytes ≡ bytes_of digits
 the_bytes [] digits e = sym (ap bytes_of e)
 the_bytes (byte ∷ bytes) digits d =
-    ap₂ (λ (b : ℕ) (bs : List ℕ). b ∷ bs) (whole byte _ _ (sym (value_of_digit (byte / 16) d.0 d.4)) (sym (value_of_digit (byte % 16) d.1 d.5))) (the_bytes bytes d.2 d.6)
+    ap₂ (λ (b : ℕ) (bs : List ℕ). b ∷ bs)
+    (whole byte _ _ (sym (value_of_digit (byte / 16) d.0 d.4))
+    (sym (value_of_digit (byte % 16) d.1 d.5))) (the_bytes bytes d.2 d.6)
     ∙ sym (ap bytes_of d.3)
 
 hyphen_none : (byte : ℕ) (bytes word : List ℕ) → AreDigits (byte ∷ bytes) word → word ≡ 45 ∷ [] → ⊥
 hyphen_none byte bytes word d e = let f = d.3 in absurd (cc)
 
-pub same_bytes : (bytes others word : List ℕ) → IsHexWord bytes word → IsHexWord others word → bytes ≡ others
+pub same_bytes : (bytes others word : List ℕ) → IsHexWord bytes word → IsHexWord others word
+    → bytes ≡ others
 same_bytes [] [] word w v = refl
 same_bytes [] (byte ∷ bytes) word w v = absurd (hyphen_none byte bytes word v w)
 same_bytes (byte ∷ bytes) [] word w v = absurd (hyphen_none byte bytes word w v)
-same_bytes (byte ∷ bytes) (other ∷ others) word w v = the_bytes (byte ∷ bytes) word w ∙ sym (the_bytes (other ∷ others) word v)
+same_bytes (byte ∷ bytes) (other ∷ others) word w v =
+    the_bytes (byte ∷ bytes) word w ∙ sym (the_bytes (other ∷ others) word v)
 
 -- ---- two digits at a time
 
-two_more : (digits : List ℕ) (at : ℕ) → 2 * at + 1 < length digits → bytes_of (drop (2 * at) digits) ≡ byte_of (get_or digits (2 * at) 0) (get_or digits (2 * at + 1) 0) ∷ bytes_of (drop (2 * (at + 1)) digits)
+two_more : (digits : List ℕ) (at : ℕ) → 2 * at + 1 < length digits
+    → bytes_of (drop (2 * at) digits) ≡ byte_of (get_or digits (2 * at) 0)
+    (get_or digits (2 * at + 1) 0) ∷ bytes_of (drop (2 * (at + 1)) digits)
 two_more digits at within =
     ap bytes_of (
     drop_more digits (2 * at) 0 (omega arith)
-    ∙ ap (λ (rest : List ℕ). get_or digits (2 * at) 0 ∷ rest) (drop_more digits (2 * at + 1) 0 within)
-    ∙ ap (λ (n : ℕ). get_or digits (2 * at) 0 ∷ get_or digits (2 * at + 1) 0 ∷ drop n digits) (omega arith)
+    ∙ ap (λ (rest : List ℕ). get_or digits (2 * at) 0 ∷ rest)
+    (drop_more digits (2 * at + 1) 0 within)
+    ∙ ap (λ (n : ℕ). get_or digits (2 * at) 0 ∷ get_or digits (2 * at + 1) 0 ∷ drop n digits)
+    (omega arith)
     )
 
 -- two more digits are read
-pub decode_more : (done digits : List ℕ) (at byte : ℕ) → 2 * at + 1 < length digits → byte ≡ byte_of (get_or digits (2 * at) 0) (get_or digits (2 * at + 1) 0)
-    → done ++ bytes_of (drop (2 * at) digits) ≡ bytes_of digits → (done ++ byte ∷ []) ++ bytes_of (drop (2 * (at + 1)) digits) ≡ bytes_of digits
+pub decode_more : (done digits : List ℕ) (at byte : ℕ) → 2 * at + 1 < length digits
+    → byte ≡ byte_of (get_or digits (2 * at) 0) (get_or digits (2 * at + 1) 0)
+    → done ++ bytes_of (drop (2 * at) digits) ≡ bytes_of digits
+    → (done ++ byte ∷ []) ++ bytes_of (drop (2 * (at + 1)) digits) ≡ bytes_of digits
 decode_more done digits at byte within e so_far =
     append_assoc done (byte ∷ []) (bytes_of (drop (2 * (at + 1)) digits))
     ∙ ap (λ (b : ℕ). done ++ b ∷ bytes_of (drop (2 * (at + 1)) digits)) e

@@ -1,5 +1,6 @@
 -- Names as words: a node's digit, a full stop, and the number.
-use Rattle.std.proofs.Common.{◌≡◌, ℕ, ◌+◌, ◌-◌, ◌<◌, ◌≤◌, List, [], ◌∷◌, ◌++◌, length, length-drop, get_or, take, drop, sym, ap, ◌∙◌, arith}
+use Rattle.std.proofs.Common.{◌≡◌, ℕ, ◌+◌, ◌-◌, ◌<◌, ◌≤◌, List, [], ◌∷◌, ◌++◌, length, length-drop}
+use Rattle.std.proofs.Common.{get_or, take, drop, sym, ap, ◌∙◌, arith}
 use Rattle.std.specs.Fmt.{decimal}
 use Rattle.std.proofs.lemmas.Fmt.{decimal_digit}
 use Rattle.std.proofs.lemmas.List.{take_all}
@@ -8,14 +9,20 @@ use Rattle.urb_script.specs.Wording.{name_text}
 
 -- a name's word
 spelled : (x : Label) → IsLabel x → name_text x ≡ (48 + x.sender) ∷ 46 ∷ decimal x.seq
-spelled x l = ap (λ (s : List ℕ). s ++ (46 ∷ decimal x.seq)) (decimal_digit x.sender (omega (arith, l.sender)))
+spelled x l =
+    ap (λ (s : List ℕ). s ++ (46 ∷ decimal x.seq))
+    (decimal_digit x.sender (omega (arith, l.sender)))
 
-pub name_sender : (x y : Label) → IsLabel x → IsLabel y → name_text x ≡ name_text y → decimal x.sender ≡ decimal y.sender
+pub name_sender : (x y : Label) → IsLabel x → IsLabel y → name_text x ≡ name_text y
+    → decimal x.sender ≡ decimal y.sender
 name_sender x y l k e =
     let f = sym (spelled x l) ∙ e ∙ spelled y k in
-    decimal_digit x.sender (omega (arith, l.sender)) ∙ ap (λ (d : ℕ). d ∷ []) (ap (λ (w : List ℕ). get_or w 0 0) f) ∙ sym (decimal_digit y.sender (omega (arith, k.sender)))
+    decimal_digit x.sender (omega (arith, l.sender))
+    ∙ ap (λ (d : ℕ). d ∷ []) (ap (λ (w : List ℕ). get_or w 0 0) f)
+    ∙ sym (decimal_digit y.sender (omega (arith, k.sender)))
 
-pub name_seq : (x y : Label) → IsLabel x → IsLabel y → name_text x ≡ name_text y → decimal x.seq ≡ decimal y.seq
+pub name_seq : (x y : Label) → IsLabel x → IsLabel y → name_text x ≡ name_text y
+    → decimal x.seq ≡ decimal y.seq
 name_seq x y l k e = ap (λ (w : List ℕ). drop 2 w) (sym (spelled x l) ∙ e ∙ spelled y k)
 
 -- a name's word has at least two bytes, and its second is a full stop
@@ -25,19 +32,29 @@ name_long x word l e short = omega (arith, ap length (e ∙ spelled x l), short)
 pub name_stop : (x : Label) (word : List ℕ) → IsLabel x → word ≡ name_text x → get_or word 1 0 ≡ 46
 name_stop x word l e = ap (λ (w : List ℕ). get_or w 1 0) (e ∙ spelled x l)
 
-pub name_front : (x : Label) (word : List ℕ) → IsLabel x → word ≡ name_text x → take 1 word ≡ decimal x.sender
-name_front x word l e = ap (λ (w : List ℕ). take 1 w) (e ∙ spelled x l) ∙ sym (decimal_digit x.sender (omega (arith, l.sender)))
+pub name_front : (x : Label) (word : List ℕ) → IsLabel x → word ≡ name_text x
+    → take 1 word ≡ decimal x.sender
+name_front x word l e =
+    ap (λ (w : List ℕ). take 1 w) (e ∙ spelled x l)
+    ∙ sym (decimal_digit x.sender (omega (arith, l.sender)))
 
-name_back : (x : Label) (word : List ℕ) → IsLabel x → word ≡ name_text x → drop 2 word ≡ decimal x.seq
+name_back : (x : Label) (word : List ℕ) → IsLabel x → word ≡ name_text x
+    → drop 2 word ≡ decimal x.seq
 name_back x word l e = ap (λ (w : List ℕ). drop 2 w) (e ∙ spelled x l)
 
 -- such a word is a name's
-pub name_whole : (word : List ℕ) (sender seq : ℕ) → 2 ≤ length word → get_or word 1 0 ≡ 46 → take 1 word ≡ decimal sender → drop 2 word ≡ decimal seq → word ≡ decimal sender ++ (46 ∷ decimal seq)
+pub name_whole : (word : List ℕ) (sender seq : ℕ) → 2 ≤ length word → get_or word 1 0 ≡ 46
+    → take 1 word ≡ decimal sender → drop 2 word ≡ decimal seq
+    → word ≡ decimal sender ++ (46 ∷ decimal seq)
 name_whole [] sender seq long stop front back = absurd (omega (arith, long))
 name_whole (a ∷ []) sender seq long stop front back = absurd (omega (arith, long))
 name_whole (a ∷ b ∷ word) sender seq long stop front back =
-    ap (λ (c : ℕ). a ∷ c ∷ word) stop ∙ ap (λ (w : List ℕ). a ∷ 46 ∷ w) back ∙ ap (λ (w : List ℕ). w ++ (46 ∷ decimal seq)) front
+    ap (λ (c : ℕ). a ∷ c ∷ word) stop ∙ ap (λ (w : List ℕ). a ∷ 46 ∷ w) back
+    ∙ ap (λ (w : List ℕ). w ++ (46 ∷ decimal seq)) front
 
 -- the end of a word, as a slice of it
-pub name_tail : (x : Label) (word : List ℕ) → IsLabel x → word ≡ name_text x → take (length word - 2) (drop 2 word) ≡ decimal x.seq
-name_tail x word l e = take_all (length word - 2) (drop 2 word) (omega (arith, length-drop 2 word)) ∙ name_back x word l e
+pub name_tail : (x : Label) (word : List ℕ) → IsLabel x → word ≡ name_text x
+    → take (length word - 2) (drop 2 word) ≡ decimal x.seq
+name_tail x word l e =
+    take_all (length word - 2) (drop 2 word) (omega (arith, length-drop 2 word))
+    ∙ name_back x word l e

@@ -1,4 +1,4 @@
--- What a line of a script asks for, and how it is spelled.
+-- What a line of a script asks for, and how it is written.
 use Rattle.std.specs.Prelude.{◌≡◌, ◌≢◌, ℕ, ◌≤◌, List, [], ◌∷◌, length, codes, Option, None, Some}
 use Rattle.std.specs.Fmt.{decimal}
 use Rattle.urb_names.specs.Naming.{Limits, IsLimits, Label, IsLabel}
@@ -34,7 +34,7 @@ pub data Command : Type 0 where
   Log : (node : ℕ) → Command
   Held : (name : Label) → Command
 
--- the command of a line, wherever its payload or its digits lie in memory
+-- the command of a line, as contracts see it
 abbrev pub command : CommandLine → Command
 command (line.Group config) = Group config
 command (line.Submit node client number payload) = Submit node client number payload.now
@@ -83,16 +83,20 @@ keyword (Held name) = codes "held"
 -- the words after it
 abbrev pub AreArguments : Command → List (List ℕ) → Type 0
 AreArguments (Group limits) words = words ≡ decimal limits.n ∷ decimal limits.cap ∷ []
-AreArguments (Submit node client number payload) words = words ≡ decimal node ∷ decimal client ∷ decimal number ∷ payload_word payload ∷ []
+AreArguments (Submit node client number payload) words =
+    words ≡ decimal node ∷ decimal client ∷ decimal number ∷ payload_word payload ∷ []
 AreArguments (Stored node) words = words ≡ decimal node ∷ []
 AreArguments (Fail node failure) words = words ≡ decimal node ∷ failure_word failure ∷ []
 AreArguments (Crash node) words = words ≡ decimal node ∷ []
 AreArguments (Restart node) words = words ≡ decimal node ∷ []
 AreArguments Reopen words = words ≡ []
-AreArguments (Arrive source node name) words = words ≡ decimal source ∷ decimal node ∷ decimal name.sender ∷ decimal name.seq ∷ []
+AreArguments (Arrive source node name) words =
+    words ≡ decimal source ∷ decimal node ∷ decimal name.sender ∷ decimal name.seq ∷ []
 AreArguments (ArriveFlagged source node name flags) words =
-    words ≡ decimal source ∷ decimal node ∷ decimal name.sender ∷ decimal name.seq ∷ decimal (flags_number flags) ∷ []
-AreArguments (Raw node bytes) words = (word : List ℕ) × (words ≡ decimal node ∷ word ∷ []) × IsHexWord bytes word
+    words ≡ decimal source ∷ decimal node ∷ decimal name.sender ∷ decimal name.seq ∷ decimal
+    (flags_number flags) ∷ []
+AreArguments (Raw node bytes) words =
+    (word : List ℕ) × (words ≡ decimal node ∷ word ∷ []) × IsHexWord bytes word
 AreArguments (Tick node) words = words ≡ decimal node ∷ []
 AreArguments (Log node) words = words ≡ decimal node ∷ []
 AreArguments (Held name) words = words ≡ name_text name ∷ []
@@ -111,7 +115,8 @@ pub record IsRoute (q p : ℕ) : Type 0 where
 -- each word is within its range
 abbrev pub InRange : Command → Type 0
 InRange (Group limits) = IsLimits limits
-InRange (Submit node client number payload) = IsNodeNumber node × (1 ≤ client) × (client ≤ 65535) × (number ≤ 4294967295) × HasWord payload
+InRange (Submit node client number payload) =
+    IsNodeNumber node × (1 ≤ client) × (client ≤ 65535) × (number ≤ 4294967295) × HasWord payload
 InRange (Stored node) = IsNodeNumber node
 InRange (Fail node failure) = IsNodeNumber node
 InRange (Crash node) = IsNodeNumber node

@@ -23,12 +23,14 @@ pub record IsShownSafe (earlier : List (List ℕ)) (p : ℕ) (output : List ℕ)
 -- if a script is answered, each of its log lines shows a safe log
 abbrev pub LogsAreSafe : Type 0
 LogsAreSafe =
-    (earlier later : List (List ℕ)) (line output : List ℕ) (p : ℕ) (state : Option Scene) → Spells line (Log p)
+    (earlier later : List (List ℕ)) (line output : List ℕ) (p : ℕ) (state : Option Scene)
+    → Spells line (Log p)
     → Answers Takes None (earlier ++ line ∷ later) output state → IsShownSafe earlier p output
 
--- After these lines p's log is shown, and after those between, q's. Take what the two show of one
--- sender: one begins the other.
-pub record AreShownAgreeing (earlier between : List (List ℕ)) (p q : ℕ) (output : List ℕ) : Type 0 where
+-- After these lines p's log is shown, and after those between, q's. For each sender, what one of
+-- the two shows is a prefix of what the other shows.
+pub record AreShownAgreeing (earlier between : List (List ℕ)) (p q : ℕ)
+    (output : List ℕ) : Type 0 where
   pub old : Scene
   pub new : Scene
   pub said : List ℕ
@@ -36,11 +38,15 @@ pub record AreShownAgreeing (earlier between : List (List ℕ)) (p q : ℕ) (out
   pub rest : List ℕ
   pub before : Answers Takes None earlier said (Some old)
   pub meanwhile : Answers Takes (Some old) between heard (Some new)
-  pub shown : output ≡ said ++ (shown_log old.world p ++ 10 ∷ (heard ++ (shown_log new.world q ++ 10 ∷ rest)))
-  pub agree : (s : ℕ) → OneBegins (entries_of s (stored old.world p)) (entries_of s (stored new.world q))
+  pub shown : output ≡ said ++ (shown_log old.world p
+      ++ 10 ∷ (heard ++ (shown_log new.world q ++ 10 ∷ rest)))
+  pub agree : (s : ℕ) → OneBegins (entries_of s (stored old.world p))
+      (entries_of s (stored new.world q))
 
 -- if a script is answered, any two of its log lines, of one node or of two, agree on every sender
 abbrev pub LogsAgree : Type 0
 LogsAgree =
-    (earlier between later : List (List ℕ)) (line other output : List ℕ) (p q : ℕ) (state : Option Scene) → Spells line (Log p) → Spells other (Log q)
-    → Answers Takes None (earlier ++ line ∷ (between ++ other ∷ later)) output state → AreShownAgreeing earlier between p q output
+    (earlier between later : List (List ℕ)) (line other output : List ℕ) (p q : ℕ)
+    (state : Option Scene) → Spells line (Log p) → Spells other (Log q)
+    → Answers Takes None (earlier ++ line ∷ (between ++ other ∷ later)) output state
+    → AreShownAgreeing earlier between p q output

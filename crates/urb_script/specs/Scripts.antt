@@ -24,9 +24,10 @@ abbrev pub Answers : Rule → Option Scene → List (List ℕ) → List ℕ → 
 Answers By old [] output new = (output ≡ []) × (new ≡ old)
 Answers By old (line ∷ lines) output new =
     (asked : Command) × (text : List ℕ) × (mid : Scene) × (rest : List ℕ)
-    × Spells line asked × By old asked text mid × (output ≡ text ++ 10 ∷ rest) × Answers By (Some mid) lines rest new
+    × Spells line asked × By old asked text mid × (output ≡ text ++ 10 ∷ rest)
+    × Answers By (Some mid) lines rest new
 
--- no command is at the front, though one has to be
+-- The next line is no command that may come now. Or there is no line, and no group was made yet.
 abbrev pub IsBad : Option Scene → List (List ℕ) → Type 0
 IsBad state (line ∷ lines) = (asked : Command) → MayCome state asked → Spells line asked → ⊥
 IsBad None [] = Unit {0}
@@ -38,19 +39,23 @@ bad_line number = codes "bad line " ++ decimal number ++ 10 ∷ []
 
 -- how a script ends after the lines that were answered
 abbrev pub Ends : Option Scene → List (List ℕ) → ℕ → Ended → List ℕ → Type 0
-Ends state left number Whole output = (left ≡ []) × (output ≡ []) × ((scene : Scene) × (state ≡ Some scene))
-Ends state left number (BadLine bad) output = IsBad state left × (bad ≡ number) × (output ≡ bad_line bad)
+Ends state left number Whole output =
+    (left ≡ []) × (output ≡ []) × ((scene : Scene) × (state ≡ Some scene))
+Ends state left number (BadLine bad) output =
+    IsBad state left × (bad ≡ number) × (output ≡ bad_line bad)
 
 -- What the reader still has, if these lines were not answered. At the end, it is nothing. After a
 -- bad line, it is all of them but at most one line.
 abbrev pub Leaves : List (List ℕ) → Ended → List ℕ → Type 0
 Leaves left Whole unread = unread ≡ []
-Leaves left (BadLine bad) unread = (part : List ℕ) × IsOneLine part × (left ≡ lines_of (part ++ unread))
+Leaves left (BadLine bad) unread =
+    (part : List ℕ) × IsOneLine part × (left ≡ lines_of (part ++ unread))
 
 -- A script from its first line to its end, by this rule. It has the lines that are answered, the
 -- other lines, the answers to the first, and what was written at the end. `unread` is what the
 -- reader still has.
-pub record WholeScript (By : Rule) (input : List ℕ) (ended : Ended) (unread : List ℕ) (before after : Option (List ℕ)) : Type 0 where
+pub record WholeScript (By : Rule) (input : List ℕ) (ended : Ended) (unread : List ℕ)
+    (before after : Option (List ℕ)) : Type 0 where
   pub done : List (List ℕ)
   pub left : List (List ℕ)
   pub said : List ℕ
@@ -73,12 +78,14 @@ pub record StopsAfter (P : List ℕ → Type 0) (input unread said : List ℕ) :
   pub answers : Answers Takes None done said state
 
 -- a script that stopped, and its answers are written
-abbrev pub BrokenOff : (List ℕ → Type 0) → List ℕ → List ℕ → Option (List ℕ) → Option (List ℕ) → Type 0
-BrokenOff P input unread before after = (said : List ℕ) × StopsAfter P input unread said × Appends before after said
+abbrev pub BrokenOff : (List ℕ → Type 0) → List ℕ → List ℕ → Option (List ℕ) → Option (List ℕ)
+    → Type 0
+BrokenOff P input unread before after =
+    (said : List ℕ) × StopsAfter P input unread said × Appends before after said
 
 -- A script that broke off, with what the reader still has. After a failed read, every line that was
--- read whole is answered. Without memory, and after a failed write, at most one is not. Nothing is
--- said of what a failed write has written.
+-- read whole is answered. Without memory, and after a failed write, at most one is not. It doesn't
+-- say what a failed write has written.
 abbrev pub BreaksOff : RunFault → List ℕ → List ℕ → Option (List ℕ) → Option (List ℕ) → Type 0
 BreaksOff Read input unread before after = BrokenOff IsPlain input unread before after
 BreaksOff Write input unread before after = (said : List ℕ) × StopsAfter IsOneLine input unread said
@@ -98,25 +105,34 @@ ShowsSome shows (Some state) None = ⊥
 ShowsSome shows (Some state) (Some scene) = shows state scene
 
 -- for each scene that was shown, the line has this answer, and a scene that it leads to is shown
-abbrev pub AnsweredFrom : {S : Type 0} → (S → Scene → Type 0) → Option S → List ℕ → List ℕ → Option S → Type 0
+abbrev pub AnsweredFrom : {S : Type 0} → (S → Scene → Type 0) → Option S → List ℕ → List ℕ
+    → Option S → Type 0
 AnsweredFrom shows old line text new =
-    (before : Option Scene) → ShowsSome shows old before → (after : Option Scene) × ShowsSome shows new after × Answered before line text after
+    (before : Option Scene) → ShowsSome shows old before
+    → (after : Option Scene) × ShowsSome shows new after × Answered before line text after
 
 -- the scene of a new group is shown, and this is the answer
 abbrev pub OpensWith : {S : Type 0} → (S → Scene → Type 0) → Limits → List ℕ → S → Type 0
-OpensWith shows limits text new = (scene : Scene) × shows new scene × Takes None (Group limits) text scene
+OpensWith shows limits text new =
+    (scene : Scene) × shows new scene × Takes None (Group limits) text scene
 
 -- for each scene that was shown, the command has this answer, and a scene that it leads to is shown
 abbrev pub TakesFrom : {S : Type 0} → (S → Scene → Type 0) → S → Command → List ℕ → S → Type 0
-TakesFrom shows old asked text new = (before : Scene) → shows old before → (after : Scene) × shows new after × Takes (Some before) asked text after
+TakesFrom shows old asked text new =
+    (before : Scene) → shows old before
+    → (after : Scene) × shows new after × Takes (Some before) asked text after
 
 -- whichever lines are answered, the world that they lead to is safe
 abbrev pub StaysSafe : Type 0
-StaysSafe = (lines : List (List ℕ)) (output : List ℕ) (scene : Scene) → Answers Takes None lines output (Some scene) → Safe scene.world
+StaysSafe =
+    (lines : List (List ℕ)) (output : List ℕ) (scene : Scene)
+    → Answers Takes None lines output (Some scene) → Safe scene.world
 
 -- If no store is refused memory, a script has only one outcome: any two ends and outputs that
 -- answer it are the same.
 abbrev pub HasOneOutcome : Type 0
 HasOneOutcome =
-    (input : List ℕ) (ended other : Ended) (unread left before after later : List ℕ) → WholeScript Plays input ended unread (Some before) (Some after) → WholeScript Plays input other left (Some before) (Some later)
+    (input : List ℕ) (ended other : Ended) (unread left before after later : List ℕ)
+    → WholeScript Plays input ended unread (Some before) (Some after)
+    → WholeScript Plays input other left (Some before) (Some later)
     → (ended ≡ other) × (after ≡ later)

@@ -1,5 +1,6 @@
 -- What the stores of a cluster, in memory, show of a scene.
-use Rattle.std.specs.Prelude.{[], length, ◌≡◌, ◌++◌, ◌-◌, ℕ, false, true, List, None, Some, slice_get}
+use Rattle.std.specs.Prelude.{[], length, ◌≡◌, ◌++◌, ◌-◌, ℕ, false, true, List, None, Some}
+use Rattle.std.specs.Prelude.{slice_get}
 use Rattle.urb_names.specs.Naming.{Limits}
 use Rattle.urb_names.specs.Nodes.{is_node}
 use Rattle.urb_stable.specs.Entries.{Entry}
@@ -26,7 +27,9 @@ pub record IsHeldBy (node : Node) (storage : List Entry) (m : Memory) : Type 0 w
 
 -- this is so for each node's store
 abbrev pub AreHeldBy : ℕ → (ℕ → Node) → (ℕ → List Entry) → List Memory → Type 0
-AreHeldBy n nodes storage stores = (p : ℕ) (m : Memory) → is_node n p ≡ true → slice_get stores (p - 1) ≡ Some m → IsHeldBy (nodes p) (storage p) m
+AreHeldBy n nodes storage stores =
+    (p : ℕ) (m : Memory) → is_node n p ≡ true → slice_get stores (p - 1) ≡ Some m
+    → IsHeldBy (nodes p) (storage p) m
 
 -- The cluster shows the scene: its group shows the world, and its stores show the storage, one for
 -- each node.
@@ -37,12 +40,14 @@ pub record ShowsScene (limits : Limits) (cluster : Clustered Memory) (scene : Sc
   pub counted : length cluster.stores ≡ limits.n
   pub beyond : (p : ℕ) → is_node limits.n p ≡ false → scene.storage p ≡ []
 
--- The stores do what the cluster asks of them. A store that is asked to fail fails as asked, and
--- keeps nothing instead of a record only if memory was refused. A store that is asked to keep a
--- record answers as it was armed to. This says nothing of other commands.
+-- The stores do what the cluster asks of them. A store that is to fail fails in the requested way,
+-- and keeps nothing instead of a record only if memory was refused. A store that is to keep a
+-- record answers as it was armed. This doesn't speak of other commands.
 abbrev pub StoresAsAsked : Type 0 → Command → Clustered Memory → Clustered Memory → Type 0
-StoresAsAsked A (Stored p) old new = (said : Reply) × StoresHeld (in_memory A) old p (held_draft old.group p) said new
-StoresAsAsked A (Fail p failure) old new = (said : Reply) × FailsHeld old p (held_draft old.group p) failure said new
+StoresAsAsked A (Stored p) old new =
+    (said : Reply) × StoresHeld (in_memory A) old p (held_draft old.group p) said new
+StoresAsAsked A (Fail p failure) old new =
+    (said : Reply) × FailsHeld old p (held_draft old.group p) failure said new
 StoresAsAsked A asked old new = Unit {0}
 
 -- what the stage shows
@@ -55,4 +60,5 @@ TellsOf of group old new = (w : World) → Shows group w → new ≡ old ++ of w
 
 -- the same, for a node of the group
 abbrev pub TellsAt : ℕ → (World → List ℕ) → GroupView → List ℕ → List ℕ → Type 0
-TellsAt p of group old new = (w : World) → Shows group w → is_node w.size.n p ≡ true → new ≡ old ++ of w
+TellsAt p of group old new =
+    (w : World) → Shows group w → is_node w.size.n p ≡ true → new ≡ old ++ of w

@@ -1,5 +1,6 @@
 -- The texts of answers.
-use Rattle.std.specs.Prelude.{◌≡◌, ◌≢◌, ℕ, List, [], ◌∷◌, ◌++◌, codes, flat_map, length, if◌then◌else◌, Option, Some, None}
+use Rattle.std.specs.Prelude.{◌≡◌, ◌≢◌, ℕ, List, [], ◌∷◌, ◌++◌, codes, flat_map, length}
+use Rattle.std.specs.Prelude.{if◌then◌else◌, Option, Some, None}
 use Rattle.std.specs.Fmt.{decimal}
 use Rattle.urb_names.specs.Naming.{Label, Content}
 use Rattle.urb_names.specs.declared.refusal.PacketFault.{PacketFault}
@@ -52,7 +53,8 @@ refusal_words (refusal.Packet fault) = codes "packet " ++ fault_word fault
 refusal_words refusal.Stale = codes "stale"
 refusal_words refusal.NotDown = codes "notdown"
 refusal_words refusal.BadImage = codes "badimage"
-refusal_words (refusal.Inconsistent rule node name) = codes "inconsistent " ++ (rule_letter rule ++ (32 ∷ (decimal node ++ (32 ∷ name_text name))))
+refusal_words (refusal.Inconsistent rule node name) =
+    codes "inconsistent " ++ (rule_letter rule ++ (32 ∷ (decimal node ++ (32 ∷ name_text name))))
 refusal_words refusal.Device = codes "device"
 refusal_words (refusal.Place next) = codes "place " ++ decimal next
 refusal_words (refusal.BadRow place) = codes "badrow " ++ decimal place
@@ -62,13 +64,18 @@ refusal_words (refusal.Frame code) = []
 -- the answer lines in fixed words, without their LF
 abbrev pub told_text : Told → List ℕ
 told_text (told.Grouped limits) = codes "group " ++ (decimal limits.n ++ (32 ∷ decimal limits.cap))
-told_text (told.Drafted x position) = codes "draft " ++ (name_text x ++ (codes " at " ++ decimal position))
+told_text (told.Drafted x position) =
+    codes "draft " ++ (name_text x ++ (codes " at " ++ decimal position))
 told_text (told.Accepted x) = codes "accepted " ++ name_text x
 told_text (told.Noted x) = codes "noted " ++ name_text x
 told_text (told.Again x) = codes "again " ++ name_text x
 told_text (told.Answered x) = codes "answered " ++ name_text x
-told_text (told.Stored x sent released) = codes "accepted " ++ (name_text x ++ (codes " sent " ++ (decimal sent ++ (codes " released " ++ decimal released))))
-told_text (told.Taken x sent released) = codes "taken " ++ (name_text x ++ (codes " sent " ++ (decimal sent ++ (codes " released " ++ decimal released))))
+told_text (told.Stored x sent released) =
+    codes "accepted " ++ (name_text x
+    ++ (codes " sent " ++ (decimal sent ++ (codes " released " ++ decimal released))))
+told_text (told.Taken x sent released) =
+    codes "taken " ++ (name_text x
+    ++ (codes " sent " ++ (decimal sent ++ (codes " released " ++ decimal released))))
 told_text (told.Down p) = codes "down " ++ decimal p
 told_text (told.Up p) = codes "up " ++ decimal p
 told_text told.Opened = codes "open"
@@ -99,7 +106,8 @@ reply_text (reply.Drafted x position) = told_text (told.Drafted x position)
 reply_text (reply.Same (answer.Accepted x)) = told_text (told.Accepted x)
 reply_text (reply.Same (answer.Noted x)) = told_text (told.Noted x)
 reply_text (reply.Same (answer.Again x)) = told_text (told.Again x)
-reply_text (reply.Same (answer.Answered x packets)) = told_text (told.Answered x) ++ flat_map answer_text packets
+reply_text (reply.Same (answer.Answered x packets)) =
+    told_text (told.Answered x) ++ flat_map answer_text packets
 reply_text (reply.Stored done) = done_text done
 reply_text (reply.Sent packets) = codes "sent" ++ flat_map packet_text packets
 reply_text (reply.WentDown p) = told_text (told.Down p)
@@ -117,7 +125,8 @@ message_word (Some m) = payload_word m.payload
 
 -- an entry of a log: a space, the name, =, and the payload
 abbrev pub entry_text : Label × Option Content → List ℕ
-entry_text entry = 32 ∷ (decimal entry.0.sender ++ (46 ∷ (decimal entry.0.seq ++ (61 ∷ message_word entry.1))))
+entry_text entry =
+    32 ∷ (decimal entry.0.sender ++ (46 ∷ (decimal entry.0.seq ++ (61 ∷ message_word entry.1))))
 
 -- the answer that shows p's log: its entries in the order of their release
 abbrev pub log_text : ℕ → List Entry → List ℕ

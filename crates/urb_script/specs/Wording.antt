@@ -2,13 +2,14 @@
 use Rattle.std.specs.Prelude.{◌≡◌, ℕ, ◌≤◌, List, [], ◌∷◌, ◌++◌, codes}
 use Rattle.std.specs.List.{AllByRecursion}
 use Rattle.std.specs.Fmt.{decimal}
+use Rattle.urb_names.specs.declared.limits.TheConstants.{MAX_NODES}
 use Rattle.urb_names.specs.Naming.{Label}
 use Rattle.urb_stable.specs.declared.memory.Failure.{Failure}
 use Rattle.urb_stable.specs.declared.memory.Failure.TheVariants.{Old, New}
 
--- a node's number is 1 to 7
+-- a node's number is 1 to MAX_NODES
 abbrev pub IsNodeNumber : ℕ → Type 0
-IsNodeNumber p = (1 ≤ p) × (p ≤ 7)
+IsNodeNumber p = (1 ≤ p) × (p ≤ MAX_NODES)
 
 -- a name: the sender, a full stop, the number
 abbrev pub name_text : Label → List ℕ
@@ -23,7 +24,7 @@ abbrev pub payload_word : List ℕ → List ℕ
 payload_word [] = 45 ∷ []
 payload_word (byte ∷ bytes) = byte ∷ bytes
 
--- a payload that a word can spell: printed bytes, and not a hyphen alone
+-- a payload that can be written as a word: printed bytes, and not a hyphen alone
 abbrev pub HasWord : List ℕ → Type 0
 HasWord payload = AllByRecursion IsPrinted payload × (payload ≡ 45 ∷ [] → ⊥)
 

@@ -1,22 +1,31 @@
 //! The commands of a script.
 
-ghost use Rattle.std.specs.Prelude.{◌≡◌, ◌≢◌, ℕ, ◌≤◌, ◌∷◌, List, length, codes, IfSome, IfNone, IsTrue, ◌↔◌, []};
+ghost use Rattle.std.specs.Prelude.{◌≡◌, ◌≢◌, ℕ, ◌≤◌, ◌∷◌, List, length, codes, IfSome, IfNone};
+ghost use Rattle.std.specs.Prelude.{IsTrue, ◌↔◌, []};
 ghost use Rattle.std.specs.List.{AllByRecursion};
 ghost use Rattle.std.specs.Fmt.{decimal};
 ghost use Rattle.urb_names.specs.Naming.{Limits, IsLimits, Label, IsLabel};
 ghost use Rattle.urb_names.specs.declared.flags.Flags.{Flags};
 ghost use Rattle.urb_stable.specs.declared.memory.Failure.{Failure};
 ghost use Rattle.urb_script.specs.Lines.{words_left};
-ghost use Rattle.urb_script.specs.Wording.{IsNodeNumber, HasWord, IsPrinted, payload_word, failure_word, name_text};
-ghost use Rattle.urb_script.specs.Commands.{Command, command, AreArguments, IsRoute, IsSpelled, InRange, Spells, Submit, Arrive, ArriveFlagged, Raw};
+ghost use Rattle.urb_script.specs.Wording.{IsNodeNumber, HasWord, IsPrinted, payload_word};
+ghost use Rattle.urb_script.specs.Wording.{failure_word, name_text};
+ghost use Rattle.urb_script.specs.Commands.{Command, command, AreArguments, IsRoute, IsSpelled};
+ghost use Rattle.urb_script.specs.Commands.{InRange, Spells, Submit, Arrive, ArriveFlagged, Raw};
 
 use crate::hex::HexBytes;
 use crate::input::LONGEST_LINE;
-use crate::words::{first_word, last_node, last_word, number_in, number_word};
-use urb_names::{ClientId, Config, Flags, Name, NodeId};
+use crate::words::{LAST_NODE, first_word, last_node, last_word, number_in, number_word};
+use urb_names::{ClientId, Config, Flags, MAX_CAP, MAX_NODES, Name, NodeId};
 use urb_stable::Failure;
 
-/// A command of a line. Its payload and its digits are borrowed from the line.
+// The greatest cap, as a number of the type that is parsed from words.
+const LAST_CAP: u64 = MAX_CAP as u64;
+
+// A name is written with one digit for its sender.
+const _: () = prove!(MAX_NODES <= 9);
+
+/// A command. Its payload and its digits are borrowed from the line.
 #[derive(Drop)]
 pub enum CommandLine<'a> {
     /// Make the group.
@@ -30,7 +39,7 @@ pub enum CommandLine<'a> {
     },
     /// Store the record that a node holds.
     Stored(NodeId),
-    /// Make the store of the record that a node holds fail.
+    /// Make a node's store fail on the record that the node holds.
     Fail {
         node: NodeId,
         failure: Failure,
@@ -41,21 +50,22 @@ pub enum CommandLine<'a> {
     Restart(NodeId),
     /// Stop all nodes at once, and open them again with what their storages hold.
     Reopen,
-    /// Bring a node the message that the source has stored under a name. The packet is of version
-    /// one. If the payload has more than 1,024 bytes, it is of version two with all flags clear.
+    /// Deliver to a node the message that the source has stored under a name. The packet is of
+    /// version one. If the payload has more than 1,024 bytes, it is of version two with all flags
+    /// clear.
     Arrive {
         source: NodeId,
         node: NodeId,
         name: Name,
     },
-    /// Bring the message in a packet of version two, with these flags.
+    /// Deliver the message in a packet of version two, with these flags.
     ArriveFlagged {
         source: NodeId,
         node: NodeId,
         name: Name,
         flags: Flags,
     },
-    /// Bring a node bytes.
+    /// Deliver bytes to a node.
     Raw {
         node: NodeId,
         bytes: HexBytes<'a>,
@@ -64,11 +74,11 @@ pub enum CommandLine<'a> {
     Tick(NodeId),
     /// Show a node's log.
     Log(NodeId),
-    /// Show which nodes have a name stored.
+    /// Show which nodes have stored a name.
     Held(Name),
 }
 
-/// Returns the command that a line spells.
+/// Parses a line, and returns its command.
 pub fn parse_command(line: &[u8]) -> Option<CommandLine<'_>>
     ensures some { IfSome result (λ found. Spells line.now (command found)) }
     ensures none { IfNone result ((asked : Command) → Spells line.now asked → ⊥) }
@@ -77,11 +87,11 @@ pub fn parse_command(line: &[u8]) -> Option<CommandLine<'_>>
         return None;
     }
     let (word, rest) = first_word(line);
-    command_of(word, rest)
+    parse_words(word, rest)
 }
 
-// Returns the command of a first word and what follows it.
-fn command_of<'a>(word: &[u8], rest: Option<&'a [u8]>) -> Option<CommandLine<'a>>
+// Parses a command from its first word and what follows it.
+fn parse_words<'a>(word: &[u8], rest: Option<&'a [u8]>) -> Option<CommandLine<'a>>
     ensures some { IfSome result (λ found.
         IsSpelled (word.now ∷ words_left rest.entry) (command found) × InRange (command found)) }
     ensures none { IfNone result ((asked : Command)
@@ -90,16 +100,16 @@ fn command_of<'a>(word: &[u8], rest: Option<&'a [u8]>) -> Option<CommandLine<'a>
         → ⊥) }
 {
     if word == b"group".as_slice() {
-        return Some(CommandLine::Group(group_of(rest)?));
+        return Some(CommandLine::Group(parse_group(rest)?));
     }
     if word == b"submit".as_slice() {
-        return submit_of(rest);
+        return parse_submit(rest);
     }
     if word == b"stored".as_slice() {
         return Some(CommandLine::Stored(last_node(rest)?));
     }
     if word == b"fail".as_slice() {
-        let (node, failure) = fail_of(rest)?;
+        let (node, failure) = parse_fail(rest)?;
         return Some(CommandLine::Fail { node, failure });
     }
     if word == b"crash".as_slice() {
@@ -115,13 +125,13 @@ fn command_of<'a>(word: &[u8], rest: Option<&'a [u8]>) -> Option<CommandLine<'a>
         return Some(CommandLine::Reopen);
     }
     if word == b"arrive".as_slice() {
-        return arrive_of(rest);
+        return parse_arrive(rest);
     }
     if word == b"arrive2".as_slice() {
-        return arrive_flagged_of(rest);
+        return parse_arrive_flagged(rest);
     }
     if word == b"raw".as_slice() {
-        return raw_of(rest);
+        return parse_raw(rest);
     }
     if word == b"tick".as_slice() {
         return Some(CommandLine::Tick(last_node(rest)?));
@@ -130,28 +140,28 @@ fn command_of<'a>(word: &[u8], rest: Option<&'a [u8]>) -> Option<CommandLine<'a>
         return Some(CommandLine::Log(last_node(rest)?));
     }
     if word == b"held".as_slice() {
-        return Some(CommandLine::Held(name_of(last_word(rest)?)?));
+        return Some(CommandLine::Held(parse_name(last_word(rest)?)?));
     }
     None
 }
 
-// Returns the limits of a group.
-fn group_of(rest: Option<&[u8]>) -> Option<Config>
+// Parses the words of a `group` line as the limits of a group.
+fn parse_group(rest: Option<&[u8]>) -> Option<Config>
     ensures some { IfSome result (λ limits.
         (words_left rest.entry ≡ decimal limits.n ∷ decimal limits.cap ∷ []) × IsLimits limits) }
     ensures none { IfNone result ((limits : Limits)
         → IsLimits limits
         → words_left rest.entry ≢ decimal limits.n ∷ decimal limits.cap ∷ []) }
 {
-    let (n, rest) = number_word(rest, 1, 7)?;
-    let (cap, rest) = number_word(rest, 1, 1_000_000)?;
+    let (n, rest) = number_word(rest, 1, LAST_NODE)?;
+    let (cap, rest) = number_word(rest, 1, LAST_CAP)?;
     if rest.is_some() {
         return None;
     }
     Some(Config::new(n as u8, cap as u32).unwrap())
 }
 
-fn submit_of(rest: Option<&[u8]>) -> Option<CommandLine<'_>>
+fn parse_submit(rest: Option<&[u8]>) -> Option<CommandLine<'_>>
     ensures some { IfSome result (λ found.
         IsSpelled (codes "submit" ∷ words_left rest.entry) (command found)
         × InRange (command found)) }
@@ -160,10 +170,10 @@ fn submit_of(rest: Option<&[u8]>) -> Option<CommandLine<'_>>
         → AreArguments (Submit node client number payload) (words_left rest.entry)
         → ⊥) }
 {
-    let (node, rest) = number_word(rest, 1, 7)?;
+    let (node, rest) = number_word(rest, 1, LAST_NODE)?;
     let (client, rest) = number_word(rest, 1, 65_535)?;
     let (number, rest) = number_word(rest, 0, 4_294_967_295)?;
-    let payload = payload_of(last_word(rest)?)?;
+    let payload = parse_payload(last_word(rest)?)?;
     let node = NodeId::new(node as u8).unwrap();
     let client = ClientId::new(client as u16).unwrap();
     Some(CommandLine::Submit {
@@ -174,8 +184,8 @@ fn submit_of(rest: Option<&[u8]>) -> Option<CommandLine<'_>>
     })
 }
 
-// Returns the payload that a word spells.
-fn payload_of(word: &[u8]) -> Option<&[u8]>
+// Parses a word as a payload.
+fn parse_payload(word: &[u8]) -> Option<&[u8]>
     ensures some { IfSome result
         (λ payload. (word.now ≡ payload_word payload.now) × HasWord payload.now) }
     ensures none { IfNone result
@@ -184,33 +194,33 @@ fn payload_of(word: &[u8]) -> Option<&[u8]>
     if word.len() == 1 && word[0] == b'-' {
         return Some(&word[..0]);
     }
-    if word.is_empty() || !all_printed(word) {
+    if word.is_empty() || !is_printable(word) {
         return None;
     }
     Some(word)
 }
 
-fn all_printed(word: &[u8]) -> bool
+fn is_printable(word: &[u8]) -> bool
     ensures { IsTrue result ↔ AllByRecursion IsPrinted word.now }
 {
     word.iter().all(|byte| matches!(*byte, b'!'..=b'~'))
 }
 
-// Returns a node, and what its storage keeps of a record whose store fails.
-fn fail_of(rest: Option<&[u8]>) -> Option<(NodeId, Failure)>
+// Parses the words of a `fail` line: a node, and whether its failing store keeps the record.
+fn parse_fail(rest: Option<&[u8]>) -> Option<(NodeId, Failure)>
     ensures some { IfSome result
         (λ r. (words_left rest.entry ≡ decimal r.0 ∷ failure_word r.1 ∷ []) × IsNodeNumber r.0) }
     ensures none { IfNone result ((node : ℕ) (failure : Failure)
         → IsNodeNumber node
         → words_left rest.entry ≢ decimal node ∷ failure_word failure ∷ []) }
 {
-    let (number, rest) = number_word(rest, 1, 7)?;
-    let failure = failure_of(last_word(rest)?)?;
+    let (number, rest) = number_word(rest, 1, LAST_NODE)?;
+    let failure = parse_failure(last_word(rest)?)?;
     let node = NodeId::new(number as u8).unwrap();
     Some((node, failure))
 }
 
-fn failure_of(word: &[u8]) -> Option<Failure>
+fn parse_failure(word: &[u8]) -> Option<Failure>
     ensures some { IfSome result (λ failure. word.now ≡ failure_word failure) }
     ensures none { IfNone result ((failure : Failure) → word.now ≢ failure_word failure) }
 {
@@ -223,7 +233,7 @@ fn failure_of(word: &[u8]) -> Option<Failure>
     None
 }
 
-// The source of a packet, the node that it comes to, and its name.
+// The source of a packet, its target, and its name.
 #[derive(Clone, Copy)]
 struct Route {
     source: NodeId,
@@ -231,8 +241,8 @@ struct Route {
     name: Name,
 }
 
-// Returns the route that the next words spell, and what follows them.
-fn route_of(rest: Option<&[u8]>) -> Option<(Route, Option<&[u8]>)>
+// Parses the next words as a route. Also returns what follows them.
+fn parse_route(rest: Option<&[u8]>) -> Option<(Route, Option<&[u8]>)>
     ensures some { IfSome result (λ r. (words_left rest.entry
         ≡ decimal r.0.source
         ∷ decimal r.0.node
@@ -247,9 +257,9 @@ fn route_of(rest: Option<&[u8]>) -> Option<(Route, Option<&[u8]>)>
         → words_left rest.entry
         ≢ decimal source ∷ decimal node ∷ decimal name.sender ∷ decimal name.seq ∷ words) }
 {
-    let (source, rest) = number_word(rest, 1, 7)?;
-    let (node, rest) = number_word(rest, 1, 7)?;
-    let (sender, rest) = number_word(rest, 1, 7)?;
+    let (source, rest) = number_word(rest, 1, LAST_NODE)?;
+    let (node, rest) = number_word(rest, 1, LAST_NODE)?;
+    let (sender, rest) = number_word(rest, 1, LAST_NODE)?;
     let (seq, rest) = number_word(rest, 1, 4_294_967_295)?;
     if source == node {
         return None;
@@ -264,7 +274,7 @@ fn route_of(rest: Option<&[u8]>) -> Option<(Route, Option<&[u8]>)>
     Some((Route { source, node, name }, rest))
 }
 
-fn arrive_of<'a>(rest: Option<&[u8]>) -> Option<CommandLine<'a>>
+fn parse_arrive<'a>(rest: Option<&[u8]>) -> Option<CommandLine<'a>>
     ensures some { IfSome result (λ found.
         IsSpelled (codes "arrive" ∷ words_left rest.entry) (command found)
         × InRange (command found)) }
@@ -273,7 +283,7 @@ fn arrive_of<'a>(rest: Option<&[u8]>) -> Option<CommandLine<'a>>
         → AreArguments (Arrive source node name) (words_left rest.entry)
         → ⊥) }
 {
-    let Some((route, rest)) = route_of(rest) else {
+    let Some((route, rest)) = parse_route(rest) else {
         return None;
     };
     if rest.is_some() {
@@ -286,7 +296,7 @@ fn arrive_of<'a>(rest: Option<&[u8]>) -> Option<CommandLine<'a>>
     })
 }
 
-fn arrive_flagged_of<'a>(rest: Option<&[u8]>) -> Option<CommandLine<'a>>
+fn parse_arrive_flagged<'a>(rest: Option<&[u8]>) -> Option<CommandLine<'a>>
     ensures some { IfSome result (λ found.
         IsSpelled (codes "arrive2" ∷ words_left rest.entry) (command found)
         × InRange (command found)) }
@@ -295,7 +305,7 @@ fn arrive_flagged_of<'a>(rest: Option<&[u8]>) -> Option<CommandLine<'a>>
         → AreArguments (ArriveFlagged source node name flags) (words_left rest.entry)
         → ⊥) }
 {
-    let Some((route, rest)) = route_of(rest) else {
+    let Some((route, rest)) = parse_route(rest) else {
         return None;
     };
     let (number, rest) = number_word(rest, 0, 3)?;
@@ -310,7 +320,7 @@ fn arrive_flagged_of<'a>(rest: Option<&[u8]>) -> Option<CommandLine<'a>>
     })
 }
 
-fn raw_of(rest: Option<&[u8]>) -> Option<CommandLine<'_>>
+fn parse_raw(rest: Option<&[u8]>) -> Option<CommandLine<'_>>
     ensures some { IfSome result (λ found.
         IsSpelled (codes "raw" ∷ words_left rest.entry) (command found) × InRange (command found)) }
     ensures none { IfNone result ((node : ℕ) (bytes : List ℕ)
@@ -318,7 +328,7 @@ fn raw_of(rest: Option<&[u8]>) -> Option<CommandLine<'_>>
         → AreArguments (Raw node bytes) (words_left rest.entry)
         → ⊥) }
 {
-    let (number, rest) = number_word(rest, 1, 7)?;
+    let (number, rest) = number_word(rest, 1, LAST_NODE)?;
     let word = last_word(rest)?;
     let node = NodeId::new(number as u8).unwrap();
     match HexBytes::new(word) {
@@ -327,8 +337,8 @@ fn raw_of(rest: Option<&[u8]>) -> Option<CommandLine<'_>>
     }
 }
 
-// Returns the name that a word spells: a node's digit, a full stop, and the number.
-fn name_of(word: &[u8]) -> Option<Name>
+// Parses a word as a name: a node's digit, a full stop, and the number.
+fn parse_name(word: &[u8]) -> Option<Name>
     ensures some { IfSome result (λ name. (word.now ≡ name_text name) × IsLabel name) }
     ensures none { IfNone result ((name : Label) → IsLabel name → word.now ≢ name_text name) }
 {
@@ -338,7 +348,7 @@ fn name_of(word: &[u8]) -> Option<Name>
     if word[1] != b'.' {
         return None;
     }
-    let sender = number_in(&word[..1], 1, 7)?;
+    let sender = number_in(&word[..1], 1, LAST_NODE)?;
     let seq = number_in(&word[2..], 1, 4_294_967_295)?;
     let sender = NodeId::new(sender as u8).unwrap();
     Some(Name {

@@ -1,4 +1,4 @@
-//! Bytes that a word spells with hexadecimal digits.
+//! Words of hexadecimal digits, which stand for bytes.
 
 ghost use Rattle.std.specs.Prelude.{◌≡◌, ◌≤◌, ℕ, List, IfOk, IfSome, IfNone, IsTrue, ◌↔◌};
 ghost use Rattle.std.specs.List.{AllByRecursion};
@@ -64,7 +64,7 @@ fn byte_of(high: u8, low: u8) -> u8
 }
 
 impl<'a> HexBytes<'a> {
-    /// Returns the bytes that a word spells. A hyphen alone spells no bytes.
+    /// Parses a word of digits. A hyphen alone stands for no bytes.
     pub fn new(word: &'a [u8]) -> Option<HexBytes<'a>>
         ensures some { IfSome result (λ bytes. IsHexWord bytes word.now) }
         ensures none { IfNone result ((bytes : List ℕ) → IsHexWord bytes word.now → ⊥) }

@@ -1,6 +1,7 @@
 //! Reading one whole line at a time from a reader.
 
-ghost use Rattle.std.specs.Prelude.{◌≡◌, ℕ, ◌<◌, ◌≤◌, take, length, IfOk, None, option_to_list, vec_capacity, OnOk, OnErr};
+ghost use Rattle.std.specs.Prelude.{◌≡◌, ℕ, ◌<◌, ◌≤◌, take, length, IfOk, None, option_to_list};
+ghost use Rattle.std.specs.Prelude.{vec_capacity, OnOk, OnErr};
 ghost use Rattle.std.specs.Io.KnownBytes.{Consumes, IsAtEnd, Keeps};
 ghost use Rattle.urb_script.specs.Lines.{ReadsLine, TookPart, IsOneLine, IsPlain};
 
@@ -17,7 +18,7 @@ pub const LONGEST_LINE: usize = 65_536;
 /// One more byte than a line may have.
 pub const TOO_LONG: usize = LONGEST_LINE + 1;
 
-/// What was read of a line.
+/// The result of reading a line.
 pub enum LineRead {
     /// The input has ended.
     End,
@@ -28,7 +29,7 @@ pub enum LineRead {
 }
 
 // Returns the next byte, or `None` at the end. A read that a signal interrupts is tried again.
-fn next_byte<R: Read>(reader: &mut R) -> Result<Option<u8>, ReadFailed>
+fn read_byte<R: Read>(reader: &mut R) -> Result<Option<u8>, ReadFailed>
     ensures bytes { IfOk result
         (λ next. Consumes (R.remaining reader.old) (R.remaining reader.new) (option_to_list next)) }
     ensures end { IfOk result (λ next. next ≡ None → IsAtEnd (R.remaining reader.new)) }
@@ -65,7 +66,7 @@ pub fn read_line<R: Read, A: Allocator>(
 {
     line.clear();
     for _ in 0..TOO_LONG {
-        match next_byte(reader)? {
+        match read_byte(reader)? {
             None => {
                 return if line.is_empty() {
                     Ok(LineRead::End)

@@ -1,12 +1,14 @@
 //! Runs of scripts.
 
-ghost use Rattle.std.specs.Prelude.{◌≡◌, ℕ, ◌≤◌, [], Some, None, IfOk, IfErr, OnOk, IfSome, IsSomeAnd, ◌⊎◌, vec_capacity};
+ghost use Rattle.std.specs.Prelude.{◌≡◌, ℕ, ◌≤◌, [], Some, None, IfOk, IfErr, OnOk, IfSome};
+ghost use Rattle.std.specs.Prelude.{IsSomeAnd, ◌⊎◌, vec_capacity};
 ghost use Rattle.std.specs.Io.KnownBytes.{Appends};
 ghost use Rattle.urb_script.specs.Commands.{Command, Group, command, InRange};
 ghost use Rattle.urb_group.specs.Scripts.{Scene};
 ghost use Rattle.urb_script.specs.Steps.{IsLater, Takes};
 ghost use Rattle.urb_script.specs.LogLines.{LogsAgree, LogsAreSafe};
-ghost use Rattle.urb_script.specs.Scripts.{AnsweredFrom, OpensWith, TakesFrom, WholeScript, BreaksOff, StaysSafe, HasOneOutcome, bad_line};
+ghost use Rattle.urb_script.specs.Scripts.{AnsweredFrom, OpensWith, TakesFrom, WholeScript};
+ghost use Rattle.urb_script.specs.Scripts.{BreaksOff, StaysSafe, HasOneOutcome, bad_line};
 
 use crate::commands::{CommandLine, parse_command};
 use crate::input::{LineRead, ReadFailed, TOO_LONG, read_line};
@@ -136,7 +138,7 @@ fn answer_line<A: Allocator, P: Play<A>>(
 }
 
 // Writes bytes, and flushes them so that they are seen at once.
-fn write_now<W: Write>(writer: &mut W, bytes: &[u8]) -> Result<(), RunFault>
+fn write_and_flush<W: Write>(writer: &mut W, bytes: &[u8]) -> Result<(), RunFault>
     ensures ok { OnOk result (Appends (W.contents writer.old) (W.contents writer.new) bytes.now) }
     ensures err { IfErr result (λ fault. fault ≡ RunFault.Write) }
 {
@@ -157,11 +159,11 @@ fn write_bad_line<A: Allocator, W: Write>(
 {
     text.clear();
     writeln!(text, "bad line {number}").map_err(|_| RunFault::NoMemory)?;
-    write_now(writer, text.as_slice())
+    write_and_flush(writer, text.as_slice())
 }
 
 // Runs the script that the reader has, over the state that its first line makes.
-fn run_over<A: Allocator + Copy, P: Play<A>, R: Read, W: Write>(
+fn run_lines<A: Allocator + Copy, P: Play<A>, R: Read, W: Write>(
     alloc: A,
     reader: &mut R,
     writer: &mut W,
@@ -197,7 +199,7 @@ fn run_over<A: Allocator + Copy, P: Play<A>, R: Read, W: Write>(
             return Ok(Ended::BadLine(number));
         };
         text.extend_from_slice(b"\n")?;
-        write_now(writer, text.as_slice())?;
+        write_and_flush(writer, text.as_slice())?;
         state = Some(next);
     }
     Err(RunFault::Read)
@@ -218,22 +220,23 @@ pub fn run<A: Allocator + Copy, R: Read, W: Write>(
     ensures whole { IfOk result (λ ended. IfSome (R.remaining reader.old) (λ input.
         IsSomeAnd (R.remaining reader.new) (λ unread. WholeScript Takes input ended unread
         (W.contents writer.old) (W.contents writer.new)))) }
-    // After want of memory or a failed read, the lines before are answered, and nothing else is
-    // written. After a failed write they are answered too, and nothing is said of what went out. At
-    // most one line was read after them.
+    // After a refused allocation or a failed read, the earlier lines are answered, and nothing else
+    // is written. After a failed write they are answered too, and the clause doesn't say what was
+    // written. At most one line was read after them.
     ensures broken_off { IfErr result (λ fault. IfSome (R.remaining reader.old) (λ input.
         IsSomeAnd (R.remaining reader.new) (λ unread.
         BreaksOff fault input unread (W.contents writer.old) (W.contents writer.new)))) }
-    // In whatever world answered lines lead to, each log has, for each sender, the first messages
+    // In every world that answered lines lead to, each log has, for each sender, the first messages
     // that its storage took, in order and once. A majority's storages hold each of them.
     ensures safe { StaysSafe }
-    // The same holds of every log that a `log` line shows. Take what two `log` lines show of one
-    // sender: one begins the other, whichever nodes they ask and whatever lines are between them.
+    // The same holds for every log that a `log` line shows. For each sender, what one of two `log`
+    // lines shows is a prefix of what the other shows. The lines may show any nodes, and any lines
+    // may be between them.
     ensures shown { LogsAreSafe }
     ensures agree { LogsAgree }
     // If no store is refused memory, everything that the reader held determines the end, and what
     // was written.
     ensures one { HasOneOutcome }
 {
-    run_over::<A, Stage<A>, R, W>(alloc, reader, writer)
+    run_lines::<A, Stage<A>, R, W>(alloc, reader, writer)
 }

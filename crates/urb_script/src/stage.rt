@@ -1,6 +1,7 @@
 //! The cluster that a script plays on.
 
-ghost use Rattle.std.specs.Prelude.{◌≡◌, ◌≢◌, [], ◌∷◌, ◌++◌, All, IfOk, Ok, OnOk, flat_map, if◌then◌else◌, is_some, length, map, option_map};
+ghost use Rattle.std.specs.Prelude.{◌≡◌, ◌≢◌, [], ◌∷◌, ◌++◌, All, IfOk, Ok, OnOk, flat_map};
+ghost use Rattle.std.specs.Prelude.{if◌then◌else◌, is_some, length, map, option_map};
 ghost use Rattle.urb_names.specs.Packets.{FitsVersion, packet_of};
 ghost use Rattle.urb_names.specs.Pairs.{message_of};
 ghost use Rattle.urb_stable.specs.Memory.{empty_memory};
@@ -11,7 +12,8 @@ ghost use Rattle.urb_group.specs.Stocked.{IsStocked};
 ghost use Rattle.urb_group.specs.World.{World, stored};
 ghost use Rattle.urb_group.specs.Shown.{Shows};
 ghost use Rattle.std.specs.Fmt.{decimal};
-ghost use Rattle.urb_script.specs.Commands.{Fail, InRange, Raw, Reopen, Submit, arrival, command, line_of};
+ghost use Rattle.urb_script.specs.Commands.{Fail, InRange, Raw, Reopen, Submit, arrival, command};
+ghost use Rattle.urb_script.specs.Commands.{line_of};
 ghost use Rattle.urb_script.specs.Scripts.{TakesFrom};
 ghost use Rattle.urb_script.specs.Staged.{Shown, ShowsScene, StoresAsAsked, TellsAt, TellsOf};
 ghost use Rattle.urb_script.specs.Steps.{IsLater, holders, shown_holders, shown_log};
@@ -39,7 +41,7 @@ pub struct Stage<A: Allocator + Copy = Global> {
 }
 
 // Makes new stores, one for each node.
-fn new_stores<A: Allocator + Copy>(alloc: A, n: u8) -> Result<Vec<MemStable<A>, A>, NoMemory>
+fn make_stores<A: Allocator + Copy>(alloc: A, n: u8) -> Result<Vec<MemStable<A>, A>, NoMemory>
     ensures { IfOk result
         (λ stores. (length stores.items ≡ n) × All (λ m. m ≡ empty_memory) stores.items) }
 {
@@ -51,7 +53,7 @@ fn new_stores<A: Allocator + Copy>(alloc: A, n: u8) -> Result<Vec<MemStable<A>, 
 }
 
 // Returns a copy of a message. Without a message, it returns the message that nobody sent.
-fn message_or_nothing<A: Allocator + Copy>(
+fn share_or_make_empty<A: Allocator + Copy>(
     alloc: A,
     stored: Option<&Message<A>>,
 ) -> Result<Message<A>, NoMemory>
@@ -59,13 +61,13 @@ fn message_or_nothing<A: Allocator + Copy>(
 {
     match stored {
         Some(message) => message.share(alloc),
-        None => Message::copied(alloc, ClientId::new(1).unwrap(), 1, &[]),
+        None => Message::copy_of(alloc, ClientId::new(1).unwrap(), 1, &[]),
     }
 }
 
 // Returns the flags of a packet of a message: these flags, or none. If none are given and the
 // payload is too long for a packet without flags, the flags are 0.
-fn flags_with<A: Allocator>(flags: Option<Flags>, message: &Message<A>) -> Option<Flags>
+fn choose_flags<A: Allocator>(flags: Option<Flags>, message: &Message<A>) -> Option<Flags>
     ensures value { result ≡ flags_with flags message.now }
     ensures version { FitsVersion result message.now.payload }
 {
@@ -82,7 +84,7 @@ fn flags_with<A: Allocator>(flags: Option<Flags>, message: &Message<A>) -> Optio
 }
 
 // Returns the bytes of a packet of a message, with these flags, without flags, or with flags 0.
-fn packet_bytes<A: Allocator + Copy>(
+fn encode_packet<A: Allocator + Copy>(
     alloc: A,
     source: NodeId,
     node: NodeId,
@@ -100,14 +102,14 @@ fn packet_bytes<A: Allocator + Copy>(
           flags = flags_with flags message;
         })) }
 {
-    let flags = flags_with(flags, &message);
+    let flags = choose_flags(flags, &message);
     let packet = Packet::new(source, node, name, message, flags);
-    packet.limits();
+    packet.recall();
     encode(alloc, &packet)
 }
 
-// Returns the want of memory that a refusal says.
-fn want_of(refusal: Refusal) -> NoMemory
+// Returns `NoMemory`, which is what this refusal says.
+fn expect_no_memory(refusal: Refusal) -> NoMemory
     requires { refusal ≡ Refusal.NoMemory }
 {
     match refusal {
@@ -187,7 +189,7 @@ impl<A: Allocator + Copy> Stage<A> {
         } = self;
         let cluster = match cluster.reopen(alloc) {
             Ok(cluster) => cluster,
-            Err(refused) => return Err(want_of(refused.1)),
+            Err(refused) => return Err(expect_no_memory(refused.1)),
         };
         push_told(text, Told::Opened)?;
         Ok(Stage {
@@ -215,13 +217,13 @@ impl<A: Allocator + Copy> Stage<A> {
             → IsStocked (in_memory A) self.new.cluster }
     {
         let stored = self.cluster.group().message(source, name);
-        let message = message_or_nothing(self.alloc, stored)?;
-        let bytes = packet_bytes(self.alloc, source, node, name, message, flags)?;
+        let message = share_or_make_empty(self.alloc, stored)?;
+        let bytes = encode_packet(self.alloc, source, node, name, message, flags)?;
         self.apply(&Command::Arrive { node, bytes }, text)
     }
 
     // Brings a node bytes.
-    fn bring(
+    fn bring_bytes(
         &mut self,
         node: NodeId,
         bytes: &HexBytes<'_>,
@@ -316,7 +318,7 @@ impl<A: Allocator + Copy> Stage<A> {
     }
 
     // Does a command that goes on with this cluster, and writes the answer.
-    fn act(&mut self, found: CommandLine<'_>, text: &mut Vec<u8, A>) -> Result<(), NoMemory>
+    fn do_command(&mut self, found: CommandLine<'_>, text: &mut Vec<u8, A>) -> Result<(), NoMemory>
         requires fresh { text.old.items ≡ [] }
         requires later { IsLater (command found) }
         requires range { InRange (command found) }
@@ -348,7 +350,7 @@ impl<A: Allocator + Copy> Stage<A> {
                 name,
                 flags,
             } => self.arrive(source, node, name, Some(flags), text),
-            CommandLine::Raw { node, bytes } => self.bring(node, &bytes, text),
+            CommandLine::Raw { node, bytes } => self.bring_bytes(node, &bytes, text),
             CommandLine::Tick(node) => self.apply(&Command::Tick(node), text),
             CommandLine::Log(node) => self.push_log(node, text),
             CommandLine::Held(name) => self.push_held(name, text),
@@ -362,7 +364,7 @@ impl<A: Allocator + Copy> Play<A> for Stage<A> {
     ghost keeps = { λ stage. IsStocked (in_memory A) stage.cluster };
 
     fn open(alloc: A, config: Config, text: &mut Vec<u8, A>) -> Result<Stage<A>, NoMemory> {
-        let stores = new_stores(alloc, config.n())?;
+        let stores = make_stores(alloc, config.n())?;
         let Ok(cluster) = Cluster::new(alloc, config, stores) else {
             return Err(NoMemory);
         };
@@ -389,7 +391,7 @@ impl<A: Allocator + Copy> Play<A> for Stage<A> {
             CommandLine::Reopen => self.reopen(text),
             found => {
                 let mut stage = self;
-                stage.act(found, text)?;
+                stage.do_command(found, text)?;
                 Ok(stage)
             }
         }

@@ -1,15 +1,18 @@
 //! The words of a line.
 
-ghost use Rattle.std.specs.Prelude.{◌≡◌, ◌≢◌, ℕ, ◌^◌, ◌<◌, ◌≤◌, List, [], ◌∷◌, IfSome, IfNone, position, ◌==◌};
+ghost use Rattle.std.specs.Prelude.{◌≡◌, ◌≢◌, ℕ, ◌^◌, ◌<◌, ◌≤◌, List, [], ◌∷◌, IfSome, IfNone};
+ghost use Rattle.std.specs.Prelude.{position, ◌==◌};
 ghost use Rattle.std.specs.Fmt.{decimal};
 ghost use Rattle.urb_script.specs.Lines.{words_of, words_left};
 ghost use Rattle.urb_script.specs.Wording.{IsNodeNumber};
 
-use urb_names::NodeId;
+use urb_names::{MAX_NODES, NodeId};
 
-/// Returns the number below 2^64 that a word spells, in decimal without a sign and without a
-/// leading zero.
-pub fn number(word: &[u8]) -> Option<u64>
+/// The greatest number of a node, as a number of the type that is parsed from words.
+pub const LAST_NODE: u64 = MAX_NODES as u64;
+
+/// Parses a word as a number below 2^64: decimal digits without a sign and without a leading zero.
+pub fn parse_number(word: &[u8]) -> Option<u64>
     ensures some { IfSome result (λ n. word.now ≡ decimal n) }
     ensures none { IfNone result ((n : ℕ) → n < 2 ^ 64 → word.now ≢ decimal n) }
 {
@@ -32,12 +35,12 @@ pub fn number(word: &[u8]) -> Option<u64>
     Some(number)
 }
 
-/// Returns the number from `low` to `high` that a word spells.
+/// Parses a word as a number from `low` to `high`.
 pub fn number_in(word: &[u8], low: u64, high: u64) -> Option<u64>
     ensures some { IfSome result (λ n. (word.now ≡ decimal n) × (low ≤ n) × (n ≤ high)) }
     ensures none { IfNone result ((n : ℕ) → low ≤ n → n ≤ high → word.now ≢ decimal n) }
 {
-    let number = number(word)?;
+    let number = parse_number(word)?;
     if number < low {
         return None;
     }
@@ -48,7 +51,7 @@ pub fn number_in(word: &[u8], low: u64, high: u64) -> Option<u64>
 }
 
 /// Returns the place of the first space.
-fn space_at(text: &[u8]) -> Option<usize>
+fn find_space(text: &[u8]) -> Option<usize>
     ensures { result ≡ position (λ byte. byte == 32) text.now }
 {
     text.iter().position(|byte| *byte == b' ')
@@ -58,13 +61,13 @@ fn space_at(text: &[u8]) -> Option<usize>
 pub fn first_word(text: &[u8]) -> (&[u8], Option<&[u8]>)
     ensures { words_of text.now ≡ result.0.now ∷ words_left result.1 }
 {
-    match space_at(text) {
+    match find_space(text) {
         Some(at) => (&text[..at], Some(&text[at + 1..])),
         None => (text, None),
     }
 }
 
-/// Returns the number from `low` to `high` that the next word spells, and what follows it.
+/// Parses the next word as a number from `low` to `high`. Also returns what follows it.
 pub fn number_word(rest: Option<&[u8]>, low: u64, high: u64) -> Option<(u64, Option<&[u8]>)>
     ensures some { IfSome result
         (λ r. (words_left rest.entry ≡ decimal r.0 ∷ words_left r.1) × (low ≤ r.0) × (r.0 ≤ high)) }
@@ -90,14 +93,14 @@ pub fn last_word(rest: Option<&[u8]>) -> Option<&[u8]>
     Some(word)
 }
 
-/// Returns the node that the last word spells.
+/// Parses the last word as a node.
 pub fn last_node(rest: Option<&[u8]>) -> Option<NodeId>
     ensures some { IfSome result
         (λ node. (words_left rest.entry ≡ decimal node ∷ []) × IsNodeNumber node) }
     ensures none { IfNone result
         ((node : ℕ) → IsNodeNumber node → words_left rest.entry ≢ decimal node ∷ []) }
 {
-    let (number, rest) = number_word(rest, 1, 7)?;
+    let (number, rest) = number_word(rest, 1, LAST_NODE)?;
     if rest.is_some() {
         return None;
     }

@@ -4,6 +4,8 @@
 #![tactic(auto)]
 
 #[cfg(test)]
+mod scripts;
+#[cfg(test)]
 mod tests;
 #[cfg(test)]
 mod worked;

@@ -2,19 +2,21 @@
 
 mod failing;
 
+use crate::scripts::{answers_of, script_of};
 use std::alloc::Global;
 use std::process::Abort;
 use std::test::Fail;
 use urb_names::{Config, Name, NodeId, PacketFault, Refusal, Rule};
 use urb_script::*;
 
-const ONE_NODE: &[u8] = b"group 1 10\nsubmit 1 7 1 hi\nstored 1\nlog 1\n";
+// A short script and its answers, for ends that fail.
+const SHORT: &[u8] = b"group 1 10\nsubmit 1 7 1 hi\nstored 1\nlog 1\n";
 
-const ONE_NODE_ANSWERS: &[u8] =
+const SHORT_ANSWERS: &[u8] =
     b"group 1 10\ndraft 1.1 at 1\naccepted 1.1 sent 0 released 1\nlog 1: 1.1=hi\n";
 
 /// Returns the text with each `@` replaced by 16,384 letters x.
-fn spelled(alloc: Global, text: &[u8]) -> Result<Vec<u8>, Fail> {
+fn spell_outcome(alloc: Global, text: &[u8]) -> Result<Vec<u8>, Fail> {
     let mut whole = Vec::new(alloc);
     for byte in text {
         if *byte == b'@' {
@@ -26,27 +28,33 @@ fn spelled(alloc: Global, text: &[u8]) -> Result<Vec<u8>, Fail> {
     Ok(whole)
 }
 
-const LONG_PAYLOADS: &[u8] =
-    b"group 1 3\nsubmit 1 7 1 -\nstored 1\nsubmit 1 7 2 @\nstored 1\nsubmit 1 7 3 @x\nlog 1\n";
-
-const LONG_PAYLOADS_ANSWERS: &[u8] =
-    b"group 1 3\ndraft 1.1 at 1\naccepted 1.1 sent 0 released 1\ndraft 1.2 at 2\naccepted 1.2 sent 0 released 1\nrefused toolong\nlog 1: 1.1=- 1.2=@\n";
-
-/// Runs a script into a new text, and compares the text. `@` is as in `spelled`.
+/// Runs a script into a new text, and compares the text. `@` is as in `spell_outcome`.
 pub fn gives(
     rt: &(impl Abort + AllocGlobal),
     script: &[u8],
     answers: &[u8],
     wanted: Ended,
 ) -> Result<(), Fail> {
-    let script = spelled(rt.alloc(), script)?;
-    let answers = spelled(rt.alloc(), answers)?;
+    let script = spell_outcome(rt.alloc(), script)?;
+    let answers = spell_outcome(rt.alloc(), answers)?;
     let mut input = script.as_slice();
     let mut output = Vec::new(rt.alloc());
     let ended = run(rt.alloc(), &mut input, &mut output)?;
     assert_eq!(rt; ended, wanted);
-    assert_eq!(rt; output.as_slice(), answers.as_slice());
+    let came = str::from_utf8(output.as_slice()).ok();
+    assert_eq!(rt; came, str::from_utf8(answers.as_slice()).ok());
     Ok(())
+}
+
+/// Runs the script of these rows, and compares its answers with theirs.
+pub fn gives_rows(
+    rt: &(impl Abort + AllocGlobal),
+    rows: &[(&str, &str)],
+    wanted: Ended,
+) -> Result<(), Fail> {
+    let script = script_of(rt.alloc(), rows)?;
+    let answers = answers_of(rt.alloc(), rows)?;
+    gives(rt, &script, &answers, wanted)
 }
 
 #[test]
@@ -58,19 +66,56 @@ fn whole_scripts_are_answered(rt: HostRuntime) -> Result<(), Fail> {
         b"group 3 10\ndraft 2.1 at 1\naccepted 2.1 sent 2 released 0\nlog 2:\nlog 1:\n",
         Ended::Whole,
     )?;
-    // Of several refusals that hold, the first one is given.
-    gives(
+    // If several refusals apply, the answer is the first one.
+    gives_rows(
         &rt,
-        b"group 2 10\nstored 1\nstored 3\nsubmit 3 7 1 @x\nlog 3\nsubmit 1 7 1 a\nsubmit 1 7 9 @x\nstored 1\nsubmit 1 7 1 b\nsubmit 1 8 1 b\nstored 1\nsubmit 1 7 2 c\nstored 1\nsubmit 1 7 1 a\nsubmit 1 8 3 c\n",
-        b"group 2 10\nrefused stale\nrefused badnode\nrefused badnode\nrefused badnode\ndraft 1.1 at 1\nrefused busy\naccepted 1.1 sent 1 released 0\nrefused conflict\ndraft 1.2 at 2\naccepted 1.2 sent 1 released 0\ndraft 1.3 at 3\naccepted 1.3 sent 1 released 0\naccepted 1.1\nrefused gap 2\n",
+        &[
+            ("group 2 10", "group 2 10"),
+            ("stored 1", "refused stale"),
+            ("stored 3", "refused badnode"),
+            ("submit 3 7 1 @x", "refused badnode"),
+            ("log 3", "refused badnode"),
+            ("submit 1 7 1 a", "draft 1.1 at 1"),
+            ("submit 1 7 9 @x", "refused busy"),
+            ("stored 1", "accepted 1.1 sent 1 released 0"),
+            ("submit 1 7 1 b", "refused conflict"),
+            ("submit 1 8 1 b", "draft 1.2 at 2"),
+            ("stored 1", "accepted 1.2 sent 1 released 0"),
+            ("submit 1 7 2 c", "draft 1.3 at 3"),
+            ("stored 1", "accepted 1.3 sent 1 released 0"),
+            ("submit 1 7 1 a", "accepted 1.1"),
+            ("submit 1 8 3 c", "refused gap 2"),
+        ],
         Ended::Whole,
     )?;
     // A log, and the holders of a name, are shown in every state of a node. Digits may be of either
     // case.
-    gives(
+    gives_rows(
         &rt,
-        b"group 2 10\nsubmit 1 7 1 hi\nheld 1.1\nlog 1\nstored 1\nraw 2 5542010102010000000100070000000100026869\ncrash 2\nheld 1.1\nlog 2\nrestart 2\nraw 2 -\nraw 2 5542010102010000000100070000000100026A6b\nheld 3.1\nheld 2.7\nlog 3\ntick 2\n",
-        b"group 2 10\ndraft 1.1 at 1\nheld 1.1:\nlog 1:\naccepted 1.1 sent 1 released 0\ndraft 1.1 at 1\ndown 2\nheld 1.1: 1\nlog 2:\nup 2\nrefused packet short\nrefused forged\nrefused badnode\nheld 2.7:\nrefused badnode\nsent\n",
+        &[
+            ("group 2 10", "group 2 10"),
+            ("submit 1 7 1 hi", "draft 1.1 at 1"),
+            ("held 1.1", "held 1.1:"),
+            ("log 1", "log 1:"),
+            ("stored 1", "accepted 1.1 sent 1 released 0"),
+            (
+                "raw 2 5542010102010000000100070000000100026869",
+                "draft 1.1 at 1",
+            ),
+            ("crash 2", "down 2"),
+            ("held 1.1", "held 1.1: 1"),
+            ("log 2", "log 2:"),
+            ("restart 2", "up 2"),
+            ("raw 2 -", "refused packet short"),
+            (
+                "raw 2 5542010102010000000100070000000100026A6b",
+                "refused forged",
+            ),
+            ("held 3.1", "refused badnode"),
+            ("held 2.7", "held 2.7:"),
+            ("log 3", "refused badnode"),
+            ("tick 2", "sent"),
+        ],
         Ended::Whole,
     )
 }

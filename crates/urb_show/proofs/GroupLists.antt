@@ -1,9 +1,12 @@
 -- The lists of a group: the list at a place, that the lists agree, and what an event does to them.
-use Rattle.std.proofs.Common.{Err, List, Ok, Result, [], ap, arith, inl, inr, length, map, refl, slice_index_or, subst, suc, sym, zero, ℕ, ◌-◌, ◌<◌, ◌∙◌, ◌∷◌, ◌≡◌, ◌⊎◌}
-use Rattle.urb_group.proofs.CalmSteps.{step-size}
-use Rattle.urb_group.proofs.Deliveries.{deliveries-grow, sound-after}
+use Rattle.std.proofs.Common.{Err, List, Ok, Result, [], ap, arith, inl, inr, length, map, refl}
+use Rattle.std.proofs.Common.{slice_index_or, subst, suc, sym, zero, ℕ, ◌-◌, ◌<◌, ◌∙◌, ◌∷◌, ◌≡◌}
+use Rattle.std.proofs.Common.{◌⊎◌}
+use Rattle.urb_group.proofs.steps.DraftsInSteps.{step-size}
+use Rattle.urb_group.proofs.shown.Deliveries.{deliveries-grow, sound-after}
 use Rattle.urb_group.specs.Calls.{ComesUp, Commits, GoesDown, Takes, Ticks}
-use Rattle.urb_group.specs.Delivering.{Agree as AgreeAll, Delivery, Follows, deliveries, delivered_at, sent_by}
+use Rattle.urb_group.specs.Delivering.{Agree as AgreeAll, Delivery, Follows, deliveries}
+use Rattle.urb_group.specs.Delivering.{delivered_at, sent_by}
 use Rattle.urb_group.specs.Shown.{GroupView, IsSound}
 use Rattle.urb_group.specs.Step.{Commit, Event}
 use Rattle.urb_group.specs.declared.taken.Taken.TheVariants as taken
@@ -15,10 +18,10 @@ use Rattle.urb_names.specs.declared.refusal.Refusal.{Refusal}
 use Rattle.urb_node.specs.Replies.{Done}
 use Rattle.urb_node.specs.Shown.{NodeView, no_view}
 use Rattle.urb_stable.specs.Placed.{Placed}
-use Rattle.urb_show.proofs.Agreement.{map_prefix}
-use Rattle.urb_show.proofs.Beginnings.{begins_trans}
+use Rattle.urb_show.proofs.AgreeingLists.{map_prefix}
+use Rattle.urb_show.proofs.ListBeginnings.{begins_trans}
 use Rattle.urb_show.specs.Lists.{Agree, Begins, Lists, delivery_of, entry_of, list_at, lists_in}
-use Rattle.urb_show.specs.Prepared.{IsHouse}
+use Rattle.urb_show.specs.PreparedLists.{IsHouse}
 use Rattle.urb_show.specs.declared.entry.Entry.{Entry}
 use mathlib.Core.List.{IsPrefix}
 
@@ -27,17 +30,22 @@ use mathlib.Core.List.{IsPrefix}
 abbrev entries_in : NodeView → List Entry
 entries_in view = map entry_of (deliveries view)
 
-in_place : (views : List NodeView) (place : ℕ) → list_at (map entries_in views) place ≡ entries_in (slice_index_or views place no_view)
+in_place : (views : List NodeView) (place : ℕ)
+    → list_at (map entries_in views) place ≡ entries_in (slice_index_or views place no_view)
 in_place [] place = refl
 in_place (v ∷ views) zero = refl
 in_place (v ∷ views) (suc place) = in_place views place
 
-pub list_in : (group : GroupView) (place : ℕ) → list_at (lists_in group) place ≡ map entry_of (delivered_at group (suc place))
+pub list_in : (group : GroupView) (place : ℕ)
+    → list_at (lists_in group) place ≡ map entry_of (delivered_at group (suc place))
 list_in group place = in_place group.nodes place
 
 -- the list of the node with a number
-pub list_of : (group : GroupView) (node : ℕ) → 0 < node → list_at (lists_in group) (node - 1) ≡ map entry_of (delivered_at group node)
-list_of group node low = let number : suc (node - 1) ≡ node = omega (arith, low) in list_in group (node - 1) ∙ ap (λ p. map entry_of (delivered_at group p)) number
+pub list_of : (group : GroupView) (node : ℕ) → 0 < node
+    → list_at (lists_in group) (node - 1) ≡ map entry_of (delivered_at group node)
+list_of group node low =
+    let number : suc (node - 1) ≡ node = omega (arith, low) in
+    list_in group (node - 1) ∙ ap (λ p. map entry_of (delivered_at group p)) number
 
 -- ---- agreement
 
@@ -47,10 +55,20 @@ as_deliveries (d ∷ list) = ap (λ ds. d ∷ ds) (as_deliveries list)
 
 pub lists_agree : (group : GroupView) → AgreeAll (delivered_at group) → Agree (lists_in group)
 lists_agree group agree = record {
-  numbers = λ p s. subst (λ (xs : List Delivery). map (λ (d : Delivery). d.0.seq) (sent_by s xs) ≡ numbers_from 1 (length (sent_by s xs))) (sym (same p)) (agree.numbers (suc p) s);
-  one_begins = λ p q s. subst (λ (xs : List Delivery). OneBegins (sent_by s xs) (sent_by s (map delivery_of (list_at (lists_in group) q)))) (sym (same p))
-      (subst (λ (ys : List Delivery). OneBegins (sent_by s (delivered_at group (suc p))) (sent_by s ys)) (sym (same q)) (agree.one_begins (suc p) (suc q) s));
-  short = λ p. let short = agree.short (suc p) in let long = ap length (same p) in omega (arith, short, long);
+  numbers =
+      λ p s. subst (λ (xs : List Delivery).
+      map (λ (d : Delivery). d.0.seq) (sent_by s xs) ≡ numbers_from 1 (length (sent_by s xs)))
+      (sym (same p)) (agree.numbers (suc p) s);
+  one_begins =
+      λ p q s. subst (λ (xs : List Delivery).
+      OneBegins (sent_by s xs) (sent_by s (map delivery_of (list_at (lists_in group) q))))
+      (sym (same p))
+      (subst (λ (ys : List Delivery).
+      OneBegins (sent_by s (delivered_at group (suc p))) (sent_by s ys)) (sym (same q))
+      (agree.one_begins (suc p) (suc q) s));
+  short =
+      λ p. let short = agree.short (suc p) in let long = ap length (same p) in
+      omega (arith, short, long);
 }
   where
     same : (p : ℕ) → map delivery_of (list_at (lists_in group) p) ≡ delivered_at group (suc p)
@@ -58,22 +76,31 @@ lists_agree group agree = record {
 
 -- ---- an event
 
-begin_each : (xs ys : List NodeView) → length xs ≡ length ys → ((i : ℕ) → IsPrefix (entries_in (slice_index_or xs i no_view)) (entries_in (slice_index_or ys i no_view)))
+begin_each : (xs ys : List NodeView) → length xs ≡ length ys
+    → ((i : ℕ) → IsPrefix (entries_in (slice_index_or xs i no_view))
+    (entries_in (slice_index_or ys i no_view)))
     → Begins (map entries_in xs) (map entries_in ys)
 begin_each [] ys same each = tt
 begin_each (x ∷ xs) [] same each = absurd (omega (arith, same))
-begin_each (x ∷ xs) (y ∷ ys) same each = (each 0, begin_each xs ys (omega (arith, same)) (λ i. each (suc i)))
+begin_each (x ∷ xs) (y ∷ ys) same each =
+    (each 0, begin_each xs ys (omega (arith, same)) (λ i. each (suc i)))
 
-module _ (old new : GroupView) (event : Event) (sound : IsSound old) (follows : Follows old event new) where
+module _ (old new : GroupView) (event : Event) (sound : IsSound old)
+    (follows : Follows old event new) where
   same_size : new.size ≡ old.size
-  same_size = let shows = follows sound.world sound.shows in shows.size ∙ (step-size sound.world event ∙ sym sound.shows.size)
+  same_size =
+      let shows = follows sound.world sound.shows in
+      shows.size ∙ (step-size sound.world event ∙ sym sound.shows.size)
 
-  pub lists_grow : length old.nodes ≡ old.size.n → length new.nodes ≡ new.size.n → Begins (lists_in old) (lists_in new)
+  pub lists_grow : length old.nodes ≡ old.size.n → length new.nodes ≡ new.size.n
+      → Begins (lists_in old) (lists_in new)
   lists_grow before after =
       let n = ap (λ l. l.n) same_size in
-      begin_each old.nodes new.nodes (omega (arith, before, after, n)) (λ i. map_prefix entry_of _ _ (deliveries-grow old new event sound follows (suc i)))
+      begin_each old.nodes new.nodes (omega (arith, before, after, n))
+      (λ i. map_prefix entry_of _ _ (deliveries-grow old new event sound follows (suc i)))
 
-  follows_house : (prepared : Lists) (counts : List ℕ) → IsHouse old prepared counts → length new.nodes ≡ new.size.n → IsHouse new prepared counts
+  follows_house : (prepared : Lists) (counts : List ℕ) → IsHouse old prepared counts
+      → length new.nodes ≡ new.size.n → IsHouse new prepared counts
   follows_house prepared counts house after =
       let n = ap (λ l. l.n) same_size in
       let before = house.counted in
@@ -81,7 +108,9 @@ module _ (old new : GroupView) (event : Event) (sound : IsSound old) (follows : 
       record {
         sound = sound-after old new event sound follows;
         counted = after;
-        begins = begins_trans prepared (lists_in old) (lists_in new) house.begins (lists_grow before after);
+        begins =
+            begins_trans prepared (lists_in old) (lists_in new) house.begins
+            (lists_grow before after);
         lists = omega (arith, before, after, n, lists);
         lengths = house.lengths;
       }
@@ -90,29 +119,38 @@ module _ (old new : GroupView) (event : Event) (sound : IsSound old) (follows : 
 abbrev pub MayFollow : GroupView → Event → GroupView → Type 0
 MayFollow old event new = Follows old event new ⊎ (new ≡ old)
 
-pub house_after : (old new : GroupView) (event : Event) (prepared : Lists) (counts : List ℕ) → IsHouse old prepared counts → length new.nodes ≡ new.size.n → MayFollow old event new → IsHouse new prepared counts
-house_after old new event prepared counts house after (inl follows) = follows_house old new event house.sound follows prepared counts house after
-house_after old new event prepared counts house after (inr same) = subst (λ (g : GroupView). IsHouse g prepared counts) (sym same) house
+pub house_after : (old new : GroupView) (event : Event) (prepared : Lists) (counts : List ℕ)
+    → IsHouse old prepared counts → length new.nodes ≡ new.size.n → MayFollow old event new
+    → IsHouse new prepared counts
+house_after old new event prepared counts house after (inl follows) =
+    follows_house old new event house.sound follows prepared counts house after
+house_after old new event prepared counts house after (inr same) =
+    subst (λ (g : GroupView). IsHouse g prepared counts) (sym same) house
 
 -- ---- what each call says
 
-pub takes_follow : {A : Type 0} (old new : GroupView) (p : ℕ) (event : Event) (r : Result (Taken A) Refusal) → Takes old p event r new → MayFollow old event new
+pub takes_follow : {A : Type 0} (old new : GroupView) (p : ℕ) (event : Event)
+    (r : Result (Taken A) Refusal) → Takes old p event r new → MayFollow old event new
 takes_follow old new p event (Ok (taken.Same answer)) h = inl (λ w s. (h w s).shows)
 takes_follow old new p event (Ok (taken.Store draft)) h = inl (λ w s. (h.0 w s).shows)
 takes_follow old new p event (Err refusal) h = inr h.1
 
-pub commits_follow : (old new : GroupView) (receipt : Placed) (r : Result Done (Placed × Refusal)) → Commits old receipt r new → MayFollow old (Commit receipt.node receipt.pos receipt.entry) new
+pub commits_follow : (old new : GroupView) (receipt : Placed) (r : Result Done (Placed × Refusal))
+    → Commits old receipt r new → MayFollow old (Commit receipt.node receipt.pos receipt.entry) new
 commits_follow old new receipt (Ok done) h = inl (λ w s. (h w s).shows)
 commits_follow old new receipt (Err e) h = inr h.0.1
 
-pub ticks_follow : (old new : GroupView) (event : Event) (r : Result (List Carried) Refusal) → Ticks old event r new → MayFollow old event new
+pub ticks_follow : (old new : GroupView) (event : Event) (r : Result (List Carried) Refusal)
+    → Ticks old event r new → MayFollow old event new
 ticks_follow old new event (Ok packets) h = inl (λ w s. (h w s).shows)
 ticks_follow old new event (Err refusal) h = inr h.1
 
-pub goes_down_follow : (old new : GroupView) (p : ℕ) (event : Event) (r : Result (Unit {0}) Refusal) → GoesDown old p event r new → MayFollow old event new
+pub goes_down_follow : (old new : GroupView) (p : ℕ) (event : Event) (r : Result (Unit {0}) Refusal)
+    → GoesDown old p event r new → MayFollow old event new
 goes_down_follow old new p event (Ok done) h = inl (λ w s. (h w s).shows)
 goes_down_follow old new p event (Err refusal) h = inr h.1
 
-pub comes_up_follow : (old new : GroupView) (p : ℕ) (event : Event) (r : Result (Unit {0}) Refusal) → ComesUp old p event r new → MayFollow old event new
+pub comes_up_follow : (old new : GroupView) (p : ℕ) (event : Event) (r : Result (Unit {0}) Refusal)
+    → ComesUp old p event r new → MayFollow old event new
 comes_up_follow old new p event (Ok done) h = inl (λ w s. (h w s).shows)
 comes_up_follow old new p event (Err refusal) h = inr h.1

@@ -12,7 +12,7 @@ use Rattle.urb_show.specs.declared.entry.Entry.{Entry}
 abbrev pub entry : ℕ → ℕ → Content → Entry
 entry sender number m = record { name = name sender number; message = m }
 
--- the same of client 7, with this payload
+-- the same entry, with a message of client 7 with this payload
 abbrev pub told : ℕ → ℕ → String → Entry
 told sender number letters = entry sender number (message 7 number letters)
 
@@ -20,5 +20,15 @@ told sender number letters = entry sender number (message 7 number letters)
 abbrev pub group_of : List (Label × Content) → List Label → GroupView
 group_of pairs log = record {
   size = record { n = 1; cap = 10 };
-  nodes = record { pairs = pairs; certified = log; log = log; count = length pairs; state = Ready; acks = []; heard = []; cursor = None } ∷ [];
+  nodes = record {
+    pairs = pairs;
+    certified = log;
+    log = log;
+    count = length pairs;
+    state =
+        Ready;
+    acks = [];
+    heard = [];
+    cursor = None;
+  } ∷ [];
 }

@@ -1,6 +1,7 @@
--- The history of all additions, which exists in proofs alone: the rule of its book, what a step
--- says, and the lists that the history gives.
-use Rattle.std.specs.Prelude.{List, MatchBool, [], fold, length, true, ℕ, ◌++◌, ◌<◌, ◌==◌, ◌^◌, ◌∷◌, ◌≡◌, ◌≤◌, ◌⊎◌}
+-- The history of all additions, which exists only in proofs: the rule of its book, what a step
+-- says, and the lists of the history.
+use Rattle.std.specs.Prelude.{List, MatchBool, [], fold, length, true, ℕ, ◌++◌, ◌<◌, ◌==◌, ◌^◌, ◌∷◌}
+use Rattle.std.specs.Prelude.{◌≡◌, ◌≤◌, ◌⊎◌}
 use Rattle.logbook.specs.Pages.{Book, Cell, Named, Step, View}
 use Rattle.urb_show.specs.Lists.{Lists, add_at}
 use Rattle.urb_show.specs.declared.entry.Addition.{Addition}
@@ -14,8 +15,8 @@ pub record IsKept (cells : List Cell) (log : List Addition) : Type 0 where
 abbrev pub head_of : Book → Named
 head_of b = record { tracked = true; key = 0; book = b }
 
--- The addition was appended to all that had been seen. Or the history was longer, and now that is
--- seen.
+-- The addition was appended to all additions that had been seen. Or the history was longer than
+-- that, and now the longer one is seen.
 abbrev pub Adds : Step Addition → View Addition ℕ → ℕ → View Addition ℕ → Type 0
 Adds s v found w = MatchBool (found == s.old) (w.0 ≡ v.0 ++ s.ask ∷ []) (length w.0 ≡ found)
 
@@ -23,19 +24,20 @@ Adds s v found w = MatchBool (found == s.old) (w.0 ≡ v.0 ++ s.ask ∷ []) (len
 abbrev pub lists_of : Lists → List Addition → Lists
 lists_of base log = fold (λ lists (a : Addition). add_at lists a.place a.entry) base log
 
--- a beginning of the history of a book
-pub record Marked : Type 0 where
+-- a prefix of the history of a book
+pub record MarkView : Type 0 where
   pub book : Book
   pub log : List Addition
 
 -- what is published: the lists, and the history behind them
 pub record Issue : Type 0 where
   pub lists : Lists
-  pub mark : Marked
+  pub mark : MarkView
 
 -- the lists of this history, in a house that has this book and opened with these lists
 abbrev pub issue_of : Book → Lists → List Addition → Issue
-issue_of book base log = record { lists = lists_of base log; mark = record { book = book; log = log } }
+issue_of book base log = record
+    { lists = lists_of base log; mark = record { book = book; log = log } }
 
 -- a history that can take no more additions
 abbrev pub IsFull : List Addition → Type 0
@@ -43,7 +45,7 @@ IsFull log = 2 ^ 62 ≤ length log
 
 -- The longest history that the book was seen to have, and all additions of the publisher. Then
 -- those that its writer has, and those that are published.
-pub record Pressed : Type 0 where
+pub record PublisherView : Type 0 where
   pub known : List Addition
   pub all : List Addition
   pub queued : List Addition
@@ -51,6 +53,7 @@ pub record Pressed : Type 0 where
 
 -- Nothing was added. The history is full, or the book was seen to have an addition that isn't the
 -- publisher's.
-pub record AddsNothing (before after : Pressed) : Type 0 where
-  pub kept : (after.all ≡ before.all) × (after.queued ≡ before.queued) × (after.shown ≡ before.shown)
+pub record AddsNothing (before after : PublisherView) : Type 0 where
+  pub kept : (after.all ≡ before.all) × (after.queued ≡ before.queued)
+      × (after.shown ≡ before.shown)
   pub cause : IsFull before.all ⊎ (length before.all < length after.known)

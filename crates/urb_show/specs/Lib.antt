@@ -1,11 +1,11 @@
 pub mod Lists
-pub mod Housed
-pub mod Prepared
-pub mod Known
+pub mod Houses
+pub mod PreparedLists
+pub mod Readers
 pub mod Pages
-pub mod Faults
+pub mod ReadFaults
 pub mod Statuses
 pub mod History
-pub mod Applied
-pub mod Rising
+pub mod Operations
+pub mod PublishingRule
 pub mod Examples

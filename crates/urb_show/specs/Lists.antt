@@ -1,5 +1,5 @@
--- Lists of entries, one for each node: when they begin others, when they agree, and those of a
--- group.
+-- Lists of entries, one for each node: when they are prefixes of others, when they agree, and the
+-- lists of a group.
 use Rattle.std.specs.Prelude.{List, [], map, slice_index_or, suc, zero, ℕ, ◌++◌, ◌∷◌, ◌⊎◌}
 use Rattle.urb_names.specs.Beginnings.{Begins as IsBeginning, OneBegins}
 use Rattle.urb_group.specs.Delivering.{Agree as AgreeAll, Delivery, deliveries, sent_by}
@@ -14,8 +14,8 @@ Lists = List (List Entry)
 abbrev pub list_at : Lists → ℕ → List Entry
 list_at lists place = slice_index_or lists place []
 
--- Node by node, the first list is a beginning of the second. The empty value, with no lists, begins
--- all others.
+-- Node by node, the first list is a prefix of the second. The empty value, with no lists, counts as
+-- a prefix of all others.
 abbrev pub Begins : Lists → Lists → Type 0
 Begins [] ys = Unit {0}
 Begins (x ∷ xs) [] = ⊥
@@ -25,19 +25,21 @@ Begins (x ∷ xs) (y ∷ ys) = IsBeginning x y × Begins xs ys
 abbrev pub delivery_of : Entry → Delivery
 delivery_of e = (e.name, e.message)
 
--- In each list, the numbers of each sender are 1, 2, 3, .. in order. Of one sender's parts in two
--- lists, one begins the other. Each list has fewer than 2^32 entries.
+-- In each list, the numbers of each sender are 1, 2, 3, .. in order. For each sender, its entries
+-- in one of two lists are a prefix of those in the other. Each list has fewer than 2^32 entries.
 abbrev pub Agree : Lists → Type 0
 Agree lists = AgreeAll (λ place. map delivery_of (list_at lists place))
 
--- one of the two begins the other
+-- one of the two is a prefix of the other
 abbrev pub OneBeginsAll : Lists → Lists → Type 0
 OneBeginsAll xs ys = Begins xs ys ⊎ Begins ys xs
 
--- Take a list of these and a list of those, of any nodes. Of one sender's parts in the two, one
--- begins the other.
+-- Compare any list of the first value with any list of the second. For each sender, its entries in
+-- one of the two are a prefix of those in the other.
 abbrev pub AgreeAcross : Lists → Lists → Type 0
-AgreeAcross xs ys = (p q s : ℕ) → OneBegins (sent_by s (map delivery_of (list_at xs p))) (sent_by s (map delivery_of (list_at ys q)))
+AgreeAcross xs ys =
+    (p q s : ℕ) → OneBegins (sent_by s (map delivery_of (list_at xs p)))
+    (sent_by s (map delivery_of (list_at ys q)))
 
 -- what a group has delivered, as an entry
 abbrev pub entry_of : Delivery → Entry

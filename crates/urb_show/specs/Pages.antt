@@ -11,4 +11,6 @@ pub record IsPageOf {A : Type 0} (list : List Entry) (first max : ℕ) (page : P
 
 -- if two entries of the two pages have the same name, the entries are the same
 abbrev pub NeverContradict : {A B : Type 0} → Page A → Page B → Type 0
-NeverContradict a b = (e f : Entry) → Contains a.entries.items e → Contains b.entries.items f → e.name ≡ f.name → e ≡ f
+NeverContradict a b =
+    (e f : Entry) → Contains a.entries.items e → Contains b.entries.items f → e.name ≡ f.name
+    → e ≡ f

@@ -9,7 +9,12 @@ use Rattle.urb_show.specs.declared.status.Status.{Status}
 
 -- the node's state, how many messages it has broadcast, and how many names it has delivered
 abbrev pub status_of : World → ℕ → Status
-status_of w p = record { state = state_of (w.node p).state; own = length (w.node p).broadcast; logged = length (log (stored w p)) }
+status_of w p = record {
+  state = state_of (w.node p).state;
+  own =
+      length (w.node p).broadcast;
+  logged = length (log (stored w p));
+}
 
 -- The status of node p, in every world that the group shows. `None` if there is no such node.
 abbrev pub TellsStatus : GroupView → ℕ → Option Status → Type 0

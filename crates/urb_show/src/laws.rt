@@ -1,37 +1,37 @@
 //! The laws about what readers see. Each law is the contract of a function that does nothing.
 ghost use Rattle.std.specs.Prelude.{ℕ};
 ghost use Rattle.std.specs.declared.alloc.Global.{Global};
-ghost use Rattle.urb_show.specs.Known.{AreOfOneHistory, GoesOn, Known, Learns, Takes};
+ghost use Rattle.urb_show.specs.Readers.{AreOfOneHistory, GoesOn, ReaderView, Learns, Takes};
 ghost use Rattle.urb_show.specs.Lists.{AgreeAcross, Begins, Lists, list_at};
 ghost use Rattle.urb_show.specs.Pages.{IsPageOf, NeverContradict};
 ghost use Rattle.urb_show.specs.declared.entry.Page.{Page};
 
-/// What a reader saw begins all that it sees later. What two of its reads took is of one history.
+/// What a reader saw is a prefix of everything that it sees later. What two of its reads took
+/// belongs to one history.
 pub fn one_reader_agrees()
-    ensures begins { (first last : Known) → GoesOn first last → Begins first.seen last.seen }
-    ensures agree { (first before last : Known) →
+    ensures begins { (first last : ReaderView) → GoesOn first last → Begins first.seen last.seen }
+    ensures agree { (first before last : ReaderView) →
         GoesOn first before → Takes before last → AreOfOneHistory first.seen last.seen }
 {}
 
-/// Two readers of one house were lent to `LogReader::agrees_with` at some moment. What each saw
-/// until then agrees for each sender, at any two nodes. No page of one contradicts a page of the
-/// other.
+/// `LogReader::agrees_with` borrowed two readers of one house at some moment. What each saw until
+/// then agrees for each sender, at any two nodes. No page of one contradicts a page of the other.
 pub fn readers_agree()
-    ensures across { (first last other latest : Known) →
+    ensures across { (first last other latest : ReaderView) →
         GoesOn first last → GoesOn other latest → AreOfOneHistory last.seen latest.seen →
         AgreeAcross first.seen other.seen }
-    ensures pages { (first last other latest : Known) (p q place spot most more : ℕ)
+    ensures pages { (first last other latest : ReaderView) (p q place spot most more : ℕ)
         (a b : Page Global) →
         GoesOn first last → GoesOn other latest → AreOfOneHistory last.seen latest.seen →
         IsPageOf (list_at first.seen p) place most a → IsPageOf (list_at other.seen q) spot more b →
         NeverContradict a b }
 {}
 
-/// Two readers that never meet can still agree. `LogReader::saw` and `House::settle` give a token.
-/// After a reader has learnt it, what the reader takes and what the token stands for is of one
-/// history.
+/// Two readers that never meet can still agree. `LogReader::seen_token` and `House::settle` give a
+/// token. After a reader has learnt it, what the reader takes and what the token stands for belong
+/// to one history.
 pub fn who_learns_agrees()
-    ensures { (token : Lists) (start first before last : Known) →
+    ensures { (token : Lists) (start first before last : ReaderView) →
         Learns token start first → GoesOn first before → Takes before last →
         AreOfOneHistory token last.seen }
 {}

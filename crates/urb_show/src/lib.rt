@@ -3,18 +3,19 @@
 //! A `House` is a group together with what it has published, in one value that a lock may hold. It
 //! has each of the group's calls, with the group's promises. It adds `settle`, which publishes what
 //! a node has delivered. A `LogReader` reads the published lists of all nodes without waiting for
-//! anybody. So a client that reads never holds up the nodes. What it reads of two nodes never
-//! contradicts itself: of what two nodes delivered from one sender, one list begins the other.
+//! anybody. So a client that reads never holds up the nodes. What it reads from two nodes never
+//! contradicts itself: for each sender, what one node delivered is a prefix of what the other
+//! delivered.
 //!
 //! How the calls go together, in a function that is generic over the house's name `K: HouseName`:
 //!
 //! ```text
 //! let opened = House::open(group)?;                      // the group, not yet published
 //! let (mut house, readers) = opened.parts::<K, R>(rt, alloc)?;   // READERS for each node
-//! let taken = house.submit(alloc, node, client, number, payload)?;   // the group's calls, one event each
+//! let taken = house.submit(alloc, node, client, number, payload)?;   // each call is one event
 //! let done = house.commit(receipt)?;                     // a stored draft may release names
 //! let told = house.settle(rt, node)?;                    // publishes the names
-//! reader.learn(told);                                    // on any thread: it reads no less from now on
+//! reader.learn(told);                                    // on any thread: it reads no less then
 //! let page = reader.read(alloc, node, 1, 8)?;            // its first eight entries
 //! let group = house.close(rt);                           // the group again, in its present state
 //! ```
@@ -24,27 +25,26 @@
 //! type.
 //!
 //! The house never takes anything out of a published list. `read` and `learn` wait for nobody.
-//! `settle`, `parts` and `close` may wait for a reader that is in the midst of a read.
+//! `settle`, `parts` and `close` may wait for a reader that is in the middle of a read.
 #![tactic(auto)]
 
-mod book;
-mod delivered;
 mod entry;
-mod events;
+mod group_entries;
+mod history;
 mod house;
+mod house_events;
+mod house_queries;
 pub mod laws;
-mod opened;
-mod press;
-mod published;
-mod queries;
+mod opened_group;
+mod published_lists;
+mod publisher;
 mod reader;
-mod rule;
 mod status;
 pub mod worked;
 
-pub use book::HouseName;
 pub use entry::{Entry, Page};
+pub use history::tokens::HouseName;
 pub use house::House;
-pub use opened::{Opened, READERS};
+pub use opened_group::{Opened, READERS};
 pub use reader::{LogReader, ReadFault, Told};
 pub use status::Status;

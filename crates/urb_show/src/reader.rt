@@ -1,15 +1,15 @@
 //! Readers of the published logs. They wait for nobody.
 ghost use Rattle.std.specs.Prelude.{◌≡◌, ◌⊎◌, ◌≤◌, ◌-◌, [], IfOk, IfErr, MatchResult, length};
-ghost use Rattle.urb_show.specs.Known.{AreOfOneHistory, Learns, Takes};
+ghost use Rattle.urb_show.specs.Readers.{AreOfOneHistory, Learns, Takes};
 ghost use Rattle.urb_show.specs.Lists.{Agree, Begins, list_at};
 ghost use Rattle.urb_show.specs.Pages.{IsPageOf};
-ghost use Rattle.urb_show.specs.Faults.{Leaves};
+ghost use Rattle.urb_show.specs.ReadFaults.{Leaves};
 ghost use Rattle.urb_show.specs.History.{lists_of};
 
-use crate::book::{Front, HouseName};
 use crate::entry::Page;
-use crate::published::Published;
-use crate::rule::{Grows, Sees};
+use crate::history::rule::{Grows, Sees};
+use crate::history::tokens::{HistoryToken, HouseName};
+use crate::published_lists::PublishedLists;
 use left_right::reader::Reader;
 use std::alloc::{Allocator, Global};
 use std::marker::Model;
@@ -31,19 +31,19 @@ pub enum ReadFault {
 /// one reader, of any nodes and moments, agree for each sender.
 #[derive(Drop)]
 pub struct LogReader<K: HouseName, A: Allocator = Global> {
-    reader: Option<Reader<Published, u64, Grows<K>, A>>,
-    seen: Front<K>,
-    told: Front<K>,
+    reader: Option<Reader<PublishedLists, u64, Grows<K>, A>>,
+    seen: HistoryToken<K>,
+    told: HistoryToken<K>,
 }
 
 impl<K: HouseName, A: Allocator> Model for LogReader<K, A> {
     ghost use Rattle.std.specs.Prelude.{◌≤◌, length};
     ghost use Rattle.std.specs.Option.{IsSomeAnd};
     ghost use Rattle.urb_show.specs.History.{lists_of};
-    ghost use Rattle.urb_show.specs.Known.{Known};
+    ghost use Rattle.urb_show.specs.Readers.{ReaderView};
     ghost use Rattle.urb_show.specs.Lists.{Agree};
 
-    ghost Value = { Known };
+    ghost Value = { ReaderView };
 
     ghost view = { λ r. record { seen = lists_of K.base r.seen; told = lists_of K.base r.told } };
 
@@ -57,7 +57,7 @@ impl<K: HouseName, A: Allocator> Model for LogReader<K, A> {
 /// channel. Contracts see the lists.
 #[derive(Drop)]
 pub struct Told<K: HouseName> {
-    front: Front<K>,
+    token: HistoryToken<K>,
 }
 
 impl<K: HouseName> Model for Told<K> {
@@ -66,30 +66,30 @@ impl<K: HouseName> Model for Told<K> {
 
     ghost Value = { Lists };
 
-    ghost view = { λ t. lists_of K.base t.front };
+    ghost view = { λ t. lists_of K.base t.token };
 }
 
 impl<K: HouseName> Told<K> {
-    pub(crate) fn new(front: Front<K>) -> Told<K>
-        ensures { result ≡ lists_of K.base front }
+    pub(crate) fn new(token: HistoryToken<K>) -> Told<K>
+        ensures { result ≡ lists_of K.base token }
     {
-        Told { front }
+        Told { token }
     }
 }
 
 impl<K: HouseName, A: Allocator> LogReader<K, A> {
     pub(crate) fn new(
-        reader: Reader<Published, u64, Grows<K>, A>,
-        front: Front<K>,
+        reader: Reader<PublishedLists, u64, Grows<K>, A>,
+        token: HistoryToken<K>,
     ) -> LogReader<K, A>
-        requires empty { front ≡ [] }
+        requires empty { token ≡ [] }
         requires agree { Agree K.base }
         ensures { result ≡ record { seen = K.base; told = K.base } }
     {
-        let told = front.again();
+        let told = token.copy();
         LogReader {
             reader: Some(reader),
-            seen: front,
+            seen: token,
             told,
         }
     }
@@ -107,7 +107,7 @@ impl<K: HouseName, A: Allocator> LogReader<K, A> {
         max: u8,
     ) -> Result<Page<B>, ReadFault>
         requires { (node ≤ length K.base) × (1 ≤ first) }
-        // the page is of lists that agree, and that begin with all that was seen and learnt
+        // the page comes from lists that agree, and that begin with all that was seen and learnt
         ensures page { IfOk result (λ p.
             Takes self.old self.new × IsPageOf (list_at self.new.seen (node - 1)) first max p) }
         // what a fault leaves
@@ -124,42 +124,43 @@ impl<K: HouseName, A: Allocator> LogReader<K, A> {
             }
         };
         let published = reading.get();
-        let front = published.mark().front::<K>().again_after(&self.seen);
-        if front.len() < self.told.len() {
+        let token = published.mark().token::<K>().copy_after(&self.seen);
+        if token.len() < self.told.len() {
             self.reader = Some(reading.leave());
             return Err(ReadFault::Gone);
         }
-        let front = front.again_after(&self.told);
+        let token = token.copy_after(&self.told);
         let page = published.page(alloc, usize::from(node.number() - 1), first, max);
         self.reader = Some(reading.leave());
-        self.seen = front;
+        self.seen = token;
         match page {
             Ok(page) => Ok(page),
             Err(_) => Err(ReadFault::NoMemory),
         }
     }
 
-    /// What two readers of one house saw last is of one history. So no page of one contradicts a
-    /// page of the other. A reader's earlier pages are of lists that begin those that it saw last.
-    /// Call this in proofs alone, since it does nothing.
+    /// What two readers of one house saw last belongs to one history. So no page of one contradicts
+    /// a page of the other. A reader's earlier pages come from lists that are prefixes of those
+    /// that it saw last. Call this only for proofs, since it does nothing.
     pub fn agrees_with(&self, other: &LogReader<K, A>)
         ensures { AreOfOneHistory self.now.seen other.now.seen }
     {
-        let _ = self.seen.longer(&other.seen);
+        let _ = self.seen.longer_of(&other.seen);
     }
 
     /// The lists that this reader saw last, as a token for another reader. A reader that learns it
-    /// then reads no less. So two readers can agree even if they are never lent in one place.
-    pub fn saw(&self) -> Told<K>
+    /// then reads no less. So it can be shown that two readers agree even if no function can borrow
+    /// both.
+    pub fn seen_token(&self) -> Told<K>
         ensures { result ≡ self.now.seen }
     {
-        Told::new(self.seen.again())
+        Told::new(self.seen.copy())
     }
 
-    /// From now on it reads no less than this.
+    /// Makes this reader read no less than this from now on.
     pub fn learn(&mut self, told: Told<K>)
         ensures { Learns told self.old self.new }
     {
-        self.told = self.told.longer(&told.front);
+        self.told = self.told.longer_of(&told.token);
     }
 }

@@ -3,7 +3,7 @@ ghost use Rattle.std.specs.Prelude.{◌≡◌, ◌∷◌, ◌-◌, ◌^◌, []};
 ghost use Rattle.urb_group.specs.Scripts.{message};
 ghost use Rattle.urb_names.specs.Names.{name};
 ghost use Rattle.urb_show.specs.Examples.{entry, group_of, told};
-ghost use Rattle.urb_show.specs.Housed.{next_count};
+ghost use Rattle.urb_show.specs.Houses.{next_count};
 ghost use Rattle.urb_show.specs.Lists.{Agree, Begins, list_at, lists_in};
 
 /// A node's list has the names of its log, in the log's order, each with its message. If there is
@@ -18,7 +18,8 @@ pub fn lists_of_a_group()
     ensures beyond { list_at ((told 1 1 "a" ∷ []) ∷ []) 1 ≡ [] }
 {}
 
-/// Lists begin others node by node. The empty value, with no lists, begins all others.
+/// Lists are compared as prefixes node by node. The empty value, with no lists, counts as a prefix
+/// of all others.
 pub fn beginnings()
     ensures each { Begins ((told 1 1 "a" ∷ []) ∷ [] ∷ [])
         ((told 1 1 "a" ∷ told 1 2 "b" ∷ []) ∷ (told 1 1 "a" ∷ []) ∷ []) }

@@ -25,7 +25,7 @@ use walk::walk;
 use writer::{Board, ROUNDS, write};
 
 // A new group of three nodes, opened.
-fn opened(alloc: Global) -> Option<Opened>
+fn open_three(alloc: Global) -> Option<Opened>
     ensures { IfSome result (λ it. it.group.size.n ≡ 3) }
 {
     let config = Config::new(3, 100)?;
@@ -34,7 +34,7 @@ fn opened(alloc: Global) -> Option<Opened>
 }
 
 // A new group of seven nodes, opened.
-fn opened_seven(alloc: Global) -> Option<Opened>
+fn open_seven(alloc: Global) -> Option<Opened>
     ensures { IfSome result (λ it. it.group.size.n ≡ 7) }
 {
     let config = Config::new(7, 100)?;
@@ -42,8 +42,8 @@ fn opened_seven(alloc: Global) -> Option<Opened>
     House::open(group).ok()
 }
 
-// The group of three nodes that a house gave back, opened again.
-fn opened_again(group: Group) -> Option<Opened>
+// The group of three nodes that a house returned, opened again.
+fn reopen_three(group: Group) -> Option<Opened>
     ensures { IfSome result (λ it. it.group.size.n ≡ 3) }
 {
     if group.config().n() != 3 {
@@ -166,7 +166,7 @@ fn is_gone<K: HouseName>(alloc: Global, reader: &mut LogReader<K>) -> bool
 
 // Readers read a house while it is written. Another reader learns nothing, and reads once all is
 // written.
-fn played<K: HouseName + Send + Sync, R: Threads + Wait + Sync>(
+fn run_readers_and_writer<K: HouseName + Send + Sync, R: Threads + Wait + Sync>(
     rt: &R,
     alloc: Global,
     opened: Opened,
@@ -181,7 +181,7 @@ fn played<K: HouseName + Send + Sync, R: Threads + Wait + Sync>(
             return Err("no memory");
         }
     };
-    house.promise();
+    house.recall();
     let mut last = readers.pop().unwrap();
     let house = Mutex::new(house);
     let (wrote, (read, learnt)) = read_and_write(rt, alloc, &house, readers.as_mut_slice());
@@ -203,14 +203,14 @@ fn played<K: HouseName + Send + Sync, R: Threads + Wait + Sync>(
 
 #[test]
 fn readers_read_while_another_thread_writes(rt: HostRuntime) -> Result<(), Fail> {
-    let opened = opened(rt.alloc()).ok_or("no group")?;
-    played::<Brand, _>(&rt, rt.alloc(), opened)?;
+    let opened = open_three(rt.alloc()).ok_or("no group")?;
+    run_readers_and_writer::<Brand, _>(&rt, rt.alloc(), opened)?;
     Ok(())
 }
 
 #[test]
 fn a_house_is_called_one_by_one(rt: HostRuntime) -> Result<(), Fail> {
-    let opened = opened(rt.alloc()).ok_or("no group")?;
+    let opened = open_three(rt.alloc()).ok_or("no group")?;
     walk::<Brand, _>(&rt, rt.alloc(), opened)?;
     Ok(())
 }
@@ -218,17 +218,17 @@ fn a_house_is_called_one_by_one(rt: HostRuntime) -> Result<(), Fail> {
 // A house of three nodes delivers all messages, and then the same group is opened again. This
 // growth of memory is refused. The result is the number of calls that were refused memory; `None`
 // if there was no such growth.
-fn with_growth_refused<R: Wait>(
+fn run_refusing_growth<R: Wait>(
     rt: &R,
     alloc: Global,
     refused: u64,
 ) -> Result<Option<Tally>, &'static str> {
     let heap = Refusing::new(alloc, refused);
-    let opened = opened(alloc).ok_or("no group")?;
+    let opened = open_three(alloc).ok_or("no group")?;
     let (group, first) = deliver::<Brand, R>(rt, alloc, &heap, opened)?;
-    let opened = opened_again(group).ok_or("another group")?;
+    let opened = reopen_three(group).ok_or("another group")?;
     let second = open_again::<Brand, R>(rt, alloc, &heap, opened)?;
-    if heap.met() {
+    if heap.has_failed() {
         Ok(Some(first.plus(second)))
     } else {
         Ok(None)
@@ -240,7 +240,7 @@ fn each_growth_of_a_house_may_be_refused(rt: HostRuntime) -> Result<(), Fail> {
     let mut all = Tally::none();
     let mut is_done = false;
     for refused in 1..300 {
-        let Some(tally) = with_growth_refused(&rt, rt.alloc(), refused)? else {
+        let Some(tally) = run_refusing_growth(&rt, rt.alloc(), refused)? else {
             is_done = true;
             break;
         };
@@ -255,7 +255,7 @@ fn each_growth_of_a_house_may_be_refused(rt: HostRuntime) -> Result<(), Fail> {
 
 #[test]
 fn a_house_of_seven_nodes_is_opened_settled_and_read(rt: HostRuntime) -> Result<(), Fail> {
-    let opened = opened_seven(rt.alloc()).ok_or("no group")?;
+    let opened = open_seven(rt.alloc()).ok_or("no group")?;
     seven_nodes::<Brand, _>(&rt, rt.alloc(), opened)?;
     Ok(())
 }

@@ -6,12 +6,14 @@ use Rattle.sqlite.specs.declared.error.ErrorCode.TheVariants as code
 use Rattle.urb_stable.specs.declared.stable.StoreFault.{StoreFault}
 use Rattle.urb_stable.specs.declared.stable.StoreFault.TheVariants.{NoMemory, Device}
 
--- whether the database refused for want of memory
+-- whether the database refused because memory was refused
 abbrev pub is_memory : Error → Bool
 is_memory (SqliteFailure code.OutOfMemory) = true
 is_memory _ = false
 
 -- The fault for a refusal, and the count of failures after it. Every refusal except for memory is
--- Device, and counts. At the greatest count there is no higher one, and the refusal is NoMemory.
+-- Device, and is counted. If the count is at its greatest value, the fault is NoMemory instead.
 abbrev pub blamed : Error → ℕ → StoreFault × ℕ
-blamed e failures = if is_memory e || failures == 18446744073709551615 then (NoMemory, failures) else (Device, failures + 1)
+blamed e failures =
+    if is_memory e || failures == 18446744073709551615 then (NoMemory, failures) else
+    (Device, failures + 1)

@@ -1,4 +1,4 @@
--- What a journal that was closed leaves of its two files.
+-- The two files of a journal after it was closed.
 use Rattle.std.specs.Prelude.{◌≡◌}
 use Rattle.sqlite_disk.specs.declared.Disk as disk
 use Rattle.sqlite_disk.specs.declared.Files.{Files}

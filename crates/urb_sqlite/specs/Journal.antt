@@ -1,8 +1,10 @@
 -- The two tables of a journal: their texts, their limits, and their places in a schema.
-use Rattle.std.specs.Prelude.{◌≡◌, ◌^◌, ◌==◌, nat_le, ℕ, true, false, List, [], ◌∷◌, find, codes, Option, Some, option_map, option_and_then, slice_get, unwrap_or, None, ◌⊎◌}
-use Rattle.urb_names.specs.declared.message.TheConstants.{MAX_PAYLOAD}
-use Rattle.urb_sqlite.specs.declared.statements.Part.{Part}
-use Rattle.urb_sqlite.specs.declared.statements.Part.TheVariants.{First, Second}
+use Rattle.std.specs.Prelude.{◌≡◌, ◌^◌, ◌==◌, nat_le, ℕ, true, false, List, [], ◌∷◌, find, codes}
+use Rattle.std.specs.Prelude.{Option, Some, option_map, option_and_then, slice_get, unwrap_or, None}
+use Rattle.std.specs.Prelude.{◌⊎◌}
+use Rattle.urb_names.specs.declared.limits.TheConstants.{MAX_PAYLOAD}
+use Rattle.urb_sqlite.specs.declared.sql.Part.{Part}
+use Rattle.urb_sqlite.specs.declared.sql.Part.TheVariants.{First, Second}
 use Rattle.sqlite_schema.specs.Names.{table_named}
 use Rattle.sqlite.specs.Collation.TheVariants.{Binary}
 use Rattle.sqlite.specs.declared.types.Value.TheVariants.{Null}
@@ -25,19 +27,21 @@ abbrev pub name_of : Part → List ℕ
 name_of First = journal_name
 name_of Second = second_name
 
--- the greatest number of bytes of a payload in a table: 1,024 in the first, and as many as in a
--- message in the second
+-- the greatest number of bytes of a payload in a table: 1,024 in the first table, and MAX_PAYLOAD
+-- in the second
 abbrev pub limit_of : Part → ℕ
 limit_of First = 1024
 limit_of Second = MAX_PAYLOAD
 
 -- the text that makes the first table if it is absent
 abbrev pub create_text : List ℕ
-create_text = codes "CREATE TABLE IF NOT EXISTS journal(pos INTEGER PRIMARY KEY, kind INTEGER NOT NULL, sender INTEGER NOT NULL, seq INTEGER NOT NULL, client INTEGER NOT NULL, number INTEGER NOT NULL, payload BLOB NOT NULL) STRICT"
+create_text =
+    codes "CREATE TABLE IF NOT EXISTS journal(pos INTEGER PRIMARY KEY, kind INTEGER NOT NULL, sender INTEGER NOT NULL, seq INTEGER NOT NULL, client INTEGER NOT NULL, number INTEGER NOT NULL, payload BLOB NOT NULL) STRICT"
 
 -- the text that makes the second table if it is absent
 abbrev pub second_text : List ℕ
-second_text = codes "CREATE TABLE IF NOT EXISTS journal2(pos INTEGER PRIMARY KEY, kind INTEGER NOT NULL, sender INTEGER NOT NULL, seq INTEGER NOT NULL, client INTEGER NOT NULL, number INTEGER NOT NULL, payload BLOB NOT NULL) STRICT"
+second_text =
+    codes "CREATE TABLE IF NOT EXISTS journal2(pos INTEGER PRIMARY KEY, kind INTEGER NOT NULL, sender INTEGER NOT NULL, seq INTEGER NOT NULL, client INTEGER NOT NULL, number INTEGER NOT NULL, payload BLOB NOT NULL) STRICT"
 
 -- the text that makes each table
 abbrev pub create_of : Part → List ℕ
@@ -50,21 +54,49 @@ insert_text = codes "INSERT INTO journal2 VALUES (?1, ?2, ?3, ?4, ?5, ?6, ?7)"
 
 -- the text that reads all records of each table
 abbrev pub select_of : Part → List ℕ
-select_of First = codes "SELECT pos, kind, sender, seq, client, number, payload FROM journal ORDER BY pos"
-select_of Second = codes "SELECT pos, kind, sender, seq, client, number, payload FROM journal2 ORDER BY pos"
+select_of First =
+    codes "SELECT pos, kind, sender, seq, client, number, payload FROM journal ORDER BY pos"
+select_of Second =
+    codes "SELECT pos, kind, sender, seq, client, number, payload FROM journal2 ORDER BY pos"
 
 -- a column of integers that is not null
 abbrev pub integer : List ℕ → Column
-integer name = record { name = name; kind = Integer; is_strict = true; not_null = true; default = Null; collation = Binary }
+integer name = record {
+  name = name;
+  kind = Integer;
+  is_strict = true;
+  not_null = true;
+  default =
+      Null;
+  collation = Binary;
+}
 
 -- the table of records with this name; its rows are in this tree
 abbrev pub record_table : List ℕ → ℕ → Table
 record_table name tree = record {
   name = name;
   tree = tree;
-  columns = (record { name = codes "pos"; kind = Integer; is_strict = true; not_null = false; default = Null; collation = Binary })
-      ∷ integer (codes "kind") ∷ integer (codes "sender") ∷ integer (codes "seq") ∷ integer (codes "client") ∷ integer (codes "number")
-      ∷ (record { name = codes "payload"; kind = kind.Blob; is_strict = true; not_null = true; default = Null; collation = Binary }) ∷ [];
+  columns =
+      (record {
+        name = codes "pos";
+        kind = Integer;
+        is_strict = true;
+        not_null = false;
+        default =
+            Null;
+        collation = Binary;
+      })
+      ∷ integer (codes "kind") ∷ integer (codes "sender") ∷ integer (codes "seq") ∷ integer
+      (codes "client") ∷ integer (codes "number")
+      ∷ (record {
+        name = codes "payload";
+        kind = kind.Blob;
+        is_strict = true;
+        not_null =
+            true;
+        default = Null;
+        collation = Binary;
+      }) ∷ [];
   key = Some 0;
   primary = 0 ∷ [];
   uniques = [];
@@ -88,28 +120,30 @@ tree_of schema name = unwrap_or (option_map (λ t. t.tree) (table_of schema name
 -- tree is a stored one.
 pub record HasTable (schema : Schema) (name : List ℕ) : Type 0 where
   pub there : table_of schema name ≡ Some (record_table name (tree_of schema name))
-  pub alone : find (λ t. t.tree == tree_of schema name) schema.tables ≡ Some (record_table name (tree_of schema name))
+  pub alone : find (λ t. t.tree == tree_of schema name) schema.tables ≡ Some
+      (record_table name (tree_of schema name))
   pub stored : nat_le (2 ^ 31) (tree_of schema name) ≡ false
 
 -- the schema has no table with this name
 abbrev pub Lacks : Schema → List ℕ → Type 0
 Lacks schema name = table_of schema name ≡ None
 
--- Both tables are there. Other tables, indexes and views take nothing from them.
+-- Both tables are there. There may also be other tables, indexes and views.
 pub record HasBoth (schema : Schema) : Type 0 where
   pub first : HasTable schema journal_name
   pub second : HasTable schema second_name
 
--- The table journal is there. The table journal2 is there too, or is absent.
+-- The table journal is there. The table journal2 is there too, or it is absent.
 abbrev pub HasJournal : Schema → Type 0
-HasJournal schema = HasTable schema journal_name × (HasTable schema second_name ⊎ Lacks schema second_name)
+HasJournal schema =
+    HasTable schema journal_name × (HasTable schema second_name ⊎ Lacks schema second_name)
 
--- the table of this name is one of records, or there is none
+-- the table of this name is a table of records, or there is no table of this name
 abbrev pub MayTake : Schema → List ℕ → Type 0
 MayTake schema name = HasTable schema name ⊎ Lacks schema name
 
--- Each of the two tables is one of records or is absent, so a journal opens here. Other tables
--- change nothing.
+-- Each of the two tables is a table of records or is absent, so a journal opens here. Other tables
+-- make no difference.
 abbrev pub IsAdoptable : Schema → Type 0
 IsAdoptable schema = MayTake schema journal_name × MayTake schema second_name
 

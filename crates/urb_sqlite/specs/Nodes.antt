@@ -1,4 +1,4 @@
--- What the opening of a node's journal finds, by what its files held.
+-- What the opening of a node's journal finds, depending on what its files held.
 use Rattle.std.specs.Prelude.{◌≡◌, ◌/◌, ℕ, zero, suc, List, [], Some, slice_get}
 use Rattle.sqlite_disk.specs.declared.start.Start as start
 use Rattle.sqlite_wal.specs.Files.{image_at}
@@ -9,11 +9,12 @@ use Rattle.sqlite.specs.Files.{HoldsDatabase}
 use Rattle.urb_stable.specs.Entries.{Entry}
 use Rattle.urb_stable.specs.declared.stable.Stable.{Ghosts}
 use Rattle.urb_sqlite.specs.Rows.{StandsFor}
-use Rattle.urb_sqlite.specs.declared.nodes.TheConstants.{LOG_BYTES, NEW_LOG_PAGES}
+use Rattle.urb_sqlite.specs.declared.node_journals.TheConstants.{LOG_BYTES, NEW_LOG_PAGES}
 use Rattle.urb_sqlite.specs.OpenJournal.{IsBare, IsBase, IsJournal, IsUnmade, base_of, database_of}
 
 -- what the log and the database file of a node held, for nodes 1 to 7
-abbrev pub held_by : {A B C D E F G : Type 0} → start.Ghosts A → start.Ghosts B → start.Ghosts C → start.Ghosts D → start.Ghosts E → start.Ghosts F → start.Ghosts G → ℕ → Image
+abbrev pub held_by : {A B C D E F G : Type 0} → start.Ghosts A → start.Ghosts B → start.Ghosts C
+    → start.Ghosts D → start.Ghosts E → start.Ghosts F → start.Ghosts G → ℕ → Image
 held_by a b c d e f g (suc zero) = image_at a
 held_by a b c d e f g (suc (suc zero)) = image_at b
 held_by a b c d e f g (suc (suc (suc zero))) = image_at c
@@ -22,25 +23,32 @@ held_by a b c d e f g (suc (suc (suc (suc (suc zero))))) = image_at e
 held_by a b c d e f g (suc (suc (suc (suc (suc (suc zero)))))) = image_at f
 held_by a b c d e f g _ = image_at g
 
--- How many pages a log takes before they are moved: as many as 16,384,000 bytes are with pages of
--- this size, or 16,000 if no page has this size.
+-- How many pages a log takes before they are copied into the database file. It is 16,384,000
+-- divided by this page size, or 16,000 if no page has this size.
 pub record AreLogPages (size pages : ℕ) : Type 0 where
   pub sized : IsPageSize size → pages ≡ LOG_BYTES / size
   pub new : ¬ IsPageSize size → pages ≡ NEW_LOG_PAGES
 
--- What an opening finds while the storage gives back what was written. The journal is honest. If a
--- journal stood in the files, it has its records. It has none if the database file was empty, if a
--- first start was stopped before there was a database, or if the database lists nothing. If other
--- tables or one table of a journal stood alone, the rows are the records.
-pub record IsFoundIn (image : Image) (is_clean is_honest : Type 0) (records : List Entry) : Type 0 where
-  pub stood : is_clean → (db : Trees) → HoldsDatabase image db → (journal : IsJournal db) → is_honest × StandsFor (database_of journal) records
+-- What an opening finds while the storage returns what was written. The journal is honest. If the
+-- files held a journal, it has that journal's records. It has no record if the database file was
+-- empty, or if a first start was stopped before there was a database. It has none either if the
+-- database lists nothing. If the database had only other tables, or only one table of a journal,
+-- the rows are the records.
+pub record IsFoundIn (image : Image) (is_clean is_honest : Type 0)
+    (records : List Entry) : Type 0 where
+  pub stood : is_clean → (db : Trees) → HoldsDatabase image db → (journal : IsJournal db)
+      → is_honest × StandsFor (database_of journal) records
   pub fresh : is_clean → image.db ≡ [] → is_honest × (records ≡ [])
   pub unmade : is_clean → IsUnmade image → is_honest × (records ≡ [])
-  pub empty : is_clean → (db : Trees) → HoldsDatabase image db → IsBare db → is_honest × (records ≡ [])
-  pub adopted : is_clean → (db : Trees) → HoldsDatabase image db → (base : IsBase db) → is_honest × StandsFor (base_of base) records
+  pub empty : is_clean → (db : Trees) → HoldsDatabase image db → IsBare db
+      → is_honest × (records ≡ [])
+  pub adopted : is_clean → (db : Trees) → HoldsDatabase image db → (base : IsBase db)
+      → is_honest × StandsFor (base_of base) records
 
 module _ {S A : Type 0} (g : Ghosts S A) where
   -- The journals, one after the other, are those of nodes 1, 2, 3, .. Each was found in what its
   -- node's files held.
   abbrev pub AreFoundIn : (ℕ → Image) → List S → Type 0
-  AreFoundIn held journals = (i : ℕ) (journal : S) → slice_get journals i ≡ Some journal → IsFoundIn (held (suc i)) (g.is_clean journal) (g.is_honest journal) (g.certain journal)
+  AreFoundIn held journals =
+      (i : ℕ) (journal : S) → slice_get journals i ≡ Some journal
+      → IsFoundIn (held (suc i)) (g.is_clean journal) (g.is_honest journal) (g.certain journal)

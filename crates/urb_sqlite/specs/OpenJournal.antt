@@ -1,5 +1,6 @@
 -- What contracts see of an open journal.
-use Rattle.std.specs.Prelude.{◌≡◌, ℕ, ◌+◌, Bool, false, List, [], ◌∷◌, ◌++◌, length, IsTrue, refl, ◌⊎◌}
+use Rattle.std.specs.Prelude.{◌≡◌, ℕ, ◌+◌, Bool, false, List, [], ◌∷◌, ◌++◌, length, IsTrue, refl}
+use Rattle.std.specs.Prelude.{◌⊎◌}
 use Rattle.std.specs.Coded.{Coded, code_by, coded×, coded_ℕ, coded_bool}
 use Rattle.sqlite.specs.Held.{Held, held_code}
 use Rattle.std.specs.List.{AllByRecursion}
@@ -16,7 +17,8 @@ use Rattle.sqlite.specs.Effect.{Database}
 use Rattle.sqlite_catalog.specs.Listing.{IsSound}
 use Rattle.urb_stable.specs.Entries.{Entry}
 use Rattle.sqlite.specs.Schema.{Schema}
-use Rattle.urb_sqlite.specs.Journal.{create_text, journal_name, second_name, tree_of, HasTable, HasBoth, HasJournal, IsAdoptable}
+use Rattle.urb_sqlite.specs.Journal.{create_text, journal_name, second_name, tree_of, HasTable}
+use Rattle.urb_sqlite.specs.Journal.{HasBoth, HasJournal, IsAdoptable}
 use Rattle.urb_sqlite.specs.Rows.{StandsFor}
 use Rattle.urb_sqlite.specs.Reading.{records_of}
 
@@ -31,7 +33,8 @@ pub record OpenJournal (S : Type 0) : Type 0 where
 -- an open journal, encoded as the tuple of its parts, so that proofs can tell journals apart
 abbrev pub open_code : {S : Type 0} → Coded S → Coded (OpenJournal S)
 open_code {S} store =
-    code_by (Held S × (ℕ × (Bool × ℕ))) (coded× (held_code store) (coded× coded_ℕ (coded× coded_bool coded_ℕ)))
+    code_by (Held S × (ℕ × (Bool × ℕ)))
+    (coded× (held_code store) (coded× coded_ℕ (coded× coded_bool coded_ℕ)))
     (λ s. (s.conn, (s.next, (s.doubtful, s.failures))))
     (λ p. record { conn = p.0; next = p.1.0; doubtful = p.1.1.0; failures = p.1.1.1 })
     (λ _. refl)
@@ -48,11 +51,11 @@ pub record IsKept (s : State) (next : ℕ) : Type 0 where
   pub settled : s.now ≡ s.committed
   pub counted : HasBoth s.now.schema → IsCounted s.now next
 
--- While the disk is clean and the connection open, the next position agrees with the rows.
+-- While the disk is clean and the connection is open, the next position agrees with the rows.
 abbrev pub IsInStep : State → ℕ → Type 0
 IsInStep s next = HasCleanDisk s → IsTrue s.is_open → IsKept s next
 
--- So far the disk has given back what was written, no fault has shut the database, and both of its
+-- So far the disk has returned what was written, no fault has shut the database, and both of its
 -- tables are there.
 pub record IsHonestJournal (s : State) : Type 0 where
   pub clean : HasCleanDisk s
@@ -94,24 +97,30 @@ IsUnmade image = IsBlankFile 1024 image ⊎ IsNothing image
 abbrev pub IsShutJournal : State → Type 0
 IsShutJournal s = IsTrue s.is_open → ⊥
 
--- Whatever a stop leaves is a journal of records, and P holds of the records.
+-- Whatever a stop leaves is a journal of records, and P holds for the records.
 abbrev pub LeavesOnly : State → (List Entry → Type 0) → Type 0
-LeavesOnly s P = (db : Trees) → s.may_leave db → (journal : IsJournal db) × (records : List Entry) × StandsFor (database_of journal) records × P records
+LeavesOnly s P =
+    (db : Trees) → s.may_leave db
+    → (journal : IsJournal db) × (records : List Entry) × StandsFor (database_of journal) records
+    × P records
 
 -- ---- what a call does to a journal
 
--- The database got tables behind its other tables, which keep their rows.
+-- Tables were added to the database after its other tables, which keep their rows.
 pub record IsLonger (old new : Database) : Type 0 where
   pub more : List Table
   pub tables : new.schema.tables ≡ old.schema.tables ++ more
   pub rows : AllByRecursion (λ (t : Table). new.trees t.tree ≡ old.trees t.tree) old.schema.tables
 
--- The database got the empty table with this name behind its other tables, which keep their rows.
+-- The empty table with this name was added to the database after its other tables, which keep their
+-- rows.
 pub record AddsTable (old new : Database) (name : List ℕ) : Type 0 where
   pub has : HasTable new.schema name
   pub empty : new.trees (tree_of new.schema name) ≡ []
   pub longer : IsLonger old new
-  pub keeps : (other : List ℕ) → HasTable old.schema other → HasTable new.schema other × (new.trees (tree_of new.schema other) ≡ old.trees (tree_of old.schema other))
+  pub keeps : (other : List ℕ) → HasTable old.schema other
+      → HasTable new.schema other × (new.trees (tree_of new.schema other) ≡ old.trees
+      (tree_of old.schema other))
 
 -- The connection was open and still is, and the table with this name was added.
 pub record IsMade (old new : State) (name : List ℕ) : Type 0 where
@@ -123,9 +132,10 @@ pub record IsMade (old new : State) (name : List ℕ) : Type 0 where
 abbrev pub MakesAtMost : State → State → List ℕ → Type 0
 MakesAtMost old new name = IsUnchanged old new ⊎ IsMade old new name
 
--- the committed database has the table with this name behind what was there
+-- the committed database has the table with this name after what was there before
 abbrev pub CommitsTable : State → State → List ℕ → Type 0
-CommitsTable old new name = IsTrue new.is_open → IsTrue old.is_open × AddsTable old.now new.committed name
+CommitsTable old new name =
+    IsTrue new.is_open → IsTrue old.is_open × AddsTable old.now new.committed name
 
 -- nothing was committed, or the table with this name was committed
 abbrev pub CommitsAtMost : State → State → List ℕ → Type 0
@@ -145,32 +155,34 @@ pub record IsLeft (old new : State) (place : ℕ) : Type 0 where
   pub alive : IsHonestJournal old → HasCleanDisk new → IsTrue new.is_open → IsHonestJournal new
   pub records : IsHonestJournal new → records_of new.now ≡ records_of old.now
 
--- At rest a stop leaves the records that the journal shows.
+-- Between two calls, a stop leaves the records that the journal shows.
 abbrev pub IsSafeAtRest : State → Type 0
 IsSafeAtRest s = IsHonestJournal s → LeavesOnly s (λ records. records ≡ records_of s.now)
 
 -- ---- what opening leaves
 
--- these trees are the first database with the empty table of this name behind its other tables
+-- these trees are the first database with the empty table of this name after its other tables
 pub record AddsOne (old : Database) (name : List ℕ) (db : Trees) : Type 0 where
   pub after : Database
   pub adds : AddsTable old after name
   pub sound : IsSound after.schema after.trees
   pub is : db ≡ after.trees
 
--- What a stop inside an opening may leave beside what was there: the database with the first table,
--- or with the second table added after it.
+-- What a stop inside an opening may leave, other than what was there. It is the database with the
+-- first table, or with the second table added after it.
 abbrev pub CommitsEither : State → Trees → Type 0
 CommitsEither s db =
     CommitsBy create_text [] s db
-    ⊎ ((mid : Database) × ((mid ≡ s.now) ⊎ AddsTable s.now mid journal_name) × AddsOne mid second_name db)
+    ⊎ ((mid : Database) × ((mid ≡ s.now) ⊎ AddsTable s.now mid journal_name)
+    × AddsOne mid second_name db)
 
 -- A refused journal keeps its rows. Nothing was committed, or only the second table, which is
--- empty. A bad row of the first table commits nothing.
+-- empty. If a row of the first table is bad, nothing is committed.
 pub record KeepsRows (old new : State) (e : StoreFault) : Type 0 where
   pub commit : KeepsCommit old new ⊎ (CommitsTable old new second_name × (is_bad_row e ≡ false))
 
--- Any database that is refused keeps its rows. Either nothing was committed, or tables were
--- committed behind those that were there.
+-- Any database that is refused keeps its rows. Either nothing was committed, or tables were added
+-- after the existing ones and committed.
 abbrev pub SparesRows : State → State → Type 0
-SparesRows old new = KeepsCommit old new ⊎ (IsTrue new.is_open → IsTrue old.is_open × IsLonger old.now new.committed)
+SparesRows old new =
+    KeepsCommit old new ⊎ (IsTrue new.is_open → IsTrue old.is_open × IsLonger old.now new.committed)

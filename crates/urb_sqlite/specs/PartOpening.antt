@@ -7,7 +7,7 @@ use Rattle.urb_stable.specs.Entries.{Entry}
 use Rattle.urb_stable.specs.Storing.{is_bad_row}
 use Rattle.urb_stable.specs.declared.stable.StoreFault.{StoreFault}
 use Rattle.urb_stable.specs.declared.stable.StoreFault.TheVariants.{BadRow}
-use Rattle.urb_sqlite.specs.declared.statements.Part.{Part}
+use Rattle.urb_sqlite.specs.declared.sql.Part.{Part}
 use Rattle.urb_sqlite.specs.Journal.{name_of, limit_of, tree_of, Lacks, HasTable}
 use Rattle.urb_sqlite.specs.OpenJournal.{IsMade, MakesAtMost, CommitsAtMost}
 use Rattle.urb_sqlite.specs.Reading.{read_from}
@@ -37,5 +37,6 @@ pub record IsPartRefused (old new : State) (part : Part) (first : ℕ) (e : Stor
   pub commit : CommitsAtMost old new (name_of part)
   pub found : HasTable old.now.schema (name_of part) → KeepsCommit old new
   pub bad : (place : ℕ) → e ≡ BadRow place → HasTable old.now.schema (name_of part)
-      → (rows : List Row) × IsInOrder (tree_of old.now.schema (name_of part)) old.now.trees rows × IsFirstBad (limit_of part) first rows place
+      → (rows : List Row) × IsInOrder (tree_of old.now.schema (name_of part)) old.now.trees rows
+      × IsFirstBad (limit_of part) first rows place
   pub rowless : Lacks old.now.schema (name_of part) → is_bad_row e ≡ false

@@ -1,5 +1,6 @@
--- The row of a record, the rows of a table, and the records behind the rows.
-use Rattle.std.specs.Prelude.{◌≡◌, IsPermutation, IsSorted, All, ℕ, ◌+◌, ◌<◌, ◌≤◌, pos, List, [], ◌∷◌, ◌++◌, length, map, ◌⊎◌, option_map, unwrap_or}
+-- The row of a record, the rows of a table, and the records that rows stand for.
+use Rattle.std.specs.Prelude.{◌≡◌, IsPermutation, IsSorted, All, ℕ, ◌+◌, ◌<◌, ◌≤◌, pos, List, []}
+use Rattle.std.specs.Prelude.{◌∷◌, ◌++◌, length, map, ◌⊎◌, option_map, unwrap_or}
 use Rattle.sqlite.specs.declared.types.Value.TheVariants.{Null, Int, Blob}
 use Rattle.sqlite.specs.Order.{Row, column, value_cmp}
 use Rattle.sqlite.specs.Tree.{Trees}
@@ -9,14 +10,15 @@ use Rattle.sqlite_keyed.specs.Lists.{sort_by}
 use Rattle.urb_stable.specs.Entries.{Entry, IsEntry}
 use Rattle.urb_stable.specs.declared.record.Record.TheVariants.{Pend, PendCert, Cert}
 use Rattle.urb_sqlite.specs.Journal.{journal_name, second_name, limit_of, table_of, tree_of}
-use Rattle.urb_sqlite.specs.declared.statements.Part.TheVariants.{First, Second}
+use Rattle.urb_sqlite.specs.declared.sql.Part.TheVariants.{First, Second}
 
 -- ---- a record as a row
 
 -- the columns pos, kind, sender, seq, client, number and payload
 abbrev pub columns_of : ℕ → ℕ → ℕ → ℕ → ℕ → ℕ → List ℕ → Row
 columns_of place kind sender seq client number payload =
-    Int (pos place) ∷ Int (pos kind) ∷ Int (pos sender) ∷ Int (pos seq) ∷ Int (pos client) ∷ Int (pos number) ∷ Blob payload ∷ []
+    Int (pos place) ∷ Int (pos kind) ∷ Int (pos sender) ∷ Int (pos seq) ∷ Int (pos client) ∷ Int
+    (pos number) ∷ Blob payload ∷ []
 
 -- The row of a record at a place. Its kind is 1, 2 or 3. A certificate without a message has client
 -- 0, number 0 and no bytes.
@@ -30,11 +32,12 @@ abbrev pub rows_of : ℕ → List Entry → List Row
 rows_of place [] = []
 rows_of place (r ∷ records) = row_of place r ∷ rows_of (place + 1) records
 
--- what a table's tree has for a row: its number, no value for the key's own column, and the other
--- columns
+-- the entry of a table's tree for a row: the row's number, no value for the key's own column, and
+-- the other columns
 abbrev pub kept_row : ℕ → ℕ → ℕ → ℕ → ℕ → ℕ → List ℕ → Row
 kept_row place kind sender seq client number payload =
-    Int (pos place) ∷ Null ∷ Int (pos kind) ∷ Int (pos sender) ∷ Int (pos seq) ∷ Int (pos client) ∷ Int (pos number) ∷ Blob payload ∷ []
+    Int (pos place) ∷ Null ∷ Int (pos kind) ∷ Int (pos sender) ∷ Int (pos seq) ∷ Int
+    (pos client) ∷ Int (pos number) ∷ Blob payload ∷ []
 
 -- the same for the row of a record
 abbrev pub kept_of : ℕ → Entry → Row
@@ -46,7 +49,9 @@ kept_of place (Cert name) = kept_row place 3 name.sender name.seq 0 0 []
 
 -- the seven columns that a row of the tree shows
 abbrev pub shown : Row → Row
-shown row = column row 0 ∷ column row 2 ∷ column row 3 ∷ column row 4 ∷ column row 5 ∷ column row 6 ∷ column row 7 ∷ []
+shown row =
+    column row 0 ∷ column row 2 ∷ column row 3 ∷ column row 4 ∷ column row 5 ∷ column row 6
+    ∷ column row 7 ∷ []
 
 -- rows are ordered by their first column
 abbrev pub by_pos : Row → Row → Ordering
@@ -77,7 +82,9 @@ pub record IsWithin (limit : ℕ) (r : Entry) : Type 0 where
 
 -- the first seven columns of a row
 abbrev pub columns_in : Row → Row
-columns_in row = column row 0 ∷ column row 1 ∷ column row 2 ∷ column row 3 ∷ column row 4 ∷ column row 5 ∷ column row 6 ∷ []
+columns_in row =
+    column row 0 ∷ column row 1 ∷ column row 2 ∷ column row 3 ∷ column row 4 ∷ column row 5
+    ∷ column row 6 ∷ []
 
 -- These rows are those of the records, the first one at this place. The last place, 4,294,967,295,
 -- has no row.
@@ -88,7 +95,8 @@ pub record Spells (limit first : ℕ) (rows : List Row) (records : List Entry) :
 
 -- no record has this row at this place
 abbrev pub IsNoRecord : ℕ → ℕ → Row → Type 0
-IsNoRecord limit place row = (r : Entry) → IsWithin limit r → place < 4294967295 → columns_in row ≡ row_of place r → ⊥
+IsNoRecord limit place row =
+    (r : Entry) → IsWithin limit r → place < 4294967295 → columns_in row ≡ row_of place r → ⊥
 
 -- The row at this place is no record, and all rows before it are records.
 pub record IsFirstBad (limit first : ℕ) (rows : List Row) (place : ℕ) : Type 0 where
@@ -105,7 +113,8 @@ pub record IsFirstBad (limit first : ℕ) (rows : List Row) (place : ℕ) : Type
 abbrev pub table_rows : Database → List ℕ → List Row
 table_rows d name = unwrap_or (option_map (λ t. rows_in t.tree d.trees) (table_of d.schema name)) []
 
--- The two tables stand for these records, one table after the other: their places run on over both.
+-- The two tables stand for these records, one table after the other: the places of the second
+-- continue those of the first.
 pub record StandsFor (d : Database) (records : List Entry) : Type 0 where
   pub first : List Entry
   pub second : List Entry
@@ -116,6 +125,8 @@ pub record StandsFor (d : Database) (records : List Entry) : Type 0 where
 -- Over both tables, the first row that is no record is the one at this place.
 abbrev pub IsFirstBadOf : Database → ℕ → Type 0
 IsFirstBadOf d place =
-    ((rows : List Row) × IsInOrder (tree_of d.schema journal_name) d.trees rows × IsFirstBad (limit_of First) 1 rows place)
+    ((rows : List Row) × IsInOrder (tree_of d.schema journal_name) d.trees rows
+    × IsFirstBad (limit_of First) 1 rows place)
     ⊎ ((first : List Entry) × Spells (limit_of First) 1 (table_rows d journal_name) first
-    × (rows : List Row) × IsInOrder (tree_of d.schema second_name) d.trees rows × IsFirstBad (limit_of Second) (1 + length first) rows place)
+    × (rows : List Row) × IsInOrder (tree_of d.schema second_name) d.trees rows
+    × IsFirstBad (limit_of Second) (1 + length first) rows place)

@@ -1,5 +1,6 @@
 -- Whether a table is a journal's table, judged by its parts.
-use Rattle.std.specs.Prelude.{ℕ, Bool, true, false, not, ◌&&◌, ◌==◌, List, codes, length, slice_get, option_map, option_and_then, unwrap_or}
+use Rattle.std.specs.Prelude.{ℕ, Bool, true, false, not, ◌&&◌, ◌==◌, List, codes, length, slice_get}
+use Rattle.std.specs.Prelude.{option_map, option_and_then, unwrap_or}
 use Rattle.std.specs.Str.{bytes_eq}
 use Rattle.sqlite_value.specs.declared.keys.Collation.{Collation}
 use Rattle.sqlite_value.specs.declared.keys.Collation.TheVariants.{Binary}
@@ -64,21 +65,29 @@ are_columns cs =
 
 -- whether the table's one key is its first column
 abbrev pub is_keyed : Table → Bool
-is_keyed t = is_key t.key 0 && length t.primary == 1 && unwrap_or (option_map (λ k. k == 0) (slice_get t.primary 0)) false
+is_keyed t =
+    is_key t.key 0 && length t.primary == 1
+    && unwrap_or (option_map (λ k. k == 0) (slice_get t.primary 0)) false
 
--- whether the table has no rule beside its columns
+-- whether the table has no rule other than those of its columns
 abbrev pub is_free : Table → Bool
-is_free t = length t.uniques == 0 && length t.orders == 0 && length t.checks == 0 && length t.references == 0
+is_free t =
+    length t.uniques == 0 && length t.orders == 0 && length t.checks == 0
+    && length t.references == 0
 
 -- whether no value of the table is computed
 abbrev pub is_written : Table → Bool
 is_written t =
-    length t.computed == 0 && length t.stamps.places == 0 && length t.stamps.terms == 0 && length t.stamps.formats == 0 && not t.is_counted
+    length t.computed == 0 && length t.stamps.places == 0 && length t.stamps.terms == 0
+    && length t.stamps.formats == 0 && not t.is_counted
 
 -- whether the table has this name and is a table of records, in any tree
 abbrev pub is_journal : List ℕ → Table → Bool
-is_journal name t = bytes_eq t.name name && are_columns t.columns && is_keyed t && is_free t && is_written t
+is_journal name t =
+    bytes_eq t.name name && are_columns t.columns && is_keyed t && is_free t && is_written t
 
 -- whether the table with this name is a table of records
 abbrev pub has_table : List ℕ → Schema → Bool
-has_table name schema = unwrap_or (option_map (is_journal name) (option_and_then (slice_get schema.tables) (table_named schema name))) false
+has_table name schema =
+    unwrap_or (option_map (is_journal name)
+    (option_and_then (slice_get schema.tables) (table_named schema name))) false

@@ -22,16 +22,19 @@ abbrev pub IsFoundAfter : {A E : Type 0} → Result A E → List Entry → Entry
 IsFoundAfter (Ok _) before r found = found ≡ before ++ r ∷ []
 IsFoundAfter (Err e) before r found = (found ≡ before) ⊎ (found ≡ before ++ r ∷ [])
 
--- The new journal was opened after a stop of the old one. While the storage gives back what was
+-- The new journal was opened after a stop of the old one. While the storage returns what was
 -- written, the new journal is honest, and holds what the stop left, whatever that is.
 pub record IsReopened (old new : State) : Type 0 where
   pub clean : HasCleanDisk new → HasCleanDisk old
-  pub left : HasCleanDisk new → (certain : List Entry) (doubtful : Option Entry) → LeavesOnly old (IsContents certain doubtful) → IsHonestJournal new × IsContents certain doubtful (records_of new.now)
+  pub left : HasCleanDisk new → (certain : List Entry) (doubtful : Option Entry)
+      → LeavesOnly old (IsContents certain doubtful)
+      → IsHonestJournal new × IsContents certain doubtful (records_of new.now)
 
 -- the same for several journals, one after the other
 abbrev pub AreReopened : {S : Type 0} → List S → List S → (S → State) → Type 0
 AreReopened [] [] at = Unit {0}
-AreReopened (old ∷ before) (new ∷ after) at = IsReopened (at old) (at new) × AreReopened before after at
+AreReopened (old ∷ before) (new ∷ after) at =
+    IsReopened (at old) (at new) × AreReopened before after at
 AreReopened before after at = ⊥
 
 module _ {S A : Type 0} (g : Ghosts S A) where
@@ -40,12 +43,16 @@ module _ {S A : Type 0} (g : Ghosts S A) where
   IsContinuation w group = (passed : List S) × ContinuesFrom g w passed group
 
   -- The new cluster goes on from the world that the secured one showed, as far as the storages have
-  -- given back what was written.
+  -- returned what was written.
   abbrev pub GoesOnFrom : Clustered S → Clustered S → Type 0
-  GoesOnFrom old new = (secured : IsSecured g old) → All g.is_clean new.stores → IsContinuation secured.stocked.world new.group
+  GoesOnFrom old new =
+      (secured : IsSecured g old) → All g.is_clean new.stores
+      → IsContinuation secured.stocked.world new.group
 
-  -- The command was done with this reply, and the new cluster goes on from the world that it led to.
-  pub record GoesOnBehind (old : Clustered S) (what : Command A) (reply : Reply) (new : Clustered S) : Type 0 where
+  -- The command was done with this reply, and the new cluster goes on from the world that it led
+  -- to.
+  pub record GoesOnBehind (old : Clustered S) (what : Command A) (reply : Reply)
+      (new : Clustered S) : Type 0 where
     pub between : Clustered S
     pub done : Applies g old what reply between
     pub secured : IsSecured g old → IsSecured g between

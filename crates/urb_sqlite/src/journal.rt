@@ -1,32 +1,41 @@
 //! A journal as stable storage.
 
-ghost use Rattle.std.specs.Prelude.{ℕ, ◌≡◌, ◌⊎◌, ◌<◌, ◌≤◌, ◌+◌, ◌∷◌, ◌++◌, [], length, None, Some, true, false, IfOk, IfErr, IsErrAnd, OnOk, OnErr, IsTrue, Ok, Err};
+ghost use Rattle.std.specs.Prelude.{ℕ, ◌≡◌, ◌⊎◌, ◌<◌, ◌≤◌, ◌+◌, ◌∷◌, ◌++◌, [], length, None, Some};
+ghost use Rattle.std.specs.Prelude.{true, false, IfOk, IfErr, IsErrAnd, OnOk, OnErr, IsTrue, Ok};
+ghost use Rattle.std.specs.Prelude.{Err};
 ghost use Rattle.sqlite.specs.State.{HasCleanDisk, Survives};
 ghost use Rattle.sqlite.specs.Held.{state};
-ghost use Rattle.urb_stable.specs.Storing.{is_place, is_bad_row, is_out_of_place, IsPlaced, IsContents};
-ghost use Rattle.urb_sqlite.specs.Journal.{journal_name, second_name, Lacks, HasJournal, IsAdoptable};
+ghost use Rattle.urb_stable.specs.Storing.{is_place, is_bad_row, is_out_of_place, IsPlaced};
+ghost use Rattle.urb_stable.specs.Storing.{IsContents};
+ghost use Rattle.urb_sqlite.specs.Journal.{journal_name, second_name, Lacks, HasJournal};
+ghost use Rattle.urb_sqlite.specs.Journal.{IsAdoptable};
 ghost use Rattle.urb_sqlite.specs.Rows.{IsFirstBadOf, StandsFor};
 ghost use Rattle.urb_sqlite.specs.Reading.{records_of};
 ghost use Rattle.urb_sqlite.specs.Shape.{has_table};
-ghost use Rattle.urb_sqlite.specs.OpenJournal.{OpenJournal, IsInStep, IsHonestJournal, KeepsRows, SparesRows, CommitsEither, IsSafeAtRest, LeavesOnly};
+ghost use Rattle.urb_sqlite.specs.OpenJournal.{OpenJournal, IsInStep, IsHonestJournal, KeepsRows};
+ghost use Rattle.urb_sqlite.specs.OpenJournal.{SparesRows, CommitsEither, IsSafeAtRest, LeavesOnly};
 
-use crate::calls;
+use crate::{MessagePool, records};
 use sqlite::{Alter, Connection};
 use std::alloc::Global;
 use std::marker::Model;
+use std::sync::Arc;
 use urb_stable::{Record, Stable, StoreFault};
 
-/// A node's journal: stable storage in the tables `journal` and `journal2` of a database. New records go into `journal2` alone.
-/// Those of `journal`, the older table, come before them. A record is one row, stored by one INSERT outside any transaction.
-/// Nothing else may write the database while this holds it.
+/// A node's journal: stable storage in the tables `journal` and `journal2` of a database. New
+/// records go into `journal2` alone. The records of `journal`, the older table, come before them. A
+/// record is one row, stored by one INSERT outside any transaction. Nothing else may write the
+/// database while this value holds it.
 ///
-/// `Device` is any refusal of the database but for memory, and each one raises the count of failures by one. If that count is
-/// at its greatest value, 2^64 - 1, the next failure answers `NoMemory`.
+/// `Device` is any refusal of the database except for memory, and each one raises the count of
+/// failures by one. If that count is at its greatest value, 2^64 - 1, the next failure returns
+/// `NoMemory`.
 pub struct SqlStable<S: Alter> {
     conn: Connection<S>,
     next: u32,
     doubtful: bool,
     failures: u64,
+    pool: Option<Arc<MessagePool>>,
 }
 
 impl<S: Alter> Model for SqlStable<S> {
@@ -43,7 +52,7 @@ impl<S: Alter> Model for SqlStable<S> {
     ghost invariant = { λ s. IsInStep (state S.Store s.conn) s.next };
 }
 
-// It is written out, so that a caller does not prove again how each part is dropped.
+// This is written out, so that a caller doesn't prove again how each part is dropped.
 impl<S: Alter + Drop> Drop for SqlStable<S> {
     fn drop(self) {
         let SqlStable {
@@ -51,43 +60,47 @@ impl<S: Alter + Drop> Drop for SqlStable<S> {
             next: _,
             doubtful: _,
             failures: _,
+            pool: _,
         } = self;
     }
 }
 
 impl<S: Alter> SqlStable<S> {
-    /// Takes over an open connection: makes both tables where they are absent, and reads their rows once, so that the next
-    /// position is known. The table `journal` is looked at and read before `journal2` is made. A refusal hands the connection
-    /// back with the fault:
-    /// - `NoMemory`: a growth was refused.
-    /// - `Device`: the database refused, or something else has the name of a table, or a transaction is open, which stays as it is.
-    /// - `BadRow(place)`: the row at this place is no record. Places are counted from 1 over both tables, each in order of `pos`.
+    /// Takes over an open connection. It makes both tables if they are absent, and reads their rows
+    /// once, so that the next position is known. It checks and reads the table `journal` before it
+    /// makes `journal2`. A refusal returns the connection with the fault:
+    /// - `NoMemory`: an allocation was refused.
+    /// - `Device`: the database refused, or something else has the name of a table, or a
+    ///   transaction is open. An open transaction stays as it is.
+    /// - `BadRow(place)`: the row at this place is no record. Places are counted from 1 over both
+    ///   tables, each in order of `pos`.
     pub fn adopt(
         alloc: Global,
         mut conn: Connection<S>,
     ) -> Result<SqlStable<S>, (Connection<S>, StoreFault)>
-        // In a transaction nothing is done.
+        // If a transaction is open, this does nothing.
         ensures busy { IsTrue (state S.Store conn).in_transaction
             → IsErrAnd result (λ e. (e.0 ≡ conn) × (e.1 ≡ StoreFault.Device)) }
-        // What is taken over has the two tables under their names: neither other tables nor views.
+        // Both names belong to the journal's tables then, and not to other tables or to views.
         ensures table { IfOk result (λ s. HasCleanDisk (state S.Store s.conn)
             → has_table journal_name (state S.Store s.conn).now.schema ≡ true) }
         ensures second { IfOk result (λ s. HasCleanDisk (state S.Store s.conn)
             → has_table second_name (state S.Store s.conn).now.schema ≡ true) }
         // No record is doubtful, and no failure is counted.
         ensures new { IfOk result (λ s. (s.doubtful ≡ false) × (s.failures ≡ 0)) }
-        // If neither table is there, the journal has no record, whatever other tables there are.
+        // If neither table was there, the journal has no record, whatever other tables there are.
         ensures fresh { IfOk result (λ s. HasCleanDisk (state S.Store s.conn)
             → Lacks (state S.Store conn).now.schema journal_name
             → Lacks (state S.Store conn).now.schema second_name
             → IsHonestJournal (state S.Store s.conn)
             × (records_of (state S.Store s.conn).now ≡ [])) }
-        // If each table is one of records or is absent, the rows are the records. Either table may stand alone.
+        // If each table was one of records or absent, its rows are the records. Either table may
+        // exist without the other.
         ensures found { IfOk result (λ s. HasCleanDisk (state S.Store s.conn)
             → IsAdoptable (state S.Store conn).now.schema
             → IsHonestJournal (state S.Store s.conn)
             × StandsFor (state S.Store conn).now (records_of (state S.Store s.conn).now)) }
-        // BadRow names the first row that is no record, over both tables, and no refusal is Place.
+        // `BadRow` names the first row over both tables that is no record. No refusal is `Place`.
         ensures bad { IfErr result (λ e. HasCleanDisk (state S.Store e.0)
             → IsAdoptable (state S.Store conn).now.schema
             → (place : ℕ)
@@ -102,10 +115,11 @@ impl<S: Alter> SqlStable<S> {
         ensures kept { IfErr result (λ e. HasCleanDisk (state S.Store e.0)
             → HasJournal (state S.Store conn).now.schema
             → KeepsRows (state S.Store conn) (state S.Store e.0) e.1) }
-        // So does any database that is refused: at most it gets tables behind its others.
+        // So does any database that is refused. At most it gets new tables, after its others.
         ensures spared { IfErr result (λ e. HasCleanDisk (state S.Store e.0)
             → SparesRows (state S.Store conn) (state S.Store e.0)) }
-        // A stop inside this call leaves what was there before, or what a CREATE commits; one after it, the records.
+        // A stop inside this call leaves what was there before, or what a CREATE commits. A stop
+        // after it leaves the records.
         ensures stop { IfOk result (λ s. Survives (state S.Store conn) (state S.Store s.conn)
             (CommitsEither (state S.Store conn))) }
         ensures stop_refused { IfErr result (λ e. Survives (state S.Store conn) (state S.Store e.0)
@@ -113,18 +127,28 @@ impl<S: Alter> SqlStable<S> {
         ensures rest { IfOk result (λ s. IsSafeAtRest (state S.Store s.conn)) }
     {
         let mut failures = 0;
-        match calls::take_over(alloc, &mut conn, &mut failures) {
+        match records::take_over(alloc, &mut conn, &mut failures) {
             Ok(next) => Ok(SqlStable {
                 conn,
                 next,
                 doubtful: false,
                 failures,
+                pool: None,
             }),
             Err(fault) => Err((conn, fault)),
         }
     }
 
-    /// The connection, as it stands.
+    /// Lets the next retrieve share its messages with this pool, for a program that opens several
+    /// journals which hold the same messages. The journal lets go of the pool in that retrieve, so
+    /// the pool is gone when all have retrieved.
+    pub fn share_with(&mut self, pool: Arc<MessagePool>)
+        ensures { self.new ≡ self.old }
+    {
+        self.pool = Some(pool);
+    }
+
+    /// The connection in its present state.
     pub fn into_connection(self) -> Connection<S>
         ensures { result ≡ self.conn }
     {
@@ -133,6 +157,7 @@ impl<S: Alter> SqlStable<S> {
             next: _,
             doubtful: _,
             failures: _,
+            pool: _,
         } = self;
         connection
     }
@@ -179,11 +204,11 @@ impl<S: Alter> Stable for SqlStable<S> {
 
     fn store(&mut self, pos: u32, entry: &Record) -> Result<(), StoreFault> {
         if self.doubtful || pos != self.next || self.next == u32::MAX {
-            // For its clause that the database obeys its schema.
+            // Called for its clause that the database obeys its schema.
             let _schema = self.conn.schema();
             return Err(StoreFault::Place(self.next));
         }
-        match calls::append(&mut self.conn, &mut self.failures, pos, entry) {
+        match records::append(&mut self.conn, &mut self.failures, pos, entry) {
             Ok(()) => {
                 self.next += 1;
                 Ok(())
@@ -196,7 +221,9 @@ impl<S: Alter> Stable for SqlStable<S> {
     }
 
     fn retrieve(&mut self, alloc: Global) -> Result<Vec<Record>, StoreFault> {
-        let records = calls::read(alloc, &mut self.conn, &mut self.failures)?;
+        let pool = self.pool.take();
+        let shared = pool.as_deref();
+        let records = records::read(alloc, shared, &mut self.conn, &mut self.failures)?;
         self.doubtful = false;
         Ok(records)
     }

@@ -3,9 +3,9 @@
 //! It is a `Stable` of `urb_stable`.
 //!
 //! ```text
-//! let journal = open_node::<K>(rt, path, node)?;         // makes absent tables, and reads the rows once
-//! let receipt = draft.keep(&mut journal)?;               // one INSERT, one commit, one sync
-//! close_node(rt, path, journal)?;                        // one file is left
+//! let journal = open_node::<K>(rt, path, node)?;        // makes absent tables, and reads all rows
+//! let receipt = draft.keep(&mut journal)?;              // one INSERT, one commit, one sync
+//! close_node(rt, path, journal)?;                       // one file is left
 //! ```
 //!
 //! `open_nodes` and `close_nodes` do this for all nodes of a group, `open_node_in` and
@@ -14,23 +14,26 @@
 //! removed.
 #![tactic(auto)]
 
-mod blank;
-mod calls;
-mod close;
+mod cluster_stop;
+mod counting;
 mod journal;
+mod journal_close;
+mod journal_open;
+mod journal_stop;
+mod message_pool;
+mod new_file;
 mod node_file;
-mod nodes;
-mod open;
+mod node_journals;
+mod records;
 mod rows;
-mod shape;
-mod statements;
-mod stop;
-mod stopping;
+mod sql;
+mod table_shape;
 
-pub use close::Copied;
+pub use cluster_stop::{apply_and_stop, stop_and_open_all, stop_and_reopen};
 pub use journal::SqlStable;
+pub use journal_close::Copied;
+pub use message_pool::MessagePool;
 pub use node_file::{Contents, NodeFile, Unnamed};
-pub use nodes::{
+pub use node_journals::{
     NodeJournal, close_node, close_node_in, close_nodes, open_node, open_node_in, open_nodes,
 };
-pub use stopping::{apply_and_stop, stop_and_open_all, stop_and_reopen};

@@ -1,8 +1,11 @@
-//! The files of a group's nodes, as one type, though they held different bytes: a name for what each held.
+//! The files of a group's nodes as one type, although they held different bytes. Each variant names
+//! what one node's files held.
 
-ghost use Rattle.std.specs.Prelude.{◌≡◌, ◌⊎◌, ◌+◌, ◌^◌, ◌<◌, ◌≤◌, ℕ, Bool, true, false, List, [], refl, length, take, drop, is_ok, IsErr, IsTrue, IfOk, OnOk};
+ghost use Rattle.std.specs.Prelude.{◌≡◌, ◌⊎◌, ◌+◌, ◌^◌, ◌<◌, ◌≤◌, ℕ, Bool, true, false, List, []};
+ghost use Rattle.std.specs.Prelude.{refl, length, take, drop, is_ok, IsErr, IsTrue, IfOk, OnOk};
 ghost use Rattle.std.proofs.Common.{inl};
-ghost use Rattle.sqlite_disk.specs.Disk.{Holds, Torn, Mixed, Cut, Follows, Only, CountsFault, CountsFaultIf, StaysFrozen};
+ghost use Rattle.sqlite_disk.specs.Disk.{Holds, Torn, Mixed, Cut, Follows, Only, CountsFault};
+ghost use Rattle.sqlite_disk.specs.Disk.{CountsFaultIf, StaysFrozen};
 ghost use Rattle.sqlite_disk.specs.Digest.{digest, Collide};
 ghost use Rattle.sqlite_disk.specs.Tally.{CountsCatch, CountsRefusal};
 
@@ -11,8 +14,9 @@ use sqlite_disk::{Disk, Tally};
 use std::io;
 use std::marker::Brand;
 
-/// What the files of each node's journal held as they were opened. No code can read it: what is proved over `K: Contents` is
-/// proved for all contents, also for those that the files really held. Under one `K` the files of a node are opened once.
+/// What the files of each node's journal held when they were opened. No code can read it. What is
+/// proved for `K: Contents` is proved for all contents, and so also for what the files really held.
+/// Under one `K` the files of a node are opened once.
 pub trait Contents: Drop {
     /// Stands for what the files of node 1 held.
     type First: Start + Default + Send;
@@ -36,7 +40,7 @@ pub trait Contents: Drop {
     type Seventh: Start + Default + Send;
 }
 
-/// For a program to name: at this type nothing is said of a file that is not empty.
+/// The type for programs. It says nothing about a file that is not empty.
 #[derive(Drop, Default)]
 pub struct Unnamed;
 
@@ -68,7 +72,7 @@ impl Contents for Brand {
     type Seventh = Unnamed;
 }
 
-/// A file of the node of this number.
+/// A file of the node with this number.
 #[derive(Drop)]
 pub enum NodeFile<K: Contents> {
     First(FileFrom<K::First>),
@@ -80,10 +84,28 @@ pub enum NodeFile<K: Contents> {
     Seventh(FileFrom<K::Seventh>),
 }
 
+/// Does the same with a file of any node.
+macro_rules! on_file {
+    ($node_file:expr, $file:ident => $call:expr) => {
+        match $node_file {
+            NodeFile::First($file) => $call,
+            NodeFile::Second($file) => $call,
+            NodeFile::Third($file) => $call,
+            NodeFile::Fourth($file) => $call,
+            NodeFile::Fifth($file) => $call,
+            NodeFile::Sixth($file) => $call,
+            NodeFile::Seventh($file) => $call,
+        }
+    };
+}
+
 impl<K: Contents> Disk for NodeFile<K> {
     ghost use Rattle.sqlite_disk.specs.Modelled.{start_of};
     ghost use Rattle.sqlite_disk.specs.Fair.{fair_if_honest};
-    ghost use Rattle.urb_sqlite.specs.declared.node_file.NodeFile.TheVariants.{First, Second, Third, Fourth, Fifth, Sixth, Seventh};
+    ghost use Rattle.urb_sqlite.specs.declared.node_file.NodeFile.TheVariants.{First, Second};
+    ghost use Rattle.urb_sqlite.specs.declared.node_file.NodeFile.TheVariants.{Third, Fourth};
+    ghost use Rattle.urb_sqlite.specs.declared.node_file.NodeFile.TheVariants.{Fifth, Sixth};
+    ghost use Rattle.urb_sqlite.specs.declared.node_file.NodeFile.TheVariants.{Seventh};
 
     ghost seen = { elim [
       | First f ↦ ⟦<FileFrom<K::First> as Disk>⟧.seen f
@@ -216,122 +238,42 @@ impl<K: Contents> Disk for NodeFile<K> {
     ] };
 
     fn mixes(&self) -> bool {
-        match self {
-            NodeFile::First(file) => file.mixes(),
-            NodeFile::Second(file) => file.mixes(),
-            NodeFile::Third(file) => file.mixes(),
-            NodeFile::Fourth(file) => file.mixes(),
-            NodeFile::Fifth(file) => file.mixes(),
-            NodeFile::Sixth(file) => file.mixes(),
-            NodeFile::Seventh(file) => file.mixes(),
-        }
+        on_file!(self, file => file.mixes())
     }
 
     fn key(&self) -> u64 {
-        match self {
-            NodeFile::First(file) => file.key(),
-            NodeFile::Second(file) => file.key(),
-            NodeFile::Third(file) => file.key(),
-            NodeFile::Fourth(file) => file.key(),
-            NodeFile::Fifth(file) => file.key(),
-            NodeFile::Sixth(file) => file.key(),
-            NodeFile::Seventh(file) => file.key(),
-        }
+        on_file!(self, file => file.key())
     }
 
     fn tally(&self) -> Tally {
-        match self {
-            NodeFile::First(file) => file.tally(),
-            NodeFile::Second(file) => file.tally(),
-            NodeFile::Third(file) => file.tally(),
-            NodeFile::Fourth(file) => file.tally(),
-            NodeFile::Fifth(file) => file.tally(),
-            NodeFile::Sixth(file) => file.tally(),
-            NodeFile::Seventh(file) => file.tally(),
-        }
+        on_file!(self, file => file.tally())
     }
 
     fn may_be_used(&self) -> bool {
-        match self {
-            NodeFile::First(file) => file.may_be_used(),
-            NodeFile::Second(file) => file.may_be_used(),
-            NodeFile::Third(file) => file.may_be_used(),
-            NodeFile::Fourth(file) => file.may_be_used(),
-            NodeFile::Fifth(file) => file.may_be_used(),
-            NodeFile::Sixth(file) => file.may_be_used(),
-            NodeFile::Seventh(file) => file.may_be_used(),
-        }
+        on_file!(self, file => file.may_be_used())
     }
 
     fn len(&mut self) -> io::Result<usize> {
-        match self {
-            NodeFile::First(file) => file.len(),
-            NodeFile::Second(file) => file.len(),
-            NodeFile::Third(file) => file.len(),
-            NodeFile::Fourth(file) => file.len(),
-            NodeFile::Fifth(file) => file.len(),
-            NodeFile::Sixth(file) => file.len(),
-            NodeFile::Seventh(file) => file.len(),
-        }
+        on_file!(self, file => file.len())
     }
 
     fn read_at(&mut self, at: usize, buf: &mut [u8]) -> io::Result<()> {
-        match self {
-            NodeFile::First(file) => file.read_at(at, buf),
-            NodeFile::Second(file) => file.read_at(at, buf),
-            NodeFile::Third(file) => file.read_at(at, buf),
-            NodeFile::Fourth(file) => file.read_at(at, buf),
-            NodeFile::Fifth(file) => file.read_at(at, buf),
-            NodeFile::Sixth(file) => file.read_at(at, buf),
-            NodeFile::Seventh(file) => file.read_at(at, buf),
-        }
+        on_file!(self, file => file.read_at(at, buf))
     }
 
     fn read_checked(&mut self, key: u64, want: u64, at: usize, buf: &mut [u8]) -> io::Result<()> {
-        match self {
-            NodeFile::First(file) => file.read_checked(key, want, at, buf),
-            NodeFile::Second(file) => file.read_checked(key, want, at, buf),
-            NodeFile::Third(file) => file.read_checked(key, want, at, buf),
-            NodeFile::Fourth(file) => file.read_checked(key, want, at, buf),
-            NodeFile::Fifth(file) => file.read_checked(key, want, at, buf),
-            NodeFile::Sixth(file) => file.read_checked(key, want, at, buf),
-            NodeFile::Seventh(file) => file.read_checked(key, want, at, buf),
-        }
+        on_file!(self, file => file.read_checked(key, want, at, buf))
     }
 
     fn write_at(&mut self, at: usize, bytes: &[u8]) -> io::Result<()> {
-        match self {
-            NodeFile::First(file) => file.write_at(at, bytes),
-            NodeFile::Second(file) => file.write_at(at, bytes),
-            NodeFile::Third(file) => file.write_at(at, bytes),
-            NodeFile::Fourth(file) => file.write_at(at, bytes),
-            NodeFile::Fifth(file) => file.write_at(at, bytes),
-            NodeFile::Sixth(file) => file.write_at(at, bytes),
-            NodeFile::Seventh(file) => file.write_at(at, bytes),
-        }
+        on_file!(self, file => file.write_at(at, bytes))
     }
 
     fn set_len(&mut self, len: usize) -> io::Result<()> {
-        match self {
-            NodeFile::First(file) => file.set_len(len),
-            NodeFile::Second(file) => file.set_len(len),
-            NodeFile::Third(file) => file.set_len(len),
-            NodeFile::Fourth(file) => file.set_len(len),
-            NodeFile::Fifth(file) => file.set_len(len),
-            NodeFile::Sixth(file) => file.set_len(len),
-            NodeFile::Seventh(file) => file.set_len(len),
-        }
+        on_file!(self, file => file.set_len(len))
     }
 
     fn sync(&mut self) -> io::Result<()> {
-        match self {
-            NodeFile::First(file) => file.sync(),
-            NodeFile::Second(file) => file.sync(),
-            NodeFile::Third(file) => file.sync(),
-            NodeFile::Fourth(file) => file.sync(),
-            NodeFile::Fifth(file) => file.sync(),
-            NodeFile::Sixth(file) => file.sync(),
-            NodeFile::Seventh(file) => file.sync(),
-        }
+        on_file!(self, file => file.sync())
     }
 }

@@ -1,23 +1,28 @@
-//! The rows of a table of records, and the records that they stand for.
+//! The rows of a table of records, and their records.
 
-ghost use Rattle.std.specs.Prelude.{◌≡◌, ◌⊎◌, ◌<◌, ◌≤◌, ◌+◌, ℕ, [], length, IfOk, IfErr, OnErr, Ok, Err, option_copied, option_map, Option, Some, None, IsTrue};
-ghost use Rattle.sqlite.specs.State.{HasCleanDisk, IsUnchanged, IsRolledBack, Shown, Begins, Survives};
+ghost use Rattle.std.specs.Prelude.{◌≡◌, ◌⊎◌, ◌<◌, ◌≤◌, ◌+◌, ℕ, [], length, IfOk, IfErr, OnErr, Ok};
+ghost use Rattle.std.specs.Prelude.{Err, option_copied, option_map, Option, Some, None, IsTrue};
+ghost use Rattle.sqlite.specs.State.{HasCleanDisk, IsUnchanged, IsRolledBack, Shown, Begins};
+ghost use Rattle.sqlite.specs.State.{Survives};
 ghost use Rattle.sqlite.specs.Held.{state};
 ghost use Rattle.sqlite.specs.Order.{column};
 ghost use Rattle.urb_sqlite.specs.Journal.{select_of};
 ghost use Rattle.urb_sqlite.specs.Reading as reading;
 ghost use Rattle.urb_sqlite.specs.Reading.{read_from};
-ghost use Rattle.urb_names.specs.declared.message.TheConstants.{MAX_PAYLOAD};
+ghost use Rattle.urb_names.specs.declared.limits.TheConstants.{MAX_PAYLOAD};
 
-use crate::statements;
-use crate::statements::Part;
+use crate::sql::Part;
+use crate::{MessagePool, sql};
 use sqlite::types::ValueRef;
 use sqlite::{Alter, Connection, Error, Row};
 use std::alloc::{AllocFailed, Global};
-use urb_names::{ClientId, MAX_PAYLOAD, Message, Name, NoMemory, NodeId};
+use urb_names::{ClientId, MAX_NODES, MAX_PAYLOAD, Message, Name, NoMemory, NodeId};
 use urb_stable::Record;
 
-/// The numbers of a row.
+// The first number after the numbers of nodes.
+const NODES_END: u32 = MAX_NODES as u32 + 1;
+
+/// The numbers in a row.
 #[derive(Clone, Copy, Drop)]
 pub struct Columns {
     pub pos: u32,
@@ -28,7 +33,7 @@ pub struct Columns {
     pub number: u32,
 }
 
-/// The number in a column, where it is one of 32 bits.
+/// The number in a column, if it is one of 32 bits.
 fn number_at(row: &Row, at: usize) -> Option<u32>
     ensures { result ≡ reading.number_in (column row.now at) }
 {
@@ -63,7 +68,7 @@ fn payload_at(row: &Row) -> Option<&[u8]>
 fn is_name(columns: Columns) -> bool
     ensures { result ≡ reading.is_name columns.sender columns.seq }
 {
-    0 < columns.sender && columns.sender < 8 && 0 < columns.seq
+    0 < columns.sender && columns.sender < NODES_END && 0 < columns.seq
 }
 
 fn is_message(limit: usize, columns: Columns, payload: &[u8]) -> bool
@@ -88,16 +93,28 @@ fn name_in(columns: Columns) -> Name
     }
 }
 
-fn message_in(alloc: Global, columns: Columns, payload: &[u8]) -> Result<Message, NoMemory>
+/// The message in these columns. If there is a pool, it may share its payload with a message of the
+/// pool.
+fn message_in(
+    alloc: Global,
+    pool: Option<&MessagePool>,
+    name: Name,
+    columns: Columns,
+    payload: &[u8],
+) -> Result<Message, NoMemory>
     requires { IsTrue (reading.is_message MAX_PAYLOAD columns.client columns.number payload.now) }
     ensures { IfOk result (λ m. m ≡ reading.message_in columns payload.now) }
 {
     let client = ClientId::new(columns.client as u16).unwrap();
-    Message::copied(alloc, client, columns.number, payload)
+    match pool {
+        Some(pool) => pool.message(alloc, name, client, columns.number, payload),
+        None => Message::copy_of(alloc, client, columns.number, payload),
+    }
 }
 
 fn record_in(
     alloc: Global,
+    pool: Option<&MessagePool>,
     limit: usize,
     place: u32,
     columns: Columns,
@@ -112,18 +129,27 @@ fn record_in(
     let name = name_in(columns);
     match columns.kind {
         1 if is_message(limit, columns, payload) => {
-            Ok(Some(Record::Pend(name, message_in(alloc, columns, payload)?)))
+            let message = message_in(alloc, pool, name, columns, payload)?;
+            Ok(Some(Record::Pend(name, message)))
         }
         2 if is_message(limit, columns, payload) => {
-            Ok(Some(Record::PendCert(name, message_in(alloc, columns, payload)?)))
+            let message = message_in(alloc, pool, name, columns, payload)?;
+            Ok(Some(Record::PendCert(name, message)))
         }
         3 if is_bare(columns, payload) => Ok(Some(Record::Cert(name))),
         _ => Ok(None),
     }
 }
 
-/// The record of the row at this place, where it is one.
-fn record_at(alloc: Global, limit: usize, place: u32, row: &Row) -> Result<Option<Record>, NoMemory>
+/// The record of the row at this place, if the row is a record. If there is a pool, its message may
+/// be shared with it.
+pub fn record_at(
+    alloc: Global,
+    pool: Option<&MessagePool>,
+    limit: usize,
+    place: u32,
+    row: &Row,
+) -> Result<Option<Record>, NoMemory>
     requires { limit ≤ MAX_PAYLOAD }
     ensures { IfOk result (λ found. found ≡ reading.record_at limit place row.now) }
 {
@@ -133,7 +159,7 @@ fn record_at(alloc: Global, limit: usize, place: u32, row: &Row) -> Result<Optio
     let Some(payload) = payload_at(row) else {
         return Ok(None);
     };
-    record_in(alloc, limit, place, columns, payload)
+    record_in(alloc, pool, limit, place, columns, payload)
 }
 
 /// Why reading a table stopped before its end.
@@ -180,10 +206,12 @@ impl<T: Drop> From<AllocFailed<T>> for ReadFault {
     }
 }
 
-/// Reads the records of a table row by row, so that a batch of rows at most is in memory beside them. The first row is at the
-/// place `first`, and a payload has at most `limit` bytes. The rows behind a bad one are not read.
+/// Reads the records of a table row by row, so that only a batch of rows is in memory besides them.
+/// The first row is at the place `first`, and a payload has at most `limit` bytes. The rows after a
+/// bad row are not read. If there is a pool, messages may be shared with it.
 pub fn read_rows<S: Alter>(
     alloc: Global,
+    pool: Option<&MessagePool>,
     conn: &mut Connection<S>,
     part: Part,
     limit: usize,
@@ -212,13 +240,13 @@ pub fn read_rows<S: Alter>(
 {
     let mut records = Vec::new(alloc);
     let mut place = first;
-    let mut rows = conn.query(statements::select(part), &[])?;
+    let mut rows = conn.query(sql::select(part), &[])?;
     'rows: loop {
         rows.advance()?;
         let Some(row) = rows.get() else {
             return Ok(records);
         };
-        match record_at(alloc, limit, place, row)? {
+        match record_at(alloc, pool, limit, place, row)? {
             Some(record) => records.push(record)?,
             None => return Err(ReadFault::BadRow(place)),
         }

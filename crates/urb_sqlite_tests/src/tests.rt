@@ -1,4 +1,4 @@
-//! Journals over files in memory and real ones, and groups over journals.
+//! Journals over files in memory and over real files, and groups over journals.
 
 mod changes;
 mod closings;
@@ -10,6 +10,7 @@ mod groups;
 mod kept;
 mod leftovers;
 mod places;
+mod pools;
 mod records;
 mod restarts;
 mod steps;

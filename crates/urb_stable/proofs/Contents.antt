@@ -5,9 +5,11 @@ use Rattle.urb_stable.specs.Storing.{IsContents}
 
 -- the certain list, or that list followed by a doubtful record
 abbrev pub IsEither : List Entry → Option Entry → List Entry → Type 0
-IsEither certain doubtful records = (records ≡ certain) ⊎ ((r : Entry) × (doubtful ≡ Some r) × (records ≡ certain ++ r ∷ []))
+IsEither certain doubtful records =
+    (records ≡ certain) ⊎ ((r : Entry) × (doubtful ≡ Some r) × (records ≡ certain ++ r ∷ []))
 
-pub contents-either : (certain : List Entry) (doubtful : Option Entry) (records : List Entry) → IsContents certain doubtful records → IsEither certain doubtful records
+pub contents-either : (certain : List Entry) (doubtful : Option Entry) (records : List Entry)
+    → IsContents certain doubtful records → IsEither certain doubtful records
 contents-either certain None records h = inl h
 contents-either certain (Some r) records (inl h) = inl h
 contents-either certain (Some r) records (inr h) = inr (r, refl, h)

@@ -1,5 +1,6 @@
 -- A list that gains one element, and a list with at most one more.
-use Rattle.std.proofs.Common.{◌≡◌, ℕ, zero, suc, ◌+◌, ◌≤◌, ◌⊎◌, inr, List, [], ◌∷◌, ◌++◌, length, take, Option, None, Some, refl, ap, arith, add-one}
+use Rattle.std.proofs.Common.{◌≡◌, ℕ, zero, suc, ◌+◌, ◌≤◌, ◌⊎◌, inr, List, [], ◌∷◌, ◌++◌, length}
+use Rattle.std.proofs.Common.{take, Option, None, Some, refl, ap, arith, add-one}
 use Rattle.std.specs.Prelude.{slice_get}
 use Rattle.urb_stable.specs.Entries.{Entry}
 use Rattle.urb_stable.specs.Storing.{IsContents}
@@ -15,7 +16,15 @@ pub record Kept {X : Type 0} (xs : List X) (r : X) (n : ℕ) (ys : List X) : Typ
   pub past : slice_get ys (n + 1) ≡ None
 
 kept_suc : {X : Type 0} (xs : List X) (r : X) → Kept xs r (length xs) (xs ++ r ∷ [])
-kept_suc [] r = record { before = refl; nothing = refl; front = refl; here = refl; all = refl; past = refl }
+kept_suc [] r = record {
+  before = refl;
+  nothing = refl;
+  front = refl;
+  here = refl;
+  all =
+      refl;
+  past = refl;
+}
 kept_suc (x ∷ xs) r =
     let k = kept_suc xs r in
     record {
@@ -27,15 +36,20 @@ kept_suc (x ∷ xs) r =
       past = rw add-one (rw add-one at k.past);
     }
 
-pub kept : {X : Type 0} (xs : List X) (r : X) (n : ℕ) (ys : List X) → n ≡ length xs → ys ≡ xs ++ r ∷ [] → Kept xs r n ys
+pub kept : {X : Type 0} (xs : List X) (r : X) (n : ℕ) (ys : List X) → n ≡ length xs
+    → ys ≡ xs ++ r ∷ [] → Kept xs r n ys
 kept xs r n ys e f = rw (e, f) (kept_suc xs r)
 
 -- a stop after a failure that kept the record
-pub doubtful_stop : (xs : List Entry) (r : Entry) (n : ℕ) (ys : List Entry) → Kept xs r n ys → (records : List Entry) → IsContents (take n ys) (slice_get ys n) records → IsContents (take n xs) (slice_get xs n) records ⊎ (records ≡ take n xs ++ r ∷ [])
+pub doubtful_stop : (xs : List Entry) (r : Entry) (n : ℕ) (ys : List Entry) → Kept xs r n ys
+    → (records : List Entry) → IsContents (take n ys) (slice_get ys n) records
+    → IsContents (take n xs) (slice_get xs n) records ⊎ (records ≡ take n xs ++ r ∷ [])
 doubtful_stop xs r n ys k records h = rw k.nothing (rw (k.here, k.front) at h)
 
 -- a stop after the record was kept
-pub certain_stop : (xs : List Entry) (r : Entry) (n : ℕ) (ys : List Entry) → Kept xs r n ys → (records : List Entry) → IsContents (take (n + 1) ys) (slice_get ys (n + 1)) records → IsContents (take n xs) (slice_get xs n) records ⊎ (records ≡ take n xs ++ r ∷ [])
+pub certain_stop : (xs : List Entry) (r : Entry) (n : ℕ) (ys : List Entry) → Kept xs r n ys
+    → (records : List Entry) → IsContents (take (n + 1) ys) (slice_get ys (n + 1)) records
+    → IsContents (take n xs) (slice_get xs n) records ⊎ (records ≡ take n xs ++ r ∷ [])
 certain_stop xs r n ys k records h = inr (rw (k.past, k.all) at h)
 
 -- what is read from xs, which has at most one element after the first n
@@ -49,16 +63,20 @@ end : {X : Type 0} (xs : List X) → (take (length xs) xs ≡ xs) × (slice_get 
 end [] = (refl, refl)
 end (x ∷ xs) = let k = end xs in (ap (λ ys. x ∷ ys) k.0, k.1)
 
-more : (x : Entry) (front xs : List Entry) (doubt : Option Entry) → IsContents front doubt xs × (xs ≡ with_doubt front doubt) → IsContents (x ∷ front) doubt (x ∷ xs) × (x ∷ xs ≡ with_doubt (x ∷ front) doubt)
+more : (x : Entry) (front xs : List Entry) (doubt : Option Entry)
+    → IsContents front doubt xs × (xs ≡ with_doubt front doubt)
+    → IsContents (x ∷ front) doubt (x ∷ xs) × (x ∷ xs ≡ with_doubt (x ∷ front) doubt)
 more x front xs None h = (ap (λ ys. x ∷ ys) h.0, ap (λ ys. x ∷ ys) h.1)
 more x front xs (Some r) h = (inr (ap (λ ys. x ∷ ys) h.1), ap (λ ys. x ∷ ys) h.1)
 
-one_behind : (xs : List Entry) (n : ℕ) → n ≤ length xs → length xs ≤ n + 1 → IsContents (take n xs) (slice_get xs n) xs × (xs ≡ with_doubt (take n xs) (slice_get xs n))
+one_behind : (xs : List Entry) (n : ℕ) → n ≤ length xs → length xs ≤ n + 1
+    → IsContents (take n xs) (slice_get xs n) xs × (xs ≡ with_doubt (take n xs) (slice_get xs n))
 one_behind [] zero le ge = (refl, refl)
 one_behind [] (suc n) le ge = absurd (omega arith)
 one_behind (x ∷ []) zero le ge = (inr refl, refl)
 one_behind (x ∷ y ∷ xs) zero le ge = absurd (omega arith)
-one_behind (x ∷ xs) (suc n) le ge = more x (take n xs) xs (slice_get xs n) (one_behind xs n (omega arith) (omega arith))
+one_behind (x ∷ xs) (suc n) le ge =
+    more x (take n xs) xs (slice_get xs n) (one_behind xs n (omega arith) (omega arith))
 
 pub whole : (xs : List Entry) (n : ℕ) → n ≤ length xs → length xs ≤ n + 1 → Whole xs n
 whole xs n le ge =

@@ -1,5 +1,6 @@
 -- The images of a group's nodes, as they are indexed one after the other.
-use Rattle.std.proofs.Common.{List, Some, [], ap, arith, length, map, slice_get, slice_index_or, suc, sym, take, ℕ, ⊎_elim, ◌++◌, ◌+◌, ◌<◌, ◌∙◌, ◌∷◌, ◌≡◌, ◌≤◌}
+use Rattle.std.proofs.Common.{List, Some, [], ap, arith, length, map, slice_get, slice_index_or}
+use Rattle.std.proofs.Common.{suc, sym, take, ℕ, ⊎_elim, ◌++◌, ◌+◌, ◌<◌, ◌∙◌, ◌∷◌, ◌≡◌, ◌≤◌}
 use Rattle.std.proofs.Math.Seq.{take-suc}
 use Rattle.std.proofs.lemmas.List.{map-append, take_all}
 use Rattle.urb_stable.proofs.Indexed.{one_longer, read_more}
@@ -7,25 +8,36 @@ use Rattle.urb_stable.specs.Entries.{Entry}
 use Rattle.urb_stable.specs.NodeImages.{AreNumbered, NodeImage}
 
 -- the first n images are read
-pub record AreRead {X : Type 0} (items : X → List Entry) (images : List X) (n : ℕ) (read : List NodeImage) : Type 0 where
+pub record AreRead {X : Type 0} (items : X → List Entry) (images : List X) (n : ℕ)
+    (read : List NodeImage) : Type 0 where
   pub size : length read ≡ n
   pub numbered : AreNumbered read
   pub same : map (λ image. image.records) read ≡ map items (take n images)
 
-pub read-none : {X : Type 0} (items : X → List Entry) (images : List X) (read : List NodeImage) → read ≡ [] → AreRead items images 0 read
+pub read-none : {X : Type 0} (items : X → List Entry) (images : List X) (read : List NodeImage)
+    → read ≡ [] → AreRead items images 0 read
 read-none items images read e =
-    record { size = ap length e; numbered = λ i image found. absurd (none_at i image (ap (λ xs. slice_get xs i) (sym e) ∙ found)); same = ap (map (λ image. image.records)) e }
+    record {
+      size = ap length e;
+      numbered =
+          λ i image found. absurd (none_at i image (ap (λ xs. slice_get xs i) (sym e) ∙ found));
+      same = ap (map (λ image. image.records)) e;
+    }
   where
     none_at : (i : ℕ) (image : NodeImage) → slice_get [] i ≡ Some image → ⊥
     none_at i image e = cc
 
 -- one more image is read
-pub read-more : {X : Type 0} (items : X → List Entry) (images : List X) (i : ℕ) (x : X) (old new : List NodeImage) (y : NodeImage) → i < length images → x ≡ slice_index_or images i x → y ≡ record { number = i + 1; records = items x } → new ≡ old ++ y ∷ []
+pub read-more : {X : Type 0} (items : X → List Entry) (images : List X) (i : ℕ) (x : X)
+    (old new : List NodeImage) (y : NodeImage) → i < length images → x ≡ slice_index_or images i x
+    → y ≡ record { number = i + 1; records = items x } → new ≡ old ++ y ∷ []
     → AreRead items images i old → AreRead items images (i + 1) new
 read-more items images i x old new y l e is put h =
     record {
       size = ap length put ∙ (one_longer old y ∙ ap (λ n. n + 1) h.size);
-      numbered = λ k image found. ⊎_elim (λ f. h.numbered k image f) (λ f. last k image f.0 f.1) (read_more old y image k (ap (λ xs. slice_get xs k) (sym put) ∙ found));
+      numbered =
+          λ k image found. ⊎_elim (λ f. h.numbered k image f) (λ f. last k image f.0 f.1)
+          (read_more old y image k (ap (λ xs. slice_get xs k) (sym put) ∙ found));
       same =
           ap (map (λ image. image.records)) put
           ∙ (map-append (λ image. image.records) old (y ∷ [])
@@ -35,7 +47,9 @@ read-more items images i x old new y l e is put h =
     }
   where
     taken : take (i + 1) images ≡ take i images ++ x ∷ []
-    taken = ap (λ n. take n images) one_more ∙ (take-suc images i x l ∙ ap (λ z. take i images ++ z ∷ []) (sym e))
+    taken =
+        ap (λ n. take n images) one_more
+        ∙ (take-suc images i x l ∙ ap (λ z. take i images ++ z ∷ []) (sym e))
       where
         one_more : i + 1 ≡ suc i
         one_more = omega arith
@@ -47,5 +61,7 @@ read-more items images i x old new y l e is put h =
         omega (arith, number, place, size)
 
 -- all images are read
-pub read-all : {X : Type 0} (items : X → List Entry) (images : List X) (n : ℕ) (read : List NodeImage) → length images ≤ n → AreRead items images n read → map (λ image. image.records) read ≡ map items images
+pub read-all : {X : Type 0} (items : X → List Entry) (images : List X) (n : ℕ)
+    (read : List NodeImage) → length images ≤ n → AreRead items images n read
+    → map (λ image. image.records) read ≡ map items images
 read-all items images n read l h = h.same ∙ ap (map items) (take_all n images l)

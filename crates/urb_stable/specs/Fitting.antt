@@ -1,5 +1,7 @@
 -- Which images of the nodes' storages fit together: the rules A to D, and the misfits.
-use Rattle.std.specs.Prelude.{Bool, List, None, Option, Some, [], false, filter, find, flat_map, if◌then◌else◌, is_none, is_some, length, map, nat_lt, not, suc, true, ℕ, ◌&&◌, ◌++◌, ◌==◌, ◌∷◌, ◌≡◌}
+use Rattle.std.specs.Prelude.{Bool, List, None, Option, Some, [], false, filter, find, flat_map}
+use Rattle.std.specs.Prelude.{if◌then◌else◌, is_none, is_some, length, map, nat_lt, not, suc, true}
+use Rattle.std.specs.Prelude.{ℕ, ◌&&◌, ◌++◌, ◌==◌, ◌∷◌, ◌≡◌}
 use Rattle.urb_names.specs.Names.{has_name}
 use Rattle.urb_names.specs.Naming.{Content, Label, Limits}
 use Rattle.urb_names.specs.Nodes.{majority_passes, nodes}
@@ -20,7 +22,8 @@ in_range size x = nat_lt x.sender (suc size.n) && nat_lt x.seq (suc size.cap)
 abbrev pub is_new_to : Limits → List (Label × Content) → List Label → Entry → Bool
 is_new_to size pairs certified (Pend x m) = in_range size x && is_none (message_of pairs x)
 is_new_to size pairs certified (PendCert x m) = in_range size x && is_none (message_of pairs x)
-is_new_to size pairs certified (Cert x) = in_range size x && (is_some (message_of pairs x) && not (has_name certified x))
+is_new_to size pairs certified (Cert x) =
+    in_range size x && (is_some (message_of pairs x) && not (has_name certified x))
 
 -- A: each record is new to the pairs and certified names of the earlier ones
 abbrev pub keeps_a : Limits → List Entry → Entry → Bool
@@ -45,7 +48,8 @@ keeps_b p earlier r = is_in_turn p (own p (pend earlier)) r
 -- C: a pair of another sender is also in that sender's image
 abbrev pub keeps_c : (ℕ → List Entry) → ℕ → Entry → Bool
 keeps_c images p (Pend x m) = if x.sender == p then true else has_pair (pend (images x.sender)) x m
-keeps_c images p (PendCert x m) = if x.sender == p then true else has_pair (pend (images x.sender)) x m
+keeps_c images p (PendCert x m) =
+    if x.sender == p then true else has_pair (pend (images x.sender)) x m
 keeps_c images p (Cert x) = true
 
 -- whether the images of a majority have the pair
@@ -72,17 +76,20 @@ keeps size images p earlier r D = keeps_d size.n images earlier r
 
 -- the first rule that a record breaks, if it breaks one
 abbrev pub first_broken : Limits → (ℕ → List Entry) → ℕ → List Entry → Entry → Option Rule
-first_broken size images p earlier r = find (λ rule. not (keeps size images p earlier r rule)) (A ∷ B ∷ C ∷ D ∷ [])
+first_broken size images p earlier r =
+    find (λ rule. not (keeps size images p earlier r rule)) (A ∷ B ∷ C ∷ D ∷ [])
 
 -- the rules that a record breaks, in order
 abbrev pub broken : Limits → (ℕ → List Entry) → ℕ → List Entry → Entry → List Misfit
 broken size images p earlier r =
-    map (λ rule. record { rule = rule; node = p; name = name_of r }) (filter (λ rule. not (keeps size images p earlier r rule)) (A ∷ B ∷ C ∷ D ∷ []))
+    map (λ rule. record { rule = rule; node = p; name = name_of r })
+    (filter (λ rule. not (keeps size images p earlier r rule)) (A ∷ B ∷ C ∷ D ∷ []))
 
 -- the misfits of a node's records after the earlier ones
 abbrev pub misfits_behind : Limits → (ℕ → List Entry) → ℕ → List Entry → List Entry → List Misfit
 misfits_behind size images p earlier [] = []
-misfits_behind size images p earlier (r ∷ records) = broken size images p earlier r ++ misfits_behind size images p (earlier ++ r ∷ []) records
+misfits_behind size images p earlier (r ∷ records) =
+    broken size images p earlier r ++ misfits_behind size images p (earlier ++ r ∷ []) records
 
 -- all misfits of the images, in order of node, position and rule
 abbrev pub misfits : Limits → (ℕ → List Entry) → List Misfit
@@ -102,7 +109,8 @@ abbrev pub first_misfit : Limits → (ℕ → List Entry) → Option Misfit
 first_misfit size images = first_of_all (misfits size images)
 
 -- the record keeps the four rules
-pub record Rules (size : Limits) (images : ℕ → List Entry) (p : ℕ) (earlier : List Entry) (r : Entry) : Type 0 where
+pub record Rules (size : Limits) (images : ℕ → List Entry) (p : ℕ) (earlier : List Entry)
+    (r : Entry) : Type 0 where
   pub a : keeps_a size earlier r ≡ true
   pub b : keeps_b p earlier r ≡ true
   pub c : keeps_c images p r ≡ true
@@ -111,9 +119,12 @@ pub record Rules (size : Limits) (images : ℕ → List Entry) (p : ℕ) (earlie
 -- each of these records keeps the four rules
 abbrev pub Kept : Limits → (ℕ → List Entry) → ℕ → List Entry → List Entry → Type 0
 Kept size images p earlier [] = Unit {0}
-Kept size images p earlier (r ∷ rs) = Rules size images p earlier r × Kept size images p (earlier ++ r ∷ []) rs
+Kept size images p earlier (r ∷ rs) =
+    Rules size images p earlier r × Kept size images p (earlier ++ r ∷ []) rs
 
 -- each record keeps the rules that concern its own image alone
 abbrev pub KeepsOwn : Limits → ℕ → List Entry → List Entry → Type 0
 KeepsOwn size p earlier [] = Unit {0}
-KeepsOwn size p earlier (r ∷ rs) = (keeps_a size earlier r ≡ true) × (keeps_b p earlier r ≡ true) × KeepsOwn size p (earlier ++ r ∷ []) rs
+KeepsOwn size p earlier (r ∷ rs) =
+    (keeps_a size earlier r ≡ true) × (keeps_b p earlier r ≡ true)
+    × KeepsOwn size p (earlier ++ r ∷ []) rs

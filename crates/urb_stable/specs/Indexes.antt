@@ -1,5 +1,6 @@
 -- An index of an image: the last pair with each name, and the last one before each record.
-use Rattle.std.specs.Prelude.{List, None, Option, Some, [], is_some, length, slice_get, take, true, ℕ, ◌<◌, ◌||◌, ◌∷◌, ◌≡◌}
+use Rattle.std.specs.Prelude.{List, None, Option, Some, [], is_some, length, slice_get, take, true}
+use Rattle.std.specs.Prelude.{ℕ, ◌<◌, ◌||◌, ◌∷◌, ◌≡◌}
 use Rattle.std.specs.BTreeMap as tree
 use Rattle.std.specs.Option.{option_or}
 use Rattle.std.specs.declared.cmp.Ordering.{Ordering}
@@ -22,8 +23,10 @@ pub record IsPlace (image : List Entry) (n : ℕ) (x : Label) (k : ℕ) : Type 0
   pub here : slice_get image k ≡ Some entry
   pub named : name_of entry ≡ x
   pub pair : is_some (message_of (pend (entry ∷ [])) x) ≡ true
-  pub pairs : (m : Content) → has_pair (pend (take n image)) x m ≡ (has_pair (pend (take k image)) x m || has_pair (pend (entry ∷ [])) x m)
-  pub message : message_of (pend (take n image)) x ≡ option_or (message_of (pend (take k image)) x) (message_of (pend (entry ∷ [])) x)
+  pub pairs : (m : Content) → has_pair (pend (take n image)) x m
+      ≡ (has_pair (pend (take k image)) x m || has_pair (pend (entry ∷ [])) x m)
+  pub message : message_of (pend (take n image)) x ≡ option_or (message_of (pend (take k image)) x)
+      (message_of (pend (entry ∷ [])) x)
 
 -- the place of the last pair with this name among the first n records, or that there is no such
 -- pair
@@ -35,4 +38,5 @@ IsLast image n x (Some k) = IsPlace image n x k
 pub record IsIndexOf {A : Type 0} (image : List Entry) (n : ℕ) (index : Places A) : Type 0 where
   pub size : length index.before.items ≡ n
   pub last : (x : Label) → IsLast image n x (tree.get by_name index.last x)
-  pub before : (k : ℕ) (r : Entry) (o : Option ℕ) → slice_get image k ≡ Some r → slice_get index.before.items k ≡ Some o → IsLast image k (name_of r) o
+  pub before : (k : ℕ) (r : Entry) (o : Option ℕ) → slice_get image k ≡ Some r
+      → slice_get index.before.items k ≡ Some o → IsLast image k (name_of r) o

@@ -10,5 +10,5 @@ pub mod IsMemory
 pub mod Images
 pub mod Fitting
 pub mod Indexes
-pub mod Before
+pub mod EarlierRecords
 pub mod NodeImages

@@ -17,8 +17,11 @@ entries records = map (λ x. (x, message_of (pend records) x)) (log records)
 
 -- the log's entries of one sender
 abbrev pub entries_of : ℕ → List Entry → List (Label × Option Content)
-entries_of sender records = map (λ x. (x, message_of (pend records) x)) (part_of sender (log records))
+entries_of sender records =
+    map (λ x. (x, message_of (pend records) x)) (part_of sender (log records))
 
 -- a name is delivered exactly if it and all earlier names of its sender are certified
 abbrev pub DeliversExactly : List Entry → Type 0
-DeliversExactly records = (s j : ℕ) → IsTrue (has_name (log records) (name s j)) ↔ ((1 ≤ j) × ((i : ℕ) → 1 ≤ i → i ≤ j → IsTrue (has_name (cert records) (name s i))))
+DeliversExactly records =
+    (s j : ℕ) → IsTrue (has_name (log records) (name s j)) ↔
+    ((1 ≤ j) × ((i : ℕ) → 1 ≤ i → i ≤ j → IsTrue (has_name (cert records) (name s i))))

@@ -1,5 +1,6 @@
 -- A store in memory, as contracts see it, and the effect of each of its calls.
-use Rattle.std.specs.Prelude.{◌⊎◌, ◌-◌, ◌^◌, length, nat_lt, ◌≡◌, ◌+◌, ℕ, Bool, true, false, List, [], ◌∷◌, ◌++◌, Option, None, Some, Result, Ok, Err}
+use Rattle.std.specs.Prelude.{◌⊎◌, ◌-◌, ◌^◌, length, nat_lt, ◌≡◌, ◌+◌, ℕ, Bool, true, false, List}
+use Rattle.std.specs.Prelude.{[], ◌∷◌, ◌++◌, Option, None, Some, Result, Ok, Err}
 use Rattle.urb_stable.specs.Entries.{Entry}
 use Rattle.urb_stable.specs.Storing.{is_out_of_place}
 use Rattle.urb_stable.specs.declared.memory.Failure.{Failure}
@@ -34,7 +35,8 @@ without_memory m = record m { doubtful = true; armed = None }
 
 -- the store after the failure that it was armed with; the failure left this record or nothing
 abbrev pub after_failure : Option Entry → Memory → Memory
-after_failure left m = record m { doubt = left; doubtful = true; failures = m.failures + 1; armed = None }
+after_failure left m = record m
+    { doubt = left; doubtful = true; failures = m.failures + 1; armed = None }
 
 -- the certain records, followed by the doubtful one if there is one
 abbrev pub with_doubt : List Entry → Option Entry → List Entry
@@ -52,13 +54,15 @@ StoresAt next true armed counted answer = answer ≡ Err (fault.Place next)
 StoresAt next false None counted answer = (answer ≡ Ok tt) ⊎ (answer ≡ Err fault.NoMemory)
 StoresAt next false (Some failure) false answer = answer ≡ Err fault.NoMemory
 StoresAt next false (Some Old) true answer = answer ≡ Err fault.Device
-StoresAt next false (Some New) true answer = (answer ≡ Err fault.Device) ⊎ (answer ≡ Err fault.NoMemory)
+StoresAt next false (Some New) true answer =
+    (answer ≡ Err fault.Device) ⊎ (answer ≡ Err fault.NoMemory)
 
 -- what storing at this position may answer
 abbrev pub Stores : Memory → ℕ → Result (Unit {0}) StoreFault → Type 0
 Stores m pos answer =
     let next = length m.certain + 1 in
-    StoresAt next (is_out_of_place m.doubtful next pos) m.armed (nat_lt m.failures (2 ^ 64 - 1)) answer
+    StoresAt next (is_out_of_place m.doubtful next pos) m.armed
+    (nat_lt m.failures (2 ^ 64 - 1)) answer
 
 -- what a retrieve may answer: all records, or that there is no memory for them
 abbrev pub Retrieves : Memory → Result (List Entry) StoreFault → Type 0

@@ -9,4 +9,5 @@ pub record NodeImage : Type 0 where
 
 -- the images belong to the nodes 1, 2, .., in order
 abbrev pub AreNumbered : List NodeImage → Type 0
-AreNumbered images = (i : ℕ) (image : NodeImage) → slice_get images i ≡ Some image → image.number ≡ suc i
+AreNumbered images =
+    (i : ℕ) (image : NodeImage) → slice_get images i ≡ Some image → image.number ≡ suc i

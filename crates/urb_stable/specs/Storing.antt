@@ -1,5 +1,6 @@
 -- The next position, what a store and a retrieve may answer, and what storage may turn out to hold.
-use Rattle.std.specs.Prelude.{◌≡◌, ◌⊎◌, ℕ, ◌==◌, ◌||◌, Bool, true, false, not, List, [], ◌∷◌, ◌++◌, Option, Some, None, Result, Err, IfErr}
+use Rattle.std.specs.Prelude.{◌≡◌, ◌⊎◌, ℕ, ◌==◌, ◌||◌, Bool, true, false, not, List, [], ◌∷◌, ◌++◌}
+use Rattle.std.specs.Prelude.{Option, Some, None, Result, Err, IfErr}
 use Rattle.urb_names.specs.declared.refusal.Refusal.{Refusal}
 use Rattle.urb_names.specs.declared.refusal.Refusal.TheVariants as refusal
 use Rattle.urb_stable.specs.Entries.{Entry}
@@ -34,7 +35,7 @@ is_bad_row (fault.BadRow place) = true
 is_bad_row _ = false
 
 -- The fault is Place, with the next position, exactly if the store is out of place. A store never
--- answers BadRow.
+-- returns BadRow.
 abbrev pub IsPlaced : {A : Type 0} → Bool → ℕ → Result A StoreFault → Type 0
 IsPlaced true next result = result ≡ Err (fault.Place next)
 IsPlaced false next result = IfErr result (λ e. (is_place e ≡ false) × (is_bad_row e ≡ false))

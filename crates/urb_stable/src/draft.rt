@@ -1,5 +1,6 @@
 //! Drafts: records that a node wants stored.
-ghost use Rattle.std.specs.Prelude.{◌≡◌, ◌⊎◌, ◌<◌, ◌≤◌, ◌++◌, [], ◌∷◌, true, false, None, Some, Err, IsTrue, IfErr, OnOk, OnErr, MatchResult};
+ghost use Rattle.std.specs.Prelude.{◌≡◌, ◌⊎◌, ◌+◌, ◌<◌, ◌≤◌, ◌++◌, [], ◌∷◌, true, false, None};
+ghost use Rattle.std.specs.Prelude.{Some, Err, IsTrue, IfErr, OnOk, OnErr, MatchResult, length};
 ghost use Rattle.urb_stable.specs.Storing.{IsContents, is_out_of_place, is_place, IsPlaced};
 ghost use Rattle.urb_stable.specs.Answering.{answer_of};
 
@@ -60,9 +61,9 @@ impl<A: Allocator> Draft<A> {
         &self.entry
     }
 
-    /// Stores the record, as the book's `store` does before the effects of a step are seen (section
-    /// 2.2 of the book). A doubt with `Place` means that nothing has changed. After any other
-    /// doubt, only a `retrieve` can tell whether the record is kept.
+    /// Stores the record, as the textbook's `store` does before the effects of a step are seen
+    /// (section 2.2 of the textbook). A doubt with `Place` means that nothing has changed. After
+    /// any other doubt, only a `retrieve` can tell whether the record is kept.
     pub fn keep<S: Stable<Alloc = A>>(self, store: &mut S) -> Result<Receipt<A>, Doubt>
         // A receipt belongs to this draft, and a doubt to its node.
         ensures receipt { MatchResult result (λ receipt. receipt ≡ self)
@@ -78,6 +79,10 @@ impl<A: Allocator> Draft<A> {
         ensures same { IsTrue
             (is_out_of_place (S.is_doubtful store.old) (S.place store.old) self.pos)
             → store.new ≡ store.old }
+
+        // The next position of an honest store is the one after its certain records.
+        ensures counted { S.is_honest store.old
+            → S.place store.old ≡ length (S.certain store.old) + 1 }
 
         // The record is certain after a receipt. After any other doubt it may be there.
         ensures stored { S.is_honest store.new
@@ -110,13 +115,15 @@ impl<A: Allocator> Draft<A> {
         ensures alive { OnOk (answer_of result)
             (S.is_honest store.old → S.is_clean store.new → S.is_honest store.new) }
 
-        // If the storage has ever given back something other than what was written, it never counts
+        // If the storage has ever returned something other than what was written, it never counts
         // as clean again. A clean storage that was honest stays honest or is shut.
         ensures clean { S.is_clean store.new → S.is_clean store.old }
         ensures shut { S.is_honest store.old
             → S.is_clean store.new
             → S.is_honest store.new ⊎ S.is_shut store.new }
     {
+        // For its clause about the next position of an honest store.
+        let _next = store.next();
         let Draft { node, pos, entry } = self;
         match store.store(pos, &entry) {
             Ok(()) => Ok(Receipt::new(node, pos, entry)),

@@ -1,17 +1,20 @@
 //! Which images of the nodes' storages fit together, and the first misfit of those that don't.
 
-ghost use Rattle.std.specs.Prelude.{◌≡◌, ◌<◌, ◌≤◌, [], ◌∷◌, length, map, is_some, count_by, option_map, slice_get, take, IfOk, List, Some};
+ghost use Rattle.std.specs.Prelude.{◌≡◌, ◌<◌, ◌≤◌, [], ◌∷◌, length, map, is_some, count_by};
+ghost use Rattle.std.specs.Prelude.{option_map, slice_get, take, IfOk, List, Some};
 ghost use Rattle.urb_names.specs.Naming.{Content};
 ghost use Rattle.urb_names.specs.Nodes.{nodes};
 ghost use Rattle.urb_names.specs.Pairs.{has_pair, message_of};
-ghost use Rattle.urb_stable.specs.Before.{client_count};
+ghost use Rattle.urb_stable.specs.EarlierRecords.{client_count};
 ghost use Rattle.urb_stable.specs.Entries.{name_of};
-ghost use Rattle.urb_stable.specs.Fitting.{first_broken, first_misfit, first_of_all, held_by_majority, in_range, is_next_own, keeps_a, keeps_b, keeps_c, keeps_d, misfits_behind};
+ghost use Rattle.urb_stable.specs.Fitting.{first_broken, first_misfit, first_of_all};
+ghost use Rattle.urb_stable.specs.Fitting.{held_by_majority, in_range, is_next_own, keeps_a};
+ghost use Rattle.urb_stable.specs.Fitting.{keeps_b, keeps_c, keeps_d, misfits_behind};
 ghost use Rattle.urb_stable.specs.Images.{image_of};
 ghost use Rattle.urb_stable.specs.Records.{pend};
 
 use crate::Record;
-use crate::before::Before;
+use crate::earlier_records::Before;
 use crate::image::Image;
 use std::alloc::Allocator;
 use std::marker::Model;
@@ -27,8 +30,8 @@ pub struct Misfit {
     pub name: Name,
 }
 
-/// The images of a group's nodes 1, 2, .., indexed in one pass each, so that records are judged by
-/// look-ups: in n log n steps for n records.
+/// The images of a group's nodes 1, 2, .., indexed in one pass each. So records are judged by
+/// look-ups, in n log n steps for n records.
 #[derive(Drop)]
 pub struct Images<'r, A: Allocator> {
     images: Vec<Image<'r, A>, A>,
@@ -64,12 +67,12 @@ impl<'r, A: Allocator + Copy> Images<'r, A> {
 
     /// The first misfit of the images, by node, then by position, then by rule. `None` means that
     /// they fit together, so a group can continue from them (recovery, sections 2.2 and 3.7 of the
-    /// book). Allocates no memory.
+    /// textbook). Allocates no memory.
     pub fn first_misfit(&self, config: Config) -> Option<Misfit>
         requires { length self.now ≡ config.n }
         ensures { result ≡ first_misfit config (image_of self.now) }
     {
-        let _n = config.n();
+        config.recall();
         for (i, image) in self.images.iter().enumerate() {
             let node = NodeId::new(i as u8 + 1).unwrap();
             if let Some(misfit) = misfit_in(config, &self.images, node, image) {
@@ -150,7 +153,7 @@ fn is_new<A: Allocator + Copy>(
         Record::Cert(name) => {
             is_in_range(config, *name)
                 && is_pending(image, place, *name)
-                && !image.told_before(place).certified
+                && !image.facts_before(place).certified
         }
     }
 }
@@ -168,7 +171,7 @@ fn is_in_turn<A: Allocator + Copy>(
     match entry {
         Record::Pend(name, message) | Record::PendCert(name, message) => {
             let name = *name;
-            name.sender != node || is_next_own(image.told_before(place), name, message)
+            name.sender != node || is_next_own(image.facts_before(place), name, message)
         }
         Record::Cert(_) => true,
     }
@@ -228,8 +231,8 @@ fn is_next_own<A: Allocator>(before: Before, name: Name, message: &Message<A>) -
         → before.of_client ≡ client_count message.now.client messages
         → result ≡ is_next_own messages name message.now }
 {
-    name.limits();
-    message.limits();
+    name.recall();
+    message.recall();
     before.own == (name.seq - 1) as usize && before.of_client == (message.number() - 1) as usize
 }
 
@@ -262,11 +265,15 @@ fn is_held_by_majority<A: Allocator + Copy>(
         ≡ held_by_majority config.n (image_of (map (λ image. image.records) images.now)) name
         message.now }
 {
-    is_majority(holders(images, name, message) as u8, config.n())
+    is_majority(count_holders(images, name, message) as u8, config.n())
 }
 
 // The number of images that have the pair.
-fn holders<A: Allocator + Copy>(images: &[Image<A>], name: Name, message: &Message<A>) -> usize
+fn count_holders<A: Allocator + Copy>(
+    images: &[Image<A>],
+    name: Name,
+    message: &Message<A>,
+) -> usize
     ensures count { result
         ≡ count_by
         (λ node. has_pair (pend (image_of (map (λ image. image.records) images.now) node)) name

@@ -2,11 +2,11 @@
 
 ghost use Rattle.std.specs.Prelude.{◌≡◌, ◌<◌, length, option_map, slice_get, take, IfOk, Some};
 ghost use Rattle.urb_names.specs.Pairs.{has_pair, message_of};
-ghost use Rattle.urb_stable.specs.Before.{IsBefore};
+ghost use Rattle.urb_stable.specs.EarlierRecords.{IsBefore};
 ghost use Rattle.urb_stable.specs.Entries.{Entry, name_of};
 ghost use Rattle.urb_stable.specs.Records.{pend};
 
-use crate::before::{Before, told_of_each};
+use crate::earlier_records::{Before, facts_about_each};
 use crate::{Index, Record};
 use std::alloc::Allocator;
 use std::marker::Model;
@@ -23,7 +23,7 @@ pub(crate) struct Image<'r, A: Allocator> {
 
 impl<'r, A: Allocator> Model for Image<'r, A> {
     ghost use Rattle.std.specs.Prelude.{length};
-    ghost use Rattle.urb_stable.specs.Before.{AreBefore};
+    ghost use Rattle.urb_stable.specs.EarlierRecords.{AreBefore};
     ghost use Rattle.urb_stable.specs.NodeImages.{NodeImage};
 
     ghost Value = { NodeImage };
@@ -43,7 +43,7 @@ impl<'r, A: Allocator + Copy> Image<'r, A> {
         ensures { IfOk result (λ image. image ≡ record { number = number; records = records.now }) }
     {
         let index = Index::new(alloc, records)?;
-        let told = told_of_each(alloc, number, records)?;
+        let told = facts_about_each(alloc, number, records)?;
         Ok(Image {
             number,
             index,
@@ -65,7 +65,7 @@ impl<'r, A: Allocator + Copy> Image<'r, A> {
     }
 
     /// What the records before this place say about the record there.
-    pub(crate) fn told_before(&self, place: usize) -> Before
+    pub(crate) fn facts_before(&self, place: usize) -> Before
         requires { place < length self.now.records }
         ensures { (r : Entry)
             → slice_get self.now.records place ≡ Some r

@@ -63,9 +63,9 @@ fn index_next<A: Allocator + Copy>(
     Ok(())
 }
 
-// Whether a record of the image holds this pair. It visits the records with its name, from the last
-// one back.
-fn finds<A: Allocator + Copy>(
+// Whether a record of the image holds this pair. It visits the records with the pair's name,
+// starting with the last one.
+fn has_pair<A: Allocator + Copy>(
     places: &Places<A>,
     image: &[Record<Message<A>>],
     name: Name,
@@ -85,8 +85,8 @@ fn finds<A: Allocator + Copy>(
 }
 
 // The message of the first record before this place that holds a pair with this name. The record at
-// this place must have the name. It visits the records with that name, from the last one back.
-fn finds_before<'r, A: Allocator + Copy>(
+// this place must have the name. It visits the records with that name, starting with the last one.
+fn find_before<'r, A: Allocator + Copy>(
     places: &Places<A>,
     image: &'r [Record<Message<A>>],
     place: usize,
@@ -131,7 +131,7 @@ impl<'r, A: Allocator + Copy> Index<'r, A> {
     pub fn has(&self, name: Name, message: &Message<A>) -> bool
         ensures { result ≡ has_pair (pend self.now) name message.now }
     {
-        finds(&self.places, self.image, name, message)
+        has_pair(&self.places, self.image, name, message)
     }
 
     /// The message of the first record before this place that holds a pair with this name. The
@@ -140,6 +140,6 @@ impl<'r, A: Allocator + Copy> Index<'r, A> {
         requires named { option_map name_of (slice_get self.now place) ≡ Some name }
         ensures { option_map (λ m. m.now) result ≡ message_of (pend (take place self.now)) name }
     {
-        finds_before(&self.places, self.image, place, name)
+        find_before(&self.places, self.image, place, name)
     }
 }

@@ -1,8 +1,8 @@
 //! A node's stable storage: records, drafts, receipts and doubts.
 //!
-//! Sections 2.2 and 3.7 of the book describe it. A record says that a message is pending, that it
-//! is certified, or both at once. A `Draft` is a record that isn't stored yet. Only a store that
-//! kept the record turns it into a `Receipt`:
+//! Sections 2.2 and 3.7 of the textbook describe it (Cachin, Guerraoui and Rodrigues 2011). A
+//! record says that a message is pending, that it is certified, or both at once. A `Draft` is a
+//! record that isn't stored yet. Only a store that kept the record turns it into a `Receipt`:
 //!
 //! ```text
 //! match draft.keep(&mut store) {
@@ -18,9 +18,9 @@
 //! armed to fail. Nothing here removes or changes a stored record.
 #![tactic(auto)]
 
-mod before;
 mod doubt;
 mod draft;
+mod earlier_records;
 mod fitting;
 mod image;
 mod index;
@@ -35,5 +35,5 @@ pub use fitting::{Images, Misfit};
 pub use index::Index;
 pub use memory::{Failure, MemStable};
 pub use receipt::Receipt;
-pub use record::{Record, limits_of};
+pub use record::{Record, recall_records};
 pub use stable::{Stable, StoreFault};

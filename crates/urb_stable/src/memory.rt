@@ -1,9 +1,13 @@
 //! A store in memory.
-ghost use Rattle.std.specs.Prelude.{◌≡◌, ◌⊎◌, ◌<◌, ◌≤◌, ◌+◌, ◌-◌, ◌^◌, List, [], ◌∷◌, ◌++◌, None, Some, Ok, Err, false, true, length, IsTrue, OnOk, OnErr, IfOk, IfErr, MatchResult};
+ghost use Rattle.std.specs.Prelude.{◌≡◌, ◌⊎◌, ◌<◌, ◌≤◌, ◌+◌, ◌-◌, ◌^◌, List, [], ◌∷◌, ◌++◌, None};
+ghost use Rattle.std.specs.Prelude.{Some, Ok, Err, false, true, length, IsTrue, OnOk, OnErr, IfOk};
+ghost use Rattle.std.specs.Prelude.{IfErr, MatchResult};
 ghost use Rattle.std.specs.Option.{OnSome};
-ghost use Rattle.urb_stable.specs.Memory.{empty_memory, armed_with, with_record, without_memory, after_failure, retrieved, Retrieves, Stores};
+ghost use Rattle.urb_stable.specs.Memory.{empty_memory, armed_with, with_record, without_memory};
+ghost use Rattle.urb_stable.specs.Memory.{after_failure, retrieved, Retrieves, Stores};
 ghost use Rattle.urb_stable.specs.Entries.{Entry};
-ghost use Rattle.urb_stable.specs.Storing.{IsContents, is_out_of_place, is_place, is_bad_row, IsPlaced};
+ghost use Rattle.urb_stable.specs.Storing.{IsContents, is_out_of_place, is_place, is_bad_row};
+ghost use Rattle.urb_stable.specs.Storing.{IsPlaced};
 
 use crate::{Record, Stable, StoreFault};
 use std::alloc::{Allocator, Global};
@@ -13,10 +17,10 @@ use urb_names::{Message, NoMemory};
 /// How a call of `store` fails in memory, if a test or a script has armed it.
 #[derive(Clone, Copy, Debug, PartialEq, Eq)]
 pub enum Failure {
-    /// The answer is `Device`, and the records stay as they were.
+    /// The call returns `Device`, and the records stay as they were.
     Old,
-    /// The answer is `Device`, and the record is kept all the same. If there is no memory for it,
-    /// the answer is `NoMemory` and nothing is kept.
+    /// The call returns `Device`, and the record is kept all the same. If there is no memory for
+    /// it, the call returns `NoMemory` and keeps nothing.
     New,
 }
 
@@ -67,7 +71,7 @@ fn keep<A: Allocator + Copy>(
 }
 
 // Returns copies of all records, which share the payloads.
-fn copies<A: Allocator + Copy>(
+fn copy_all<A: Allocator + Copy>(
     records: &[Record<Message<A>>],
     alloc: A,
 ) -> Result<Vec<Record<Message<A>>, A>, NoMemory>
@@ -95,9 +99,9 @@ impl<A: Allocator + Copy> MemStable<A> {
         }
     }
 
-    /// Makes the next call of `store` fail that isn't answered `Place`. If a failure was armed
-    /// before and not used, this one replaces it. After 2 ^ 64 - 1 failures no further one can be
-    /// counted, so an armed call answers `NoMemory` and keeps nothing.
+    /// Makes the next call of `store` fail, apart from calls that return `Place`. If a failure was
+    /// armed before and not used, this one replaces it. After 2 ^ 64 - 1 failures no further one
+    /// can be counted, so an armed call returns `NoMemory` and keeps nothing.
     pub fn arm(&mut self, failure: Failure)
         ensures { self.new ≡ armed_with failure self.old }
     {
@@ -160,9 +164,9 @@ impl<A: Allocator + Copy> Stable for MemStable<A> {
         ensures device { result ≡ Err StoreFault.Device → self.old.failures < self.new.failures }
         ensures counts { self.old.failures ≤ self.new.failures }
 
-        // The exact answer and effect if the position is right (the answer isn't `Place`): first
+        // The exact result and effect if the position is right (the result isn't `Place`): first
         // without an armed failure, then with each of the two. If no further failure can be
-        // counted, an armed call answers `NoMemory`.
+        // counted, an armed call returns `NoMemory`.
         ensures unarmed { is_out_of_place self.old.doubtful (length self.old.certain + 1) pos
             ≡ false
             → self.old.armed ≡ None
@@ -235,7 +239,7 @@ impl<A: Allocator + Copy> Stable for MemStable<A> {
         ensures all { OnOk result (self.new ≡ retrieved self.old) }
         ensures refused { OnErr result (self.new ≡ self.old) }
     {
-        let records = copies(&self.records, alloc)?;
+        let records = copy_all(&self.records, alloc)?;
         self.certain = self.records.len() as u32;
         self.doubtful = false;
         Ok(records)

@@ -51,12 +51,4 @@ impl<A: Allocator> Receipt<A> {
     {
         &self.entry
     }
-
-    /// The record, without a copy.
-    pub fn into_entry(self) -> Record<Message<A>>
-        ensures { result ≡ self.entry }
-    {
-        let Receipt { entry, .. } = self;
-        entry
-    }
 }

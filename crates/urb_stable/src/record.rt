@@ -8,7 +8,7 @@ use std::alloc::Allocator;
 use urb_names::{Message, Name, NoMemory};
 
 /// What a node stores. A node's list of records says which messages are pending at the node, and
-/// which of them are certified. The book calls the certified ones delivered (section 3.7).
+/// which of them are certified. The textbook calls the certified ones delivered (section 3.7).
 #[derive(Debug, Drop)]
 pub enum Record<M = Message> {
     /// The message is pending.
@@ -43,16 +43,17 @@ impl<A: Allocator> Record<Message<A>> {
         }
     }
 
-    /// States that every record is within its limits. It does nothing; only proofs use it.
-    pub fn limits(&self)
+    /// Does nothing at run time; it brings the value's invariant into the proof: the record is
+    /// within its limits.
+    pub fn recall(&self)
         ensures { IsEntry self.now }
     {
         match self {
             Record::Pend(name, message) | Record::PendCert(name, message) => {
-                name.limits();
-                message.limits();
+                name.recall();
+                message.recall();
             }
-            Record::Cert(name) => name.limits(),
+            Record::Cert(name) => name.recall(),
         }
     }
 }
@@ -70,11 +71,12 @@ impl<A: Allocator + Copy> Record<Message<A>> {
     }
 }
 
-/// States that every record of a list is within its limits. It does nothing; only proofs use it.
-pub fn limits_of<A: Allocator>(records: &[Record<Message<A>>])
+/// Changes nothing; it brings the invariant of each record of a list into the proof. The loop may
+/// stay in the program.
+pub fn recall_records<A: Allocator>(records: &[Record<Message<A>>])
     ensures { All IsEntry records.now }
 {
     for record in records {
-        record.limits();
+        record.recall();
     }
 }

@@ -1,8 +1,11 @@
 //! Stable storage: the contract of every store.
-ghost use Rattle.std.specs.Prelude.{◌≡◌, ◌⊎◌, ◌+◌, ◌<◌, ◌≤◌, List, [], ◌∷◌, ◌++◌, ℕ, Bool, true, false, Option, Some, None, Result, Ok, Err, length, IsTrue, IfOk, IfErr, MatchResult, OnOk, OnErr};
+ghost use Rattle.std.specs.Prelude.{◌≡◌, ◌⊎◌, ◌+◌, ◌<◌, ◌≤◌, List, [], ◌∷◌, ◌++◌, ℕ, Bool, true};
+ghost use Rattle.std.specs.Prelude.{false, Option, Some, None, Result, Ok, Err, length, IsTrue};
+ghost use Rattle.std.specs.Prelude.{IfOk, IfErr, MatchResult, OnOk, OnErr};
 ghost use Rattle.urb_stable.specs.Entries.{Entry};
 ghost use Rattle.urb_stable.specs.declared.stable.StoreFault.{StoreFault as Fault};
-ghost use Rattle.urb_stable.specs.Storing.{refusal_of, IsContents, is_out_of_place, is_place, is_bad_row, IsPlaced};
+ghost use Rattle.urb_stable.specs.Storing.{refusal_of, IsContents, is_out_of_place, is_place};
+ghost use Rattle.urb_stable.specs.Storing.{is_bad_row, IsPlaced};
 
 use crate::Record;
 use std::alloc::{AllocError, AllocFailed, Allocator};
@@ -18,9 +21,9 @@ pub enum StoreFault {
     /// The storage failed in this call.
     #[error("the storage failed")]
     Device,
-    /// The caller gave a position other than the next one, which is this; or there is a doubtful
-    /// record, so a `retrieve` must come first; or the list has its greatest length. Nothing has
-    /// changed.
+    /// The caller gave a position other than the next one; this is the next one. Or there is a
+    /// doubtful record, so a `retrieve` must come first. Or the list has its greatest length.
+    /// Nothing has changed.
     #[error("the next position is {0}")]
     Place(u32),
     /// The row at this place of the storage, from 1, is not a record: no store wrote it.
@@ -75,8 +78,8 @@ impl StoreFault {
     }
 }
 
-/// A list of records that survives a crash: stable storage, as in section 2.2 of the book. A list
-/// has at most 4,294,967,294 records.
+/// A list of records that survives a crash: stable storage, as in section 2.2 of the textbook. A
+/// list has at most 4,294,967,294 records.
 pub trait Stable {
     /// The allocator of its records' messages.
     type Alloc: Allocator + Copy;
@@ -96,7 +99,7 @@ pub trait Stable {
     /// How often the device has failed.
     ghost failures: { Self → ℕ };
 
-    /// So far the storage has given back what was written.
+    /// So far the storage has returned what was written.
     ghost is_clean: { Self → Type 0 };
 
     /// The storage is clean, and no failure has shut it.
@@ -105,7 +108,7 @@ pub trait Stable {
     /// A failure has shut the storage: it gives no more records.
     ghost is_shut: { Self → Type 0 };
 
-    /// A stop at this moment leaves only records of which the given property holds.
+    /// A stop at this moment leaves only records that have the given property.
     ghost leaves_only: { Self → (List Entry → Type 0) → Type 0 };
 
     /// What storing this record at this position may answer.
@@ -161,7 +164,7 @@ pub trait Stable {
         ensures honest { is_honest self.new → is_honest self.old }
         ensures alive { OnOk result (is_honest self.old → is_clean self.new → is_honest self.new) }
 
-        // If the storage has ever given back something other than what was written, it never counts
+        // If the storage has ever returned something other than what was written, it never counts
         // as clean again. A clean storage that was honest stays honest or is shut.
         ensures clean { is_clean self.new → is_clean self.old }
         ensures shut { is_honest self.old
@@ -211,7 +214,7 @@ pub trait Stable {
         ensures honest { is_honest self.new → is_honest self.old }
         ensures alive { OnOk result (is_honest self.old → is_clean self.new → is_honest self.new) }
 
-        // If the storage has ever given back something other than what was written, it never counts
+        // If the storage has ever returned something other than what was written, it never counts
         // as clean again. A clean storage that was honest stays honest or is shut.
         ensures clean { is_clean self.new → is_clean self.old }
         ensures shut { is_honest self.old

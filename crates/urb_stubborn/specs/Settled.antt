@@ -1,5 +1,6 @@
 -- The invariant of the fields of a node's resends: from which number on names may be due.
 use Rattle.std.specs.Prelude.{◌≡◌, ◌-◌, ◌<◌, ◌≤◌, false, ℕ, List, length, slice_index_or}
+use Rattle.urb_names.specs.declared.limits.TheConstants.{MAX_SENDERS}
 use Rattle.urb_names.specs.Carried.{is_due}
 use Rattle.urb_names.specs.Naming.{Label}
 use Rattle.urb_stubborn.specs.Resending.{Resending}
@@ -7,7 +8,14 @@ use Rattle.urb_stubborn.specs.declared.resend.Resend.TheInside.{Inside}
 
 -- what contracts see of the fields
 abbrev pub view_of : {A : Type 0} → Inside A → Resending
-view_of a = record { limits = a.config; node = a.node; cursor = a.cursor; heard = a.heard.marks; roomy = a.heard.roomy }
+view_of a = record {
+  limits = a.config;
+  node = a.node;
+  cursor = a.cursor;
+  heard =
+      a.heard.marks;
+  roomy = a.heard.roomy;
+}
 
 -- the number up to which no name of the sender is due
 abbrev pub settled_of : List ℕ → ℕ → ℕ
@@ -19,9 +27,10 @@ pub record IsSettledBy (settled : List ℕ) (x : Label) : Type 0 where
   pub first : 0 < x.seq
   pub last : x.seq ≤ settled_of settled x.sender
 
--- The node belongs to the group. There is a count for each of seven senders, and no name up to it
+-- The node belongs to the group. There is a count for each possible sender, and no name up to it
 -- is due.
 pub record IsKept {A : Type 0} (a : Inside A) : Type 0 where
   pub node : a.node ≤ a.config.n
-  pub seven : length a.settled ≡ 7
-  pub settled : (x : Label) → IsSettledBy a.settled x → is_due a.config.n a.node a.heard.marks x ≡ false
+  pub senders : length a.settled ≡ MAX_SENDERS
+  pub settled : (x : Label) → IsSettledBy a.settled x
+      → is_due a.config.n a.node a.heard.marks x ≡ false

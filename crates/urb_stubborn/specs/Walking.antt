@@ -1,5 +1,6 @@
 -- How a tick visits the due names.
-use Rattle.std.specs.Prelude.{◌≡◌, ◌-◌, ◌≤◌, ◌++◌, Bool, List, None, Option, Some, false, filter, flat_map, length, not, true, ℕ}
+use Rattle.std.specs.Prelude.{◌≡◌, ◌-◌, ◌≤◌, ◌++◌, Bool, List, None, Option, Some, false, filter}
+use Rattle.std.specs.Prelude.{flat_map, length, not, true, ℕ}
 use Rattle.urb_names.specs.Carried.{Carried, due_of, is_due, to_unheard}
 use Rattle.urb_names.specs.Cyclic.{is_after, last_name, resent}
 use Rattle.urb_names.specs.Naming.{Content, Label}
@@ -28,15 +29,18 @@ between from last pairs = filter (λ pair. is_within last pair.0) (behind from p
 pub record IsPassed (r : Resending) (x end : Label) : Type 0 where
   pub sender : end.sender ≡ x.sender
   pub forward : x.seq ≤ end.seq
-  pub settled : (y : Label) → y.sender ≡ x.sender → x.seq ≤ y.seq → y.seq ≤ end.seq → is_due r.limits.n r.node r.heard y ≡ false
+  pub settled : (y : Label) → y.sender ≡ x.sender → x.seq ≤ y.seq → y.seq ≤ end.seq
+      → is_due r.limits.n r.node r.heard y ≡ false
 
 -- the packets of these pairs were sent, and the turn has that many fewer names left
-pub record IsWalked (r : Resending) (certified : List Label) (sent : List (Label × Content)) (turn : Turn) (old : List Carried) (after : Turn) (new : List Carried) : Type 0 where
+pub record IsWalked (r : Resending) (certified : List Label) (sent : List (Label × Content))
+    (turn : Turn) (old : List Carried) (after : Turn) (new : List Carried) : Type 0 where
   pub packets : new ≡ old ++ flat_map (to_unheard r.limits.n r.node certified r.heard) sent
   pub left : after.left ≡ turn.left - length sent
   pub cursor : after.cursor ≡ last_name turn.cursor sent
 
 -- these are the packets of a tick, and this is its last name
-pub record IsTick (r : Resending) (pairs : List (Label × Content)) (certified : List Label) (after : Turn) (sent : List Carried) : Type 0 where
+pub record IsTick (r : Resending) (pairs : List (Label × Content)) (certified : List Label)
+    (after : Turn) (sent : List Carried) : Type 0 where
   pub packets : sent ≡ tick_packets r pairs certified
   pub cursor : after.cursor ≡ last_name r.cursor (resent r.cursor (due_pairs r pairs))

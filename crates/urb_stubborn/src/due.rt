@@ -1,4 +1,4 @@
-//! Which names are due: those for which the certificate of some other node has not been heard.
+//! Which names are due: a name is due if some other node's certificate of it has not been heard.
 
 ghost use Rattle.std.specs.Prelude.{◌≡◌, ◌==◌, ◌&&◌, ℕ, ◌<◌, ◌≤◌, false, not};
 ghost use Rattle.urb_names.specs.Acknowledged.{acked};
@@ -39,9 +39,9 @@ pub(crate) fn is_due<A: Allocator + Copy>(
     false
 }
 
-// The last number of the sender's unbroken run after `from` in which no name is due and each has
-// space.
-pub(crate) fn settled_to<A: Allocator + Copy>(
+// The end of the sender's unbroken run of numbers after `from`, as far as each name has space and
+// is not due.
+pub(crate) fn settle_from<A: Allocator + Copy>(
     heard: &Marks<A>,
     config: Config,
     node: NodeId,

@@ -1,6 +1,7 @@
-//! Stubborn links: each timeout (tick) resends up to 16 pending messages that a node may lack.
+//! Stubborn links: each timeout (tick) resends up to `NAMES_PER_TICK` pending messages that a node
+//! may lack.
 //!
-//! The book describes them in section 2.4 (Cachin, Guerraoui and Rodrigues 2011).
+//! The textbook (Cachin, Guerraoui and Rodrigues 2011) describes them in section 2.4.
 //!
 //! ```text
 //! // after a store: one packet to every other node
@@ -9,7 +10,7 @@
 //! resend.reserve(name)?;
 //! // a packet said that the node has stored a certificate of the name
 //! resend.hear(name, node);
-//! // a timeout: the next sixteen names that are due
+//! // a timeout: the next names that are due, at most NAMES_PER_TICK
 //! let outbox = resend.tick(alloc, &pending, &certified)?;
 //! for packet in outbox.into_packets() { .. }
 //! ```
@@ -26,5 +27,5 @@ mod resend;
 #[cfg(test)]
 mod tests;
 
-pub use outbox::Outbox;
+pub use outbox::{OUTBOX_MAX, Outbox};
 pub use resend::Resend;

@@ -1,16 +1,23 @@
 //! The packets that a call of a node returns for sending.
 
-ghost use Rattle.std.specs.Prelude.{◌≡◌, ◌≤◌, ◌∷◌, ◌++◌, false, filter, not, [], length, slice_get, option_map, vec_len, IfOk, OnOk};
+ghost use Rattle.std.specs.Prelude.{◌≡◌, ◌≤◌, ◌∷◌, ◌++◌, false, filter, not, [], length, slice_get};
+ghost use Rattle.std.specs.Prelude.{option_map, vec_len, IfOk, OnOk};
 ghost use Rattle.urb_names.specs.Acknowledged.{acked};
 ghost use Rattle.urb_names.specs.Carried.{is_heard_of, others, packets_to, to_others};
 
 use crate::due::is_unheard;
 use std::alloc::{Allocator, Global};
 use std::marker::Model;
-use urb_names::{Config, Flags, Message, Name, NoMemory, NodeId, Packet};
+use urb_names::{
+    Config, Flags, MAX_SENDERS, Message, NAMES_PER_TICK, Name, NoMemory, NodeId, Packet,
+};
 use urb_window::Marks;
 
-/// Packets for the other nodes, at most 96: sixteen names, each to six nodes.
+/// The greatest number of packets in an outbox: a tick sends `NAMES_PER_TICK` names to each other
+/// node.
+pub const OUTBOX_MAX: usize = NAMES_PER_TICK as usize * (MAX_SENDERS - 1);
+
+/// Packets for the other nodes, at most `OUTBOX_MAX`.
 #[derive(Drop)]
 #[derive_where(Debug)]
 pub struct Outbox<A: Allocator = Global> {
@@ -21,12 +28,13 @@ impl<A: Allocator> Model for Outbox<A> {
     ghost use Rattle.std.specs.Prelude.{◌≤◌, List, vec_len};
     ghost use Rattle.urb_names.specs.Acknowledged.{acked};
     ghost use Rattle.urb_names.specs.Carried.{Carried};
+    ghost use Rattle.urb_stubborn.specs.declared.outbox.TheConstants.{OUTBOX_MAX};
 
     ghost Value = { List Carried };
 
     ghost view = { λ a. a.packets.items };
 
-    ghost invariant = { λ a. vec_len a.packets ≤ 96 };
+    ghost invariant = { λ a. vec_len a.packets ≤ OUTBOX_MAX };
 }
 
 impl<A: Allocator + Copy> Outbox<A> {
@@ -49,7 +57,7 @@ impl<A: Allocator + Copy> Outbox<A> {
     }
 
     /// One packet of a message to every other node of the group. This is a best-effort broadcast
-    /// (section 3.2 of the book) without the node itself. Each packet says whether the node has
+    /// (section 3.2 of the textbook) without the node itself. Each packet says whether the node has
     /// also stored a certificate of the name. The packet to the node `heard` also says that its
     /// certificate was heard.
     pub fn of_pair(
@@ -81,7 +89,7 @@ impl<A: Allocator + Copy> Outbox<A> {
     /// The number of packets.
     pub fn len(&self) -> usize
         ensures value { result ≡ length self.now }
-        ensures range { result ≤ 96 }
+        ensures range { result ≤ OUTBOX_MAX }
     {
         self.packets.len()
     }
@@ -105,7 +113,7 @@ impl<A: Allocator + Copy> Outbox<A> {
 impl<A: Allocator> Outbox<A> {
     // An outbox of these packets.
     pub(crate) fn of(packets: Vec<Packet<A>, A>) -> Outbox<A>
-        requires { vec_len packets ≤ 96 }
+        requires { vec_len packets ≤ OUTBOX_MAX }
         ensures { result ≡ packets.items }
     {
         Outbox { packets }
@@ -172,7 +180,7 @@ fn push_to_others<A: Allocator + Copy>(
     Ok(())
 }
 
-// Whether this is the node that was heard, if one was.
+// Whether this is the node that was heard, if there is one.
 fn is_heard_of(heard: Option<NodeId>, target: NodeId) -> bool
     ensures { result ≡ is_heard_of heard target }
 {

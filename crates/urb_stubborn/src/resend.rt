@@ -1,29 +1,25 @@
 //! A node's resends, a part at each tick, and whose certificates it has heard.
 
-ghost use Rattle.std.specs.Prelude.{◌≡◌, ◌≤◌, true, [], None, IfNone, IfOk, IfSome, OnOk, OnErr, take};
+ghost use Rattle.std.specs.Prelude.{◌≡◌, ◌≤◌, true, [], None, IfNone, IfOk, IfSome, OnOk, OnErr};
+ghost use Rattle.std.specs.Prelude.{take};
 ghost use Rattle.urb_certified.specs.Certificates.{with_name};
 ghost use Rattle.urb_names.specs.Acknowledged.{acked};
 ghost use Rattle.urb_names.specs.Names.{has_name};
 ghost use Rattle.urb_names.specs.Carried.{is_due};
 ghost use Rattle.urb_pending.specs.PendingSet.{first_name};
 ghost use Rattle.urb_stubborn.specs.Resending.{hearing, tick_packets, ticked};
-ghost use Rattle.urb_stubborn.specs.Walking.{IsPassed, IsTick, IsWalked, behind, between, due_pairs, is_within};
+ghost use Rattle.urb_stubborn.specs.Walking.{IsPassed, IsTick, IsWalked, behind, between};
+ghost use Rattle.urb_stubborn.specs.Walking.{due_pairs, is_within};
 
 use crate::Outbox;
-use crate::due::{is_due, settled_to};
+use crate::due::{is_due, settle_from};
 use crate::outbox::push_to_unheard;
 use std::alloc::{Allocator, Global};
 use std::marker::Model;
 use urb_certified::Certified;
-use urb_names::{Config, Name, NoMemory, NodeId, Packet};
+use urb_names::{Config, MAX_SENDERS, NAMES_PER_TICK, Name, NoMemory, NodeId, Packet};
 use urb_pending::Pending;
 use urb_window::Marks;
-
-/// The greatest number of names that a tick resends.
-const NAMES_A_TICK: u32 = 16;
-
-/// The greatest possible number of senders.
-const MOST_SENDERS: usize = 7;
 
 // How many more names a tick may resend, and the last name that it resent.
 #[derive(Clone, Copy, Drop)]
@@ -41,7 +37,7 @@ pub struct Resend<A: Allocator = Global> {
     node: NodeId,
     cursor: Option<Name>,
     heard: Marks<A>,
-    settled: [u32; MOST_SENDERS],
+    settled: [u32; MAX_SENDERS],
 }
 
 impl<A: Allocator> Model for Resend<A> {
@@ -69,7 +65,7 @@ impl<A: Allocator + Copy> Resend<A> {
             node,
             cursor: None,
             heard: Marks::new(alloc),
-            settled: [0; MOST_SENDERS],
+            settled: [0; MAX_SENDERS],
         }
     }
 
@@ -95,7 +91,7 @@ impl<A: Allocator + Copy> Resend<A> {
         }
         let _added = self.heard.add(name, node);
         let index = name.sender.number() as usize - 1;
-        self.settled[index] = settled_to(
+        self.settled[index] = settle_from(
             &self.heard,
             self.config,
             self.node,
@@ -117,7 +113,7 @@ impl<A: Allocator + Copy> Resend<A> {
         ensures { self.new ≡ record self.old { heard = [] } }
     {
         self.heard.forget();
-        self.settled = [0; MOST_SENDERS];
+        self.settled = [0; MAX_SENDERS];
     }
 
     /// Makes the next tick begin before the smallest name, as after a restart.
@@ -128,10 +124,10 @@ impl<A: Allocator + Copy> Resend<A> {
     }
 
     /// Sends pending messages again to the nodes whose certificates of them were not heard. It
-    /// sends at most sixteen names, from where the last tick ended. This is what a stubborn link
-    /// does on a timeout (section 2.4 of the book), but only until nothing is left to send. If no
-    /// name is due it sends nothing. `NoMemory` means that an allocation was refused; the caller
-    /// may make the call again.
+    /// sends at most `NAMES_PER_TICK` names, from where the last tick ended. This is what a
+    /// stubborn link does on a timeout (section 2.4 of the textbook), but only until nothing is
+    /// left to send. If no name is due it sends nothing. `NoMemory` means that an allocation was
+    /// refused; the caller may make the call again.
     pub fn tick(
         &mut self,
         alloc: A,
@@ -152,8 +148,8 @@ impl<A: Allocator + Copy> Resend<A> {
         Ok(Outbox::of(packets))
     }
 
-    // Makes the packets of a tick: from the cursor to the last name, and then, if there was a
-    // cursor, from the first name up to it.
+    // Makes the packets of a tick. It goes from the cursor to the last name and then, if there was
+    // a cursor, from the first name up to it.
     fn go_round(
         &self,
         packets: &mut Vec<Packet<A>, A>,
@@ -166,7 +162,7 @@ impl<A: Allocator + Copy> Resend<A> {
             IsTick self.now pending.now.pairs certified.now.names after packets.new.items) }
     {
         let begun = Turn {
-            left: NAMES_A_TICK,
+            left: NAMES_PER_TICK,
             cursor: self.cursor,
         };
         let turned = self.send(
@@ -194,7 +190,7 @@ impl<A: Allocator + Copy> Resend<A> {
 
     // If this name isn't due, a name after which the sender's next due name may come; `None` if it
     // is due.
-    fn passed(&self, name: Name) -> Option<Name>
+    fn skip_past(&self, name: Name) -> Option<Name>
         ensures due { IfNone result
             (is_due self.now.limits.n self.now.node self.now.heard name ≡ true) }
         ensures passed { IfSome result (IsPassed self.now name) }
@@ -218,10 +214,10 @@ impl<A: Allocator + Copy> Resend<A> {
     fn next_due(&self, pending: &Pending<A>, cursor: Option<Name>) -> Option<Name>
         ensures { result ≡ first_name (behind cursor (due_pairs self.now pending.now.pairs)) }
     {
-        pending.limits();
+        pending.recall();
         let mut at = cursor;
         while let Some(name) = pending.behind(at) {
-            match self.passed(name) {
+            match self.skip_past(name) {
                 None => return Some(name),
                 Some(end) => at = Some(end),
             }
@@ -239,7 +235,7 @@ impl<A: Allocator + Copy> Resend<A> {
         ensures { result
             ≡ first_name (between from last.now (due_pairs self.now pending.now.pairs)) }
     {
-        pending.limits();
+        pending.recall();
         let name = self.next_due(pending, from)?;
         if is_within(last, name) {
             Some(name)
@@ -264,7 +260,7 @@ impl<A: Allocator + Copy> Resend<A> {
             (take turn.left (between from last.now (due_pairs self.now pending.now.pairs))) turn
             packets.old.items after packets.new.items) }
     {
-        pending.limits();
+        pending.recall();
         let mut at = from;
         let mut left = turn.left;
         let mut cursor = turn.cursor;

@@ -27,7 +27,7 @@ struct Script<'a> {
     /// These names of node 2 are certified.
     certified: &'a [u32],
     steps: &'a [Step<'a>],
-    /// Steps after these, which must not allocate.
+    /// Further steps, after `steps`. They must not allocate.
     calm: &'a [Step<'a>],
 }
 
@@ -75,7 +75,7 @@ impl<A: Allocator + Copy> Stored<A> {
         let Some(client) = ClientId::new(7) else {
             return false;
         };
-        match Message::copied(alloc, client, 1, b"a") {
+        match Message::copy_of(alloc, client, 1, b"a") {
             Ok(message) => self.pending.add(name, message).is_ok(),
             Err(_no_memory) => false,
         }
@@ -127,9 +127,9 @@ fn is_refused_over<A: Allocator + Copy>(
     }
     let mut resend = Resend::new(alloc, stored.config, stored.node);
     let refused = is_refused_in(&mut resend, alloc, stored, script.steps);
-    let asked = heap.asked();
+    let asked = heap.growths();
     let again = is_refused_in(&mut resend, alloc, stored, script.calm);
-    let is_calm = heap.asked() == asked;
+    let is_calm = heap.growths() == asked;
     drop(resend);
     if is_calm {
         Some(refused? || again?)
@@ -155,13 +155,13 @@ fn is_refused<A: Allocator + Copy>(
     refused
 }
 
-// The same with growth number `refused` refused; with 0 none is. Also `None` if another call was
-// refused.
+// The same while allocation (growth) number `refused` is refused, or none if that is 0. Also `None`
+// if another call was refused.
 fn play(alloc: Global, refused: u64, script: Script) -> Option<bool> {
     let calm = Refusing::new(alloc, 0);
     let heap = Refusing::new(alloc, refused);
     let told = is_refused(&heap, &calm, &heap, script);
-    let met = heap.met();
+    let met = heap.has_failed();
     drop(heap);
     drop(calm);
     if told == Some(met) { told } else { None }

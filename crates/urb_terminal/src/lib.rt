@@ -1,6 +1,6 @@
 //! A terminal in memory, for tests.
 //!
-//! It gives a program its words and its input, and keeps what the program shows.
+//! It gives a program its arguments and its input, and keeps the program's output.
 //!
 //! ```text
 //! let words = [b"urbd".as_slice(), b"replay"];
@@ -22,21 +22,21 @@ use std::fmt::Display;
 use std::io;
 use std::io::{BufRead, ErrorKind, Lines, Write};
 
-/// The words and the input that a run gets, and what it shows.
+/// The arguments and the input of a run, and its output.
 #[derive(Drop)]
 pub struct Terminal<'a> {
     alloc: Global,
     words: &'a [&'a [u8]],
     input: &'a [u8],
-    /// Whether standard output takes what is written.
+    /// Whether writes to standard output succeed.
     open: bool,
     output: RefCell<Vec<u8>>,
     errors: RefCell<Vec<u8>>,
 }
 
 impl<'a> Terminal<'a> {
-    /// A terminal with these words and this input. If `open`, its standard output takes what is
-    /// written; otherwise it refuses it. No contract can name what its cells hold.
+    /// A terminal with these arguments and this input. If `open`, writes to its standard output
+    /// succeed; otherwise they fail. No contract can name what its cells hold.
     pub fn new(alloc: Global, words: &'a [&'a [u8]], input: &'a [u8], open: bool) -> Terminal<'a> {
         Terminal {
             alloc,
@@ -48,7 +48,7 @@ impl<'a> Terminal<'a> {
         }
     }
 
-    /// What a run showed that ended with this status.
+    /// The output of a run that ended with this status.
     pub fn into_shown(self, status: u8) -> Shown
         ensures { result.status ≡ status }
     {
@@ -64,7 +64,7 @@ fn failed() -> io::Error {
     io::Error::from(ErrorKind::Other)
 }
 
-/// Adds a value's text.
+/// Appends the text of a value.
 fn show<D: Display + Drop>(shown: &RefCell<Vec<u8>>, value: D, end: &str) -> io::Result<()> {
     let Ok(mut text) = shown.try_borrow_mut() else {
         return Err(failed());
@@ -157,20 +157,20 @@ impl<'a> Input for Terminal<'a> {
     }
 }
 
-/// What a run of the program showed, and its status.
+/// The output of a run of the program, and its status.
 #[derive(Drop)]
 pub struct Shown {
     /// The status that it ended with.
     pub status: u8,
-    /// What standard output got.
+    /// What was written to standard output.
     pub output: Vec<u8>,
-    /// What standard error got.
+    /// What was written to standard error.
     pub errors: Vec<u8>,
 }
 
 impl Shown {
-    /// Whether a run ended with this status, showed this on standard output, and wrote errors with
-    /// this beginning and this end.
+    /// Whether a run ended with this status and wrote exactly this to standard output, and its
+    /// errors begin and end with these texts.
     pub fn is(&self, status: u8, output: &[u8], begins: &[u8], ends: &[u8]) -> bool {
         let errors = self.errors.as_slice();
         self.status == status

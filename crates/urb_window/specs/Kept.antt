@@ -1,7 +1,9 @@
--- The invariant of windows: at most seven rows, each well formed, with the space that is promised.
+-- The invariant of windows: at most one row for each sender, each well formed, with the space that
+-- is promised.
 use Rattle.std.specs.Prelude.{◌≡◌, ◌-◌, ◌≤◌, ℕ, length, slice_get, Option, Some}
 use Rattle.std.specs.List.{AllByRecursion}
 use Rattle.std.specs.Option.{ForSome}
+use Rattle.urb_names.specs.declared.limits.TheConstants.{MAX_SENDERS}
 use Rattle.urb_names.specs.Naming.{Label}
 use Rattle.urb_window.specs.Row.{IsRow, Row}
 use Rattle.urb_window.specs.Rows.{entries_from, row_at}
@@ -14,11 +16,11 @@ view_of a = record { entries = entries_from 1 a.rows.items; reserved = a.reserve
 
 -- the row of the name's sender has space for its number
 pub record HasRow {T A : Type 0} (a : Inside T A) (x : Label) : Type 0 where
-  pub seven : length a.rows.items ≡ 7
+  pub senders : length a.rows.items ≡ MAX_SENDERS
   pub room : (row_at a.rows.items x.sender).reserved ≡ Some x.seq
 
--- the fields are at most seven rows, with the space that is promised
+-- the fields are at most one row for each sender, with the space that is promised
 pub record IsKept {T A : Type 0} (a : Inside T A) : Type 0 where
-  pub most : length a.rows.items ≤ 7
+  pub most : length a.rows.items ≤ MAX_SENDERS
   pub rows : AllByRecursion IsRow a.rows.items
   pub room : ForSome a.reserved (HasRow a)

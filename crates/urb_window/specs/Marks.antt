@@ -19,7 +19,9 @@ pub record MarkSet : Type 0 where
 -- the set with space for the marks of one more name, which goes to its place; the reservation is
 -- used up
 abbrev pub with_room : MarkSet → Label → MarkSet
-with_room s x = if has_name s.roomy x then s else record { marks = s.marks; roomy = placed name_lt s.roomy x; reserved = None }
+with_room s x =
+    if has_name s.roomy x then s else record
+    { marks = s.marks; roomy = placed name_lt s.roomy x; reserved = None }
 
 -- the set with the node marked for the name; the pair goes to its place
 abbrev pub with_mark : MarkSet → Label → ℕ → MarkSet
@@ -32,7 +34,12 @@ pub record IsMarkSet (s : MarkSet) : Type 0 where
 
 -- the marks that masks under names describe: each name with a mask has space
 abbrev pub marks_of : WindowSet ℕ → MarkSet
-marks_of masks = record { marks = marks_in masks.entries; roomy = names_of masks.entries; reserved = masks.reserved }
+marks_of masks = record {
+  marks = marks_in masks.entries;
+  roomy = names_of masks.entries;
+  reserved =
+      masks.reserved;
+}
 
 -- what contracts see of the fields
 abbrev pub view_of : {A : Type 0} → Inside A → MarkSet

@@ -1,5 +1,7 @@
 -- The nodes marked for a name, as the bits of one number.
-use Rattle.std.specs.Prelude.{ℕ, Bool, ◌-◌, ◌/◌, ◌%◌, ◌^◌, ◌==◌, List, [], ◌∷◌, ◌++◌, map, filter, unwrap_or}
+use Rattle.std.specs.Prelude.{ℕ, Bool, ◌-◌, ◌/◌, ◌%◌, ◌^◌, ◌==◌, List, [], ◌∷◌, ◌++◌, map, filter}
+use Rattle.std.specs.Prelude.{unwrap_or}
+use Rattle.urb_names.specs.declared.limits.TheConstants.{MAX_NODES}
 use Rattle.urb_names.specs.Naming.{Label}
 use Rattle.urb_names.specs.Nodes.{nodes}
 use Rattle.urb_window.specs.Entries.{value_of}
@@ -10,7 +12,7 @@ has_bit mask q = (mask / 2 ^ (q - 1)) % 2 == 1
 
 -- the nodes whose bits are set, in order
 abbrev pub nodes_in : ℕ → List ℕ
-nodes_in mask = filter (has_bit mask) (nodes 7)
+nodes_in mask = filter (has_bit mask) (nodes MAX_NODES)
 
 -- the pairs of a name and a node that masks under names describe, in order
 abbrev pub marks_in : List (Label × ℕ) → List (Label × ℕ)

@@ -1,10 +1,12 @@
 -- One sender's values, by number.
-use Rattle.std.specs.Prelude.{◌≡◌, ℕ, zero, suc, ◌+◌, ◌<◌, ◌^◌, Bool, false, nat_lt, ◌==◌, if◌then◌else◌, List, [], ◌∷◌, ◌++◌, length, map, Option, Some, None, refl}
+use Rattle.std.specs.Prelude.{◌≡◌, ℕ, zero, suc, ◌+◌, ◌<◌, ◌^◌, Bool, false, nat_lt, ◌==◌}
+use Rattle.std.specs.Prelude.{if◌then◌else◌, List, [], ◌∷◌, ◌++◌, length, map, Option, Some, None}
+use Rattle.std.specs.Prelude.{refl}
 use Rattle.urb_names.specs.Ordered.{placed}
 use Rattle.std.specs.Coded.{Coded, code_by, coded×, coded_ℕ, coded_list, coded_option}
 
--- The values of the numbers 1, 2, 3, .. without a gap, those above the gap with their numbers, and
--- the number for which space is reserved.
+-- The values of the numbers 1, 2, 3, .. without a gap, and those above the gap with their numbers.
+-- Also the number for which space is reserved.
 pub record Row (V : Type 0) : Type 0 where
   pub low : List V
   pub above : List (ℕ × V)
@@ -64,7 +66,7 @@ module _ {V : Type 0} where
     pub pairs : pairs_of new ≡ renumbered (pairs_of old) n v
     pub reserved : new.reserved ≡ old.reserved
 
--- the lower part ends at a gap or at the greatest number, and the numbers above rise from behind
+-- the lower part ends at a gap or at the greatest number, and the numbers above it rise from after
 -- the gap
 pub record IsRow {V : Type 0} (row : Row V) : Type 0 where
   pub low : length row.low < 2 ^ 32

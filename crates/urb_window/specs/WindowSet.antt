@@ -13,7 +13,9 @@ pub record WindowSet (V : Type 0) : Type 0 where
 
 -- a name, encoded as the pair of its numbers, so that proofs can tell names apart
 abbrev pub label_code : Coded Label
-label_code = code_by _ (coded× coded_ℕ coded_ℕ) (λ x. (x.sender, x.seq)) (λ p. record { sender = p.0; seq = p.1 }) (λ _. refl)
+label_code =
+    code_by _ (coded× coded_ℕ coded_ℕ) (λ x. (x.sender, x.seq))
+    (λ p. record { sender = p.0; seq = p.1 }) (λ _. refl)
 
 -- such a set, encoded as the pair of its fields
 abbrev pub set_code : {V : Type 0} → Coded V → Coded (WindowSet V)

@@ -1,6 +1,8 @@
 //! Sets of nodes, one set for each name: one byte a name, with one bit for each node.
 
-ghost use Rattle.std.specs.Prelude.{◌≡◌, ◌<◌, ◌≤◌, true, false, [], None, Some, IsOk, OnOk, OnErr, count_by, is_some, option_map, slice_get};
+ghost use Rattle.std.specs.Prelude.{◌≡◌, ◌<◌, ◌≤◌, true, false, [], None, Some, IsOk, OnOk, OnErr};
+ghost use Rattle.std.specs.Prelude.{count_by, is_some, option_map, slice_get};
+ghost use Rattle.urb_names.specs.declared.limits.TheConstants.{MAX_NODES};
 ghost use Rattle.urb_names.specs.Acknowledged.{acked};
 ghost use Rattle.urb_names.specs.Names.{has_name};
 ghost use Rattle.urb_names.specs.Nodes.{nodes};
@@ -52,20 +54,20 @@ fn has_mask<A: Allocator + Copy>(masks: &Windows<u8, A>, name: Name) -> bool
 // Whether the node with this number is marked for a name.
 #[tactic(auto, using(crate::proofs::Flattened::acked_bit))]
 fn is_marked<A: Allocator + Copy>(masks: &Windows<u8, A>, name: Name, number: u8) -> bool
-    requires { (0 < number) × (number ≤ 7) }
+    requires { (0 < number) × (number ≤ MAX_NODES) }
     ensures { result ≡ acked (marks_in masks.now.entries) name number }
 {
-    masks.limits();
+    masks.recall();
     has_bit(mask_of(masks, name), number)
 }
 
 // How many of the nodes 1 to n are marked for a name.
 fn count_of<A: Allocator + Copy>(masks: &Windows<u8, A>, name: Name, n: u8) -> u8
-    requires { n ≤ 7 }
+    requires { n ≤ MAX_NODES }
     ensures count { result ≡ count_by (acked (marks_in masks.now.entries) name) (nodes n) }
     ensures most { result ≤ n }
 {
-    masks.limits();
+    masks.recall();
     bits_up_to(mask_of(masks, name), n)
 }
 
@@ -89,7 +91,7 @@ fn mark<A: Allocator + Copy>(
     name: Name,
     number: u8,
 ) -> Result<(), NoMemory>
-    requires range { (0 < number) × (number ≤ 7) }
+    requires range { (0 < number) × (number ≤ MAX_NODES) }
     requires new { acked (marks_in masks.old.entries) name number ≡ false }
     ensures ok { OnOk result (marks_of masks.new ≡ with_mark (marks_of masks.old) name number) }
     ensures err { OnErr result (masks.new ≡ masks.old) }
@@ -97,16 +99,16 @@ fn mark<A: Allocator + Copy>(
         → masks.old.reserved ≡ Some name)
         → IsOk result }
 {
-    masks.limits();
+    masks.recall();
     let mask = with_bit(mask_of(masks, name), number);
     if has_mask(masks, name) {
         masks.replace(name, mask);
-        masks.limits();
+        masks.recall();
         return Ok(());
     }
     match masks.insert(name, mask) {
         Ok(()) => {
-            masks.limits();
+            masks.recall();
             Ok(())
         }
         Err((_, refused)) => Err(refused),
@@ -143,12 +145,11 @@ impl<A: Allocator + Copy> Marks<A> {
         }
     }
 
-    /// Its clause states what always holds of marks. Call it in code whose proof needs this; it
-    /// does nothing.
-    pub fn limits(&self)
+    /// Does nothing at run time; it brings the value's invariant into the proof.
+    pub fn recall(&self)
         ensures { IsMarkSet self.now }
     {
-        self.masks.limits();
+        self.masks.recall();
     }
 
     /// Whether a node is marked for a name.
@@ -160,7 +161,7 @@ impl<A: Allocator + Copy> Marks<A> {
 
     /// How many of the nodes 1 to n are marked for a name.
     pub fn count_of(&self, name: Name, n: u8) -> u8
-        requires { n ≤ 7 }
+        requires { n ≤ MAX_NODES }
         ensures count { result ≡ count_by (acked self.now.marks name) (nodes n) }
         ensures most { result ≤ n }
     {

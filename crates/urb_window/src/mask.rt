@@ -4,9 +4,14 @@ ghost use Rattle.std.specs.Prelude.{◌≡◌, ◌<◌, ◌≤◌, ◌+◌, ◌-
 ghost use Rattle.urb_names.specs.Nodes.{nodes};
 ghost use Rattle.urb_window.specs.Masks.{has_bit};
 
+use urb_names::MAX_NODES;
+
+// A mask has one bit for each node.
+const _: () = prove!(MAX_NODES <= 8);
+
 // The mask of this node alone.
 fn bit_of(number: u8) -> u8
-    requires { (0 < number) × (number ≤ 7) }
+    requires { (0 < number) × (number ≤ MAX_NODES) }
     ensures { result ≡ 2 ^ (number - 1) }
 {
     1 << (number - 1)
@@ -14,7 +19,7 @@ fn bit_of(number: u8) -> u8
 
 // Whether a node's bit is set.
 pub(crate) fn has_bit(mask: u8, number: u8) -> bool
-    requires { (0 < number) × (number ≤ 7) }
+    requires { (0 < number) × (number ≤ MAX_NODES) }
     ensures { result ≡ has_bit mask number }
 {
     (mask >> (number - 1)) % 2 == 1
@@ -22,7 +27,7 @@ pub(crate) fn has_bit(mask: u8, number: u8) -> bool
 
 // The mask with this node's bit set, which must be clear before.
 pub(crate) fn with_bit(mask: u8, number: u8) -> u8
-    requires range { (0 < number) × (number ≤ 7) }
+    requires range { (0 < number) × (number ≤ MAX_NODES) }
     requires new { has_bit mask number ≡ false }
     ensures { result ≡ mask + 2 ^ (number - 1) }
 {
@@ -32,7 +37,7 @@ pub(crate) fn with_bit(mask: u8, number: u8) -> u8
 #[tactic(auto, using(crate::proofs::Counts::count_of_next, crate::proofs::Counts::count_of_none))]
 // How many of the nodes 1 to n have their bits set.
 pub(crate) fn bits_up_to(mask: u8, n: u8) -> u8
-    requires { n ≤ 7 }
+    requires { n ≤ MAX_NODES }
     ensures count { result ≡ count_by (has_bit mask) (nodes n) }
     ensures most { result ≤ n }
 {

@@ -1,6 +1,7 @@
 //! The rows of the senders, in order of their numbers.
 
-ghost use Rattle.std.specs.Prelude.{◌≡◌, ◌+◌, ◌-◌, ◌≤◌, ◌<◌, Some, IfSome, IfNone, OnOk, IsOk, length, find, option_map, slice_get, drop};
+ghost use Rattle.std.specs.Prelude.{◌≡◌, ◌+◌, ◌-◌, ◌≤◌, ◌<◌, Some, IfSome, IfNone, OnOk, IsOk};
+ghost use Rattle.std.specs.Prelude.{length, find, option_map, slice_get, drop};
 ghost use Rattle.std.specs.List.{AllByRecursion};
 ghost use Rattle.urb_names.specs.Names.{name_lt};
 ghost use Rattle.urb_window.specs.Row.{IsRow};
@@ -8,15 +9,12 @@ ghost use Rattle.urb_window.specs.Rows.{entries_from, no_row, row_at};
 
 use crate::window::Window;
 use std::alloc::Allocator;
-use urb_names::{Name, NoMemory, NodeId};
-
-// The greatest possible number of senders.
-const MOST_SENDERS: usize = 7;
+use urb_names::{MAX_SENDERS, Name, NoMemory, NodeId};
 
 // The index of a sender's row.
 pub(crate) fn index_of(sender: NodeId) -> usize
     ensures place { result + 1 ≡ sender }
-    ensures within { result < 7 }
+    ensures within { result < MAX_SENDERS }
 {
     sender.number() as usize - 1
 }
@@ -34,7 +32,7 @@ pub(crate) fn row_of<T, A: Allocator>(
 
 // The sender whose row is at this index.
 fn sender_at(index: usize) -> Option<NodeId>
-    requires { index < 7 }
+    requires { index < MAX_SENDERS }
     ensures { result ≡ Some (index + 1) }
 {
     NodeId::new(index as u8 + 1)
@@ -44,15 +42,16 @@ fn sender_at(index: usize) -> Option<NodeId>
 pub(crate) fn fill<T: Drop, A: Allocator + Copy>(
     rows: &mut Vec<Window<T, A>, A>,
 ) -> Result<(), NoMemory>
-    requires { length rows.old.items ≤ 7 }
+    requires { length rows.old.items ≤ MAX_SENDERS }
     ensures entries { entries_from 1 rows.new.items ≡ entries_from 1 rows.old.items }
     ensures rows { AllByRecursion IsRow rows.old.items → AllByRecursion IsRow rows.new.items }
-    ensures most { length rows.new.items ≤ 7 }
-    ensures ok { OnOk result (length rows.new.items ≡ 7) }
-    ensures full { length rows.old.items ≡ 7 → (rows.new.items ≡ rows.old.items) × IsOk result }
+    ensures most { length rows.new.items ≤ MAX_SENDERS }
+    ensures ok { OnOk result (length rows.new.items ≡ MAX_SENDERS) }
+    ensures full { length rows.old.items ≡ MAX_SENDERS
+        → (rows.new.items ≡ rows.old.items) × IsOk result }
 {
     let alloc = *rows.allocator();
-    while rows.len() < MOST_SENDERS {
+    while rows.len() < MAX_SENDERS {
         rows.push(Window::new(alloc))?;
     }
     Ok(())
@@ -60,7 +59,7 @@ pub(crate) fn fill<T: Drop, A: Allocator + Copy>(
 
 // The number of values in the rows.
 pub(crate) fn count_of<T, A: Allocator + Copy>(rows: &[Window<T, A>]) -> usize
-    requires { length rows.now ≤ 7 }
+    requires { length rows.now ≤ MAX_SENDERS }
     ensures { result ≡ length (entries_from 1 rows.now) }
 {
     let mut count = 0;
@@ -75,7 +74,7 @@ pub(crate) fn entry_of<T, A: Allocator + Copy>(
     rows: &[Window<T, A>],
     index: usize,
 ) -> Option<(Name, &T)>
-    requires { length rows.now ≤ 7 }
+    requires { length rows.now ≤ MAX_SENDERS }
     ensures { option_map (λ entry. (entry.0, entry.1.now)) result
         ≡ slice_get (entries_from 1 rows.now) index }
 {
@@ -84,7 +83,7 @@ pub(crate) fn entry_of<T, A: Allocator + Copy>(
         let row = &rows[i];
         let count = row.count();
         if left < count {
-            row.limits();
+            row.recall();
             let (seq, value) = row.pair(left)?;
             let sender = sender_at(i)?;
             return Some((Name { sender, seq }, value));
@@ -99,14 +98,14 @@ pub(crate) fn first_from<T, A: Allocator + Copy>(
     rows: &[Window<T, A>],
     start: usize,
 ) -> Option<Name>
-    requires { length rows.now ≤ 7 }
+    requires { length rows.now ≤ MAX_SENDERS }
     ensures { result
         ≡ option_map (λ entry. entry.0)
         (slice_get (entries_from (start + 1) (drop start rows.now)) 0) }
 {
     for i in start..rows.len() {
         let row = &rows[i];
-        row.limits();
+        row.recall();
         if let Some((seq, _)) = row.pair(0) {
             let sender = sender_at(i)?;
             return Some(Name { sender, seq });
@@ -117,7 +116,7 @@ pub(crate) fn first_from<T, A: Allocator + Copy>(
 
 // The first name after this one.
 pub(crate) fn after_in<T, A: Allocator + Copy>(rows: &[Window<T, A>], name: Name) -> Option<Name>
-    requires { length rows.now ≤ 7 }
+    requires { length rows.now ≤ MAX_SENDERS }
     ensures { result
         ≡ option_map (λ entry. entry.0)
         (find (λ entry. name_lt name entry.0) (entries_from 1 rows.now)) }

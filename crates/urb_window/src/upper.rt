@@ -1,6 +1,7 @@
 //! The upper part of a row: pairs of a number and its value, sorted by number.
 
-ghost use Rattle.std.specs.Prelude.{◌≡◌, ◌<◌, ◌≤◌, ◌+◌, ◌∷◌, IfSome, IfNone, IfErr, OnOk, OnErr, IsOk, IsTrue, length, nat_lt, false};
+ghost use Rattle.std.specs.Prelude.{◌≡◌, ◌<◌, ◌≤◌, ◌+◌, ◌∷◌, IfSome, IfNone, IfErr, OnOk, OnErr};
+ghost use Rattle.std.specs.Prelude.{IsOk, IsTrue, length, nat_lt, false};
 ghost use Rattle.std.specs.VecDeque.{deque_len, deque_capacity};
 ghost use Rattle.std.specs.List.{prefix_len};
 ghost use Rattle.urb_window.specs.Row.{AreOver, holds_at, number_lt};

@@ -1,11 +1,14 @@
 //! One sender's values, by number.
 
-ghost use Rattle.std.specs.Prelude.{◌≡◌, ◌<◌, ◌≤◌, ◌+◌, ◌^◌, [], ◌∷◌, None, Some, IsOk, IsSome, IfErr, OnOk, OnErr, length, find, option_map, slice_get, nat_lt};
+ghost use Rattle.std.specs.Prelude.{◌≡◌, ◌<◌, ◌≤◌, ◌+◌, ◌^◌, [], ◌∷◌, None, Some, IsOk, IsSome};
+ghost use Rattle.std.specs.Prelude.{IfErr, OnOk, OnErr, length, find, option_map, slice_get};
+ghost use Rattle.std.specs.Prelude.{nat_lt};
 ghost use Rattle.std.specs.Prelude.{◌++◌, vec_len, vec_capacity};
 ghost use Rattle.std.specs.Bool.{Decides};
 ghost use Rattle.std.specs.VecDeque.{deque_len, deque_capacity};
 ghost use Rattle.urb_names.specs.Ordered.{placed};
-ghost use Rattle.urb_window.specs.Row.{AreOver, IsInserted, IsReplaced, IsRow, counted_from, number_lt, numbered, pairs_of};
+ghost use Rattle.urb_window.specs.Row.{AreOver, IsInserted, IsReplaced, IsRow, counted_from};
+ghost use Rattle.urb_window.specs.Row.{number_lt, numbered, pairs_of};
 
 use crate::upper::{is_at, place_of, take_first};
 use std::alloc::{Allocator, Global};
@@ -49,8 +52,8 @@ impl<T, A: Allocator + Copy> Window<T, A> {
         }
     }
 
-    // States what always holds of a row; only proofs use it.
-    pub(crate) fn limits(&self)
+    // Does nothing at run time; it brings the value's invariant into the proof.
+    pub(crate) fn recall(&self)
         ensures { IsRow self.now }
     {
         let _low = &self.low;
@@ -162,7 +165,7 @@ impl<T, A: Allocator + Copy> Window<T, A> {
         Ok(())
     }
 
-    // Inserts a value under a number that has none. If memory is refused, the value comes back.
+    // Inserts a value under a number that has none. If memory is refused, the value is returned.
     pub(crate) fn insert(&mut self, number: u32, value: T) -> Result<(), T>
         requires from { 0 < number }
         requires absent { numbered (pairs_of self.old) number ≡ None }

@@ -1,6 +1,7 @@
 //! The values of all senders, under their names.
 
-ghost use Rattle.std.specs.Prelude.{◌≡◌, ◌<◌, [], ◌∷◌, None, Some, IsOk, IsSome, IfErr, OnOk, OnErr, length, find, option_map, slice_get};
+ghost use Rattle.std.specs.Prelude.{◌≡◌, ◌<◌, [], ◌∷◌, None, Some, IsOk, IsSome, IfErr, OnOk};
+ghost use Rattle.std.specs.Prelude.{OnErr, length, find, option_map, slice_get};
 ghost use Rattle.urb_names.specs.Names.{name_lt};
 ghost use Rattle.urb_window.specs.Entries.{above_of, low_of, value_of, window_of, with_value};
 ghost use Rattle.urb_window.specs.WindowSet.{IsWindowSet, with_entry};
@@ -45,8 +46,8 @@ impl<T, A: Allocator + Copy> Windows<T, A> {
         }
     }
 
-    /// States what always holds of windows. It does nothing; only proofs use it.
-    pub fn limits(&self)
+    /// Does nothing at run time; it brings the value's invariant into the proof.
+    pub fn recall(&self)
         ensures { IsWindowSet self.now }
     {
         let _rows = &self.rows;
@@ -56,7 +57,7 @@ impl<T, A: Allocator + Copy> Windows<T, A> {
     pub fn get(&self, name: Name) -> Option<&T>
         ensures { option_map (λ v. v.now) result ≡ value_of self.now.entries name }
     {
-        name.limits();
+        name.recall();
         match row_of(&self.rows, name.sender) {
             Some(row) => row.get(name.seq),
             None => None,
@@ -70,10 +71,10 @@ impl<T, A: Allocator + Copy> Windows<T, A> {
         ensures new { self.new
             ≡ record self.old { entries = with_value self.old.entries name value } }
     {
-        name.limits();
+        name.recall();
         let row = &mut self.rows[index_of(name.sender)];
         let old = row.replace(name.seq, value);
-        row.limits();
+        row.recall();
         old
     }
 
@@ -86,18 +87,18 @@ impl<T, A: Allocator + Copy> Windows<T, A> {
         ensures ok { OnOk result (self.new ≡ record self.old { reserved = Some name }) }
         ensures err { OnErr result (self.new ≡ self.old) }
     {
-        name.limits();
+        name.recall();
         fill(&mut self.rows)?;
         let row = &mut self.rows[index_of(name.sender)];
         row.reserve(name.seq)?;
-        row.limits();
+        row.recall();
         self.reserved = Some(name);
         Ok(())
     }
 
     /// Inserts a value under a name that has none. If it closes a gap, the values that follow it
     /// join the part without a gap, and each of them is moved once. If memory is refused, the value
-    /// comes back.
+    /// is returned.
     pub fn insert(&mut self, name: Name, value: T) -> Result<(), (T, NoMemory)>
     where
         T: Drop,
@@ -106,7 +107,7 @@ impl<T, A: Allocator + Copy> Windows<T, A> {
         ensures err { IfErr result (λ e. (e.0 ≡ value) × (self.new ≡ self.old)) }
         ensures reserved { self.old.reserved ≡ Some name → IsOk result }
     {
-        name.limits();
+        name.recall();
         if let Err(refused) = fill(&mut self.rows) {
             return Err((value, refused));
         }
@@ -114,7 +115,7 @@ impl<T, A: Allocator + Copy> Windows<T, A> {
         if let Err(value) = row.insert(name.seq, value) {
             return Err((value, NoMemory));
         }
-        row.limits();
+        row.recall();
         self.reserved = None;
         Ok(())
     }

@@ -246,7 +246,7 @@ fn outlives(alloc: Global, refused: u64, reserved: bool) -> Result<(bool, bool),
     let heap = Refusing::new(alloc, refused);
     let mut windows = Windows::new(&heap);
     let is_well = put_with_gaps(&mut windows, reserved)?;
-    Ok((is_well, heap.met()))
+    Ok((is_well, heap.has_failed()))
 }
 
 #[test]
@@ -271,9 +271,9 @@ fn reserve_first<'heap, A: Allocator>(
     heap: &'heap Refusing<A>,
 ) -> Result<u64, Fail> {
     put_each(windows, &[(1, 6), (1, 5), (1, 4), (1, 3), (1, 2)])?;
-    windows.limits();
+    windows.recall();
     windows.reserve(name(1, 1)?)?;
-    Ok(heap.asked())
+    Ok(heap.growths())
 }
 
 // Whether the reserved value is inserted and closes the gap.
@@ -290,10 +290,10 @@ fn insert_first<A: Allocator + Copy>(windows: &mut Windows<u32, A>) -> Result<bo
 fn what_was_reserved_takes_no_memory(rt: HostRuntime) -> Result<(), Fail> {
     let heap = Refusing::new(rt.alloc(), 0);
     let mut windows = Windows::new(&heap);
-    assert_eq!(rt; heap.asked(), 0);
+    assert_eq!(rt; heap.growths(), 0);
     let asked = reserve_first(&mut windows, &heap)?;
     assert!(rt; insert_first(&mut windows)?);
-    assert_eq!(rt; heap.asked(), asked);
+    assert_eq!(rt; heap.growths(), asked);
     Ok(())
 }
 
@@ -316,7 +316,7 @@ fn mark<A: Allocator + Copy>(marks: &mut Marks<A>, name: Name, node: NodeId) -> 
 }
 
 // How many of the first n nodes are marked for node 1's name 3.
-fn marked<A: Allocator + Copy>(marks: &Marks<A>, n: u8) -> Result<u8, Fail>
+fn count_marked<A: Allocator + Copy>(marks: &Marks<A>, n: u8) -> Result<u8, Fail>
     requires { n ≤ 7 }
 {
     Ok(marks.count_of(name(1, 3)?, n))
@@ -326,7 +326,7 @@ fn marked<A: Allocator + Copy>(marks: &Marks<A>, n: u8) -> Result<u8, Fail>
 fn make_room<A: Allocator + Copy>(marks: &mut Marks<A>) -> Result<bool, Fail> {
     let third = name(1, 3)?;
     marks.make_room(third)?;
-    Ok(marks.is_roomy(third) && !marks.is_roomy(name(1, 2)?) && marked(marks, 7)? == 0)
+    Ok(marks.is_roomy(third) && !marks.is_roomy(name(1, 2)?) && count_marked(marks, 7)? == 0)
 }
 
 // Marks nodes for the name, then removes the marks.
@@ -334,9 +334,9 @@ fn mark_and_forget<A: Allocator + Copy>(marks: &mut Marks<A>) -> Result<bool, Fa
     let third = name(1, 3)?;
     mark(marks, third, node(7)?)?;
     mark(marks, third, node(2)?)?;
-    let are_counted = marked(marks, 7)? == 2 && marked(marks, 6)? == 1;
+    let are_counted = count_marked(marks, 7)? == 2 && count_marked(marks, 6)? == 1;
     marks.forget();
-    let are_forgotten = marked(marks, 7)? == 0;
+    let are_forgotten = count_marked(marks, 7)? == 0;
     mark(marks, third, node(1)?)?;
     Ok(are_counted && are_forgotten)
 }
@@ -353,9 +353,9 @@ fn marks_are_forgotten_and_their_room_stays(rt: HostRuntime) -> Result<(), Fail>
     let heap = Refusing::new(rt.alloc(), 0);
     let mut marks = Marks::new(&heap);
     assert!(rt; make_room(&mut marks)?);
-    let asked = heap.asked();
+    let asked = heap.growths();
     assert!(rt; mark_and_forget(&mut marks)?);
-    assert_eq!(rt; heap.asked(), asked);
+    assert_eq!(rt; heap.growths(), asked);
     assert!(rt; clears(&mut marks)?);
     Ok(())
 }
@@ -380,7 +380,7 @@ fn marks_outlive(alloc: Global, refused: u64) -> Result<(bool, bool), Fail> {
     let heap = Refusing::new(alloc, refused);
     let mut marks = Marks::new(&heap);
     let is_well = mark_three(&mut marks)?;
-    Ok((is_well, heap.met()))
+    Ok((is_well, heap.has_failed()))
 }
 
 #[test]

@@ -50,6 +50,7 @@ change_of came = change_by came.job came.reply came.events
 abbrev pub HasChanged : Change → GroupView → GroupView → GroupView → GroupView → Type 0
 HasChanged (change.Failed p r) lent given_back lent_again left =
     (fault : StoreFault) × (r ≡ refusal_of fault) × GoesDown lent_again p (Fail p) (Ok tt) left
-HasChanged (change.Crashed p) lent given_back lent_again left = GoesDown lent p (Crash p) (Ok tt) given_back
+HasChanged (change.Crashed p) lent given_back lent_again left =
+    GoesDown lent p (Crash p) (Ok tt) given_back
 HasChanged (change.CameBack p) lent given_back lent_again left =
     (image : List Entry) × ComesUp lent_again p (Restart p image) (Ok tt) left

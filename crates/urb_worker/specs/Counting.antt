@@ -1,6 +1,6 @@
 -- The number of events that a House has counted.
 use Rattle.std.specs.Prelude.{Result, Ok, Err, zero, suc, ℕ}
-use Rattle.urb_show.specs.Housed.{next_count}
+use Rattle.urb_show.specs.Houses.{next_count}
 
 -- the number of events of a call: one, if it was not refused
 abbrev pub count_of : {T E : Type 0} → Result T E → ℕ

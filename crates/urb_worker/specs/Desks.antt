@@ -1,10 +1,12 @@
 -- What the desk of a running node answers.
-use Rattle.std.specs.Prelude.{Bool, List, if◌then◌else◌, None, Ok, Option, Some, drop, map, take, ℕ, ◌-◌, ◌≡◌, ◌⊎◌}
+use Rattle.std.specs.Prelude.{Bool, List, if◌then◌else◌, None, Ok, Option, Some, drop, map, take, ℕ}
+use Rattle.std.specs.Prelude.{◌-◌, ◌≡◌, ◌⊎◌}
 use Rattle.std.specs.declared.alloc.Global.{Global}
 use Rattle.urb_names.specs.Names.{name}
 use Rattle.urb_names.specs.Naming.{Content, Label}
 use Rattle.urb_names.specs.Refusing.{detail_of, number_of}
-use Rattle.urb_client.specs.Requests.{Asked, Crash as IsCrash, Read, Restart as IsRestart, Status as IsStatus, Submit}
+use Rattle.urb_client.specs.Requests.{Asked, Crash as IsCrash, Read, Restart as IsRestart}
+use Rattle.urb_client.specs.Requests.{Status as IsStatus, Submit}
 use Rattle.urb_client.specs.Pages.{SaysPage}
 use Rattle.urb_client.specs.Responses.{Accepted, Done as IsDone, Refused, Said, Status as HasStatus}
 use Rattle.urb_client.specs.declared.response.NodeState.{NodeState}
@@ -20,7 +22,7 @@ use Rattle.urb_group.specs.declared.reply.Reply.{Reply}
 use Rattle.urb_group.specs.declared.reply.Reply.TheVariants as reply
 use Rattle.urb_group.specs.declared.state.State.{State}
 use Rattle.urb_group.specs.declared.state.State.TheVariants as state
-use Rattle.urb_show.specs.Known.{Known, Learns, Takes}
+use Rattle.urb_show.specs.Readers.{ReaderView, Learns, Takes}
 use Rattle.urb_show.specs.Lists.{Lists, list_at}
 use Rattle.urb_show.specs.Statuses.{TellsStatus}
 use Rattle.urb_show.specs.declared.entry.Entry.{Entry}
@@ -33,14 +35,13 @@ use Rattle.urb_worker.specs.declared.job.Job.TheVariants as job
 -- a desk: its node, and what its reader knows
 pub record DeskView : Type 0 where
   pub node : ℕ
-  pub known : Known
+  pub known : ReaderView
 
--- The refusal that says nothing more than that the node is down. It is also the answer if the
--- worker or the House is gone.
+-- The refusal Down, without a detail. It is also the answer if the worker or the House is gone.
 abbrev pub gone : Said
 gone = Refused 3 0
 
--- a node's state, as a response spells it
+-- a node's state, in the form that a response has
 abbrev pub told_state : State → NodeState
 told_state state.Down = told.Down
 told_state state.Ready = told.Ready
@@ -66,7 +67,7 @@ abbrev pub told_of : Reply Global → Option Status → Said
 told_of said (Some status) = HasStatus (told_state status.state) status.own status.logged
 told_of said None = said_of said
 
--- an entry of a page, as a response spells it
+-- an entry of a page, in the form that a response has
 abbrev pub pair_of : Entry → Label × Content
 pair_of entry = (entry.name, entry.message)
 
@@ -78,17 +79,19 @@ part_of list place max = map pair_of (take max (drop (place - 1) list))
 -- node's entries in them as a frame has room for. Or the House is gone.
 abbrev pub Reads : DeskView → ℕ → ℕ → Said → DeskView → Type 0
 Reads before place max said after =
-    (Takes before.known after.known × SaysPage (part_of (list_at after.known.seen (before.node - 1)) place max) said)
+    (Takes before.known after.known
+    × SaysPage (part_of (list_at after.known.seen (before.node - 1)) place max) said)
     ⊎ ((after.known ≡ before.known) × (said ≡ gone))
 
 -- what a turn published, if anything, was learnt
-abbrev pub LearnsTold : Option Lists → Known → Known → Type 0
+abbrev pub LearnsTold : Option Lists → ReaderView → ReaderView → Type 0
 LearnsTold None before after = after ≡ before
 LearnsTold (Some lists) before after = Learns lists before after
 
 -- the job is what this request asks at node p
 abbrev pub IsJobOf : ℕ → Asked → Job → Type 0
-IsJobOf p (Submit client number payload) (job.Submit q of ranked bytes) = (q ≡ p) × (of ≡ client) × (ranked ≡ number) × (bytes.items ≡ payload)
+IsJobOf p (Submit client number payload) (job.Submit q of ranked bytes) =
+    (q ≡ p) × (of ≡ client) × (ranked ≡ number) × (bytes ≡ payload)
 IsJobOf p IsStatus (job.Status q) = q ≡ p
 IsJobOf p IsCrash (job.Crash q) = q ≡ p
 IsJobOf p IsRestart (job.Restart q) = q ≡ p
@@ -99,39 +102,41 @@ abbrev pub IsWork : Asked → Type 0
 IsWork (Read place max) = ⊥
 IsWork asked = Unit {0}
 
--- A turn of the worker with the request's job came back, and this is the result. The reader learnt
--- what the turn published before its reply was given to the client. Or no turn came back.
+-- The worker returned a turn with the request's job, and this is the result. The reader learnt what
+-- the turn published before its reply was given to the client. Or the worker returned no turn.
 abbrev pub Works : DeskView → Asked → Said → DeskView → Type 0
 Works before asked said after =
-    ((done : Job) × (ran : Bool) × (answered : Reply Global) × (status : Option Status) × (settling : Published)
+    ((done : Job) × (ran : Bool) × (answered : Reply Global) × (status : Option Status)
+    × (settling : Published)
     × IsJobOf before.node asked done × IsOutcome ran done answered status settling
     × LearnsTold (told_in settling) before.known after.known × (said ≡ told_of answered status))
     ⊎ ((after.known ≡ before.known) × (said ≡ gone))
 
 -- ---- what a response says is true
 
--- at some moment of the House, node p has stored this message as its own under this number
+-- in some state of the House, node p has stored this message as its own under this number
 pub record HasAccepted (p : ℕ) (m : Content) (seq : ℕ) : Type 0 where
   pub group : GroupView
   pub sound : IsSound group
   pub stored : (w : World) → Shows group w → HasStored w p (name p seq) m
 
--- at some moment of the House, node p had this status
+-- in some state of the House, node p had this status
 pub record WasSo (p : ℕ) (state : NodeState) (own logged : ℕ) : Type 0 where
   pub group : GroupView
   pub sound : IsSound group
   pub status : Status
   pub tells : TellsStatus group p (Some status)
-  pub told : HasStatus state own logged ≡ HasStatus (told_state status.state) status.own status.logged
+  pub told : HasStatus state own logged ≡ HasStatus
+      (told_state status.state) status.own status.logged
 
--- at some moment of the House, node p crashed
+-- in some state of the House, node p crashed
 pub record HasCrashed (p : ℕ) : Type 0 where
   pub before : GroupView
   pub after : GroupView
   pub sound : IsSound before
   pub crash : GoesDown before p (CrashOf p) (Ok tt) after
 
--- at some moment of the House, node p restarted with some image
+-- in some state of the House, node p restarted with some image
 pub record HasRestarted (p : ℕ) : Type 0 where
   pub before : GroupView
   pub after : GroupView
@@ -153,12 +158,14 @@ Tells p asked said = ⊥
 
 -- A desk answers a read by its reader alone, and all other requests by its node's worker.
 abbrev pub AnswersAt : DeskView → Asked → Said → DeskView → Type 0
-AnswersAt before (Read place max) said after = (after.node ≡ before.node) × Reads before place max said after
+AnswersAt before (Read place max) said after =
+    (after.node ≡ before.node) × Reads before place max said after
 AnswersAt before asked said after =
     (after.node ≡ before.node) × Works before asked said after × Tells before.node asked said
 
 -- What refused memory leaves of a desk: it has asked its worker nothing, and knows what it knew. In
 -- a read it may have taken the lists already.
 abbrev pub RefusedAt : DeskView → Asked → DeskView → Type 0
-RefusedAt before (Read place max) after = (after.node ≡ before.node) × ((after.known ≡ before.known) ⊎ Takes before.known after.known)
+RefusedAt before (Read place max) after =
+    (after.node ≡ before.node) × ((after.known ≡ before.known) ⊎ Takes before.known after.known)
 RefusedAt before asked after = after ≡ before

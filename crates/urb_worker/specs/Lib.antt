@@ -5,9 +5,9 @@ pub mod Views
 pub mod Stages
 pub mod Turns
 pub mod Changes
-pub mod Whole
+pub mod WholeTurns
 pub mod Replies
-pub mod Served
+pub mod ServedStores
 pub mod Desks
 pub mod Backlogs
 pub mod Arrivals

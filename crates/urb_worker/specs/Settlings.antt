@@ -1,12 +1,12 @@
--- What becomes of the names that a turn released.
+-- Whether the names that a turn released are published.
 use Rattle.std.specs.Prelude.{Bool, None, Option, Some, false, true, ℕ, ◌-◌, ◌≡◌}
-use Rattle.urb_show.specs.Housed.{Grew, Housed, Settled}
+use Rattle.urb_show.specs.Houses.{Grew, HouseView, Settled}
 use Rattle.urb_show.specs.Lists.{Lists}
 use Rattle.urb_worker.specs.declared.settling.Settling.{Settling}
 use Rattle.urb_worker.specs.declared.settling.Settling.TheVariants as settling
 
--- What became of the names that a turn released. There were no names; or they were published, and
--- these are all lists that are published now; or memory was refused for that.
+-- Whether the names that a turn released were published. There were no names; or they were
+-- published, and these are all published lists now; or memory for that was refused.
 pub data Published : Type 0 where
   NothingNew : Published
   Told : Lists → Published
@@ -18,7 +18,7 @@ published_by settling.NothingNew = NothingNew
 published_by (settling.Told lists) = Told lists
 published_by (settling.OutOfMemory refused) = OutOfMemory
 
--- the published lists that a reader learns from this, if any
+-- the published lists that a reader can learn from this, if any
 abbrev pub told_in : Published → Option Lists
 told_in NothingNew = None
 told_in (Told lists) = Some lists
@@ -27,7 +27,7 @@ told_in OutOfMemory = None
 -- If names of p were released, there are two outcomes. The House settled p, and these are the
 -- published lists. Or memory was refused, and the published lists stay. If no names were released,
 -- the House stays as it was, and there is nothing new.
-abbrev pub Settles : Bool → ℕ → Housed → Housed → Published → Type 0
+abbrev pub Settles : Bool → ℕ → HouseView → HouseView → Published → Type 0
 Settles true p before after (Told lists) = Settled (p - 1) before after lists
 Settles true p before after OutOfMemory = Grew (p - 1) before after
 Settles true p before after NothingNew = ⊥

@@ -17,8 +17,8 @@ use Rattle.urb_group.specs.declared.state.State.TheVariants as state
 use Rattle.urb_group.specs.declared.taken.Taken.{Taken}
 use Rattle.urb_group.specs.declared.taken.Taken.TheVariants as taken
 use Rattle.urb_show.specs.declared.status.Status.{Status}
-use Rattle.urb_worker.specs.declared.stages.Stage.{Stage}
-use Rattle.urb_worker.specs.declared.stages.Stage.TheVariants as stage
+use Rattle.urb_worker.specs.declared.turn_stages.Stage.{Stage}
+use Rattle.urb_worker.specs.declared.turn_stages.Stage.TheVariants as stage
 
 -- whether the store has to keep a draft
 abbrev pub is_drafted : Stage → Bool
@@ -44,7 +44,7 @@ abbrev pub tick_stage : Result (List Carried) Refusal → Stage
 tick_stage (Ok packets) = stage.Answered (reply.Sent packets)
 tick_stage (Err r) = stage.Answered (reply.Refused r)
 
--- a crash of p: that p went down is the reply, or the crash is refused
+-- a crash of p: the reply says that p went down, or the crash is refused
 abbrev pub crash_stage : ℕ → Result (Unit {0}) Refusal → Stage
 crash_stage p (Ok done) = stage.Answered (reply.WentDown p)
 crash_stage p (Err r) = stage.Answered (reply.Refused r)

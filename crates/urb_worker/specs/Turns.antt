@@ -1,5 +1,6 @@
 -- What a turn does with the House and with its node's store.
-use Rattle.std.specs.Prelude.{Bool, Err, List, MatchResult, None, Ok, Option, Result, Some, Vec, false, length, true, ℕ, ◌-◌, ◌≡◌, ◌⊎◌, ltb}
+use Rattle.std.specs.Prelude.{Bool, Err, List, MatchResult, None, Ok, Option, Result, Some, Vec}
+use Rattle.std.specs.Prelude.{false, length, true, ℕ, ◌-◌, ◌≡◌, ◌⊎◌, ltb}
 use Rattle.std.specs.declared.alloc.Global.{Global}
 use Rattle.urb_names.specs.Carried.{Carried}
 use Rattle.urb_names.specs.Packets.{packet_of}
@@ -22,32 +23,35 @@ use Rattle.urb_group.specs.declared.reply.Reply.{Reply}
 use Rattle.urb_group.specs.declared.reply.Reply.TheVariants as reply
 use Rattle.urb_group.specs.declared.state.State.{State}
 use Rattle.urb_group.specs.declared.taken.Taken.{Taken}
-use Rattle.urb_show.specs.Housed.{Housed, IsEvent}
+use Rattle.urb_show.specs.Houses.{HouseView, IsEvent}
 use Rattle.urb_show.specs.Statuses.{TellsStatus}
 use Rattle.urb_show.specs.declared.status.Status.{Status}
 use Rattle.urb_worker.specs.Counting.{count_of}
 use Rattle.urb_worker.specs.Jobs.{node_of}
 use Rattle.urb_worker.specs.Settlings.{NothingNew, Published, Settles}
-use Rattle.urb_worker.specs.Stages.{commit_reply, crash_stage, fail_reply, image_stage, kept_stage, restart_reply, restart_stage, status_reply, taken_stage, tick_stage}
+use Rattle.urb_worker.specs.Stages.{commit_reply, crash_stage, fail_reply, image_stage, kept_stage}
+use Rattle.urb_worker.specs.Stages.{restart_reply, restart_stage, status_reply, taken_stage}
+use Rattle.urb_worker.specs.Stages.{tick_stage}
 use Rattle.urb_worker.specs.Views.{FinishedView, TurnView}
 use Rattle.urb_worker.specs.declared.job.Job.{Job}
 use Rattle.urb_worker.specs.declared.job.Job.TheVariants as job
-use Rattle.urb_worker.specs.declared.stages.Stage.{Stage}
-use Rattle.urb_worker.specs.declared.stages.Stage.TheVariants as stage
+use Rattle.urb_worker.specs.declared.turn_stages.Stage.{Stage}
+use Rattle.urb_worker.specs.declared.turn_stages.Stage.TheVariants as stage
 
 -- A call of the House: it counts as one event and publishes nothing. Or it was refused, and nothing
 -- changed.
-abbrev pub Counts : {T E : Type 0} → Result T E → Housed → Housed → Type 0
+abbrev pub Counts : {T E : Type 0} → Result T E → HouseView → HouseView → Type 0
 Counts result old new = MatchResult result (λ done. IsEvent old new) (λ refused. new ≡ old)
 
 -- ---- before the store
 
 -- The job's event in the House, the turn's stage after it, and its number of events. A restart and
 -- a status have no event here: if its node is down, a restart asks the store first.
-abbrev pub Begins : Housed → Job → Housed → Stage → ℕ → Type 0
+abbrev pub Begins : HouseView → Job → HouseView → Stage → ℕ → Type 0
 Begins old (job.Submit p client number payload) new at events =
     (r : Result (Taken Global) Refusal)
-    × Takes old.group p (Submit p (record { client = client; number = number; payload = payload.items })) r new.group
+    × Takes old.group p (Submit p (record { client = client; number = number; payload = payload }))
+    r new.group
     × Counts r old new × (at ≡ taken_stage r) × (events ≡ count_of r)
 Begins old (job.Arrive p bytes) new at events =
     (r : Result (Taken Global) Refusal)
@@ -70,7 +74,8 @@ Begins old (job.Status p) new at events = (new ≡ old) × (at ≡ stage.Asking)
 
 -- the result of keeping a draft belongs to this draft
 abbrev pub IsKeptOf : Placed → Result Placed Doubted → Type 0
-IsKeptOf draft result = MatchResult result (λ receipt. receipt ≡ draft) (λ doubt. doubt.node ≡ draft.node)
+IsKeptOf draft result =
+    MatchResult result (λ receipt. receipt ≡ draft) (λ doubt. doubt.node ≡ draft.node)
 
 -- the result of retrieving, as its records
 abbrev pub records_of : Result (Vec Entry Global) StoreFault → Result (List Entry) StoreFault
@@ -81,9 +86,11 @@ module _ {S A : Type 0} (g : Ghosts S A) where
   -- A draft is kept, or an image is retrieved. In all other stages the store is not asked.
   abbrev pub Stores : S → Stage → S → Stage → Type 0
   Stores before (stage.Drafted draft) after new =
-      (r : Result Placed Doubted) × IsKeptOf draft r × Keeps g before draft (answer_of r) after × (new ≡ kept_stage r)
+      (r : Result Placed Doubted) × IsKeptOf draft r × Keeps g before draft (answer_of r) after
+      × (new ≡ kept_stage r)
   Stores before stage.Retrieving after new =
-      (r : Result (Vec Entry Global) StoreFault) × Gives g before (records_of r) after × (new ≡ image_stage r)
+      (r : Result (Vec Entry Global) StoreFault) × Gives g before (records_of r) after
+      × (new ≡ image_stage r)
   Stores before (stage.Kept receipt) after new = (after ≡ before) × (new ≡ stage.Kept receipt)
   Stores before (stage.Doubtful doubt) after new = (after ≡ before) × (new ≡ stage.Doubtful doubt)
   Stores before (stage.Retrieved image) after new = (after ≡ before) × (new ≡ stage.Retrieved image)
@@ -103,25 +110,30 @@ has_released (Ok done) = ltb 0 done.released
 has_released (Err refused) = false
 
 -- The last event in the House of a turn in this stage, and its results. The results are the reply,
--- and the node's status if the job asked for it; what became of the names that the turn released;
--- and the number of events.
-abbrev pub Ends : Housed → Job → Stage → Housed → Reply Global → Option Status → Published → ℕ → Type 0
+-- the node's status if the job asked for it, and the number of events. They also say whether the
+-- names that the turn released were published.
+abbrev pub Ends : HouseView → Job → Stage → HouseView → Reply Global → Option Status → Published → ℕ
+    → Type 0
 Ends old job (stage.Kept receipt) new said status settling events =
-    (r : Result Done (Placed × Refusal)) × (between : Housed)
+    (r : Result Done (Placed × Refusal)) × (between : HouseView)
     × Commits old.group receipt r between.group × Counts r old between
     × Settles (has_released r) receipt.node between new settling
     × (said ≡ commit_reply r) × (status ≡ None) × (events ≡ count_of r)
 Ends old job (stage.Doubtful doubt) new said status settling events =
     (r : Result (Unit {0}) Refusal)
     × GoesDown old.group doubt.node (Fail doubt.node) r new.group × Counts r old new
-    × (said ≡ fail_reply doubt.fault r) × (status ≡ None) × (settling ≡ NothingNew) × (events ≡ count_of r)
+    × (said ≡ fail_reply doubt.fault r) × (status ≡ None) × (settling ≡ NothingNew)
+    × (events ≡ count_of r)
 Ends old job (stage.Retrieved image) new said status settling events =
-    (r : Result (Unit {0}) Refusal) × (between : Housed)
-    × ComesUp old.group (node_of job) (Restart (node_of job) image.items) r between.group × Counts r old between
-    × Settles (ltb (logged old.group (node_of job)) (logged between.group (node_of job))) (node_of job) between new settling
+    (r : Result (Unit {0}) Refusal) × (between : HouseView)
+    × ComesUp old.group (node_of job) (Restart (node_of job) image.items) r between.group
+    × Counts r old between
+    × Settles (ltb (logged old.group (node_of job)) (logged between.group (node_of job)))
+    (node_of job) between new settling
     × (said ≡ restart_reply (node_of job) r) × (status ≡ None) × (events ≡ count_of r)
 Ends old job (stage.Unread fault) new said status settling events =
-    (new ≡ old) × (said ≡ reply.Refused (refusal_of fault)) × (status ≡ None) × (settling ≡ NothingNew) × (events ≡ 0)
+    (new ≡ old) × (said ≡ reply.Refused (refusal_of fault)) × (status ≡ None)
+    × (settling ≡ NothingNew) × (events ≡ 0)
 Ends old job stage.Asking new said status settling events =
     (new ≡ old) × TellsStatus old.group (node_of job) status
     × (said ≡ status_reply (node_of job) status) × (settling ≡ NothingNew) × (events ≡ 0)
@@ -131,34 +143,40 @@ Ends old job (stage.Drafted draft) new said status settling events = ⊥
 Ends old job stage.Retrieving new said status settling events = ⊥
 
 -- the turn ends in this way, after the events that it had before
-abbrev pub Finishes : Housed → TurnView → Housed → FinishedView → Type 0
+abbrev pub Finishes : HouseView → TurnView → HouseView → FinishedView → Type 0
 Finishes old turn new finished =
-    Ends old turn.job turn.stage new finished.reply finished.status finished.settling (finished.events - turn.events)
+    Ends old turn.job turn.stage new finished.reply finished.status finished.settling
+    (finished.events - turn.events)
 
 -- ---- the whole of a turn, whatever its store is
 
 -- from the stage before the store's part to a stage that the turn may have after it, whatever its
 -- store is
 abbrev pub Goes : Stage → Stage → Type 0
-Goes (stage.Drafted draft) after = (after ≡ stage.Drafted draft) ⊎ ((r : Result Placed Doubted) × IsKeptOf draft r × (after ≡ kept_stage r))
-Goes stage.Retrieving after = (after ≡ stage.Retrieving) ⊎ ((r : Result (Vec Entry Global) StoreFault) × (after ≡ image_stage r))
+Goes (stage.Drafted draft) after =
+    (after ≡ stage.Drafted draft)
+    ⊎ ((r : Result Placed Doubted) × IsKeptOf draft r × (after ≡ kept_stage r))
+Goes stage.Retrieving after =
+    (after ≡ stage.Retrieving) ⊎ ((r : Result (Vec Entry Global) StoreFault)
+    × (after ≡ image_stage r))
 Goes before after = after ≡ before
 
 -- a turn of this job began at some moment of the House, and is in this stage
 abbrev pub HasBegun : Job → Stage → Type 0
 HasBegun job after =
-    (old new : Housed) × (at : Stage) × (events : ℕ)
+    (old new : HouseView) × (at : Stage) × (events : ℕ)
     × IsSound old.group × Begins old job new at events × Goes at after
 
 -- A turn of this job began at a moment of the House. Its store did its part, and the turn ended
 -- with these results at a later moment.
 abbrev pub CameOf : Job → Reply Global → Option Status → Published → Type 0
 CameOf job said status settling =
-    (at : Stage) × (old new : Housed) × (events : ℕ)
+    (at : Stage) × (old new : HouseView) × (events : ℕ)
     × IsSound old.group × HasBegun job at × Ends old job at new said status settling events
 
 -- The outcome of a job. If it ran, these are its turn's results. Otherwise it is refused in the way
 -- that a job for a missing node is.
 abbrev pub IsOutcome : Bool → Job → Reply Global → Option Status → Published → Type 0
 IsOutcome true job said status settling = CameOf job said status settling
-IsOutcome false job said status settling = (said ≡ reply.Refused refusal.BadNode) × (status ≡ None) × (settling ≡ NothingNew)
+IsOutcome false job said status settling =
+    (said ≡ reply.Refused refusal.BadNode) × (status ≡ None) × (settling ≡ NothingNew)

@@ -5,7 +5,7 @@ use Rattle.urb_group.specs.declared.reply.Reply.{Reply}
 use Rattle.urb_show.specs.declared.status.Status.{Status}
 use Rattle.urb_worker.specs.Settlings.{Published}
 use Rattle.urb_worker.specs.declared.job.Job.{Job}
-use Rattle.urb_worker.specs.declared.stages.Stage.{Stage}
+use Rattle.urb_worker.specs.declared.turn_stages.Stage.{Stage}
 
 -- a job that has begun, its stage, and its number of events
 pub record TurnView : Type 0 where
@@ -14,7 +14,7 @@ pub record TurnView : Type 0 where
   pub events : ℕ
 
 -- A job, its reply, whether it ran, and its number of events. Also its node's status if the job
--- asked for it, and what became of the names that the turn released.
+-- asked for it, and whether the names that the turn released were published.
 pub record FinishedView : Type 0 where
   pub job : Job
   pub reply : Reply Global

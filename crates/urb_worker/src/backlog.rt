@@ -1,18 +1,19 @@
 //! The backlog of a receiver: datagrams that wait for room in its worker's channel.
 
-ghost use Rattle.std.specs.Prelude.{◌≡◌, ◌≤◌, ◌+◌, ◌↔◌, [], ◌∷◌, ◌++◌, IfErr, IsTrue, MatchOption, OnErr, OnOk};
+ghost use Rattle.std.specs.Prelude.{◌≡◌, ◌≤◌, ◌+◌, ◌↔◌, [], ◌∷◌, ◌++◌, IfErr, IsTrue, MatchOption};
+ghost use Rattle.std.specs.Prelude.{OnErr, OnOk};
 ghost use Rattle.urb_worker.specs.Backlogs.{room_of, room_of_all};
 
 use std::alloc::Global;
 use std::collections::VecDeque;
 use std::marker::Model;
 
-/// The most room that the datagrams of a backlog take together, in bytes.
+/// The greatest room that the datagrams of a backlog take together, in bytes.
 pub const BACKLOG: usize = 4_194_304;
 
-/// The room that a datagram takes beside its bytes, in bytes. It covers its place in the queue,
-/// which may have twice the places that it needs, and what the allocator adds to a block. So empty
-/// datagrams are bounded too.
+/// The overhead that is counted for each datagram, in bytes. It covers the datagram's place in the
+/// queue, which may have twice the places that it needs, and what the allocator adds to a block. So
+/// empty datagrams are bounded too.
 pub const KEEPING: usize = 64;
 
 /// Datagrams that wait, the oldest first. The bound is on the room that they take, not on their
@@ -32,7 +33,8 @@ impl Model for Backlog {
 
     ghost view = { λ b. map (λ datagram. datagram.items) b.waiting.items };
 
-    ghost invariant = { λ b. (b.room ≡ room_of_all (map (λ datagram. datagram.items) b.waiting.items))
+    ghost invariant = { λ b. (b.room ≡ room_of_all
+        (map (λ datagram. datagram.items) b.waiting.items))
         × (b.room ≤ BACKLOG) };
 }
 
@@ -71,8 +73,8 @@ impl Backlog {
         length <= free && KEEPING <= free - length
     }
 
-    /// Puts a datagram behind all others. If there is no room for it, or memory is refused, the
-    /// datagram is handed back and nothing has changed.
+    /// Puts a datagram after all others. If there is no room for it, or memory is refused, the
+    /// datagram is returned and nothing has changed.
     pub fn push(&mut self, datagram: Vec<u8>) -> Result<(), Vec<u8>>
         ensures last { OnOk result (self.new ≡ self.old ++ datagram.items ∷ []) }
         ensures room { OnOk result (room_of_all self.old + room_of datagram.items ≤ BACKLOG) }

@@ -1,4 +1,4 @@
-//! Whether a turn took its node down or brought it back, and who hears of it.
+//! Whether a turn took its node down or brought it back, and the reporter of such changes.
 
 ghost use Rattle.std.specs.Prelude.{◌≡◌};
 ghost use Rattle.urb_worker.specs.Changes.{change_of, crash_by, failure_by, return_by};
@@ -11,7 +11,7 @@ use urb_show::HouseName;
 /// How a turn changed whether its node is up.
 #[derive(Clone, Copy, Debug, PartialEq, Eq)]
 pub enum Change {
-    /// The node's store failed, so the node went down. The refusal tells of the fault.
+    /// The node's store failed, so the node went down. The refusal reports the fault.
     Failed(NodeId, Refusal),
     /// The node was asked to crash, and went down.
     Crashed(NodeId),
@@ -19,8 +19,8 @@ pub enum Change {
     CameBack(NodeId),
 }
 
-/// Hears of each node that goes down or comes back: for operators. A running group's workers call it on their threads, after
-/// the turn that changed the node and before its answer.
+/// Reports each node that goes down or comes back, for operators. A running group's workers call it
+/// on their threads, after the turn that changed the node and before its answer.
 pub trait Reporter {
     fn report(&self, change: Change);
 }
@@ -63,8 +63,9 @@ fn return_by(node: NodeId, reply: &Reply) -> Option<Change>
     }
 }
 
-/// How a turn changed whether its node is up; none if it did not, or if it did not run. A turn drafts a record by one event, and
-/// a store that fails is a second one, so a refusal after two events is that of the store. A status changes nothing.
+/// How a turn changed whether its node is up. `None` if it didn't, or if it didn't run. A turn
+/// drafts a record by one event, and a store that fails is a second event. So a refusal after two
+/// events comes from the store. A status changes nothing.
 pub fn change_of<K: HouseName>(finished: &Finished<K>) -> Option<Change>
     ensures { result ≡ change_of finished.now }
 {

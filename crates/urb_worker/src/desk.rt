@@ -1,13 +1,14 @@
 //! The desk of a running node: it passes requests to the node's worker, and does reads itself.
 
 ghost use Rattle.std.specs.Prelude.{◌≡◌, ◌⊎◌, ◌≤◌, ◌↔◌, IfOk, IsTrue, OnErr, length};
+ghost use Rattle.urb_client.specs.declared.format.TheConstants.{MOST_ENTRIES};
 ghost use Rattle.urb_client.specs.Requests.{asked_by};
 ghost use Rattle.urb_client.specs.Responses.{said_by};
-ghost use Rattle.urb_show.specs.Known.{Takes};
+ghost use Rattle.urb_show.specs.Readers.{Takes};
 ghost use Rattle.urb_worker.specs.Desks.{IsJobOf, IsWork, LearnsTold, Reads, Tells, Works, told_of};
 ghost use Rattle.urb_worker.specs.Settlings.{told_in};
 
-use crate::responses::{nobody, page_told, told};
+use crate::responses::{down_response, response_to_read, response_to_turn};
 use crate::{Finished, Job, Ticket};
 use crossbeam_channel::{SendError, Sender};
 use std::alloc::Global;
@@ -25,7 +26,7 @@ pub struct NodeDesk<'a, K: HouseName, R: Wait> {
     rt: &'a R,
     alloc: Global,
     node: NodeId,
-    line: &'a Sender<Ticket<K>>,
+    queue: &'a Sender<Ticket<K>>,
     reader: LogReader<K>,
 }
 
@@ -41,12 +42,12 @@ impl<'a, K: HouseName, R: Wait> Model for NodeDesk<'a, K, R> {
 }
 
 impl<'a, K: HouseName, R: Wait> NodeDesk<'a, K, R> {
-    /// The desk of a node. Its worker is at the other end of `line`, the worker's queue.
+    /// The desk of a node. Its worker is at the other end of `queue`, the worker's queue.
     pub fn new(
         rt: &'a R,
         alloc: Global,
         node: NodeId,
-        line: &'a Sender<Ticket<K>>,
+        queue: &'a Sender<Ticket<K>>,
         reader: LogReader<K>,
     ) -> NodeDesk<'a, K, R>
         requires { node ≤ length K.base }
@@ -56,12 +57,12 @@ impl<'a, K: HouseName, R: Wait> NodeDesk<'a, K, R> {
             rt,
             alloc,
             node,
-            line,
+            queue,
             reader,
         }
     }
 
-    // What a request asks, as a job at the desk's node.
+    // The job at the desk's node that does what a request asks.
     fn job_of(&self, request: &Request) -> Result<Job, NoMemory>
         requires { IsWork (asked_by request.now) }
         ensures { IfOk result (λ job. IsJobOf self.now.node (asked_by request.now) job) }
@@ -77,7 +78,7 @@ impl<'a, K: HouseName, R: Wait> NodeDesk<'a, K, R> {
                 node,
                 client: *client,
                 number: *number,
-                payload: Vec::from_slice(self.alloc, payload.as_slice())?,
+                payload: payload.share(self.alloc)?,
             }),
             Request::Status => Ok(Job::Status(node)),
             Request::Crash => Ok(Job::Crash(node)),
@@ -85,14 +86,14 @@ impl<'a, K: HouseName, R: Wait> NodeDesk<'a, K, R> {
         }
     }
 
-    // The worker's result of a job. `None` if the worker is gone.
-    fn finished(&self, job: Job) -> Result<Option<Finished<K>>, NoMemory> {
+    // Sends a job to the worker, and returns the result. `None` if the worker has ended.
+    fn ask_worker(&self, job: Job) -> Result<Option<Finished<K>>, NoMemory> {
         let (to, from) = crossbeam_channel::bounded(self.alloc, 1)?;
         let ticket = Ticket {
             job,
             answer: Some(to),
         };
-        match self.line.send(self.rt, ticket) {
+        match self.queue.send(self.rt, ticket) {
             Ok(()) => Ok(from.recv(self.rt).ok()),
             Err(SendError::Disconnected(_)) => Ok(None),
             Err(SendError::OutOfMemory(_)) => Err(NoMemory),
@@ -111,32 +112,32 @@ impl<'a, K: HouseName, R: Wait> NodeDesk<'a, K, R> {
     }
 
     // The response for a turn, after the reader has learnt what the turn published.
-    fn answered(&mut self, finished: Finished<K>) -> Response
+    fn respond_to_turn(&mut self, finished: Finished<K>) -> Response
         ensures node { self.new.node ≡ self.old.node }
         ensures learnt { LearnsTold (told_in finished.settling) self.old.known self.new.known }
         ensures said { said_by result ≡ told_of finished.reply finished.status }
     {
         let (reply, status, lists) = finished.into_parts();
         self.learn(lists);
-        told(&reply, status)
+        response_to_turn(&reply, status)
     }
 
     // Turns the worker's result into the client's response, after the reader has learnt what was
     // published. If there is no result, or the result is of another job, the response is the
     // refusal `Down`.
-    fn come_of(&mut self, request: &Request, came: Option<Finished<K>>) -> Response
+    fn respond(&mut self, request: &Request, came: Option<Finished<K>>) -> Response
         ensures node { self.new.node ≡ self.old.node }
         ensures works { Works self.old (asked_by request.now) (said_by result) self.new }
     {
         match came {
             Some(finished) => {
                 if is_job_of(self.node, request, finished.job()) {
-                    self.answered(finished)
+                    self.respond_to_turn(finished)
                 } else {
-                    nobody()
+                    down_response()
                 }
             }
-            None => nobody(),
+            None => down_response(),
         }
     }
 
@@ -149,22 +150,22 @@ impl<'a, K: HouseName, R: Wait> NodeDesk<'a, K, R> {
         ensures refused { OnErr result (self.new ≡ self.old) }
     {
         let job = self.job_of(request)?;
-        let came = self.finished(job)?;
-        Ok(self.come_of(request, came))
+        let came = self.ask_worker(job)?;
+        Ok(self.respond(request, came))
     }
 
     // Reads the node's published list.
     fn read(&mut self, place: u32, max: u8) -> Result<Response, NoMemory>
-        requires { (1 ≤ place) × (max ≤ 8) }
+        requires { (1 ≤ place) × (max ≤ MOST_ENTRIES) }
         ensures answered { IfOk result (λ response. (self.new.node ≡ self.old.node)
             × Reads self.old place max (said_by response) self.new) }
         ensures refused { OnErr result ((self.new.node ≡ self.old.node)
             × ((self.new.known ≡ self.old.known) ⊎ Takes self.old.known self.new.known)) }
     {
         match self.reader.read(self.alloc, self.node, place, max) {
-            Ok(page) => page_told(self.alloc, page.entries),
+            Ok(page) => response_to_read(self.alloc, page.entries),
             Err(ReadFault::NoMemory) => Err(NoMemory),
-            Err(ReadFault::Gone) => Ok(nobody()),
+            Err(ReadFault::Gone) => Ok(down_response()),
         }
     }
 }

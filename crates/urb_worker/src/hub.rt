@@ -1,12 +1,12 @@
-//! The Hub: the lock round the House, and one job done with it.
+//! The Hub: the lock around the House, and one job done with it.
 
 ghost use Rattle.std.specs.Prelude.{◌≡◌, ◌+◌, ◌<◌, ◌≤◌, ◌^◌, IfOk, IfErr, sum, vec_len};
 ghost use Rattle.urb_worker.specs.Counting.{count_after};
 ghost use Rattle.urb_worker.specs.Jobs.{runs_at};
-ghost use Rattle.urb_worker.specs.Whole.{Does};
+ghost use Rattle.urb_worker.specs.WholeTurns.{Does};
 
-use crate::tallied::TalliedHouse;
-use crate::tally::{HubName, Tally};
+use crate::counting::counted_house::CountedHouse;
+use crate::counting::tally::{HubName, Tally};
 use crate::{Finished, Job};
 use std::alloc::Global;
 use std::sync::ledger::Blank;
@@ -15,8 +15,8 @@ use urb_names::{NoMemory, NodeId};
 use urb_show::{House, HouseName};
 use urb_stable::Stable;
 
-/// A worker asks it before its store keeps a draft, and holds no lock meanwhile. Tests use it to
-/// hold a store back.
+/// A worker calls it before its store keeps a draft, and holds no lock meanwhile. Tests use it to
+/// delay a store.
 pub trait Gate {
     fn before_store(&self, node: NodeId);
 }
@@ -32,12 +32,12 @@ impl Gate for OpenGate {
 /// The House, lent to one worker at a time. It isn't `Drop`, because the House isn't: `close` ends
 /// it.
 pub struct Hub<K: HouseName, L: HubName> {
-    tallied: Mutex<TalliedHouse<K, L>>,
+    tallied: Mutex<CountedHouse<K, L>>,
 }
 
 impl<K: HouseName, L: HubName> Hub<K, L> {
-    /// A Hub of the House, and a tally for each node's worker. If memory is refused, the House
-    /// comes back.
+    /// Makes a Hub of the House, and a tally for each node's worker. If memory is refused, the
+    /// House is returned.
     pub fn new(
         alloc: Global,
         house: House<K>,
@@ -56,9 +56,9 @@ impl<K: HouseName, L: HubName> Hub<K, L> {
         };
         let (book, mut rest) = blank.open::<L>();
         for _i in 0..nodes {
-            tallies.push_reserved(Tally::one(&mut rest));
+            tallies.push_reserved(Tally::split_one(&mut rest));
         }
-        let tallied = Mutex::new(TalliedHouse::new(house, book, rest));
+        let tallied = Mutex::new(CountedHouse::new(house, book, rest));
         Ok((Hub { tallied }, tallies))
     }
 
@@ -66,8 +66,9 @@ impl<K: HouseName, L: HubName> Hub<K, L> {
     /// two events: the lock is free while the store works. If the job needs nothing from the store,
     /// both events are done at once.
     ///
-    /// The turn says which houses these events took and left, and what the store did in between. If
-    /// the reply is that a record is stored, this store took it. The store stays that of the node.
+    /// The clause `turn` says what these events did to the House, and what the store did in
+    /// between. If the reply says that a record is stored, this store took it. The store still
+    /// matches its node.
     pub fn work<S: Stable<Alloc = Global>, G: Gate, R: Wait>(
         &self,
         rt: &R,

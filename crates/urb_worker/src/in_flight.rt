@@ -6,9 +6,9 @@ use std::sync::atomic::{AtomicBool, AtomicU64, Ordering};
 use std::thread;
 use std::time::{Clock, Duration};
 
-/// How much may be in flight to one node before its senders wait, in bytes. Linux gives a socket
-/// 212,992 bytes at first. It counts more than a datagram's length against them: at most twice that
-/// of a long one, and some 800 bytes for a short one. So what is in flight fits with a margin.
+/// How much may be in flight to one node before its senders wait, in bytes. By default Linux gives
+/// a socket 212,992 bytes. It counts more than a datagram's length: at most twice the length of a
+/// long one, and some 800 bytes for a short one. So what is in flight fits with a margin.
 pub const MOST_IN_FLIGHT: u64 = 65_536;
 
 /// How much is added to a datagram's length when it is counted, in bytes. Linux adds less than this
@@ -21,7 +21,7 @@ const PAUSE: u64 = 100;
 // How many times a sender checks for room. After that it sends anyway.
 const PATIENCE: u32 = 1_000;
 
-// What a datagram of this length counts for: its length and `CARRYING`.
+// The load of a datagram of this length: the length plus `CARRYING`.
 fn load_of(length: usize) -> u64
     requires { length < 2 ^ 63 }
     ensures { result ≡ length + CARRYING }
@@ -29,7 +29,7 @@ fn load_of(length: usize) -> u64
     length as u64 + CARRYING
 }
 
-// Whether this load fits beside what is in flight.
+// Whether there is room for this load in addition to what is in flight (`there`).
 fn fits(there: u64, load: u64) -> bool
     ensures { IsTrue result ↔ (there + load ≤ MOST_IN_FLIGHT) }
 {
@@ -71,10 +71,11 @@ impl InFlight {
                 .is_ok()
     }
 
-    /// Counts a datagram of this length that is about to be sent. The call waits while there is no
-    /// room for the datagram, for at most a tenth of a second, or somewhat more if the machine is
-    /// busy. After a wait that found no room, no sender waits until the receiver takes a datagram
-    /// again. So a node that hangs delays its senders for about a tenth of a second in all.
+    /// Counts a datagram of this length that is about to be sent. While there is no room for the
+    /// datagram, the call waits. It waits for at most a tenth of a second, or somewhat more if the
+    /// machine is busy. After a wait that found no room, no sender waits until the receiver takes a
+    /// datagram again. So a node that hangs delays its senders for about a tenth of a second in
+    /// all.
     pub fn enter<R: Clock>(&self, rt: &R, length: usize)
         requires { length < 2 ^ 63 }
     {
@@ -92,8 +93,8 @@ impl InFlight {
         self.load.fetch_add(load, Ordering::SeqCst);
     }
 
-    /// From now on no sender waits, until the receiver takes a datagram again. A receiver calls
-    /// this when it ends, so that from then on nobody waits for it.
+    /// Stops the waiting of senders, until the receiver takes a datagram again. A receiver calls
+    /// this when it ends, so that from then on no sender waits for it.
     pub fn give_up(&self) {
         self.is_stuck.store(true, Ordering::SeqCst);
     }

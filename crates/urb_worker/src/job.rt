@@ -3,7 +3,7 @@
 ghost use Rattle.std.specs.Prelude.{◌≡◌};
 ghost use Rattle.urb_worker.specs.Jobs.{node_of, runs_at};
 
-use urb_names::{ClientId, NodeId};
+use urb_names::{ClientId, NodeId, Payload};
 
 /// One thing to do at a node, for a client, a link, a timer or an operator.
 #[derive(Debug, Drop)]
@@ -13,7 +13,7 @@ pub enum Job {
         node: NodeId,
         client: ClientId,
         number: u32,
-        payload: Vec<u8>,
+        payload: Payload,
     },
     /// Bytes arrive at the node. Any bytes may come.
     Arrive {
@@ -24,7 +24,7 @@ pub enum Job {
     Tick(NodeId),
     /// The node stops, and loses what it has not stored. Any worker may do it.
     Crash(NodeId),
-    /// The node, which is down, restarts with what its store gives back.
+    /// The node, which is down, restarts with what its store returns.
     Restart(NodeId),
     /// Asks for the node's status. It is no event.
     Status(NodeId),

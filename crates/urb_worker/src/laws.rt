@@ -1,4 +1,4 @@
-//! What follows from turns, one after the other and side by side.
+//! What follows from turns of one worker, and of several at the same time.
 //!
 //! These functions are for proofs alone, since they do nothing.
 
@@ -19,11 +19,11 @@ ghost use Rattle.urb_group.specs.declared.reply.Reply.TheVariants.{Refused, Stor
 ghost use Rattle.urb_worker.specs.Changes.{HasChanged, change_of};
 ghost use Rattle.urb_worker.specs.Jobs.{runs_at};
 ghost use Rattle.urb_worker.specs.Views.{FinishedView};
-ghost use Rattle.urb_worker.specs.Whole.{IsStoreAt, IsTurn, LeavesAt, Waits};
+ghost use Rattle.urb_worker.specs.WholeTurns.{IsStoreAt, IsTurn, LeavesAt, Waits};
 ghost use Rattle.urb_worker.specs.declared.change.Change.{Change};
 ghost use Rattle.urb_worker.specs.declared.change.Change.TheVariants.{Failed};
 ghost use Rattle.urb_worker.specs.declared.job.Job.{Job};
-ghost use Rattle.urb_worker.specs.declared.stages.Stage.TheVariants.{Doubtful, Drafted, Kept};
+ghost use Rattle.urb_worker.specs.declared.turn_stages.Stage.TheVariants.{Doubtful, Drafted, Kept};
 
 use std::alloc::Global;
 use urb_stable::Stable;
@@ -38,8 +38,8 @@ pub fn what_is_told_as_stored_is_kept<S: Stable<Alloc = Global>>()
         × (S.is_honest after → S.certain after ≡ S.certain before ++ draft.entry ∷ []) }
 {}
 
-/// What `change_of` tells of a turn has happened in it. And it tells of each store that failed, unless its node had gone down
-/// before: then the turn is stale.
+/// What `change_of` reports about a turn has happened in it. It reports each store that failed,
+/// unless its node had gone down before: then the turn is stale.
 pub fn what_is_reported_has_happened<S: Stable<Alloc = Global>>()
     ensures happened { (job : Job) (before after : S) (came : FinishedView) (change : Change)
         (turn : IsTurn S.Stable job before after came)
@@ -55,7 +55,7 @@ pub fn what_is_reported_has_happened<S: Stable<Alloc = Global>>()
         → change_of came ≡ Some (Failed doubt.node (refusal_of doubt.fault)) }
 {}
 
-/// What the turns of other workers make of a node is no more than a crash.
+/// The turns of other workers do no more to a node than crash it.
 pub fn other_workers_let_a_node_wait<S: Stable<Alloc = Global>>()
     ensures turn { (n m : ℕ) (job : Job) (before after : S) (came : FinishedView)
         (turn : IsTurn S.Stable job before after came)
@@ -68,8 +68,8 @@ pub fn other_workers_let_a_node_wait<S: Stable<Alloc = Global>>()
         → Waits n first second → Waits n second third → Waits n first third }
 {}
 
-/// While a node waits, its store stays its own, and a stop leaves what it may leave of the node.
-/// Each store of a cluster that was opened is that of its node.
+/// While a node waits, its store still matches it, and a stop leaves what it may leave of the node.
+/// Each store of an opened cluster matches its node.
 pub fn a_store_stays_that_of_its_node<S: Stable<Alloc = Global>>()
     ensures opened { (cluster : Clustered S) (i : ℕ) (store : S)
         → IsSecured S.Stable cluster
@@ -89,7 +89,7 @@ pub fn a_store_stays_that_of_its_node<S: Stable<Alloc = Global>>()
 {}
 
 /// What a stop of all nodes may leave, node by node, fits together. It opens a group that goes on
-/// from the point that this one had reached.
+/// from where this one was.
 pub fn a_stop_of_all_nodes_is_survived()
     ensures { (group : GroupView) (images : ℕ → List Entry)
         → IsSound group

@@ -1,81 +1,83 @@
 //! Workers: a node's jobs, done on a House that threads share.
 //!
-//! Each node has one worker, and the worker has the node's store. It does its jobs in turns. A turn
-//! is an event of the House, then the store's part, then an event of the House with the store's
-//! result. The House is under the lock of a `Hub`. A worker holds the lock for the two events. It
-//! never holds it while a store works, a packet is sent or an answer is given. So the stores of
-//! several nodes work at the same time. Each worker has a `Tally` of its events. When all tallies
-//! are back, the Hub gives back a House that has counted exactly these events.
+//! Each node has one worker, which owns the node's store. The worker does the node's jobs in turns.
+//! A turn is an event of the House, then the store's part, then an event of the House with the
+//! store's result. The House is under the lock of a `Hub`. A worker holds the lock for the two
+//! events. It never holds it while a store works, a packet is sent or an answer is given. So the
+//! stores of several nodes work at the same time. Each worker has a `Tally` of its events. Once all
+//! tallies are returned, the Hub returns a House that has counted exactly these events.
 //!
 //! How the calls go together, in a function that is generic over the names of the House and of the
 //! Hub, `K` and `L`:
 //!
 //! ```text
 //! let (hub, tallies) = Hub::<K, L>::new(alloc, house, blank)?;   // a tally for each node
-//! let (line, jobs) = crossbeam_channel::bounded(alloc, 64)?;     // for each node
+//! let (queue, jobs) = crossbeam_channel::bounded(alloc, 64)?;     // for each node
 //! // on threads of their own:
-//! let tally = serve(rt, alloc, &hub, node, store, jobs, &link, &OpenGate, tally);   // until all lines are dropped
-//! receive(rt, alloc, &stop, node, &station, &line);              // a node's datagrams, until the stop is set
-//! timer(rt, &stop, 100, &lines);                                 // a tick at each node every 100 milliseconds
-//! let mut desk = NodeDesk::new(rt, alloc, node, &line, reader);  // for sessions of clients
-//! // at the end: set the stop, wake the receivers, drop the lines, join all
+//! let setting = WorkerSetting::new(rt, alloc, &hub, &link, &OpenGate, &Silent);
+//! let tally = serve_from(&setting, node, &mut store, jobs, tally);  // until the queues are dropped
+//! receive(rt, alloc, &stop, node, &station, &queue);              // a node's datagrams
+//! timer(rt, &stop, 100, &queues);                                 // a tick at each node each 100 ms
+//! let mut desk = NodeDesk::new(rt, alloc, node, &queue, reader);  // for sessions of clients
+//! // at the end: set the stop, wake the receivers, drop the queues, join all
 //! let house = hub.close(tallies);
 //! ```
 //!
-//! A *line* is a queue: the sending end of a worker's channel. `run_group` does all of this for a
-//! group that was opened: it starts the threads, and ends them when its `Watch` returns. Workers
-//! run in an outer scope. What sends them tickets runs in an inner scope, which owns the lines.
-//! When the inner scope ends, the lines are dropped. So the workers end, and their stores and
-//! tallies come back.
+//! A queue is the sending end of a worker's channel. `run_group` does all of this for a group that
+//! was opened: it starts the threads, and ends them when its `Watch` returns. Workers run in an
+//! outer scope. The listeners, which send them tickets, run in an inner scope, which owns the
+//! queues. When the inner scope ends, the queues are dropped. So the workers end, and return their
+//! stores and tallies.
 //!
-//! `Outgoing` is for code that answers lines or frames: the answers go out together, and before a
-//! read that may wait.
+//! `BufferedAnswers` is for code that answers lines or frames: it sends the answers together, and
+//! before a read that may wait.
 //!
 //! No proof says that a thread runs, that a message comes or that a wait ends: tests show it. A
 //! worker waits for tickets and for the lock. The lock's holder waits for readers that are in the
-//! midst of a read, and these wait for nobody.
+//! middle of a read, and these wait for nobody.
 #![tactic(auto)]
 
 mod backlog;
+mod buffered_answers;
 mod change;
+mod counting;
 mod desk;
 mod hub;
 mod in_flight;
 mod job;
 pub mod laws;
 mod links;
-mod looks;
-mod outside;
-mod pacing;
-mod receiving;
+mod listeners;
+mod polling;
+mod receiver;
 mod responses;
-mod running;
-mod serving;
 mod settling;
-mod staff;
-mod stages;
+mod spares;
 mod stations;
 mod stop;
-mod tallied;
-mod tally;
-mod ticking;
+mod tick_timer;
 mod turn;
+mod turn_stages;
+mod worker_group;
+mod worker_loop;
+mod worker_threads;
 
 pub use backlog::{BACKLOG, Backlog, KEEPING};
+pub use buffered_answers::{BufferedAnswers, BufferedWriter, FlushingInput};
 pub use change::{Change, Reporter, Silent, change_of};
+pub use counting::tally::{HubName, Tally};
 pub use desk::NodeDesk;
 pub use hub::{Gate, Hub, OpenGate};
 pub use in_flight::{CARRYING, InFlight, MOST_IN_FLIGHT};
 pub use job::Job;
 pub use links::{Link, MemoryLink, PacedLink, UdpLink};
-pub use outside::Watch;
-pub use pacing::{Outgoing, PacedInput, PacedWriter};
-pub use receiving::receive;
-pub use running::run_group;
-pub use serving::{Ticket, serve, serve_from};
+pub use listeners::Watch;
+pub use receiver::receive;
 pub use settling::{Settling, Unsettled};
+pub use spares::{SPARES, Spares};
 pub use stations::{SESSIONS, Station};
 pub use stop::Stop;
-pub use tally::{HubName, Tally};
-pub use ticking::timer;
+pub use tick_timer::timer;
 pub use turn::{Finished, Turn};
+pub use worker_group::{GroupSetting, run_group};
+pub use worker_loop::{Ticket, WorkerSetting, serve, serve_from};

@@ -7,13 +7,17 @@ use std::alloc::Global;
 use std::net::{Ipv4Addr, UdpSocket};
 use std::sync::{Mutex, Wait};
 use std::time::Clock;
-use urb_names::{NoMemory, NodeId};
+use urb_names::{MAX_NODES, MAX_SENDERS, NoMemory, NodeId};
 
-/// Carries packets to nodes, as the book's fair-loss links do (section 2.4 of the book). A link
-/// answers nothing. A packet that can't be sent is lost, also if the cause is refused memory. A
-/// later tick may resend it.
+/// Carries packets to nodes, as the textbook's fair-loss links do (section 2.4 of the textbook). A
+/// link returns nothing. A packet that can't be sent is lost, also if the cause is refused memory.
+/// A later tick may resend it.
 pub trait Link {
     fn send(&self, target: NodeId, bytes: &[u8]);
+
+    /// Takes back the buffer of a datagram that its node has handled, so that a later datagram can
+    /// use it. A link that keeps no buffers drops it.
+    fn take_back(&self, _node: NodeId, _buffer: Vec<u8>) {}
 }
 
 /// Sends packets over UDP on this machine's loopback, each packet as one datagram.
@@ -42,7 +46,7 @@ impl Link for UdpLink {
 }
 
 /// Sends over another link. Before a packet it waits while too much is in flight to the packet's
-/// node, as `InFlight::enter` says. The receivers of the stations have to take what comes there.
+/// node, as `InFlight::enter` says. The receivers of the stations must take what arrives there.
 #[derive(Drop)]
 pub struct PacedLink<'a, N: Link, R: Clock> {
     rt: &'a R,
@@ -67,9 +71,15 @@ impl<'a, N: Link, R: Clock> Link for PacedLink<'a, N, R> {
         }
         self.link.send(target, bytes);
     }
+
+    fn take_back(&self, node: NodeId, buffer: Vec<u8>) {
+        if let Some(station) = self.stations.get(usize::from(node.number()) - 1) {
+            station.spares.put(buffer);
+        }
+    }
 }
 
-/// Puts packets into a mailbox in memory for each node. Tests use it, and empty the mailboxes.
+/// Puts packets into mailboxes in memory, one for each node. Tests use it, and empty the mailboxes.
 #[derive(Drop)]
 pub struct MemoryLink<'a, R: Wait> {
     rt: &'a R,
@@ -78,10 +88,10 @@ pub struct MemoryLink<'a, R: Wait> {
 }
 
 impl<'a, R: Wait> MemoryLink<'a, R> {
-    /// A link to nodes 1 to 7 with empty mailboxes.
+    /// A link to nodes 1 to `MAX_NODES` with empty mailboxes.
     pub fn new(rt: &'a R, alloc: Global) -> Result<MemoryLink<'a, R>, NoMemory> {
-        let mut mailboxes = Vec::with_capacity(alloc, 7)?;
-        for _ in 0..7u8 {
+        let mut mailboxes = Vec::with_capacity(alloc, MAX_SENDERS)?;
+        for _ in 0..MAX_NODES {
             mailboxes.push(Mutex::new(Vec::new(alloc)))?;
         }
         Ok(MemoryLink {

@@ -1,6 +1,7 @@
 //! The responses that clients get for their requests.
 
 ghost use Rattle.std.specs.Prelude.{◌≡◌, ◌≤◌, ◌++◌, IfOk, length, map};
+ghost use Rattle.urb_client.specs.declared.format.TheConstants.{MOST_ENTRIES};
 ghost use Rattle.urb_client.specs.Pages.{SaysPage};
 ghost use Rattle.urb_client.specs.Responses.{said_by};
 ghost use Rattle.urb_worker.specs.Desks.{gone, pair_of, said_of, told_of, told_state};
@@ -11,8 +12,8 @@ use urb_group::{Answer, Reply, State};
 use urb_names::{NoMemory, Refusal};
 use urb_show::{Entry, Status};
 
-// A node's state, as a response spells it.
-fn state_told(state: State) -> NodeState
+// A node's state, in the form that a response has.
+fn node_state_of(state: State) -> NodeState
     ensures { result ≡ told_state state }
 {
     match state {
@@ -23,14 +24,14 @@ fn state_told(state: State) -> NodeState
 }
 
 // The response if the worker or the House is gone.
-pub(crate) fn nobody() -> Response
+pub(crate) fn down_response() -> Response
     ensures { said_by result ≡ gone }
 {
     Response::refused(&Refusal::Down)
 }
 
 // The response for a reply.
-fn reply_told(reply: &Reply) -> Response
+fn response_to_reply(reply: &Reply) -> Response
     ensures { said_by result ≡ said_of reply.now }
 {
     match reply {
@@ -38,27 +39,28 @@ fn reply_told(reply: &Reply) -> Response
         Reply::Stored(done) if done.accepted => Response::Accepted(done.name.seq),
         Reply::Refused(refusal) => Response::refused(refusal),
         Reply::WentDown(_) | Reply::Up(_) => Response::Done,
-        Reply::Same(_) | Reply::Stored(_) | Reply::Drafted { .. } | Reply::Sent(_) => nobody(),
+        Reply::Same(_) | Reply::Stored(_) | Reply::Drafted { .. } | Reply::Sent(_) =>
+            down_response(),
     }
 }
 
 // The response for a turn.
-pub(crate) fn told(reply: &Reply, status: Option<Status>) -> Response
+pub(crate) fn response_to_turn(reply: &Reply, status: Option<Status>) -> Response
     ensures { said_by result ≡ told_of reply.now status }
 {
     match status {
         Some(status) => Response::Status {
-            state: state_told(status.state),
+            state: node_state_of(status.state),
             own: status.own,
             logged: status.logged,
         },
-        None => reply_told(reply),
+        None => response_to_reply(reply),
     }
 }
 
 // The response for a page.
-pub(crate) fn page_told(alloc: Global, entries: Vec<Entry>) -> Result<Response, NoMemory>
-    requires { length entries.items ≤ 8 }
+pub(crate) fn response_to_read(alloc: Global, entries: Vec<Entry>) -> Result<Response, NoMemory>
+    requires { length entries.items ≤ MOST_ENTRIES }
     ensures { IfOk result (λ response. SaysPage (map pair_of entries.items) (said_by response)) }
 {
     let mut pairs = Vec::with_capacity(alloc, entries.len())?;

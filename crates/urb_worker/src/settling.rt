@@ -1,4 +1,4 @@
-//! What became of the names that a turn released.
+//! Whether the names that a turn released were published.
 
 ghost use Rattle.std.specs.Prelude.{◌≡◌, ◌≤◌, true, length};
 ghost use Rattle.urb_worker.specs.Settlings.{Settles, published_by, told_in};
@@ -14,7 +14,7 @@ pub struct Unsettled {
 }
 
 impl Unsettled {
-    /// What the House answered.
+    /// What the House returned.
     pub fn cause(&self) -> NoMemory
         ensures { result ≡ self.now.cause }
     {
@@ -29,13 +29,13 @@ pub enum Settling<K: HouseName> {
     NothingNew,
     /// They are published. A reader that learns this sees them.
     Told(Told<K>),
-    /// Memory was refused. They are delivered, and the published lists stay; the next settling of the node that succeeds
-    /// publishes them.
+    /// Memory was refused. They are delivered, and the published lists stay; the next settling of
+    /// the node that succeeds publishes them.
     OutOfMemory(Unsettled),
 }
 
 impl<K: HouseName> Settling<K> {
-    /// What a reader learns of it: the published lists, if the node was settled.
+    /// What a reader can learn from it: the published lists, if the node was settled.
     pub fn into_told(self) -> Option<Told<K>>
         ensures { result ≡ told_in (published_by self) }
     {
@@ -46,7 +46,7 @@ impl<K: HouseName> Settling<K> {
     }
 }
 
-// Settles a node if names of it were released.
+// Settles a node if names were released there.
 pub(crate) fn settle_released<K: HouseName, R: Wait>(
     rt: &R,
     house: &mut House<K>,

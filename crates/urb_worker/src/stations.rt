@@ -2,7 +2,7 @@
 
 ghost use Rattle.std.specs.Prelude.{◌≡◌};
 
-use crate::InFlight;
+use crate::{InFlight, Spares};
 use std::net::{Ipv4Addr, Net, SocketAddr, TcpListener, TcpStream, UdpSocket};
 use std::time::{Clock, Duration};
 use std::{io, thread};
@@ -20,7 +20,8 @@ const REST: u64 = 10;
 const PATIENCE: u64 = 200;
 
 /// A node's two sockets at 127.0.0.1, with their ports: packets come to the first, and clients to
-/// the second. The station also counts what is in flight to the first socket.
+/// the second. The station also counts what is in flight to the first socket, and keeps buffers for
+/// what comes there.
 #[derive(Drop)]
 pub struct Station {
     pub udp: UdpSocket,
@@ -28,6 +29,7 @@ pub struct Station {
     pub udp_port: u16,
     pub tcp_port: u16,
     pub in_flight: InFlight,
+    pub spares: Spares,
 }
 
 impl Station {
@@ -48,6 +50,7 @@ impl Station {
             udp_port,
             tcp_port,
             in_flight: InFlight::new(),
+            spares: Spares::new(),
         })
     }
 

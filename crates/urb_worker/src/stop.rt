@@ -1,4 +1,4 @@
-//! The stop: a word in memory that tells threads to end.
+//! The stop flag, which tells threads to end.
 
 use std::sync::atomic::{AtomicU64, Ordering};
 

@@ -5,11 +5,11 @@ ghost use Rattle.urb_worker.specs.Counting.{count_after};
 ghost use Rattle.urb_worker.specs.Settlings.{published_by, told_in};
 ghost use Rattle.urb_worker.specs.Stages.{is_drafted, is_stored};
 ghost use Rattle.urb_worker.specs.Turns.{Begins, Finishes, Stores};
-ghost use Rattle.urb_worker.specs.Whole.{misrouted};
+ghost use Rattle.urb_worker.specs.WholeTurns.{misrouted};
 
 use crate::Job;
 use crate::settling::Settling;
-use crate::stages::{Ending, Stage, begun, ended, stored};
+use crate::turn_stages::{Ending, Stage, finish_event, run_store, start_event};
 use std::alloc::Global;
 use std::marker::{Model, PhantomData};
 use std::sync::Wait;
@@ -80,8 +80,8 @@ impl<K: HouseName> Turn<K> {
         ensures step { Begins house.old job house.new result.stage result.events }
         ensures counted { house.new.events ≡ count_after result.events house.old.events }
     {
-        house.promise();
-        let (stage, count) = begun(alloc, house, &job);
+        house.recall();
+        let (stage, count) = start_event(alloc, house, &job);
         Turn {
             job,
             stage,
@@ -90,8 +90,8 @@ impl<K: HouseName> Turn<K> {
         }
     }
 
-    /// Has the store keep the draft, or give the image of a restart. In other stages it does
-    /// nothing. The House goes on meanwhile: the node may be crashed, and other nodes may act.
+    /// Has the store keep the draft, or return the image for a restart. In other stages it does
+    /// nothing. The House isn't locked meanwhile: the node may be crashed, and other nodes may act.
     pub fn store<S: Stable<Alloc = Global>>(self, alloc: Global, store: &mut S) -> Turn<K>
         ensures job { result.job ≡ self.job }
         ensures events { result.events ≡ self.events }
@@ -106,7 +106,7 @@ impl<K: HouseName> Turn<K> {
         } = self;
         Turn {
             job,
-            stage: stored(alloc, stage, store),
+            stage: run_store(alloc, stage, store),
             count,
             name,
         }
@@ -115,7 +115,7 @@ impl<K: HouseName> Turn<K> {
     /// The job's event after its store. If names of the node were released, the node is settled. If
     /// the draft is no longer held, its receipt is dropped and the reply is `Refused(Stale)`. May
     /// wait for a reader.
-    #[tactic(auto, using(crate::proofs::Counts::ends_count))]
+    #[tactic(auto, using(crate::proofs::EventCounts::ends_count))]
     pub fn finish<R: Wait>(self, rt: &R, alloc: Global, house: &mut House<K>) -> Finished<K>
         requires { is_stored self.stage ≡ true }
         ensures job { result.job ≡ self.job }
@@ -132,13 +132,13 @@ impl<K: HouseName> Turn<K> {
             count,
             name: _,
         } = self;
-        house.promise();
+        house.recall();
         let Ending {
             reply,
             status,
             settling,
             events: more,
-        } = ended(rt, alloc, house, &job, stage);
+        } = finish_event(rt, alloc, house, &job, stage);
         Finished {
             job,
             reply,
@@ -194,7 +194,7 @@ impl<K: HouseName> Finished<K> {
         &self.job
     }
 
-    /// The outcome: the reply of the last event, or a refusal. After a status it is `WentDown` if
+    /// The outcome: the reply to the last event, or a refusal. After a status it is `WentDown` if
     /// the node is down, else `Up`.
     pub fn reply(&self) -> &Reply
         ensures { result.now ≡ self.now.reply }
@@ -216,15 +216,16 @@ impl<K: HouseName> Finished<K> {
         self.events
     }
 
-    /// Whether the names that it released are published: there were none, or they are, or memory was refused.
+    /// Whether the names that it released are published: there were none, or they are, or memory
+    /// was refused.
     pub fn settling(&self) -> &Settling<K>
         ensures { published_by result.now ≡ self.now.settling }
     {
         &self.settling
     }
 
-    /// Its reply; how the node is, if that was asked; and the published lists, if the node was settled. A reader that learns
-    /// these sees the names that were released.
+    /// Its reply; the node's status, if the job asked for it; and the published lists, if the node
+    /// was settled. A reader that learns these sees the names that were released.
     pub fn into_parts(self) -> (Reply, Option<Status>, Option<Told<K>>)
         ensures { result ≡ (self.reply, self.status, told_in self.settling) }
     {
@@ -235,5 +236,14 @@ impl<K: HouseName> Finished<K> {
             ..
         } = self;
         (reply, status, settling.into_told())
+    }
+
+    // The bytes of the datagram, if the job was an arrival.
+    pub(crate) fn into_datagram(self) -> Option<Vec<u8>> {
+        let Finished { job, .. } = self;
+        match job {
+            Job::Arrive { bytes, .. } => Some(bytes),
+            _ => None,
+        }
     }
 }

@@ -9,7 +9,7 @@ use std::alloc::Global;
 use std::sync::Wait;
 use std::sync::ledger::Blank;
 use urb_group::Group;
-use urb_names::{ClientId, Config, NodeId};
+use urb_names::{ClientId, Config, NodeId, Payload};
 use urb_show::{House, HouseName, LogReader, Opened};
 use urb_worker::{Hub, HubName, Job, Tally};
 
@@ -26,13 +26,14 @@ mod receivers;
 mod reports;
 mod sevens;
 mod shorts;
+mod spares;
 mod stations;
 mod strays;
 mod timers;
 mod turns;
 
-// A new group with this many nodes, opened.
-fn opened(alloc: Global, nodes: u8) -> Option<Opened>
+// A new group with the given number of nodes, opened.
+fn open_group(alloc: Global, nodes: u8) -> Option<Opened>
     ensures { IfSome result (λ it. it.group.size.n ≡ nodes) }
 {
     let config = Config::new(nodes, 100)?;
@@ -40,8 +41,8 @@ fn opened(alloc: Global, nodes: u8) -> Option<Opened>
     House::open(group).ok()
 }
 
-// The Hub of what was opened, its tallies, and its readers.
-fn hub_of<K: HouseName, L: HubName, R: Wait>(
+// The Hub of the opened group, with its tallies and its readers.
+fn open_hub<K: HouseName, L: HubName, R: Wait>(
     rt: &R,
     alloc: Global,
     opened: Opened,
@@ -62,7 +63,7 @@ fn hub_of<K: HouseName, L: HubName, R: Wait>(
             return None;
         }
     };
-    house.promise();
+    house.recall();
     match Hub::new(alloc, house, blank) {
         Ok((hub, tallies)) => Some((hub, tallies, readers)),
         Err((house, _)) => {
@@ -78,6 +79,6 @@ fn submit(alloc: Global, node: NodeId, number: u32) -> Option<Job> {
         node,
         client: ClientId::new(7)?,
         number,
-        payload: Vec::new(alloc),
+        payload: Payload::copied(alloc, &[]).ok()?,
     })
 }

@@ -2,26 +2,26 @@
 #![tactic(auto)]
 
 use std::process::ExitCode;
-use urb_cli::{Line, line, run_errand, tell, words};
-use urb_daemon::{Console, Streams, close_journals, open_journals, run_journals, tell_end};
+use urb_cli::{Line, parse_line, read_words, report_fault, run_errand};
+use urb_daemon::{Console, Streams, close_journals, open_journals, report_end, run_journals};
 
 fn main(rt: HostRuntime) -> ExitCode {
     let _streams = Streams::take(&rt);
-    let words = match words(&rt) {
+    let words = match read_words(&rt) {
         Ok(words) => words,
         Err(status) => return ExitCode::from(status),
     };
-    let serving = match line(&rt, rt.alloc(), words.as_slice()) {
+    let serving = match parse_line(&rt, rt.alloc(), words.as_slice()) {
         Ok(Line::Serve(serving)) => serving,
         Ok(Line::Errand(errand)) => return ExitCode::from(run_errand(&rt, errand)),
         Err(status) => return ExitCode::from(status),
     };
     let journals = match open_journals(&rt, &rt, serving) {
         Ok(journals) => journals,
-        Err(fault) => return ExitCode::from(tell(&rt, fault)),
+        Err(fault) => return ExitCode::from(report_fault(&rt, fault)),
     };
     let mut console = Console::new(&rt, rt.reader());
     let (journals, ended) = run_journals(&rt, rt.alloc(), serving, journals, &mut console);
     close_journals(&rt, serving, journals);
-    ExitCode::from(tell_end(&rt, ended))
+    ExitCode::from(report_end(&rt, ended))
 }

@@ -9,17 +9,17 @@ use std::test::Fail;
 use std::thread;
 use std::thread::Threads;
 use urb_cli::{
-    Fault, Printed, Reading, Submitting, read_at, read_over, show, submit_at, submit_over,
+    Fault, Printed, ReadOptions, SubmitOptions, read_at, read_over, show, submit_at, submit_over,
 };
 use urb_names::MAX_PAYLOAD;
 use urb_terminal::Terminal;
 
 /// What client 7 submits as its first message.
-fn hi(port: u16) -> Submitting<'static>
+fn hi(port: u16) -> SubmitOptions<'static>
     requires { 0 < port }
     ensures { length result.text.now ≤ MAX_PAYLOAD }
 {
-    Submitting {
+    SubmitOptions {
         port,
         client: 7,
         number: 1,
@@ -28,10 +28,10 @@ fn hi(port: u16) -> Submitting<'static>
 }
 
 /// The first page of a log.
-fn page(port: u16) -> Reading
+fn page(port: u16) -> ReadOptions
     requires { 0 < port }
 {
-    Reading {
+    ReadOptions {
         port,
         from: 1,
         max: 8,
@@ -59,7 +59,8 @@ const GAP: &[u8] = b"\x00\x06\xee\x07\x00\x00\x00\x02";
 
 /// Two entries: `hi`, and one without a payload.
 const ENTRIES: &[u8] =
-    b"\x00\x1e\x82\x02\x01\x00\x00\x00\x01\x00\x07\x00\x00\x00\x01\x00\x02hi\x03\x00\x00\x01\x00\x00\x09\x00\x00\x00\x0c\x00\x00";
+    b"\x00\x1e\x82\x02\x01\x00\x00\x00\x01\x00\x07\x00\x00\x00\x01\x00\x02hi\x03\x00\x00\x01\x00\
+\x00\x09\x00\x00\x00\x0c\x00\x00";
 
 const ENTRIES_TEXT: &[u8] = b"1.1 7 1 6869\n3.256 9 12 -\n";
 
@@ -183,7 +184,7 @@ fn submit_beside<R>(
     alloc: Global,
     listener: &TcpListener,
     answer: &[u8],
-    submitting: Submitting<'_>,
+    submitting: SubmitOptions<'_>,
 ) -> (Option<Vec<u8>>, Result<Printed, Fault>)
 where
     R: Threads + Net<Listener = TcpListener, Stream = TcpStream> + Sync,
@@ -201,7 +202,7 @@ fn read_beside<R>(
     alloc: Global,
     listener: &TcpListener,
     answer: &[u8],
-    reading: Reading,
+    reading: ReadOptions,
 ) -> (Option<Vec<u8>>, Result<Printed, Fault>)
 where
     R: Threads + Net<Listener = TcpListener, Stream = TcpStream> + Sync,
@@ -237,7 +238,7 @@ fn a_submit_goes_over_a_socket(rt: HostRuntime) -> Result<(), Fail> {
     // A text over 16,384 bytes isn't sent.
     let long = Vec::from_elem(rt.alloc(), b'x', MAX_PAYLOAD + 1)?;
     let text = str::from_utf8(long.as_slice()).or(Err("a text"))?;
-    let submitting = Submitting {
+    let submitting = SubmitOptions {
         port,
         client: 7,
         number: 1,

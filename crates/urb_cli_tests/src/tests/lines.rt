@@ -1,9 +1,9 @@
-//! Command lines: which ones are taken, which are mistakes, and help.
+//! Command lines: those that are accepted, those that are mistakes, and help.
 
 use super::{WANTS_A_NETWORK, shown_by};
 use std::alloc::Global;
 use std::test::Fail;
-use urb_cli::{Errand, Line, line};
+use urb_cli::{Errand, Line, parse_line};
 use urb_terminal::Terminal;
 
 #[test]
@@ -60,7 +60,7 @@ fn help_goes_to_standard_output(rt: HostRuntime) -> Result<(), Fail> {
         assert_eq!(rt; shown.status, 0);
         assert!(rt; shown.output.as_slice().starts_with(begins));
         assert_eq!(rt; shown.errors.len(), 0);
-        // If it can't be written, that is reported.
+        // If help can't be written, that is reported.
         let shown = shown_by(rt.alloc(), words, b"", false);
         assert!(rt; shown.is(1, b"", b"urbd: write failed\n", b"urbd: write failed\n"));
     }
@@ -99,7 +99,7 @@ const READ: [&[u8]; 8] = [
     b"urbd", b"read", b"--port", b"20011", b"--from", b"1", b"--max", b"8",
 ];
 
-/// The status of these words, and whether the terminal showed what belongs to it. For a mistake
+/// The status of these words, and whether the terminal showed the matching output. For a mistake
 /// this is the parser's text on standard error, and nothing else.
 fn status_of(alloc: Global, words: &[&[u8]]) -> Option<u8> {
     let shown = shown_by(alloc, words, b"", true);
@@ -117,7 +117,11 @@ fn status_of(alloc: Global, words: &[&[u8]]) -> Option<u8> {
 }
 
 /// The words without the option at this place and its value.
-fn without(alloc: Global, words: &[&'static [u8]], at: usize) -> Result<Vec<&'static [u8]>, Fail> {
+fn leave_out(
+    alloc: Global,
+    words: &[&'static [u8]],
+    at: usize,
+) -> Result<Vec<&'static [u8]>, Fail> {
     let mut left = Vec::new(alloc);
     for (place, word) in words.iter().enumerate() {
         if place != at && place != at.saturating_add(1) {
@@ -128,7 +132,11 @@ fn without(alloc: Global, words: &[&'static [u8]], at: usize) -> Result<Vec<&'st
 }
 
 /// The words with the option at this place, and its value, once more at the end.
-fn repeated(alloc: Global, words: &[&'static [u8]], at: usize) -> Result<Vec<&'static [u8]>, Fail> {
+fn repeat_option(
+    alloc: Global,
+    words: &[&'static [u8]],
+    at: usize,
+) -> Result<Vec<&'static [u8]>, Fail> {
     let mut more = Vec::from_slice(alloc, words)?;
     for word in words.iter().skip(at).take(2) {
         more.push(*word)?;
@@ -136,8 +144,8 @@ fn repeated(alloc: Global, words: &[&'static [u8]], at: usize) -> Result<Vec<&'s
     Ok(more)
 }
 
-/// The words with another one at this place.
-fn changed(
+/// The words with the word at this place replaced.
+fn replace_word(
     alloc: Global,
     words: &[&'static [u8]],
     at: usize,
@@ -159,18 +167,18 @@ fn each_option_stands_once(rt: HostRuntime) -> Result<(), Fail> {
     ] {
         assert_eq!(rt; status_of(rt.alloc(), words), Some(WANTS_A_NETWORK));
         for at in options {
-            let missing = without(rt.alloc(), words, *at)?;
+            let missing = leave_out(rt.alloc(), words, *at)?;
             assert_eq!(rt; status_of(rt.alloc(), missing.as_slice()), Some(3), "{at}");
-            let twice = repeated(rt.alloc(), words, *at)?;
+            let twice = repeat_option(rt.alloc(), words, *at)?;
             assert_eq!(rt; status_of(rt.alloc(), twice.as_slice()), Some(3), "{at}");
         }
     }
     // A folder must have a name.
-    let nowhere = changed(rt.alloc(), &SERVE, 7, b"")?;
+    let nowhere = replace_word(rt.alloc(), &SERVE, 7, b"")?;
     assert_eq!(rt; status_of(rt.alloc(), nowhere.as_slice()), Some(3));
     // The text of a submit is required too, and is one word.
     assert_eq!(rt; status_of(rt.alloc(), &SUBMIT[..8]), Some(3));
-    let two = changed(rt.alloc(), &SUBMIT, 7, b"1 2")?;
+    let two = replace_word(rt.alloc(), &SUBMIT, 7, b"1 2")?;
     assert_eq!(rt; status_of(rt.alloc(), two.as_slice()), Some(3));
     Ok(())
 }
@@ -195,7 +203,7 @@ fn each_number_has_its_range(rt: HostRuntime) -> Result<(), Fail> {
         (&READ, 7, [b"1", b"8"], [b"0", b"9"]),
     ] {
         for new in &taken {
-            let other = changed(rt.alloc(), words, at, *new)?;
+            let other = replace_word(rt.alloc(), words, at, *new)?;
             assert_eq!(rt;
                 status_of(rt.alloc(), other.as_slice()),
                 Some(WANTS_A_NETWORK),
@@ -203,11 +211,11 @@ fn each_number_has_its_range(rt: HostRuntime) -> Result<(), Fail> {
             );
         }
         for new in &refused {
-            let other = changed(rt.alloc(), words, at, *new)?;
+            let other = replace_word(rt.alloc(), words, at, *new)?;
             assert_eq!(rt; status_of(rt.alloc(), other.as_slice()), Some(3), "{at}");
         }
         for new in [b"".as_slice(), b"x", b"1.5", b"0x1", b"1_000", b" 1"] {
-            let other = changed(rt.alloc(), words, at, new)?;
+            let other = replace_word(rt.alloc(), words, at, new)?;
             assert_eq!(rt; status_of(rt.alloc(), other.as_slice()), Some(3), "{at}");
         }
     }
@@ -231,7 +239,7 @@ fn a_line_has_its_values(rt: HostRuntime) -> Result<(), Fail> {
         "--tick-ms",
         "50",
     ];
-    match line(&terminal, rt.alloc(), words.as_slice()) {
+    match parse_line(&terminal, rt.alloc(), words.as_slice()) {
         Ok(Line::Serve(serving)) => {
             assert_eq!(rt; (serving.nodes, serving.cap, serving.dir), (3, 10, "a b"));
             assert_eq!(rt; (serving.base, serving.every), (2000, 50));
@@ -248,7 +256,7 @@ fn a_line_has_its_values(rt: HostRuntime) -> Result<(), Fail> {
         "--port",
         "+11",
     ];
-    match line(&terminal, rt.alloc(), words.as_slice()) {
+    match parse_line(&terminal, rt.alloc(), words.as_slice()) {
         Ok(Line::Errand(Errand::Submit(submitting))) => {
             assert_eq!(rt; (submitting.port, submitting.client), (11, 7));
             assert_eq!(rt; (submitting.number, submitting.text), (2, "hi"));
@@ -256,7 +264,7 @@ fn a_line_has_its_values(rt: HostRuntime) -> Result<(), Fail> {
         _ => return Err("a message to submit")?,
     }
     let words = ["urbd", "read", "--port", "12", "--from", "3", "--max", "4"];
-    match line(&terminal, rt.alloc(), words.as_slice()) {
+    match parse_line(&terminal, rt.alloc(), words.as_slice()) {
         Ok(Line::Errand(Errand::Read(reading))) => {
             assert_eq!(rt; (reading.port, reading.from, reading.max), (12, 3, 4));
         }

@@ -2,7 +2,7 @@
 
 use super::shown_by;
 use std::test::Fail;
-use urb_cli::{Fault, tell};
+use urb_cli::{Fault, report_fault};
 use urb_terminal::Terminal;
 
 const ONE_NODE: &[u8] = b"group 1 10\nsubmit 1 7 1 hi\nstored 1\nlog 1\n";
@@ -11,11 +11,79 @@ const ONE_NODE_ANSWERS: &[u8] =
     b"group 1 10\ndraft 1.1 at 1\naccepted 1.1 sent 0 released 1\nlog 1: 1.1=hi\n";
 
 // The script of the repository's examples, and its answers.
-const THREE_NODES: &[u8] =
-    b"group 3 10\nsubmit 1 7 1 hi\nstored 1\narrive 1 2 1 1\nstored 2\nlog 2\ncrash 1\nsubmit 1 7 2 there\nlog 1\nrestart 1\ntick 1\narrive 2 1 1 1\nstored 1\nlog 1\nheld 1.1\nsubmit 1 7 1 hi\nsubmit 1 7 2 there\nfail 1 new\nrestart 1\nheld 1.2\ntick 1\narrive 1 3 1 2\nstored 3\nlog 3\narrive 1 3 1 1\nstored 3\nlog 3\narrive 3 2 1 2\nstored 2\nlog 2\nraw 2 55420101020100000001000700000001000161\nheld 1.2\nreopen\nlog 1\nlog 3\nsubmit 1 7 3 more\n";
+const THREE_NODES: &[u8] = b"group 3 10\n\
+submit 1 7 1 hi\n\
+stored 1\n\
+arrive 1 2 1 1\n\
+stored 2\n\
+log 2\n\
+crash 1\n\
+submit 1 7 2 there\n\
+log 1\n\
+restart 1\n\
+tick 1\n\
+arrive 2 1 1 1\n\
+stored 1\n\
+log 1\n\
+held 1.1\n\
+submit 1 7 1 hi\n\
+submit 1 7 2 there\n\
+fail 1 new\n\
+restart 1\n\
+held 1.2\n\
+tick 1\n\
+arrive 1 3 1 2\n\
+stored 3\n\
+log 3\n\
+arrive 1 3 1 1\n\
+stored 3\n\
+log 3\n\
+arrive 3 2 1 2\n\
+stored 2\n\
+log 2\n\
+raw 2 55420101020100000001000700000001000161\n\
+held 1.2\n\
+reopen\n\
+log 1\n\
+log 3\n\
+submit 1 7 3 more\n";
 
-const THREE_NODES_ANSWERS: &[u8] =
-    b"group 3 10\ndraft 1.1 at 1\naccepted 1.1 sent 2 released 0\ndraft 1.1 at 1\ntaken 1.1 sent 2 released 1\nlog 2: 1.1=hi\ndown 1\nrefused down\nlog 1:\nup 1\nsent 2:1.1 3:1.1\ndraft 1.1 at 2\ntaken 1.1 sent 0 released 1\nlog 1: 1.1=hi\nheld 1.1: 1 2\naccepted 1.1\ndraft 1.2 at 3\ndown 1\nup 1\nheld 1.2: 1\nsent 2:1.1 3:1.1 2:1.2 3:1.2\ndraft 1.2 at 1\ntaken 1.2 sent 2 released 0\nlog 3:\ndraft 1.1 at 2\ntaken 1.1 sent 2 released 2\nlog 3: 1.1=hi 1.2=there\ndraft 1.2 at 2\ntaken 1.2 sent 2 released 1\nlog 2: 1.1=hi 1.2=there\nrefused forged\nheld 1.2: 1 2 3\nopen\nlog 1: 1.1=hi\nlog 3: 1.1=hi 1.2=there\ndraft 1.3 at 4\n";
+const THREE_NODES_ANSWERS: &[u8] = b"group 3 10\n\
+draft 1.1 at 1\n\
+accepted 1.1 sent 2 released 0\n\
+draft 1.1 at 1\n\
+taken 1.1 sent 2 released 1\n\
+log 2: 1.1=hi\n\
+down 1\n\
+refused down\n\
+log 1:\n\
+up 1\n\
+sent 2:1.1 3:1.1\n\
+draft 1.1 at 2\n\
+taken 1.1 sent 0 released 1\n\
+log 1: 1.1=hi\n\
+held 1.1: 1 2\n\
+accepted 1.1\n\
+draft 1.2 at 3\n\
+down 1\n\
+up 1\n\
+held 1.2: 1\n\
+sent 2:1.1 3:1.1 2:1.2 3:1.2\n\
+draft 1.2 at 1\n\
+taken 1.2 sent 2 released 0\n\
+log 3:\n\
+draft 1.1 at 2\n\
+taken 1.1 sent 2 released 2\n\
+log 3: 1.1=hi 1.2=there\n\
+draft 1.2 at 2\n\
+taken 1.2 sent 2 released 1\n\
+log 2: 1.1=hi 1.2=there\n\
+refused forged\n\
+held 1.2: 1 2 3\n\
+open\n\
+log 1: 1.1=hi\n\
+log 3: 1.1=hi 1.2=there\n\
+draft 1.3 at 4\n";
 
 #[test]
 fn scripts_are_run(rt: HostRuntime) -> Result<(), Fail> {
@@ -49,7 +117,7 @@ fn faults_have_their_texts(rt: HostRuntime) -> Result<(), Fail> {
         (Fault::Refused(14, 0), b"urbd: refused 14 0\n"),
     ] {
         let terminal = Terminal::new(rt.alloc(), &[], b"", true);
-        assert_eq!(rt; tell(&terminal, fault), 1);
+        assert_eq!(rt; report_fault(&terminal, fault), 1);
         let shown = terminal.into_shown(1);
         assert!(rt; shown.is(1, b"", text, text));
     }

@@ -2,12 +2,12 @@
 
 ghost use Rattle.std.specs.Prelude.{◌≤◌, length};
 ghost use Rattle.urb_client.specs.Requests.{IsAsked, IsShort, asked_by};
-ghost use Rattle.urb_names.specs.declared.message.TheConstants.{MAX_PAYLOAD as longest};
+ghost use Rattle.urb_names.specs.declared.limits.TheConstants.{MAX_PAYLOAD as longest};
 
-use super::said::{Asked, Said, asked_by, said_by};
+use super::summaries::{Asked, Said, asked_by, said_by};
 use std::alloc::{Allocator, Global};
 use urb_client::*;
-use urb_names::{ClientId, MAX_PAYLOAD, Message, Name, NoMemory, NodeId, Refusal};
+use urb_names::{ClientId, MAX_PAYLOAD, Message, Name, NoMemory, NodeId, Payload, Refusal};
 
 // Says whether the request has this frame.
 fn is_frame_of(alloc: Global, request: Request, frame: &[u8]) -> bool
@@ -22,7 +22,7 @@ fn is_frame_of(alloc: Global, request: Request, frame: &[u8]) -> bool
 
 // Says whether a submit of client 7 has this frame.
 fn is_frame_of_submit(alloc: Global, frame: &[u8]) -> bool {
-    let Ok(payload) = Vec::from_slice(alloc, b"hi") else {
+    let Ok(payload) = Payload::copied(alloc, b"hi") else {
         return false;
     };
     let submit = Request::Submit {
@@ -60,8 +60,7 @@ const REQUESTS: [(&[u8], Option<Asked<'_>>); 6] = [
     (b"", None),
 ];
 
-// Says whether these bytes are read as a request that asks this. `None` stands for an unknown
-// opcode.
+// Says whether these bytes are read as a request that asks this. `None` means an unknown opcode.
 fn asks(alloc: Global, bytes: &[u8], asked: Option<Asked<'_>>) -> bool {
     match parse_request(alloc, bytes) {
         Ok(request) => Some(asked_by(&request)) == asked,
@@ -163,7 +162,7 @@ fn first_entry<A: Allocator + Copy>(
     requires { length payload.now ≤ longest }
 {
     let (sender, client) = (NodeId::new(1).unwrap(), ClientId::new(7).unwrap());
-    let message = Message::copied(alloc, client, 1, payload)?;
+    let message = Message::copy_of(alloc, client, 1, payload)?;
     Ok((Name { sender, seq: 1 }, message))
 }
 

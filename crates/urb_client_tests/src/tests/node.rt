@@ -1,4 +1,4 @@
-//! A node that is a group of its own, and its desk.
+//! A group of one node, and the node's desk.
 
 ghost use Rattle.std.specs.Prelude.{◌≤◌, IfOk, vec_len};
 
@@ -6,7 +6,7 @@ use std::alloc::Allocator;
 use urb_client::*;
 use urb_names::{ClientId, MAX_PAYLOAD, Message, Name, NoMemory, NodeId, Refusal};
 
-/// A node that is a group of its own: a message that it is sent is in its log at once.
+/// The node of a group of one. A message that is submitted to it is in its log at once.
 #[derive(Drop)]
 pub(super) struct OneNode<A: Allocator> {
     alloc: A,
@@ -22,7 +22,7 @@ impl<A: Allocator + Copy> OneNode<A> {
         }
     }
 
-    // Returns the number that its next message has.
+    // Returns the number of its next message.
     fn next(&self) -> u32 {
         u32::try_from(self.log.len())
             .unwrap_or(u32::MAX)
@@ -47,7 +47,7 @@ impl<A: Allocator + Copy> OneNode<A> {
             sender,
             seq: number,
         };
-        let message = Message::copied(self.alloc, client, number, payload)?;
+        let message = Message::copy_of(self.alloc, client, number, payload)?;
         self.log.push((name, message))?;
         Ok(Response::Accepted(number))
     }
@@ -71,7 +71,7 @@ impl<A: Allocator + Copy> OneNode<A> {
         Response::entries(self.page(place, max)?)
     }
 
-    /// Returns how many entries answer a read from this place on. It is 0 if memory is refused.
+    /// Returns how many entries a read from this place on gets. It is 0 if memory is refused.
     pub(super) fn count_from(&self, place: u32) -> usize {
         match self.read(place, 8) {
             Ok(Response::Entries(entries)) => entries.as_slice().len(),
@@ -93,7 +93,7 @@ impl<A: Allocator + Copy> Desk for OneNode<A> {
                 client,
                 number,
                 payload,
-            } => self.submit(*client, *number, payload),
+            } => self.submit(*client, *number, payload.as_slice()),
             Request::Read { place, max } => self.read(*place, *max),
             Request::Status => {
                 let logged = u32::try_from(self.log.len()).unwrap_or(u32::MAX);

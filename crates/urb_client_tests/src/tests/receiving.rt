@@ -1,6 +1,6 @@
 //! Responses as they come in: whole, cut, and of no form.
 
-use super::said::{Said, said_by};
+use super::summaries::{Said, said_by};
 use std::alloc::{Allocator, Global};
 use std::io::Read;
 use urb_client::*;

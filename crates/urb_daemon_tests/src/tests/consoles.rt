@@ -1,4 +1,4 @@
-//! The console: it tells once that a group is open, and reads its input to the end.
+//! The console: it says once that a group is open, and reads its input to the end.
 
 use std::cell::Cell;
 use std::io;
@@ -8,8 +8,8 @@ use urb_daemon::Console;
 use urb_terminal::Terminal;
 use urb_worker::Watch;
 
-/// An input of which so many bytes are left, which come one by one, each behind a read that was interrupted. Then it ends, or
-/// fails.
+/// An input with `left` bytes left. Each comes alone, after a read that was interrupted. Then the
+/// input ends, or fails.
 #[derive(Drop)]
 struct Typed<'a> {
     left: &'a Cell<u32>,

@@ -1,4 +1,4 @@
-//! Errands: a script's, and a client's beside a group that runs and where none does.
+//! Errands: scripts, and a client's commands at a port where a group runs or none does.
 
 ghost use Rattle.std.specs.Prelude.{◌<◌};
 
@@ -9,11 +9,11 @@ use std::io;
 use std::io::Lines;
 use std::net::{Ipv4Addr, Net, SocketAddr, TcpListener, TcpStream};
 use std::test::Fail;
-use urb_cli::{Errand, Reading, Submitting, run_errand};
+use urb_cli::{Errand, ReadOptions, SubmitOptions, run_errand};
 use urb_terminal::{Shown, Terminal};
 use urb_worker::{Station, Watch};
 
-/// A terminal of the tests' own, beside the network of the runtime.
+/// A terminal for these tests, together with the network of the runtime.
 #[derive(Drop)]
 struct Wired<'a, N: Net<Listener = TcpListener, Stream = TcpStream>> {
     terminal: Terminal<'a>,
@@ -82,7 +82,8 @@ impl<N: Net<Listener = TcpListener, Stream = TcpStream>> Net for Wired<'_, N> {
     }
 }
 
-// What an errand shows at a terminal with this input, whose output is open or not, and its status.
+// Runs an errand at a terminal with this input, whose output is open or not. Returns what it shows,
+// and its status.
 fn shown_of<'a, N: Net<Listener = TcpListener, Stream = TcpStream>>(
     net: &'a N,
     alloc: Global,
@@ -99,7 +100,8 @@ fn shown_of<'a, N: Net<Listener = TcpListener, Stream = TcpStream>>(
     terminal.into_shown(status)
 }
 
-// Whether it ended with this status, and wrote this to standard output and this to standard error.
+// Whether it ended with this status, and wrote exactly this to standard output and this to standard
+// error.
 fn is_all(shown: &Shown, status: u8, output: &[u8], errors: &[u8]) -> bool {
     shown.status == status && shown.output.as_slice() == output && shown.errors.as_slice() == errors
 }
@@ -108,7 +110,7 @@ fn is_all(shown: &Shown, status: u8, output: &[u8], errors: &[u8]) -> bool {
 fn submit(port: u16, number: u32, text: &str) -> Errand<'_>
     requires { 0 < port }
 {
-    Errand::Submit(Submitting {
+    Errand::Submit(SubmitOptions {
         port,
         client: 7,
         number,
@@ -120,14 +122,14 @@ fn submit(port: u16, number: u32, text: &str) -> Errand<'_>
 fn read(port: u16, from: u32) -> Errand<'static>
     requires { (0 < port) × (0 < from) }
 {
-    Errand::Read(Reading { port, from, max: 8 })
+    Errand::Read(ReadOptions { port, from, max: 8 })
 }
 
 const WRITE_FAILED: &[u8] = b"urbd: write failed\n";
 
 const NETWORK_FAILED: &[u8] = b"urbd: network failed\n";
 
-// Whether errands at the port of a new node, one after the other, show its answers and end as these say.
+// Whether errands at the port of a new node, one after the other, show and end as expected.
 fn show_its_answers<N: Net<Listener = TcpListener, Stream = TcpStream>>(
     net: &N,
     alloc: Global,
@@ -145,7 +147,7 @@ fn show_its_answers<N: Net<Listener = TcpListener, Stream = TcpStream>>(
             b"".as_slice(),
         ),
         (submit(port, 2, ""), true, 0, b"accepted 2\n", b""),
-        // The same message again has the number that it got.
+        // The same message again gets the number that it already has.
         (submit(port, 1, "jo"), true, 0, b"accepted 1\n", b""),
         (submit(port, 1, "jok"), true, 4, b"refused 6 0\n", b""),
         (submit(port, 4, "jo"), true, 4, b"refused 7 3\n", b""),

@@ -1,9 +1,10 @@
-//! Journals in a folder: what closing leaves of their files, also where others have come in their place.
+//! Journals in a folder: what closing leaves of their files, even if other journals have taken
+//! their place.
 
 use std::fs;
 use std::rt::HostRuntime;
 use std::test::Fail;
-use urb_cli::Serving;
+use urb_cli::ServeOptions;
 use urb_daemon::{close_journals, open_journals};
 
 const FOLDER: &str = "urbd_folder";
@@ -11,11 +12,11 @@ const FOLDER: &str = "urbd_folder";
 const AWAY: &str = "urbd_folder_away";
 
 // A group of two nodes whose journals are in the folder.
-fn two_nodes() -> Option<Serving<'static>> {
-    Serving::new(2, 10, FOLDER, 21_310, 1_000)
+fn two_nodes() -> Option<ServeOptions<'static>> {
+    ServeOptions::new(2, 10, FOLDER, 21_310, 1_000)
 }
 
-// Whether the folder has both nodes' journals, and beside each a log or none.
+// Whether the folder has both nodes' journals, and logs beside both, or beside neither, as asked.
 fn has_journals(rt: &HostRuntime, has_logs: bool) -> bool {
     fs::metadata(rt, "urbd_folder/node-1.db").is_ok()
         && fs::metadata(rt, "urbd_folder/node-2.db").is_ok()
@@ -23,7 +24,7 @@ fn has_journals(rt: &HostRuntime, has_logs: bool) -> bool {
         && fs::metadata(rt, "urbd_folder/node-2.db-wal").is_ok() == has_logs
 }
 
-// Makes the folder anew, and says whether it could.
+// Makes the folder anew, and says whether that worked.
 fn is_cleared(rt: &HostRuntime) -> bool {
     let _ = fs::remove_dir_all(rt, FOLDER);
     fs::create_dir(rt, FOLDER).is_ok()

@@ -1,4 +1,5 @@
-//! Groups that run on threads and sockets of this machine, with their stores in memory, asked by clients over TCP.
+//! Groups that run on threads and sockets of this machine, with their stores in memory. Clients use
+//! them over TCP.
 
 ghost use Rattle.std.specs.Prelude.{◌≡◌, ◌<◌, ◌≤◌, IfSome, vec_len, vec_capacity};
 
@@ -8,13 +9,14 @@ use std::net::{Ipv4Addr, Net, TcpListener, TcpStream, UdpSocket};
 use std::test::Fail;
 use std::thread;
 use std::time::{Clock, Duration};
-use urb_cli::{Fault, Serving};
-use urb_daemon::{Host, link_to, open_sockets, run_opened};
+use urb_cli::{Fault, ServeOptions};
+use urb_daemon::{Host, Network, open_link, open_network, run_group_at};
 use urb_group::{Config, Group, MemStable};
 use urb_worker::{Station, Watch};
 
-// What a client sends to a group of one node. It is a submit, a read that shows it, a status, and a submit whose number isn't
-// the next. Then come an unknown opcode, a read of the place 0, a read after the end, and a bad length.
+// What a client sends to a group of one node. It is a submit, a read that shows it, a status, and a
+// submit whose number isn't the next. Then come an unknown opcode, a read of the place 0, a read
+// after the end, and a bad length.
 const SENT: &[u8] = b"\x00\x09\x01\x00\x07\x00\x00\x00\x01hi\
 \x00\x06\x02\x00\x00\x00\x01\x08\
 \x00\x01\x03\
@@ -33,10 +35,10 @@ const ANSWERED: &[u8] = b"\x00\x05\x81\x00\x00\x00\x01\
 \x00\x02\x82\x00\
 \x00\x06\xee\x13\x00\x00\x00\x01";
 
-// The answer to a bad length, by which a session ends.
+// The answer to a bad length, which ends a session.
 const ENDED: &[u8] = b"\x00\x06\xee\x13\x00\x00\x00\x01";
 
-// All that a node answers to these bytes, until it ends the session.
+// Everything that a node answers to these bytes, until it ends the session.
 fn answers<R: Net<Listener = TcpListener, Stream = TcpStream>>(
     rt: &R,
     alloc: Global,
@@ -50,7 +52,7 @@ fn answers<R: Net<Listener = TcpListener, Stream = TcpStream>>(
     Some(answered)
 }
 
-// The stations of so many nodes, at ports that are free.
+// The stations of the given number of nodes, at free ports.
 fn stations<R: Net<Listener = TcpListener, Stream = TcpStream>>(
     rt: &R,
     alloc: Global,
@@ -65,7 +67,7 @@ fn stations<R: Net<Listener = TcpListener, Stream = TcpStream>>(
     Some(all)
 }
 
-// So many stores, which are empty.
+// The given number of empty stores.
 fn stores(alloc: Global, nodes: u8) -> Option<Vec<MemStable>>
     ensures { IfSome result (λ all. vec_len all ≡ nodes) }
 {
@@ -76,7 +78,8 @@ fn stores(alloc: Global, nodes: u8) -> Option<Vec<MemStable>>
     Some(all)
 }
 
-// Runs a new group, whose nodes resend every so many milliseconds, while the watch asks it. The count of its events.
+// Runs a new group until the watch ends. Its nodes resend every `millis` milliseconds. Returns the
+// count of its events.
 pub(super) fn events_of<R, W: Watch>(
     rt: &R,
     alloc: Global,
@@ -90,15 +93,19 @@ where
 {
     let config = Config::new(nodes, 100)?;
     let stations = stations(rt, alloc, nodes)?;
-    let stations = stations.as_slice();
-    let link = link_to(rt, alloc, stations).ok()?;
+    let link = open_link(rt, alloc, stations.as_slice()).ok()?;
+    let network = Network {
+        stations,
+        link,
+        every: millis,
+    };
     let stores = stores(alloc, nodes)?;
     let group = Group::new(alloc, config).ok()?;
-    let (_, events) = run_opened(rt, alloc, group, stations, &link, millis, stores, watch);
+    let (_, events) = run_group_at(rt, alloc, group, &network, stores, watch);
     events
 }
 
-// One client of the first node, who sends `SENT`.
+// One client of the first node. It sends `SENT`.
 #[derive(Drop)]
 struct OneClient<'a, R: Net<Listener = TcpListener, Stream = TcpStream>> {
     rt: &'a R,
@@ -116,8 +123,8 @@ impl<'a, R: Net<Listener = TcpListener, Stream = TcpStream>> Watch for OneClient
     }
 }
 
-// Asks at so many sessions of a node, all of which stay open, for its status, and says whether the one that came last is
-// answered.
+// Opens the given number of sessions of a node, which all stay open, and asks for its status in
+// each. Says whether the last one is answered.
 fn is_answered_at_once<R: Net<Listener = TcpListener, Stream = TcpStream>>(
     rt: &R,
     alloc: Global,
@@ -139,7 +146,7 @@ fn is_answered_at_once<R: Net<Listener = TcpListener, Stream = TcpStream>>(
     Some(answer.starts_with(&[0, 10, 0x83, 1]))
 }
 
-// As many clients of the first node as it takes at once.
+// As many clients of the first node as it serves at once.
 #[derive(Drop)]
 struct FourClients<'a, R: Net<Listener = TcpListener, Stream = TcpStream>> {
     rt: &'a R,
@@ -176,20 +183,20 @@ fn is_alone<R: Net<Listener = TcpListener, Stream = TcpStream>>(rt: &R, station:
         && TcpListener::bind(rt, (other, station.tcp_port)).is_ok()
 }
 
-// Whether the stations of seven nodes above this base are those of their nodes, and can't be had twice; none where a port is in
-// use.
+// Whether the stations of seven nodes above this base belong to their nodes, and can't be opened
+// twice. `None` if a port is in use.
 fn are_of_their_nodes<R: Net<Listener = TcpListener, Stream = TcpStream>>(
     rt: &R,
     alloc: Global,
     base: u16,
 ) -> Option<bool> {
-    let serving = Serving::new(7, 1, ".", base, 1)?;
+    let serving = ServeOptions::new(7, 1, ".", base, 1)?;
     let base = serving.base;
-    let (stations, _link) = open_sockets(rt, alloc, serving.nodes, base).ok()?;
-    let again = open_sockets(rt, alloc, serving.nodes, base);
-    let mut are = stations.len() == 7 && again.err() == Some(Fault::Network);
+    let network = open_network(rt, alloc, serving).ok()?;
+    let again = open_network(rt, alloc, serving);
+    let mut are = network.stations.len() == 7 && again.err() == Some(Fault::Network);
     for node in 1..8u16 {
-        let station = stations.get(usize::from(node) - 1)?;
+        let station = network.stations.get(usize::from(node) - 1)?;
         are = are
             && (station.udp_port, station.tcp_port) == (base + node, base + 10 + node)
             && is_alone(rt, station);
@@ -242,7 +249,7 @@ fn has_accepted_ten<R: Net<Listener = TcpListener, Stream = TcpStream>>(
     Some(answered.as_slice() == expected.as_slice())
 }
 
-// Whether a node shows thirty entries, after at most 10,000 looks of a millisecond.
+// Whether a node shows thirty entries at last. It polls at most 10,000 times, a millisecond apart.
 fn shows_thirty<R: Clock + Net<Listener = TcpListener, Stream = TcpStream>>(
     rt: &R,
     alloc: Global,
@@ -272,7 +279,7 @@ fn thirty_entries<R: Net<Listener = TcpListener, Stream = TcpStream>>(
     answers(rt, alloc, station, sent.as_slice())
 }
 
-// Whether these entries, each of 18 bytes, show the messages 1 to 10 of a sender in their order.
+// Whether these entries, of 18 bytes each, show the messages 1 to 10 of a sender in their order.
 fn are_in_order(entries: &[u8], sender: u8) -> bool {
     let mut last = 0u8;
     for entry in entries.chunks_exact(18) {
@@ -288,7 +295,8 @@ fn are_in_order(entries: &[u8], sender: u8) -> bool {
     last == 10
 }
 
-// Submits ten messages at each node of three, and says whether each log comes to show them all, of each sender in order.
+// Submits ten messages at each of three nodes. Says whether each log shows them all in the end,
+// with those of each sender in order.
 fn have_agreed<R: Clock + Net<Listener = TcpListener, Stream = TcpStream>>(
     rt: &R,
     alloc: Global,
@@ -331,7 +339,8 @@ fn three_nodes_over_udp_agree(rt: HostRuntime) -> Result<(), Fail> {
     };
     let events = events_of(&rt, rt.alloc(), 3, 20, &mut clients).ok_or("memory")?;
     assert!(rt; clients.have_agreed);
-    // Each of thirty messages is at each node at least an arrival or a submit and a store, and at its own two more.
+    // Each of the thirty messages is at least two events at each node: an arrival or a submit, and
+    // a store. At its own node it is two more.
     assert!(rt; events >= 240);
     Ok(())
 }

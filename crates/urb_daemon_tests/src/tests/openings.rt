@@ -1,4 +1,4 @@
-//! What is opened side by side: all of it, or the first fault.
+//! What is opened in parallel: everything, or the first fault.
 
 ghost use Rattle.std.specs.Prelude.{⊤};
 
@@ -6,12 +6,15 @@ use std::alloc::Global;
 use std::sync::atomic::{AtomicUsize, Ordering};
 use std::test::Fail;
 use std::thread::Threads;
-use urb_daemon::{Opener, all_opened, close_all, open_all};
+use urb_daemon::{Opener, close_all, collect_opened, open_all};
 use urb_stable::StoreFault;
 
-// How many were opened, or came back, and the fault that is told.
-fn told(alloc: Global, outcomes: &[Result<u8, StoreFault>]) -> Option<(usize, Option<StoreFault>)> {
-    match all_opened(alloc, Vec::from_slice(alloc, outcomes).ok()?) {
+// How many things were opened, or were returned, and the fault.
+fn collect_outcomes(
+    alloc: Global,
+    outcomes: &[Result<u8, StoreFault>],
+) -> Option<(usize, Option<StoreFault>)> {
+    match collect_opened(alloc, Vec::from_slice(alloc, outcomes).ok()?) {
         Ok(all) => Some((all.len(), None)),
         Err((back, fault)) => Some((back.len(), Some(fault))),
     }
@@ -31,13 +34,13 @@ fn all_that_was_opened_or_the_first_fault(rt: HostRuntime) -> Result<(), Fail> {
             (2, Some(StoreFault::NoMemory)),
         ),
     ] {
-        assert_eq!(rt; told(rt.alloc(), outcomes), Some(expected));
+        assert_eq!(rt; collect_outcomes(rt.alloc(), outcomes), Some(expected));
     }
     Ok(())
 }
 
-/// Opens each place as its own number, but for those that are broken. It counts what it closes, and adds up the powers of two of
-/// the places that it makes.
+/// Opens each place as its own number, except for the broken ones. It counts what it closes. It
+/// adds up the powers of two of the places that it makes.
 #[derive(Drop)]
 struct Places<'a> {
     there: &'a [usize],
@@ -81,11 +84,11 @@ impl Opener<usize> for Places<'_> {
     }
 }
 
-/// What opening so many places came to: how many are open or the fault, the powers of two of those that were made, and how many
-/// were closed in the end.
+/// Opens `count` places and closes them. Returns how many were open, or the fault. Also returns the
+/// sum of the powers of two of those that were made, and how many were closed in the end.
 type Outcome = (Result<usize, StoreFault>, usize, usize);
 
-fn opened_and_closed<R: Threads + Sync>(
+fn open_and_close<R: Threads + Sync>(
     rt: &R,
     alloc: Global,
     there: &[usize],
@@ -115,11 +118,12 @@ fn what_is_missing_is_made_in_order_up_to_the_first_fault(rt: HostRuntime) -> Re
     let bad = |place| Err(StoreFault::BadRow(place));
     for (there, broken, count, opened, made, closed) in [
         ([].as_slice(), [].as_slice(), 0, Ok(0), 0, 0),
-        // All are there, or none is.
+        // All of them exist, or none does.
         (&[0, 1, 2, 3, 4, 5, 6], &[], 7, Ok(7), 0, 7),
         (&[], &[], 7, Ok(7), 127, 7),
         (&[1], &[], 3, Ok(3), 5, 3),
-        // One that is there is refused: those that are missing behind it are not made, and those before it are.
+        // One that exists is refused. Those that are missing after it are not made, and those
+        // before it are.
         (&[0, 1, 2], &[0], 3, bad(0), 0, 2),
         (&[0, 2], &[0], 3, bad(0), 0, 1),
         (&[1], &[1], 3, bad(1), 1, 1),
@@ -127,12 +131,12 @@ fn what_is_missing_is_made_in_order_up_to_the_first_fault(rt: HostRuntime) -> Re
         // One that is missing can't be made.
         (&[0, 2], &[1], 4, bad(1), 2, 2),
         (&[], &[0], 3, bad(0), 1, 0),
-        // Of two that are refused the first one is told, whichever of them is there.
+        // If two are refused, the fault is that of the first, whichever of them exists.
         (&[0, 1, 2], &[1, 2], 3, bad(1), 0, 1),
         (&[2], &[1, 2], 3, bad(1), 3, 1),
         (&[1], &[1, 2], 3, bad(1), 1, 1),
     ] {
-        let came = opened_and_closed(&rt, rt.alloc(), there, broken, count);
+        let came = open_and_close(&rt, rt.alloc(), there, broken, count);
         assert_eq!(rt; came, (opened, made, closed));
     }
     Ok(())

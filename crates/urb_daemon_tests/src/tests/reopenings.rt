@@ -1,4 +1,4 @@
-//! Groups that are opened over stores in memory, which hold what a stop left.
+//! Groups that are opened over stores in memory. The stores hold what a stop left.
 
 ghost use Rattle.std.specs.Prelude.{◌≡◌};
 
@@ -9,7 +9,7 @@ use urb_daemon::open_group;
 use urb_group::{Answer, Config, Group, MemStable, Record, Stable, State, Taken};
 use urb_names::{ClientId, Message, Name, NodeId};
 
-/// What the store of a node holds of the message 1.1.
+/// What the store of a node holds for the name 1.1.
 #[derive(Clone, Copy)]
 enum Held {
     Nothing,
@@ -19,14 +19,14 @@ enum Held {
     Certified(u8),
 }
 
-/// The number of the refusal of stores that don't fit together.
+/// The refusal's number if stores don't fit together.
 const INCONSISTENT: u8 = 14;
 
-/// What a group of three tells: how many names each node has delivered, whether all nodes are ready, and whether node 1 accepts
-/// the message again, as 1.1.
+/// What a group of three reports. It has how many names each node has delivered, whether all nodes
+/// are ready, and whether node 1 accepts the message again, as 1.1.
 type Told = ([usize; 3], bool, bool);
 
-// The node of this number, the client whose message was sent, and the limits of a group of three.
+// The node with this number, the client whose message was sent, and the limits of a group of three.
 fn node(number: u8) -> Option<NodeId> {
     NodeId::new(number)
 }
@@ -53,7 +53,7 @@ fn message(alloc: Global, text: u8) -> Option<Message> {
     Message::new(alloc, client()?, 1, payload).ok()
 }
 
-// A store that holds this.
+// A store with these contents.
 fn store_of(alloc: Global, held: Held) -> Option<MemStable> {
     let mut store = MemStable::new(alloc);
     let record = match held {
@@ -74,7 +74,7 @@ fn stores_of(alloc: Global, held: [Held; 3]) -> Option<Vec<MemStable>> {
     Some(stores)
 }
 
-// The number under which an answer accepts a message; 0 if it is another answer.
+// The number in an answer that accepts a message, or 0 for any other answer.
 fn accepted_as<O>(answer: &Answer<O>) -> u32 {
     match answer {
         Answer::Accepted(name) => name.seq,
@@ -90,8 +90,8 @@ fn accepts_again(alloc: Global, group: &mut Group) -> Option<bool> {
     }
 }
 
-// What a group tells.
-fn told(alloc: Global, group: &mut Group) -> Option<Told> {
+// The report of a group.
+fn report_of(alloc: Global, group: &mut Group) -> Option<Told> {
     let mut logs = [0; 3];
     let mut are_ready = true;
     for (number, log) in (1u8..4).zip(logs.iter_mut()) {
@@ -102,15 +102,19 @@ fn told(alloc: Global, group: &mut Group) -> Option<Told> {
     Some((logs, are_ready, is_accepted))
 }
 
-// What the group tells that is opened over stores of three nodes, or the number of its refusal.
-fn opened<R: Threads + Sync>(rt: &R, alloc: Global, held: [Held; 3]) -> Option<Result<Told, u8>> {
+// The report of the group that is opened over stores of three nodes, or the number of its refusal.
+fn open_stores<R: Threads + Sync>(
+    rt: &R,
+    alloc: Global,
+    held: [Held; 3],
+) -> Option<Result<Told, u8>> {
     let stores = stores_of(alloc, held)?;
     if stores.len() != 3 {
         return None;
     }
     let (_, group) = open_group(rt, alloc, three(), stores);
     match group {
-        Ok(mut group) => Some(Ok(told(alloc, &mut group)?)),
+        Ok(mut group) => Some(Ok(report_of(alloc, &mut group)?)),
         Err(refusal) => Some(Err(refusal.number())),
     }
 }
@@ -120,7 +124,7 @@ fn a_group_goes_on_from_what_its_stores_hold(rt: HostRuntime) -> Result<(), Fail
     let a = Held::Pending(b'a');
     let certified = Held::Certified(b'a');
     for (held, expected) in [
-        // The message reached storage, and the process stopped before anybody was told.
+        // The message reached storage, and the process stopped before it was reported to anybody.
         ([a, Held::Nothing, Held::Nothing], ([0, 0, 0], true, true)),
         ([a, a, Held::Nothing], ([0, 0, 0], true, true)),
         // Two nodes had delivered it.
@@ -129,10 +133,10 @@ fn a_group_goes_on_from_what_its_stores_hold(rt: HostRuntime) -> Result<(), Fail
             ([1, 1, 0], true, true),
         ),
         ([a, certified, a], ([0, 1, 0], true, true)),
-        // Nobody had it: its draft was lost.
+        // No store had it, because its draft was lost.
         ([Held::Nothing; 3], ([0, 0, 0], true, false)),
     ] {
-        assert_eq!(rt; opened(&rt, rt.alloc(), held), Some(Ok(expected)));
+        assert_eq!(rt; open_stores(&rt, rt.alloc(), held), Some(Ok(expected)));
     }
     Ok(())
 }
@@ -146,7 +150,7 @@ fn stores_that_no_stop_leaves_are_inconsistent(rt: HostRuntime) -> Result<(), Fa
         // Node 2 has a message of node 1, which doesn't have it.
         [Held::Nothing, a, Held::Nothing],
     ] {
-        assert_eq!(rt; opened(&rt, rt.alloc(), held), Some(Err(INCONSISTENT)));
+        assert_eq!(rt; open_stores(&rt, rt.alloc(), held), Some(Err(INCONSISTENT)));
     }
     Ok(())
 }

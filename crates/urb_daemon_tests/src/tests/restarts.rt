@@ -8,8 +8,9 @@ use std::test::Fail;
 use urb_cli::Fault;
 use urb_daemon::Host;
 
-// Three starts of a group of so many nodes on one folder: behind the first one its journals were closed, behind the second one let
-// go. In each one the clients send all their messages again, and a new one.
+// Starts a group of the given number of nodes three times on one folder. Its journals are closed
+// after the first start, and dropped after the second. At each start the clients send all their
+// messages again, and a new one.
 fn three_starts<R>(
     threads: &R,
     rt: &HostRuntime,
@@ -29,7 +30,7 @@ where
     Ok([first, second, third])
 }
 
-// Whether the log of each node goes on where it was before.
+// Whether the log of each node continues the log from before.
 fn go_on(before: &Seen, after: &Seen) -> bool {
     let mut go_on = before.last.len() == after.first.len() && before.last.len() == after.last.len();
     for ((was, opened), ended) in before.last.iter().zip(&after.first).zip(&after.last) {
@@ -38,7 +39,7 @@ fn go_on(before: &Seen, after: &Seen) -> bool {
     go_on
 }
 
-// Whether all went well at each of three starts of a group of so many nodes.
+// Whether everything went well at each of three starts of a group of the given number of nodes.
 fn keeps_all<R>(threads: &R, rt: &HostRuntime, folder: &str, nodes: u8) -> Result<bool, Fault>
 where
     R: Host + Net<Listener = TcpListener, Stream = TcpStream>,

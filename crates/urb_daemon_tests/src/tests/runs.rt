@@ -1,17 +1,17 @@
-//! Runs of a group over stores in memory, from their opening to what comes back of them.
+//! Runs of a group over stores in memory, from their opening to the return of the stores.
 
 use std::alloc::Global;
 use std::io;
 use std::io::Read;
 use std::net::{Net, TcpListener, TcpStream};
 use std::test::Fail;
-use urb_cli::{Fault, Serving, Submitting, submit_at};
-use urb_daemon::{Console, Host, run_over, tell_end};
+use urb_cli::{Fault, ServeOptions, SubmitOptions, submit_at};
+use urb_daemon::{Console, Host, report_end, run_stores};
 use urb_group::{MemStable, Record, Stable, StoreFault};
 use urb_names::{ClientId, Message, Name, NodeId};
 use urb_terminal::Terminal;
 
-/// A store in memory that tells of refused memory when it is asked for its records.
+/// A store in memory that answers `NoMemory` when it is asked for its records.
 #[derive(Drop)]
 struct Refusing {
     store: MemStable,
@@ -70,7 +70,8 @@ fn store_of(alloc: Global, number: u8, text: u8) -> Option<MemStable> {
     Some(store)
 }
 
-// A store for each of these numbers, with a message of the node of that number. No two messages are the same.
+// A store for each of these numbers, with a message of the node of that number. No two messages are
+// the same.
 fn stores_of(alloc: Global, numbers: &[u8]) -> Option<Vec<MemStable>> {
     let mut stores = Vec::new(alloc);
     let mut text = b'a';
@@ -81,13 +82,13 @@ fn stores_of(alloc: Global, numbers: &[u8]) -> Option<Vec<MemStable>> {
     Some(stores)
 }
 
-// The node whose message stands first in a store.
+// The node of the first message in a store.
 fn first_in(alloc: Global, store: &mut MemStable) -> Option<u8> {
     let records = store.retrieve(alloc).ok()?;
     Some(records.first()?.name().sender.number())
 }
 
-// Whether these stores hold messages of these nodes first, in this order.
+// Whether the first messages in these stores belong to these nodes, in this order.
 fn are_of(alloc: Global, stores: &mut [MemStable], numbers: &[u8]) -> bool {
     let mut are = stores.len() == numbers.len();
     for (store, number) in stores.iter_mut().zip(numbers) {
@@ -96,7 +97,7 @@ fn are_of(alloc: Global, stores: &mut [MemStable], numbers: &[u8]) -> bool {
     are
 }
 
-/// What came of a run: its stores, how it ended, and what it showed.
+/// The result of a run: its stores, how it ended, and what it printed.
 #[derive(Drop)]
 struct Ran<J: Drop> {
     stores: Vec<J>,
@@ -104,8 +105,8 @@ struct Ran<J: Drop> {
     shown: Vec<u8>,
 }
 
-/// How a run goes: whether its output can be written, how many milliseconds lie between two ticks, and whether a client submits a
-/// message at node 1 before its input ends.
+/// The conditions of a run: whether its output can be written, and the milliseconds between two
+/// ticks. Also whether a client submits at node 1 before the input ends.
 #[derive(Clone, Copy)]
 struct Course {
     open: bool,
@@ -113,7 +114,8 @@ struct Course {
     submits: bool,
 }
 
-/// An input that has ended by its first read. Where it has a port, a client submits a message there before.
+/// An input that ends at its first read. If it has a port, a client submits a message there before
+/// that.
 #[derive(Drop)]
 struct Client<'a, R: Net<Listener = TcpListener, Stream = TcpStream>> {
     rt: &'a R,
@@ -126,7 +128,7 @@ impl<'a, R: Net<Listener = TcpListener, Stream = TcpStream>> Read for Client<'a,
         if let Some(port) = self.port
             && 0 < port
         {
-            let submitting = Submitting {
+            let submitting = SubmitOptions {
                 port,
                 client: 7,
                 number: 1,
@@ -150,7 +152,7 @@ where
     R: Host + Net<Listener = TcpListener, Stream = TcpStream>,
 {
     let nodes = u8::try_from(stores.len()).ok()?;
-    let serving = Serving::new(nodes, 100, ".", base, course.millis)?;
+    let serving = ServeOptions::new(nodes, 100, ".", base, course.millis)?;
     if stores.len() != usize::from(serving.nodes) {
         return None;
     }
@@ -161,7 +163,7 @@ where
     };
     let terminal = Terminal::new(alloc, &[], b"", course.open);
     let mut console = Console::new(&terminal, Client { rt, alloc, port });
-    let (stores, ended) = run_over(rt, alloc, serving, stores, &mut console);
+    let (stores, ended) = run_stores(rt, alloc, serving, stores, &mut console);
     drop(console);
     Some(Ran {
         stores,
@@ -234,7 +236,7 @@ fn a_run_to_which_memory_is_refused_tells_it(rt: HostRuntime) -> Result<(), Fail
     Ok(())
 }
 
-// Where no tick comes, nothing happens at one node but a submit and its store.
+// If no tick comes, the only events of a single node are a submit and its store.
 #[test]
 fn a_run_ends_with_the_count_of_its_events(rt: HostRuntime) -> Result<(), Fail> {
     let alloc = rt.alloc();
@@ -260,7 +262,7 @@ fn an_end_is_told(rt: HostRuntime) -> Result<(), Fail> {
         (Err(Fault::Network), true, 1, b"", b"urbd: network failed\n"),
     ] {
         let terminal = Terminal::new(rt.alloc(), &[], b"", open);
-        let told = tell_end(&terminal, ended);
+        let told = report_end(&terminal, ended);
         let shown = terminal.into_shown(told);
         assert_eq!(rt; shown.status, status);
         assert_eq!(rt; shown.output.as_slice(), output);

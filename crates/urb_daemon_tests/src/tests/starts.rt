@@ -1,4 +1,5 @@
-//! What a start finds in its folder: journals that are half made, damaged, missing, exchanged, or of nodes that the group lacks.
+//! What a start finds in its folder: journals that are half made, damaged, missing, exchanged, or
+//! of nodes that the group doesn't have.
 
 use super::visits::{Leave, contents, is_cleared, open_and_leave, visit};
 use sqlite::Connection;
@@ -22,7 +23,8 @@ const DEVICE: Result<(), Fault> = Err(Fault::Refused(15, 0));
 
 const MISFIT: Result<(), Fault> = Err(Fault::Refused(14, 0));
 
-// Whether SQL was done on the file at this path, which is made if it isn't there, and this was closed.
+// Runs SQL on the file at this path, which is made if it doesn't exist, and closes it. Says whether
+// that worked.
 fn is_changed(rt: &HostRuntime, path: &str, sql: &str) -> bool {
     let Ok(mut conn) = Connection::open(rt, path) else {
         return false;
@@ -31,7 +33,7 @@ fn is_changed(rt: &HostRuntime, path: &str, sql: &str) -> bool {
     is_changed && conn.close().is_ok()
 }
 
-// Whether a group of three has delivered a message of each node, and was left so.
+// Whether a group of three has delivered a message of each node, and was ended in this way.
 fn has_delivered<R>(threads: &R, rt: &HostRuntime, leave: Leave) -> bool
 where
     R: Host + Net<Listener = TcpListener, Stream = TcpStream>,
@@ -39,7 +41,7 @@ where
     is_cleared(rt, FOLDER) && visit(threads, rt, FOLDER, 3, 1, leave).is_ok()
 }
 
-// Whether it opens again with all of them.
+// Whether the group opens again with all these messages.
 fn has_all<R>(threads: &R, rt: &HostRuntime) -> bool
 where
     R: Host + Net<Listener = TcpListener, Stream = TcpStream>,
@@ -49,7 +51,8 @@ where
     })
 }
 
-// How a start of so many nodes ends, and whether it left each file as it was, and made none.
+// How a start of the given number of nodes ends, and whether it left each file as it was and made
+// no file.
 fn start_and_compare<R: Threads + Sync>(
     threads: &R,
     rt: &HostRuntime,
@@ -70,11 +73,12 @@ payload BLOB NOT NULL) STRICT";
 fn a_first_start_that_was_stopped_leaves_what_the_next_one_takes(
     rt: HostRuntime,
 ) -> Result<(), Fail> {
-    // Its journals were made, and then nothing.
+    // Its journals were made, and then nothing happened.
     assert!(rt; is_cleared(&rt, FOLDER));
     assert_eq!(rt; open_and_leave(&rt, &rt, FOLDER, 3, Leave::Dropped), Ok(()));
     assert!(rt; visit(&rt, &rt, FOLDER, 3, 1, Leave::Closed).is_ok_and(|seen| seen.are_accepted));
-    // One was stopped before it made the tables, one between them, and one behind its empty file.
+    // The start was stopped before it made one journal's tables, between another's, and after it
+    // made an empty file for a third.
     assert!(rt; is_cleared(&rt, FOLDER));
     assert!(rt; is_changed(&rt, ONE, "CREATE TABLE notes(x INTEGER); DROP TABLE notes"));
     assert!(rt; is_changed(&rt, TWO, FIRST_TABLE));
@@ -116,7 +120,7 @@ fn a_journal_that_cannot_be_opened_is_refused_and_stays(rt: HostRuntime) -> Resu
     Ok(())
 }
 
-// Whether nodes 1 and 3 have got each other's journal.
+// Exchanges the journals of nodes 1 and 3, and says whether that worked.
 fn are_exchanged(rt: &HostRuntime) -> bool {
     let aside = "urbd_starts/aside";
     fs::rename(rt, ONE, aside).is_ok()
@@ -149,7 +153,7 @@ fn a_journal_that_is_missing_or_another_nodes_is_refused(rt: HostRuntime) -> Res
     Ok(())
 }
 
-// Whether there is something of this name.
+// Whether a file or folder has this name.
 fn is_there(rt: &HostRuntime, path: &str) -> bool {
     fs::metadata(rt, path).is_ok()
 }
@@ -174,7 +178,7 @@ fn no_journal_is_made_behind_one_that_is_refused(rt: HostRuntime) -> Result<(), 
 fn of_two_journals_that_are_refused_the_first_is_told(rt: HostRuntime) -> Result<(), Fail> {
     assert!(rt; is_cleared(&rt, FOLDER));
     assert_eq!(rt; open_and_leave(&rt, &rt, FOLDER, 3, Leave::Closed), Ok(()));
-    // Row 1 of node 2's journal is none, and node 3's file is no database.
+    // Row 1 of node 2's journal is no record, and node 3's file is no database.
     assert!(rt;
         is_changed(
             &rt,
@@ -187,7 +191,7 @@ fn of_two_journals_that_are_refused_the_first_is_told(rt: HostRuntime) -> Result
         open_and_leave(&rt, &rt, FOLDER, 3, Leave::Closed),
         Err(Fault::Refused(17, 1))
     );
-    // No journal can be made for node 1, since a folder has its name.
+    // No journal can be made for node 1, because a folder has its name.
     fs::remove_file(&rt, ONE)?;
     fs::create_dir(&rt, ONE)?;
     assert_eq!(rt; open_and_leave(&rt, &rt, FOLDER, 3, Leave::Closed), DEVICE);
@@ -236,7 +240,7 @@ fn a_journal_above_the_group_that_cannot_be_read_is_refused(rt: HostRuntime) -> 
     fs::create_dir(&rt, THREE)?;
     assert_eq!(rt; start_and_compare(&rt, &rt, 2), (DEVICE, true));
     fs::remove_dir(&rt, THREE)?;
-    // A row that is no record is none that a group may pass over.
+    // A group may not ignore a row that is no record, either.
     assert!(rt; is_changed(&rt, THREE, FIRST_TABLE));
     assert!(rt;
         is_changed(

@@ -1,4 +1,4 @@
-//! Groups over the files of a folder, asked by a client of each node until they end.
+//! Groups over the files of a folder. A client of each node uses them until they end.
 
 use std::alloc::Global;
 use std::cell::RefCell;
@@ -8,19 +8,20 @@ use std::rt::HostRuntime;
 use std::thread::Threads;
 use std::time::{Clock, Duration};
 use std::{fs, io, thread};
-use urb_cli::{Fault, Serving};
+use urb_cli::{Fault, ServeOptions};
 use urb_daemon::{Console, Host, close_journals, open_journals, run_journals};
 use urb_terminal::Terminal;
 
-/// How the journals of a group are left at its end: closed, so that one file is left of each, or let go, as by a kill.
+/// How a group leaves its journals at its end. They are closed, so that only one file is left of
+/// each; or they are dropped, as after a kill.
 #[derive(Clone, Copy, PartialEq, Eq)]
 pub enum Leave {
     Closed,
     Dropped,
 }
 
-/// What the clients of a group saw: the log of each node right after the group was opened and at the end, and whether each submit
-/// was accepted under its number.
+/// What the clients of a group saw. They saw the log of each node, right after the group was opened
+/// and at the end, and whether each submit was accepted under its number.
 #[derive(Drop)]
 pub struct Seen {
     pub first: Vec<Vec<u8>>,
@@ -28,12 +29,12 @@ pub struct Seen {
     pub are_accepted: bool,
 }
 
-// What ends a session, and the answer to it.
+// The bytes that end a session, and the answer to them.
 const END: [u8; 2] = [0, 0];
 
 const ENDED: &[u8] = b"\x00\x06\xee\x13\x00\x00\x00\x01";
 
-// All that the node at this port answers to these bytes, up to the end of the session.
+// Everything that the node at this port answers to these bytes, up to the end of the session.
 fn answers<R: Net<Listener = TcpListener, Stream = TcpStream>>(
     rt: &R,
     alloc: Global,
@@ -53,7 +54,7 @@ fn answers<R: Net<Listener = TcpListener, Stream = TcpStream>>(
     Some(answered)
 }
 
-// Whether a node accepts the messages 1 to this number of client 7, under the same numbers.
+// Whether a node accepts client 7's messages from 1 to this number, under the same numbers.
 fn accepts<R: Net<Listener = TcpListener, Stream = TcpStream>>(
     rt: &R,
     alloc: Global,
@@ -74,10 +75,10 @@ fn accepts<R: Net<Listener = TcpListener, Stream = TcpStream>>(
     Some(answered.as_slice() == expected.as_slice())
 }
 
-// How many bytes the answer has that shows an entry of two bytes.
+// The length of the answer that shows an entry of two bytes.
 const ENTRY: usize = 19;
 
-// The answers to reads of the places 1 to this one, an entry each.
+// The answers to reads of the places 1 to this one, one entry each.
 fn log_of<R: Net<Listener = TcpListener, Stream = TcpStream>>(
     rt: &R,
     alloc: Global,
@@ -91,7 +92,8 @@ fn log_of<R: Net<Listener = TcpListener, Stream = TcpStream>>(
     answers(rt, alloc, port, sent.as_slice())
 }
 
-// The same once the log has so many entries, after at most 1,000 looks, five milliseconds apart.
+// The same, once the log has this number of entries. It polls at most 1,000 times, five
+// milliseconds apart.
 fn whole_log_of<R: Clock + Net<Listener = TcpListener, Stream = TcpStream>>(
     rt: &R,
     alloc: Global,
@@ -108,12 +110,13 @@ fn whole_log_of<R: Clock + Net<Listener = TcpListener, Stream = TcpStream>>(
     None
 }
 
-/// The clients of a group, one of each node. They are the group's input: it ends when they have done their errands.
+/// The clients of a group, one of each node. They are the group's input, which ends when they are
+/// done.
 #[derive(Drop)]
 struct Clients<'a, R: Clock + Net<Listener = TcpListener, Stream = TcpStream>> {
     rt: &'a R,
     alloc: Global,
-    serving: Serving<'a>,
+    serving: ServeOptions<'a>,
     number: u8,
     seen: &'a RefCell<Option<Seen>>,
 }
@@ -127,12 +130,12 @@ impl<R: Clock + Net<Listener = TcpListener, Stream = TcpStream>> Clients<'_, R> 
             .checked_add(u16::from(node))
     }
 
-    // How many entries each log has when so many messages of each node are delivered.
+    // How many entries each log has when this number of messages of each node is delivered.
     fn entries(&self, number: u8) -> Option<u8> {
         self.serving.nodes.checked_mul(number)
     }
 
-    // Reads each log, submits at each node, and waits until each log shows all.
+    // Reads each log, submits at each node, and waits until each log shows everything.
     fn visit(&self) -> Option<Seen> {
         let (rt, alloc) = (self.rt, self.alloc);
         let (mut first, mut last) = (Vec::new(alloc), Vec::new(alloc));
@@ -175,7 +178,7 @@ impl<R: Clock + Net<Listener = TcpListener, Stream = TcpStream>> Read for Client
 fn visit_at<R>(
     threads: &R,
     rt: &HostRuntime,
-    serving: Serving<'_>,
+    serving: ServeOptions<'_>,
     number: u8,
     leave: Leave,
 ) -> Result<Seen, Fault>
@@ -203,8 +206,9 @@ where
     seen.into_inner().ok_or(Fault::BadReply)
 }
 
-/// Runs a group of so many nodes over the folder. A client of each node reads its log, submits its messages 1 to this number, and
-/// waits until the log shows those of all nodes.
+/// Runs a group of the given number of nodes over the folder. Each node has a client, which reads
+/// the log and submits its messages from 1 to the given number. Then it waits until the log shows
+/// those of all nodes.
 pub fn visit<R>(
     threads: &R,
     rt: &HostRuntime,
@@ -219,7 +223,7 @@ where
     let mut seen = Err(Fault::Network);
     for base in [22_510, 26_070, 27_330, 30_290] {
         if seen.as_ref().err() == Some(&Fault::Network) {
-            seen = match Serving::new(nodes, 100, folder, base, 50) {
+            seen = match ServeOptions::new(nodes, 100, folder, base, 50) {
                 Some(serving) => visit_at(threads, rt, serving, number, leave),
                 None => Err(Fault::BadReply),
             };
@@ -228,7 +232,7 @@ where
     seen
 }
 
-/// Opens the journals of so many nodes in the folder, and leaves them so.
+/// Opens the journals of the given number of nodes in the folder, and leaves them in this way.
 pub fn open_and_leave<R: Threads + Sync>(
     threads: &R,
     rt: &HostRuntime,
@@ -236,7 +240,7 @@ pub fn open_and_leave<R: Threads + Sync>(
     nodes: u8,
     leave: Leave,
 ) -> Result<(), Fault> {
-    let Some(serving) = Serving::new(nodes, 100, folder, 22_510, 50) else {
+    let Some(serving) = ServeOptions::new(nodes, 100, folder, 22_510, 50) else {
         return Err(Fault::BadReply);
     };
     let journals = open_journals(threads, rt, serving)?;
@@ -247,13 +251,14 @@ pub fn open_and_leave<R: Threads + Sync>(
     Ok(())
 }
 
-/// Makes the folder anew, and says whether it could.
+/// Makes the folder anew, and says whether that worked.
 pub fn is_cleared(rt: &HostRuntime, folder: &str) -> bool {
     let _ = fs::remove_dir_all(rt, folder);
     fs::create_dir(rt, folder).is_ok()
 }
 
-/// The files of the nodes 1 to 7 in the folder, each node's journal before its log: their bytes, or none for one that isn't there.
+/// The files of the nodes 1 to 7 in the folder, each node's journal before its log. `None` stands
+/// for a file that doesn't exist.
 pub fn contents(rt: &HostRuntime, folder: &str) -> Option<Vec<Option<Vec<u8>>>> {
     let mut all = Vec::new(rt.alloc());
     for node in 1..8u8 {

@@ -2,7 +2,8 @@
 ghost use Rattle.std.specs.Prelude.{[], ◌∷◌, None, Some, replicate};
 ghost use Rattle.urb_names.specs.declared.refusal.Refusal.TheVariants as refusal;
 ghost use Rattle.urb_names.specs.Names.{name};
-ghost use Rattle.urb_group.specs.Scripts.{◌⇒◌, Plays, Drafts, Accepts, Logs, Refuses, accepted, down, message, submit, store, crash, log_of};
+ghost use Rattle.urb_group.specs.Scripts.{◌⇒◌, Plays, Drafts, Accepts, Logs, Refuses, accepted};
+ghost use Rattle.urb_group.specs.Scripts.{down, message, submit, store, crash, log_of};
 ghost use Rattle.urb_group.specs.Examples.{filled};
 
 /// The numbers of each client run 1, 2, 3, .. at each node. A repeat gets the name that the first

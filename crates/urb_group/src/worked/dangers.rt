@@ -9,8 +9,15 @@ ghost use Rattle.urb_group.specs.Examples.{pending, certified, limits};
 
 /// What a safe group doesn't deliver, and what its nodes don't hold.
 pub fn dangers()
-    ensures delivered_by_too_few { Safe (opened (limits 3 10) (image_of ((certified 1 1 ∷ []) ∷ [] ∷ [] ∷ []))) → ⊥ }
-    ensures delivered_by_half { Safe (opened (limits 4 10) (image_of ((certified 1 1 ∷ []) ∷ (pending 1 1 ∷ []) ∷ [] ∷ [] ∷ []))) → ⊥ }
-    ensures delivered_and_never_broadcast { Safe (opened (limits 3 10) (image_of ([] ∷ (certified 1 1 ∷ []) ∷ (certified 1 1 ∷ []) ∷ []))) → ⊥ }
-    ensures two_messages_under_one_name { OneMessage (opened (limits 2 10) (image_of ((pending 1 1 ∷ []) ∷ (Pend (name 1 1) (message 7 1 "a") ∷ []) ∷ []))) → ⊥ }
+    ensures delivered_by_too_few { Safe
+        (opened (limits 3 10) (image_of ((certified 1 1 ∷ []) ∷ [] ∷ [] ∷ []))) → ⊥ }
+    ensures delivered_by_half { Safe
+        (opened (limits 4 10) (image_of ((certified 1 1 ∷ []) ∷ (pending 1 1 ∷ []) ∷ [] ∷ [] ∷ [])))
+        → ⊥ }
+    ensures delivered_and_never_broadcast { Safe
+        (opened (limits 3 10) (image_of ([] ∷ (certified 1 1 ∷ []) ∷ (certified 1 1 ∷ []) ∷ [])))
+        → ⊥ }
+    ensures two_messages_under_one_name { OneMessage
+        (opened (limits 2 10) (image_of
+        ((pending 1 1 ∷ []) ∷ (Pend (name 1 1) (message 7 1 "a") ∷ []) ∷ []))) → ⊥ }
 {}

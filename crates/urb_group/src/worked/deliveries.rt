@@ -4,7 +4,9 @@ ghost use Rattle.urb_names.specs.Names.{name};
 ghost use Rattle.urb_stable.specs.declared.record.Record.TheVariants.{Pend, PendCert, Cert};
 ghost use Rattle.urb_node.specs.Part.{Ready, Storing, packet_from};
 ghost use Rattle.urb_group.specs.World.{image_of};
-ghost use Rattle.urb_group.specs.Scripts.{◌⇒◌, Plays, PlaysOpened, Drafts, Accepts, Takes, Logs, Holds, Is, noted, again, message, submit, store, arrive, log_of, held, look_at};
+ghost use Rattle.urb_group.specs.Scripts.{◌⇒◌, Plays, PlaysOpened, Drafts, Accepts, Takes, Logs};
+ghost use Rattle.urb_group.specs.Scripts.{Holds, Is, noted, again, message, submit, store, arrive};
+ghost use Rattle.urb_group.specs.Scripts.{log_of, held, look_at};
 ghost use Rattle.urb_group.specs.Examples.{pending, limits};
 
 /// Groups of one and of three nodes.
@@ -110,7 +112,9 @@ pub fn larger_groups()
         ∷ arrive 2 1 1 1 ⇒ noted 1 1
         ∷ arrive 3 1 1 2 ⇒ noted 1 2
         ∷ []) }
-    ensures a_certificate_leaves_the_other_counts { PlaysOpened (limits 4 10) (image_of ((pending 1 1 ∷ pending 1 2 ∷ []) ∷ (pending 1 1 ∷ pending 1 2 ∷ []) ∷ (pending 1 1 ∷ []) ∷ [] ∷ [])) (
+    ensures a_certificate_leaves_the_other_counts { PlaysOpened (limits 4 10)
+        (image_of ((pending 1 1 ∷ pending 1 2 ∷ []) ∷ (pending 1 1 ∷ pending 1 2 ∷ [])
+        ∷ (pending 1 1 ∷ []) ∷ [] ∷ [])) (
         arrive 2 1 1 2 ⇒ noted 1 2
         ∷ arrive 2 1 1 1 ⇒ noted 1 1
         ∷ arrive 3 1 1 1 ⇒ Drafts (name 1 1) 3

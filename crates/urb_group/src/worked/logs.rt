@@ -12,10 +12,17 @@ pub fn logs()
     ensures pending_is_not_delivered { log (pending 1 1 ∷ []) ≡ [] }
     ensures later_number_waits { log (certified 1 2 ∷ []) ≡ [] }
     ensures rising_in_number { log (certified 1 2 ∷ certified 1 1 ∷ []) ≡ name 1 1 ∷ name 1 2 ∷ [] }
-    ensures in_order_of_certificates { log (pending 1 1 ∷ certified 2 1 ∷ Cert (name 1 1) ∷ []) ≡ name 2 1 ∷ name 1 1 ∷ [] }
-    ensures senders_apart { log (certified 1 2 ∷ certified 2 1 ∷ certified 1 1 ∷ certified 2 2 ∷ []) ≡ name 2 1 ∷ name 1 1 ∷ name 1 2 ∷ name 2 2 ∷ [] }
-    ensures stops_at_a_gap { log (certified 1 1 ∷ certified 1 3 ∷ certified 1 4 ∷ []) ≡ name 1 1 ∷ [] }
-    ensures goes_on_past_the_gap { log (certified 1 1 ∷ certified 1 3 ∷ certified 1 4 ∷ certified 1 2 ∷ []) ≡ name 1 1 ∷ name 1 2 ∷ name 1 3 ∷ name 1 4 ∷ [] }
-    ensures each_with_its_message { entries (PendCert (name 1 2) (message 7 1 "b") ∷ Pend (name 2 1) (message 8 1 "c") ∷ PendCert (name 1 1) (message 9 1 "a") ∷ [])
+    ensures in_order_of_certificates { log (pending 1 1 ∷ certified 2 1 ∷ Cert (name 1 1) ∷ [])
+        ≡ name 2 1 ∷ name 1 1 ∷ [] }
+    ensures senders_apart { log (certified 1 2 ∷ certified 2 1 ∷ certified 1 1 ∷ certified 2 2 ∷ [])
+        ≡ name 2 1 ∷ name 1 1 ∷ name 1 2 ∷ name 2 2 ∷ [] }
+    ensures stops_at_a_gap { log (certified 1 1 ∷ certified 1 3 ∷ certified 1 4 ∷ [])
+        ≡ name 1 1 ∷ [] }
+    ensures goes_on_past_the_gap { log
+        (certified 1 1 ∷ certified 1 3 ∷ certified 1 4 ∷ certified 1 2 ∷ [])
+        ≡ name 1 1 ∷ name 1 2 ∷ name 1 3 ∷ name 1 4 ∷ [] }
+    ensures each_with_its_message { entries
+        (PendCert (name 1 2) (message 7 1 "b") ∷ Pend (name 2 1) (message 8 1 "c") ∷ PendCert
+        (name 1 1) (message 9 1 "a") ∷ [])
         ≡ (name 1 1, Some (message 9 1 "a")) ∷ (name 1 2, Some (message 7 1 "b")) ∷ [] }
 {}

@@ -1,4 +1,4 @@
-//! The packets that a script hands out, in full.
+//! The packets of a script's replies, in full.
 ghost use Rattle.std.specs.Prelude.{◌≡◌, [], ◌∷◌, Ok, true, false};
 ghost use Rattle.urb_names.specs.Names.{name};
 ghost use Rattle.urb_stable.specs.declared.record.Record.TheVariants.{Pend, PendCert, Cert};
@@ -10,8 +10,8 @@ ghost use Rattle.urb_group.specs.Scripts.{message};
 ghost use Rattle.urb_group.specs.Examples.{pending, certified, limits, carried, flagged};
 
 /// A stored pair goes to every other node, in rising order of target. A certificate goes to no
-/// node. All packets that were handed out were sent. Packets are of version two, and report a
-/// certificate from the record on that is one.
+/// node. All packets of replies count as sent. Packets are of version two. They report a
+/// certificate from the record on that certifies the name.
 pub fn packets()
     ensures in_the_replies { (run (started (limits 3 10)) (
         Submit 1 (message 7 1 "a")
@@ -85,7 +85,8 @@ pub fn packets()
         ∷ Sent (flagged 1 1 3 1 1 (message 7 1 "a") ∷ [])
         ∷ Same (Answered (name 1 1) (flagged 3 1 2 1 1 (message 7 1 "a") ∷ []))
         ∷ [] }
-    ensures a_record_that_is_a_certificate_tells_its_source_so { (run (opened (limits 3 10) (image_of ((pending 1 1 ∷ []) ∷ (certified 1 1 ∷ []) ∷ [] ∷ []))) (
+    ensures a_record_that_is_a_certificate_tells_its_source_so { (run
+        (opened (limits 3 10) (image_of ((pending 1 1 ∷ []) ∷ (certified 1 1 ∷ []) ∷ [] ∷ []))) (
         Arrive 3 (Ok (flagged 1 2 3 1 1 (message 7 1 "")))
         ∷ Commit 3 1 (certified 1 1)
         ∷ [])).0
@@ -97,7 +98,9 @@ pub fn packets()
           released = 1;
         })
         ∷ [] }
-    ensures a_record_tells_its_source_that_its_certificate_was_heard { (run (opened (limits 4 10) (image_of ((pending 1 1 ∷ []) ∷ (pending 1 1 ∷ []) ∷ (certified 1 1 ∷ []) ∷ [] ∷ []))) (
+    ensures a_record_tells_its_source_that_its_certificate_was_heard { (run
+        (opened (limits 4 10) (image_of
+        ((pending 1 1 ∷ []) ∷ (pending 1 1 ∷ []) ∷ (certified 1 1 ∷ []) ∷ [] ∷ []))) (
         Arrive 4 (Ok (flagged 1 3 4 1 1 (message 7 1 "")))
         ∷ Commit 4 1 (pending 1 1)
         ∷ [])).0

@@ -6,7 +6,10 @@ ghost use Rattle.urb_names.specs.Names.{name};
 ghost use Rattle.urb_stable.specs.declared.record.Record.TheVariants.{Pend, PendCert, Cert};
 ghost use Rattle.urb_node.specs.Part.{Ready};
 ghost use Rattle.urb_group.specs.World.{image_of};
-ghost use Rattle.urb_group.specs.Scripts.{◌⇒◌, Plays, PlaysOpened, Drafts, Accepts, Takes, Sends, Logs, Is, Refuses, noted, again, down, message, submit, store, fail_old, crash, restart, commit, bring, bring_bytes, tick, arrive, log_of, look_at};
+ghost use Rattle.urb_group.specs.Scripts.{◌⇒◌, Plays, PlaysOpened, Drafts, Accepts, Takes, Sends};
+ghost use Rattle.urb_group.specs.Scripts.{Logs, Is, Refuses, noted, again, down, message, submit};
+ghost use Rattle.urb_group.specs.Scripts.{store, fail_old, crash, restart, commit, bring};
+ghost use Rattle.urb_group.specs.Scripts.{bring_bytes, tick, arrive, log_of, look_at};
 ghost use Rattle.urb_group.specs.Examples.{pending, certified, limits, carried};
 
 /// Packets of pairs that their source doesn't hold, packets of nodes that the group doesn't have,
@@ -53,11 +56,13 @@ pub fn packets()
         ∷ store 2 ⇒ Takes (name 1 1) 2 1
         ∷ arrive 1 2 1 1 ⇒ again 1 1
         ∷ []) }
-    ensures a_certified_name_that_waits_comes_again { PlaysOpened (limits 3 10) (image_of ((pending 1 1 ∷ pending 1 2 ∷ []) ∷ (certified 1 2 ∷ []) ∷ [] ∷ [])) (
+    ensures a_certified_name_that_waits_comes_again { PlaysOpened (limits 3 10)
+        (image_of ((pending 1 1 ∷ pending 1 2 ∷ []) ∷ (certified 1 2 ∷ []) ∷ [] ∷ [])) (
         log_of 2 ⇒ Logs []
         ∷ arrive 1 2 1 2 ⇒ again 1 2
         ∷ []) }
-    ensures a_pending_name_of_a_lone_node_is_certified { PlaysOpened (limits 1 10) (image_of ((pending 1 1 ∷ []) ∷ [])) (
+    ensures a_pending_name_of_a_lone_node_is_certified { PlaysOpened (limits 1 10)
+        (image_of ((pending 1 1 ∷ []) ∷ [])) (
         bring 1 (carried 1 1 1 1 (message 7 1 "")) ⇒ Drafts (name 1 1) 2
         ∷ store 1 ⇒ Takes (name 1 1) 0 1
         ∷ []) }
@@ -89,7 +94,8 @@ pub fn receipts()
         ∷ crash 1 ⇒ down 1
         ∷ commit 1 1 (pending 1 1) ⇒ Refuses refusal.Down
         ∷ []) }
-    ensures of_another_certificate { PlaysOpened (limits 2 10) (image_of ((pending 1 1 ∷ []) ∷ (pending 1 1 ∷ []) ∷ [])) (
+    ensures of_another_certificate { PlaysOpened (limits 2 10)
+        (image_of ((pending 1 1 ∷ []) ∷ (pending 1 1 ∷ []) ∷ [])) (
         arrive 2 1 1 1 ⇒ Drafts (name 1 1) 2
         ∷ commit 1 2 (Cert (name 1 2)) ⇒ Refuses refusal.Stale
         ∷ commit 1 2 (Cert (name 2 1)) ⇒ Refuses refusal.Stale

@@ -1,6 +1,6 @@
 //! Which images a restart accepts, and the node after it.
 //!
-//! An image is the list of records that a node's storage gave back. The functions do nothing. Each
+//! An image is the list of records that a node's storage returned. The functions do nothing. Each
 //! clause plays a script, a list of `event ⇒ answer`, by the definitions alone.
 ghost use Rattle.std.specs.Prelude.{[], ◌∷◌, None, Some};
 ghost use Rattle.urb_names.specs.declared.refusal.Refusal.TheVariants as refusal;
@@ -8,12 +8,14 @@ ghost use Rattle.urb_names.specs.Names.{name};
 ghost use Rattle.urb_stable.specs.declared.record.Record.TheVariants.{Pend, PendCert, Cert};
 ghost use Rattle.urb_node.specs.Part.{Ready};
 ghost use Rattle.urb_group.specs.World.{image_of};
-ghost use Rattle.urb_group.specs.Scripts.{◌⇒◌, Plays, PlaysOpened, Drafts, Accepts, Takes, Is, Refuses, accepted, down, up, message, submit, store, fail_old, crash, restart_with, arrive, look_at};
+ghost use Rattle.urb_group.specs.Scripts.{◌⇒◌, Plays, PlaysOpened, Drafts, Accepts, Takes, Is};
+ghost use Rattle.urb_group.specs.Scripts.{Refuses, accepted, down, up, message, submit, store};
+ghost use Rattle.urb_group.specs.Scripts.{fail_old, crash, restart_with, arrive, look_at};
 ghost use Rattle.urb_group.specs.Examples.{pending, certified, limits};
 
 /// Images that match what was stored. The record in doubt may be there or be missing. The node has
 /// its records again in its own order, and one acknowledgement, its own, for each pending name.
-pub fn taken()
+pub fn taken_images()
     ensures pairs_in_another_order { Plays 3 10 (
         submit 1 (message 7 1 "") ⇒ Drafts (name 1 1) 1
         ∷ store 1 ⇒ Accepts (name 1 1) 2 0
@@ -73,7 +75,7 @@ pub fn taken()
 
 /// Images that don't match what was stored. They are refused as `BadImage`, and the node stays
 /// down.
-pub fn refused()
+pub fn refused_images()
     ensures other_than_the_one_record { Plays 3 10 (
         submit 1 (message 7 1 "") ⇒ Drafts (name 1 1) 1
         ∷ store 1 ⇒ Accepts (name 1 1) 2 0
@@ -104,22 +106,27 @@ pub fn refused()
         ∷ restart_with 1 (pending 1 1 ∷ pending 1 1 ∷ []) ⇒ Refuses refusal.BadImage
         ∷ restart_with 1 (pending 1 1 ∷ []) ⇒ up 1
         ∷ []) }
-    ensures with_a_pair_less_and_another_twice { PlaysOpened (limits 2 10) (image_of ((pending 1 1 ∷ pending 1 2 ∷ []) ∷ [] ∷ [])) (
+    ensures with_a_pair_less_and_another_twice { PlaysOpened (limits 2 10)
+        (image_of ((pending 1 1 ∷ pending 1 2 ∷ []) ∷ [] ∷ [])) (
         crash 1 ⇒ down 1
         ∷ restart_with 1 (pending 1 1 ∷ pending 1 1 ∷ []) ⇒ Refuses refusal.BadImage
         ∷ restart_with 1 (pending 1 1 ∷ pending 1 2 ∷ []) ⇒ up 1
         ∷ []) }
-    ensures with_a_pair_more { PlaysOpened (limits 3 10) (image_of ((pending 1 1 ∷ Cert (name 1 1) ∷ []) ∷ (certified 1 1 ∷ []) ∷ [] ∷ [])) (
+    ensures with_a_pair_more { PlaysOpened (limits 3 10)
+        (image_of ((pending 1 1 ∷ Cert (name 1 1) ∷ []) ∷ (certified 1 1 ∷ []) ∷ [] ∷ [])) (
         crash 1 ⇒ down 1
         ∷ restart_with 1 (certified 1 1 ∷ pending 1 2 ∷ []) ⇒ Refuses refusal.BadImage
         ∷ restart_with 1 (pending 1 1 ∷ Cert (name 1 1) ∷ []) ⇒ up 1
         ∷ []) }
-    ensures with_another_log { PlaysOpened (limits 3 10) (image_of ((pending 1 1 ∷ []) ∷ (pending 2 1 ∷ []) ∷ (certified 1 1 ∷ certified 2 1 ∷ []) ∷ [])) (
+    ensures with_another_log { PlaysOpened (limits 3 10)
+        (image_of ((pending 1 1 ∷ []) ∷ (pending 2 1 ∷ []) ∷ (certified 1 1 ∷ certified 2 1 ∷ [])
+        ∷ [])) (
         crash 3 ⇒ down 3
         ∷ restart_with 3 (certified 2 1 ∷ certified 1 1 ∷ []) ⇒ Refuses refusal.BadImage
         ∷ restart_with 3 (certified 1 1 ∷ certified 2 1 ∷ []) ⇒ up 3
         ∷ []) }
-    ensures with_other_certificates { PlaysOpened (limits 3 10) (image_of ((pending 1 1 ∷ pending 1 2 ∷ []) ∷ (certified 1 2 ∷ []) ∷ [] ∷ [])) (
+    ensures with_other_certificates { PlaysOpened (limits 3 10)
+        (image_of ((pending 1 1 ∷ pending 1 2 ∷ []) ∷ (certified 1 2 ∷ []) ∷ [] ∷ [])) (
         crash 2 ⇒ down 2
         ∷ restart_with 2 (pending 1 2 ∷ []) ⇒ Refuses refusal.BadImage
         ∷ restart_with 2 (certified 1 2 ∷ []) ⇒ up 2

@@ -8,7 +8,12 @@ ghost use Rattle.urb_names.specs.Nodes.{numbers_from};
 ghost use Rattle.urb_group.specs.Examples.{flagged, limits, pending};
 ghost use Rattle.urb_group.specs.Recoveries.{opened_group, scene_after};
 ghost use Rattle.urb_group.specs.Recovering.{both, rounds, stores};
-ghost use Rattle.urb_group.specs.RoundExamples.{RoundsCome, TicksSend, a_round, as_sent, broadcast_of_two, busy_at_first, disturbed, in_order, judged, leaves_a_draft, loses_a_packet, none_of, old_packets, one_by_one, ticks_too_seldom, two_of_three_nodes_broadcast, with_answers, without_receipts};
+ghost use Rattle.urb_group.specs.RoundExamples.{RoundsCome, TicksSend, a_round, as_sent};
+ghost use Rattle.urb_group.specs.RoundExamples.{broadcast_of_two, busy_at_first, disturbed};
+ghost use Rattle.urb_group.specs.RoundExamples.{in_order, judged, leaves_a_draft, loses_a_packet};
+ghost use Rattle.urb_group.specs.RoundExamples.{none_of, old_packets, one_by_one, ticks_too_seldom};
+ghost use Rattle.urb_group.specs.RoundExamples.{two_of_three_nodes_broadcast, with_answers};
+ghost use Rattle.urb_group.specs.RoundExamples.{without_receipts};
 ghost use Rattle.urb_group.specs.Rounds.{IsRound};
 ghost use Rattle.urb_group.specs.Scripts.{message, submit};
 ghost use Rattle.urb_group.specs.Step.{Arrive, Crash, Event, Restart, Tick};
@@ -63,7 +68,8 @@ pub fn what_is_no_round()
         (in_order (1 ∷ 2 ∷ []) none_of) loses_a_packet
         (in_order (1 ∷ 2 ∷ []) as_sent) a_round
         ([] ∷ (name 1 1 ∷ []) ∷ []) }
-    ensures a_packet_is_refused_as_busy { RoundsCome (scene_after (broadcast_of_two 1) (submit 2 (message 8 1 "b") ∷ []))
+    ensures a_packet_is_refused_as_busy { RoundsCome
+        (scene_after (broadcast_of_two 1) (submit 2 (message 8 1 "b") ∷ []))
         (both (λ w. Tick 1 ∷ Arrive 2 (Ok (flagged 0 1 2 1 1 (message 7 1 "a"))) ∷ [])
         (both (stores 2) (in_order (2 ∷ []) as_sent))) loses_a_packet
         (in_order (1 ∷ 2 ∷ []) as_sent) a_round

@@ -9,37 +9,58 @@ ghost use Rattle.urb_group.specs.Stopping.{MayLeave};
 ghost use Rattle.urb_group.specs.Examples.{pending, certified, node_in, shut_by_failures, world_of};
 
 /// The stored records, with or without the record that is held or in doubt.
-pub fn left()
-    ensures stored_by_a_ready_node { MayLeave (node_in Ready (pending 1 1 ∷ [])) (pending 1 1 ∷ []) }
-    ensures without_the_held_one { MayLeave (node_in (Storing (pending 1 2) None) (pending 1 1 ∷ [])) (pending 1 1 ∷ []) }
-    ensures with_the_held_one { MayLeave (node_in (Storing (pending 1 2) None) (pending 1 1 ∷ [])) (pending 1 1 ∷ pending 1 2 ∷ []) }
-    ensures without_the_doubtful_one { MayLeave (node_in (Down (Some (pending 1 2))) (pending 1 1 ∷ [])) (pending 1 1 ∷ []) }
-    ensures with_the_doubtful_one { MayLeave (node_in (Down (Some (pending 1 2))) (pending 1 1 ∷ [])) (pending 1 1 ∷ pending 1 2 ∷ []) }
-    ensures stored_by_a_node_that_is_down { MayLeave (node_in (Down None) (pending 1 1 ∷ [])) (pending 1 1 ∷ []) }
-    ensures taken_before_its_commit { HoldsOf (in_memory (Unit {0})) (node_in (Storing (pending 1 1) (Some (packet_from 2 false))) []) (with_record (pending 1 1) empty_memory) }
+pub fn left_records()
+    ensures stored_by_a_ready_node { MayLeave (node_in Ready (pending 1 1 ∷ []))
+        (pending 1 1 ∷ []) }
+    ensures without_the_held_one { MayLeave
+        (node_in (Storing (pending 1 2) None) (pending 1 1 ∷ [])) (pending 1 1 ∷ []) }
+    ensures with_the_held_one { MayLeave (node_in (Storing (pending 1 2) None) (pending 1 1 ∷ []))
+        (pending 1 1 ∷ pending 1 2 ∷ []) }
+    ensures without_the_doubtful_one { MayLeave
+        (node_in (Down (Some (pending 1 2))) (pending 1 1 ∷ [])) (pending 1 1 ∷ []) }
+    ensures with_the_doubtful_one { MayLeave
+        (node_in (Down (Some (pending 1 2))) (pending 1 1 ∷ [])) (pending 1 1 ∷ pending 1 2 ∷ []) }
+    ensures stored_by_a_node_that_is_down { MayLeave (node_in (Down None) (pending 1 1 ∷ []))
+        (pending 1 1 ∷ []) }
+    ensures taken_before_its_commit { HoldsOf (in_memory (Unit {0}))
+        (node_in (Storing (pending 1 1) (Some (packet_from 2 false))) [])
+        (with_record (pending 1 1) empty_memory) }
 {}
 
 /// Nothing else: no record is lost, no record is made up, and no record comes before another.
-pub fn never_left()
+pub fn records_never_left()
     ensures less_of_a_ready_node { MayLeave (node_in Ready (pending 1 1 ∷ [])) [] → ⊥ }
     ensures more_of_a_ready_node { MayLeave (node_in Ready []) (pending 1 1 ∷ []) → ⊥ }
-    ensures the_held_one_alone { MayLeave (node_in (Storing (pending 1 2) None) (pending 1 1 ∷ [])) (pending 1 2 ∷ []) → ⊥ }
-    ensures the_held_one_before { MayLeave (node_in (Storing (pending 1 2) None) (pending 1 1 ∷ [])) (pending 1 2 ∷ pending 1 1 ∷ []) → ⊥ }
-    ensures another_than_the_held_one { MayLeave (node_in (Storing (pending 1 2) None) (pending 1 1 ∷ [])) (pending 1 1 ∷ certified 1 2 ∷ []) → ⊥ }
-    ensures the_held_one_twice { MayLeave (node_in (Storing (pending 1 2) None) (pending 1 1 ∷ [])) (pending 1 1 ∷ pending 1 2 ∷ pending 1 2 ∷ []) → ⊥ }
-    ensures more_where_none_is_in_doubt { MayLeave (node_in (Down None) (pending 1 1 ∷ [])) (pending 1 1 ∷ pending 1 2 ∷ []) → ⊥ }
+    ensures the_held_one_alone { MayLeave (node_in (Storing (pending 1 2) None) (pending 1 1 ∷ []))
+        (pending 1 2 ∷ []) → ⊥ }
+    ensures the_held_one_before { MayLeave (node_in (Storing (pending 1 2) None) (pending 1 1 ∷ []))
+        (pending 1 2 ∷ pending 1 1 ∷ []) → ⊥ }
+    ensures another_than_the_held_one { MayLeave
+        (node_in (Storing (pending 1 2) None) (pending 1 1 ∷ [])) (pending 1 1 ∷ certified 1 2 ∷ [])
+        → ⊥ }
+    ensures the_held_one_twice { MayLeave (node_in (Storing (pending 1 2) None) (pending 1 1 ∷ []))
+        (pending 1 1 ∷ pending 1 2 ∷ pending 1 2 ∷ []) → ⊥ }
+    ensures more_where_none_is_in_doubt { MayLeave (node_in (Down None) (pending 1 1 ∷ []))
+        (pending 1 1 ∷ pending 1 2 ∷ []) → ⊥ }
 {}
 
 /// What stores leave. A store that a failure shut, in a call or before it, leaves what its node may
-/// leave. So does a store at rest. No store leaves a record that its node doesn't have. A store
-/// that is shut is no store of a node that is up.
+/// leave. The same holds for a store between two calls. No store leaves a record that its node
+/// doesn't have. A store that is shut can't be that of a node that is up.
 pub fn stores()
-    ensures shut_inside_a_call { StopLeaves shut_by_failures (world_of (node_in (Storing (pending 1 1) None) [])) (empty_memory ∷ []) (after_failure (Some (pending 1 1)) empty_memory ∷ [])
+    ensures shut_inside_a_call { StopLeaves shut_by_failures
+        (world_of (node_in (Storing (pending 1 1) None) [])) (empty_memory ∷ [])
+        (after_failure (Some (pending 1 1)) empty_memory ∷ [])
         → LeavesOf shut_by_failures (node_in (Storing (pending 1 1) None) []) (after_failure (Some (pending 1 1)) empty_memory) }
-    ensures at_rest { IsStoreOf shut_by_failures (node_in Ready (pending 1 1 ∷ [])) (with_record (pending 1 1) empty_memory)
+    ensures at_rest { IsStoreOf shut_by_failures (node_in Ready (pending 1 1 ∷ []))
+        (with_record (pending 1 1) empty_memory)
         → LeavesOf shut_by_failures (node_in Ready (pending 1 1 ∷ [])) (with_record (pending 1 1) empty_memory) }
-    ensures shut_and_its_node_down { IsLasting shut_by_failures (node_in (Down (Some (pending 1 1))) []) (after_failure (Some (pending 1 1)) empty_memory) }
-    ensures shut_while_its_node_is_up { IsLasting shut_by_failures (node_in Ready []) (after_failure None empty_memory) → ⊥ }
-    ensures a_record_that_the_node_lacks { LeavesOf shut_by_failures (node_in Ready []) (with_record (pending 1 1) empty_memory) → ⊥ }
-    ensures no_record_where_the_node_has_one { LeavesOf shut_by_failures (node_in Ready (pending 1 1 ∷ [])) empty_memory → ⊥ }
+    ensures shut_and_its_node_down { IsLasting shut_by_failures
+        (node_in (Down (Some (pending 1 1))) []) (after_failure (Some (pending 1 1)) empty_memory) }
+    ensures shut_while_its_node_is_up { IsLasting shut_by_failures (node_in Ready [])
+        (after_failure None empty_memory) → ⊥ }
+    ensures a_record_that_the_node_lacks { LeavesOf shut_by_failures (node_in Ready [])
+        (with_record (pending 1 1) empty_memory) → ⊥ }
+    ensures no_record_where_the_node_has_one { LeavesOf shut_by_failures
+        (node_in Ready (pending 1 1 ∷ [])) empty_memory → ⊥ }
 {}

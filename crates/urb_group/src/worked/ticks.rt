@@ -1,10 +1,12 @@
-//! What ticks send: at most sixteen pending names, in cyclic order.
+//! What ticks send: at most `NAMES_PER_TICK` pending names, in cyclic order.
 //!
 //! Each name goes to every other node, except those that were heard to have certified it.
 ghost use Rattle.std.specs.Prelude.{[], ◌∷◌, ◌++◌, None, Some};
 ghost use Rattle.urb_names.specs.Names.{name};
 ghost use Rattle.urb_group.specs.World.{image_of};
-ghost use Rattle.urb_group.specs.Scripts.{◌⇒◌, Plays, PlaysOpened, Drafts, Accepts, Takes, Sends, down, up, message, submit, store, crash, restart, tick, arrive};
+ghost use Rattle.urb_group.specs.Scripts.{◌⇒◌, Plays, PlaysOpened, Drafts, Accepts, Takes, Sends};
+ghost use Rattle.urb_group.specs.Scripts.{down, up, message, submit, store, crash, restart, tick};
+ghost use Rattle.urb_group.specs.Scripts.{arrive};
 ghost use Rattle.urb_group.specs.Examples.{pending, certified, limits, stored_from, to_two};
 
 /// Ticks of nodes with few names.
@@ -15,10 +17,13 @@ pub fn ticks()
         ∷ tick 1 ⇒ Sends ((2, name 1 1) ∷ (2, name 1 2) ∷ (2, name 1 3) ∷ [])
         ∷ tick 2 ⇒ Sends []
         ∷ []) }
-    ensures names_rise_and_then_targets { PlaysOpened (limits 3 10) (image_of ((pending 1 1 ∷ pending 1 2 ∷ []) ∷ (certified 1 2 ∷ pending 2 1 ∷ pending 1 1 ∷ []) ∷ [] ∷ [])) (
+    ensures names_rise_and_then_targets { PlaysOpened (limits 3 10)
+        (image_of ((pending 1 1 ∷ pending 1 2 ∷ [])
+        ∷ (certified 1 2 ∷ pending 2 1 ∷ pending 1 1 ∷ []) ∷ [] ∷ [])) (
         tick 2 ⇒ Sends ((1, name 1 1) ∷ (3, name 1 1) ∷ (1, name 1 2) ∷ (3, name 1 2) ∷ (1, name 2 1) ∷ (3, name 2 1) ∷ [])
         ∷ []) }
-    ensures a_lone_node_sends_to_none { PlaysOpened (limits 1 10) (image_of ((certified 1 1 ∷ []) ∷ [])) (tick 1 ⇒ Sends [] ∷ []) }
+    ensures a_lone_node_sends_to_none { PlaysOpened (limits 1 10)
+        (image_of ((certified 1 1 ∷ []) ∷ [])) (tick 1 ⇒ Sends [] ∷ []) }
     ensures those_after_the_cursor_go_first { Plays 2 20 (
         submit 1 (message 7 1 "a") ⇒ Drafts (name 1 1) 1
         ∷ store 1 ⇒ Accepts (name 1 1) 1 0

@@ -74,7 +74,7 @@ pub fn cluster<A: Allocator + Copy>(alloc: A) -> Option<Cluster<MemStable<A>>> {
 }
 
 // Returns what a reply says.
-fn led_in<A: Allocator>(reply: &Reply<A>) -> Led {
+fn read_reply<A: Allocator>(reply: &Reply<A>) -> Led {
     match reply {
         Reply::Refused(_) => Led::Refused,
         Reply::Same(Answer::Accepted(_)) => Led::Accepted,
@@ -89,7 +89,7 @@ pub fn lead<A: Allocator + Copy>(
     event: Event,
 ) -> Led {
     match command(alloc, event) {
-        Some(command) => led_in(&cluster.apply(alloc, &command)),
+        Some(command) => read_reply(&cluster.apply(alloc, &command)),
         None => Led::Refused,
     }
 }

@@ -37,7 +37,7 @@ fn group<A: Allocator + Copy>(alloc: A) -> Option<(Group<A>, bool)> {
 }
 
 // Returns the draft, or `None` if the node has nothing to store.
-fn drafted<A: Allocator>(taken: Taken<A>) -> Option<Draft<A>> {
+fn draft_of<A: Allocator>(taken: Taken<A>) -> Option<Draft<A>> {
     match taken {
         Taken::Store(draft) => Some(draft),
         Taken::Same(_) => None,
@@ -63,9 +63,9 @@ impl<A: Allocator + Copy> Walk<A> {
     // Gives the group a receipt, and returns how many names are released. Returns `None` if the
     // group asked for memory.
     fn commit(&mut self, receipt: Receipt<A>, counted: &Refusing<Global>) -> Option<u32> {
-        let asked = counted.asked();
+        let asked = counted.growths();
         let done = self.group.commit(receipt).ok()?;
-        let is_free = counted.asked() == asked;
+        let is_free = counted.growths() == asked;
         self.send(&done.sent);
         if is_free { Some(done.released) } else { None }
     }
@@ -77,7 +77,7 @@ impl<A: Allocator + Copy> Walk<A> {
         store: &mut MemStable<A>,
         counted: &Refusing<Global>,
     ) -> Option<u32> {
-        let receipt = drafted(taken)?.keep(store).ok()?;
+        let receipt = draft_of(taken)?.keep(store).ok()?;
         self.commit(receipt, counted)
     }
 
@@ -111,16 +111,16 @@ impl<A: Allocator + Copy> Walk<A> {
 
 // Returns how many names nodes 1 and 2 release in the end, and whether memory was refused at some
 // step.
-fn told(steps: [Option<Step>; 3]) -> Option<(u32, u32, bool)> {
+fn summary_of(steps: [Option<Step>; 3]) -> Option<(u32, u32, bool)> {
     let [sent, relayed, certified] = steps;
     let (sent, relayed, certified) = (sent?, relayed?, certified?);
     let refused = sent.refused || relayed.refused || certified.refused;
     Some((certified.released, relayed.released, refused))
 }
 
-// Makes a group, does the three steps, and returns what `told` returns. The allocation for the
-// group may be refused too.
-fn released<A: Allocator + Copy>(
+// Makes a group, does the three steps, and returns what `summary_of` returns. The allocation for
+// the group may be refused too.
+fn count_released<A: Allocator + Copy>(
     heap: A,
     calm: A,
     counted: &Refusing<Global>,
@@ -132,7 +132,7 @@ fn released<A: Allocator + Copy>(
         group,
         packet: Vec::new(calm),
     };
-    let (at_first, at_second, refused) = told(walk.steps(counted))?;
+    let (at_first, at_second, refused) = summary_of(walk.steps(counted))?;
     Some((at_first, at_second, new || refused))
 }
 
@@ -142,9 +142,12 @@ fn each_growth_may_be_refused(rt: HostRuntime) -> Result<(), Fail> {
     let mut growths = 0;
     for refused in 1..100 {
         let heap = Refusing::new(rt.alloc(), refused);
-        assert_eq!(rt; released(&heap, &calm, &heap), Some((1, 1, heap.met())));
-        if !heap.met() {
-            growths = heap.asked();
+        assert_eq!(rt;
+            count_released(&heap, &calm, &heap),
+            Some((1, 1, heap.has_failed()))
+        );
+        if !heap.has_failed() {
+            growths = heap.growths();
             break;
         }
     }

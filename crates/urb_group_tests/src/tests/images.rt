@@ -36,7 +36,7 @@ fn record(alloc: Global, form: Form) -> Option<Record> {
     if matches!(form, Form::Cert(_)) {
         return Some(Record::Cert(name));
     }
-    let message = Message::copied(alloc, client(), seq, b"a").ok()?;
+    let message = Message::copy_of(alloc, client(), seq, b"a").ok()?;
     if matches!(form, Form::Pend(_)) {
         return Some(Record::Pend(name, message));
     }
@@ -60,14 +60,14 @@ fn images(alloc: Global, forms: &[&[Form]]) -> Option<Vec<Vec<Record>>> {
 }
 
 // Opens a group from these images, one for each node.
-fn opened(alloc: Global, forms: &[&[Form]]) -> Option<Result<Group, Refusal>> {
+fn open_images(alloc: Global, forms: &[&[Form]]) -> Option<Result<Group, Refusal>> {
     let images = images(alloc, forms)?;
     let config = Config::new(u8::try_from(images.len()).ok()?, 10)?;
     Some(Group::open(alloc, config, images))
 }
 
 // Returns the result in short.
-fn told(opened: &Result<Group, Refusal>) -> Option<Outcome> {
+fn outcome_of(opened: &Result<Group, Refusal>) -> Option<Outcome> {
     match opened {
         Ok(group) => {
             let second = group.log(two()).map(|names| names.len());
@@ -80,8 +80,8 @@ fn told(opened: &Result<Group, Refusal>) -> Option<Outcome> {
     }
 }
 
-fn came(alloc: Global, forms: &[&[Form]]) -> Option<Outcome> {
-    told(&opened(alloc, forms)?)
+fn open_and_judge(alloc: Global, forms: &[&[Form]]) -> Option<Outcome> {
+    outcome_of(&open_images(alloc, forms)?)
 }
 
 /// Images, and the results of opening them.
@@ -123,7 +123,7 @@ const ROWS: [(&[&[Form]], Outcome); 8] = [
 #[test]
 fn images_open_where_they_fit_together(rt: HostRuntime) -> Result<(), Fail> {
     for (forms, wanted) in ROWS {
-        assert_eq!(rt; came(rt.alloc(), forms), Some(wanted));
+        assert_eq!(rt; open_and_judge(rt.alloc(), forms), Some(wanted));
     }
     Ok(())
 }
@@ -139,7 +139,7 @@ fn refusals(group: &mut Group, alloc: Global) -> Option<(Refusal, Refusal)> {
 
 // Does the same if node 2 has a record.
 fn refusals_of_an_empty_image(alloc: Global) -> Option<(Refusal, Refusal)> {
-    match opened(alloc, &[&[Form::Pend(1)], &[Form::PendCert(1)], &[]])? {
+    match open_images(alloc, &[&[Form::Pend(1)], &[Form::PendCert(1)], &[]])? {
         Ok(mut group) => refusals(&mut group, alloc),
         Err(_) => None,
     }

@@ -30,14 +30,15 @@ fn commands<A: Allocator + Copy>(alloc: A) -> Option<Vec<Command<A>, A>> {
 enum Outcome {
     /// The cluster could not be made.
     Unmade,
-    /// The play ended for want of memory, or the store of node 1 had none for its record.
+    /// The play ended because memory was refused, or the store of node 1 was refused memory for its
+    /// record.
     Short,
     /// The number of replies; the second reply was to a store that took its record.
     Whole(usize),
 }
 
 // Returns the result of a play that ended after its last command.
-fn came_with<A: Allocator>(replies: &[Reply<A>]) -> Outcome {
+fn outcome_of<A: Allocator>(replies: &[Reply<A>]) -> Outcome {
     match replies.get(1) {
         Some(Reply::Stored(_)) => Outcome::Whole(replies.len()),
         _ => Outcome::Short,
@@ -45,22 +46,22 @@ fn came_with<A: Allocator>(replies: &[Reply<A>]) -> Outcome {
 }
 
 // Plays the commands, and returns the result.
-fn came_of<A: Allocator + Copy>(
+fn play_and_judge<A: Allocator + Copy>(
     cluster: &mut Cluster<MemStable<A>>,
     alloc: A,
     commands: &[Command<A>],
 ) -> Outcome {
     match play(alloc, cluster, commands) {
-        Ok(replies) => came_with(&replies),
+        Ok(replies) => outcome_of(&replies),
         Err(_) => Outcome::Short,
     }
 }
 
 // Does the same with a new cluster, which takes its memory from `heap`.
-fn came<A: Allocator + Copy>(heap: A, calm: A) -> Option<Outcome> {
+fn play_new<A: Allocator + Copy>(heap: A, calm: A) -> Option<Outcome> {
     let commands = commands(calm)?;
     match cluster(heap) {
-        Some(mut cluster) => Some(came_of(&mut cluster, heap, &commands)),
+        Some(mut cluster) => Some(play_and_judge(&mut cluster, heap, &commands)),
         None => Some(Outcome::Unmade),
     }
 }
@@ -71,8 +72,8 @@ fn play_ends_where_memory_is_refused(rt: HostRuntime) -> Result<(), Fail> {
     let mut ended = 0;
     for refused in 1..100 {
         let heap = Refusing::new(rt.alloc(), refused);
-        let came = came(&heap, &calm);
-        if !heap.met() {
+        let came = play_new(&heap, &calm);
+        if !heap.has_failed() {
             assert!(rt; matches!(came, Some(Outcome::Whole(5))));
             break;
         }

@@ -18,7 +18,7 @@ const DELIVERED: [Event; 6] = [
 ];
 
 // Makes a cluster to which this has happened.
-fn driven<A: Allocator + Copy>(alloc: A, events: &[Event]) -> Option<Cluster<MemStable<A>>> {
+fn drive_new<A: Allocator + Copy>(alloc: A, events: &[Event]) -> Option<Cluster<MemStable<A>>> {
     let mut cluster = cluster(alloc)?;
     if drive(&mut cluster, alloc, events) {
         Some(cluster)
@@ -32,60 +32,60 @@ fn driven<A: Allocator + Copy>(alloc: A, events: &[Event]) -> Option<Cluster<Mem
 type Told = (usize, usize, bool);
 
 // Returns what a cluster answers.
-fn told<A: Allocator + Copy>(cluster: &mut Cluster<MemStable<A>>, alloc: A) -> Option<Told> {
+fn ask<A: Allocator + Copy>(cluster: &mut Cluster<MemStable<A>>, alloc: A) -> Option<Told> {
     let is_accepted = matches!(lead(cluster, alloc, Event::Submit), Led::Accepted);
     let group = cluster.group();
     let names = (group.log(one())?.len(), group.log(two())?.len());
     Some((names.0, names.1, is_accepted))
 }
 
-// Returns what a cluster answers that is opened over these stores.
-fn opened<A: Allocator + Copy>(alloc: A, stores: Vec<MemStable<A>, A>) -> Option<Told> {
+// Returns what a cluster answers after it is opened over these stores.
+fn open_and_ask<A: Allocator + Copy>(alloc: A, stores: Vec<MemStable<A>, A>) -> Option<Told> {
     if stores.len() != 3 {
         return None;
     }
     let mut cluster = Cluster::open(alloc, three(), stores).ok()?;
-    told(&mut cluster, alloc)
+    ask(&mut cluster, alloc)
 }
 
 // Returns the answers after a stop, from the stores alone.
-fn told_by_stores(alloc: Global) -> Option<Told> {
-    opened(alloc, driven(alloc, &DELIVERED)?.into_stores())
+fn ask_after_stop(alloc: Global) -> Option<Told> {
+    open_and_ask(alloc, drive_new(alloc, &DELIVERED)?.into_stores())
 }
 
 #[test]
 fn logs_come_back_from_the_stores_alone(rt: HostRuntime) -> Result<(), Fail> {
-    assert_eq!(rt; told_by_stores(rt.alloc()), Some((1, 1, true)));
+    assert_eq!(rt; ask_after_stop(rt.alloc()), Some((1, 1, true)));
     Ok(())
 }
 
 // The store of node 1 takes the record of its message.
-fn take_untold(alloc: Global, stores: &mut [MemStable]) -> Option<()> {
+fn store_uncommitted(alloc: Global, stores: &mut [MemStable]) -> Option<()> {
     let store = stores.first_mut()?;
-    let message = Message::copied(alloc, client(), 1, b"a").ok()?;
+    let message = Message::copy_of(alloc, client(), 1, b"a").ok()?;
     store.store(1, &Record::Pend(first(), message)).ok()
 }
 
 // Returns the answers after a stop in between: the store of node 1 had taken the record, but the
 // group had no receipt yet.
-fn told_by_untold(alloc: Global) -> Option<Told> {
-    let mut stores = driven(alloc, &[Event::Submit])?.into_stores();
-    take_untold(alloc, &mut stores)?;
-    opened(alloc, stores)
+fn ask_after_uncommitted(alloc: Global) -> Option<Told> {
+    let mut stores = drive_new(alloc, &[Event::Submit])?.into_stores();
+    store_uncommitted(alloc, &mut stores)?;
+    open_and_ask(alloc, stores)
 }
 
 #[test]
 fn a_record_that_was_stored_and_not_told_comes_back(rt: HostRuntime) -> Result<(), Fail> {
-    assert_eq!(rt; told_by_untold(rt.alloc()), Some((0, 0, true)));
+    assert_eq!(rt; ask_after_uncommitted(rt.alloc()), Some((0, 0, true)));
     Ok(())
 }
 
 // Returns the answers after a stop, and whether memory was refused to the opening. If it was, the
 // cluster is opened another time.
-fn told_reopened<A: Allocator + Copy>(heap: A, calm: A) -> Option<(Told, bool)> {
-    match driven(calm, &[Event::Submit, Event::StoreOne])?.reopen(heap) {
-        Ok(mut cluster) => Some((told(&mut cluster, calm)?, false)),
-        Err((stores, Refusal::NoMemory)) => Some((opened(calm, stores)?, true)),
+fn ask_reopened<A: Allocator + Copy>(heap: A, calm: A) -> Option<(Told, bool)> {
+    match drive_new(calm, &[Event::Submit, Event::StoreOne])?.reopen(heap) {
+        Ok(mut cluster) => Some((ask(&mut cluster, calm)?, false)),
+        Err((stores, Refusal::NoMemory)) => Some((open_and_ask(calm, stores)?, true)),
         Err(_) => None,
     }
 }
@@ -97,11 +97,11 @@ fn no_store_is_lost_where_memory_is_refused(rt: HostRuntime) -> Result<(), Fail>
     for refused in 1..100 {
         let heap = Refusing::new(rt.alloc(), refused);
         assert_eq!(rt;
-            told_reopened(&heap, &calm),
-            Some(((0, 0, true), heap.met()))
+            ask_reopened(&heap, &calm),
+            Some(((0, 0, true), heap.has_failed()))
         );
-        if !heap.met() {
-            growths = heap.asked();
+        if !heap.has_failed() {
+            growths = heap.growths();
             break;
         }
     }

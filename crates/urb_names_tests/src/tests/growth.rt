@@ -15,8 +15,8 @@ fn read<A: Allocator + Copy>(alloc: A) -> Option<Packet<A>> {
 }
 
 // A packet that shares this one's message, or `None` if an allocation was refused.
-fn remade<A: Allocator + Copy>(alloc: A, packet: &Packet<A>) -> Option<Packet<A>> {
-    packet.limits();
+fn remake<A: Allocator + Copy>(alloc: A, packet: &Packet<A>) -> Option<Packet<A>> {
+    packet.recall();
     match packet.message().share(alloc) {
         Ok(message) => {
             let (source, target) = (packet.source(), packet.target());
@@ -40,9 +40,9 @@ fn is_spelled_late<A: Allocator + Copy>(alloc: A, packet: &Packet<A>) -> bool {
 
 // The same after its message was shared, even if one allocation is refused.
 fn is_remade_late<A: Allocator + Copy>(alloc: A, packet: &Packet<A>) -> Option<bool> {
-    let again = match remade(alloc, packet) {
+    let again = match remake(alloc, packet) {
         Some(again) => again,
-        None => remade(alloc, packet)?,
+        None => remake(alloc, packet)?,
     };
     let is_spelled = is_spelled_late(alloc, &again);
     drop(again);
@@ -59,10 +59,10 @@ fn goes_through<A: Allocator + Copy>(alloc: A) -> Option<bool> {
 
 // If that works although growth number `refused` is refused: whether that growth was requested, and
 // the number of growths.
-fn asked(alloc: Global, refused: u64) -> Option<(bool, u64)> {
+fn count_growths(alloc: Global, refused: u64) -> Option<(bool, u64)> {
     let heap = Refusing::new(alloc, refused);
     let goes_through = goes_through(&heap);
-    let (met, asked) = (heap.met(), heap.asked());
+    let (met, asked) = (heap.has_failed(), heap.growths());
     drop(heap);
     if goes_through == Some(true) {
         Some((met, asked))
@@ -74,7 +74,7 @@ fn asked(alloc: Global, refused: u64) -> Option<(bool, u64)> {
 // The number of growths, after each was refused in turn; 0 if some run fails.
 fn growths(alloc: Global) -> u64 {
     for refused in 1..100 {
-        match asked(alloc, refused) {
+        match count_growths(alloc, refused) {
             Some((true, _)) => {}
             Some((false, asked)) => return asked,
             None => return 0,

@@ -1,7 +1,7 @@
 //! What a node hears about the others' certificates, and what it answers.
 
 use super::*;
-use crate::tests::playing::{asked, play_all, plays_each, take_no_more};
+use crate::tests::playing::{count_growths, play_all, plays_each, take_no_more};
 use crate::tests::rows::{
     Act, BOTH, CAP, CERTIFICATE, CERTIFIED, Form, IS_CERTIFIED, IS_HEARD, List, NEITHER, PENDING,
     Row, Start, What,
@@ -42,8 +42,8 @@ fn a_certified_name_is_answered_to_who_did_not_hear_of_it(rt: HostRuntime) {
     play_all(&rt, &ANSWERS);
 }
 
-/// Node 1 of five hears a certificate from each of three packets. One is noted, one says nothing
-/// else, and one makes the node draft its own certificate.
+/// Node 1 of five hears a certificate from each of three packets. One packet is noted, one adds
+/// nothing else, and one makes the node draft its own certificate.
 static HEARS: [List; 3] = [
     List {
         start: Start::New(5, 1, CAP),
@@ -211,9 +211,12 @@ static ANSWERS_LATER: List = List {
     ],
 };
 
-// Whether an answer needs several growths, and hears nothing if any of them is refused.
+// Whether an answer needs several growths, and nothing is heard if any of them is refused.
 fn hears_nothing(alloc: Global) -> bool {
-    match (asked(alloc, &CERTIFIES_ALONE), asked(alloc, &ANSWERS_THEN)) {
+    match (
+        count_growths(alloc, &CERTIFIES_ALONE),
+        count_growths(alloc, &ANSWERS_THEN),
+    ) {
         (Some(before), Some(count)) => {
             before.saturating_add(1) < count
                 && plays_each(alloc, &ANSWERS_LATER, before, count, false)
@@ -227,7 +230,7 @@ fn an_answer_that_is_refused_for_memory_hears_nothing(rt: HostRuntime) {
     assert!(rt; hears_nothing(rt.alloc()));
 }
 
-/// A packet that wants no answer is heard ..
+/// The certificate of a packet that wants no answer is heard ..
 const HEARS_ALONE: &[Row] = &[(Act::Tell(2, BOTH, What::Again), FIRST, b"m")];
 
 static HEARS_CALMLY: [(List, List); 1] = [(

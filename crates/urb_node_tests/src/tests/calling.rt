@@ -77,7 +77,7 @@ fn drafts<A: Allocator + Copy>(draft: &Draft<A>, what: &What, named: Name) -> bo
 }
 
 // Whether a call was refused as expected.
-fn refused(refusal: Refusal, what: &What) -> Option<bool> {
+fn check_refusal(refusal: Refusal, what: &What) -> Option<bool> {
     let is_so = match what {
         What::TooLong => refusal == Refusal::TooLong,
         What::Conflict => refusal == Refusal::Conflict,
@@ -116,7 +116,7 @@ fn lead<A: Allocator + Copy>(
 ) -> Went<A> {
     match called {
         Ok(step) => go(step, what, named, payload),
-        Err((ready, refusal)) => (State::Ready(ready), refused(refusal, what)),
+        Err((ready, refusal)) => (State::Ready(ready), check_refusal(refusal, what)),
     }
 }
 

@@ -52,7 +52,7 @@ impl Held {
         if name.sender == self.node || self.pending.message(name).is_some() {
             return None;
         }
-        let message = Message::copied(alloc, client, name.seq, &name.seq.to_be_bytes()).ok()?;
+        let message = Message::copy_of(alloc, client, name.seq, &name.seq.to_be_bytes()).ok()?;
         self.pending.add(name, message).ok()?;
         self.fifo.certify(name).ok()
     }

@@ -96,7 +96,7 @@ fn image<A: Allocator + Copy>(alloc: A) -> Option<Records<A>>
 }
 
 // Opens the node, with its image in other memory.
-fn opened<A: Allocator + Copy>(heap: A, calm: A) -> Option<Result<Ready<A>, NoMemory>> {
+fn open<A: Allocator + Copy>(heap: A, calm: A) -> Option<Result<Ready<A>, NoMemory>> {
     let config = Config::new(3, 10)?;
     let node = NodeId::new(1)?;
     let records = image(calm)?;
@@ -106,9 +106,9 @@ fn opened<A: Allocator + Copy>(heap: A, calm: A) -> Option<Result<Ready<A>, NoMe
 /// The opened node. If an allocation is refused, the same call succeeds the second time; the flag
 /// says whether that happened.
 pub(super) fn opened_at_last<A: Allocator + Copy>(heap: A, calm: A) -> Option<(Ready<A>, bool)> {
-    match opened(heap, calm)? {
+    match open(heap, calm)? {
         Ok(ready) => Some((ready, false)),
-        Err(NoMemory) => Some((opened(heap, calm)?.ok()?, true)),
+        Err(NoMemory) => Some((open(heap, calm)?.ok()?, true)),
     }
 }
 

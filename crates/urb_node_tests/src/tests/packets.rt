@@ -1,4 +1,4 @@
-//! Packets that may come to a node under test.
+//! Packets that may arrive at a node under test.
 
 ghost use Rattle.std.specs.Prelude.{◌≡◌, IfSome, IsTrue};
 ghost use Rattle.urb_node.specs.Moves.{IsForNode};
@@ -20,8 +20,8 @@ fn is_of<A: Allocator + Copy>(packet: &PacketView<'_>, sent: &Message<A>) -> boo
         && packet.payload() == sent.payload()
 }
 
-// Whether a message may come to a node under this name. It must be the message that the node has
-// there, if any, and a message of the node's own must be there.
+// Whether a message may arrive at a node under this name. If the node has a message under the name,
+// it must be this one. If the name is the node's own, the node must have it.
 fn may_come<A: Allocator + Copy>(ready: &Ready<A>, named: Name, sent: &Message<A>) -> bool
     ensures { IsTrue result
         → MayArrive ready.now.limits ready.now.node ready.now.pairs named sent.now }
@@ -39,7 +39,7 @@ fn may_come<A: Allocator + Copy>(ready: &Ready<A>, named: Name, sent: &Message<A
     }
 }
 
-// Whether a packet that carries this message may come to the node.
+// Whether a packet that carries this message may arrive at the node.
 fn is_for<A: Allocator + Copy>(ready: &Ready<A>, packet: &PacketView<'_>, sent: &Message<A>) -> bool
     ensures { IsTrue result → IsForNode ready.now packet.now }
 {
@@ -50,7 +50,7 @@ fn is_for<A: Allocator + Copy>(ready: &Ready<A>, packet: &PacketView<'_>, sent: 
         && may_come(ready, packet.name(), sent)
 }
 
-/// The packet with these bytes, if it carries this message and may come to the node.
+/// The packet that these bytes encode, if it carries this message and may arrive at the node.
 pub(super) fn packet_for<'b, A: Allocator + Copy>(
     ready: &Ready<A>,
     bytes: &'b [u8],
@@ -64,7 +64,7 @@ pub(super) fn packet_for<'b, A: Allocator + Copy>(
     }
 }
 
-// The bytes of a packet of this message; of version two if it has flags.
+// The bytes of a packet that carries this message. It is of version two if flags are given.
 fn bytes_of<A: Allocator + Copy>(
     calm: A,
     (source, target): (NodeId, NodeId),
@@ -82,7 +82,8 @@ fn bytes_of<A: Allocator + Copy>(
     bytes.ok()
 }
 
-/// The bytes of a packet of this message to a ready node; of version two if it has flags.
+/// The bytes of a packet that carries this message to a ready node. It is of version two if flags
+/// are given.
 pub(super) fn letter<A: Allocator + Copy>(
     state: &State<A>,
     calm: A,

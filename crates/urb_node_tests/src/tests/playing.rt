@@ -16,7 +16,7 @@ use urb_refusing::Refusing;
 use urb_stable::MemStable;
 
 // Stores the draft of a call, if the row says so.
-fn kept<A: Allocator + Copy>(
+fn keep_draft<A: Allocator + Copy>(
     (state, told): Went<A>,
     store: &mut MemStable<A>,
     named: Name,
@@ -170,7 +170,7 @@ fn play_act<A: Allocator + Copy>(
 ) -> Went<A> {
     match &row.0 {
         Act::Submit(_, _) | Act::Arrive(_, _) | Act::Tell(_, _, _) => {
-            kept(call(state, memory, row, named), store, named, row)
+            keep_draft(call(state, memory, row, named), store, named, row)
         }
         Act::Tick(_) | Act::Send(_) | Act::Show(_, _, _) => play_told(state, memory, row, named),
         Act::Crash | Act::Rise | Act::Refuse(_) => play_fall(state, store, memory, &row.0),
@@ -179,7 +179,7 @@ fn play_act<A: Allocator + Copy>(
 }
 
 // How many messages a node has broadcast and delivered, and whether it has one with this name.
-fn told<A: Allocator + Copy>(state: &State<A>, named: Name) -> (u32, usize, bool) {
+fn ask<A: Allocator + Copy>(state: &State<A>, named: Name) -> (u32, usize, bool) {
     (state.own_len(), state.log().len(), state.has(named))
 }
 
@@ -206,9 +206,9 @@ fn play_named<A: Allocator + Copy>(
     row: &Row,
     named: Name,
 ) -> Went<A> {
-    let before = told(&state, named);
+    let before = ask(&state, named);
     let (state, gone) = play_act(state, store, memory, row, named);
-    let is_same = told(&state, named) == before;
+    let is_same = ask(&state, named) == before;
     match gone {
         Some(true) if is_same || !is_to_stay(&row.0) => (state, Some(false)),
         Some(false) if is_same => play_again(state, store, memory, row, named),
@@ -325,17 +325,17 @@ pub(super) fn play_all(rt: &(impl Abort + AllocGlobal), lists: &[List]) {
     assert_eq!(rt; first_astray(rt.alloc(), lists), None);
 }
 
-// Plays a list with this growth refused, and returns the result and the number of growths; with 0
-// none is refused.
+// Plays a list while this growth is refused, or none if it is 0. Returns the result and the number
+// of growths.
 fn plays_refusing(alloc: Global, list: &List, number: u64) -> (Played, u64) {
     let calm = Refusing::new(alloc, 0);
     let heap = Refusing::new(alloc, number);
     let played = plays(list, &heap, &calm);
-    (played, heap.asked())
+    (played, heap.growths())
 }
 
 /// The number of growths in a list; `None` if a row has an unexpected result.
-pub(super) fn asked(alloc: Global, list: &List) -> Option<u64> {
+pub(super) fn count_growths(alloc: Global, list: &List) -> Option<u64> {
     match plays_refusing(alloc, list, 0) {
         (Ok(false), count) => Some(count),
         _ => None,
@@ -343,7 +343,7 @@ pub(super) fn asked(alloc: Global, list: &List) -> Option<u64> {
 }
 
 /// Whether a list has its expected results with each of these growths refused, and reports a
-/// refusal as `told` says.
+/// refusal as `ask` says.
 pub(super) fn plays_each(alloc: Global, list: &List, before: u64, last: u64, told: bool) -> bool {
     for growth in before..last {
         match plays_refusing(alloc, list, growth + 1).0 {
@@ -356,7 +356,7 @@ pub(super) fn plays_each(alloc: Global, list: &List, before: u64, last: u64, tol
 
 /// Whether each growth of a list may be refused, and there are more than `least` of them.
 pub(super) fn gives_back(alloc: Global, list: &List, least: u64) -> bool {
-    match asked(alloc, list) {
+    match count_growths(alloc, list) {
         Some(count) => least < count && plays_each(alloc, list, 0, count, true),
         None => false,
     }
@@ -364,7 +364,7 @@ pub(super) fn gives_back(alloc: Global, list: &List, least: u64) -> bool {
 
 // Whether the later list needs as many growths as the earlier one, and at least one.
 fn takes_no_more(alloc: Global, (earlier, later): &(List, List)) -> bool {
-    match (asked(alloc, earlier), asked(alloc, later)) {
+    match (count_growths(alloc, earlier), count_growths(alloc, later)) {
         (Some(before), Some(after)) => 0 < before && before == after,
         _ => false,
     }

@@ -85,8 +85,8 @@ fn a_repeat_takes_no_memory(rt: HostRuntime) {
     assert!(rt; take_no_more(rt.alloc(), &REPEATED));
 }
 
-/// Drafts of node 1 of three and their receipts: a message of its own, its certificate, and a
-/// message of node 2 that is certified at once.
+/// Drafts of node 1 of three and their receipts. They are a message of its own, its certificate,
+/// and a message of node 2 that is certified at once.
 const DRAFTS_FIRST: &[Row] = &[(
     Act::Submit(1, What::Drafted(Form::Pending, 1)),
     (1, 1),

@@ -1,7 +1,7 @@
-//! Restarts of one node: which images it accepts, and what is left of what it held.
+//! Restarts of one node: which images it accepts, and what it still holds afterwards.
 
 use super::*;
-use crate::tests::playing::{asked, gives_back, play_all};
+use crate::tests::playing::{count_growths, gives_back, play_all};
 use crate::tests::rows::{
     Act, CAP, CERTIFICATE, DELIVERED, Form, HELD, List, NOTHING, PENDING, Row, Start, What,
 };
@@ -220,7 +220,7 @@ static UP: List = List {
 
 // Whether a restart allocates memory, and each of its growths may be refused.
 fn restarts_again(alloc: Global) -> bool {
-    match asked(alloc, &DOWN) {
+    match count_growths(alloc, &DOWN) {
         Some(before) => gives_back(alloc, &UP, before),
         None => false,
     }

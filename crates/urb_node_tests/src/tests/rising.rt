@@ -39,7 +39,7 @@ fn image_of<A: Allocator + Copy>(calm: A, rows: &[Kept]) -> Option<Vec<Record<Me
 }
 
 // Whether a restart had the expected outcome: accepted, or refused in this way.
-fn judged(refusal: Option<Refusal>, expected: Option<Refusal>) -> Option<bool> {
+fn check_restart(refusal: Option<Refusal>, expected: Option<Refusal>) -> Option<bool> {
     if refusal == Some(Refusal::NoMemory) {
         return Some(false);
     }
@@ -55,8 +55,8 @@ fn restart<A: Allocator + Copy>(
 ) -> Went<A> {
     match state {
         State::Down(down) => match down.restart(heap, image) {
-            Ok(ready) => (State::Ready(ready), judged(None, expected)),
-            Err((down, refusal)) => (State::Down(down), judged(Some(refusal), expected)),
+            Ok(ready) => (State::Ready(ready), check_restart(None, expected)),
+            Err((down, refusal)) => (State::Down(down), check_restart(Some(refusal), expected)),
         },
         other => {
             drop(image);

@@ -80,17 +80,17 @@ pub(super) enum Act {
     Arrive(u8, What),
     /// A packet of version two from this node, with these flags.
     Tell(u8, Flags, What),
-    /// Stores its draft. Says whether this accepts a client's message, how many names are released,
-    /// and what is sent.
+    /// Stores the node's draft. The fields say whether this accepts a client's message, how many
+    /// names it releases, and what it sends.
     Store(bool, u32, &'static [Sent]),
     /// Offers the receipt of another draft, with this node, position and form, which the node
     /// returns.
     GiveBack(u8, u32, Form),
-    /// The store fails in this way, and the node with it.
+    /// The store fails in this way, so the node goes down.
     Doubt(Failure),
     /// The draft is lost: the store fails (true), or the node crashes (false).
     Lose(bool),
-    /// What a tick sends.
+    /// The packets that a tick sends.
     Tick(&'static [Sent]),
     /// How many packets a tick sends.
     Send(usize),
@@ -108,9 +108,9 @@ pub(super) enum Act {
 /// its name.
 pub(super) type Row = (Act, (u8, u32), &'static [u8]);
 
-/// How the node under test begins.
+/// The node under test before the first row.
 pub(super) enum Start {
-    /// In a group of this size it is this node, and may broadcast this many messages.
+    /// The size of its group, its number, and how many messages it may broadcast.
     New(u8, u8, u32),
     /// It is opened from its image.
     Opened,

@@ -87,7 +87,7 @@ pub(super) fn tick<A: Allocator + Copy>(
     }
 }
 
-// Whether a tick sends this many packets.
+// Whether a tick sends the given number of packets.
 fn sends<A: Allocator + Copy>(sent: &Result<Outbox<A>, NoMemory>, count: usize) -> Option<bool> {
     match sent {
         Ok(packets) => went(packets.len() == count),

@@ -1,4 +1,4 @@
-//! A node under test in one of its states, and queries of it.
+//! A node under test, in any of its states, and queries about it.
 
 use std::alloc::Allocator;
 use urb_names::{Message, Name};
@@ -13,8 +13,8 @@ pub(super) enum State<A: Allocator> {
     Down(Down<A>),
 }
 
-/// A node after a row, and whether the row succeeded or was refused for memory; `None` if it had
-/// another result.
+/// The node after a row. The flag is true if the row succeeded, false if it was refused for memory,
+/// and `None` if it had another result.
 pub(super) type Went<A> = (State<A>, Option<bool>);
 
 /// The outcome of a row that is never refused for memory.

@@ -5,7 +5,8 @@ use super::*;
 /// A check with its expected result.
 #[derive(Clone, Copy)]
 pub(super) enum Check<'a> {
-    /// The sender has this last number before the first gap, and this many numbers after that gap.
+    /// For a sender: the last number before the first gap, and how many numbers it has after that
+    /// gap.
     Goes(u8, u32, u32),
     /// The client's messages 1, 2, 3, .. at node 1 have names with these numbers. The client's next
     /// number is one more than their count.
@@ -82,7 +83,7 @@ fn is_numbered<A: Allocator + Copy>(pending: &Pending<A>, client: u16, owns: &[u
 }
 
 // The name with this sender and number, if they are given.
-fn named(pair: Option<(u8, u32)>) -> Option<Name> {
+fn name_of(pair: Option<(u8, u32)>) -> Option<Name> {
     let (sender, seq) = pair?;
     name(sender, seq)
 }
@@ -95,7 +96,7 @@ fn has<A: Allocator + Copy>(pending: &Pending<A>, messages: A, row: Row) -> Opti
     if number == 0 {
         return None;
     }
-    let there = Message::copied(messages, client, number, &number.to_be_bytes()).ok()?;
+    let there = Message::copy_of(messages, client, number, &number.to_be_bytes()).ok()?;
     let has_it = pending.has(&name, &there);
     drop(there);
     Some(has_it)
@@ -114,7 +115,7 @@ fn is_told<A: Allocator + Copy>(pending: &Pending<A>, messages: A, check: Check)
     match check {
         Check::Goes(sender, low, above) => goes(pending, sender, low, above),
         Check::Numbers(client, owns) => is_numbered(pending, client, owns),
-        Check::Next(from, to) => pending.after(named(from)) == named(to),
+        Check::Next(from, to) => pending.after(name_of(from)) == name_of(to),
         Check::Has(row, there) => has(pending, messages, row) == Some(there),
         Check::Lacks(sender, seq) => lacks(pending, sender, seq),
     }
@@ -126,7 +127,7 @@ pub(super) fn are_told<A: Allocator + Copy>(
     messages: A,
     checks: &[Check],
 ) -> bool {
-    pending.limits();
+    pending.recall();
     for check in checks {
         if !is_told(pending, messages, *check) {
             return false;

@@ -1,13 +1,16 @@
 //! Scripts in which memory is refused, or the reader or the writer fails.
 
-use super::{LONG_PAYLOADS, LONG_PAYLOADS_ANSWERS, ONE_NODE, ONE_NODE_ANSWERS, spelled};
-use crate::worked::{FORGOTTEN, HALF, MAJORITY, REOPENED, RESENT, TOLD};
+use super::{SHORT, SHORT_ANSWERS, spell_outcome};
+use crate::scripts::{
+    FORGOTTEN, HALF, LONG_PAYLOADS, MAJORITY, ONE_NODE, REOPENED, RESENT, Rows, TOLD, answers_of,
+    script_of,
+};
 use std::alloc::Global;
 use std::test::Fail;
 use urb_refusing::{FailingReader, FailingWriter, Refusing};
 use urb_script::*;
 
-/// Says whether a text is whole lines that begin the other.
+/// Says whether a text is whole lines and a prefix of the other.
 fn begins_lines(text: &[u8], whole: &[u8]) -> bool {
     whole.starts_with(text) && (text.is_empty() || text.ends_with(b"\n"))
 }
@@ -31,7 +34,7 @@ fn line_at(text: &[u8], number: usize) -> Option<&[u8]> {
     text.split(|byte| *byte == b'\n').nth(number)
 }
 
-/// Says whether the answer says that the node is down whose record the line is to store.
+/// Says whether the line is to store a record, and the answer says that the record's node is down.
 fn is_failed_store(line: Option<&[u8]>, answer: Option<&[u8]>) -> bool {
     match (line, answer) {
         (
@@ -44,7 +47,8 @@ fn is_failed_store(line: Option<&[u8]>, answer: Option<&[u8]>) -> bool {
 
 /// The messages of a worked script, and more, as a log shows them.
 const MESSAGES: &[u8] =
-    b" 1.1=a 1.2=a 1.3=a 1.4=a 1.5=a 1.6=a 1.7=a 1.8=a 1.9=a 1.10=a 1.11=a 1.12=a 1.13=a 1.14=a 1.15=a 1.16=a 1.17=a";
+    b" 1.1=a 1.2=a 1.3=a 1.4=a 1.5=a 1.6=a 1.7=a 1.8=a 1.9=a 1.10=a 1.11=a 1.12=a 1.13=a 1.14=a \
+1.15=a 1.16=a 1.17=a";
 
 /// Says whether a line that shows a log shows the first of these messages, and nothing else.
 fn shows_a_beginning(line: &[u8], messages: &[u8]) -> bool {
@@ -57,18 +61,18 @@ fn shows_a_beginning(line: &[u8], messages: &[u8]) -> bool {
     }
 }
 
-/// The permitted results of a run to which one growth was refused.
+/// The permitted results of a run in which one allocation (growth) was refused.
 #[derive(Clone, Copy, PartialEq, Eq, Debug)]
 enum Outcome {
-    /// The run ended there. What it wrote are whole answers that begin the others.
+    /// The run ended there. What it wrote are whole answers, and a prefix of all answers.
     Ended,
-    /// A store failed that would have succeeded, and each log is a beginning.
+    /// A store failed that would have succeeded, and each log is a prefix of the full one.
     Failed,
     /// The run was answered as without the refusal.
     Same,
 }
 
-/// Returns which of the three it is, if any.
+/// Returns which of the three results it is, if it is one of them.
 fn outcome_of(
     ended: &Result<Ended, RunFault>,
     script: &[u8],
@@ -112,8 +116,8 @@ fn run_refused(alloc: Global, refused: u64, script: &[u8], answers: &[u8], messa
     let outcome = outcome_of(&ended, script, writer.written(), answers, messages);
     Ran {
         outcome,
-        asked: heap.asked(),
-        met: heap.met(),
+        asked: heap.growths(),
+        met: heap.has_failed(),
     }
 }
 
@@ -137,22 +141,18 @@ fn counts(alloc: Global, script: &[u8], answers: &[u8], messages: &[u8]) -> Opti
     None
 }
 
-/// Does the same with texts that are written as for `spelled`.
-fn ran_spelled(
-    alloc: Global,
-    (script, answers): (&[u8], &[u8]),
-    messages: &[u8],
-) -> Result<Option<(u64, u64)>, Fail> {
-    let script = spelled(alloc, script)?;
-    let answers = spelled(alloc, answers)?;
-    let messages = spelled(alloc, messages)?;
+/// Does the same with the script of these rows.
+fn spell_run(alloc: Global, rows: Rows, messages: &[u8]) -> Result<Option<(u64, u64)>, Fail> {
+    let script = spell_outcome(alloc, &script_of(alloc, rows)?)?;
+    let answers = spell_outcome(alloc, &answers_of(alloc, rows)?)?;
+    let messages = spell_outcome(alloc, messages)?;
     Ok(counts(alloc, &script, &answers, &messages))
 }
 
-/// Scripts with their answers, and the messages that each of their logs shows a beginning of.
-const REFUSED: [((&[u8], &[u8]), &[u8]); 8] = [
-    ((ONE_NODE, ONE_NODE_ANSWERS), b" 1.1=hi"),
-    ((LONG_PAYLOADS, LONG_PAYLOADS_ANSWERS), b" 1.1=- 1.2=@"),
+/// Scripts with their answers, and messages. Each of their logs shows a prefix of these messages.
+const REFUSED: [(Rows, &[u8]); 8] = [
+    (ONE_NODE, b" 1.1=hi"),
+    (LONG_PAYLOADS, b" 1.1=- 1.2=@"),
     (MAJORITY, MESSAGES),
     (HALF, MESSAGES),
     (FORGOTTEN, MESSAGES),
@@ -163,8 +163,8 @@ const REFUSED: [((&[u8], &[u8]), &[u8]); 8] = [
 
 #[test]
 fn each_refused_growth_ends_the_run_or_fails_a_store(rt: HostRuntime) -> Result<(), Fail> {
-    for (texts, messages) in REFUSED {
-        let ran = ran_spelled(rt.alloc(), texts, messages)?;
+    for (rows, messages) in REFUSED {
+        let ran = spell_run(rt.alloc(), rows, messages)?;
         assert!(rt;
             matches!(ran, Some((ended, failed)) if 0 < ended && 0 < failed),
             "{ran:?}"
@@ -173,8 +173,8 @@ fn each_refused_growth_ends_the_run_or_fails_a_store(rt: HostRuntime) -> Result<
     Ok(())
 }
 
-/// The result of a run whose reader or writer is set to fail: whether the failing call was asked
-/// for, and whether the run ended as it should.
+/// The result of a run whose reader or writer is set to fail. It says whether the failing call
+/// happened, and whether the run ended as expected.
 #[derive(Clone, Copy)]
 struct Failed {
     met: bool,
@@ -183,21 +183,21 @@ struct Failed {
 
 /// Runs a script and makes this read fail.
 fn run_read(alloc: Global, failing: u64) -> Failed {
-    let mut reader = FailingReader::new(ONE_NODE, 5, failing);
+    let mut reader = FailingReader::new(SHORT, 5, failing);
     let mut room = [0u8; 300];
     let mut writer = FailingWriter::new(&mut room, 300, 0);
     let ended = run(alloc, &mut reader, &mut writer);
     let written = writer.written();
-    let met = reader.met();
+    let met = reader.has_failed();
     let right = match ended {
         Err(RunFault::Read) => {
             met && reader.failed_last()
-                && begins_lines(written, ONE_NODE_ANSWERS)
+                && begins_lines(written, SHORT_ANSWERS)
                 && writer.is_flushed()
         }
         // One byte per read, and one more read at the end.
         Ok(Ended::Whole) => {
-            !met && written == ONE_NODE_ANSWERS && reader.reads() == ONE_NODE.len() as u64 + 1
+            !met && written == SHORT_ANSWERS && reader.reads() == SHORT.len() as u64 + 1
         }
         _ => false,
     };
@@ -228,7 +228,7 @@ fn each_failing_read_ends_the_run(rt: HostRuntime) -> Result<(), Fail> {
 /// The writer's call `failing` failed after `reads` bytes were read. Says whether the next line was
 /// read neither before the answer was flushed, nor after the fault.
 fn is_read_so_far(reads: u64, failing: u64) -> bool {
-    match ONE_NODE.get(..reads as usize) {
+    match SHORT.get(..reads as usize) {
         Some(read) => {
             let lines = read.split(|byte| *byte == b'\n').count() as u64;
             read.ends_with(b"\n") && lines == failing.saturating_add(3) / 2
@@ -240,18 +240,18 @@ fn is_read_so_far(reads: u64, failing: u64) -> bool {
 /// Runs a script and makes this write or flush fail.
 fn run_write(alloc: Global, failing: u64) -> Failed {
     // One byte per read, so that the reads count the bytes.
-    let mut reader = FailingReader::new(ONE_NODE, 1, 0);
+    let mut reader = FailingReader::new(SHORT, 1, 0);
     let mut room = [0u8; 300];
     let mut writer = FailingWriter::new(&mut room, 300, failing);
     let ended = run(alloc, &mut reader, &mut writer);
-    let met = writer.met();
+    let met = writer.has_failed();
     let right = match ended {
         Err(RunFault::Write) => {
             met && writer.failed_last() && is_read_so_far(reader.reads(), failing)
         }
         // Each answer takes a write, and a flush after it.
         Ok(Ended::Whole) => {
-            !met && writer.written() == ONE_NODE_ANSWERS
+            !met && writer.written() == SHORT_ANSWERS
                 && writer.calls() == 8
                 && writer.flushes() == 4
                 && writer.is_flushed()

@@ -54,7 +54,7 @@ impl Tally {
 type Heap<'a> = &'a Refusing<Global>;
 
 // The house of three nodes, and how often opening was refused memory. After a refusal, this opens
-// what came back.
+// what was returned.
 fn site_of<'a, K: HouseName, R: Wait>(
     rt: &R,
     alloc: Global,
@@ -223,7 +223,7 @@ pub fn deliver<K: HouseName, R: Wait>(
     requires nodes { opened.group.size.n ≡ 3 }
 {
     let (mut house, mut readers, opening) = site_of::<K, R>(rt, alloc, heap, opened)?;
-    house.promise();
+    house.recall();
     let told = send_all(rt, alloc, heap, &mut house, &mut readers[0]);
     let group = house.close(rt);
     let mut tally = told?;
@@ -243,7 +243,7 @@ pub fn open_again<K: HouseName, R: Wait>(
     requires nodes { opened.group.size.n ≡ 3 }
 {
     let (house, mut readers, opening) = site_of::<K, R>(rt, alloc, heap, opened)?;
-    house.promise();
+    house.recall();
     let first = read(heap, &mut readers[0], MESSAGES);
     let last = read(heap, &mut readers[11], MESSAGES);
     drop(house.close(rt));

@@ -1,4 +1,4 @@
-//! Readers, and whether what they read agrees.
+//! Readers, and checks that what they read agrees.
 ghost use Rattle.std.specs.Prelude.{◌≤◌, length};
 
 use super::writer::{Board, News, ROUNDS};
@@ -31,7 +31,7 @@ pub fn agrees<A: Allocator>(page: &Page<A>) -> bool {
     page.total as usize == page.entries.len()
 }
 
-/// A node's list. If memory was refused, this reads it again.
+/// Reads a node's list. If memory is refused, it reads the list again.
 pub fn page_of<K: HouseName>(alloc: Global, reader: &mut LogReader<K>, node: NodeId) -> Option<Page>
     requires { node ≤ length K.base }
 {
@@ -70,7 +70,7 @@ pub fn reads<K: HouseName>(alloc: Global, reader: &mut LogReader<K>, total: u32)
     lengths(alloc, reader) == Some([total; 3])
 }
 
-// Whether the writer has ended. Each page that is read afterwards has what it had settled by then.
+// Whether the writer has ended. If so, each later page has everything that the writer settled.
 fn has_ended<K: HouseName, R: Wait>(rt: &R, board: &Mutex<Board<K>>) -> bool {
     let guard = board.lock(rt);
     let ended = guard.has_ended();
@@ -105,7 +105,7 @@ pub fn read_all<K: HouseName, R: Wait>(
     unreachable!()
 }
 
-// The next news, and whether no more comes.
+// Takes the next report of a settling, if there is one. Also returns whether no more will come.
 fn next<K: HouseName, R: Wait>(rt: &R, board: &Mutex<Board<K>>) -> (Option<News<K>>, bool) {
     let mut guard = board.lock(rt);
     let taken = guard.take();
@@ -129,8 +129,8 @@ fn learns<K: HouseName>(alloc: Global, reader: &mut LogReader<K>, news: News<K>)
     }
 }
 
-/// Learns all that is settled. Returns whether it then read at least that, in pages that agree, and
-/// whole lists in the end. The end comes when the writer has ended and nothing is left to learn.
+/// Learns each settling, until the writer has ended and nothing is left to learn. Returns whether
+/// the reader read at least that each time, in pages that agree, and whole lists in the end.
 pub fn learn_all<K: HouseName, R: Wait>(
     rt: &R,
     alloc: Global,

@@ -145,7 +145,7 @@ pub fn seven_nodes<K: HouseName, R: Wait>(
             return Err("no memory");
         }
     };
-    house.promise();
+    house.recall();
     let called = calls(rt, alloc, &mut house, &mut readers[27]);
     drop(house.close(rt));
     called

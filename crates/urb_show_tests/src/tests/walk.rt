@@ -4,7 +4,7 @@ ghost use Rattle.urb_show.specs.Lists.{lists_in};
 
 use super::first_false;
 use super::readers::reads;
-use super::writer::{arrive, drafted, keep, submit, three_stores};
+use super::writer::{arrive, draft_in, keep, submit, three_stores};
 use std::alloc::Global;
 use std::sync::Wait;
 use urb_group::{ClientId, Failure, MemStable, Name, NodeId, Outbox, Refusal, Stable, State};
@@ -103,7 +103,7 @@ fn fails<K: HouseName>(
     store: &mut MemStable,
     node: NodeId,
 ) -> Option<()> {
-    let draft = drafted(submit(alloc, house, node, 1)?)?;
+    let draft = draft_in(submit(alloc, house, node, 1)?)?;
     store.arm(Failure::Old);
     let doubt = draft.keep(store).err()?;
     house.fail(doubt).ok()
@@ -176,7 +176,7 @@ fn tells_another<K: HouseName>(
 ) -> Option<bool>
     requires { 3 ≤ length K.base }
 {
-    other.learn(reader.saw());
+    other.learn(reader.seen_token());
     let counts = counts_from(alloc, other, NodeId::new(2)?, 1)?;
     reader.agrees_with(other);
     Some(counts == (1, 1))
@@ -240,7 +240,7 @@ pub fn walk<K: HouseName, R: Wait>(
             return Err("no memory");
         }
     };
-    house.promise();
+    house.recall();
     let mut other = readers.pop().unwrap();
     let called = calls(rt, alloc, &mut house, &mut readers[0], &mut other);
     let group = house.close(rt);

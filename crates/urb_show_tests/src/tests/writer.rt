@@ -18,7 +18,7 @@ pub struct News<K: HouseName> {
     pub total: u32,
 }
 
-/// What was settled and is not learnt yet, the latest last, and whether no more comes.
+/// The settlings that are not learnt yet, the latest last, and whether no more will come.
 #[derive(Drop)]
 pub struct Board<K: HouseName> {
     news: Vec<News<K>>,
@@ -60,21 +60,21 @@ pub fn three_stores(alloc: Global) -> [MemStable; 3] {
     ]
 }
 
-/// What was drafted.
-pub fn drafted(taken: Taken) -> Option<Draft> {
+/// The draft that was made, if any.
+pub fn draft_in(taken: Taken) -> Option<Draft> {
     match taken {
         Taken::Same(_) => None,
         Taken::Store(draft) => Some(draft),
     }
 }
 
-/// The store keeps what was drafted, and the house takes the receipt.
+/// The store keeps the draft, if there is one, and the house takes the receipt.
 pub fn keep<K: HouseName, A: Allocator + Copy>(
     house: &mut House<K, A>,
     stores: &mut [MemStable],
     taken: Taken,
 ) -> Option<Done> {
-    let draft = drafted(taken)?;
+    let draft = draft_in(taken)?;
     let store = stores.get_mut(usize::from(draft.node().number()) - 1)?;
     let receipt = draft.keep(store).ok()?;
     house.commit(receipt).ok()

@@ -1,9 +1,9 @@
-//! Rows that SQL has changed: which of them are records, and which one is named.
+//! Rows that SQL has changed: which of them are records, and which one a refusal names.
 
 use super::steps::{Case, Start, Step};
 use urb_stable::StoreFault;
 
-/// What was done to the rows of a journal of two records, and which row is no record then.
+/// What SQL did to the rows of a journal with two records, and which row is no longer a record.
 pub static BAD: [Case; 20] = [
     (
         "",
@@ -127,7 +127,7 @@ pub static BAD: [Case; 20] = [
     ),
 ];
 
-/// What was done to the rows, which are records still, and the next position then.
+/// What SQL did to the rows if they are still records, and the next position after it.
 pub static GOOD: [Case; 5] = [
     (
         "",
@@ -161,7 +161,7 @@ pub static GOOD: [Case; 5] = [
     ),
 ];
 
-/// The same of a journal with rows in both tables: places are counted over both.
+/// The same for a journal with rows in both tables. Places are counted over both.
 pub static OVER_BOTH: [Case; 6] = [
     (
         "",

@@ -1,6 +1,7 @@
-//! A journal that is closed over files which fail at one of their calls: what both files hold then, or the database file alone.
+//! A journal that is closed while its files fail at one of their calls. The tests check what both
+//! files hold afterwards, or the database file alone.
 
-use super::kept::{Bytes, bytes_of, journal_of, written};
+use super::kept::{Bytes, bytes_of, journal_of, write_records};
 use super::places::{Journal, Place};
 use super::records::TWO;
 use sqlite::Files;
@@ -12,7 +13,8 @@ use std::test::Fail;
 use urb_sqlite::SqlStable;
 use urb_stable::StoreFault;
 
-/// What a file may hold as the journal is opened again: all that was written, or what was synced alone.
+/// What a file may hold when the journal is opened again: everything that was written, or only what
+/// was synced.
 #[derive(Drop)]
 struct Left {
     written: Vec<u8>,
@@ -39,7 +41,7 @@ fn is_whole(alloc: Global, log: &[u8], db: &[u8]) -> bool {
     }
 }
 
-// Whether both records are found, whatever is lost of either file that was not synced.
+// Whether both records are found, even if unsynced writes of either file are lost.
 fn are_whole(alloc: Global, log: &Left, db: &Left) -> bool {
     is_whole(alloc, &log.written, &db.written)
         && is_whole(alloc, &log.written, &db.synced)
@@ -47,13 +49,13 @@ fn are_whole(alloc: Global, log: &Left, db: &Left) -> bool {
         && is_whole(alloc, &log.synced, &db.synced)
 }
 
-// The same with no log.
+// The same without the log.
 fn is_alone(alloc: Global, db: &Left) -> bool {
     is_whole(alloc, b"", &db.written) && is_whole(alloc, b"", &db.synced)
 }
 
-// Whether a journal is closed without a fault. What it leaves has both records: in both files, and closed in the database file
-// alone.
+// Whether a journal is closed without a fault. `None` if what it leaves lacks a record. The records
+// are looked for in both files and, if it was closed, also in the database file alone.
 fn is_closed(alloc: Global, journal: Journal<Fuse<Memory>>) -> Option<bool> {
     let (is_closed, files) = match journal.close() {
         Ok(copied) => (true, copied.into_files()),
@@ -69,10 +71,11 @@ fn is_closed(alloc: Global, journal: Journal<Fuse<Memory>>) -> Option<bool> {
     }
 }
 
-// How many closes fail: at the first call of a log or of a database file behind the opening, then at the second, and so on until
-// one goes through. The log has both records before, and the database file has none.
-fn met(alloc: Global, is_log: bool) -> Option<u64> {
-    let Bytes { log, db } = written(alloc, TWO)?;
+// Counts the closes that fail. The first one fails at the first call of a log or of a database file
+// after the opening. The next fails at the second call, and so on until one succeeds. Before it,
+// the log has both records, and the database file has none.
+fn count_failed_closes(alloc: Global, is_log: bool) -> Option<u64> {
+    let Bytes { log, db } = write_records(alloc, TWO)?;
     let mut met = 0;
     for calls in 0..200 {
         let (log_calls, db_calls) = if is_log {
@@ -90,7 +93,7 @@ fn met(alloc: Global, is_log: bool) -> Option<u64> {
     None
 }
 
-/// What fails, and in how many closes at least.
+/// Which file fails, and the least number of closes that fail.
 static FILES: [(&'static str, bool, u64); 2] = [
     ("the log", true, 2),
     ("the database file", false, 2),
@@ -99,7 +102,7 @@ static FILES: [(&'static str, bool, u64); 2] = [
 #[test]
 fn a_close_that_fails_at_any_call_loses_no_record(rt: HostRuntime) -> Result<(), Fail> {
     for (name, is_log, least) in &FILES {
-        let met = met(rt.alloc(), *is_log).unwrap_or(0);
+        let met = count_failed_closes(rt.alloc(), *is_log).unwrap_or(0);
         if met < *least {
             return Err(Fail::new(format_args!("{name}: {met} closes")));
         }
@@ -113,7 +116,8 @@ const FILE: &str = "urb_sqlite_closing/node-1.db";
 
 const LOG: &str = "urb_sqlite_closing/node-1.db-wal";
 
-// Why a journal in a real file is not closed: two records are stored, and then somebody empties its log.
+// Why a journal in a real file can't be closed: two records are stored, and then another program
+// empties its log.
 fn fault_of(rt: &HostRuntime) -> Option<StoreFault> {
     let mut place = Place::with(rt.alloc(), SqlStable::open(rt, FILE).ok()?);
     let are_stored = place.store(1, TWO[0]) == Some(Ok(()))

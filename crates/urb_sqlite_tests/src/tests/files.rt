@@ -1,4 +1,4 @@
-//! A journal in a real file: closed and opened again, damaged, and written to by stock SQLite.
+//! A journal in a real file. It is closed and opened again, damaged, and written by stock SQLite.
 
 use super::places::Place;
 use super::records::{Form, Load, TWO};
@@ -12,8 +12,9 @@ use std::test::Fail;
 use urb_sqlite::SqlStable;
 use urb_stable::StoreFault;
 
-/// The parts of a file that are not zero, and where they stand. Stock sqlite3 has made it, with pages of 512 bytes, and
-/// written to it: the CREATE of a journal of one table, the rows of a pending record and of its certificate, and ANALYZE.
+/// The parts of a file that are not zero, each with its offset. Stock sqlite3 made the file with
+/// pages of 512 bytes. It wrote the CREATE of a journal with one table, the rows of a pending
+/// record and of its certificate, and ANALYZE.
 static ANALYZED: [(usize, &'static [u8]); 7] = [
     (
         0,
@@ -31,13 +32,14 @@ static ANALYZED: [(usize, &'static [u8]); 7] = [
     ),
     (
         1000,
-        b"\x09\x02\x08\x00\x01\x09\x09\x08\x08\x0c\x03\x0b\x01\x08\x00\x09\x09\x09\x01\x09\x10\x07hi\x0d\x00\x00\x00\x01\x01\xf2\x00\x01\xf2",
+        b"\x09\x02\x08\x00\x01\x09\x09\x08\x08\x0c\x03\x0b\x01\x08\x00\x09\x09\x09\x01\x09\x10\x07hi\
+\x0d\x00\x00\x00\x01\x01\xf2\x00\x01\xf2",
     ),
     (1522, b"\x0c\x01\x04\x1b\x00\x0fjournal2"),
 ];
 
-// The bytes of that file. Its last part ends it.
-fn analyzed(alloc: Global) -> Option<Vec<u8>> {
+// The bytes of that file. Its last part is its end.
+fn make_stock_file(alloc: Global) -> Option<Vec<u8>> {
     let mut bytes = Vec::new(alloc);
     for (at, part) in &ANALYZED {
         bytes.resize(*at, 0).ok()?;
@@ -46,22 +48,22 @@ fn analyzed(alloc: Global) -> Option<Vec<u8>> {
     Some(bytes)
 }
 
-/// What is done with a journal's file.
+/// What a test does with a journal's file.
 #[derive(Clone, Copy)]
 enum Act {
     /// Stock SQLite has written it.
     Analyzed,
-    /// It is opened, these steps are played, and the journal is let go.
+    /// Opens it, plays these steps, and drops the journal.
     Dropped(&'static [Step]),
-    /// The same, but the journal is closed without a fault.
+    /// The same, but closes the journal without a fault.
     Closed(&'static [Step]),
-    /// Whether a log stands beside it.
+    /// Whether a log is beside it.
     HasLog(bool),
-    /// SQL changes it.
+    /// Changes it by SQL.
     Sql(&'static str),
-    /// It is refused twice for this fault, and its bytes stay.
+    /// It is refused twice with this fault, and its bytes stay.
     Refused(StoreFault),
-    /// In a directory that isn't there, none is made.
+    /// In a directory that doesn't exist, no file is made.
     Missing,
 }
 
@@ -69,15 +71,15 @@ const FOLDER: &str = "urb_sqlite_file";
 
 const FILE: &str = "urb_sqlite_file/node-1.db";
 
-// Whether stock SQLite's file stands there.
+// Whether stock SQLite's file is in place.
 fn is_written(rt: &HostRuntime) -> bool {
-    match analyzed(rt.alloc()) {
+    match make_stock_file(rt.alloc()) {
         Some(bytes) => fs::write(rt, FILE, bytes.as_slice()).is_ok(),
         None => false,
     }
 }
 
-/// Whether the journal at this path answers each step as it is to.
+/// Whether the journal at this path answers each step as expected.
 pub fn is_played(rt: &HostRuntime, path: &str, steps: &[Step], is_closed: bool) -> bool {
     let Ok(journal) = SqlStable::open(rt, path) else {
         return false;
@@ -92,7 +94,7 @@ pub fn is_played(rt: &HostRuntime, path: &str, steps: &[Step], is_closed: bool) 
     }
 }
 
-/// Whether SQL changes the file at this path, and closes it.
+/// Changes the file at this path by SQL and closes it, and says whether that worked.
 pub fn is_damaged(rt: &HostRuntime, path: &str, sql: &str) -> bool {
     let Ok(mut conn) = Connection::open(rt, path) else {
         return false;
@@ -101,7 +103,7 @@ pub fn is_damaged(rt: &HostRuntime, path: &str, sql: &str) -> bool {
     is_changed && conn.close().is_ok()
 }
 
-// Whether the file is refused for this fault.
+// Whether the file is refused with this fault.
 fn is_refused(rt: &HostRuntime, path: &str, fault: StoreFault) -> bool {
     match SqlStable::open(rt, path) {
         Ok(journal) => {
@@ -112,7 +114,7 @@ fn is_refused(rt: &HostRuntime, path: &str, fault: StoreFault) -> bool {
     }
 }
 
-// Whether it is refused for this fault twice, and its bytes stay.
+// Whether it is refused with this fault twice, and its bytes stay.
 fn is_left(rt: &HostRuntime, fault: StoreFault) -> Option<bool> {
     let before = fs::read(rt, FILE).ok()?;
     let are_refused = is_refused(rt, FILE, fault) && is_refused(rt, FILE, fault);
@@ -120,7 +122,7 @@ fn is_left(rt: &HostRuntime, fault: StoreFault) -> Option<bool> {
     Some(are_refused && before.as_slice() == after.as_slice())
 }
 
-// Whether it goes as it is to.
+// Whether it goes as expected.
 fn is_right(rt: &HostRuntime, act: Act) -> bool {
     match act {
         Act::Analyzed => is_written(rt),
@@ -134,16 +136,16 @@ fn is_right(rt: &HostRuntime, act: Act) -> bool {
     }
 }
 
-/// The first two records are stored.
+/// Stores the first two records.
 const BEGUN: &[Step] = &[
     Step::Store(1, (Form::Pending, 1, Load::Of(b"hi")), Ok(())),
     Step::Store(2, (Form::Certificate, 1, Load::Of(b"")), Ok(())),
 ];
 
-/// They are found.
+/// Finds them.
 const FOUND: &[Step] = &[Step::Stands(3, false), Step::Holds(TWO)];
 
-/// The two records of the first table stand, and the third goes into the second table.
+/// The two records of the first table stay, and the third goes into the second table.
 const GROWN: &[Step] = &[
     Step::Holds(TWO),
     Step::Store(3, THIRD, Ok(())),
@@ -152,7 +154,7 @@ const GROWN: &[Step] = &[
 
 const ALL: &[Step] = &[Step::Stands(4, false), Step::Holds(THREE)];
 
-/// What is done with one file after the other.
+/// What a test does with one file, step by step.
 static FILES: [(&'static str, &'static [Act]); 7] = [
     (
         "a file that was let go is found with its records",

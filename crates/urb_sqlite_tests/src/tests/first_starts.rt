@@ -1,4 +1,5 @@
-//! A first start that was stopped, and files of before: what an opening makes of them, and how long their pages are.
+//! A first start that was stopped, and files of older programs: what an opening finds in them, and
+//! the size of their pages.
 
 use super::leftovers::{
     BEGUN, BEGUN_BEFORE, Content, EMPTY, FILE, Left, NONE, PAGE, PAGE_BEFORE, is_left, is_made,
@@ -15,7 +16,8 @@ use urb_stable::StoreFault;
 
 const FOLDER: &str = "urb_sqlite_first";
 
-/// A case: what stands there, the records that the opened journal gives, its next position, and how long its pages are.
+/// A case: the files before the opening, the records that the opened journal returns, its next
+/// position, and the size of its pages.
 struct Case {
     name: &'static str,
     left: Left,
@@ -24,29 +26,42 @@ struct Case {
     pages: usize,
 }
 
-/// What the two tables are made by.
-const CREATE: &str =
-    "CREATE TABLE journal(pos INTEGER PRIMARY KEY, kind INTEGER NOT NULL, sender INTEGER NOT NULL, seq INTEGER NOT NULL, client INTEGER NOT NULL, number INTEGER NOT NULL, payload BLOB NOT NULL) STRICT";
+/// The statements that make the two tables.
+const CREATE: &str = "CREATE TABLE journal(pos INTEGER PRIMARY KEY, kind INTEGER NOT NULL, \
+sender INTEGER NOT NULL, seq INTEGER NOT NULL, client INTEGER NOT NULL, \
+number INTEGER NOT NULL, payload BLOB NOT NULL) STRICT";
 
-const CREATE_BOTH: &str =
-    "CREATE TABLE journal(pos INTEGER PRIMARY KEY, kind INTEGER NOT NULL, sender INTEGER NOT NULL, seq INTEGER NOT NULL, client INTEGER NOT NULL, number INTEGER NOT NULL, payload BLOB NOT NULL) STRICT; CREATE TABLE journal2(pos INTEGER PRIMARY KEY, kind INTEGER NOT NULL, sender INTEGER NOT NULL, seq INTEGER NOT NULL, client INTEGER NOT NULL, number INTEGER NOT NULL, payload BLOB NOT NULL) STRICT";
+const CREATE_BOTH: &str = "CREATE TABLE journal(pos INTEGER PRIMARY KEY, kind INTEGER NOT NULL, \
+sender INTEGER NOT NULL, seq INTEGER NOT NULL, client INTEGER NOT NULL, \
+number INTEGER NOT NULL, payload BLOB NOT NULL) STRICT; \
+CREATE TABLE journal2(pos INTEGER PRIMARY KEY, kind INTEGER NOT NULL, \
+sender INTEGER NOT NULL, seq INTEGER NOT NULL, client INTEGER NOT NULL, \
+number INTEGER NOT NULL, payload BLOB NOT NULL) STRICT";
 
-const CREATE_SECOND: &str =
-    "CREATE TABLE journal2(pos INTEGER PRIMARY KEY, kind INTEGER NOT NULL, sender INTEGER NOT NULL, seq INTEGER NOT NULL, client INTEGER NOT NULL, number INTEGER NOT NULL, payload BLOB NOT NULL) STRICT";
+const CREATE_SECOND: &str = "CREATE TABLE journal2(pos INTEGER PRIMARY KEY, kind INTEGER NOT NULL, \
+sender INTEGER NOT NULL, seq INTEGER NOT NULL, client INTEGER NOT NULL, \
+number INTEGER NOT NULL, payload BLOB NOT NULL) STRICT";
 
-/// The records of a file of before there were two tables.
-const OLD: &str =
-    "CREATE TABLE journal(pos INTEGER PRIMARY KEY, kind INTEGER NOT NULL, sender INTEGER NOT NULL, seq INTEGER NOT NULL, client INTEGER NOT NULL, number INTEGER NOT NULL, payload BLOB NOT NULL) STRICT; INSERT INTO journal VALUES (1, 1, 1, 1, 7, 1, x'6869'); INSERT INTO journal VALUES (2, 3, 1, 1, 0, 0, x'')";
+/// The records of a file from before there were two tables.
+const OLD: &str = "CREATE TABLE journal(pos INTEGER PRIMARY KEY, kind INTEGER NOT NULL, \
+sender INTEGER NOT NULL, seq INTEGER NOT NULL, client INTEGER NOT NULL, \
+number INTEGER NOT NULL, payload BLOB NOT NULL) STRICT; INSERT INTO journal VALUES (1, 1, \
+1, 1, 7, 1, x'6869'); INSERT INTO journal VALUES (2, 3, 1, 1, 0, 0, x'')";
 
-/// The same records in the second table, which stands alone, between other tables.
+/// The same records in the second table. There is no first table, and the second is between other
+/// tables.
 const SECOND: &str =
-    "CREATE TABLE other(x INTEGER); CREATE TABLE journal2(pos INTEGER PRIMARY KEY, kind INTEGER NOT NULL, sender INTEGER NOT NULL, seq INTEGER NOT NULL, client INTEGER NOT NULL, number INTEGER NOT NULL, payload BLOB NOT NULL) STRICT; CREATE TABLE more(x INTEGER); INSERT INTO journal2 VALUES (1, 1, 1, 1, 7, 1, x'6869'); INSERT INTO journal2 VALUES (2, 3, 1, 1, 0, 0, x'')";
+    "CREATE TABLE other(x INTEGER); CREATE TABLE journal2(pos INTEGER PRIMARY KEY, \
+kind INTEGER NOT NULL, sender INTEGER NOT NULL, seq INTEGER NOT NULL, \
+client INTEGER NOT NULL, number INTEGER NOT NULL, payload BLOB NOT NULL) STRICT; \
+CREATE TABLE more(x INTEGER); INSERT INTO journal2 VALUES (1, 1, 1, 1, 7, 1, x'6869'); \
+INSERT INTO journal2 VALUES (2, 3, 1, 1, 0, 0, x'')";
 
-/// Other tables alone, one of which counts its rows in a table of SQLite's own.
-const OTHERS: &str =
-    "CREATE TABLE other(x INTEGER); INSERT INTO other VALUES (1); CREATE TABLE more(x INTEGER PRIMARY KEY AUTOINCREMENT); INSERT INTO more VALUES (7)";
+/// Other tables alone. One of them counts its rows in a table of SQLite's own.
+const OTHERS: &str = "CREATE TABLE other(x INTEGER); INSERT INTO other VALUES (1); \
+CREATE TABLE more(x INTEGER PRIMARY KEY AUTOINCREMENT); INSERT INTO more VALUES (7)";
 
-/// What a first start leaves that is stopped before its first CREATE is committed.
+/// What a first start leaves if it is stopped before its first CREATE is committed.
 static UNMADE: [Case; 11] = [
     Case {
         name: "an empty file",
@@ -139,7 +154,8 @@ static UNMADE: [Case; 11] = [
     },
 ];
 
-/// A database of an older program: stopped before, between and behind its two CREATE statements, and what else may stand there.
+/// A database of an older program that was stopped before, between and after its two CREATE
+/// statements, and other content.
 static BEFORE: [Case; 7] = [
     Case {
         name: "a database of an older program without a table",
@@ -192,11 +208,11 @@ static BEFORE: [Case; 7] = [
     },
 ];
 
-/// A record that is stored behind those that stand there.
+/// A record that is stored after those that are there.
 const MORE: Kept = (Form::Certificate, 9, Load::Of(b""));
 
-// Whether node 1's journal opens at this position, and is closed. If records are given, it has these and takes one
-// more.
+// Whether node 1's journal opens at this position, and can be closed. If records are given, it has
+// these, and takes one more.
 fn is_opened(rt: &HostRuntime, kept: Option<&[Kept]>, next: u32) -> bool {
     let Ok(journal) = open_node::<Brand>(rt, FILE, NodeId::new(1).unwrap()) else {
         return false;
@@ -214,14 +230,14 @@ fn is_opened(rt: &HostRuntime, kept: Option<&[Kept]>, next: u32) -> bool {
     }
 }
 
-// How long the pages of the closed file are.
+// The size of the pages of the closed file.
 fn pages(rt: &HostRuntime) -> Option<usize> {
     let bytes = fs::read(rt, FILE).ok()?;
     let (high, low) = (*bytes.get(16)?, *bytes.get(17)?);
     Some(usize::from(high) * 256 + usize::from(low))
 }
 
-// What is wrong if a node's files are left as in the case and opened twice.
+// What goes wrong, if anything, when a node's files are as in the case and are opened twice.
 fn fault_of(rt: &HostRuntime, case: &Case) -> Option<&'static str> {
     if !is_left(rt, case.left) {
         Some("it is not there")
@@ -263,14 +279,15 @@ fn an_older_file_keeps_its_pages_and_records(rt: HostRuntime) -> Result<(), Fail
     are_right(&rt, &BEFORE)
 }
 
-/// What SQL does to a second table that stands alone, and the place of the first row that is no record then.
+/// What SQL does to a second table without a first one, and the place of the first row that is then
+/// no record.
 static BAD: [(&'static str, u32); 3] = [
     ("UPDATE journal2 SET pos = 3 WHERE pos = 2", 2),
     ("DELETE FROM journal2 WHERE pos = 1", 1),
     ("UPDATE journal2 SET kind = 4", 1),
 ];
 
-// Whether it is refused for this row.
+// Whether the journal is refused because of this row.
 fn is_refused(rt: &HostRuntime, place: u32) -> bool {
     match open_node::<Brand>(rt, FILE, NodeId::new(1).unwrap()) {
         Ok(journal) => {

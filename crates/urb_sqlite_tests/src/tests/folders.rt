@@ -26,11 +26,11 @@ enum Damage {
     Nothing,
     /// SQL has changed this file.
     Sql(&'static str),
-    /// Node 1 has got this file, and the node of this one has got node 1's.
+    /// Node 1 and this node have got each other's file.
     Exchanged(&'static str),
 }
 
-/// What a group tells first that delivers the message.
+/// The first report of a group that delivers the message.
 const DELIVERED: Told = Told {
     logs: [true, true, false],
     is_accepted: true,
@@ -38,7 +38,7 @@ const DELIVERED: Told = Told {
     is_down: false,
 };
 
-/// What it tells once it is opened again, where its first node has the message or not.
+/// Its report after it is opened again, by whether its first node has the message.
 const AGAIN: Told = Told {
     logs: [true, true, false],
     is_accepted: true,
@@ -53,7 +53,7 @@ const SHORTER: Told = Told {
     is_down: false,
 };
 
-/// The SQL or its name, what was done, and what the group says then.
+/// The SQL or its name, what was done, and what the group says after it.
 static DAMAGES: [(&'static str, Damage, Said); 18] = [
     ("nothing", Damage::Nothing, Said::Told(AGAIN)),
     (
@@ -131,8 +131,8 @@ static DAMAGES: [(&'static str, Damage, Said); 18] = [
     ("nodes 1 and 3", Damage::Exchanged(THREE), Said::Unsent),
 ];
 
-// What the group over the files says of the events. Its journals are closed.
-fn said(rt: &HostRuntime, events: &[Event]) -> Said {
+// What the group over the files says about the events. Its journals are closed.
+fn run_over_files(rt: &HostRuntime, events: &[Event]) -> Said {
     match open_nodes::<Brand>(rt, FOLDER, three()) {
         Ok(journals) => {
             let (journals, said) = run(rt.alloc(), journals, events);
@@ -148,7 +148,7 @@ fn said(rt: &HostRuntime, events: &[Event]) -> Said {
 
 // Whether the group says so twice.
 fn is_said(rt: &HostRuntime, wanted: Said) -> bool {
-    said(rt, &REPEAT) == wanted && said(rt, &REPEAT) == wanted
+    run_over_files(rt, &REPEAT) == wanted && run_over_files(rt, &REPEAT) == wanted
 }
 
 // Whether the group says so twice, and the bytes of this file stay.
@@ -159,19 +159,19 @@ fn is_left(rt: &HostRuntime, path: &str, wanted: Said) -> Option<bool> {
     Some(is_said && before.as_slice() == after.as_slice())
 }
 
-// Whether node 1 and the other have got each other's file.
+// Whether node 1 and the other node have got each other's file.
 fn are_exchanged(rt: &HostRuntime, other: &str) -> bool {
     fs::rename(rt, ONE, "urb_sqlite_folder/between").is_ok()
         && fs::rename(rt, other, ONE).is_ok()
         && fs::rename(rt, "urb_sqlite_folder/between", other).is_ok()
 }
 
-// Whether a group delivers the message, is closed, and says what it is to after the damage.
+// Whether a group delivers the message, is closed, and says what is expected after the damage.
 fn is_right(rt: &HostRuntime, (sql, damage, wanted): &(&str, Damage, Said)) -> bool {
-    if said(rt, &DELIVERY) != Said::Told(DELIVERED) {
+    if run_over_files(rt, &DELIVERY) != Said::Told(DELIVERED) {
         return false;
     }
-    // A journal that is closed is one file.
+    // A closed journal is one file.
     let is_whole = fs::metadata(rt, "urb_sqlite_folder/node-1.db-wal").is_err();
     let is_so = match (damage, wanted) {
         (Damage::Nothing, _) => is_said(rt, *wanted),
@@ -194,7 +194,7 @@ fn a_file_that_is_new_has_small_pages(rt: HostRuntime) -> Result<(), Fail> {
     let is_closed = close_nodes(&rt, FOLDER, journals).is_ok();
     let bytes = fs::read(&rt, ONE)?;
     fs::remove_dir_all(&rt, FOLDER)?;
-    // The page size stands in bytes 16 and 17, the higher one first.
+    // The page size is in bytes 16 and 17, the higher one first.
     if !is_closed || bytes.get(16) != Some(&4) || bytes.get(17) != Some(&0) {
         return Err(Fail::new(format_args!("pages of another size")));
     }
@@ -214,7 +214,7 @@ fn a_group_over_files_says_what_they_hold(rt: HostRuntime) -> Result<(), Fail> {
     Ok(())
 }
 
-/// The record that each node stores, its file, and what that holds then.
+/// The record that each node stores, its file, and what the file holds after it.
 static OWN: [(Kept, &'static str, &'static str, &'static [Step]); 3] = [
     (
         (Form::Certificate, 1, Load::Of(b"")),

@@ -6,7 +6,7 @@ use urb_group::{Answer, Cluster, Command, Reply, play};
 use urb_names::{ClientId, Config, Name, NodeId, Refusal, Rule};
 use urb_stable::{Stable, StoreFault};
 
-/// Three nodes, of which each may broadcast ten messages.
+/// Three nodes, each of which may broadcast ten messages.
 pub fn three() -> Config
     ensures { result.n ≡ 3 }
 {
@@ -36,7 +36,7 @@ pub static DELIVERY: [Event; 6] = [
     Event::StoreOne,
 ];
 
-/// The message is sent again.
+/// The client sends the message again.
 pub static REPEAT: [Event; 1] = [Event::Submit];
 
 /// The packets of the message.
@@ -44,7 +44,7 @@ const RELAYED: &[u8] = b"UB\x02\x01\x02\x00\x01\x00\x00\x00\x01\x00\x07\x00\x00\
 
 const HEARD: &[u8] = b"UB\x02\x02\x01\x00\x01\x00\x00\x00\x01\x00\x07\x00\x00\x00\x01\x00\x01a";
 
-/// What an event says to a cluster.
+/// The command that an event is for a cluster.
 pub fn command(alloc: Global, event: Event) -> Option<Command> {
     let (one, two) = (NodeId::new(1).unwrap(), NodeId::new(2).unwrap());
     match event {
@@ -75,7 +75,7 @@ fn commands(alloc: Global, events: &[Event]) -> Option<Vec<Command>> {
     Some(commands)
 }
 
-// Whether it is the first name of node 1, that of the message.
+// Whether it is the first name of node 1, which is that of the message.
 fn is_first(name: Name) -> bool {
     name.sender.number() == 1 && name.seq == 1
 }
@@ -83,7 +83,7 @@ fn is_first(name: Name) -> bool {
 /// What an event led to.
 #[derive(Clone, Copy)]
 pub enum Led {
-    /// The message is accepted under its name: by this store, or since it was stored before.
+    /// The message is accepted under its name: by this store, or because it was stored before.
     Stored,
     Same,
     /// The node is down.
@@ -91,8 +91,8 @@ pub enum Led {
     Other,
 }
 
-/// What a reply tells of it.
-pub fn led_in(reply: &Reply) -> Led {
+/// What a reply says about it.
+pub fn outcome_of(reply: &Reply) -> Led {
     match reply {
         Reply::Stored(done) if done.accepted && is_first(done.name) => Led::Stored,
         Reply::Same(Answer::Accepted(name)) if is_first(*name) => Led::Same,
@@ -101,11 +101,15 @@ pub fn led_in(reply: &Reply) -> Led {
     }
 }
 
-fn lead<S: Stable<Alloc = Global>>(alloc: Global, cluster: &mut Cluster<S>, event: Event) -> Led {
+fn apply_event<S: Stable<Alloc = Global>>(
+    alloc: Global,
+    cluster: &mut Cluster<S>,
+    event: Event,
+) -> Led {
     match command(alloc, event) {
         Some(command) => {
             let reply = cluster.apply(alloc, &command);
-            let led = led_in(&reply);
+            let led = outcome_of(&reply);
             drop(reply);
             drop(command);
             led
@@ -114,8 +118,8 @@ fn lead<S: Stable<Alloc = Global>>(alloc: Global, cluster: &mut Cluster<S>, even
     }
 }
 
-/// What a group tells: which of its nodes have delivered the message, whether it was accepted, whether it was so as sent before, and
-/// whether a store failed.
+/// What a group reports: which of its nodes have delivered the message, whether it was accepted,
+/// also as a repeat, and whether a store failed.
 #[derive(Clone, Copy, PartialEq, Eq)]
 pub struct Told {
     pub logs: [bool; 3],
@@ -124,21 +128,21 @@ pub struct Told {
     pub is_down: bool,
 }
 
-/// What a group over stores tells, or why there is none.
+/// What a group over stores reports, or why there is no group.
 #[derive(Clone, Copy, PartialEq, Eq)]
 pub enum Said {
     Told(Told),
-    /// Node 2 holds the message, and node 1, whose name it has, does not.
+    /// Node 2 holds the message, but node 1, whose name the message has, doesn't.
     Unsent,
     /// The journal of this node is refused.
     Fault(u8, StoreFault),
-    /// There is none, for another reason.
+    /// There is no group, for another reason.
     Refused,
     /// A log has another message.
     Other,
 }
 
-// Whether a node has delivered the message; none where it has delivered another.
+// Whether a node has delivered the message. `None` if it has delivered another.
 fn has_delivered<S: Stable<Alloc = Global>>(cluster: &Cluster<S>, number: u8) -> Option<bool> {
     match cluster.group().log(NodeId::new(number)?)? {
         [] => Some(false),
@@ -147,15 +151,15 @@ fn has_delivered<S: Stable<Alloc = Global>>(cluster: &Cluster<S>, number: u8) ->
     }
 }
 
-/// What the group tells of these events; none further happens where a store fails.
-pub fn tell<S: Stable<Alloc = Global>>(
+/// What the group reports about these events. If a store fails, the remaining events don't happen.
+pub fn play_events<S: Stable<Alloc = Global>>(
     alloc: Global,
     cluster: &mut Cluster<S>,
     events: &[Event],
 ) -> Option<Told> {
     let (mut is_accepted, mut is_same, mut is_down) = (false, false, false);
     for event in events {
-        match lead(alloc, cluster, *event) {
+        match apply_event(alloc, cluster, *event) {
             Led::Stored => is_accepted = true,
             Led::Same => is_same = true,
             Led::Down => {
@@ -178,7 +182,7 @@ pub fn tell<S: Stable<Alloc = Global>>(
 }
 
 // Why there is no group.
-fn said_in(refusal: Refusal) -> Said {
+fn judge_refusal(refusal: Refusal) -> Said {
     let unsent = Refusal::Inconsistent {
         rule: Rule::C,
         node: NodeId::new(2).unwrap(),
@@ -194,7 +198,7 @@ fn said_in(refusal: Refusal) -> Said {
     }
 }
 
-/// What the group over these stores says of the events, and the stores.
+/// What the group over these stores says about the events, and the stores.
 pub fn run<S: Stable<Alloc = Global> + Drop>(
     alloc: Global,
     stores: Vec<S>,
@@ -205,13 +209,13 @@ pub fn run<S: Stable<Alloc = Global> + Drop>(
     }
     match Cluster::open(alloc, three(), stores) {
         Ok(mut cluster) => {
-            let said = match tell(alloc, &mut cluster, events) {
+            let said = match play_events(alloc, &mut cluster, events) {
                 Some(told) => Said::Told(told),
                 None => Said::Other,
             };
             (cluster.into_stores(), said)
         }
-        Err((stores, refusal)) => (stores, said_in(refusal)),
+        Err((stores, refusal)) => (stores, judge_refusal(refusal)),
     }
 }
 
@@ -226,8 +230,11 @@ fn is_delivered<S: Stable<Alloc = Global>>(alloc: Global, cluster: &mut Cluster<
     }
 }
 
-/// What the same group says that delivers the message, and whose nodes all stop then and are opened again.
-pub fn reopened<S: Stable<Alloc = Global> + Drop>(alloc: Global, stores: Vec<S>) -> Option<Told> {
+/// The report of a group that delivers the message, after all its nodes stop and are opened again.
+pub fn deliver_and_reopen<S: Stable<Alloc = Global> + Drop>(
+    alloc: Global,
+    stores: Vec<S>,
+) -> Option<Told> {
     if stores.len() != 3 {
         return None;
     }
@@ -236,7 +243,7 @@ pub fn reopened<S: Stable<Alloc = Global> + Drop>(alloc: Global, stores: Vec<S>)
     };
     let is_delivered = is_delivered(alloc, &mut cluster);
     match cluster.reopen(alloc) {
-        Ok(mut cluster) if is_delivered => tell(alloc, &mut cluster, &REPEAT),
+        Ok(mut cluster) if is_delivered => play_events(alloc, &mut cluster, &REPEAT),
         _ => None,
     }
 }

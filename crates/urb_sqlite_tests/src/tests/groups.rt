@@ -1,17 +1,20 @@
-//! A stop of the machine at each call of each node's two files: new ones, and files of before there were two tables.
+//! A stop of the machine at each call of each node's two files, for new files and for files from
+//! before there were two tables.
 
-use super::group::{DELIVERY, Event, REPEAT, Said, Told, reopened, run};
-use super::places::{Journal, Place, fused};
+use super::group::{DELIVERY, Event, REPEAT, Said, Told, deliver_and_reopen, run};
+use super::places::{Journal, Place, make_fused_place};
 use sqlite_disk::{Crash, Disk, Fuse, Memory};
 use std::alloc::Global;
 use std::test::Fail;
 
-/// A file of before there were two tables: node 1 has stored its first message.
-const OLD: &str =
-    "CREATE TABLE journal(pos INTEGER PRIMARY KEY, kind INTEGER NOT NULL, sender INTEGER NOT NULL, seq INTEGER NOT NULL, client INTEGER NOT NULL, number INTEGER NOT NULL, payload BLOB NOT NULL) STRICT; INSERT INTO journal VALUES (1, 1, 1, 1, 7, 1, x'61')";
+/// A file from before there were two tables. Node 1 has stored its first message there.
+const OLD: &str = "CREATE TABLE journal(pos INTEGER PRIMARY KEY, kind INTEGER NOT NULL, \
+sender INTEGER NOT NULL, seq INTEGER NOT NULL, client INTEGER NOT NULL, \
+number INTEGER NOT NULL, payload BLOB NOT NULL) STRICT; INSERT INTO journal VALUES (1, 1, \
+1, 1, 7, 1, x'61')";
 
-/// The node of which a file stops, from 0, whether that is its log, whether node 1's file is an old one, and how many stops are met
-/// at least.
+/// The node whose file fails (from 0), and whether that file is its log. Then whether node 1's file
+/// is an old one, and how many runs are stopped at least.
 #[derive(Clone, Copy)]
 struct Case {
     node: usize,
@@ -20,7 +23,7 @@ struct Case {
     least: u64,
 }
 
-// The places of the nodes, with new files, of which that of the case takes so many calls.
+// The places of the nodes, with new files. The case's file fails after the given number of calls.
 fn places(alloc: Global, case: Case, calls: u64) -> Option<Vec<Place<Fuse<Memory>>>> {
     let mut places = Vec::new(alloc);
     for node in 0..3 {
@@ -34,7 +37,7 @@ fn places(alloc: Global, case: Case, calls: u64) -> Option<Vec<Place<Fuse<Memory
         } else {
             u64::MAX
         };
-        places.push(fused(alloc, log, db)).ok()?;
+        places.push(make_fused_place(alloc, log, db)).ok()?;
     }
     Some(places)
 }
@@ -46,7 +49,7 @@ fn is_old<D: Disk + Drop>(place: &mut Place<D>) -> bool {
     is_old
 }
 
-// Whether each node's files become its journal. Behind one that doesn't, no other does.
+// Whether each node's files become its journal. After one that fails, the others are not tried.
 fn are_open<D: Disk + Drop>(places: &mut [Place<D>]) -> bool {
     for place in places {
         if !place.is_open() {
@@ -56,7 +59,7 @@ fn are_open<D: Disk + Drop>(places: &mut [Place<D>]) -> bool {
     true
 }
 
-// The same by one call a node.
+// The same by one call for each node.
 fn are_opened<D: Disk + Drop>(places: &mut [Place<D>]) -> bool {
     for place in places {
         if !place.is_opened() {
@@ -67,7 +70,10 @@ fn are_opened<D: Disk + Drop>(places: &mut [Place<D>]) -> bool {
 }
 
 // The journals of all nodes, in order.
-fn taken<D: Disk + Drop>(alloc: Global, places: &mut [Place<D>]) -> Option<Vec<Journal<D>>> {
+fn take_journals<D: Disk + Drop>(
+    alloc: Global,
+    places: &mut [Place<D>],
+) -> Option<Vec<Journal<D>>> {
     let mut journals = Vec::new(alloc);
     for place in places {
         journals.push(place.take()?).ok()?;
@@ -75,7 +81,7 @@ fn taken<D: Disk + Drop>(alloc: Global, places: &mut [Place<D>]) -> Option<Vec<J
     Some(journals)
 }
 
-// The journals come back to their nodes, the last one first.
+// The journals return to their nodes, the last one first.
 fn give_back<D: Disk + Drop>(places: &mut [Place<D>], mut journals: Vec<Journal<D>>) {
     for _ in 0..3 {
         if let Some(journal) = journals.pop() {
@@ -87,11 +93,11 @@ fn give_back<D: Disk + Drop>(places: &mut [Place<D>], mut journals: Vec<Journal<
 }
 
 // What the group over these places says.
-fn said<D: Disk + Drop>(alloc: Global, places: &mut [Place<D>], events: &[Event]) -> Said {
+fn run_at_places<D: Disk + Drop>(alloc: Global, places: &mut [Place<D>], events: &[Event]) -> Said {
     if !are_open(places) {
         return Said::Refused;
     }
-    match taken(alloc, places) {
+    match take_journals(alloc, places) {
         Some(journals) => {
             let (journals, said) = run(alloc, journals, events);
             give_back(places, journals);
@@ -101,7 +107,8 @@ fn said<D: Disk + Drop>(alloc: Global, places: &mut [Place<D>], events: &[Event]
     }
 }
 
-// Whether a store failed, or nothing was told, where all that was told before a stop holds after it.
+// Whether the run was stopped: a store failed, or the group reported nothing. `None` if what it
+// reported before the stop doesn't hold after it.
 fn is_stopped(before: Said, after: Said, is_old: bool) -> Option<bool> {
     let Said::Told(again) = after else {
         return None;
@@ -121,7 +128,7 @@ fn is_stopped(before: Said, after: Said, is_old: bool) -> Option<bool> {
     }
 }
 
-// Whether each log begins with what it was before.
+// Whether each log begins with the log from before.
 fn is_begun(before: [bool; 3], after: [bool; 3]) -> bool {
     before.iter().zip(&after).all(|(old, new)| *new || !*old)
 }
@@ -133,9 +140,10 @@ fn stop<D: Crash + Drop>(places: &mut [Place<D>]) {
     }
 }
 
-// Runs the group until the machine stops, and then again: whether it is stopped, and whether the case's file has taken all its calls.
-// What was told before the stop holds after it.
-fn outcome<D: Crash + Drop>(
+// Runs the group until the machine stops, and then once more. The result says whether it was
+// stopped, and whether the case's file has taken all its calls. What was reported before the stop
+// holds after it.
+fn run_stop_and_rerun<D: Crash + Drop>(
     alloc: Global,
     places: &mut [Place<D>],
     case: Case,
@@ -143,20 +151,21 @@ fn outcome<D: Crash + Drop>(
     let before = if case.is_old && !is_old(places.first_mut()?) {
         Said::Refused
     } else {
-        said(alloc, places, &DELIVERY)
+        run_at_places(alloc, places, &DELIVERY)
     };
     let is_spent = places.get_mut(case.node)?.is_spent();
     stop(places);
-    let after = said(alloc, places, &REPEAT);
+    let after = run_at_places(alloc, places, &REPEAT);
     Some((is_stopped(before, after, case.is_old)?, is_spent))
 }
 
-// How many runs are stopped: at the first call of the case's file, then at the second, and so on until a run has calls left.
-fn met(alloc: Global, case: Case) -> Option<u64> {
+// Counts the runs that are stopped. The first is stopped at the first call of the case's file, the
+// next at the second, and so on until a run has calls left.
+fn count_stopped_runs(alloc: Global, case: Case) -> Option<u64> {
     let mut met = 0;
     for calls in 0..400 {
         let mut places = places(alloc, case, calls)?;
-        let outcome = outcome(alloc, &mut places, case);
+        let outcome = run_stop_and_rerun(alloc, &mut places, case);
         drop(places);
         match outcome? {
             (_, false) => return Some(met),
@@ -221,7 +230,7 @@ static CASES: [Case; 8] = [
 #[test]
 fn what_was_told_outlives_each_stop(rt: HostRuntime) -> Result<(), Fail> {
     for case in &CASES {
-        let met = met(rt.alloc(), *case).unwrap_or(0);
+        let met = count_stopped_runs(rt.alloc(), *case).unwrap_or(0);
         if met < case.least {
             return Err(Fail::new(format_args!(
                 "node {}, log {}, old {}: {met} stops",
@@ -232,16 +241,16 @@ fn what_was_told_outlives_each_stop(rt: HostRuntime) -> Result<(), Fail> {
     Ok(())
 }
 
-// What stands after a stop of all nodes over journals that stay open, behind a delivery.
-fn told_again(alloc: Global) -> Option<Told> {
+// What is left after a stop of all nodes over journals that stay open, after a delivery.
+fn deliver_at_places_and_reopen(alloc: Global) -> Option<Told> {
     let mut places = places(alloc, CASES[0], u64::MAX)?;
     let journals = if are_opened(&mut places) {
-        taken(alloc, &mut places)
+        take_journals(alloc, &mut places)
     } else {
         None
     };
     drop(places);
-    reopened(alloc, journals?)
+    deliver_and_reopen(alloc, journals?)
 }
 
 #[test]
@@ -252,5 +261,5 @@ fn journals_bring_a_group_back(rt: HostRuntime) {
         is_same: true,
         is_down: false,
     };
-    assert!(rt; told_again(rt.alloc()) == Some(wanted));
+    assert!(rt; deliver_at_places_and_reopen(rt.alloc()) == Some(wanted));
 }

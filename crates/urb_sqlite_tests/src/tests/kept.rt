@@ -1,6 +1,6 @@
-//! The bytes of a journal's two files, and a journal over files in memory that have such bytes.
+//! The bytes of a journal's two files, and a journal over files in memory with such bytes.
 
-use super::places::{Journal, fused};
+use super::places::{Journal, make_fused_place};
 use super::records::Kept;
 use sqlite::{Files, Options};
 use sqlite_disk::{Disk, Fuse, Memory};
@@ -20,8 +20,8 @@ pub fn bytes_of(alloc: Global, file: &Fuse<Memory>) -> Option<Vec<u8>> {
 }
 
 /// The bytes that a new journal with these records leaves in its files.
-pub fn written(alloc: Global, rows: &[Kept]) -> Option<Bytes> {
-    let mut place = fused(alloc, u64::MAX, u64::MAX);
+pub fn write_records(alloc: Global, rows: &[Kept]) -> Option<Bytes> {
+    let mut place = make_fused_place(alloc, u64::MAX, u64::MAX);
     let mut are_stored = place.is_opened();
     for (at, row) in rows.iter().enumerate() {
         let position = u32::try_from(at).ok()?.checked_add(1)?;
@@ -38,7 +38,7 @@ pub fn written(alloc: Global, rows: &[Kept]) -> Option<Bytes> {
     }
 }
 
-// A file in memory with these bytes, which takes so many calls.
+// A file in memory with these bytes, which fails after the given number of calls.
 fn file_of(alloc: Global, bytes: &[u8], calls: u64) -> Option<Fuse<Memory>> {
     let mut file = Memory::new(alloc);
     if file.may_be_used() && file.write_at(0, bytes).is_ok() && file.sync().is_ok() {
@@ -48,7 +48,7 @@ fn file_of(alloc: Global, bytes: &[u8], calls: u64) -> Option<Fuse<Memory>> {
     }
 }
 
-/// The journal in files with these bytes, each of which takes so many calls.
+/// The journal in files with these bytes, each of which fails after the given number of calls.
 pub fn journal_of(
     alloc: Global,
     log: (&[u8], u64),

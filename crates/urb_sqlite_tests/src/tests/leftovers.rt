@@ -1,4 +1,4 @@
-//! What stands at the place of a node's files before they are opened, byte by byte or made by SQL.
+//! What is at the place of a node's files before they are opened, byte by byte or made by SQL.
 
 use sqlite::Connection;
 use std::alloc::Global;
@@ -10,7 +10,7 @@ pub const FILE: &str = "urb_sqlite_first/node-1.db";
 
 const LOG: &str = "urb_sqlite_first/node-1.db-wal";
 
-/// The bytes of a file that are not zero, where they stand, and the file's length.
+/// The bytes of a file that are not zero, their offsets, and the file's length.
 #[derive(Clone, Copy)]
 pub struct Content {
     pub parts: &'static [(usize, &'static [u8])],
@@ -23,7 +23,8 @@ pub const NONE: Content = Content { parts: &[], len: 0 };
 pub const BEGUN: Content = Content {
     parts: &[(
         0,
-        b"7\x7f\x06\x82\x00-\xe2\x18\x00\x00\x04\x00\xff\xff\xff\xff\x00\x00\x00\x00\x00\x00\x00\x00\xd4\xcf\x03\x12\x8c\xaa\xda\xb6",
+        b"7\x7f\x06\x82\x00-\xe2\x18\x00\x00\x04\x00\xff\xff\xff\xff\x00\x00\x00\x00\x00\x00\x00\x00\
+\xd4\xcf\x03\x12\x8c\xaa\xda\xb6",
     )],
     len: 32,
 };
@@ -32,12 +33,14 @@ pub const BEGUN: Content = Content {
 pub const BEGUN_BEFORE: Content = Content {
     parts: &[(
         0,
-        b"7\x7f\x06\x82\x00-\xe2\x18\x00\x00\x10\x00\xff\xff\xff\xff\x00\x00\x00\x00\x00\x00\x00\x00\xd4\xe7\x03\x12\x8c\xce\xda\xb6",
+        b"7\x7f\x06\x82\x00-\xe2\x18\x00\x00\x10\x00\xff\xff\xff\xff\x00\x00\x00\x00\x00\x00\x00\x00\
+\xd4\xe7\x03\x12\x8c\xce\xda\xb6",
     )],
     len: 32,
 };
 
-/// The first page of a database that has no table yet, less its first byte, which comes last.
+/// The first page of a database without a table yet, except for its first byte, which is written
+/// last.
 pub const PAGE: Content = Content {
     parts: &[
         (1, b"QLite format 3\x00\x04\x00\x02\x02\x00@  "),
@@ -49,7 +52,7 @@ pub const PAGE: Content = Content {
     len: 1024,
 };
 
-/// The same page, whole: a database without a table.
+/// The same page, complete: a database without a table.
 pub const EMPTY: Content = Content {
     parts: &[
         (0, b"SQLite format 3\x00\x04\x00\x02\x02\x00@  "),
@@ -61,7 +64,7 @@ pub const EMPTY: Content = Content {
     len: 1024,
 };
 
-/// The first page that an older program made, less its first byte.
+/// The first page that an older program made, except for its first byte.
 pub const PAGE_BEFORE: Content = Content {
     parts: &[
         (1, b"QLite format 3\x00\x10\x00\x02\x02\x00@  "),
@@ -73,12 +76,12 @@ pub const PAGE_BEFORE: Content = Content {
     len: 4096,
 };
 
-/// What stands at the place of a node's files before it is opened.
+/// What is at the place of a node's files before it is opened.
 #[derive(Clone, Copy)]
 pub enum Left {
-    /// The database file holds these bytes, and its log those.
+    /// The database file and its log hold these bytes.
     Files(Content, Content),
-    /// There is a log alone, of these bytes.
+    /// There is only a log, with these bytes.
     Log(Content),
     /// A database with pages of 4,096 bytes, which SQL has made.
     Sql(&'static str),
@@ -95,7 +98,7 @@ fn bytes_of(alloc: Global, content: Content) -> Option<Vec<u8>> {
     Some(bytes)
 }
 
-// Whether a file of these bytes is written.
+// Writes a file of these bytes, and says whether that worked.
 fn is_written(rt: &HostRuntime, path: &str, content: Content) -> bool {
     match bytes_of(rt.alloc(), content) {
         Some(bytes) => fs::write(rt, path, bytes.as_slice()).is_ok(),
@@ -103,7 +106,7 @@ fn is_written(rt: &HostRuntime, path: &str, content: Content) -> bool {
     }
 }
 
-/// Whether SQL makes a database there.
+/// Makes a database there by SQL, and says whether that worked.
 pub fn is_made(rt: &HostRuntime, sql: &str) -> bool {
     let Ok(mut conn) = Connection::open(rt, FILE) else {
         return false;
@@ -112,7 +115,7 @@ pub fn is_made(rt: &HostRuntime, sql: &str) -> bool {
     is_done && conn.close().is_ok()
 }
 
-/// Whether what is to stand there does.
+/// Puts in place what the case says, and says whether that worked.
 pub fn is_left(rt: &HostRuntime, left: Left) -> bool {
     match left {
         Left::Files(file, log) => is_written(rt, FILE, file) && is_written(rt, LOG, log),

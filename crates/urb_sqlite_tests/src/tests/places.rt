@@ -1,4 +1,5 @@
-//! The place of a journal: its files, the connection over them, or the journal itself, lent from step to step.
+//! The place of a journal. It holds files, a connection over them, or the journal itself, and lends
+//! them from step to step.
 
 use super::records::{Kept, Load, are_kept, bytes_of, record_of};
 use sqlite::{Connection, FileStore, Files, Options, params};
@@ -9,7 +10,7 @@ use urb_stable::{Stable, StoreFault};
 
 pub type Journal<D> = SqlStable<FileStore<D>>;
 
-/// Files, a connection over them or a journal, of which one is at its place.
+/// Files, a connection over them, or a journal: one of the three is there.
 pub struct Place<D: Disk + Drop> {
     files: Option<Files<D>>,
     conn: Option<Connection<FileStore<D>>>,
@@ -17,7 +18,7 @@ pub struct Place<D: Disk + Drop> {
     alloc: Global,
 }
 
-// It is written out, so that a caller does not prove again how each part is dropped.
+// This is written out, so that a caller doesn't prove again how each part is dropped.
 impl<D: Disk + Drop> Drop for Place<D> {
     fn drop(self) {
         let Place {
@@ -29,8 +30,8 @@ impl<D: Disk + Drop> Drop for Place<D> {
     }
 }
 
-/// A place with new files in memory, each of which takes so many calls.
-pub fn fused(alloc: Global, log: u64, db: u64) -> Place<Fuse<Memory>> {
+/// A place with new files in memory, each of which fails after the given number of calls.
+pub fn make_fused_place(alloc: Global, log: u64, db: u64) -> Place<Fuse<Memory>> {
     let files = Files {
         log: Fuse::new(Memory::new(alloc), log),
         db: Fuse::new(Memory::new(alloc), db),
@@ -43,7 +44,7 @@ pub fn fused(alloc: Global, log: u64, db: u64) -> Place<Fuse<Memory>> {
     }
 }
 
-// A value comes to its place.
+// Puts a value into its place.
 fn put<T: Drop>(place: &mut Option<T>, value: T) {
     drop(place.replace(value));
 }
@@ -64,7 +65,7 @@ impl<D: Disk + Drop> Place<D> {
         }
     }
 
-    // A connection over these files, where they may be used; else they stand here.
+    // Makes a connection over these files if they may be used. Otherwise the files stay here.
     fn connect(&mut self, files: Files<D>) -> bool {
         if !files.may_be_used() {
             put(&mut self.files, files);
@@ -82,7 +83,7 @@ impl<D: Disk + Drop> Place<D> {
         }
     }
 
-    /// Whether the files that stand here become a connection.
+    /// Turns the files that are here into a connection, and says whether that worked.
     pub fn is_connected(&mut self) -> bool {
         match self.files.take() {
             Some(files) => self.connect(files),
@@ -90,7 +91,8 @@ impl<D: Disk + Drop> Place<D> {
         }
     }
 
-    /// The connection becomes a journal, and says its next position, or it stays for this fault.
+    /// Turns the connection into a journal, and returns its next position. After a fault the
+    /// connection stays.
     pub fn adopt(&mut self) -> Option<Result<u32, StoreFault>> {
         match SqlStable::adopt(self.alloc, self.conn.take()?) {
             Ok(journal) => {
@@ -105,7 +107,7 @@ impl<D: Disk + Drop> Place<D> {
         }
     }
 
-    /// Whether the files become the journal by one call.
+    /// Turns the files into the journal by one call, and says whether that worked.
     pub fn is_opened(&mut self) -> bool {
         let Some(files) = self.files.take() else {
             return false;
@@ -123,29 +125,29 @@ impl<D: Disk + Drop> Place<D> {
         }
     }
 
-    /// Whether the files become the journal.
+    /// Turns the files into the journal, and says whether that worked.
     pub fn is_open(&mut self) -> bool {
         self.is_connected() && matches!(self.adopt(), Some(Ok(_)))
     }
 
-    /// The journal leaves this place.
+    /// Takes the journal away from this place.
     pub fn take(&mut self) -> Option<Journal<D>> {
         self.journal.take()
     }
 
-    /// The journal comes to this place.
+    /// Brings the journal to this place.
     pub fn put(&mut self, journal: Journal<D>) {
         put(&mut self.journal, journal);
     }
 
-    /// The journal becomes its connection again.
+    /// Turns the journal into its connection again.
     pub fn leave(&mut self) {
         if let Some(journal) = self.journal.take() {
             put(&mut self.conn, journal.into_connection());
         }
     }
 
-    /// What stands here becomes the files again.
+    /// Turns whatever is here into the files again.
     pub fn release(&mut self) {
         self.leave();
         if let Some(conn) = self.conn.take() {
@@ -153,13 +155,14 @@ impl<D: Disk + Drop> Place<D> {
         }
     }
 
-    /// What stands here leaves this place as the files.
+    /// Turns whatever is here into the files, and takes them away from this place.
     pub fn files(&mut self) -> Option<Files<D>> {
         self.release();
         self.files.take()
     }
 
-    /// Whether one of the files has taken all the calls that it takes. What stands here becomes the files.
+    /// Whether one of the files has taken all the calls that it takes. Whatever is here becomes the
+    /// files.
     pub fn is_spent(&mut self) -> bool {
         self.release();
         match &mut self.files {
@@ -168,7 +171,7 @@ impl<D: Disk + Drop> Place<D> {
         }
     }
 
-    /// What a store of the row's record at this position answers.
+    /// The answer of the journal to a store of the row's record at this position.
     pub fn store(&mut self, at: u32, row: Kept) -> Option<Result<(), StoreFault>> {
         let journal = self.journal.as_mut()?;
         let record = record_of(self.alloc, row)?;
@@ -177,7 +180,7 @@ impl<D: Disk + Drop> Place<D> {
         Some(answer)
     }
 
-    /// Whether the journal gives the records of these rows, and then is in no doubt.
+    /// Whether the journal returns the records of these rows, and then has no doubtful record.
     pub fn holds(&mut self, rows: &[Kept]) -> bool {
         let Some(journal) = self.journal.as_mut() else {
             return false;
@@ -198,7 +201,8 @@ impl<D: Disk + Drop> Place<D> {
         Some((journal.next(), journal.doubtful()))
     }
 
-    /// Whether SQL is done, with a payload of so many bytes for its parameter, if it has one.
+    /// Runs SQL, with a payload of `count` bytes for its parameter, if it has one. Says whether
+    /// that worked.
     pub fn is_done(&mut self, sql: &str, count: usize) -> bool {
         let Some(conn) = self.conn.as_mut() else {
             return false;
@@ -212,7 +216,8 @@ impl<D: Disk + Drop> Place<D> {
         }
     }
 
-    /// Whether SQL without a parameter is done, if it is one, to what the journal stands in.
+    /// Runs SQL without a parameter on the database of the journal, if there is SQL to run. Says
+    /// whether that worked.
     pub fn is_changed(&mut self, sql: &str) -> bool {
         if sql.is_empty() {
             return true;
@@ -235,7 +240,7 @@ impl<D: Disk + Drop> Place<D> {
 }
 
 impl<D: Crash + Drop> Place<D> {
-    /// The machine stops: both files crash.
+    /// Stops the machine: both files crash.
     pub fn stop(&mut self) {
         self.release();
         if let Some(files) = &mut self.files {
@@ -244,8 +249,8 @@ impl<D: Crash + Drop> Place<D> {
         }
     }
 
-    /// Stores the row's record at this position, stops the machine and opens the journal again: whether it was stored, and
-    /// whether there is a journal then.
+    /// Stores the row's record at this position, stops the machine and opens the journal again.
+    /// Returns whether it was stored, and whether there is a journal after it.
     pub fn store_and_stop(&mut self, at: u32, row: Kept) -> Option<(bool, bool)> {
         let record = record_of(self.alloc, row)?;
         let journal = self.journal.take()?;

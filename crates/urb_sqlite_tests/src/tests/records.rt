@@ -4,7 +4,7 @@ use std::alloc::Global;
 use urb_names::{ClientId, MAX_PAYLOAD, Message, Name, NodeId};
 use urb_stable::Record;
 
-/// Which record it is.
+/// The kind of record.
 #[derive(Clone, Copy)]
 pub enum Form {
     Pending,
@@ -12,14 +12,16 @@ pub enum Form {
     Certificate,
 }
 
-/// The payload of a message: these bytes, or so many that differ from their neighbours.
+/// The payload of a message: these bytes, or the given number of bytes that differ from their
+/// neighbours.
 #[derive(Clone, Copy)]
 pub enum Load {
     Of(&'static [u8]),
     Long(usize),
 }
 
-/// A record about the message with this number of node 1, which is that of client 7 with the same number, and its payload.
+/// A record about the message with this number of node 1, and its payload. The message is that of
+/// client 7 with the same number.
 pub type Kept = (Form, u32, Load);
 
 /// The first message, pending, and its certificate.
@@ -42,7 +44,7 @@ pub fn bytes_of(alloc: Global, load: Load) -> Option<Vec<u8>> {
     }
 }
 
-/// The record that the row is about.
+/// The record that the row describes.
 pub fn record_of(alloc: Global, (form, seq, load): Kept) -> Option<Record> {
     let bytes = bytes_of(alloc, load)?;
     if seq == 0 || bytes.len() > MAX_PAYLOAD {

@@ -1,7 +1,7 @@
-//! What is done with the journal at a place, a step at a time, and what each step is to answer.
+//! What a test does with the journal at a place, step by step, and what each step should answer.
 
 use super::changes::{BAD, GOOD, OVER_BOTH};
-use super::places::{Place, fused};
+use super::places::{Place, make_fused_place};
 use super::records::{Form, Kept, Load};
 use super::stores::STORES;
 use super::tables::{BOTH, OLD, OLD_FILES, OTHERS};
@@ -13,47 +13,49 @@ use urb_stable::StoreFault;
 /// A step, and its answer.
 #[derive(Clone, Copy)]
 pub enum Step {
-    /// The connection becomes a journal with this next position, or stays for this fault.
+    /// The connection becomes a journal with this next position, or stays because of this fault.
     Adopt(Result<u32, StoreFault>),
     /// The journal becomes its connection again.
     Leave,
     /// The record is stored at this position, or refused.
     Store(u32, Kept, Result<(), StoreFault>),
-    /// The journal gives these records, and then is in no doubt.
+    /// The journal returns these records, and then has no doubtful record.
     Holds(&'static [Kept]),
     /// The next position, and whether a record is in doubt.
     Stands(u32, bool),
-    /// SQL changes the database, with a payload of so many bytes for its parameter, if it has one.
+    /// SQL changes the database. If it has a parameter, that is a payload of the given number of
+    /// bytes.
     Sql(&'static str, usize),
-    /// SQL shows so many rows.
+    /// SQL shows the given number of rows.
     Shows(&'static str, usize),
-    /// The connection stays, twice, and SQL shows one row before and afterwards.
+    /// The connection stays, twice, and SQL shows one row before and after.
     Refused(&'static str),
 }
 
-/// What stands in the database before a case.
+/// What is in the database before a case.
 #[derive(Clone, Copy)]
 pub enum Start {
     Empty,
     /// A journal with the first two records.
     Stored,
-    /// A file of before there were two tables, with these.
+    /// A file from before there were two tables, with these records.
     Old,
     /// That file as a journal with a third record.
     Both,
 }
 
-/// A case: its name, what stands before it, the SQL that is done to the database then, if it is any, and its steps.
+/// A case: its name, what the database holds before it, the SQL that then changes the database, if
+/// any, and its steps.
 pub type Case = (&'static str, Start, &'static str, &'static [Step]);
 
-/// What makes a journal of an empty database with the first two records.
+/// The steps that turn an empty database into a journal with the first two records.
 const STORED: &[Step] = &[
     Step::Adopt(Ok(1)),
     Step::Store(1, (Form::Pending, 1, Load::Of(b"hi")), Ok(())),
     Step::Store(2, (Form::Certificate, 1, Load::Of(b"")), Ok(())),
 ];
 
-// Whether the connection stays, twice, and SQL shows one row before and afterwards.
+// Whether the connection stays, twice, and SQL shows one row before and after.
 fn is_refused<D: Disk + Drop>(place: &mut Place<D>, sql: &str) -> bool {
     for _ in 0..2 {
         if place.rows(sql) != Some(1) || place.adopt() != Some(Err(StoreFault::Device)) {
@@ -63,7 +65,7 @@ fn is_refused<D: Disk + Drop>(place: &mut Place<D>, sql: &str) -> bool {
     place.rows(sql) == Some(1)
 }
 
-// Whether the step answers what it is to.
+// Whether the step answers as expected.
 fn is_right<D: Disk + Drop>(place: &mut Place<D>, step: Step) -> bool {
     match step {
         Step::Adopt(wanted) => place.adopt() == Some(wanted),
@@ -80,7 +82,7 @@ fn is_right<D: Disk + Drop>(place: &mut Place<D>, step: Step) -> bool {
     }
 }
 
-/// The number of the first step, from 1, that answers something else.
+/// Plays steps. Returns the number of the first one, from 1, that answers something else.
 pub fn play<D: Disk + Drop>(place: &mut Place<D>, steps: &[Step]) -> Option<usize> {
     let mut number = 0;
     for step in steps {
@@ -92,7 +94,7 @@ pub fn play<D: Disk + Drop>(place: &mut Place<D>, steps: &[Step]) -> Option<usiz
     None
 }
 
-// What makes what stands before a case.
+// The steps that make the start of a case.
 fn steps_before(start: Start) -> &'static [Step] {
     match start {
         Start::Empty => &[],
@@ -102,10 +104,10 @@ fn steps_before(start: Start) -> &'static [Step] {
     }
 }
 
-// Plays a case over new files in memory. The number of its first step, from 1, that answers something else; 0 where what is
-// before them does.
+// Plays a case over new files in memory. Returns the number of its first step, from 1, that answers
+// something else. It is 0 if a step of its start does.
 fn play_case(alloc: Global, (_, start, sql, steps): &Case) -> Option<usize> {
-    let mut place = fused(alloc, u64::MAX, u64::MAX);
+    let mut place = make_fused_place(alloc, u64::MAX, u64::MAX);
     let is_begun = place.is_connected()
         && play(&mut place, steps_before(*start)).is_none()
         && place.is_changed(sql);

@@ -1,4 +1,4 @@
-//! What a journal stores and gives back, over files in memory.
+//! What a journal stores and returns, over files in memory.
 
 use super::records::{Form, Kept, Load, TWO};
 use super::steps::{Case, Start, Step};
@@ -98,15 +98,18 @@ const SIXTEEN: &[Kept] = &[
 const MANY: &[Step] = &[
     Step::Leave,
     Step::Sql(
-        "INSERT INTO journal2 SELECT pos + 2, kind, sender, seq, client, number, payload FROM journal2",
+        "INSERT INTO journal2 SELECT pos + 2, kind, sender, seq, client, number, \
+payload FROM journal2",
         0,
     ),
     Step::Sql(
-        "INSERT INTO journal2 SELECT pos + 4, kind, sender, seq, client, number, payload FROM journal2",
+        "INSERT INTO journal2 SELECT pos + 4, kind, sender, seq, client, number, \
+payload FROM journal2",
         0,
     ),
     Step::Sql(
-        "INSERT INTO journal2 SELECT pos + 8, kind, sender, seq, client, number, payload FROM journal2",
+        "INSERT INTO journal2 SELECT pos + 8, kind, sender, seq, client, number, \
+payload FROM journal2",
         0,
     ),
     Step::Adopt(Ok(17)),
@@ -122,7 +125,7 @@ const CHANGED: &[Kept] = &[
     (Form::Certificate, 2, Load::Of(b"")),
 ];
 
-/// An index lets no record come twice, which the journal does not know.
+/// An index admits no record twice. The journal doesn't know about the index.
 const DOUBTFUL: &[Step] = &[
     Step::Sql("UPDATE journal2 SET number = 2 WHERE pos = 1", 0),
     Step::Sql("CREATE UNIQUE INDEX once ON journal2(seq, kind)", 0),
@@ -143,7 +146,8 @@ const DOUBTFUL: &[Step] = &[
     Step::Stands(4, false),
 ];
 
-/// What a journal does that is new or has two records, where nothing but the journal changes it, or what a statement did.
+/// What a new journal does, and one with two records. Either only the journal changes its tables,
+/// or an SQL statement does too.
 pub static STORES: [Case; 8] = [
     ("what is stored is given back", Start::Empty, "", GIVEN),
     ("the same behind another table", Start::Empty, "", BEHIND),

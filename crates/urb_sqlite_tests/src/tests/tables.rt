@@ -1,14 +1,17 @@
-//! The two tables of a journal: a file that has the first one alone, and what else may have the name of either.
+//! The two tables of a journal: a file that has only the first one, and what else may have the name
+//! of either.
 
 use super::records::{Form, Kept, Load, TWO};
 use super::steps::{Case, Start, Step};
 use urb_stable::StoreFault;
 
 /// The first table.
-const CREATE: &str =
-    "CREATE TABLE journal(pos INTEGER PRIMARY KEY, kind INTEGER NOT NULL, sender INTEGER NOT NULL, seq INTEGER NOT NULL, client INTEGER NOT NULL, number INTEGER NOT NULL, payload BLOB NOT NULL) STRICT";
+const CREATE: &str = "CREATE TABLE journal(pos INTEGER PRIMARY KEY, kind INTEGER NOT NULL, \
+sender INTEGER NOT NULL, seq INTEGER NOT NULL, client INTEGER NOT NULL, \
+number INTEGER NOT NULL, payload BLOB NOT NULL) STRICT";
 
-/// The table `journal` alone with two rows, behind another table, as a journal was before there were two.
+/// Only the table `journal` with two rows, after another table, as in a journal from before there
+/// were two tables.
 pub const OLD: &[Step] = &[
     Step::Sql("CREATE TABLE other(x INTEGER)", 0),
     Step::Sql(CREATE, 0),
@@ -90,7 +93,7 @@ const SECOND_LIMIT: &[Step] = &[
     Step::Adopt(Err(StoreFault::BadRow(2))),
 ];
 
-/// What becomes of an old file.
+/// What is done with an old file, and what it holds afterwards.
 pub static OLD_FILES: [Case; 4] = [
     (
         "a new record goes into the second table",
@@ -118,7 +121,8 @@ pub static OLD_FILES: [Case; 4] = [
     ),
 ];
 
-/// What takes the name of a table, so that no journal is there, and a query that shows one row while it stands.
+/// Other things that have the name of a table, so that there is no journal. For each, a query shows
+/// one row as long as it is there.
 pub static OTHERS: [Case; 8] = [
     (
         "",
@@ -153,7 +157,9 @@ pub static OTHERS: [Case; 8] = [
     (
         "",
         Start::Empty,
-        "CREATE TABLE journal(pos INTEGER PRIMARY KEY, kind INTEGER NOT NULL, sender INTEGER NOT NULL, seq INTEGER NOT NULL, client INTEGER NOT NULL, number INTEGER NOT NULL, payload BLOB NOT NULL)",
+        "CREATE TABLE journal(pos INTEGER PRIMARY KEY, kind INTEGER NOT NULL, \
+sender INTEGER NOT NULL, seq INTEGER NOT NULL, client INTEGER NOT NULL, \
+number INTEGER NOT NULL, payload BLOB NOT NULL)",
         &[Step::Refused(
             "SELECT name FROM sqlite_schema WHERE name = 'journal' AND sql LIKE '%NOT NULL)'",
         )],
@@ -161,7 +167,9 @@ pub static OTHERS: [Case; 8] = [
     (
         "",
         Start::Empty,
-        "CREATE TABLE journal2(pos INTEGER PRIMARY KEY, kind INTEGER NOT NULL, sender INTEGER NOT NULL, seq INTEGER NOT NULL, client INTEGER NOT NULL, number INTEGER NOT NULL, payload BLOB NOT NULL)",
+        "CREATE TABLE journal2(pos INTEGER PRIMARY KEY, kind INTEGER NOT NULL, \
+sender INTEGER NOT NULL, seq INTEGER NOT NULL, client INTEGER NOT NULL, \
+number INTEGER NOT NULL, payload BLOB NOT NULL)",
         &[Step::Refused(
             "SELECT name FROM sqlite_schema WHERE name = 'journal2' AND sql LIKE '%NOT NULL)'",
         )],
@@ -169,7 +177,9 @@ pub static OTHERS: [Case; 8] = [
     (
         "",
         Start::Empty,
-        "CREATE TABLE journal(pos INTEGER PRIMARY KEY, kind INTEGER NOT NULL, sender INTEGER NOT NULL, seq INTEGER NOT NULL, client INTEGER NOT NULL, number INTEGER NOT NULL, payload BLOB) STRICT",
+        "CREATE TABLE journal(pos INTEGER PRIMARY KEY, kind INTEGER NOT NULL, \
+sender INTEGER NOT NULL, seq INTEGER NOT NULL, client INTEGER NOT NULL, \
+number INTEGER NOT NULL, payload BLOB) STRICT",
         &[Step::Refused(
             "SELECT name FROM sqlite_schema WHERE name = 'journal' AND sql LIKE '%payload BLOB) STRICT'",
         )],
@@ -177,9 +187,12 @@ pub static OTHERS: [Case; 8] = [
     (
         "",
         Start::Empty,
-        "CREATE TABLE journal2(pos INTEGER PRIMARY KEY, sender INTEGER NOT NULL, kind INTEGER NOT NULL, seq INTEGER NOT NULL, client INTEGER NOT NULL, number INTEGER NOT NULL, payload BLOB NOT NULL) STRICT",
+        "CREATE TABLE journal2(pos INTEGER PRIMARY KEY, sender INTEGER NOT NULL, \
+kind INTEGER NOT NULL, seq INTEGER NOT NULL, client INTEGER NOT NULL, \
+number INTEGER NOT NULL, payload BLOB NOT NULL) STRICT",
         &[Step::Refused(
-            "SELECT name FROM sqlite_schema WHERE name = 'journal2' AND sql LIKE '%sender INTEGER NOT NULL, kind%'",
+            "SELECT name FROM sqlite_schema WHERE name = 'journal2' AND sql LIKE '%sender INTEGER NOT \
+NULL, kind%'",
         )],
     ),
 ];

@@ -17,7 +17,7 @@ pub(super) enum Call {
     Next(u32),
     /// Whether a record is in doubt.
     Doubtful(bool),
-    /// The retrieve returns this many copies of the record and nothing else.
+    /// The retrieve returns the given number of copies of the record and nothing else.
     Retrieve(usize),
 }
 
@@ -68,12 +68,7 @@ fn is_received<A: Allocator + Copy>(
     (node, pos): (NodeId, u32),
     record: &Record<Message<A>>,
 ) -> bool {
-    let is_placed = receipt.node() == node && receipt.pos() == pos;
-    let is_same = receipt.entry().is_same(record);
-    let entry = receipt.into_entry();
-    let is_given = entry.is_same(record);
-    drop(entry);
-    is_placed && is_same && is_given
+    receipt.node() == node && receipt.pos() == pos && receipt.entry().is_same(record)
 }
 
 // Keeps a draft of node 2 and returns the result. `None` if the draft, its receipt or its doubt

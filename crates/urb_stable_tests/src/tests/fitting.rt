@@ -33,7 +33,7 @@ pub(super) fn images<A: Allocator + Copy>(
 }
 
 // The verdict on images, one for each node.
-fn told<A: Allocator + Copy>(
+fn judge<A: Allocator + Copy>(
     alloc: A,
     images: &[Vec<Record<Message<A>>, A>],
 ) -> Option<Option<Misfit>> {
@@ -47,9 +47,9 @@ fn told<A: Allocator + Copy>(
     }
 }
 
-fn told_of(alloc: Global, nodes: &[&[Form]]) -> Option<Option<Misfit>> {
+fn judge_forms(alloc: Global, nodes: &[&[Form]]) -> Option<Option<Misfit>> {
     let images = images(alloc, nodes)?;
-    let told = told(alloc, &images);
+    let told = judge(alloc, &images);
     drop(images);
     told
 }
@@ -84,7 +84,7 @@ fn images_fit_together(rt: HostRuntime) {
         ),
     ];
     for (case, nodes) in cases {
-        assert!(rt; told_of(rt.alloc(), nodes) == Some(None), "{case}");
+        assert!(rt; judge_forms(rt.alloc(), nodes) == Some(None), "{case}");
     }
 }
 
@@ -128,6 +128,6 @@ fn the_first_misfit_of_other_images_is_told(rt: HostRuntime) {
     ];
     for (case, nodes, misfit) in cases {
         assert!(rt; misfit.is_some(), "{case}");
-        assert!(rt; told_of(rt.alloc(), nodes) == Some(misfit), "{case}");
+        assert!(rt; judge_forms(rt.alloc(), nodes) == Some(misfit), "{case}");
     }
 }

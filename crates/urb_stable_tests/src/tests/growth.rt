@@ -102,7 +102,7 @@ fn is_refused_at(alloc: Global, refused: u64, taker: Taker) -> Option<bool> {
     let calm = Refusing::new(alloc, 0);
     let heap = Refusing::new(alloc, refused);
     let told = is_refused(&heap, &calm, taker);
-    let met = heap.met();
+    let met = heap.has_failed();
     drop(heap);
     drop(calm);
     if told == Some(met) { told } else { None }

@@ -31,7 +31,7 @@ pub(super) fn message<A: Allocator + Copy>(
         return None;
     }
     let client = ClientId::new(7)?;
-    Message::copied(alloc, client, number, &[letter]).ok()
+    Message::copy_of(alloc, client, number, &[letter]).ok()
 }
 
 // A record whose message has this letter.

@@ -18,7 +18,7 @@ fn a_packet_says_what_is_certified_here(rt: HostRuntime) {
 // A message of client 7.
 fn message<A: Allocator + Copy>(alloc: A) -> Option<Message<A>> {
     let client = ClientId::new(7)?;
-    Message::copied(alloc, client, 1, b"a").ok()
+    Message::copy_of(alloc, client, 1, b"a").ok()
 }
 
 // Whether the packet at a place goes to this node with this message, and its flags say `heard` as
@@ -91,7 +91,7 @@ fn packet(alloc: Global) -> Option<Packet> {
     if source == target {
         return None;
     }
-    match Message::copied(alloc, client, 1, b"a") {
+    match Message::copy_of(alloc, client, 1, b"a") {
         Ok(message) => Some(Packet::new(source, target, name, message, None)),
         Err(_no_memory) => None,
     }

@@ -10,7 +10,7 @@ pub(super) enum Sent<'a> {
     Packets(&'a [(u8, u8, u32)]),
     /// One packet of each of these names of node 2, to node 2.
     Names(&'a [u32]),
-    /// This many packets.
+    /// As many packets as this number.
     Count(usize),
     /// Packets that say this about certificates here.
     Certified(&'a [bool]),

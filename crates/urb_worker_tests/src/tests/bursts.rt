@@ -3,7 +3,7 @@
 ghost use Rattle.std.specs.Prelude.{◌≡◌};
 ghost use Rattle.urb_show.specs.Lists.{lists_in};
 
-use super::{hub_of, opened, submit};
+use super::{open_group, open_hub, submit};
 use crossbeam_channel::{Receiver, Sender};
 use std::alloc::Global;
 use std::marker::Brand;
@@ -16,7 +16,7 @@ use std::thread;
 use std::thread::Threads;
 use std::time::{Clock, Duration};
 use urb_group::MemStable;
-use urb_names::{ClientId, MAX_PAYLOAD, NodeId};
+use urb_names::{ClientId, MAX_PAYLOAD, NodeId, Payload};
 use urb_show::{HouseName, Opened};
 use urb_worker::{
     Gate, HubName, Job, Link, MemoryLink, OpenGate, PacedLink, Station, Stop, Ticket, UdpLink,
@@ -29,7 +29,7 @@ const BURST: u32 = 100;
 // The number of tickets that node 1's channel has room for.
 const ROOM: usize = 4;
 
-// How often a thread checks for a sign or a packet, once a millisecond, before it gives up.
+// How many times a thread checks for a sign or a packet, once a millisecond, before it gives up.
 const LOOKS: u32 = 10_000;
 
 // What the gate and the sender signal to each other: a store is held, and it may go on.
@@ -70,11 +70,11 @@ fn long_submit(alloc: Global, number: u32) -> Option<Job> {
         node: NodeId::new(2)?,
         client: ClientId::new(7)?,
         number,
-        payload: Vec::from_elem(alloc, b'x', MAX_PAYLOAD).ok()?,
+        payload: Payload::copied(alloc, &[b'x'; MAX_PAYLOAD]).ok()?,
     })
 }
 
-// As many submits as the burst has, for a worker whose channel has closed behind them.
+// The submits of the burst, in the channel of a worker that then closes.
 fn submits<K: HouseName, R: Wait>(rt: &R, alloc: Global) -> Option<Receiver<Ticket<K>>> {
     let (line, jobs) = crossbeam_channel::bounded(alloc, BURST as usize).ok()?;
     for number in 1..=BURST {
@@ -103,8 +103,8 @@ fn answers<R: Wait + Clock>(rt: &R, link: &MemoryLink<'_, R>, count: usize) -> O
 }
 
 // Has node 1 store a message of its own, which is held, and sends it these packets meanwhile.
-// Returns whether the store was held, and how many packets node 1 then sends: its own message, and
-// an answer to each message of the burst.
+// Returns whether the store was held, and how many packets node 1 then sends. They are its own
+// message, and an answer to each message of the burst.
 fn burst<K: HouseName, R: Wait + Clock>(
     rt: &R,
     alloc: Global,
@@ -157,7 +157,7 @@ fn take_datagrams<K: HouseName, R: Wait + Clock>(
 }
 
 // The outcome of the burst, and the length of node 1's log at the end.
-fn played<K: HouseName + Send + Sync, L: HubName + Send + Sync, R>(
+fn run_burst<K: HouseName + Send + Sync, L: HubName + Send + Sync, R>(
     rt: &R,
     alloc: Global,
     opened: Opened,
@@ -183,7 +183,7 @@ where
         drop(opened.close());
         return None;
     };
-    let (hub, mut tallies, readers) = hub_of::<K, L, R>(rt, alloc, opened, blank)?;
+    let (hub, mut tallies, readers) = open_hub::<K, L, R>(rt, alloc, opened, blank)?;
     drop(readers);
     let second = tallies.pop().unwrap();
     let store = MemStable::new(alloc);
@@ -239,9 +239,9 @@ where
 #[test]
 fn what_comes_while_a_store_is_held_is_delivered(rt: HostRuntime) -> Result<(), Fail> {
     let (stations, sender) = station(&rt, rt.alloc()).ok_or("sockets")?;
-    let opened = opened(rt.alloc(), 2).ok_or("memory")?;
+    let opened = open_group(rt.alloc(), 2).ok_or("memory")?;
     let blank = Blank::new(2);
-    let played = played::<Brand, Brand, _>(
+    let played = run_burst::<Brand, Brand, _>(
         &rt,
         rt.alloc(),
         opened,

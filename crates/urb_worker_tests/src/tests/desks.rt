@@ -3,7 +3,7 @@
 ghost use Rattle.std.specs.Prelude.{◌≡◌, ◌≤◌, length};
 ghost use Rattle.urb_show.specs.Lists.{lists_in};
 
-use super::{hub_of, opened};
+use super::{open_group, open_hub};
 use crossbeam_channel::Sender;
 use std::alloc::Global;
 use std::marker::Brand;
@@ -20,9 +20,9 @@ use urb_worker::{HubName, MemoryLink, NodeDesk, OpenGate, Ticket, serve};
 
 // What a client sends to a group of one node.
 //
-// A submit, a read that shows it, a status, a submit whose number isn't the next, an unknown
-// opcode, a read of place 0, and a read behind the end. Then a crash, a second crash, a status, a
-// submit, a restart, a second restart, and a bad length.
+// A submit, a read that shows it, a status, and a submit whose number isn't the next. Then an
+// unknown opcode, a read of place 0, and a read after the end of the log. Then a crash, a second
+// crash, a status, a submit, a restart, a second restart, and a bad length.
 const SENT: &[u8] = b"\x00\x09\x01\x00\x07\x00\x00\x00\x01hi\
 \x00\x06\x02\x00\x00\x00\x01\x08\
 \x00\x01\x03\
@@ -75,7 +75,7 @@ fn is_answered<K: HouseName, R: Wait>(
 
 // One worker, and a session at its node's desk. Then a session there after the worker has ended.
 // Returns whether both were answered as they should be, and the House's events.
-fn served<K: HouseName + Send + Sync, L: HubName + Send + Sync, R: Threads + Wait + Sync>(
+fn run_session<K: HouseName + Send + Sync, L: HubName + Send + Sync, R: Threads + Wait + Sync>(
     rt: &R,
     alloc: Global,
     opened: Opened,
@@ -94,7 +94,7 @@ fn served<K: HouseName + Send + Sync, L: HubName + Send + Sync, R: Threads + Wai
         drop(opened.close());
         return None;
     };
-    let (hub, mut tallies, mut readers) = hub_of::<K, L, R>(rt, alloc, opened, blank)?;
+    let (hub, mut tallies, mut readers) = open_hub::<K, L, R>(rt, alloc, opened, blank)?;
     let tally = tallies.pop().unwrap();
     let (reader, other) = (readers.pop().unwrap(), readers.pop().unwrap());
     let (hub_of, link_of) = (&hub, &link);
@@ -133,8 +133,8 @@ fn served<K: HouseName + Send + Sync, L: HubName + Send + Sync, R: Threads + Wai
 
 #[test]
 fn a_session_at_a_running_node(rt: HostRuntime) -> Result<(), Fail> {
-    let opened = opened(rt.alloc(), 1).ok_or("memory")?;
-    let served = served::<Brand, Brand, _>(&rt, rt.alloc(), opened, Blank::new(1));
+    let opened = open_group(rt.alloc(), 1).ok_or("memory")?;
+    let served = run_session::<Brand, Brand, _>(&rt, rt.alloc(), opened, Blank::new(1));
     assert_eq!(rt; served, Some((true, true, 4)));
     Ok(())
 }

@@ -1,9 +1,9 @@
-//! For which jobs a gate is asked: those whose record a store is to keep.
+//! A gate is called only for jobs whose record a store is to keep.
 
 ghost use Rattle.std.specs.Prelude.{◌≡◌};
 ghost use Rattle.urb_show.specs.Lists.{lists_in};
 
-use super::{hub_of, opened, submit};
+use super::{open_group, open_hub, submit};
 use std::alloc::Global;
 use std::marker::Brand;
 use std::sync::Wait;
@@ -15,7 +15,8 @@ use urb_names::NodeId;
 use urb_show::{HouseName, Opened};
 use urb_worker::{Gate, Hub, HubName, Job, Tally};
 
-// How often each node was about to store a record: node 1 in ones, and all others in hundreds.
+// Counts how often each node was about to store a record: node 1 in ones, and all others in
+// hundreds.
 #[derive(Drop)]
 struct Counter {
     asked: AtomicU64,
@@ -28,7 +29,8 @@ impl Gate for Counter {
     }
 }
 
-// The jobs of a node, one after the other: of the submits, the second one repeats the first, and a crash comes before the last.
+// The jobs of a node, one after the other. The second submit repeats the first, and a crash comes
+// before the last one.
 fn jobs(alloc: Global, node: NodeId) -> Option<Vec<Job>> {
     let mut jobs = Vec::new(alloc);
     jobs.push(submit(alloc, node, 1)?).ok()?;
@@ -47,7 +49,8 @@ fn jobs(alloc: Global, node: NodeId) -> Option<Vec<Job>> {
     Some(jobs)
 }
 
-// Has a node's worker do all of these, and gives how often the gate was asked after each, as digits.
+// Has a node's worker do all of these jobs. Returns how often the gate had been called after each
+// job, as digits.
 fn work_all<K: HouseName, L: HubName, R: Wait>(
     rt: &R,
     alloc: Global,
@@ -72,7 +75,7 @@ fn work_all<K: HouseName, L: HubName, R: Wait>(
 }
 
 // The same at a new group of one node.
-fn played<K: HouseName, L: HubName, R: Wait>(
+fn run_drafts<K: HouseName, L: HubName, R: Wait>(
     rt: &R,
     alloc: Global,
     opened: Opened,
@@ -84,7 +87,7 @@ fn played<K: HouseName, L: HubName, R: Wait>(
     requires parts { (blank.parts ≡ L.parts) × (L.parts ≡ 1) × (opened.group.size.n ≡ 1) }
     requires start { L.start ≡ 0 }
 {
-    let (hub, mut tallies, readers) = hub_of::<K, L, R>(rt, alloc, opened, blank)?;
+    let (hub, mut tallies, readers) = open_hub::<K, L, R>(rt, alloc, opened, blank)?;
     drop(readers);
     let tally = tallies.pop().unwrap();
     let (digits, tally) = work_all(rt, alloc, &hub, NodeId::new(1).unwrap(), jobs, tally);
@@ -96,8 +99,8 @@ fn played<K: HouseName, L: HubName, R: Wait>(
 #[test]
 fn a_gate_is_asked_for_drafts_alone(rt: HostRuntime) -> Result<(), Fail> {
     let jobs = jobs(rt.alloc(), NodeId::new(1).unwrap()).ok_or("memory")?;
-    let opened = opened(rt.alloc(), 1).ok_or("memory")?;
-    let asked = played::<Brand, Brand, _>(&rt, rt.alloc(), opened, Blank::new(1), jobs);
+    let opened = open_group(rt.alloc(), 1).ok_or("memory")?;
+    let asked = run_drafts::<Brand, Brand, _>(&rt, rt.alloc(), opened, Blank::new(1), jobs);
     // Of nine jobs the first and the last draft a record.
     assert_eq!(rt; asked, Some(111_111_112));
     Ok(())

@@ -14,7 +14,7 @@ use urb_worker::{
 // The bytes of the longest packet.
 const LONGEST: usize = 16_403;
 
-// How long a sender waits in vain, in milliseconds.
+// How long a sender waits before it gives up, in milliseconds.
 const WAIT: u64 = 100;
 
 // A datagram of this length. All of its bytes have this value.
@@ -99,9 +99,9 @@ fn what_was_sent_and_not_taken_is_in_flight(rt: HostRuntime) -> Result<(), Fail>
     Ok(())
 }
 
-// Sends this many packets of the greatest length. Returns how long that took and how many packets
-// have arrived.
-fn sent<R: Wait + Clock>(
+// Sends the given number of packets of the greatest length. Returns how long that took and how many
+// packets have arrived.
+fn send<R: Wait + Clock>(
     rt: &R,
     alloc: Global,
     link: &MemoryLink<'_, R>,
@@ -118,8 +118,8 @@ fn sent<R: Wait + Clock>(
     Some((began.elapsed(rt).ok()?, link.empty(node).len()))
 }
 
-// How long senders take if their receiver takes nothing: for as many packets as may be in flight,
-// for one more, and for a hundred that come after it.
+// How long senders take if their receiver takes nothing. They send as many packets as may be in
+// flight, one more, and a hundred after it.
 fn waits<R: Wait + Clock + Net<Listener = TcpListener, Stream = TcpStream>>(
     rt: &R,
     alloc: Global,
@@ -127,9 +127,9 @@ fn waits<R: Wait + Clock + Net<Listener = TcpListener, Stream = TcpStream>>(
     let stations = vec![in alloc; Station::open(rt, 0, 0).ok()?].ok()?;
     let stations = stations.as_slice();
     let link = MemoryLink::new(rt, alloc).ok()?;
-    let fitting = sent(rt, alloc, &link, stations, 3)?;
-    let next = sent(rt, alloc, &link, stations, 1)?;
-    let others = sent(rt, alloc, &link, stations, 100)?;
+    let fitting = send(rt, alloc, &link, stations, 3)?;
+    let next = send(rt, alloc, &link, stations, 1)?;
+    let others = send(rt, alloc, &link, stations, 100)?;
     Some([fitting, next, others])
 }
 

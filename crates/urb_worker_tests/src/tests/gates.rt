@@ -4,7 +4,7 @@ ghost use Rattle.std.specs.Prelude.{◌≡◌};
 ghost use Rattle.urb_show.specs.Lists.{lists_in};
 
 use super::shorts::{Said, Short, short_of};
-use super::{hub_of, opened, submit};
+use super::{open_group, open_hub, submit};
 use crossbeam_channel::{Receiver, Sender};
 use std::alloc::Global;
 use std::marker::Brand;
@@ -20,8 +20,8 @@ use urb_names::NodeId;
 use urb_show::{HouseName, Opened};
 use urb_worker::{Finished, Gate, HubName, Job, MemoryLink, Ticket, serve};
 
-// What the gate and the client signal to each other: how often the gate held node 1's store,
-// whether node 2 was answered, and whether the gate gave up waiting for that.
+// What the gate and the client signal to each other. These are how often the gate held node 1's
+// store, whether node 2 was answered, and whether the gate gave up waiting for that.
 #[derive(Drop)]
 struct Signs {
     held: AtomicU64,
@@ -58,8 +58,8 @@ impl<'a, R: Clock> Gate for HoldsFirst<'a, R> {
     }
 }
 
-// Sends a worker a job. Its answer arrives at the returned end.
-fn asked<K: HouseName, R: Wait>(
+// Sends a worker a job. Its answer arrives at the returned receiver.
+fn send_job<K: HouseName, R: Wait>(
     rt: &R,
     alloc: Global,
     line: &Sender<Ticket<K>>,
@@ -75,22 +75,22 @@ fn asked<K: HouseName, R: Wait>(
 }
 
 // The outcome of the job whose answer arrives here.
-fn received<K: HouseName, R: Wait>(rt: &R, from: Receiver<Finished<K>>) -> Option<Short> {
+fn receive_result<K: HouseName, R: Wait>(rt: &R, from: Receiver<Finished<K>>) -> Option<Short> {
     Some(short_of(from.recv(rt).ok()?))
 }
 
 // Sends a worker a job, and returns the outcome.
-fn came_of<K: HouseName, R: Wait>(
+fn ask<K: HouseName, R: Wait>(
     rt: &R,
     alloc: Global,
     line: &Sender<Ticket<K>>,
     job: Job,
 ) -> Option<Short> {
-    received(rt, asked(rt, alloc, line, job)?)
+    receive_result(rt, send_job(rt, alloc, line, job)?)
 }
 
 // The outcome of a submit at node 2 while node 1's store is held. The store may go on after it.
-fn came_meanwhile<K: HouseName, R: Wait + Clock>(
+fn ask_meanwhile<K: HouseName, R: Wait + Clock>(
     rt: &R,
     alloc: Global,
     signs: &Signs,
@@ -98,7 +98,7 @@ fn came_meanwhile<K: HouseName, R: Wait + Clock>(
 ) -> Option<Short> {
     let two = NodeId::new(2)?;
     let is_held = comes(rt, &signs.held);
-    let quick = came_of(rt, alloc, line, submit(alloc, two, 1)?);
+    let quick = ask(rt, alloc, line, submit(alloc, two, 1)?);
     signs.answered.store(1, Ordering::SeqCst);
     if is_held { quick } else { None }
 }
@@ -113,9 +113,9 @@ fn are_accepted<K: HouseName, R: Wait + Clock>(
     second: &Sender<Ticket<K>>,
 ) -> Option<bool> {
     let one = NodeId::new(1)?;
-    let slow = asked(rt, alloc, first, submit(alloc, one, 1)?)?;
-    let quick = came_meanwhile(rt, alloc, signs, second);
-    let slow = received(rt, slow)?;
+    let slow = send_job(rt, alloc, first, submit(alloc, one, 1)?)?;
+    let quick = ask_meanwhile(rt, alloc, signs, second);
+    let slow = receive_result(rt, slow)?;
     Some(slow.said == Said::Accepted(1) && quick?.said == Said::Accepted(1))
 }
 
@@ -130,8 +130,8 @@ fn both_asked<K: HouseName, R: Wait + Clock>(
     second: &Sender<Ticket<K>>,
 ) -> Option<bool> {
     let are_accepted = are_accepted(rt, alloc, signs, first, second)?;
-    let tick = came_of(rt, alloc, first, Job::Tick(NodeId::new(1)?))?;
-    let stray = came_of(rt, alloc, first, Job::Tick(NodeId::new(2)?))?;
+    let tick = ask(rt, alloc, first, Job::Tick(NodeId::new(1)?))?;
+    let stray = ask(rt, alloc, first, Job::Tick(NodeId::new(2)?))?;
     Some(are_accepted && tick.said == Said::Sent && !stray.ran)
 }
 
@@ -146,11 +146,11 @@ struct Outcome {
     sent: (usize, usize),
 }
 
-// A node's line, its worker's queue, and the worker's end of it.
+// Both ends of a worker's channel: its queue, and the worker's end.
 type Line<K> = (Sender<Ticket<K>>, Receiver<Ticket<K>>);
 
-// A link, and a line for each of two nodes.
-fn lines<K: HouseName, R: Wait>(
+// A link, and a channel for each of two nodes.
+fn make_queues<K: HouseName, R: Wait>(
     rt: &R,
     alloc: Global,
 ) -> Option<(MemoryLink<'_, R>, Line<K>, Line<K>)> {
@@ -172,11 +172,12 @@ fn two_workers<
 {
     let one = NodeId::new(1).unwrap();
     let two = NodeId::new(2).unwrap();
-    let Some((link, (first, first_jobs), (second, second_jobs))) = lines::<K, R>(rt, alloc) else {
+    let Some((link, (first, first_jobs), (second, second_jobs))) = make_queues::<K, R>(rt, alloc)
+    else {
         drop(opened.close());
         return None;
     };
-    let (hub, mut tallies, readers) = hub_of::<K, L, R>(rt, alloc, opened, blank)?;
+    let (hub, mut tallies, readers) = open_hub::<K, L, R>(rt, alloc, opened, blank)?;
     drop(readers);
     let first_tally = tallies.pop().unwrap();
     let second_tally = tallies.pop().unwrap();
@@ -240,7 +241,7 @@ fn two_workers<
 
 #[test]
 fn stores_of_two_nodes_overlap(rt: HostRuntime) -> Result<(), Fail> {
-    let opened = opened(rt.alloc(), 2).ok_or("memory")?;
+    let opened = open_group(rt.alloc(), 2).ok_or("memory")?;
     let outcome = two_workers::<Brand, Brand, _>(&rt, rt.alloc(), opened, Blank::new(2));
     let expected = Outcome {
         went_well: true,

@@ -4,7 +4,7 @@
 
 ghost use Rattle.std.specs.Prelude.{◌≡◌, ◌<◌, ◌≤◌, IfSome, vec_len, vec_capacity};
 
-use super::opened;
+use super::open_group;
 use std::alloc::Global;
 use std::io::{Read, Write};
 use std::marker::Brand;
@@ -16,10 +16,10 @@ use std::thread;
 use std::thread::Threads;
 use std::time::{Clock, Duration};
 use urb_stable::MemStable;
-use urb_worker::{SESSIONS, Silent, Station, UdpLink, Watch, run_group};
+use urb_worker::{GroupSetting, SESSIONS, Silent, Station, UdpLink, Watch, run_group};
 
-// A submit of client 7's first message, `x`, and then a bad length, which ends a session. Behind it
-// the answers: that the message was accepted, and the answer to the bad length.
+// A submit of client 7's first message, `x`, and then a bad length, which ends a session. Then the
+// answers: that the message was accepted, and the answer to the bad length.
 const SUBMIT: &[u8] = b"\x00\x08\x01\x00\x07\x00\x00\x00\x01x\x00\x00";
 
 const ACCEPTED: &[u8] = b"\x00\x05\x81\x00\x00\x00\x01\x00\x06\xee\x13\x00\x00\x00\x01";
@@ -83,8 +83,8 @@ fn comes_by_a_tick<R: Clock + Net<Listener = TcpListener, Stream = TcpStream>>(
     Some(is_down && is_accepted && is_shown && is_up && shows_it(rt, alloc, third)?)
 }
 
-// Breaks off a session in the midst of what it sends, or of an answer. It reads as many bytes of
-// the answer as there is room for. What isn't read is an error for the side that sent it.
+// Breaks off a session in the middle of a request, or of an answer. It reads as many bytes of the
+// answer as there is room for. The side that sent the rest gets an error.
 fn break_off<R: Net<Listener = TcpListener, Stream = TcpStream>>(
     rt: &R,
     station: &Station,
@@ -96,8 +96,8 @@ fn break_off<R: Net<Listener = TcpListener, Stream = TcpStream>>(
     stream.read_exact(room).ok()
 }
 
-// Breaks off five sessions in the midst of a request and five in the midst of an answer, one after
-// the other. Returns whether a node that takes four at a time still accepts a message.
+// Breaks off five sessions in the middle of a request and five in the middle of an answer, one
+// after the other. Returns whether a node that takes four at a time still accepts a message.
 fn outlives_who_breaks_off<R: Net<Listener = TcpListener, Stream = TcpStream>>(
     rt: &R,
     alloc: Global,
@@ -181,7 +181,7 @@ enum Course {
     SendsToAll,
 }
 
-// A client of a group, and whether its course went well.
+// A client of a group, and whether its actions went well.
 #[derive(Drop)]
 struct Client<'a, R: Clock + Net<Listener = TcpListener, Stream = TcpStream>> {
     rt: &'a R,
@@ -204,8 +204,8 @@ impl<'a, R: Clock + Net<Listener = TcpListener, Stream = TcpStream>> Watch for C
     }
 }
 
-// So many stations, at ports that are free.
-pub(super) fn stations<R: Net<Listener = TcpListener, Stream = TcpStream>>(
+// The given number of stations, at free ports.
+pub(super) fn make_stations<R: Net<Listener = TcpListener, Stream = TcpStream>>(
     rt: &R,
     alloc: Global,
     nodes: u8,
@@ -219,8 +219,8 @@ pub(super) fn stations<R: Net<Listener = TcpListener, Stream = TcpStream>>(
     Some(all)
 }
 
-// So many stores, which are empty.
-pub(super) fn stores(alloc: Global, nodes: u8) -> Option<Vec<MemStable>>
+// The given number of empty stores.
+pub(super) fn make_stores(alloc: Global, nodes: u8) -> Option<Vec<MemStable>>
     ensures { IfSome result (λ all. vec_len all ≡ nodes) }
 {
     let mut all = Vec::with_capacity(alloc, usize::from(nodes)).ok()?;
@@ -246,7 +246,13 @@ pub(super) fn link_to<R: Net<Listener = TcpListener, Stream = TcpStream>>(
 
 // Runs a new group while a client asks it, with a tick at each node every `millis` milliseconds.
 // Returns whether that went well, and the count of the group's events.
-fn came_of<R>(rt: &R, alloc: Global, nodes: u8, millis: u32, course: Course) -> Option<(bool, u64)>
+fn run_with_client<R>(
+    rt: &R,
+    alloc: Global,
+    nodes: u8,
+    millis: u32,
+    course: Course,
+) -> Option<(bool, u64)>
 where
     R: Threads + Wait + Clock + Sync + Net<Listener = TcpListener, Stream = TcpStream>,
     requires { (0 < nodes) × (nodes ≤ 7) }
@@ -257,22 +263,25 @@ where
         course,
         went_well: false,
     };
-    let stations = stations(rt, alloc, nodes)?;
+    let stations = make_stations(rt, alloc, nodes)?;
     let stations = stations.as_slice();
     let link = link_to(rt, alloc, stations)?;
-    let stores = stores(alloc, nodes)?;
-    let opened = opened(alloc, nodes)?;
+    let stores = make_stores(alloc, nodes)?;
+    let opened = open_group(alloc, nodes)?;
     let blank = Blank::new(u64::from(nodes));
-    let (_, ended) = run_group::<Brand, Brand, MemStable, Silent, R, Client<'_, R>>(
+    let setting = GroupSetting {
         rt,
         alloc,
+        link: &link,
+        stations,
+        tick_millis: millis,
+        reporter: &Silent,
+    };
+    let (_, ended) = run_group::<Brand, Brand, MemStable, Silent, R, Client<'_, R>>(
+        &setting,
         opened,
         blank,
         stores,
-        &link,
-        stations,
-        millis,
-        &Silent,
         &mut client,
     );
     Some((client.went_well, ended?))
@@ -281,28 +290,34 @@ where
 #[test]
 fn a_tick_brings_what_a_node_that_was_down_has_missed(rt: HostRuntime) -> Result<(), Fail> {
     let course = Course::SendsWhileOneIsDown;
-    let (went_well, _) = came_of(&rt, rt.alloc(), 3, 20, course).ok_or("memory")?;
+    let (went_well, _) = run_with_client(&rt, rt.alloc(), 3, 20, course).ok_or("memory")?;
     assert!(rt; went_well);
     Ok(())
 }
 
 #[test]
 fn a_message_comes_to_each_of_seven_nodes(rt: HostRuntime) -> Result<(), Fail> {
-    let (went_well, _) = came_of(&rt, rt.alloc(), 7, 20, Course::SendsToAll).ok_or("memory")?;
+    let (went_well, _) = run_with_client(&rt, rt.alloc(), 7, 20, Course::SendsToAll).ok_or(
+        "memory",
+    )?;
     assert!(rt; went_well);
     Ok(())
 }
 
 #[test]
 fn clients_that_break_off_cost_no_thread(rt: HostRuntime) -> Result<(), Fail> {
-    let (went_well, _) = came_of(&rt, rt.alloc(), 1, 20, Course::BreaksOff).ok_or("memory")?;
+    let (went_well, _) = run_with_client(&rt, rt.alloc(), 1, 20, Course::BreaksOff).ok_or(
+        "memory",
+    )?;
     assert!(rt; went_well);
     Ok(())
 }
 
 #[test]
 fn a_node_serves_on_after_errors_of_its_listener(rt: HostRuntime) -> Result<(), Fail> {
-    let (went_well, _) = came_of(&rt, rt.alloc(), 1, 20, Course::HasErrors).ok_or("memory")?;
+    let (went_well, _) = run_with_client(&rt, rt.alloc(), 1, 20, Course::HasErrors).ok_or(
+        "memory",
+    )?;
     assert!(rt; went_well);
     Ok(())
 }
@@ -310,7 +325,7 @@ fn a_node_serves_on_after_errors_of_its_listener(rt: HostRuntime) -> Result<(), 
 // Only a submit and its store happen while no tick comes.
 #[test]
 fn a_run_counts_its_events(rt: HostRuntime) -> Result<(), Fail> {
-    let outcome = came_of(&rt, rt.alloc(), 1, 60_000, Course::SendsOne);
+    let outcome = run_with_client(&rt, rt.alloc(), 1, 60_000, Course::SendsOne);
     assert_eq!(rt; outcome, Some((true, 2)));
     Ok(())
 }

@@ -3,7 +3,7 @@
 ghost use Rattle.std.specs.Prelude.{◌≡◌, ◌<◌};
 ghost use Rattle.urb_show.specs.Lists.{lists_in};
 
-use super::{hub_of, opened, submit};
+use super::{open_group, open_hub, submit};
 use std::alloc::Global;
 use std::marker::Brand;
 use std::sync::Wait;
@@ -12,7 +12,9 @@ use std::test::Fail;
 use urb_group::MemStable;
 use urb_names::NodeId;
 use urb_show::{House, HouseName, Opened};
-use urb_worker::{Hub, HubName, Job, MemoryLink, OpenGate, Tally, Ticket, serve_from};
+use urb_worker::{
+    Hub, HubName, Job, MemoryLink, OpenGate, Silent, Tally, Ticket, WorkerSetting, serve_from,
+};
 
 // Nodes with their stores. Each node does a job when the test asks it to.
 #[derive(Drop)]
@@ -39,9 +41,11 @@ impl<'a, 'r, K: HouseName, L: HubName, R: Wait> Nodes<'a, 'r, K, L, R> {
             return tally;
         }
         drop(line);
-        serve_from(
-            self.rt, self.alloc, self.hub, node, store, jobs, self.link, &OpenGate, tally,
-        )
+        let (gate, reporter) = (OpenGate, Silent);
+        let setting = WorkerSetting::new(
+            self.rt, self.alloc, self.hub, self.link, &gate, &reporter,
+        );
+        serve_from(&setting, node, store, jobs, tally)
     }
 
     // Brings each node what was sent to it, twenty times over, and counts the packets.
@@ -124,7 +128,7 @@ fn play_at<'a, 'r, K: HouseName, L: HubName, R: Wait>(
 }
 
 // The packets of a group that plays, and whether all nodes have delivered the message.
-fn played<K: HouseName, L: HubName, R: Wait>(
+fn run_until_quiet<K: HouseName, L: HubName, R: Wait>(
     rt: &R,
     alloc: Global,
     opened: Opened,
@@ -142,7 +146,7 @@ fn played<K: HouseName, L: HubName, R: Wait>(
         drop(opened.close());
         return None;
     };
-    let (hub, mut tallies, readers) = hub_of::<K, L, R>(rt, alloc, opened, blank)?;
+    let (hub, mut tallies, readers) = open_hub::<K, L, R>(rt, alloc, opened, blank)?;
     drop(readers);
     let tally = tallies.pop().unwrap();
     let (counts, tally) = play_at(rt, alloc, &hub, &link, stores, count, tally);
@@ -154,7 +158,7 @@ fn played<K: HouseName, L: HubName, R: Wait>(
 }
 
 // `count` empty stores.
-fn stores(alloc: Global, count: u8) -> Option<Vec<MemStable>> {
+fn make_stores(alloc: Global, count: u8) -> Option<Vec<MemStable>> {
     let mut stores = Vec::new(alloc);
     for _ in 0..count {
         stores.push(MemStable::new(alloc)).ok()?;
@@ -165,9 +169,9 @@ fn stores(alloc: Global, count: u8) -> Option<Vec<MemStable>> {
 #[test]
 fn ticks_send_nothing_once_all_have_heard(rt: HostRuntime) -> Result<(), Fail> {
     let alloc = rt.alloc();
-    let stores = stores(alloc, 3).ok_or("memory")?;
-    let opened = opened(alloc, 3).ok_or("memory")?;
-    let played = played::<Brand, Brand, _>(&rt, alloc, opened, Blank::new(3), stores, 3);
+    let stores = make_stores(alloc, 3).ok_or("memory")?;
+    let opened = open_group(alloc, 3).ok_or("memory")?;
+    let played = run_until_quiet::<Brand, Brand, _>(&rt, alloc, opened, Blank::new(3), stores, 3);
     // Only node 2 has not heard of the first node's certificate: its first tick asks, and is
     // answered.
     assert_eq!(rt; played, Some(((9, 2, 0), true)));
@@ -179,9 +183,9 @@ fn ticks_send_nothing_once_all_have_heard(rt: HostRuntime) -> Result<(), Fail> {
 #[test]
 fn seven_nodes_deliver_and_fall_silent(rt: HostRuntime) -> Result<(), Fail> {
     let alloc = rt.alloc();
-    let stores = stores(alloc, 7).ok_or("memory")?;
-    let opened = opened(alloc, 7).ok_or("memory")?;
-    let played = played::<Brand, Brand, _>(&rt, alloc, opened, Blank::new(7), stores, 7);
+    let stores = make_stores(alloc, 7).ok_or("memory")?;
+    let opened = open_group(alloc, 7).ok_or("memory")?;
+    let played = run_until_quiet::<Brand, Brand, _>(&rt, alloc, opened, Blank::new(7), stores, 7);
     let silent = match played {
         Some(((_, _, last), delivered)) => Some((last, delivered)),
         None => None,

@@ -5,7 +5,7 @@
 ghost use Rattle.std.specs.Prelude.{◌≡◌, ◌≤◌, length};
 ghost use Rattle.urb_show.specs.Lists.{lists_in};
 
-use super::{hub_of, opened};
+use super::{open_group, open_hub};
 use crossbeam_channel::Sender;
 use std::alloc::Global;
 use std::marker::Brand;
@@ -16,7 +16,7 @@ use std::thread;
 use std::thread::Threads;
 use urb_client::{Desk, Request, Response};
 use urb_group::MemStable;
-use urb_names::{ClientId, Message, Name, NodeId};
+use urb_names::{ClientId, Message, Name, NodeId, Payload};
 use urb_show::{HouseName, LogReader, Opened};
 use urb_worker::{HubName, MemoryLink, NodeDesk, OpenGate, Ticket, serve};
 
@@ -38,8 +38,8 @@ struct Row {
     told: Told,
 }
 
-// The refusals of a payload that is too long, of a number that was used with another payload, and
-// of a number that isn't the next.
+// The refusals of a payload that is too long, a number that was used with another payload, and a
+// number that isn't the next.
 const TOO_LONG: Told = Told::Refused(5, 0);
 
 const CONFLICT: Told = Told::Refused(6, 0);
@@ -77,7 +77,7 @@ fn rows(alloc: Global) -> Option<Vec<Row>> {
 }
 
 // `len` bytes of one kind.
-fn filled(alloc: Global, len: usize, byte: u8) -> Option<Vec<u8>> {
+fn fill(alloc: Global, len: usize, byte: u8) -> Option<Vec<u8>> {
     let mut bytes = Vec::new(alloc);
     for _ in 0..len {
         bytes.push(byte).ok()?;
@@ -131,7 +131,7 @@ fn is_told<K: HouseName, R: Wait>(
     let request = Request::Submit {
         client: ClientId::new(row.client)?,
         number: row.number,
-        payload: filled(alloc, row.len, row.byte)?,
+        payload: Payload::new(alloc, fill(alloc, row.len, row.byte)?).ok()?,
     };
     let told = told_by(&desk.answer(&request).ok()?);
     let is_there = match told {
@@ -163,7 +163,7 @@ fn first_wrong<K: HouseName, R: Wait>(
 }
 
 // The same check with the worker of that node, and the House's events.
-fn served<K: HouseName + Send + Sync, L: HubName + Send + Sync, R: Threads + Wait + Sync>(
+fn run_limits<K: HouseName + Send + Sync, L: HubName + Send + Sync, R: Threads + Wait + Sync>(
     rt: &R,
     alloc: Global,
     opened: Opened,
@@ -182,7 +182,7 @@ fn served<K: HouseName + Send + Sync, L: HubName + Send + Sync, R: Threads + Wai
         drop(opened.close());
         return None;
     };
-    let (hub, mut tallies, mut readers) = hub_of::<K, L, R>(rt, alloc, opened, blank)?;
+    let (hub, mut tallies, mut readers) = open_hub::<K, L, R>(rt, alloc, opened, blank)?;
     let tally = tallies.pop().unwrap();
     let reader = readers.pop().unwrap();
     let (hub_of, link_of) = (&hub, &link);
@@ -208,8 +208,8 @@ fn served<K: HouseName + Send + Sync, L: HubName + Send + Sync, R: Threads + Wai
 // Six submits are stored, each by two events, and one is a repeat.
 #[test]
 fn fields_at_their_limits_are_told_and_shown_whole(rt: HostRuntime) -> Result<(), Fail> {
-    let opened = opened(rt.alloc(), 1).ok_or("memory")?;
-    let served = served::<Brand, Brand, _>(&rt, rt.alloc(), opened, Blank::new(1));
+    let opened = open_group(rt.alloc(), 1).ok_or("memory")?;
+    let served = run_limits::<Brand, Brand, _>(&rt, rt.alloc(), opened, Blank::new(1));
     assert_eq!(rt; served, Some((0, 13)));
     Ok(())
 }

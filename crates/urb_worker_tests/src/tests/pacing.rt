@@ -5,7 +5,7 @@ use std::io;
 use std::io::{Read, Write};
 use std::test::Fail;
 use urb_refusing::{FailingReader, FailingWriter};
-use urb_worker::Outgoing;
+use urb_worker::BufferedAnswers;
 
 // Answers each byte of an input by itself, and returns whether all answers went out.
 fn echo(
@@ -13,7 +13,7 @@ fn echo(
     input: FailingReader<'_>,
     output: &mut FailingWriter<'_>,
 ) -> io::Result<bool> {
-    let answers = Outgoing::new(alloc, output)?;
+    let answers = BufferedAnswers::new(alloc, output)?;
     let mut reader = answers.reader(alloc, input)?;
     let mut writer = answers.writer();
     let mut byte = [0u8; 1];
@@ -26,7 +26,7 @@ fn echo(
             _ => break,
         }
     }
-    let _ = answers.let_go();
+    let _ = answers.send_all();
     Ok(!answers.has_failed())
 }
 
@@ -49,7 +49,7 @@ fn answers_that_do_not_go_out_are_told(rt: HostRuntime) -> Result<(), Fail> {
         let mut output = FailingWriter::new(&mut room, 8, failing);
         let input = FailingReader::new(b"abcdef", 3, 0);
         assert!(rt; !echo(rt.alloc(), input, &mut output)?);
-        assert!(rt; output.met());
+        assert!(rt; output.has_failed());
     }
     Ok(())
 }

@@ -30,15 +30,15 @@ enum Course {
     One(usize),
     /// One datagram of this length, after the socket has answered errors for a while.
     AfterErrors(usize),
-    /// This many of the longest datagrams. The channel's other end takes them only after all were
-    /// sent.
+    /// The given number of datagrams of the greatest length. The channel's other end takes them
+    /// only after all were sent.
     Many(u32),
     /// More datagrams than the channel has room for, and then the stop.
     ManyAndTheStop,
 }
 
-// What has arrived: the number of datagrams, the number of those that came in the order of the
-// sends with no gap before them, and the length of the last one in bytes.
+// What has arrived. These are the number of datagrams, and how many of them came in the order of
+// the sends, with no gap before them. Then comes the length of the last one in bytes.
 #[derive(Clone, Copy, Debug, PartialEq, Eq)]
 struct Arrived {
     count: u32,
@@ -54,7 +54,7 @@ fn number_of(bytes: &[u8]) -> Option<u32> {
     Some(u32::from_be_bytes([*a, *b, *c, *d]))
 }
 
-// Takes arrivals until this many have come, or no more come.
+// Takes arrivals until the given number has come, or no more come.
 fn take<R: Wait + Clock>(rt: &R, jobs: &Receiver<Ticket<Brand>>, most: u32) -> Arrived {
     let mut arrived = Arrived {
         count: 0,
@@ -105,7 +105,7 @@ fn send_many<N: Link, R: Clock>(
     Some(())
 }
 
-// Sends what a course says, and takes what then arrives.
+// Sends what a test case says, and takes what then arrives.
 fn play<R: Wait + Clock>(
     rt: &R,
     alloc: Global,
@@ -136,7 +136,7 @@ fn play<R: Wait + Clock>(
 }
 
 // What arrives at a receiver. It is stopped afterwards.
-fn received<R: Threads + Wait + Clock + Net<Listener = TcpListener, Stream = TcpStream> + Sync>(
+fn run_receiver<R: Threads + Wait + Clock + Net<Listener = TcpListener, Stream = TcpStream> + Sync>(
     rt: &R,
     alloc: Global,
     course: Course,
@@ -177,7 +177,7 @@ fn one(length: usize) -> Option<Arrived> {
 
 #[test]
 fn the_longest_packet_arrives_whole(rt: HostRuntime) -> Result<(), Fail> {
-    let arrived = received(&rt, rt.alloc(), Course::One(LONGEST));
+    let arrived = run_receiver(&rt, rt.alloc(), Course::One(LONGEST));
     assert_eq!(rt; arrived, one(LONGEST));
     Ok(())
 }
@@ -185,14 +185,14 @@ fn the_longest_packet_arrives_whole(rt: HostRuntime) -> Result<(), Fail> {
 // A datagram that was cut to the length of the longest packet might pass for one.
 #[test]
 fn what_is_longer_than_a_packet_arrives_longer(rt: HostRuntime) -> Result<(), Fail> {
-    let arrived = received(&rt, rt.alloc(), Course::One(LONGEST + 1)).ok_or("nothing")?;
+    let arrived = run_receiver(&rt, rt.alloc(), Course::One(LONGEST + 1)).ok_or("nothing")?;
     assert!(rt; LONGEST < arrived.length);
     Ok(())
 }
 
 #[test]
 fn a_receiver_goes_on_after_errors_of_its_socket(rt: HostRuntime) -> Result<(), Fail> {
-    let arrived = received(&rt, rt.alloc(), Course::AfterErrors(LONGEST));
+    let arrived = run_receiver(&rt, rt.alloc(), Course::AfterErrors(LONGEST));
     assert_eq!(rt; arrived, one(LONGEST));
     Ok(())
 }
@@ -200,7 +200,7 @@ fn a_receiver_goes_on_after_errors_of_its_socket(rt: HostRuntime) -> Result<(), 
 // These are 3 megabytes, and a socket has room for a fifth of a megabyte.
 #[test]
 fn what_comes_while_a_channel_is_full_arrives_in_order(rt: HostRuntime) -> Result<(), Fail> {
-    let arrived = received(&rt, rt.alloc(), Course::Many(200));
+    let arrived = run_receiver(&rt, rt.alloc(), Course::Many(200));
     let all = Arrived {
         count: 200,
         in_order: 200,
@@ -214,7 +214,7 @@ fn what_comes_while_a_channel_is_full_arrives_in_order(rt: HostRuntime) -> Resul
 // always the first ones.
 #[test]
 fn a_full_backlog_keeps_what_came_first(rt: HostRuntime) -> Result<(), Fail> {
-    let arrived = received(&rt, rt.alloc(), Course::Many(300)).ok_or("nothing")?;
+    let arrived = run_receiver(&rt, rt.alloc(), Course::Many(300)).ok_or("nothing")?;
     let kept = BACKLOG / (LONGEST + KEEPING) + ROOM;
     assert!(rt; kept <= arrived.count as usize);
     assert_eq!(rt; arrived.in_order, arrived.count);
@@ -223,7 +223,7 @@ fn a_full_backlog_keeps_what_came_first(rt: HostRuntime) -> Result<(), Fail> {
 
 #[test]
 fn a_stop_ends_a_receiver_whose_channel_is_full(rt: HostRuntime) -> Result<(), Fail> {
-    let arrived = received(&rt, rt.alloc(), Course::ManyAndTheStop).ok_or("nothing")?;
+    let arrived = run_receiver(&rt, rt.alloc(), Course::ManyAndTheStop).ok_or("nothing")?;
     assert_eq!(rt; arrived.count, 0);
     Ok(())
 }

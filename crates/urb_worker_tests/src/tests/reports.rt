@@ -1,9 +1,9 @@
-//! What is reported of a node that goes down and comes back while its group runs.
+//! What is reported about a node that goes down and comes back while its group runs.
 
 ghost use Rattle.std.specs.Prelude.{◌≡◌, ◌<◌, ◌≤◌, IfSome, vec_len, vec_capacity};
 
-use super::groups::{answers, link_to, stations};
-use super::opened;
+use super::groups::{answers, link_to, make_stations};
+use super::open_group;
 use std::alloc::Global;
 use std::marker::Brand;
 use std::net::{Net, TcpListener, TcpStream};
@@ -16,9 +16,10 @@ use std::thread::Threads;
 use std::time::{Clock, Duration};
 use urb_names::{NodeId, Refusal};
 use urb_stable::{Failure, MemStable};
-use urb_worker::{Change, Reporter, Station, Watch, run_group};
+use urb_worker::{Change, GroupSetting, Reporter, Station, Watch, run_group};
 
-// A submit, a status, a restart and a crash, each followed by a bad length, by which a session ends.
+// A submit, a status, a restart and a crash, each followed by a bad length, by which a session
+// ends.
 const SUBMIT: &[u8] = b"\x00\x08\x01\x00\x07\x00\x00\x00\x01x\x00\x00";
 
 const STATUS: &[u8] = b"\x00\x01\x03\x00\x00";
@@ -38,8 +39,8 @@ const DONE: &[u8] = b"\x00\x01\x84\x00\x06\xee\x13\x00\x00\x00\x01";
 
 const ACCEPTED: &[u8] = b"\x00\x05\x81\x00\x00\x00\x01\x00\x06\xee\x13\x00\x00\x00\x01";
 
-// What was heard of one node, a digit each: 1 that its device failed, 2 that it crashed, 3 that it is back; and 9 for anything
-// else, also of another node.
+// The reports about one node, a digit each: 1 says that its device failed, 2 that it crashed, 3
+// that it is back. Any other report is 9, also a report about another node.
 #[derive(Drop)]
 struct Heard {
     node: u8,
@@ -47,7 +48,7 @@ struct Heard {
 }
 
 impl Heard {
-    // Nothing yet of this node.
+    // No report about this node yet.
     fn of(node: u8) -> Heard {
         Heard {
             node,
@@ -55,7 +56,7 @@ impl Heard {
         }
     }
 
-    // The digit of a change, if it is of this node.
+    // The digit of a change, if it is a change of this node.
     fn digit(&self, node: NodeId, digit: u64) -> u64 {
         if node.number() == self.node { digit } else { 9 }
     }
@@ -82,7 +83,8 @@ impl Reporter for Heard {
     }
 }
 
-// Whether each request to a node is answered as it should: its store fails, and it is restarted, crashed and restarted again.
+// Whether each request to a node is answered as it should: its store fails, and it is restarted,
+// crashed and restarted again.
 fn goes_down_and_back<R: Net<Listener = TcpListener, Stream = TcpStream>>(
     rt: &R,
     alloc: Global,
@@ -102,7 +104,7 @@ fn goes_down_and_back<R: Net<Listener = TcpListener, Stream = TcpStream>>(
     Some(are_right)
 }
 
-// Whether a node comes to be down, after at most 10,000 looks of a millisecond.
+// Whether a node goes down. It polls at most 10,000 times, a millisecond apart.
 fn comes_down<R: Clock + Net<Listener = TcpListener, Stream = TcpStream>>(
     rt: &R,
     alloc: Global,
@@ -117,7 +119,7 @@ fn comes_down<R: Clock + Net<Listener = TcpListener, Stream = TcpStream>>(
     Some(false)
 }
 
-// Has the first node accept a message, and says whether the second one comes to be down.
+// Has the first node accept a message, and says whether the second node then goes down.
 fn takes_the_second_down<R: Clock + Net<Listener = TcpListener, Stream = TcpStream>>(
     rt: &R,
     alloc: Global,
@@ -128,7 +130,8 @@ fn takes_the_second_down<R: Clock + Net<Listener = TcpListener, Stream = TcpStre
     Some(is_accepted && comes_down(rt, alloc, second)?)
 }
 
-// A client of a group of one node, or of two, and whether all that it asked went as it should.
+// A client of a group of one node, or of two, and whether all its requests were answered as
+// expected.
 #[derive(Drop)]
 struct Client<'a, R: Clock + Net<Listener = TcpListener, Stream = TcpStream>> {
     rt: &'a R,
@@ -148,8 +151,8 @@ impl<'a, R: Clock + Net<Listener = TcpListener, Stream = TcpStream>> Watch for C
     }
 }
 
-// So many stores. The next record of the last one fails.
-fn failing(alloc: Global, nodes: u8) -> Option<Vec<MemStable>>
+// The given number of stores. The last one fails at its next record.
+fn make_failing_stores(alloc: Global, nodes: u8) -> Option<Vec<MemStable>>
     requires { 0 < nodes }
     ensures { IfSome result (λ all. vec_len all ≡ nodes) }
 {
@@ -163,9 +166,9 @@ fn failing(alloc: Global, nodes: u8) -> Option<Vec<MemStable>>
     Some(all)
 }
 
-// Runs a group of so many nodes over these stores. Whether all that its client asked went as it should, what was heard of its
-// last node, and the count of its events.
-fn came_of<R>(rt: &R, alloc: Global, nodes: u8) -> Option<(bool, u64, u64)>
+// Runs a group of the given number of nodes over these stores. Returns whether all requests of its
+// client were answered as expected, the reports about its last node, and the count of its events.
+fn run_with_client<R>(rt: &R, alloc: Global, nodes: u8) -> Option<(bool, u64, u64)>
 where
     R: Threads + Wait + Clock + Sync + Net<Listener = TcpListener, Stream = TcpStream>,
     requires { (0 < nodes) × (nodes ≤ 7) }
@@ -176,22 +179,25 @@ where
         went_well: false,
     };
     let heard = Heard::of(nodes);
-    let stations = stations(rt, alloc, nodes)?;
+    let stations = make_stations(rt, alloc, nodes)?;
     let stations = stations.as_slice();
     let link = link_to(rt, alloc, stations)?;
-    let stores = failing(alloc, nodes)?;
-    let opened = opened(alloc, nodes)?;
+    let stores = make_failing_stores(alloc, nodes)?;
+    let opened = open_group(alloc, nodes)?;
     let blank = Blank::new(u64::from(nodes));
-    let (_, ended) = run_group::<Brand, Brand, MemStable, Heard, R, Client<'_, R>>(
+    let setting = GroupSetting {
         rt,
         alloc,
+        link: &link,
+        stations,
+        tick_millis: 60_000,
+        reporter: &heard,
+    };
+    let (_, ended) = run_group::<Brand, Brand, MemStable, Heard, R, Client<'_, R>>(
+        &setting,
         opened,
         blank,
         stores,
-        &link,
-        stations,
-        60_000,
-        &heard,
         &mut client,
     );
     Some((
@@ -201,19 +207,20 @@ where
     ))
 }
 
-// Of seven events, the failed store, the crash and the two restarts are reported, once each and in their order. A status is no
-// change, and nothing is reported of it.
+// Of seven events, the failed store, the crash and the two restarts are reported, once each and in
+// their order. A status changes nothing, and isn't reported.
 #[test]
 fn a_failed_store_a_crash_and_each_restart_are_reported(rt: HostRuntime) -> Result<(), Fail> {
-    let outcome = came_of(&rt, rt.alloc(), 1);
+    let outcome = run_with_client(&rt, rt.alloc(), 1);
     assert_eq!(rt; outcome, Some((true, 1323, 7)));
     Ok(())
 }
 
-// No client asked the second node for anything: its store fails when a message of the first one arrives.
+// No client asked the second node for anything: its store fails when a message of the first one
+// arrives.
 #[test]
 fn a_store_that_fails_at_an_arrival_is_reported(rt: HostRuntime) -> Result<(), Fail> {
-    let outcome = came_of(&rt, rt.alloc(), 2);
+    let outcome = run_with_client(&rt, rt.alloc(), 2);
     assert_eq!(rt; outcome, Some((true, 1, 4)));
     Ok(())
 }

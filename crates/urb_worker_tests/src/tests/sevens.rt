@@ -3,7 +3,7 @@
 ghost use Rattle.std.specs.Prelude.{◌≡◌};
 ghost use Rattle.urb_show.specs.Lists.{lists_in};
 
-use super::{hub_of, opened, submit};
+use super::{open_group, open_hub, submit};
 use std::alloc::Global;
 use std::marker::Brand;
 use std::sync::Wait;
@@ -15,15 +15,15 @@ use urb_show::{HouseName, Opened};
 use urb_worker::{Hub, HubName, Job, OpenGate, Tally};
 
 // The number of packets that a tick's reply hands out.
-fn sent(reply: &Reply) -> usize {
+fn sent_count(reply: &Reply) -> usize {
     match reply {
         Reply::Sent(packets) => packets.len(),
         _ => 0,
     }
 }
 
-// Has the last of seven nodes accept this many messages, while nobody hears of them. Returns how
-// many packets its tick then sends.
+// Has the last of seven nodes accept the given number of messages, while no other node gets its
+// packets. Returns how many packets its tick then sends.
 fn tick_sends<K: HouseName, L: HubName, R: Wait>(
     rt: &R,
     alloc: Global,
@@ -49,11 +49,11 @@ fn tick_sends<K: HouseName, L: HubName, R: Wait>(
         &OpenGate,
         tally,
     );
-    (sent(finished.reply()), tally)
+    (sent_count(finished.reply()), tally)
 }
 
 // Does this at a new group of seven.
-fn played<K: HouseName, L: HubName, R: Wait>(
+fn run_ticks<K: HouseName, L: HubName, R: Wait>(
     rt: &R,
     alloc: Global,
     opened: Opened,
@@ -65,7 +65,7 @@ fn played<K: HouseName, L: HubName, R: Wait>(
     requires parts { (blank.parts ≡ L.parts) × (L.parts ≡ 7) × (opened.group.size.n ≡ 7) }
     requires start { L.start ≡ 0 }
 {
-    let (hub, mut tallies, readers) = hub_of::<K, L, R>(rt, alloc, opened, blank)?;
+    let (hub, mut tallies, readers) = open_hub::<K, L, R>(rt, alloc, opened, blank)?;
     drop(readers);
     let tally = tallies.pop().unwrap();
     let (packets, tally) = tick_sends(rt, alloc, &hub, messages, tally);
@@ -76,11 +76,11 @@ fn played<K: HouseName, L: HubName, R: Wait>(
 
 #[test]
 fn a_tick_of_seven_nodes_sends_sixteen_names_to_six(rt: HostRuntime) -> Result<(), Fail> {
-    let full = opened(rt.alloc(), 7).ok_or("memory")?;
-    let full = played::<Brand, Brand, _>(&rt, rt.alloc(), full, Blank::new(7), 17);
+    let full = open_group(rt.alloc(), 7).ok_or("memory")?;
+    let full = run_ticks::<Brand, Brand, _>(&rt, rt.alloc(), full, Blank::new(7), 17);
     assert_eq!(rt; full, Some(96));
-    let few = opened(rt.alloc(), 7).ok_or("memory")?;
-    let few = played::<Brand, Brand, _>(&rt, rt.alloc(), few, Blank::new(7), 2);
+    let few = open_group(rt.alloc(), 7).ok_or("memory")?;
+    let few = run_ticks::<Brand, Brand, _>(&rt, rt.alloc(), few, Blank::new(7), 2);
     assert_eq!(rt; few, Some(12));
     Ok(())
 }

@@ -20,7 +20,7 @@ pub(super) enum Said {
     Other,
 }
 
-/// What became of the names that a job released.
+/// Whether the names that a job released were published.
 #[derive(Clone, Copy, PartialEq, Eq)]
 pub(super) enum News {
     Nothing,
@@ -28,8 +28,9 @@ pub(super) enum News {
     OutOfMemory,
 }
 
-/// The outcome of a job: the reply, whether it ran, by how many events, and whether a status is there. It also has what became of
-/// the names that it released, and whether its readers have something to learn.
+/// The outcome of a job: the reply, whether it ran, by how many events, and whether a status is
+/// there. It also says whether the names that it released were published, and whether readers have
+/// something to learn.
 #[derive(Clone, Copy, PartialEq, Eq)]
 pub(super) struct Short {
     pub(super) said: Said,
@@ -70,7 +71,7 @@ fn said_by(reply: &Reply) -> Said {
     }
 }
 
-// What became of the names that a job released.
+// Whether the names that a job released were published.
 fn news_of<K: HouseName>(settling: &Settling<K>) -> News {
     match settling {
         Settling::NothingNew => News::Nothing,
@@ -79,7 +80,7 @@ fn news_of<K: HouseName>(settling: &Settling<K>) -> News {
     }
 }
 
-/// What came of a job in short.
+/// The outcome of a job, in short.
 pub(super) fn short_of<K: HouseName>(finished: Finished<K>) -> Short {
     let (ran, events) = (finished.ran(), finished.events());
     let news = news_of(finished.settling());

@@ -1,12 +1,12 @@
-//! Stations: the addresses and ports at which they listen, and that they wake what waits.
+//! Stations: on which addresses and ports they listen, and how they wake threads that wait.
 
 use std::net::{Ipv4Addr, Net, TcpListener, TcpStream, UdpSocket};
 use std::test::Fail;
 use std::time::Duration;
 use urb_worker::{SESSIONS, Station};
 
-// Whether a station's ports are those of its sockets, which listen at 127.0.0.1 and nowhere else.
-// At another address of this machine both ports are free.
+// Whether a station's ports are those of its sockets, and these listen only on 127.0.0.1. On
+// another address of this machine both ports are free.
 fn is_at_loopback_alone<R: Net<Listener = TcpListener, Stream = TcpStream>>(
     rt: &R,
     station: &Station,
@@ -40,7 +40,7 @@ fn a_station_listens_at_loopback_alone(rt: HostRuntime) -> Result<(), Fail> {
     let station = Station::open(&rt, 0, 0)?;
     assert!(rt; station.udp_port != 0 && station.tcp_port != 0);
     assert_eq!(rt; is_at_loopback_alone(&rt, &station), Some(true));
-    // Both of its ports are taken as long as the station exists, each by itself.
+    // As long as the station exists, neither of its ports can be opened again.
     assert!(rt; Station::open(&rt, station.udp_port, 0).is_err());
     assert!(rt; Station::open(&rt, 0, station.tcp_port).is_err());
     let (udp_port, tcp_port) = (station.udp_port, station.tcp_port);

@@ -4,7 +4,7 @@ ghost use Rattle.std.specs.Prelude.{◌≡◌, ◌≤◌, length};
 ghost use Rattle.urb_client.specs.Requests.{IsAsked, asked_by};
 ghost use Rattle.urb_show.specs.Lists.{lists_in};
 
-use super::opened;
+use super::open_group;
 use crossbeam_channel::{Receiver, Sender};
 use std::alloc::Global;
 use std::marker::Brand;
@@ -13,7 +13,7 @@ use std::test::Fail;
 use std::thread;
 use std::thread::Threads;
 use urb_client::{Desk, Request, Response};
-use urb_names::{ClientId, NodeId};
+use urb_names::{ClientId, NodeId, Payload};
 use urb_show::{HouseName, LogReader, Opened};
 use urb_worker::{Finished, Job, NodeDesk, Ticket};
 
@@ -27,16 +27,16 @@ enum Fault {
 }
 
 // A job that is like another one, but isn't the same.
-fn stray_of(job: Job) -> Job {
-    match job {
+fn stray_of(alloc: Global, job: Job) -> Option<Job> {
+    Some(match job {
         Job::Submit {
             node,
             client,
             number,
             payload,
         } => {
-            let mut payload = payload;
-            let _ = payload.pop();
+            let (_, shorter) = payload.as_slice().split_last()?;
+            let payload = Payload::copied(alloc, shorter).ok()?;
             Job::Submit {
                 node,
                 client,
@@ -47,25 +47,30 @@ fn stray_of(job: Job) -> Job {
         Job::Crash(node) => Job::Restart(node),
         Job::Restart(node) | Job::Status(node) | Job::Tick(node) => Job::Crash(node),
         Job::Arrive { node, bytes } => Job::Arrive { node, bytes },
-    }
+    })
 }
 
 // The job that a worker with this fault reports. `None` if it gives no answer.
-fn told_job(fault: Fault, job: Job) -> Option<Job> {
+fn told_job(alloc: Global, fault: Fault, job: Job) -> Option<Job> {
     match fault {
         Fault::Silent => None,
-        Fault::Stray => Some(stray_of(job)),
+        Fault::Stray => stray_of(alloc, job),
         Fault::Misrouted => Some(job),
     }
 }
 
 // A worker with this fault, until its channel closes.
-fn serve_wrongly<K: HouseName, R: Wait>(rt: &R, jobs: Receiver<Ticket<K>>, fault: Fault) {
+fn serve_wrongly<K: HouseName, R: Wait>(
+    rt: &R,
+    alloc: Global,
+    jobs: Receiver<Ticket<K>>,
+    fault: Fault,
+) {
     for _ in rt.forever() {
         let Ok(Ticket { job, answer }) = jobs.recv(rt) else {
             break;
         };
-        if let (Some(job), Some(answer)) = (told_job(fault, job), answer) {
+        if let (Some(job), Some(answer)) = (told_job(alloc, fault, job), answer) {
             let _ = answer.send(rt, Finished::misrouted(job));
         }
     }
@@ -100,7 +105,7 @@ fn are_refused<K: HouseName, R: Wait>(
     let submit = Request::Submit {
         client: ClientId::new(7)?,
         number: 1,
-        payload: Vec::from_slice(alloc, b"hi").ok()?,
+        payload: Payload::copied(alloc, b"hi").ok()?,
     };
     Some(
         is_refused(&mut desk, &submit, refusal)
@@ -111,7 +116,7 @@ fn are_refused<K: HouseName, R: Wait>(
 }
 
 // A desk whose worker has this fault. Returns whether it refuses all requests in this way.
-fn asked<K: HouseName + Send + Sync, R: Threads + Wait + Sync>(
+fn ask_desk<K: HouseName + Send + Sync, R: Threads + Wait + Sync>(
     rt: &R,
     alloc: Global,
     opened: Opened,
@@ -128,13 +133,13 @@ fn asked<K: HouseName + Send + Sync, R: Threads + Wait + Sync>(
             return None;
         }
     };
-    house.promise();
+    house.recall();
     drop(house.close(rt));
     let (line, jobs) = crossbeam_channel::bounded(alloc, 64).ok()?;
     let reader = readers.pop()?;
     let ((), refused) = thread::join(
         rt,
-        move || serve_wrongly(rt, jobs, fault),
+        move || serve_wrongly(rt, alloc, jobs, fault),
         move || -> Option<bool>
             requires { 1 ≤ length K.base }
         { are_refused(rt, alloc, &line, reader, refusal) },
@@ -144,24 +149,24 @@ fn asked<K: HouseName + Send + Sync, R: Threads + Wait + Sync>(
 
 #[test]
 fn a_desk_without_an_answer_says_down(rt: HostRuntime) -> Result<(), Fail> {
-    let opened = opened(rt.alloc(), 1).ok_or("memory")?;
-    let refused = asked::<Brand, _>(&rt, rt.alloc(), opened, Fault::Silent, 3);
+    let opened = open_group(rt.alloc(), 1).ok_or("memory")?;
+    let refused = ask_desk::<Brand, _>(&rt, rt.alloc(), opened, Fault::Silent, 3);
     assert_eq!(rt; refused, Some(true));
     Ok(())
 }
 
 #[test]
 fn a_desk_tells_nothing_of_another_job(rt: HostRuntime) -> Result<(), Fail> {
-    let opened = opened(rt.alloc(), 1).ok_or("memory")?;
-    let refused = asked::<Brand, _>(&rt, rt.alloc(), opened, Fault::Stray, 3);
+    let opened = open_group(rt.alloc(), 1).ok_or("memory")?;
+    let refused = ask_desk::<Brand, _>(&rt, rt.alloc(), opened, Fault::Stray, 3);
     assert_eq!(rt; refused, Some(true));
     Ok(())
 }
 
 #[test]
 fn a_desk_tells_of_a_job_that_did_not_run(rt: HostRuntime) -> Result<(), Fail> {
-    let opened = opened(rt.alloc(), 1).ok_or("memory")?;
-    let refused = asked::<Brand, _>(&rt, rt.alloc(), opened, Fault::Misrouted, 2);
+    let opened = open_group(rt.alloc(), 1).ok_or("memory")?;
+    let refused = ask_desk::<Brand, _>(&rt, rt.alloc(), opened, Fault::Misrouted, 2);
     assert_eq!(rt; refused, Some(true));
     Ok(())
 }

@@ -37,8 +37,8 @@ fn are_ticks_at<R: Wait>(rt: &R, jobs: &Receiver<Ticket<Brand>>, number: u8) -> 
     are_ticks
 }
 
-// A line for each of `nodes` nodes, and the workers' ends.
-fn lines(
+// A queue for each of `nodes` nodes, and the workers' ends of the channels.
+fn make_queues(
     alloc: Global,
     nodes: u8,
 ) -> Option<(Vec<Sender<Ticket<Brand>>>, Vec<Receiver<Ticket<Brand>>>)> {
@@ -83,7 +83,7 @@ fn ticks<R: Threads + Wait + Clock + Sync>(
     millis: u32,
     count: u8,
 ) -> Option<(bool, Duration)> {
-    let (lines, ends) = lines(alloc, 7)?;
+    let (lines, ends) = make_queues(alloc, 7)?;
     let stop = Stop::new();
     let (stop, lines, ends) = (&stop, lines.as_slice(), ends.as_slice());
     let began = Instant::now(rt).ok()?;

@@ -4,7 +4,7 @@ ghost use Rattle.std.specs.Prelude.{◌≡◌};
 ghost use Rattle.urb_show.specs.Lists.{lists_in};
 
 use super::shorts::{News, Said, Short, short_of};
-use super::{hub_of, opened, submit};
+use super::{open_group, open_hub, submit};
 use std::alloc::Global;
 use std::marker::Brand;
 use std::sync::Wait;
@@ -16,7 +16,7 @@ use urb_show::{House, HouseName, Opened};
 use urb_worker::{HubName, Job, OpenGate, Turn};
 
 // The outcome of a job on a House, with its store.
-fn came_of<K: HouseName, R: Wait>(
+fn run_turn<K: HouseName, R: Wait>(
     rt: &R,
     alloc: Global,
     house: &mut House<K>,
@@ -37,7 +37,7 @@ fn is_stale<K: HouseName, R: Wait>(
 ) -> Option<bool> {
     let job = submit(alloc, node, 1)?;
     let turn = Turn::begin(alloc, house, job).store(alloc, store);
-    let crash = came_of(rt, alloc, house, store, Job::Crash(node));
+    let crash = run_turn(rt, alloc, house, store, Job::Crash(node));
     let before = (house.status(node), house.events());
     let stale = short_of(turn.finish(rt, alloc, house));
     let after = (house.status(node), house.events());
@@ -58,8 +58,8 @@ fn crashed_between<K: HouseName, R: Wait>(
 ) -> Option<bool> {
     let node = NodeId::new(1)?;
     let is_stale = is_stale(rt, alloc, house, store, node)?;
-    let restart = came_of(rt, alloc, house, store, Job::Restart(node));
-    let again = came_of(rt, alloc, house, store, submit(alloc, node, 1)?);
+    let restart = run_turn(rt, alloc, house, store, Job::Restart(node));
+    let again = run_turn(rt, alloc, house, store, submit(alloc, node, 1)?);
     Some(is_stale && restart.said == Said::Up && restart.has_told && again.said == Said::Same)
 }
 
@@ -71,9 +71,9 @@ fn ready_replies<K: HouseName, R: Wait>(
     store: &mut MemStable,
     node: NodeId,
 ) -> Option<bool> {
-    let status = came_of(rt, alloc, house, store, Job::Status(node));
-    let accepted = came_of(rt, alloc, house, store, submit(alloc, node, 1)?);
-    let twice = came_of(rt, alloc, house, store, Job::Restart(node));
+    let status = run_turn(rt, alloc, house, store, Job::Status(node));
+    let accepted = run_turn(rt, alloc, house, store, submit(alloc, node, 1)?);
+    let twice = run_turn(rt, alloc, house, store, Job::Restart(node));
     Some(
         status.has_status
             && accepted.said == Said::Accepted(1)
@@ -94,10 +94,10 @@ fn down_replies<K: HouseName, R: Wait>(
     node: NodeId,
 ) -> Option<bool> {
     let nobody = NodeId::new(2)?;
-    let failed = came_of(rt, alloc, house, store, submit(alloc, node, 2)?);
-    let status = came_of(rt, alloc, house, store, Job::Status(node));
-    let unknown = came_of(rt, alloc, house, store, Job::Status(nobody));
-    let restart = came_of(rt, alloc, house, store, Job::Restart(node));
+    let failed = run_turn(rt, alloc, house, store, submit(alloc, node, 2)?);
+    let status = run_turn(rt, alloc, house, store, Job::Status(node));
+    let unknown = run_turn(rt, alloc, house, store, Job::Status(nobody));
+    let restart = run_turn(rt, alloc, house, store, Job::Restart(node));
     Some(
         failed.said == Said::Device
             && failed.events == 2
@@ -123,8 +123,12 @@ fn other_replies<K: HouseName, R: Wait>(
     Some(ready && down)
 }
 
-// Plays both on a House of its own, and returns its events too.
-fn played<K: HouseName, R: Wait>(rt: &R, alloc: Global, opened: Opened) -> Option<(bool, u64)>
+// Plays both on a new House, and returns the number of the House's events too.
+fn run_crashed_turn<K: HouseName, R: Wait>(
+    rt: &R,
+    alloc: Global,
+    opened: Opened,
+) -> Option<(bool, u64)>
     requires names { (opened.book ≡ K.book) × (lists_in opened.group ≡ K.base) }
 {
     let (mut house, readers) = match opened.parts::<K, R>(rt, alloc) {
@@ -141,7 +145,11 @@ fn played<K: HouseName, R: Wait>(rt: &R, alloc: Global, opened: Opened) -> Optio
     Some((crashed?, events))
 }
 
-fn played_other<K: HouseName, R: Wait>(rt: &R, alloc: Global, opened: Opened) -> Option<(bool, u64)>
+fn run_other_turns<K: HouseName, R: Wait>(
+    rt: &R,
+    alloc: Global,
+    opened: Opened,
+) -> Option<(bool, u64)>
     requires names { (opened.book ≡ K.book) × (lists_in opened.group ≡ K.base) }
 {
     let (mut house, readers) = match opened.parts::<K, R>(rt, alloc) {
@@ -160,23 +168,23 @@ fn played_other<K: HouseName, R: Wait>(rt: &R, alloc: Global, opened: Opened) ->
 
 #[test]
 fn a_turn_whose_node_was_crashed_is_stale(rt: HostRuntime) -> Result<(), Fail> {
-    let opened = opened(rt.alloc(), 1).ok_or("memory")?;
-    let played = played::<Brand, _>(&rt, rt.alloc(), opened);
+    let opened = open_group(rt.alloc(), 1).ok_or("memory")?;
+    let played = run_crashed_turn::<Brand, _>(&rt, rt.alloc(), opened);
     assert_eq!(rt; played, Some((true, 4)));
     Ok(())
 }
 
 #[test]
 fn a_turn_has_replies_of_its_own(rt: HostRuntime) -> Result<(), Fail> {
-    let opened = opened(rt.alloc(), 1).ok_or("memory")?;
-    let played = played_other::<Brand, _>(&rt, rt.alloc(), opened);
+    let opened = open_group(rt.alloc(), 1).ok_or("memory")?;
+    let played = run_other_turns::<Brand, _>(&rt, rt.alloc(), opened);
     assert_eq!(rt; played, Some((true, 5)));
     Ok(())
 }
 
 // Node 1's worker gets a job of node 2, and a crash of node 2. Returns whether the first job ran,
 // whether it was refused, whether the second ran, and the events.
-fn misrouted<K: HouseName, L: HubName, R: Wait>(
+fn run_misrouted<K: HouseName, L: HubName, R: Wait>(
     rt: &R,
     alloc: Global,
     opened: Opened,
@@ -190,7 +198,7 @@ fn misrouted<K: HouseName, L: HubName, R: Wait>(
     let one = NodeId::new(1).unwrap();
     let two = NodeId::new(2).unwrap();
     let mut store = MemStable::new(alloc);
-    let (hub, mut tallies, readers) = hub_of::<K, L, R>(rt, alloc, opened, blank)?;
+    let (hub, mut tallies, readers) = open_hub::<K, L, R>(rt, alloc, opened, blank)?;
     drop(readers);
     let tally = tallies.pop().unwrap();
     let (tick, tally) = hub.work(rt, alloc, one, Job::Tick(two), &mut store, &OpenGate, tally);
@@ -214,8 +222,8 @@ fn misrouted<K: HouseName, L: HubName, R: Wait>(
 
 #[test]
 fn a_job_of_another_node_does_not_run(rt: HostRuntime) -> Result<(), Fail> {
-    let opened = opened(rt.alloc(), 2).ok_or("memory")?;
-    let played = misrouted::<Brand, Brand, _>(&rt, rt.alloc(), opened, Blank::new(2));
+    let opened = open_group(rt.alloc(), 2).ok_or("memory")?;
+    let played = run_misrouted::<Brand, Brand, _>(&rt, rt.alloc(), opened, Blank::new(2));
     assert_eq!(rt; played, Some((false, true, true, 1)));
     Ok(())
 }

@@ -1,7 +1,8 @@
 use denote.Param.Send.{sendable}
 use Rattle.std.proofs.Crossing.{crosses}
-use Rattle.urb_daemon.proofs.Sending.{host_send, unnamed_send}
+use Rattle.urb_daemon.proofs.SendableFiles.{host_send, unnamed_send}
 use Rattle.urbd.proofs.main.Goals as goal
 
 pub run_journals-journals-requires-send-D : goal.run_journals-journals-requires-send-D
-run_journals-journals-requires-send-D g c κs = let a = host_send in let b = unnamed_send in search (crosses, sendable) depth 200 fits 100000
+run_journals-journals-requires-send-D g c κs =
+    let a = host_send in let b = unnamed_send in search (crosses, sendable) depth 200 fits 100000

@@ -1,4 +1,5 @@
-use Rattle.std.proofs.Common.{rules, sym, subst, ◌≡◌, ◌<◌, ◌≤◌, ◌-◌, ◌^◌, ℕ, suc, true, false, List, filter, slice_set}
+use Rattle.std.proofs.Common.{rules, sym, subst, ◌≡◌, ◌<◌, ◌≤◌, ◌-◌, ◌^◌, ℕ, suc, true, false, List}
+use Rattle.std.proofs.Common.{filter, slice_set}
 use Rattle.urb_names.specs.Naming.{Label}
 use Rattle.urb_names.specs.Names.{has_name, name}
 use Rattle.urb_certified.specs.Parts.{IsJoined, is_left}
@@ -13,12 +14,17 @@ returns g c =
     let end = c.run_end-end.result in
     let items : c.drop_run.new.above.items ≡ filter (is_left x.sender end) above = search rules in
     let at : c.number.result ≡ x.sender = search rules in
-    let run : (i : ℕ) → x.seq < i → i ≤ end → has_name above (name x.sender i) ≡ true = search rules in
-    let stops : end < 2 ^ 32 - 1 → has_name above (name x.sender (suc end)) ≡ false = search rules in
+    let run : (i : ℕ) → x.seq < i → i ≤ end → has_name above (name x.sender i) ≡ true =
+    search rules in
+    let stops : end < 2 ^ 32 - 1 → has_name above (name x.sender (suc end)) ≡ false =
+    search rules in
     let from : x.seq ≤ end = search rules in
     record {
       joined =
-          subst (λ (n : ℕ). IsJoined low above x (slice_set low (n - 1) end) c.drop_run.new.above.items) (sym at)
-          (subst (λ (zs : List Label). IsJoined low above x (slice_set low (x.sender - 1) end) zs) (sym items)
-          (closes low above x end c.requires.parts c.limits.ensures c.requires.next from run stops));
+          subst (λ (n : ℕ). IsJoined low above x
+          (slice_set low (n - 1) end) c.drop_run.new.above.items) (sym at)
+          (subst (λ (zs : List Label). IsJoined low above x (slice_set low (x.sender - 1) end) zs)
+          (sym items)
+          (closes low above x end c.requires.parts c.recall.ensures c.requires.next from run
+          stops));
     }

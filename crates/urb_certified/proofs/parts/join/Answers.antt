@@ -12,4 +12,5 @@ returns-clause-ok g c =
     let above = c.args.above.now.items in
     let x = c.args.name in
     subst (IsJoined low above x low) (sym c.in_ok-put_above.ensures.ok)
-    (puts low above x c.requires.parts c.limits.ensures c.requires.absent (c.is_next.ensures.other c.if-is_next.false))
+    (puts low above x c.requires.parts c.recall.ensures c.requires.absent
+    (c.is_next.ensures.other c.if-is_next.false))

@@ -3,4 +3,5 @@ use Rattle.std.proofs.lemmas.Fn.{filter_same}
 use Rattle.urb_certified.proofs.row.drop_to.Goals as goal
 
 pub returns-clause-items : goal.returns-clause-items
-returns-clause-items g c = filter_same _ _ _ (λ x b f' k. search rules) _ _ c.retain.ensures.filtered
+returns-clause-items g c =
+    filter_same _ _ _ (λ x b f' k. search rules) _ _ c.retain.ensures.filtered

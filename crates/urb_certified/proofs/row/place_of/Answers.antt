@@ -11,4 +11,5 @@ returns-clause-place c =
     let names = c.args.names.now in
     let x = c.args.name in
     point_is name_lt same_name names_in_order (λ other. name_lt other x) names _ x facts.bound
-    (IsPartitionPoint-from_clause (λ other. name_lt other x) names _ facts.partitioned (parted name_lt same_name names_in_order names x c.requires) (λ a r f' k. search rules))
+    (IsPartitionPoint-from_clause (λ other. name_lt other x) names _ facts.partitioned
+    (parted name_lt same_name names_in_order names x c.requires) (λ a r f' k. search rules))

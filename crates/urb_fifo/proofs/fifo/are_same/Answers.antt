@@ -6,4 +6,10 @@ use Rattle.std.proofs.Common.{◌≡◌, subst, true}
 use Rattle.urb_fifo.proofs.fifo.are_same.Goals as goal
 
 pub returns : goal.returns
-returns c = slice_eq-Decides (λ (a b : Label). (same_name-true a b, λ (e : a ≡ b). subst (λ (z : Label). same_name a z ≡ true) e (same_name-same a))) c.args.first.now c.args.second.now c.eq.result c.eq.ensures
+returns c =
+    slice_eq-Decides (λ (a b : Label). (
+      same_name-true a b,
+      λ (e : a ≡ b).
+          subst (λ (z : Label). same_name a z ≡ true) e (same_name-same a),
+    ))
+    c.args.first.now c.args.second.now c.eq.result c.eq.ensures

@@ -1,4 +1,4 @@
-use Rattle.urb_group.proofs.Deliveries.{deliveries-known, entries-alike}
+use Rattle.urb_group.proofs.shown.Deliveries.{deliveries-known, entries-alike}
 use Rattle.urb_group.proofs.delivering.a_group_holds_what_its_worlds_deliver.Goals as goal
 
 pub returns-clause-held : goal.returns-clause-held

@@ -1,4 +1,4 @@
-use Rattle.urb_group.proofs.StoredRecords.{commit-released}
+use Rattle.urb_group.proofs.safety.StoredRecords.{commit-released}
 use Rattle.urb_group.proofs.delivering.a_log_grows_by_what_is_released.Goals as goal
 
 pub returns : goal.returns

@@ -1,11 +1,12 @@
 use Rattle.std.proofs.Common.{ne_eqb, sym}
-use Rattle.urb_group.proofs.CalmSteps.{step-elsewhere}
-use Rattle.urb_group.proofs.StoredRecords.{step-stored}
+use Rattle.urb_group.proofs.steps.DraftsInSteps.{step-elsewhere}
+use Rattle.urb_group.proofs.safety.StoredRecords.{step-stored}
 use Rattle.urb_group.specs.Delivering.{event_node}
 use Rattle.urb_group.proofs.delivering.an_event_changes_one_node.Goals as goal
 
 pub returns-clause-others : goal.returns-clause-others
-returns-clause-others c w event q away = step-elsewhere w event q (ne_eqb q (event_node event) (λ e. away (sym e)))
+returns-clause-others c w event q away =
+    step-elsewhere w event q (ne_eqb q (event_node event) (λ e. away (sym e)))
 
 pub returns-clause-nothing : goal.returns-clause-nothing
 returns-clause-nothing c w event q quiet = step-stored w event quiet q

@@ -1,4 +1,4 @@
-use Rattle.urb_group.proofs.AgreeingDeliveries.{deliveries-agree}
+use Rattle.urb_group.proofs.shown.AgreeingDeliveries.{deliveries-agree}
 use Rattle.urb_group.proofs.delivering.deliveries_agree.Goals as goal
 
 pub returns : goal.returns

@@ -1,7 +1,7 @@
 -- A node has no more pending than all storages took.
 use Rattle.std.proofs.Common.{arith}
-use Rattle.urb_group.proofs.Delivered.{reached-sound}
-use Rattle.urb_group.proofs.ManyNames.{pending-taken}
+use Rattle.urb_group.proofs.recovery.AllDelivered.{reached-sound}
+use Rattle.urb_group.proofs.recovery.PendingNames.{pending-taken}
 use Rattle.urb_group.proofs.fairness.so_many_ticks_are_enough.Goals as goal
 
 pub returns : goal.returns

@@ -1,5 +1,5 @@
 -- Two fair rounds deliver.
-use Rattle.urb_group.proofs.FairRounds.{two-rounds}
+use Rattle.urb_group.proofs.rounds.FairRounds.{two-rounds}
 use Rattle.urb_group.proofs.fairness.two_fair_rounds_deliver.Goals as goal
 
 pub returns : goal.returns

@@ -1,5 +1,5 @@
-use Rattle.urb_group.proofs.Runs.{reached-keeps}
-use Rattle.urb_group.proofs.SafeWorlds.{one_message}
+use Rattle.urb_group.proofs.steps.Runs.{reached-keeps}
+use Rattle.urb_group.proofs.safety.SafeWorlds.{one_message}
 use Rattle.urb_group.proofs.laws.a_name_has_one_message.Goals as goal
 
 pub returns : goal.returns

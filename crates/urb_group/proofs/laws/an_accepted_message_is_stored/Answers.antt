@@ -1,5 +1,5 @@
-use Rattle.urb_group.proofs.Accepted.{accepted-stored, committed-stored}
-use Rattle.urb_group.proofs.Runs.{reached-keeps}
+use Rattle.urb_group.proofs.moves.AcceptedSubmits.{accepted-stored, committed-stored}
+use Rattle.urb_group.proofs.steps.Runs.{reached-keeps}
 use Rattle.urb_group.proofs.laws.an_accepted_message_is_stored.Goals as goal
 
 pub returns-clause-again : goal.returns-clause-again

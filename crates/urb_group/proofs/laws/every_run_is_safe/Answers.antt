@@ -1,5 +1,5 @@
-use Rattle.urb_group.proofs.Runs.{reached-keeps}
-use Rattle.urb_group.proofs.SafeWorlds.{safe}
+use Rattle.urb_group.proofs.steps.Runs.{reached-keeps}
+use Rattle.urb_group.proofs.safety.SafeWorlds.{safe}
 use Rattle.urb_group.proofs.laws.every_run_is_safe.Goals as goal
 
 pub returns : goal.returns

@@ -1,7 +1,7 @@
-use Rattle.urb_group.proofs.Accepted.{accepted-stored}
-use Rattle.urb_group.proofs.Alike.{sound-kept}
-use Rattle.urb_group.proofs.SafeWorlds.{one_message, safe}
-use Rattle.urb_group.proofs.Stops.{survives}
+use Rattle.urb_group.proofs.moves.AcceptedSubmits.{accepted-stored}
+use Rattle.urb_group.proofs.shown.ShownWorldsAgree.{sound-kept}
+use Rattle.urb_group.proofs.safety.SafeWorlds.{one_message, safe}
+use Rattle.urb_group.proofs.stops.StoppedWorlds.{survives}
 use Rattle.urb_group.proofs.laws.every_sound_group_is_safe.Goals as goal
 
 pub returns-clause-safe : goal.returns-clause-safe
@@ -14,4 +14,5 @@ pub returns-clause-stop : goal.returns-clause-stop
 returns-clause-stop c group w s t = survives w (sound-kept group w s t)
 
 pub returns-clause-accepted : goal.returns-clause-accepted
-returns-clause-accepted c group w p m x s t e = accepted-stored w (sound-kept group w s t).nodes p m x e
+returns-clause-accepted c group w p m x s t e =
+    accepted-stored w (sound-kept group w s t).nodes p m x e

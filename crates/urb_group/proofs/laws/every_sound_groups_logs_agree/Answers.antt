@@ -1,9 +1,11 @@
-use Rattle.urb_group.proofs.Alike.{sound-kept}
-use Rattle.urb_group.proofs.KeptWorlds.{kept-agree, kept-grow}
+use Rattle.urb_group.proofs.shown.ShownWorldsAgree.{sound-kept}
+use Rattle.urb_group.proofs.safety.RunsOfKeptWorlds.{kept-agree, kept-grow}
 use Rattle.urb_group.proofs.laws.every_sound_groups_logs_agree.Goals as goal
 
 pub returns-clause-agree : goal.returns-clause-agree
-returns-clause-agree c group old new events replies s t ran = kept-agree old new events replies (sound-kept group old s t) ran
+returns-clause-agree c group old new events replies s t ran =
+    kept-agree old new events replies (sound-kept group old s t) ran
 
 pub returns-clause-grow : goal.returns-clause-grow
-returns-clause-grow c group old new events replies s t ran = kept-grow old new events replies (sound-kept group old s t) ran
+returns-clause-grow c group old new events replies s t ran =
+    kept-grow old new events replies (sound-kept group old s t) ran

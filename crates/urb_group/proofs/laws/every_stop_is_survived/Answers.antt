@@ -1,5 +1,5 @@
-use Rattle.urb_group.proofs.Runs.{reached-keeps}
-use Rattle.urb_group.proofs.Stops.{survives}
+use Rattle.urb_group.proofs.steps.Runs.{reached-keeps}
+use Rattle.urb_group.proofs.stops.StoppedWorlds.{survives}
 use Rattle.urb_group.proofs.laws.every_stop_is_survived.Goals as goal
 
 pub returns : goal.returns

@@ -1,5 +1,5 @@
-use Rattle.urb_group.proofs.Alike.{sound-step}
-use Rattle.urb_group.proofs.Shows.{sound-new, sound-opened}
+use Rattle.urb_group.proofs.shown.ShownWorldsAgree.{sound-step}
+use Rattle.urb_group.proofs.shown.ShownWorlds.{sound-new, sound-opened}
 use Rattle.urb_group.proofs.laws.groups_stay_sound.Goals as goal
 
 pub returns-clause-new : goal.returns-clause-new

@@ -2,4 +2,5 @@ use Rattle.urb_node.proofs.Wanted.{one_more_fits}
 use Rattle.urb_node.proofs.ready.step_of.Goals as goal
 
 pub overflow_add-held : goal.overflow_add-held
-overflow_add-held g c = one_more_fits c.args.held c.requires.kept c.limits.ensures c.limits-in-New.ensures
+overflow_add-held g c =
+    one_more_fits c.args.held c.requires.kept c.recall.ensures c.recall-in-New.ensures

@@ -6,6 +6,9 @@ use Rattle.urb_node.proofs.storing.join_certificate.Goals as goal
 
 pub returns-clause-kept : goal.returns-clause-kept
 returns-clause-kept g c =
-    let acks : c.certify.new.self ≡ acks_certifying c.args.held.now.acks c.args.name = search rules in
-    let fifo : c.certify-2.new.self ≡ fifo_certifying c.args.held.now.fifo c.args.name = search rules in
-    certificate-kept c.args.held.now c.certify.new.self c.certify-2.new.self c.args.name c.requires.kept c.requires.pending acks fifo
+    let acks : c.certify.new.self ≡ acks_certifying c.args.held.now.acks c.args.name =
+    search rules in
+    let fifo : c.certify-2.new.self ≡ fifo_certifying c.args.held.now.fifo c.args.name =
+    search rules in
+    certificate-kept c.args.held.now c.certify.new.self c.certify-2.new.self c.args.name
+    c.requires.kept c.requires.pending acks fifo

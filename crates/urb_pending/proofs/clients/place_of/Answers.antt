@@ -8,5 +8,7 @@ returns-clause-place g c =
     let facts = c.partition_point.ensures in
     let rows = c.args.rows.now in
     let client = c.args.client in
-    point_is (stands_before client) rows _ (record { client = 0; given = []; room = false }) facts.bound
-    (IsPartitionPoint-from_clause (stands_before client) rows _ facts.partitioned (parted rows client c.requires) (λ a r f' k. search rules))
+    point_is (stands_before client) rows _
+    (record { client = 0; given = []; room = false }) facts.bound
+    (IsPartitionPoint-from_clause (stands_before client) rows _ facts.partitioned
+    (parted rows client c.requires) (λ a r f' k. search rules))

@@ -1,4 +1,4 @@
-use Rattle.urb_show.proofs.Agreement.{goes_on_agrees, goes_on_begins}
+use Rattle.urb_show.proofs.AgreeingLists.{goes_on_agrees, goes_on_begins}
 use Rattle.urb_show.proofs.laws.one_reader_agrees.Goals as goal
 
 pub returns-clause-begins : goal.returns-clause-begins

@@ -1,7 +1,7 @@
 use Rattle.std.proofs.Common.{◌≡◌, ◌+◌, ◌-◌, ◌≤◌, length}
 use Rattle.sqlite.specs.State.{HasCleanDisk, Survives}
 use Rattle.sqlite.specs.Held.{state}
-use Rattle.urb_sqlite.proofs.ReadLemmas.{HasReadTo}
+use Rattle.urb_sqlite.proofs.CursorReads.{HasReadTo}
 use Rattle.urb_sqlite.proofs.rows.read_rows.Given as goal
 
 abbrev pub invariant-rows : goal.invariant-rows
@@ -10,7 +10,8 @@ invariant-rows g l =
     let now = state g.S.Store l.rows.conn.now in
     (l.rows.conn.ghost_name ≡ l.initial.rows.conn.ghost_name) × Survives old now (λ _. ⊥)
     × (l.place ≡ l.fn.first + length l.records.items)
-    × (HasCleanDisk now → HasReadTo g.S.Store l.fn.part l.fn.limit l.fn.first old l.rows.conn.now l.records.items)
+    × (HasCleanDisk now → HasReadTo g.S.Store l.fn.part l.fn.limit l.fn.first old l.rows.conn.now
+    l.records.items)
 
 abbrev pub decreases-rows : goal.decreases-rows
 decreases-rows g l = 4294967295 - l.place

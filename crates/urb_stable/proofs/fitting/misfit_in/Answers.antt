@@ -1,4 +1,5 @@
-use Rattle.std.proofs.Common.{List, None, Option, Some, ap, length, map, slice_index_or, subst, sym, take, ◌<◌, ◌∙◌, ◌≡◌}
+use Rattle.std.proofs.Common.{List, None, Option, Some, ap, length, map, slice_index_or, subst, sym}
+use Rattle.std.proofs.Common.{take, ◌<◌, ◌∙◌, ◌≡◌}
 use Rattle.std.specs.Prelude.{option_map}
 use Rattle.urb_names.specs.Naming.{Label}
 use Rattle.urb_names.specs.declared.refusal.Rule.{Rule}
@@ -11,25 +12,49 @@ use Rattle.urb_stable.proofs.fitting.misfit_in.Goals as goal
 
 pub returns-in-Some : goal.returns-in-Some
 returns-in-Some g c =
-    let same : c.records-records.result.now ≡ c.args.image.now.records = c.records-records.ensures in
-    let within : c.loop-i.i < length c.args.image.now.records = subst (λ (rs : List Entry). c.loop-i.i < length rs) same c.loop-i-test.true in
-    let here : c.index-records-i.result ≡ slice_index_or c.args.image.now.records c.loop-i.i c.index-records-i.result =
-    c.index-records-i.is ∙ ap (λ (rs : List Entry). slice_index_or rs c.loop-i.i c.index-records-i.result) same in
+    let same : c.records-records.result.now ≡ c.args.image.now.records =
+    c.records-records.ensures in
+    let within : c.loop-i.i < length c.args.image.now.records =
+    subst (λ (rs : List Entry). c.loop-i.i < length rs) same c.loop-i-test.true in
+    let here : c.index-records-i.result
+    ≡ slice_index_or c.args.image.now.records c.loop-i.i c.index-records-i.result =
+    c.index-records-i.is ∙ ap (λ (rs : List Entry).
+    slice_index_or rs c.loop-i.i c.index-records-i.result) same in
     let images = image_of (map (λ image. image.records) c.args.images.now) in
-    let told : Rule → Misfit = λ rule. record { rule = rule; node = c.args.node; name = name_of c.index-records-i.result } in
-    let first : first_of_all (broken c.args.config images c.args.node (take c.loop-i.i c.args.image.now.records) c.index-records-i.result) ≡ Some (record { rule = c.in-Some.rule; node = c.args.node; name = c.name-name.result }) =
-    broken-first c.args.config images c.args.node (take c.loop-i.i c.args.image.now.records) c.index-records-i.result c.broken_rule.result c.broken_rule.ensures
-    ∙ (ap (λ (o : Option Rule). option_map told o) c.in-Some.is ∙ ap (λ (x : Label). Some (record { rule = c.in-Some.rule; node = c.args.node; name = x })) (sym c.name-name.ensures)) in
-    found _ _ _ _ _ (record-step c.args.config images c.args.node c.args.image.now.records c.loop-i.i c.index-records-i.result within here) first c.loop-i.invariant
+    let told : Rule → Misfit =
+    λ rule. record { rule = rule; node = c.args.node; name = name_of c.index-records-i.result }
+    in
+    let first : first_of_all (broken c.args.config images c.args.node
+    (take c.loop-i.i c.args.image.now.records) c.index-records-i.result) ≡ Some
+    (record { rule = c.in-Some.rule; node = c.args.node; name = c.name-name.result }) =
+    broken-first c.args.config images c.args.node
+    (take c.loop-i.i c.args.image.now.records)
+    c.index-records-i.result c.broken_rule.result c.broken_rule.ensures
+    ∙ (ap (λ (o : Option Rule). option_map told o) c.in-Some.is
+    ∙ ap (λ (x : Label). Some (record { rule = c.in-Some.rule; node = c.args.node; name = x }))
+    (sym c.name-name.ensures)) in
+    found _ _ _ _ _ (record-step c.args.config images c.args.node c.args.image.now.records
+    c.loop-i.i c.index-records-i.result within here) first c.loop-i.invariant
 
 pub loop-i-preserved : goal.loop-i-preserved
 loop-i-preserved g c =
-    let same : c.records-records.result.now ≡ c.args.image.now.records = c.records-records.ensures in
-    let within : c.loop-i.i < length c.args.image.now.records = subst (λ (rs : List Entry). c.loop-i.i < length rs) same c.loop-i-test.true in
-    let here : c.index-records-i.result ≡ slice_index_or c.args.image.now.records c.loop-i.i c.index-records-i.result =
-    c.index-records-i.is ∙ ap (λ (rs : List Entry). slice_index_or rs c.loop-i.i c.index-records-i.result) same in
+    let same : c.records-records.result.now ≡ c.args.image.now.records =
+    c.records-records.ensures in
+    let within : c.loop-i.i < length c.args.image.now.records =
+    subst (λ (rs : List Entry). c.loop-i.i < length rs) same c.loop-i-test.true in
+    let here : c.index-records-i.result
+    ≡ slice_index_or c.args.image.now.records c.loop-i.i c.index-records-i.result =
+    c.index-records-i.is ∙ ap (λ (rs : List Entry).
+    slice_index_or rs c.loop-i.i c.index-records-i.result) same in
     let images = image_of (map (λ image. image.records) c.args.images.now) in
-    let told : Rule → Misfit = λ rule. record { rule = rule; node = c.args.node; name = name_of c.index-records-i.result } in
-    let first : first_of_all (broken c.args.config images c.args.node (take c.loop-i.i c.args.image.now.records) c.index-records-i.result) ≡ None =
-    broken-first c.args.config images c.args.node (take c.loop-i.i c.args.image.now.records) c.index-records-i.result c.broken_rule.result c.broken_rule.ensures ∙ ap (λ (o : Option Rule). option_map told o) c.in_default.is in
-    passed _ _ _ _ (record-step c.args.config images c.args.node c.args.image.now.records c.loop-i.i c.index-records-i.result within here) first c.loop-i.invariant
+    let told : Rule → Misfit =
+    λ rule. record { rule = rule; node = c.args.node; name = name_of c.index-records-i.result }
+    in
+    let first : first_of_all (broken c.args.config images c.args.node
+    (take c.loop-i.i c.args.image.now.records) c.index-records-i.result) ≡ None =
+    broken-first c.args.config images c.args.node
+    (take c.loop-i.i c.args.image.now.records)
+    c.index-records-i.result c.broken_rule.result c.broken_rule.ensures
+    ∙ ap (λ (o : Option Rule). option_map told o) c.in_default.is in
+    passed _ _ _ _ (record-step c.args.config images c.args.node c.args.image.now.records c.loop-i.i
+    c.index-records-i.result within here) first c.loop-i.invariant

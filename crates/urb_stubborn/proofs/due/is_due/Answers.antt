@@ -1,4 +1,5 @@
-use Rattle.std.proofs.Common.{◌≡◌, ◌≤◌, ◌<◌, ◌+◌, ◌==◌, ◌&&◌, ◌||◌, true, false, not, arith, rules, ap, sym, ◌∙◌}
+use Rattle.std.proofs.Common.{◌≡◌, ◌≤◌, ◌<◌, ◌+◌, ◌==◌, ◌&&◌, ◌||◌, true, false, not, arith, rules}
+use Rattle.std.proofs.Common.{ap, sym, ◌∙◌}
 use Rattle.std.proofs.lemmas.Bool.{or_left}
 use Rattle.urb_names.specs.Acknowledged.{acked}
 use Rattle.urb_names.specs.Carried.{is_due}
@@ -15,8 +16,12 @@ loop-number-preserved g c =
     let i = c.loop-number.number in
     let target : c.unwrap-other.result ≡ i = search rules in
     let within : i ≤ c.args.config.n = omega arith in
-    let fails : (not (i == c.args.node) && not (acked marks x i)) ≡ false = sym (c.is_unheard.ensures ∙ ap (λ q. not (q == c.args.node) && not (acked marks x q)) target) ∙ c.if-is_unheard.false in
-    sym (due_next c.args.config.n c.args.node marks x i within ∙ ap (λ b. b || due_from c.args.config.n c.args.node marks x (i + 1)) fails) ∙ c.loop-number.invariant
+    let fails : (not (i == c.args.node) && not (acked marks x i)) ≡ false =
+    sym (c.is_unheard.ensures ∙ ap
+    (λ q. not (q == c.args.node) && not (acked marks x q)) target) ∙ c.if-is_unheard.false in
+    sym (due_next c.args.config.n c.args.node marks x i within
+    ∙ ap (λ b. b || due_from c.args.config.n c.args.node marks x (i + 1)) fails)
+    ∙ c.loop-number.invariant
 
 pub returns-then-is_unheard : goal.returns-then-is_unheard
 returns-then-is_unheard g c =
@@ -25,11 +30,15 @@ returns-then-is_unheard g c =
     let i = c.loop-number.number in
     let target : c.unwrap-other.result ≡ i = search rules in
     let within : i ≤ c.args.config.n = omega arith in
-    let passes : (not (i == c.args.node) && not (acked marks x i)) ≡ true = sym (c.is_unheard.ensures ∙ ap (λ q. not (q == c.args.node) && not (acked marks x q)) target) ∙ c.if-is_unheard.true in
-    sym (or_left (not (i == c.args.node) && not (acked marks x i)) (due_from c.args.config.n c.args.node marks x (i + 1)) passes)
+    let passes : (not (i == c.args.node) && not (acked marks x i)) ≡ true =
+    sym (c.is_unheard.ensures ∙ ap
+    (λ q. not (q == c.args.node) && not (acked marks x q)) target) ∙ c.if-is_unheard.true in
+    sym (or_left (not (i == c.args.node) && not (acked marks x i))
+    (due_from c.args.config.n c.args.node marks x (i + 1)) passes)
     ∙ (sym (due_next c.args.config.n c.args.node marks x i within) ∙ c.loop-number.invariant)
 
 pub returns : goal.returns
 returns g c =
     let over : c.args.config.n < c.loop-number.number = omega arith in
-    sym (due_end c.args.config.n c.args.node c.args.heard.now.marks c.args.name c.loop-number.number over) ∙ c.loop-number.invariant
+    sym (due_end c.args.config.n c.args.node c.args.heard.now.marks c.args.name c.loop-number.number
+    over) ∙ c.loop-number.invariant

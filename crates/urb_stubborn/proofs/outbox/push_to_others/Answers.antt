@@ -1,4 +1,5 @@
-use Rattle.std.proofs.Common.{ℕ, Bool, Option, ◌≡◌, ◌≢◌, ◌+◌, ◌-◌, ◌==◌, Some, true, false, not, arith, rules, ap, ap₂, sym, ◌∙◌, eq-eqb, ne_eqb}
+use Rattle.std.proofs.Common.{ℕ, Bool, Option, ◌≡◌, ◌≢◌, ◌+◌, ◌-◌, ◌==◌, Some, true, false, not}
+use Rattle.std.proofs.Common.{arith, rules, ap, ap₂, sym, ◌∙◌, eq-eqb, ne_eqb}
 use Rattle.urb_names.specs.Naming.{Content, Label}
 use Rattle.urb_names.specs.Carried.{is_heard_of, others}
 use Rattle.urb_names.specs.declared.flags.Flags.{Flags}
@@ -10,21 +11,44 @@ pub loop-number-preserved : goal.loop-number-preserved
 loop-number-preserved g c =
     let p = c.args.node in
     let i = c.loop-number.number in
-    let flags : ℕ → Flags = λ q. record { certified = c.args.certified; heard = is_heard_of c.args.heard q } in
+    let flags : ℕ → Flags =
+    λ q. record { certified = c.args.certified; heard = is_heard_of c.args.heard q } in
     let pair : Label × Content = (c.args.name, c.args.message.now) in
     let here : i + 1 - 1 ≡ i = omega arith in
     let target : c.unwrap-target.result ≡ i = search rules in
     elim c.if-ne.branch [
       | then-ne+in_ok-share+in_ok-push w ↦
           let other : i ≢ p = search rules in
-          let told : w.is_heard_of.result ≡ is_heard_of c.args.heard i = w.is_heard_of.ensures ∙ ap (is_heard_of c.args.heard) target in
+          let told : w.is_heard_of.result ≡ is_heard_of c.args.heard i =
+          w.is_heard_of.ensures ∙ ap (is_heard_of c.args.heard) target in
           let sent : w.new-then-ne.result ≡ packet p flags i pair =
-          w.new-then-ne.ensures ∙ (ap (λ t. record { source = p; target = t; name = c.args.name; message = w.in_ok-share.field-0; flags = Some (record { certified = c.args.certified; heard = w.is_heard_of.result }) }) target
-          ∙ ap₂ (λ m b. record { source = p; target = i; name = c.args.name; message = m; flags = Some (record { certified = c.args.certified; heard = b }) }) w.in_ok-share.ensures told) in
+          w.new-then-ne.ensures ∙ (ap (λ t.
+          record {
+            source = p;
+            target = t;
+            name = c.args.name;
+            message =
+                w.in_ok-share.field-0;
+            flags =
+                Some (record { certified = c.args.certified; heard = w.is_heard_of.result });
+          }) target
+          ∙ ap₂ (λ m b. record {
+            source = p;
+            target = i;
+            name = c.args.name;
+            message = m;
+            flags =
+                Some (record { certified = c.args.certified; heard = b });
+          })
+          w.in_ok-share.ensures told) in
           rw (w.packets-is, w.in_ok-push.ensures.items, sent)
-          (sent_to (λ n. others n p) (λ q. not (q == p)) (others_grow p) p flags pair i (i + 1 - 1) c.args.packets.now.items c.loop-number.packets.items here (omega arith) (ap not (ne_eqb i p other)) c.loop-number.invariant)
+          (sent_to (λ n. others n p) (λ q. not (q == p)) (others_grow p) p flags pair i
+          (i + 1 - 1) c.args.packets.now.items c.loop-number.packets.items here (omega arith)
+          (ap not (ne_eqb i p other)) c.loop-number.invariant)
       | else-ne w ↦
           let same : i ≡ p = search rules in
           rw w.packets-is
-          (not_sent_to (λ n. others n p) (λ q. not (q == p)) (others_grow p) p flags pair i (i + 1 - 1) c.args.packets.now.items c.loop-number.packets.items here (omega arith) (ap not (eq-eqb i p same)) c.loop-number.invariant)
+          (not_sent_to (λ n. others n p) (λ q. not (q == p)) (others_grow p) p flags pair i
+          (i + 1 - 1) c.args.packets.now.items c.loop-number.packets.items here (omega arith)
+          (ap not (eq-eqb i p same)) c.loop-number.invariant)
     ]

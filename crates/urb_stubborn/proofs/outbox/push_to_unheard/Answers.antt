@@ -1,11 +1,13 @@
-use Rattle.std.proofs.Common.{ℕ, Bool, Option, ◌≡◌, ◌+◌, ◌-◌, ◌==◌, ◌&&◌, Some, true, false, not, filter, arith, rules, ap, ap₂, sym, ◌∙◌}
+use Rattle.std.proofs.Common.{ℕ, Bool, Option, ◌≡◌, ◌+◌, ◌-◌, ◌==◌, ◌&&◌, Some, true, false, not}
+use Rattle.std.proofs.Common.{filter, arith, rules, ap, ap₂, sym, ◌∙◌}
 use Rattle.urb_names.specs.Acknowledged.{acked}
 use Rattle.urb_names.specs.Naming.{Content, Label}
 use Rattle.urb_names.specs.Carried.{others}
 use Rattle.urb_names.specs.declared.flags.Flags.{Flags}
 use Rattle.urb_stubborn.proofs.Sent.{packet, sent_to, not_sent_to, some_grow}
 use Rattle.urb_stubborn.proofs.outbox.push_to_unheard.Goals as goal
-use Rattle.urb_stubborn.proofs.outbox.push_to_unheard.Goals.{then-is_unheard+in_ok-share+in_ok-push, else-is_unheard}
+use Rattle.urb_stubborn.proofs.outbox.push_to_unheard.Goals.{then-is_unheard+in_ok-share+in_ok-push}
+use Rattle.urb_stubborn.proofs.outbox.push_to_unheard.Goals.{else-is_unheard}
 
 pub loop-number-preserved : goal.loop-number-preserved
 loop-number-preserved g c =
@@ -16,16 +18,32 @@ loop-number-preserved g c =
     let unheard : ℕ → Bool = λ q. not (acked c.args.heard.now.marks c.args.name q) in
     let here : i + 1 - 1 ≡ i = omega arith in
     let target : c.unwrap-target.result ≡ i = search rules in
-    let tested : c.is_unheard.result ≡ (not (i == p) && unheard i) = c.is_unheard.ensures ∙ ap (λ q. not (q == p) && unheard q) target in
+    let tested : c.is_unheard.result ≡ (not (i == p) && unheard i) =
+    c.is_unheard.ensures ∙ ap (λ q. not (q == p) && unheard q) target in
     elim c.if-is_unheard.branch [
       | then-is_unheard+in_ok-share+in_ok-push w ↦
           let passes : (not (i == p) && unheard i) ≡ true = sym tested ∙ w.if-is_unheard.true in
           let sent : w.new-then-is_unheard.result ≡ packet p flags i pair =
-          w.new-then-is_unheard.ensures ∙ ap₂ (λ t m. record { source = p; target = t; name = c.args.name; message = m; flags = Some (record { certified = c.args.certified; heard = false }) }) target w.in_ok-share.ensures in
+          w.new-then-is_unheard.ensures
+          ∙ ap₂ (λ t m. record {
+            source = p;
+            target = t;
+            name = c.args.name;
+            message =
+                m;
+            flags = Some (record { certified = c.args.certified; heard = false });
+          })
+          target w.in_ok-share.ensures in
           rw (w.packets-is, w.in_ok-push.ensures.items, sent)
-          (sent_to (λ n. filter unheard (others n p)) (λ q. not (q == p) && unheard q) (some_grow unheard p) p flags pair i (i + 1 - 1) c.args.packets.now.items c.loop-number.packets.items here (omega arith) passes c.loop-number.invariant)
+          (sent_to (λ n. filter unheard (others n p)) (λ q. not (q == p) && unheard q)
+          (some_grow unheard p) p flags pair i
+          (i + 1 - 1) c.args.packets.now.items c.loop-number.packets.items here
+          (omega arith) passes c.loop-number.invariant)
       | else-is_unheard w ↦
           let fails : (not (i == p) && unheard i) ≡ false = sym tested ∙ w.if-is_unheard.false in
           rw w.packets-is
-          (not_sent_to (λ n. filter unheard (others n p)) (λ q. not (q == p) && unheard q) (some_grow unheard p) p flags pair i (i + 1 - 1) c.args.packets.now.items c.loop-number.packets.items here (omega arith) fails c.loop-number.invariant)
+          (not_sent_to (λ n. filter unheard (others n p)) (λ q. not (q == p) && unheard q)
+          (some_grow unheard p) p flags pair i
+          (i + 1 - 1) c.args.packets.now.items c.loop-number.packets.items here
+          (omega arith) fails c.loop-number.invariant)
     ]

@@ -1,4 +1,5 @@
 use Rattle.std.proofs.Common.{◌≡◌, ℕ, ◌≤◌, sym, ap, ◌∙◌, arith, count_by}
+use Rattle.urb_names.specs.declared.limits.TheConstants.{MAX_NODES}
 use Rattle.urb_names.specs.Nodes.{nodes}
 use Rattle.urb_names.specs.Acknowledged.{acked}
 use Rattle.urb_window.specs.Masks.{marks_in, has_bit, mask_of}
@@ -10,6 +11,11 @@ pub returns-clause-count : goal.returns-clause-count
 returns-clause-count g c =
     let entries = c.args.masks.now.entries in
     let x = c.args.name in
-    let few : c.args.n ≤ 7 = c.requires in
-    let alike : count_by (has_bit (mask_of entries x)) (nodes c.args.n) ≡ count_by (acked (marks_in entries) x) (nodes c.args.n) = count_alike (has_bit (mask_of entries x)) (acked (marks_in entries) x) 1 c.args.n (λ q l u. sym (acked_bit entries x q c.limits.ensures.rising (omega arith) (omega arith))) in
-    c.bits_up_to.ensures.count ∙ (ap (λ (m : ℕ). count_by (has_bit m) (nodes c.args.n)) c.mask_of.ensures ∙ alike)
+    let few : c.args.n ≤ MAX_NODES = c.requires in
+    let alike : count_by (has_bit (mask_of entries x)) (nodes c.args.n) ≡ count_by
+    (acked (marks_in entries) x) (nodes c.args.n) =
+    count_alike (has_bit (mask_of entries x)) (acked (marks_in entries) x) 1 c.args.n
+    (λ q l u. sym (acked_bit entries x q c.recall.ensures.rising (omega arith) (omega arith)))
+    in
+    c.bits_up_to.ensures.count ∙ (ap
+    (λ (m : ℕ). count_by (has_bit m) (nodes c.args.n)) c.mask_of.ensures ∙ alike)

@@ -3,4 +3,5 @@ use Rattle.urb_window.proofs.Marked.{mapped_some}
 use Rattle.urb_window.proofs.marks.has_mask.Goals as goal
 
 pub returns : goal.returns
-returns g c = c.is_some.ensures ∙ (sym (mapped_some (λ v. v.now) c.get.result) ∙ ap is_some c.get.ensures)
+returns g c =
+    c.is_some.ensures ∙ (sym (mapped_some (λ v. v.now) c.get.result) ∙ ap is_some c.get.ensures)

@@ -9,5 +9,6 @@ invariant-loop-number l = record {
   first : 1 ≤ l.number;
   last : l.number ≤ suc l.n;
   few : l.count < l.number;
-  all : l.count + count_by (has_bit l.mask) (numbers_from l.number (suc l.n - l.number)) ≡ count_by (has_bit l.mask) (nodes l.n);
+  all : l.count + count_by (has_bit l.mask) (numbers_from l.number (suc l.n - l.number)) ≡ count_by
+      (has_bit l.mask) (nodes l.n);
 }

@@ -1,4 +1,5 @@
-use Rattle.std.proofs.Common.{◌≡◌, ◌≤◌, ◌<◌, ◌+◌, ◌-◌, ℕ, nat_lt, rules, arith, ap, sym, ◌∙◌, find, get_or, length, Some, None, option_map}
+use Rattle.std.proofs.Common.{◌≡◌, ◌≤◌, ◌<◌, ◌+◌, ◌-◌, ℕ, nat_lt, rules, arith, ap, sym, ◌∙◌, find}
+use Rattle.std.proofs.Common.{get_or, length, Some, None, option_map}
 use Rattle.std.specs.Prelude.{slice_get}
 use Rattle.urb_names.specs.Naming.{Label}
 use Rattle.urb_names.specs.Names.{name_lt}
@@ -9,8 +10,11 @@ use Rattle.urb_window.proofs.rows.after_in.Goals as goal
 
 pub invariant_of-result : goal.invariant_of-result
 invariant_of-result g c =
-    let found : option_map (λ pair. pair.0) (find (λ pair. nat_lt c.name.inside.seq pair.0) (pairs_of c.in-Some.row.now)) ≡ Some c.in-Some-after.seq = sym c.in-Some-after.ensures in
-    let over : c.name.inside.seq < c.in-Some-after.seq = found_over (pairs_of c.in-Some.row.now) c.name.inside.seq c.in-Some-after.seq found in
+    let found : option_map (λ pair. pair.0)
+    (find (λ pair. nat_lt c.name.inside.seq pair.0) (pairs_of c.in-Some.row.now))
+    ≡ Some c.in-Some-after.seq = sym c.in-Some-after.ensures in
+    let over : c.name.inside.seq < c.in-Some-after.seq =
+    found_over (pairs_of c.in-Some.row.now) c.name.inside.seq c.in-Some-after.seq found in
     omega arith
 
 pub returns-in-Some-after : goal.returns-in-Some-after
@@ -21,9 +25,12 @@ returns-in-Some-after g c =
     let i = c.index_of-index.result in
     let within : i < length rows = search rules in
     let read : row ≡ get_or rows i row = search rules in
-    let found : option_map (λ pair. pair.0) (find (λ pair. nat_lt x.seq pair.0) (pairs_of row)) ≡ Some c.in-Some-after.seq = sym c.in-Some-after.ensures in
-    sym (after_found rows (record { sender = x.sender; seq = x.seq }) i c.in-Some-after.seq row c.index_of-index.ensures.place within read found)
-    ∙ ap (λ y. option_map (λ entry. entry.0) (find (λ entry. name_lt y entry.0) (entries_from 1 rows))) c.name.view_is
+    let found : option_map (λ pair. pair.0) (find (λ pair. nat_lt x.seq pair.0) (pairs_of row))
+    ≡ Some c.in-Some-after.seq = sym c.in-Some-after.ensures in
+    sym (after_found rows (record { sender = x.sender; seq = x.seq })
+    i c.in-Some-after.seq row c.index_of-index.ensures.place within read found)
+    ∙ ap (λ y. option_map (λ entry. entry.0)
+    (find (λ entry. name_lt y entry.0) (entries_from 1 rows))) c.name.view_is
 
 pub returns-in-None-after : goal.returns-in-None-after
 returns-in-None-after g c =
@@ -33,10 +40,13 @@ returns-in-None-after g c =
     let i = c.index_of-index.result in
     let within : i < length rows = search rules in
     let read : row ≡ get_or rows i row = search rules in
-    let missed : option_map (λ pair. pair.0) (find (λ pair. nat_lt x.seq pair.0) (pairs_of row)) ≡ None = sym c.in-None-after.ensures in
+    let missed : option_map (λ pair. pair.0) (find (λ pair. nat_lt x.seq pair.0) (pairs_of row))
+    ≡ None = sym c.in-None-after.ensures in
     c.first_from.ensures
-    ∙ (sym (after_missed rows (record { sender = x.sender; seq = x.seq }) i row c.index_of-index.ensures.place within read missed)
-    ∙ ap (λ y. option_map (λ entry. entry.0) (find (λ entry. name_lt y entry.0) (entries_from 1 rows))) c.name.view_is)
+    ∙ (sym (after_missed rows (record { sender = x.sender; seq = x.seq })
+    i row c.index_of-index.ensures.place within read missed)
+    ∙ ap (λ y. option_map (λ entry. entry.0)
+    (find (λ entry. name_lt y entry.0) (entries_from 1 rows))) c.name.view_is)
 
 pub returns-in-None : goal.returns-in-None
 returns-in-None g c =
@@ -45,5 +55,7 @@ returns-in-None g c =
     let place : c.index_of-index.result + 1 ≡ x.sender = c.index_of-index.ensures.place in
     let beyond : length rows ≤ c.index_of-index.result = search rules in
     let behind : length rows ≤ x.sender - 1 = omega arith in
-    ap (option_map (λ entry. entry.0)) (sym (after_beyond rows (record { sender = x.sender; seq = x.seq }) (omega arith) behind))
-    ∙ ap (λ y. option_map (λ entry. entry.0) (find (λ entry. name_lt y entry.0) (entries_from 1 rows))) c.name.view_is
+    ap (option_map (λ entry. entry.0))
+    (sym (after_beyond rows (record { sender = x.sender; seq = x.seq }) (omega arith) behind))
+    ∙ ap (λ y. option_map (λ entry. entry.0)
+    (find (λ entry. name_lt y entry.0) (entries_from 1 rows))) c.name.view_is

@@ -17,12 +17,18 @@ loop-row-preserved g c =
     let i = c.loop-row.row-index in
     let row = c.row-item.result in
     let within : i < length rows = search rules in
-    let next : length (entries_at i rows) ≡ length (pairs_of row) + length (entries_at (i + 1) rows) = count_at rows i row within c.row-item.is in
+    let next : length (entries_at i rows) ≡ length (pairs_of row) + length
+    (entries_at (i + 1) rows) = count_at rows i row within c.row-item.is in
     let here : c.count-count.result ≡ length (pairs_of row) = c.count-count.ensures.value in
-    record { all = omega (arith, c.loop-row.invariant.all); few = omega (arith, c.loop-row.invariant.few, c.count-count.ensures.few) }
+    record {
+      all = omega (arith, c.loop-row.invariant.all);
+      few =
+          omega (arith, c.loop-row.invariant.few, c.count-count.ensures.few);
+    }
 
 pub returns : goal.returns
 returns g c =
     let rows = c.args.rows.now in
-    let none : length (entries_at c.loop-row.row-index rows) ≡ 0 = ap (λ es. length es) (at_end rows c.loop-row.row-index (search rules)) in
+    let none : length (entries_at c.loop-row.row-index rows) ≡ 0 =
+    ap (λ es. length es) (at_end rows c.loop-row.row-index (search rules)) in
     omega (arith, c.loop-row.invariant.all)

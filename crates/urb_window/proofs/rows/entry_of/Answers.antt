@@ -1,4 +1,5 @@
-use Rattle.std.proofs.Common.{◌≡◌, ◌≤◌, ◌<◌, ◌+◌, ◌-◌, List, ℕ, rules, arith, ap, sym, ◌∙◌, length, Some, None, option_map}
+use Rattle.std.proofs.Common.{◌≡◌, ◌≤◌, ◌<◌, ◌+◌, ◌-◌, List, ℕ, rules, arith, ap, sym, ◌∙◌, length}
+use Rattle.std.proofs.Common.{Some, None, option_map}
 use Rattle.std.specs.Prelude.{slice_get}
 use Rattle.urb_names.specs.Names.{name}
 use Rattle.urb_window.specs.Row.{AreOver, pairs_of}
@@ -9,8 +10,10 @@ use Rattle.urb_window.proofs.rows.entry_of.Goals as goal
 pub invariant_of-result : goal.invariant_of-result
 invariant_of-result g c =
     let row = c.index-rows-i.result in
-    let got : slice_get (pairs_of row) c.loop-i.left ≡ Some (c.in_ok-seq.seq, c.in_ok-seq.value.now) = sym c.in_ok-seq.ensures in
-    pair_over 0 (pairs_of row) c.loop-i.left (c.in_ok-seq.seq, c.in_ok-seq.value.now) (pairs_over row c.limits.ensures) got
+    let got : slice_get (pairs_of row) c.loop-i.left ≡ Some
+    (c.in_ok-seq.seq, c.in_ok-seq.value.now) = sym c.in_ok-seq.ensures in
+    pair_over 0 (pairs_of row) c.loop-i.left (c.in_ok-seq.seq, c.in_ok-seq.value.now)
+    (pairs_over row c.recall.ensures) got
 
 pub returns-then-left-count : goal.returns-then-left-count
 returns-then-left-count g c =
@@ -20,10 +23,12 @@ returns-then-left-count g c =
     let row = c.index-rows-i.result in
     let within : i < length rows = search rules in
     let few : j < length (pairs_of row) = search rules in
-    let got : slice_get (pairs_of row) j ≡ Some (c.in_ok-seq.seq, c.in_ok-seq.value.now) = sym c.in_ok-seq.ensures in
+    let got : slice_get (pairs_of row) j ≡ Some (c.in_ok-seq.seq, c.in_ok-seq.value.now) =
+    sym c.in_ok-seq.ensures in
     let at : c.in_ok-sender.sender ≡ i + 1 = search rules in
     ap (λ s. Some (name s c.in_ok-seq.seq, c.in_ok-seq.value.now)) at
-    ∙ (sym (entry_within rows i row j within c.index-rows-i.is few ∙ ap (option_map (λ p. (name (i + 1) p.0, p.1))) got) ∙ c.loop-i.invariant)
+    ∙ (sym (entry_within rows i row j within c.index-rows-i.is few
+    ∙ ap (option_map (λ p. (name (i + 1) p.0, p.1))) got) ∙ c.loop-i.invariant)
 
 pub loop-i-preserved : goal.loop-i-preserved
 loop-i-preserved g c =
@@ -34,4 +39,5 @@ loop-i-preserved g c =
     let within : i < length rows = search rules in
     let behind : length (pairs_of row) ≤ j = search rules in
     let count : c.count-count.result ≡ length (pairs_of row) = c.count-count.ensures.value in
-    ap (λ n. slice_get (entries_at (i + 1) rows) (j - n)) count ∙ (sym (entry_behind rows i row j within c.index-rows-i.is behind) ∙ c.loop-i.invariant)
+    ap (λ n. slice_get (entries_at (i + 1) rows) (j - n)) count
+    ∙ (sym (entry_behind rows i row j within c.index-rows-i.is behind) ∙ c.loop-i.invariant)

@@ -6,4 +6,5 @@ use Rattle.urb_window.proofs.rows.entry_of.Given as goal
 
 -- the entry is among those of the remaining rows
 abbrev pub invariant-loop-i : goal.invariant-loop-i
-invariant-loop-i g l = slice_get (entries_at l.i l.rows) l.left ≡ slice_get (entries_from 1 l.rows) l.index
+invariant-loop-i g l =
+    slice_get (entries_at l.i l.rows) l.left ≡ slice_get (entries_from 1 l.rows) l.index

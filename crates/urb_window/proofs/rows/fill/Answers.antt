@@ -1,5 +1,7 @@
-use Rattle.std.proofs.Common.{◌≡◌, ◌≤◌, ◌<◌, ◌++◌, ◌∷◌, [], rules, arith, ap, sym, ◌∙◌, subst, length}
+use Rattle.std.proofs.Common.{◌≡◌, ◌≤◌, ◌<◌, ◌++◌, ◌∷◌, [], rules, arith, ap, sym, ◌∙◌, subst}
+use Rattle.std.proofs.Common.{length}
 use Rattle.std.specs.List.{AllByRecursion}
+use Rattle.urb_names.specs.declared.limits.TheConstants.{MAX_SENDERS}
 use Rattle.urb_window.specs.Row.{IsRow}
 use Rattle.urb_window.specs.Rows.{entries_from, no_row}
 use Rattle.urb_window.proofs.Changed.{all_more, more_rows}
@@ -10,10 +12,12 @@ loop-alloc-preserved g c =
     let kept = c.loop-alloc.invariant in
     let rows = c.loop-alloc.rows.items in
     let push : c.push.new.self.items ≡ rows ++ no_row ∷ [] = search rules in
-    let few : length rows < 7 = search rules in
+    let few : length rows < MAX_SENDERS = search rules in
     record {
       entries = ap (entries_from 1) push ∙ (more_rows 1 rows ∙ kept.entries);
       all = λ h. subst (AllByRecursion IsRow) (sym push) (all_more rows (kept.all h));
       most = search rules;
-      full = λ e. let same : length rows ≡ 7 = ap (λ rs. length rs) (kept.full e) ∙ e in absurd (omega arith);
+      full =
+          λ e. let same : length rows ≡ MAX_SENDERS = ap (λ rs. length rs) (kept.full e) ∙ e in
+          absurd (omega arith);
     }

@@ -1,4 +1,5 @@
-use Rattle.std.proofs.Common.{◌≡◌, ◌≤◌, ◌<◌, ◌+◌, [], List, ℕ, rules, arith, ap, sym, ◌∙◌, length, Some, None, option_map}
+use Rattle.std.proofs.Common.{◌≡◌, ◌≤◌, ◌<◌, ◌+◌, [], List, ℕ, rules, arith, ap, sym, ◌∙◌, length}
+use Rattle.std.proofs.Common.{Some, None, option_map}
 use Rattle.std.specs.Prelude.{slice_get}
 use Rattle.urb_names.specs.Names.{name}
 use Rattle.urb_window.specs.Row.{AreOver, pairs_of}
@@ -9,8 +10,10 @@ use Rattle.urb_window.proofs.rows.first_from.Goals as goal
 pub invariant_of-result : goal.invariant_of-result
 invariant_of-result g c =
     let row = c.index-rows-i.result in
-    let got : slice_get (pairs_of row) 0 ≡ Some (c.in-Some.seq, c.in-Some.field-0-1.now) = sym c.in-Some.ensures in
-    pair_over 0 (pairs_of row) 0 (c.in-Some.seq, c.in-Some.field-0-1.now) (pairs_over row c.limits.ensures) got
+    let got : slice_get (pairs_of row) 0 ≡ Some (c.in-Some.seq, c.in-Some.field-0-1.now) =
+    sym c.in-Some.ensures in
+    pair_over 0 (pairs_of row) 0 (c.in-Some.seq, c.in-Some.field-0-1.now)
+    (pairs_over row c.recall.ensures) got
 
 pub returns-in-Some : goal.returns-in-Some
 returns-in-Some g c =
@@ -18,10 +21,14 @@ returns-in-Some g c =
     let i = c.loop-i.i in
     let row = c.index-rows-i.result in
     let within : i < length rows = search rules in
-    let got : slice_get (pairs_of row) 0 ≡ Some (c.in-Some.seq, c.in-Some.field-0-1.now) = sym c.in-Some.ensures in
+    let got : slice_get (pairs_of row) 0 ≡ Some (c.in-Some.seq, c.in-Some.field-0-1.now) =
+    sym c.in-Some.ensures in
     let at : c.in_ok-sender.sender ≡ i + 1 = search rules in
     ap (λ s. Some (name s c.in-Some.seq)) at
-    ∙ ap (option_map (λ entry. entry.0)) (sym (first_within rows i row (c.in-Some.seq, c.in-Some.field-0-1.now) within c.index-rows-i.is got) ∙ c.loop-i.invariant.first)
+    ∙ ap (option_map (λ entry. entry.0))
+    (sym (first_within rows i row
+    (c.in-Some.seq, c.in-Some.field-0-1.now) within c.index-rows-i.is got)
+    ∙ c.loop-i.invariant.first)
 
 pub loop-i-preserved : goal.loop-i-preserved
 loop-i-preserved g c =
@@ -30,4 +37,8 @@ loop-i-preserved g c =
     let row = c.index-rows-i.result in
     let within : i < length rows = search rules in
     let got : slice_get (pairs_of row) 0 ≡ None = search rules in
-    record { from = omega (arith, c.loop-i.invariant.from); first = sym (no_first rows i row within c.index-rows-i.is got) ∙ c.loop-i.invariant.first }
+    record {
+      from = omega (arith, c.loop-i.invariant.from);
+      first =
+          sym (no_first rows i row within c.index-rows-i.is got) ∙ c.loop-i.invariant.first;
+    }

@@ -8,7 +8,8 @@ returns-in-Some g c =
     let pair = c.in-Some.pair.now in
     let within : c.args.place < length pairs = search rules in
     let read : pair ≡ get_or pairs c.args.place pair = search rules in
-    ap (λ p. p.0 == c.args.number) read ∙ sym (holds_there pairs c.args.place c.args.number pair within)
+    ap (λ p. p.0 == c.args.number) read
+    ∙ sym (holds_there pairs c.args.place c.args.number pair within)
 
 pub returns-in-None : goal.returns-in-None
 returns-in-None g c =

@@ -10,4 +10,5 @@ returns-clause-place g c =
     let facts = c.partition_point.ensures in
     let bound : c.partition_point.result ≤ length pairs = search rules in
     point_is (λ pair. nat_lt pair.0 n) pairs _ bound
-    (IsPartitionPoint-from_clause (λ pair. nat_lt pair.0 n) pairs _ facts.partitioned (parted 0 pairs n c.requires) (λ a r f' k. search rules))
+    (IsPartitionPoint-from_clause (λ pair. nat_lt pair.0 n) pairs _ facts.partitioned
+    (parted 0 pairs n c.requires) (λ a r f' k. search rules))

@@ -1,4 +1,5 @@
-use Rattle.std.proofs.Common.{◌≡◌, ◌<◌, ◌≤◌, ◌+◌, ◌^◌, ◌∷◌, ◌++◌, [], List, ℕ, rules, arith, ap, sym, ◌∙◌, subst, false, length}
+use Rattle.std.proofs.Common.{◌≡◌, ◌<◌, ◌≤◌, ◌+◌, ◌^◌, ◌∷◌, ◌++◌, [], List, ℕ, rules, arith, ap}
+use Rattle.std.proofs.Common.{sym, ◌∙◌, subst, false, length}
 use Rattle.urb_window.specs.Row.{AreOver, counted_from, holds_at}
 use Rattle.urb_window.proofs.Closed.{IsMoved, gap_is, moves}
 use Rattle.urb_window.proofs.window.close_gap.Goals as goal
@@ -14,9 +15,12 @@ loop-value-preserved g c =
     let some : above ≡ (c.len.result + 1, v) ∷ rest = search rules in
     let first : above ≡ (length low + 1, v) ∷ rest = some ∙ ap (λ n. (n + 1, v) ∷ rest) long in
     let push : c.push_reserved.new.self.items ≡ low ++ v ∷ [] = c.push_reserved.ensures.items in
-    let moved : IsMoved low ((length low + 1, v) ∷ rest) (low ++ v ∷ []) rest = moves low v rest (subst (AreOver (length low)) first kept.over) in
+    let moved : IsMoved low ((length low + 1, v) ∷ rest) (low ++ v ∷ []) rest =
+    moves low v rest (subst (AreOver (length low)) first kept.over) in
     record {
-      pairs = ap (λ vs. counted_from 1 vs ++ rest) push ∙ (moved.pairs ∙ (ap (λ ps. counted_from 1 low ++ ps) (sym first) ∙ kept.pairs));
+      pairs =
+          ap (λ vs. counted_from 1 vs ++ rest) push
+          ∙ (moved.pairs ∙ (ap (λ ps. counted_from 1 low ++ ps) (sym first) ∙ kept.pairs));
       over = subst (λ vs. AreOver (length vs) rest) (sym push) moved.over;
       few = subst (λ vs. length vs < 2 ^ 32) (sym push) moved.few;
       room = search rules;
@@ -32,5 +36,7 @@ returns-clause-row g c =
     let same : c.take_first.new.above.items ≡ above = search rules in
     record {
       low = kept.few;
-      above = subst (AreOver (length low + 1)) (sym same) (gap_is (length low) above kept.over (ap (holds_at above 0) (sym long) ∙ none));
+      above =
+          subst (AreOver (length low + 1)) (sym same)
+          (gap_is (length low) above kept.over (ap (holds_at above 0) (sym long) ∙ none));
     }

@@ -1,4 +1,4 @@
-use Rattle.urb_worker.proofs.Others.{all-survive}
+use Rattle.urb_worker.proofs.OtherNodes.{all-survive}
 use Rattle.urb_worker.proofs.laws.a_stop_of_all_nodes_is_survived.Goals as goal
 
 pub returns : goal.returns

@@ -8,5 +8,7 @@ use Rattle.urb_certified.proofs.certified.Certified.has.Goals as goal
 pub returns : goal.returns
 returns g c =
     let x = c.args.name in
-    let here : c.has.result ≡ has_name (all_names c.self.inside.low c.self.inside.above.items) x = search rules in
-    here ∙ (sym (held_has c.self.inside.low c.self.inside.above.items x) ∙ ap (λ (d : Certificates). has_name d.names x) c.self.view_is)
+    let here : c.has.result ≡ has_name (all_names c.self.inside.low c.self.inside.above.items) x =
+    search rules in
+    here ∙ (sym (held_has c.self.inside.low c.self.inside.above.items x)
+    ∙ ap (λ (d : Certificates). has_name d.names x) c.self.view_is)

@@ -1,4 +1,4 @@
-use Rattle.urb_group.proofs.ClusterSteps.{ticks-tied}
+use Rattle.urb_group.proofs.calls.DraftsInCalls.{ticks-tied}
 use Rattle.urb_group.proofs.cluster.Cluster.tick.Goals as goal
 
 pub invariant_of-self : goal.invariant_of-self

@@ -3,44 +3,83 @@ use Rattle.std.proofs.lemmas.Result.{err_from_is_err_and}
 use Rattle.std.specs.Prelude.{slice_get}
 use Rattle.urb_names.specs.Packets.{packet_of}
 use Rattle.urb_group.specs.Moving.{ArrivesAt}
-use Rattle.urb_group.proofs.Answered.{was_read}
-use Rattle.urb_group.proofs.Reached.{arrive-elsewhere, arrive-fault, arrive-moved, may_reach}
+use Rattle.urb_group.proofs.shown.NodeAnswers.{was_read}
+use Rattle.urb_group.proofs.moves.PacketsAtNodes.{arrive-elsewhere, arrive-fault, arrive-moved}
+use Rattle.urb_group.proofs.moves.PacketsAtNodes.{may_reach}
 use Rattle.urb_group.proofs.group.Group.arrive.Goals as goal
 
 pub returns-in_err-packet : goal.returns-in_err-packet
 returns-in_err-packet g c =
     let p = err_from_is_err_and c.from_residual.result c.from_residual.ensures.1 in
-    rw (p.1, p.2) (arrive-fault c.args.self.now c.args.node (packet_of c.args.bytes.now) c.in_err-packet.field-0.0 c.in_err-packet.ensures.exact)
+    rw (p.1, p.2) (arrive-fault c.args.self.now c.args.node
+    (packet_of c.args.bytes.now) c.in_err-packet.field-0.0 c.in_err-packet.ensures.exact)
 
 pub returns-in_default : goal.returns-in_default
 returns-in_default g c =
     rw (← c.self.view_is)
-    (arrive-elsewhere c.self.inside.config c.self.inside.nodes.items c.args.node (packet_of c.args.bytes.now) c.in_ok-packet.packet c.in_ok-packet.ensures.exact c.in_default.ensures)
+    (arrive-elsewhere c.self.inside.config c.self.inside.nodes.items c.args.node
+    (packet_of c.args.bytes.now) c.in_ok-packet.packet c.in_ok-packet.ensures.exact
+    c.in_default.ensures)
 
 pub index-requires : goal.index-requires
-index-requires g c = omega (arith, c.in-Some.ensures.source.1, c.self.invariant.placed.count, c.self.inside.nodes.ok.0)
+index-requires g c =
+    omega (
+      arith,
+      c.in-Some.ensures.source.1,
+      c.self.invariant.placed.count,
+      c.self.inside.nodes.ok.0,
+    )
 
 pub move_at-requires-clause-within : goal.move_at-requires-clause-within
-move_at-requires-clause-within g c = omega (arith, c.in-Some.ensures.target.2, c.self.invariant.placed.count, c.self.inside.nodes.ok.0)
+move_at-requires-clause-within g c =
+    omega (
+      arith,
+      c.in-Some.ensures.target.2,
+      c.self.invariant.placed.count,
+      c.self.inside.nodes.ok.0,
+    )
 
 pub move_at-requires-clause-callable : goal.move_at-requires-clause-callable
 move_at-requires-clause-callable g c node was k h l o =
-    let from : slice_get c.self.inside.nodes.items c.in-Some.source ≡ Some c.index.result.now = was_read c.self.inside.nodes.items c.in-Some.source c.self.inside.config.n c.index.result.now c.self.invariant.placed.count c.in-Some.ensures.source.1 c.index.ensures in
-    (may_reach c.self.inside.config c.self.inside.nodes.items c.self.invariant c.args.node c.in-Some.at c.in-Some.source c.in_ok-packet.packet c.tells_truth-is_truthful.result c.index.result.now c.in-Some.ensures from c.tells_truth-is_truthful.ensures node was, c.known_at-known.ensures)
+    let from : slice_get c.self.inside.nodes.items c.in-Some.source ≡ Some c.index.result.now =
+    was_read c.self.inside.nodes.items c.in-Some.source c.self.inside.config.n
+    c.index.result.now c.self.invariant.placed.count c.in-Some.ensures.source.1
+    c.index.ensures in (
+      may_reach c.self.inside.config c.self.inside.nodes.items c.self.invariant c.args.node
+          c.in-Some.at c.in-Some.source c.in_ok-packet.packet c.tells_truth-is_truthful.result
+          c.index.result.now c.in-Some.ensures from c.tells_truth-is_truthful.ensures node was,
+      c.share_stored-known.ensures,
+    )
 
 pub invariant_of-self : goal.invariant_of-self
 invariant_of-self g c =
-    let from : slice_get c.self.inside.nodes.items c.in-Some.source ≡ Some c.index.result.now = was_read c.self.inside.nodes.items c.in-Some.source c.self.inside.config.n c.index.result.now c.self.invariant.placed.count c.in-Some.ensures.source.1 c.index.ensures in
+    let from : slice_get c.self.inside.nodes.items c.in-Some.source ≡ Some c.index.result.now =
+    was_read c.self.inside.nodes.items c.in-Some.source c.self.inside.config.n
+    c.index.result.now c.self.invariant.placed.count c.in-Some.ensures.source.1
+    c.index.ensures in
     let move = c.move_at.ensures in
-    let step : ArrivesAt move.node c.in_ok-packet.packet c.tells_truth-is_truthful.result (move.moved, c.move_at.result) = search rules in
-    (arrive-moved c.self.inside.config c.self.inside.nodes.items c.self.invariant c.args.node c.in-Some.at c.in-Some.source c.in_ok-packet.packet c.tells_truth-is_truthful.result c.index.result.now c.in-Some.ensures from c.tells_truth-is_truthful.ensures
-    (packet_of c.args.bytes.now) c.move_at.new.nodes.items c.move_at.result c.in_ok-packet.ensures.exact (record { node = move.node; moved = move.moved; was = move.was; step = step; is = move.is })).1
+    let step : ArrivesAt move.node c.in_ok-packet.packet c.tells_truth-is_truthful.result
+    (move.moved, c.move_at.result) = search rules in
+    (arrive-moved c.self.inside.config c.self.inside.nodes.items c.self.invariant c.args.node
+    c.in-Some.at c.in-Some.source c.in_ok-packet.packet c.tells_truth-is_truthful.result
+    c.index.result.now c.in-Some.ensures from c.tells_truth-is_truthful.ensures
+    (packet_of c.args.bytes.now) c.move_at.new.nodes.items c.move_at.result
+    c.in_ok-packet.ensures.exact (record
+    { node = move.node; moved = move.moved; was = move.was; step = step; is = move.is })).1
 
 pub returns : goal.returns
 returns g c =
-    let from : slice_get c.self.inside.nodes.items c.in-Some.source ≡ Some c.index.result.now = was_read c.self.inside.nodes.items c.in-Some.source c.self.inside.config.n c.index.result.now c.self.invariant.placed.count c.in-Some.ensures.source.1 c.index.ensures in
+    let from : slice_get c.self.inside.nodes.items c.in-Some.source ≡ Some c.index.result.now =
+    was_read c.self.inside.nodes.items c.in-Some.source c.self.inside.config.n
+    c.index.result.now c.self.invariant.placed.count c.in-Some.ensures.source.1
+    c.index.ensures in
     let move = c.move_at.ensures in
-    let step : ArrivesAt move.node c.in_ok-packet.packet c.tells_truth-is_truthful.result (move.moved, c.move_at.result) = search rules in
+    let step : ArrivesAt move.node c.in_ok-packet.packet c.tells_truth-is_truthful.result
+    (move.moved, c.move_at.result) = search rules in
     rw (← c.self.view_is)
-    (arrive-moved c.self.inside.config c.self.inside.nodes.items c.self.invariant c.args.node c.in-Some.at c.in-Some.source c.in_ok-packet.packet c.tells_truth-is_truthful.result c.index.result.now c.in-Some.ensures from c.tells_truth-is_truthful.ensures
-    (packet_of c.args.bytes.now) c.move_at.new.nodes.items c.move_at.result c.in_ok-packet.ensures.exact (record { node = move.node; moved = move.moved; was = move.was; step = step; is = move.is })).0
+    (arrive-moved c.self.inside.config c.self.inside.nodes.items c.self.invariant c.args.node
+    c.in-Some.at c.in-Some.source c.in_ok-packet.packet c.tells_truth-is_truthful.result
+    c.index.result.now c.in-Some.ensures from c.tells_truth-is_truthful.ensures
+    (packet_of c.args.bytes.now) c.move_at.new.nodes.items c.move_at.result
+    c.in_ok-packet.ensures.exact (record
+    { node = move.node; moved = move.moved; was = move.was; step = step; is = move.is })).0

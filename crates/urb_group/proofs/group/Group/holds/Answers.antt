@@ -3,8 +3,11 @@ use Rattle.urb_names.specs.Nodes.{is_node}
 use Rattle.urb_names.specs.Pairs.{message_of}
 use Rattle.urb_stable.specs.Records.{pend}
 use Rattle.urb_group.specs.World.{stored}
-use Rattle.urb_group.proofs.Answered.{answers_some}
+use Rattle.urb_group.proofs.shown.NodeAnswers.{answers_some}
 use Rattle.urb_group.proofs.group.Group.holds.Goals as goal
 
 pub returns : goal.returns
-returns g c = λ w s. c.is_some.ensures ∙ answers_some (λ m. m.now) (is_node w.size.n c.args.node) c.message.result (message_of (pend (stored w c.args.node)) c.args.name) (c.message.ensures w s)
+returns g c =
+    λ w s. c.is_some.ensures ∙ answers_some (λ m. m.now)
+    (is_node w.size.n c.args.node) c.message.result
+    (message_of (pend (stored w c.args.node)) c.args.name) (c.message.ensures w s)

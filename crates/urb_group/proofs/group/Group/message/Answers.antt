@@ -2,16 +2,23 @@ use Rattle.std.proofs.Common.{arith, option_map}
 use Rattle.urb_names.specs.Naming.{Content}
 use Rattle.urb_names.specs.Pairs.{message_of}
 use Rattle.urb_stable.specs.Records.{pend}
-use Rattle.urb_group.proofs.Answered.{answered, unanswered}
+use Rattle.urb_group.proofs.shown.NodeAnswers.{answered, unanswered}
 use Rattle.urb_group.proofs.group.Group.message.Goals as goal
 
 pub returns-in_err-at : goal.returns-in_err-at
-returns-in_err-at g c = rw (← c.self.view_is, c.from_residual.ensures) (unanswered c.self.inside.config c.self.inside.nodes.items c.self.invariant Content (λ n. message_of (pend n.records) c.args.name) c.args.node c.in_err-at.ensures)
+returns-in_err-at g c =
+    rw (← c.self.view_is, c.from_residual.ensures)
+    (unanswered c.self.inside.config c.self.inside.nodes.items c.self.invariant Content
+    (λ n. message_of (pend n.records) c.args.name) c.args.node c.in_err-at.ensures)
 
 pub index-requires : goal.index-requires
-index-requires g c = omega (arith, c.in_ok-at.ensures.0, c.self.invariant.placed.count, c.self.inside.nodes.ok.0)
+index-requires g c =
+    omega (arith, c.in_ok-at.ensures.0, c.self.invariant.placed.count, c.self.inside.nodes.ok.0)
 
 pub returns : goal.returns
 returns g c =
     rw (← c.self.view_is)
-    (answered c.self.inside.config c.self.inside.nodes.items c.self.invariant Content (λ n. message_of (pend n.records) c.args.name) c.in_ok-at.at c.args.node c.index.result.now (option_map (λ m. m.now) c.message.result) c.index.ensures c.in_ok-at.ensures.0 c.in_ok-at.ensures.1 c.message.ensures)
+    (answered c.self.inside.config c.self.inside.nodes.items c.self.invariant Content
+    (λ n. message_of (pend n.records) c.args.name) c.in_ok-at.at c.args.node c.index.result.now
+    (option_map (λ m. m.now) c.message.result)
+    c.index.ensures c.in_ok-at.ensures.0 c.in_ok-at.ensures.1 c.message.ensures)

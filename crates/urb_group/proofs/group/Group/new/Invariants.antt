@@ -1,5 +1,5 @@
 use Rattle.std.proofs.Common.{vec_capacity, vec_len, ◌≡◌, ◌≤◌}
-use Rattle.urb_group.proofs.NewPlaces.{first_places}
+use Rattle.urb_group.proofs.moves.NewPlaces.{first_places}
 use Rattle.urb_group.proofs.group.Group.new.Given as goal
 
 -- the nodes so far, and room for all

@@ -1,13 +1,16 @@
-use Rattle.std.proofs.Common.{List, None, Some, [], add-one, arith, length, map, refl, rules, subst, suc, sym, ℕ, ◌+◌, ◌++◌, ◌∙◌, ◌∷◌, ◌≡◌, ◌≤◌}
+use Rattle.std.proofs.Common.{List, None, Some, [], add-one, arith, length, map, refl, rules, subst}
+use Rattle.std.proofs.Common.{suc, sym, ℕ, ◌+◌, ◌++◌, ◌∙◌, ◌∷◌, ◌≡◌, ◌≤◌}
 use Rattle.std.proofs.lemmas.List.{length-map}
 use Rattle.std.specs.List.{All}
+use Rattle.urb_names.specs.declared.limits.TheConstants.{MAX_NODES}
 use Rattle.urb_node.specs.Part.{opened_node}
 use Rattle.urb_node.specs.Values.{ShowsReady}
 use Rattle.urb_stable.specs.Entries.{IsEntry}
 use Rattle.urb_stable.specs.Fitting.{KeepsOwn, first_misfit}
 use Rattle.urb_stable.specs.Images.{image_of}
-use Rattle.urb_group.proofs.NewPlaces.{some_from, value_from}
-use Rattle.urb_group.proofs.OpenedPlaces.{HasOpened, all-group, all-opens, more-opened, next-counted, next-keeps, none-opened}
+use Rattle.urb_group.proofs.moves.NewPlaces.{some_from, value_from}
+use Rattle.urb_group.proofs.moves.OpenedPlaces.{HasOpened, all-group, all-opens, more-opened}
+use Rattle.urb_group.proofs.moves.OpenedPlaces.{next-counted, next-keeps, none-opened}
 use Rattle.urb_group.specs.World.{AreImages}
 use Rattle.urb_group.proofs.group.Group.open.Goals as goal
 
@@ -18,81 +21,163 @@ none_left (x ∷ xs) n e z = absurd (omega arith)
 pub returns-in-Some : goal.returns-in-Some
 returns-in-Some g c =
     let same : c.deref-2.result.now ≡ c.args.images.items = search rules in
-    subst (λ xs. first_misfit c.args.config (image_of (map (λ image. image.items) xs)) ≡ Some c.in-Some.misfit) same (sym c.in_ok-misfit.ensures ∙ c.in-Some.is)
+    subst (λ xs. first_misfit c.args.config (image_of (map (λ image. image.items) xs))
+    ≡ Some c.in-Some.misfit) same (sym c.in_ok-misfit.ensures ∙ c.in-Some.is)
 
 pub loop-image-init : goal.loop-image-init
 loop-image-init g c =
     let empty : c.in_ok-nodes.nodes.items ≡ [] = search rules in
     record {
       opened =
-          subst (λ left. HasOpened (λ image. image.items) c.args.config c.args.images.items [] left 0 c.in_ok-nodes.nodes.items) (sym c.into_iter-image-iterator.ensures.into_iter_gives.0)
-          (subst (λ places. HasOpened (λ image. image.items) c.args.config c.args.images.items [] c.args.images.items 0 places) (sym empty) (none-opened (λ image. image.items) c.args.config c.args.images.items));
+          subst (λ left. HasOpened (λ image. image.items) c.args.config c.args.images.items
+          [] left 0 c.in_ok-nodes.nodes.items)
+          (sym c.into_iter-image-iterator.ensures.into_iter_gives.0)
+          (subst (λ places. HasOpened (λ image. image.items) c.args.config c.args.images.items
+          [] c.args.images.items 0 places) (sym empty)
+          (none-opened (λ image. image.items) c.args.config c.args.images.items));
       count = search rules;
-      room = omega (arith, c.in_ok-nodes.ensures.capacity, c.requires, c.n-n.ensures.value, c.from.ensures);
+      room =
+          omega (
+            arith,
+            c.in_ok-nodes.ensures.capacity,
+            c.requires,
+            c.n-n.ensures.value,
+            c.from.ensures,
+          );
     }
 
 pub unwrap-node-requires : goal.unwrap-node-requires
 unwrap-node-requires g c =
-    let opened = subst (λ left. HasOpened (λ image. image.items) c.args.config c.args.images.items c.loop-image.yielded left c.loop-image.number c.loop-image.nodes.items) c.in-Some-image.ensures.steps.0 c.loop-image.invariant.opened in
-    let few = next-counted (λ image. image.items) c.args.config c.args.images.items c.loop-image.yielded c.next.new.self.rest.items c.in-Some-image.image c.loop-image.number c.loop-image.nodes.items opened in
-    let below : c.loop-image.number + 1 ≤ 7 = omega (arith, few, c.requires, c.n-n.ensures.range.1) in
+    let opened =
+    subst (λ left. HasOpened (λ image. image.items)
+    c.args.config c.args.images.items c.loop-image.yielded left c.loop-image.number
+    c.loop-image.nodes.items) c.in-Some-image.ensures.steps.0 c.loop-image.invariant.opened in
+    let few =
+    next-counted (λ image. image.items)
+    c.args.config c.args.images.items c.loop-image.yielded c.next.new.self.rest.items
+    c.in-Some-image.image c.loop-image.number c.loop-image.nodes.items opened in
+    let below : c.loop-image.number + 1 ≤ MAX_NODES =
+    omega (arith, few, c.requires, c.n-n.ensures.range.1) in
     some_from c.new.result _ c.new.ensures (omega arith, below)
 
-pub opened_beside-requires-clause-node : goal.opened_beside-requires-clause-node
-opened_beside-requires-clause-node g c =
-    let opened = subst (λ left. HasOpened (λ image. image.items) c.args.config c.args.images.items c.loop-image.yielded left c.loop-image.number c.loop-image.nodes.items) c.in-Some-image.ensures.steps.0 c.loop-image.invariant.opened in
-    let few = next-counted (λ image. image.items) c.args.config c.args.images.items c.loop-image.yielded c.next.new.self.rest.items c.in-Some-image.image c.loop-image.number c.loop-image.nodes.items opened in
-    let is : c.unwrap-node.result ≡ c.loop-image.number + 1 = value_from c.new.result _ (c.loop-image.number + 1) c.unwrap-node.result c.new.ensures c.unwrap-node.ensures in
+pub open_beside-requires-clause-node : goal.open_beside-requires-clause-node
+open_beside-requires-clause-node g c =
+    let opened =
+    subst (λ left. HasOpened (λ image. image.items)
+    c.args.config c.args.images.items c.loop-image.yielded left c.loop-image.number
+    c.loop-image.nodes.items) c.in-Some-image.ensures.steps.0 c.loop-image.invariant.opened in
+    let few =
+    next-counted (λ image. image.items)
+    c.args.config c.args.images.items c.loop-image.yielded c.next.new.self.rest.items
+    c.in-Some-image.image c.loop-image.number c.loop-image.nodes.items opened in
+    let is : c.unwrap-node.result ≡ c.loop-image.number + 1 =
+    value_from c.new.result _ (c.loop-image.number + 1)
+    c.unwrap-node.result c.new.ensures c.unwrap-node.ensures in
     omega (arith, few, is, c.requires)
 
-pub opened_beside-requires-clause-rules : goal.opened_beside-requires-clause-rules
-opened_beside-requires-clause-rules g c =
-    let opened = subst (λ left. HasOpened (λ image. image.items) c.args.config c.args.images.items c.loop-image.yielded left c.loop-image.number c.loop-image.nodes.items) c.in-Some-image.ensures.steps.0 c.loop-image.invariant.opened in
+pub open_beside-requires-clause-rules : goal.open_beside-requires-clause-rules
+open_beside-requires-clause-rules g c =
+    let opened =
+    subst (λ left. HasOpened (λ image. image.items)
+    c.args.config c.args.images.items c.loop-image.yielded left c.loop-image.number
+    c.loop-image.nodes.items) c.in-Some-image.ensures.steps.0 c.loop-image.invariant.opened in
     let same : c.deref-2.result.now ≡ c.args.images.items = search rules in
     let read : c.deref.result.now ≡ c.args.images.items = search rules in
-    let none = subst (λ xs. first_misfit c.args.config (image_of (map (λ image. image.items) xs)) ≡ None) same (sym c.in_ok-misfit.ensures ∙ c.in_default.is) in
+    let none =
+    subst (λ xs. first_misfit c.args.config (image_of (map (λ image. image.items) xs)) ≡ None)
+    same (sym c.in_ok-misfit.ensures ∙ c.in_default.is) in
     let are : AreImages c.args.config (map (λ image. image.items) c.args.images.items) =
-    record { one_each = length-map c.args.images.items (λ image. image.items) ∙ c.requires; limits = subst (λ xs. All (All IsEntry) (map (λ image. image.items) xs)) read c.limits_of_images.ensures } in
-    let is : c.unwrap-node.result ≡ c.loop-image.number + 1 = value_from c.new.result _ (c.loop-image.number + 1) c.unwrap-node.result c.new.ensures c.unwrap-node.ensures in
-    subst (λ (p : ℕ). KeepsOwn c.args.config p [] c.in-Some-image.image.items) (sym (is ∙ add-one c.loop-image.number))
-    (next-keeps (λ image. image.items) c.args.config c.args.images.items c.loop-image.yielded c.next.new.self.rest.items c.in-Some-image.image c.loop-image.number c.loop-image.nodes.items opened are none)
+    record {
+      one_each = length-map c.args.images.items (λ image. image.items) ∙ c.requires;
+      limits =
+          subst (λ xs. All (All IsEntry) (map (λ image. image.items) xs))
+          read c.recall_images.ensures;
+    } in
+    let is : c.unwrap-node.result ≡ c.loop-image.number + 1 =
+    value_from c.new.result _ (c.loop-image.number + 1)
+    c.unwrap-node.result c.new.ensures c.unwrap-node.ensures in
+    subst (λ (p : ℕ). KeepsOwn c.args.config p [] c.in-Some-image.image.items)
+    (sym (is ∙ add-one c.loop-image.number))
+    (next-keeps (λ image. image.items)
+    c.args.config c.args.images.items c.loop-image.yielded c.next.new.self.rest.items
+    c.in-Some-image.image c.loop-image.number c.loop-image.nodes.items opened are none)
 
 pub push_reserved-requires : goal.push_reserved-requires
 push_reserved-requires g c =
-    let opened = subst (λ left. HasOpened (λ image. image.items) c.args.config c.args.images.items c.loop-image.yielded left c.loop-image.number c.loop-image.nodes.items) c.in-Some-image.ensures.steps.0 c.loop-image.invariant.opened in
-    let few = next-counted (λ image. image.items) c.args.config c.args.images.items c.loop-image.yielded c.next.new.self.rest.items c.in-Some-image.image c.loop-image.number c.loop-image.nodes.items opened in
+    let opened =
+    subst (λ left. HasOpened (λ image. image.items)
+    c.args.config c.args.images.items c.loop-image.yielded left c.loop-image.number
+    c.loop-image.nodes.items) c.in-Some-image.ensures.steps.0 c.loop-image.invariant.opened in
+    let few =
+    next-counted (λ image. image.items)
+    c.args.config c.args.images.items c.loop-image.yielded c.next.new.self.rest.items
+    c.in-Some-image.image c.loop-image.number c.loop-image.nodes.items opened in
     omega (arith, few, c.requires, c.loop-image.invariant.count, c.loop-image.invariant.room)
 
 pub loop-image-preserved : goal.loop-image-preserved
 loop-image-preserved g c =
-    let opened = subst (λ left. HasOpened (λ image. image.items) c.args.config c.args.images.items c.loop-image.yielded left c.loop-image.number c.loop-image.nodes.items) c.in-Some-image.ensures.steps.0 c.loop-image.invariant.opened in
+    let opened =
+    subst (λ left. HasOpened (λ image. image.items)
+    c.args.config c.args.images.items c.loop-image.yielded left c.loop-image.number
+    c.loop-image.nodes.items) c.in-Some-image.ensures.steps.0 c.loop-image.invariant.opened in
     let is : c.unwrap-node.result ≡ suc c.loop-image.number =
-    value_from c.new.result _ (c.loop-image.number + 1) c.unwrap-node.result c.new.ensures c.unwrap-node.ensures ∙ add-one c.loop-image.number in
-    let shows = subst (λ (p : ℕ). ShowsReady c.in_ok-ready.ready (opened_node p c.in-Some-image.image.items)) is c.in_ok-ready.ensures.2 in
+    value_from c.new.result _ (c.loop-image.number + 1)
+    c.unwrap-node.result c.new.ensures c.unwrap-node.ensures ∙ add-one c.loop-image.number in
+    let shows =
+    subst (λ (p : ℕ). ShowsReady c.in_ok-ready.ready
+    (opened_node p c.in-Some-image.image.items)) is c.in_ok-ready.ensures.2 in
     record {
       opened =
-          subst (λ (n : ℕ). HasOpened (λ image. image.items) c.args.config c.args.images.items (c.loop-image.yielded ++ c.in-Some-image.image ∷ []) c.next.new.self.rest.items n c.push_reserved.new.self.items) (sym (add-one c.loop-image.number))
-          (more-opened (λ image. image.items) c.args.config c.args.images.items c.loop-image.yielded c.next.new.self.rest.items c.in-Some-image.image c.loop-image.number c.loop-image.nodes.items c.push_reserved.new.self.items c.in_ok-ready.ready opened
-          c.in_ok-ready.ensures.0 (c.in_ok-ready.ensures.1 ∙ is) shows c.push_reserved.ensures.items);
+          subst (λ (n : ℕ). HasOpened (λ image. image.items) c.args.config c.args.images.items
+          (c.loop-image.yielded ++ c.in-Some-image.image ∷ [])
+          c.next.new.self.rest.items n c.push_reserved.new.self.items)
+          (sym (add-one c.loop-image.number))
+          (more-opened (λ image. image.items)
+          c.args.config c.args.images.items c.loop-image.yielded c.next.new.self.rest.items
+          c.in-Some-image.image c.loop-image.number c.loop-image.nodes.items
+          c.push_reserved.new.self.items c.in_ok-ready.ready opened
+          c.in_ok-ready.ensures.0 (c.in_ok-ready.ensures.1 ∙ is)
+          shows c.push_reserved.ensures.items);
       count = omega (arith, c.push_reserved.ensures.len, c.loop-image.invariant.count);
       room = omega (arith, c.push_reserved.ensures.capacity, c.loop-image.invariant.room);
     }
 
 pub invariant_of-result : goal.invariant_of-result
 invariant_of-result g c =
-    let gone : c.loop-image.image-iterator.rest.items ≡ [] = none_left c.loop-image.image-iterator.rest.items c.loop-image.image-iterator.rest.len c.loop-image.image-iterator.rest.ok.0 c.in-None.ensures.steps.0 in
+    let gone : c.loop-image.image-iterator.rest.items ≡ [] =
+    none_left c.loop-image.image-iterator.rest.items c.loop-image.image-iterator.rest.len
+    c.loop-image.image-iterator.rest.ok.0 c.in-None.ensures.steps.0 in
     let same : c.deref-2.result.now ≡ c.args.images.items = search rules in
     let read : c.deref.result.now ≡ c.args.images.items = search rules in
-    let none = subst (λ xs. first_misfit c.args.config (image_of (map (λ image. image.items) xs)) ≡ None) same (sym c.in_ok-misfit.ensures ∙ c.in_default.is) in
+    let none =
+    subst (λ xs. first_misfit c.args.config (image_of (map (λ image. image.items) xs)) ≡ None)
+    same (sym c.in_ok-misfit.ensures ∙ c.in_default.is) in
     let are : AreImages c.args.config (map (λ image. image.items) c.args.images.items) =
-    record { one_each = length-map c.args.images.items (λ image. image.items) ∙ c.requires; limits = subst (λ xs. All (All IsEntry) (map (λ image. image.items) xs)) read c.limits_of_images.ensures } in
-    all-group (λ image. image.items) c.args.config c.args.images.items c.loop-image.yielded c.loop-image.number c.loop-image.nodes.items
-    (subst (λ left. HasOpened (λ image. image.items) c.args.config c.args.images.items c.loop-image.yielded left c.loop-image.number c.loop-image.nodes.items) gone c.loop-image.invariant.opened) are none
+    record {
+      one_each = length-map c.args.images.items (λ image. image.items) ∙ c.requires;
+      limits =
+          subst (λ xs. All (All IsEntry) (map (λ image. image.items) xs))
+          read c.recall_images.ensures;
+    } in
+    all-group (λ image. image.items)
+    c.args.config c.args.images.items c.loop-image.yielded c.loop-image.number
+    c.loop-image.nodes.items
+    (subst (λ left. HasOpened (λ image. image.items)
+    c.args.config c.args.images.items c.loop-image.yielded left c.loop-image.number
+    c.loop-image.nodes.items) gone c.loop-image.invariant.opened) are none
 
 pub returns : goal.returns
 returns g c =
-    let gone : c.loop-image.image-iterator.rest.items ≡ [] = none_left c.loop-image.image-iterator.rest.items c.loop-image.image-iterator.rest.len c.loop-image.image-iterator.rest.ok.0 c.in-None.ensures.steps.0 in
+    let gone : c.loop-image.image-iterator.rest.items ≡ [] =
+    none_left c.loop-image.image-iterator.rest.items c.loop-image.image-iterator.rest.len
+    c.loop-image.image-iterator.rest.ok.0 c.in-None.ensures.steps.0 in
     let same : c.deref-2.result.now ≡ c.args.images.items = search rules in
-    let none = subst (λ xs. first_misfit c.args.config (image_of (map (λ image. image.items) xs)) ≡ None) same (sym c.in_ok-misfit.ensures ∙ c.in_default.is) in
-    all-opens (λ image. image.items) c.args.config c.args.images.items c.loop-image.yielded c.loop-image.number c.loop-image.nodes.items
-    (subst (λ left. HasOpened (λ image. image.items) c.args.config c.args.images.items c.loop-image.yielded left c.loop-image.number c.loop-image.nodes.items) gone c.loop-image.invariant.opened) none
+    let none =
+    subst (λ xs. first_misfit c.args.config (image_of (map (λ image. image.items) xs)) ≡ None)
+    same (sym c.in_ok-misfit.ensures ∙ c.in_default.is) in
+    all-opens (λ image. image.items)
+    c.args.config c.args.images.items c.loop-image.yielded c.loop-image.number
+    c.loop-image.nodes.items
+    (subst (λ left. HasOpened (λ image. image.items)
+    c.args.config c.args.images.items c.loop-image.yielded left c.loop-image.number
+    c.loop-image.nodes.items) gone c.loop-image.invariant.opened) none

@@ -9,7 +9,9 @@ returns-else-has g c =
     let set = c.args.self.now in
     let none : acked set.counted c.args.name c.args.node ≡ false = search rules in
     let within : c.args.node ≤ set.limits.n = search rules in
-    let counts : c.is_majority.result ≡ is_majority (count_by (acked set.counted c.args.name) (nodes set.limits.n) + 1) set.limits.n = search rules in
+    let counts : c.is_majority.result ≡ is_majority
+    (count_by (acked set.counted c.args.name) (nodes set.limits.n) + 1) set.limits.n =
+    search rules in
     counts ∙ sym (with_new set c.args.name c.args.node c.number.ensures.range.0 within none)
 
 pub returns-then-number-n : goal.returns-then-number-n

@@ -11,7 +11,8 @@ index_mut-requires g c =
     let asked : has_room c.args.client rows ≡ true = search rules in
     let there = roomy_row c.args.client rows c.self.invariant asked in
     let place : c.place_of-place.result ≡ place_in c.args.client rows = search rules in
-    let within : c.place_of-place.result < length rows = row_within c.args.client rows there.row c.place_of-place.result there.held place in
+    let within : c.place_of-place.result < length rows =
+    row_within c.args.client rows there.row c.place_of-place.result there.held place in
     search rules
 
 pub push-requires : goal.push-requires
@@ -20,7 +21,9 @@ push-requires g c =
     let asked : has_room c.args.client rows ≡ true = search rules in
     let there = roomy_row c.args.client rows c.self.invariant asked in
     let place : c.place_of-place.result ≡ place_in c.args.client rows = search rules in
-    let here = (row_read c.args.client rows there.row c.index_mut.result.now c.place_of-place.result there.held place c.index_mut.ensures.value).1 in
+    let here =
+    (row_read c.args.client rows there.row c.index_mut.result.now c.place_of-place.result
+    there.held place c.index_mut.ensures.value).1 in
     ap (λ (row : Row). row.room) here ∙ there.room
 
 pub invariant_of-self : goal.invariant_of-self
@@ -29,8 +32,12 @@ invariant_of-self g c =
     let asked : has_room c.args.client rows ≡ true = search rules in
     let there = roomy_row c.args.client rows c.self.invariant asked in
     let place : c.place_of-place.result ≡ place_in c.args.client rows = search rules in
-    let here = (row_read c.args.client rows there.row c.index_mut.result.now c.place_of-place.result there.held place c.index_mut.ensures.value).1 in
-    order_changed c.push.new.self there.row rows c.place_of-place.result (c.push.ensures.client ∙ ap (λ (row : Row). row.client) here) (rw place there.held.at) c.self.invariant
+    let here =
+    (row_read c.args.client rows there.row c.index_mut.result.now c.place_of-place.result
+    there.held place c.index_mut.ensures.value).1 in
+    order_changed c.push.new.self there.row rows c.place_of-place.result
+    (c.push.ensures.client ∙ ap (λ (row : Row). row.client) here)
+    (rw place there.held.at) c.self.invariant
 
 pub returns : goal.returns
 returns g c =
@@ -40,7 +47,14 @@ returns g c =
     let asked : has_room client rows ≡ true = search rules in
     let there = roomy_row client rows c.self.invariant asked in
     let place : c.place_of-place.result ≡ place_in client rows = search rules in
-    let here = (row_read client rows there.row c.index_mut.result.now c.place_of-place.result there.held place c.index_mut.ensures.value).1 in
-    let given = c.push.ensures.given ∙ ap (λ (row : Row). row.given ++ c.args.seq ∷ []) here ∙ ap (λ row. numbers_in row ++ c.args.seq ∷ []) (sym there.held.found) in
+    let here =
+    (row_read client rows there.row c.index_mut.result.now c.place_of-place.result there.held
+    place c.index_mut.ensures.value).1 in
+    let given =
+    c.push.ensures.given ∙ ap (λ (row : Row). row.given ++ c.args.seq ∷ []) here
+    ∙ ap (λ row. numbers_in row ++ c.args.seq ∷ []) (sym there.held.found) in
     rw (← c.self.view_is, place)
-    (given_pushed client new rows _ (row_changed client new there.row rows (c.push.ensures.client ∙ (ap (λ (row : Row). row.client) here ∙ there.held.own)) there.held.own there.held.at) c.args.seq given)
+    (given_pushed client new rows _
+    (row_changed client new there.row rows
+    (c.push.ensures.client ∙ (ap (λ (row : Row). row.client) here ∙ there.held.own))
+    there.held.own there.held.at) c.args.seq given)

@@ -2,7 +2,8 @@ use Rattle.std.proofs.Common.{rules, sym, ap, subst, ◌∙◌, ◌≡◌, ◌<�
 use Rattle.urb_pending.specs.Rows.{Row, row_of, are_in_order}
 use Rattle.urb_pending.specs.ClientIndex.{has_room, numbers_in, is_roomy}
 use Rattle.urb_pending.proofs.Rows.{order_changed, order_placed, place_in, row_changed, row_placed}
-use Rattle.urb_pending.proofs.Changed.{given_same, no_row, not_roomy, placed_at, room_kept, room_made, row_read, row_there, row_within}
+use Rattle.urb_pending.proofs.Changed.{given_same, no_row, not_roomy, placed_at, room_kept}
+use Rattle.urb_pending.proofs.Changed.{room_made, row_read, row_there, row_within}
 use Rattle.urb_pending.proofs.clients.Clients.make_room.Goals as goal
 
 pub index_mut-requires : goal.index_mut-requires
@@ -11,7 +12,8 @@ index_mut-requires g c =
     let client = c.args.client in
     let there = row_there client rows c.self.invariant (search rules) in
     let place : c.place_of-place.result ≡ place_in client rows = search rules in
-    let within : c.place_of-place.result < length rows = row_within client rows there.row c.place_of-place.result there.held place in
+    let within : c.place_of-place.result < length rows =
+    row_within client rows there.row c.place_of-place.result there.held place in
     search rules
 
 pub returns-in_err-make_room-clause-roomy : goal.returns-in_err-make_room-clause-roomy
@@ -21,9 +23,12 @@ returns-in_err-make_room-clause-roomy g c =
     let client = c.args.client in
     let there = row_there client rows c.self.invariant (search rules) in
     let place : c.place_of-place.result ≡ place_in client rows = search rules in
-    let here = (row_read client rows there.row c.index_mut.result.now c.place_of-place.result there.held place c.index_mut.ensures.value).1 in
+    let here =
+    (row_read client rows there.row c.index_mut.result.now c.place_of-place.result there.held
+    place c.index_mut.ensures.value).1 in
     let roomy : has_room client rows ≡ true = ap (has_room client) c.self.view_is ∙ asked in
-    let room : c.index_mut.result.now.room ≡ true = ap (λ (row : Row). row.room) here ∙ (ap is_roomy (sym there.held.found) ∙ roomy) in
+    let room : c.index_mut.result.now.room ≡ true =
+    ap (λ (row : Row). row.room) here ∙ (ap is_roomy (sym there.held.found) ∙ roomy) in
     let ok = c.make_room.ensures.roomy room in
     search rules
 
@@ -33,8 +38,12 @@ invariant_of-self-then-is_at g c =
     let client = c.args.client in
     let there = row_there client rows c.self.invariant (search rules) in
     let place : c.place_of-place.result ≡ place_in client rows = search rules in
-    let here = (row_read client rows there.row c.index_mut.result.now c.place_of-place.result there.held place c.index_mut.ensures.value).1 in
-    order_changed c.make_room.new.self there.row rows c.place_of-place.result (c.make_room.ensures.client ∙ ap (λ (row : Row). row.client) here) (rw place there.held.at) c.self.invariant
+    let here =
+    (row_read client rows there.row c.index_mut.result.now c.place_of-place.result there.held
+    place c.index_mut.ensures.value).1 in
+    order_changed c.make_room.new.self there.row rows c.place_of-place.result
+    (c.make_room.ensures.client ∙ ap (λ (row : Row). row.client) here)
+    (rw place there.held.at) c.self.invariant
 
 pub returns-then-is_at-clause-given : goal.returns-then-is_at-clause-given
 returns-then-is_at-clause-given g c =
@@ -43,10 +52,16 @@ returns-then-is_at-clause-given g c =
     let new = c.make_room.new.self in
     let there = row_there client rows c.self.invariant (search rules) in
     let place : c.place_of-place.result ≡ place_in client rows = search rules in
-    let here = (row_read client rows there.row c.index_mut.result.now c.place_of-place.result there.held place c.index_mut.ensures.value).1 in
+    let here =
+    (row_read client rows there.row c.index_mut.result.now c.place_of-place.result there.held
+    place c.index_mut.ensures.value).1 in
     rw (← c.self.view_is, place)
-    (given_same client new rows _ (row_changed client new there.row rows (c.make_room.ensures.client ∙ (ap (λ (row : Row). row.client) here ∙ there.held.own)) there.held.own there.held.at)
-    (c.make_room.ensures.given ∙ (ap (λ (row : Row). row.given) here ∙ ap numbers_in (sym there.held.found))))
+    (given_same client new rows _
+    (row_changed client new there.row rows
+    (c.make_room.ensures.client ∙ (ap (λ (row : Row). row.client) here ∙ there.held.own))
+    there.held.own there.held.at)
+    (c.make_room.ensures.given ∙ (ap (λ (row : Row). row.given) here
+    ∙ ap numbers_in (sym there.held.found))))
 
 pub returns-then-is_at-clause-kept : goal.returns-then-is_at-clause-kept
 returns-then-is_at-clause-kept g c =
@@ -55,9 +70,13 @@ returns-then-is_at-clause-kept g c =
     let new = c.make_room.new.self in
     let there = row_there client rows c.self.invariant (search rules) in
     let place : c.place_of-place.result ≡ place_in client rows = search rules in
-    let here = (row_read client rows there.row c.index_mut.result.now c.place_of-place.result there.held place c.index_mut.ensures.value).1 in
+    let here =
+    (row_read client rows there.row c.index_mut.result.now c.place_of-place.result there.held
+    place c.index_mut.ensures.value).1 in
     rw (← c.self.view_is, place)
-    (room_kept client new rows _ (row_changed client new there.row rows (c.make_room.ensures.client ∙ (ap (λ (row : Row). row.client) here ∙ there.held.own)) there.held.own there.held.at)
+    (room_kept client new rows _ (row_changed client new there.row rows
+    (c.make_room.ensures.client ∙ (ap (λ (row : Row). row.client) here ∙ there.held.own))
+    there.held.own there.held.at)
     (search rules))
 
 pub returns-then-is_at-clause-ok : goal.returns-then-is_at-clause-ok
@@ -67,20 +86,26 @@ returns-then-is_at-clause-ok g c =
     let new = c.make_room.new.self in
     let there = row_there client rows c.self.invariant (search rules) in
     let place : c.place_of-place.result ≡ place_in client rows = search rules in
-    let here = (row_read client rows there.row c.index_mut.result.now c.place_of-place.result there.held place c.index_mut.ensures.value).1 in
+    let here =
+    (row_read client rows there.row c.index_mut.result.now c.place_of-place.result there.held
+    place c.index_mut.ensures.value).1 in
     rw (place)
-    (room_made client new rows _ (row_changed client new there.row rows (c.make_room.ensures.client ∙ (ap (λ (row : Row). row.client) here ∙ there.held.own)) there.held.own there.held.at)
+    (room_made client new rows _ (row_changed client new there.row rows
+    (c.make_room.ensures.client ∙ (ap (λ (row : Row). row.client) here ∙ there.held.own))
+    there.held.own there.held.at)
     (search rules))
 
 pub returns-in_err-make_room-2-clause-roomy : goal.returns-in_err-make_room-2-clause-roomy
 returns-in_err-make_room-2-clause-roomy g c =
     λ asked.
-    absurd (not_roomy c.args.client c.self.inside.rows.items (search rules) (ap (has_room c.args.client) c.self.view_is ∙ asked))
+    absurd (not_roomy c.args.client c.self.inside.rows.items (search rules)
+    (ap (has_room c.args.client) c.self.view_is ∙ asked))
 
 pub returns-in_err-insert-clause-roomy : goal.returns-in_err-insert-clause-roomy
 returns-in_err-insert-clause-roomy g c =
     λ asked.
-    absurd (not_roomy c.args.client c.self.inside.rows.items (search rules) (ap (has_room c.args.client) c.self.view_is ∙ asked))
+    absurd (not_roomy c.args.client c.self.inside.rows.items (search rules)
+    (ap (has_room c.args.client) c.self.view_is ∙ asked))
 
 pub invariant_of-self-2 : goal.invariant_of-self-2
 invariant_of-self-2 g c =
@@ -90,9 +115,12 @@ invariant_of-self-2 g c =
     let none = no_row client rows (search rules) in
     let own : new.client ≡ client = c.make_room-2.ensures.client ∙ c.new-row.ensures.client in
     let place : c.place_of-place.result ≡ place_in client rows = search rules in
-    let put : c.insert.new.self.items ≡ insert rows c.place_of-place.result new = c.in_ok-insert.ensures.items in
-    let items = placed_at client rows c.insert.new.self.items new c.place_of-place.result own place put in
-    subst (λ after. are_in_order after ≡ true) (sym items) (order_placed new rows (ap (λ n. row_of n rows) own ∙ none) c.self.invariant)
+    let put : c.insert.new.self.items ≡ insert rows c.place_of-place.result new =
+    c.in_ok-insert.ensures.items in
+    let items =
+    placed_at client rows c.insert.new.self.items new c.place_of-place.result own place put in
+    subst (λ after. are_in_order after ≡ true) (sym items)
+    (order_placed new rows (ap (λ n. row_of n rows) own ∙ none) c.self.invariant)
 
 pub returns-clause-given : goal.returns-clause-given
 returns-clause-given g c =
@@ -102,10 +130,13 @@ returns-clause-given g c =
     let none = no_row client rows (search rules) in
     let own : new.client ≡ client = c.make_room-2.ensures.client ∙ c.new-row.ensures.client in
     let place : c.place_of-place.result ≡ place_in client rows = search rules in
-    let put : c.insert.new.self.items ≡ insert rows c.place_of-place.result new = c.in_ok-insert.ensures.items in
-    let items = placed_at client rows c.insert.new.self.items new c.place_of-place.result own place put in
+    let put : c.insert.new.self.items ≡ insert rows c.place_of-place.result new =
+    c.in_ok-insert.ensures.items in
+    let items =
+    placed_at client rows c.insert.new.self.items new c.place_of-place.result own place put in
     rw (← c.self.view_is, items)
-    (given_same client new rows _ (row_placed client new rows own) (c.make_room-2.ensures.given ∙ (c.new-row.ensures.given ∙ ap numbers_in (sym none))))
+    (given_same client new rows _ (row_placed client new rows own)
+    (c.make_room-2.ensures.given ∙ (c.new-row.ensures.given ∙ ap numbers_in (sym none))))
 
 pub returns-clause-kept : goal.returns-clause-kept
 returns-clause-kept g c =
@@ -115,9 +146,12 @@ returns-clause-kept g c =
     let none = no_row client rows (search rules) in
     let own : new.client ≡ client = c.make_room-2.ensures.client ∙ c.new-row.ensures.client in
     let place : c.place_of-place.result ≡ place_in client rows = search rules in
-    let put : c.insert.new.self.items ≡ insert rows c.place_of-place.result new = c.in_ok-insert.ensures.items in
-    let items = placed_at client rows c.insert.new.self.items new c.place_of-place.result own place put in
-    rw (← c.self.view_is, items) (room_kept client new rows _ (row_placed client new rows own) (search rules))
+    let put : c.insert.new.self.items ≡ insert rows c.place_of-place.result new =
+    c.in_ok-insert.ensures.items in
+    let items =
+    placed_at client rows c.insert.new.self.items new c.place_of-place.result own place put in
+    rw (← c.self.view_is, items) (room_kept client new rows _ (row_placed client new rows own)
+    (search rules))
 
 pub returns-clause-ok : goal.returns-clause-ok
 returns-clause-ok g c =
@@ -127,6 +161,8 @@ returns-clause-ok g c =
     let none = no_row client rows (search rules) in
     let own : new.client ≡ client = c.make_room-2.ensures.client ∙ c.new-row.ensures.client in
     let place : c.place_of-place.result ≡ place_in client rows = search rules in
-    let put : c.insert.new.self.items ≡ insert rows c.place_of-place.result new = c.in_ok-insert.ensures.items in
-    let items = placed_at client rows c.insert.new.self.items new c.place_of-place.result own place put in
+    let put : c.insert.new.self.items ≡ insert rows c.place_of-place.result new =
+    c.in_ok-insert.ensures.items in
+    let items =
+    placed_at client rows c.insert.new.self.items new c.place_of-place.result own place put in
     rw (items) (room_made client new rows _ (row_placed client new rows own) (search rules))

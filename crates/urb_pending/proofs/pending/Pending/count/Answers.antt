@@ -5,4 +5,5 @@ pub overflow_cast-result : goal.overflow_cast-result
 overflow_cast-result g c = rw (c.count.ensures) (length_fits _ c.self.invariant.set)
 
 pub returns-clause-range : goal.returns-clause-range
-returns-clause-range g c = rw (← c.self.view_is, c.count.ensures) (length_bounded _ c.self.invariant.set)
+returns-clause-range g c =
+    rw (← c.self.view_is, c.count.ensures) (length_bounded _ c.self.invariant.set)

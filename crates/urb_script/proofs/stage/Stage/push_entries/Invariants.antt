@@ -10,6 +10,9 @@ use Rattle.urb_script.proofs.stage.Stage.push_entries.Given as goal
 
 -- what is written so far, and what is left
 abbrev pub invariant-loop-name : goal.invariant-loop-name
-invariant-loop-name g l = (w : World) → Shows l.fn.self.cluster.group w → is_node w.size.n l.fn.node ≡ true →
-    l.text.items ++ flat_map entry_text (map (λ x. (x, message_of (pend (stored w l.fn.node)) x)) (drop l.name-index l.names))
-    ≡ l.fn.text.items ++ flat_map entry_text (map (λ x. (x, message_of (pend (stored w l.fn.node)) x)) l.names)
+invariant-loop-name g l =
+    (w : World) → Shows l.fn.self.cluster.group w → is_node w.size.n l.fn.node ≡ true →
+    l.text.items ++ flat_map entry_text
+    (map (λ x. (x, message_of (pend (stored w l.fn.node)) x)) (drop l.name-index l.names))
+    ≡ l.fn.text.items ++ flat_map entry_text
+    (map (λ x. (x, message_of (pend (stored w l.fn.node)) x)) l.names)

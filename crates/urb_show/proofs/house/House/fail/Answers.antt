@@ -4,4 +4,6 @@ use Rattle.urb_show.proofs.house.House.fail.Goals as goal
 
 pub invariant_of-self : goal.invariant_of-self
 invariant_of-self g c =
-    house_after _ _ (Fail c.args.doubt.node) _ _ c.self.invariant c.counted-self-inside.ensures.nodes (goes_down_follow _ _ c.args.doubt.node _ c.fail-done.result c.fail-done.ensures)
+    house_after _ _ (Fail c.args.doubt.node)
+    _ _ c.self.invariant c.events_after-self-inside.ensures.nodes
+    (goes_down_follow _ _ c.args.doubt.node _ c.fail-done.result c.fail-done.ensures)

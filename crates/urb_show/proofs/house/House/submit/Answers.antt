@@ -4,5 +4,7 @@ use Rattle.urb_show.proofs.house.House.submit.Goals as goal
 
 pub invariant_of-self : goal.invariant_of-self
 invariant_of-self g c =
-    house_after _ _ (Submit c.args.node (record { client = c.args.client; number = c.args.number; payload = c.args.payload.now })) _ _ c.self.invariant c.counted-self-inside.ensures.nodes
+    house_after _ _ (Submit c.args.node
+    (record { client = c.args.client; number = c.args.number; payload = c.args.payload.now }))
+    _ _ c.self.invariant c.events_after-self-inside.ensures.nodes
     (takes_follow _ _ c.args.node _ c.submit-taken.result c.submit-taken.ensures)

@@ -1,5 +1,5 @@
 use Rattle.std.proofs.Common.{ap, inl, inr, refl, ⊎_elim}
-use Rattle.urb_show.proofs.Beginnings.{begins_later}
+use Rattle.urb_show.proofs.ListBeginnings.{begins_later}
 use Rattle.urb_show.specs.History.{lists_of}
 use Rattle.urb_show.proofs.reader.LogReader.learn.Goals as goal
 
@@ -7,8 +7,10 @@ pub returns : goal.returns
 returns g c =
     rw (← c.self.view_is, ← c.told.view_is) (
     record {
-      one = ⊎_elim (λ same. inl (ap (lists_of _) same)) (λ same. inr (ap (lists_of _) same)) c.longer.ensures.one;
-      earlier = begins_later _ _ _ c.longer.ensures.this;
-      told = begins_later _ _ _ c.longer.ensures.that;
+      one =
+          ⊎_elim (λ same. inl (ap (lists_of _) same))
+          (λ same. inr (ap (lists_of _) same)) c.longer_of.ensures.one;
+      earlier = begins_later _ _ _ c.longer_of.ensures.this;
+      told = begins_later _ _ _ c.longer_of.ensures.that;
       seen = refl;
     })

@@ -1,4 +1,5 @@
-use Rattle.std.proofs.Common.{List, Some, [], ap, arith, length, map, refl, slice_get, subst, suc, sym, ◌+◌, ◌<◌, ◌∙◌, ◌≡◌}
+use Rattle.std.proofs.Common.{List, Some, [], ap, arith, length, map, refl, slice_get, subst, suc}
+use Rattle.std.proofs.Common.{sym, ◌+◌, ◌<◌, ◌∙◌, ◌≡◌}
 use Rattle.std.proofs.lemmas.List.{length-map}
 use Rattle.std.proofs.lemmas.Option.{slice_get_read}
 use Rattle.urb_stable.specs.Entries.{Entry}
@@ -11,43 +12,80 @@ use Rattle.urb_stable.proofs.fitting.Images.first_misfit.Goals as goal
 pub misfit_in-requires-clause-numbered : goal.misfit_in-requires-clause-numbered
 misfit_in-requires-clause-numbered g c =
     let items = c.deref-image-items.result.now in
-    let node : c.unwrap-node.result ≡ c.loop-i.i + 1 = node-is _ c.new.result c.unwrap-node.result (c.loop-i.i + 1) c.new.ensures c.unwrap-node.ensures in
-    let here : slice_get items c.loop-i.i ≡ Some c.image-item.result = slice_get_read items (length items) c.loop-i.i c.image-item.result refl c.loop-i-test.true c.image-item.is in
-    let number = c.self.invariant c.loop-i.i c.image-item.result (subst (λ (xs : List NodeImage). slice_get xs c.loop-i.i ≡ Some c.image-item.result) c.deref-image-items.ensures.value here) in
+    let node : c.unwrap-node.result ≡ c.loop-i.i + 1 =
+    node-is _ c.new.result c.unwrap-node.result
+    (c.loop-i.i + 1) c.new.ensures c.unwrap-node.ensures in
+    let here : slice_get items c.loop-i.i ≡ Some c.image-item.result =
+    slice_get_read items (length items)
+    c.loop-i.i c.image-item.result refl c.loop-i-test.true c.image-item.is in
+    let number =
+    c.self.invariant c.loop-i.i c.image-item.result
+    (subst (λ (xs : List NodeImage). slice_get xs c.loop-i.i ≡ Some c.image-item.result)
+    c.deref-image-items.ensures.value here) in
     omega (arith, number, node)
 
 pub returns-in-Some : goal.returns-in-Some
 returns-in-Some g c =
     let records : NodeImage → List Entry = λ image. image.records in
     let items = c.deref-image-items.result.now in
-    let all : map records items ≡ c.args.self.now = ap (λ (xs : List NodeImage). map records xs) c.deref-image-items.ensures.value ∙ c.self.view_is in
-    let lent : map records c.deref.result.now ≡ c.args.self.now = ap (λ (xs : List NodeImage). map records xs) c.deref.ensures.value ∙ c.self.view_is in
+    let all : map records items ≡ c.args.self.now =
+    ap (λ (xs : List NodeImage). map records xs) c.deref-image-items.ensures.value
+    ∙ c.self.view_is in
+    let lent : map records c.deref.result.now ≡ c.args.self.now =
+    ap (λ (xs : List NodeImage). map records xs) c.deref.ensures.value ∙ c.self.view_is in
     let images = image_of c.args.self.now in
-    let size : length items ≡ c.args.config.n = sym (length-map items records) ∙ (ap (λ (xs : List (List Entry)). length xs) all ∙ c.requires) in
+    let size : length items ≡ c.args.config.n =
+    sym (length-map items records)
+    ∙ (ap (λ (xs : List (List Entry)). length xs) all ∙ c.requires) in
     let test = c.loop-i-test.true in
     let in_group : c.loop-i.i < c.args.config.n = omega (arith, size, test) in
     let image : c.image-item.result.records ≡ images (suc c.loop-i.i) =
-    sym (image-at records items c.loop-i.i c.image-item.result (slice_get_read items (length items) c.loop-i.i c.image-item.result refl test c.image-item.is)) ∙ ap (λ (xs : List (List Entry)). image_of xs (suc c.loop-i.i)) all in
-    let node : c.unwrap-node.result ≡ c.loop-i.i + 1 = node-is _ c.new.result c.unwrap-node.result (c.loop-i.i + 1) c.new.ensures c.unwrap-node.ensures in
-    let first : first_of_all (misfits_behind c.args.config images (suc c.loop-i.i) [] (images (suc c.loop-i.i))) ≡ c.misfit_in.result =
-    node-told c.args.config images c.loop-i.i c.unwrap-node.result c.image-item.result.records c.misfit_in.result node image
-    (c.misfit_in.ensures ∙ ap (λ (xs : List (List Entry)). first_of_all (misfits_behind c.args.config (image_of xs) c.unwrap-node.result [] c.image-item.result.records)) lent) in
-    found _ _ _ _ _ (node-step (λ p. misfits_behind c.args.config images p [] (images p)) c.loop-i.i c.args.config.n in_group) (first ∙ c.in-Some.is) c.loop-i.invariant
+    sym (image-at records items c.loop-i.i c.image-item.result
+    (slice_get_read items (length items)
+    c.loop-i.i c.image-item.result refl test c.image-item.is))
+    ∙ ap (λ (xs : List (List Entry)). image_of xs (suc c.loop-i.i)) all in
+    let node : c.unwrap-node.result ≡ c.loop-i.i + 1 =
+    node-is _ c.new.result c.unwrap-node.result
+    (c.loop-i.i + 1) c.new.ensures c.unwrap-node.ensures in
+    let first : first_of_all (misfits_behind c.args.config images (suc c.loop-i.i) []
+    (images (suc c.loop-i.i))) ≡ c.misfit_in.result =
+    node-told c.args.config images c.loop-i.i c.unwrap-node.result c.image-item.result.records
+    c.misfit_in.result node image
+    (c.misfit_in.ensures ∙ ap (λ (xs : List (List Entry)).
+    first_of_all (misfits_behind c.args.config (image_of xs) c.unwrap-node.result
+    [] c.image-item.result.records)) lent) in
+    found _ _ _ _ _ (node-step (λ p. misfits_behind c.args.config images p [] (images p))
+    c.loop-i.i c.args.config.n in_group) (first ∙ c.in-Some.is) c.loop-i.invariant
 
 pub loop-i-preserved : goal.loop-i-preserved
 loop-i-preserved g c =
     let records : NodeImage → List Entry = λ image. image.records in
     let items = c.deref-image-items.result.now in
-    let all : map records items ≡ c.args.self.now = ap (λ (xs : List NodeImage). map records xs) c.deref-image-items.ensures.value ∙ c.self.view_is in
-    let lent : map records c.deref.result.now ≡ c.args.self.now = ap (λ (xs : List NodeImage). map records xs) c.deref.ensures.value ∙ c.self.view_is in
+    let all : map records items ≡ c.args.self.now =
+    ap (λ (xs : List NodeImage). map records xs) c.deref-image-items.ensures.value
+    ∙ c.self.view_is in
+    let lent : map records c.deref.result.now ≡ c.args.self.now =
+    ap (λ (xs : List NodeImage). map records xs) c.deref.ensures.value ∙ c.self.view_is in
     let images = image_of c.args.self.now in
-    let size : length items ≡ c.args.config.n = sym (length-map items records) ∙ (ap (λ (xs : List (List Entry)). length xs) all ∙ c.requires) in
+    let size : length items ≡ c.args.config.n =
+    sym (length-map items records)
+    ∙ (ap (λ (xs : List (List Entry)). length xs) all ∙ c.requires) in
     let test = c.loop-i-test.true in
     let in_group : c.loop-i.i < c.args.config.n = omega (arith, size, test) in
     let image : c.image-item.result.records ≡ images (suc c.loop-i.i) =
-    sym (image-at records items c.loop-i.i c.image-item.result (slice_get_read items (length items) c.loop-i.i c.image-item.result refl test c.image-item.is)) ∙ ap (λ (xs : List (List Entry)). image_of xs (suc c.loop-i.i)) all in
-    let node : c.unwrap-node.result ≡ c.loop-i.i + 1 = node-is _ c.new.result c.unwrap-node.result (c.loop-i.i + 1) c.new.ensures c.unwrap-node.ensures in
-    let first : first_of_all (misfits_behind c.args.config images (suc c.loop-i.i) [] (images (suc c.loop-i.i))) ≡ c.misfit_in.result =
-    node-told c.args.config images c.loop-i.i c.unwrap-node.result c.image-item.result.records c.misfit_in.result node image
-    (c.misfit_in.ensures ∙ ap (λ (xs : List (List Entry)). first_of_all (misfits_behind c.args.config (image_of xs) c.unwrap-node.result [] c.image-item.result.records)) lent) in
-    passed _ _ _ _ (node-step (λ p. misfits_behind c.args.config images p [] (images p)) c.loop-i.i c.args.config.n in_group) (first ∙ c.in_default.is) c.loop-i.invariant
+    sym (image-at records items c.loop-i.i c.image-item.result
+    (slice_get_read items (length items)
+    c.loop-i.i c.image-item.result refl test c.image-item.is))
+    ∙ ap (λ (xs : List (List Entry)). image_of xs (suc c.loop-i.i)) all in
+    let node : c.unwrap-node.result ≡ c.loop-i.i + 1 =
+    node-is _ c.new.result c.unwrap-node.result
+    (c.loop-i.i + 1) c.new.ensures c.unwrap-node.ensures in
+    let first : first_of_all (misfits_behind c.args.config images (suc c.loop-i.i) []
+    (images (suc c.loop-i.i))) ≡ c.misfit_in.result =
+    node-told c.args.config images c.loop-i.i c.unwrap-node.result c.image-item.result.records
+    c.misfit_in.result node image
+    (c.misfit_in.ensures ∙ ap (λ (xs : List (List Entry)).
+    first_of_all (misfits_behind c.args.config (image_of xs) c.unwrap-node.result
+    [] c.image-item.result.records)) lent) in
+    passed _ _ _ _ (node-step (λ p. misfits_behind c.args.config images p [] (images p))
+    c.loop-i.i c.args.config.n in_group) (first ∙ c.in_default.is) c.loop-i.invariant

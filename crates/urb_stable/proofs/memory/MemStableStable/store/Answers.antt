@@ -1,4 +1,5 @@
-use Rattle.std.proofs.Common.{rules, true, length-append, ◌+◌, arith, ◌≡◌, ◌∙◌, sym, ap, refl, inl, length, [], ◌∷◌, ◌++◌, Some}
+use Rattle.std.proofs.Common.{rules, true, length-append, ◌+◌, arith, ◌≡◌, ◌∙◌, sym, ap, refl, inl}
+use Rattle.std.proofs.Common.{length, [], ◌∷◌, ◌++◌, Some}
 use Rattle.urb_stable.specs.Memory.{Memory, with_record, after_failure}
 use Rattle.urb_stable.proofs.Kept.{kept, doubtful_stop, certain_stop}
 use Rattle.urb_stable.proofs.memory.MemStableStable.store.Goals as goal
@@ -6,27 +7,55 @@ use Rattle.urb_stable.proofs.memory.MemStableStable.store.Goals as goal
 -- the record is kept, in doubt
 pub returns-then-eq-2-clause-stop : goal.returns-then-eq-2-clause-stop
 returns-then-eq-2-clause-stop g c =
-    let settled : c.self.inside.certain ≡ length c.self.inside.records.items = omega (arith, c.self.invariant.settled c.if-self.false, c.self.inside.records.ok.0) in
-    let items : c.keep.new.records.items ≡ c.self.inside.records.items ++ c.args.entry.now ∷ [] = search rules in
-    let k = kept c.self.inside.records.items c.args.entry.now c.self.inside.certain c.keep.new.records.items settled items in
+    let settled : c.self.inside.certain ≡ length c.self.inside.records.items =
+    omega (arith, c.self.invariant.settled c.if-self.false, c.self.inside.records.ok.0) in
+    let items : c.keep.new.records.items ≡ c.self.inside.records.items ++ c.args.entry.now ∷ [] =
+    search rules in
+    let k =
+    kept c.self.inside.records.items c.args.entry.now c.self.inside.certain
+    c.keep.new.records.items settled items in
     λ records h. rw (← c.self.view_is) (doubtful_stop _ _ _ _ k records h)
 
 pub returns-then-eq-2-clause-keeps_it : goal.returns-then-eq-2-clause-keeps_it
 returns-then-eq-2-clause-keeps_it g c =
-    let settled : c.self.inside.certain ≡ length c.self.inside.records.items = omega (arith, c.self.invariant.settled c.if-self.false, c.self.inside.records.ok.0) in
-    let items : c.keep.new.records.items ≡ c.self.inside.records.items ++ c.args.entry.now ∷ [] = search rules in
-    let k = kept c.self.inside.records.items c.args.entry.now c.self.inside.certain c.keep.new.records.items settled items in
-    λ p q below. inl (refl, (λ i. record { certain = k.front i; doubt = k.here i; doubtful = true; failures = c.self.inside.failures + 1; armed = c.take-armed.ensures.after i }) ∙ ap (after_failure (Some c.args.entry.now)) c.self.view_is)
+    let settled : c.self.inside.certain ≡ length c.self.inside.records.items =
+    omega (arith, c.self.invariant.settled c.if-self.false, c.self.inside.records.ok.0) in
+    let items : c.keep.new.records.items ≡ c.self.inside.records.items ++ c.args.entry.now ∷ [] =
+    search rules in
+    let k =
+    kept c.self.inside.records.items c.args.entry.now c.self.inside.certain
+    c.keep.new.records.items settled items in
+    λ p q below. inl (
+      refl,
+      (λ i.
+          record {
+            certain = k.front i;
+            doubt = k.here i;
+            doubtful = true;
+            failures =
+                c.self.inside.failures + 1;
+            armed = c.take-armed.ensures.after i;
+          })
+          ∙ ap (after_failure (Some c.args.entry.now)) c.self.view_is,
+    )
 
 -- the record is kept for certain
 pub invariant_of-self-2 : goal.invariant_of-self-2
 invariant_of-self-2 g c =
-    let settled : c.self.inside.certain ≡ length c.self.inside.records.items = omega (arith, c.self.invariant.settled c.if-self.false, c.self.inside.records.ok.0) in
-    let items : c.keep.new.records.items ≡ c.self.inside.records.items ++ c.args.entry.now ∷ [] = search rules in
-    let size : length c.keep.new.records.items ≡ c.self.inside.certain + 1 = rw (items, settled) (length-append c.self.inside.records.items (c.args.entry.now ∷ [])) in
-    let k = kept c.self.inside.records.items c.args.entry.now c.self.inside.certain c.keep.new.records.items settled items in
-    let front : length c.args.self.now.certain ≡ c.self.inside.certain = ap (λ (m : Memory). length m.certain) (sym c.self.view_is) ∙ ap length k.before ∙ sym settled in
-    let next : c.next-next.result ≡ c.self.inside.certain + 1 = c.next-next.ensures.value ∙ ap (λ n. n + 1) front in
+    let settled : c.self.inside.certain ≡ length c.self.inside.records.items =
+    omega (arith, c.self.invariant.settled c.if-self.false, c.self.inside.records.ok.0) in
+    let items : c.keep.new.records.items ≡ c.self.inside.records.items ++ c.args.entry.now ∷ [] =
+    search rules in
+    let size : length c.keep.new.records.items ≡ c.self.inside.certain + 1 =
+    rw (items, settled) (length-append c.self.inside.records.items (c.args.entry.now ∷ [])) in
+    let k =
+    kept c.self.inside.records.items c.args.entry.now c.self.inside.certain
+    c.keep.new.records.items settled items in
+    let front : length c.args.self.now.certain ≡ c.self.inside.certain =
+    ap (λ (m : Memory). length m.certain) (sym c.self.view_is) ∙ ap length k.before
+    ∙ sym settled in
+    let next : c.next-next.result ≡ c.self.inside.certain + 1 =
+    c.next-next.ensures.value ∙ ap (λ n. n + 1) front in
     record {
       below = omega (arith, size, c.keep.new.records.ok.0);
       one = omega (arith, size, c.keep.new.records.ok.0);
@@ -36,24 +65,48 @@ invariant_of-self-2 g c =
 
 pub returns-clause-clear : goal.returns-clause-clear
 returns-clause-clear g c =
-    let settled : c.self.inside.certain ≡ length c.self.inside.records.items = omega (arith, c.self.invariant.settled c.if-self.false, c.self.inside.records.ok.0) in
-    let items : c.keep.new.records.items ≡ c.self.inside.records.items ++ c.args.entry.now ∷ [] = search rules in
-    let k = kept c.self.inside.records.items c.args.entry.now c.self.inside.certain c.keep.new.records.items settled items in
+    let settled : c.self.inside.certain ≡ length c.self.inside.records.items =
+    omega (arith, c.self.invariant.settled c.if-self.false, c.self.inside.records.ok.0) in
+    let items : c.keep.new.records.items ≡ c.self.inside.records.items ++ c.args.entry.now ∷ [] =
+    search rules in
+    let k =
+    kept c.self.inside.records.items c.args.entry.now c.self.inside.certain
+    c.keep.new.records.items settled items in
     (c.if-self.false, k.past)
 
 pub returns-clause-stop : goal.returns-clause-stop
 returns-clause-stop g c =
-    let settled : c.self.inside.certain ≡ length c.self.inside.records.items = omega (arith, c.self.invariant.settled c.if-self.false, c.self.inside.records.ok.0) in
-    let items : c.keep.new.records.items ≡ c.self.inside.records.items ++ c.args.entry.now ∷ [] = search rules in
-    let k = kept c.self.inside.records.items c.args.entry.now c.self.inside.certain c.keep.new.records.items settled items in
+    let settled : c.self.inside.certain ≡ length c.self.inside.records.items =
+    omega (arith, c.self.invariant.settled c.if-self.false, c.self.inside.records.ok.0) in
+    let items : c.keep.new.records.items ≡ c.self.inside.records.items ++ c.args.entry.now ∷ [] =
+    search rules in
+    let k =
+    kept c.self.inside.records.items c.args.entry.now c.self.inside.certain
+    c.keep.new.records.items settled items in
     λ records h. rw (← c.self.view_is) (certain_stop _ _ _ _ k records h)
 
 pub returns-clause-unarmed : goal.returns-clause-unarmed
 returns-clause-unarmed g c =
-    let settled : c.self.inside.certain ≡ length c.self.inside.records.items = omega (arith, c.self.invariant.settled c.if-self.false, c.self.inside.records.ok.0) in
-    let items : c.keep.new.records.items ≡ c.self.inside.records.items ++ c.args.entry.now ∷ [] = search rules in
-    let k = kept c.self.inside.records.items c.args.entry.now c.self.inside.certain c.keep.new.records.items settled items in
+    let settled : c.self.inside.certain ≡ length c.self.inside.records.items =
+    omega (arith, c.self.invariant.settled c.if-self.false, c.self.inside.records.ok.0) in
+    let items : c.keep.new.records.items ≡ c.self.inside.records.items ++ c.args.entry.now ∷ [] =
+    search rules in
+    let k =
+    kept c.self.inside.records.items c.args.entry.now c.self.inside.certain
+    c.keep.new.records.items settled items in
     λ p q.
-    let armed = c.take-armed.ensures.after ∙ sym q ∙ sym (ap (λ (m : Memory). m.armed) c.self.view_is) in
+    let armed =
+    c.take-armed.ensures.after ∙ sym q ∙ sym (ap (λ (m : Memory). m.armed) c.self.view_is) in
     let doubt = k.past ∙ sym k.nothing in
-    inl (refl, (λ i. record { certain = k.all i; doubt = doubt i; doubtful = c.self.inside.doubtful; failures = c.self.inside.failures; armed = armed i }) ∙ ap (with_record c.args.entry.now) c.self.view_is)
+    inl (
+      refl,
+      (λ i. record {
+        certain = k.all i;
+        doubt = doubt i;
+        doubtful =
+            c.self.inside.doubtful;
+        failures = c.self.inside.failures;
+        armed = armed i;
+      })
+          ∙ ap (with_record c.args.entry.now) c.self.view_is,
+    )

@@ -9,6 +9,10 @@ use Rattle.urb_stubborn.proofs.resend.Resend.next_within.Goals as goal
 pub returns-else-is_within : goal.returns-else-is_within
 returns-else-is_within g c =
     let due : Pairs = due_pairs c.args.self.now c.args.pending.now.pairs in
-    let first : first_name (behind c.args.from due) ≡ Some c.in_ok-name.name = sym c.next_due.ensures ∙ c.in_ok-name.was in
-    let over : is_within c.args.last.now c.in_ok-name.name ≡ false = sym c.is_within.ensures ∙ c.if-is_within.false in
-    sym (within_over c.args.last.now (behind c.args.from due) c.in_ok-name.name (rising_kept _ due (rising_kept _ c.args.pending.now.pairs c.limits.ensures.rising)) first over)
+    let first : first_name (behind c.args.from due) ≡ Some c.in_ok-name.name =
+    sym c.next_due.ensures ∙ c.in_ok-name.was in
+    let over : is_within c.args.last.now c.in_ok-name.name ≡ false =
+    sym c.is_within.ensures ∙ c.if-is_within.false in
+    sym (within_over c.args.last.now (behind c.args.from due) c.in_ok-name.name
+    (rising_kept _ due (rising_kept _ c.args.pending.now.pairs c.recall.ensures.rising))
+    first over)

@@ -1,4 +1,5 @@
 use Rattle.std.proofs.Common.{◌≡◌, ◌∙◌, ◌≤◌, sym, ap, arith, rules, [], length}
+use Rattle.urb_names.specs.declared.limits.TheConstants.{MAX_NODES}
 use Rattle.urb_stubborn.specs.Resending.{Resending, tick_packets, ticked}
 use Rattle.urb_stubborn.specs.Walking.{IsTick}
 use Rattle.urb_stubborn.proofs.Alone.{tick_alone}
@@ -12,7 +13,8 @@ returns-then-n-eq1-clause-packets g c =
     let low : 1 ≤ r.node = search rules in
     let high : r.node ≤ r.limits.n = search rules in
     let node : r.node ≡ 1 = omega (arith, low, high, group) in
-    c.empty.ensures ∙ (tick_alone r c.args.pending.now.pairs c.args.certified.now.names group node).0
+    c.empty.ensures ∙ (tick_alone r c.args.pending.now.pairs c.args.certified.now.names group
+    node).0
 
 pub returns-then-n-eq1-clause-ok : goal.returns-then-n-eq1-clause-ok
 returns-then-n-eq1-clause-ok g c =
@@ -28,18 +30,27 @@ of-requires g c =
     let r : Resending = c.args.self.now in
     let low : 1 ≤ r.node = search rules in
     let high : r.node ≤ r.limits.n = search rules in
-    let most : r.limits.n ≤ 7 = search rules in
-    let tick : IsTick r c.args.pending.now.pairs c.args.certified.now.names c.in_ok-turn.turn c.go_round.new.packets.items = c.in_ok-turn.ensures in
-    omega (arith, c.go_round.new.packets.ok.0, ap length tick.packets, few_sent r c.args.pending.now.pairs c.args.certified.now.names low high most)
+    let most : r.limits.n ≤ MAX_NODES = search rules in
+    let tick : IsTick r c.args.pending.now.pairs c.args.certified.now.names c.in_ok-turn.turn
+    c.go_round.new.packets.items = c.in_ok-turn.ensures in
+    omega (
+      arith,
+      c.go_round.new.packets.ok.0,
+      ap length tick.packets,
+      few_sent r c.args.pending.now.pairs c.args.certified.now.names low high most,
+    )
 
 pub returns-clause-packets : goal.returns-clause-packets
 returns-clause-packets g c =
     let r : Resending = c.args.self.now in
-    let tick : IsTick r c.args.pending.now.pairs c.args.certified.now.names c.in_ok-turn.turn c.go_round.new.packets.items = c.in_ok-turn.ensures in
+    let tick : IsTick r c.args.pending.now.pairs c.args.certified.now.names c.in_ok-turn.turn
+    c.go_round.new.packets.items = c.in_ok-turn.ensures in
     c.of.ensures ∙ tick.packets
 
 pub returns-clause-ok : goal.returns-clause-ok
 returns-clause-ok g c =
     let r : Resending = c.args.self.now in
-    let tick : IsTick r c.args.pending.now.pairs c.args.certified.now.names c.in_ok-turn.turn c.go_round.new.packets.items = c.in_ok-turn.ensures in
-    ap (λ (s : Resending). record s { cursor = c.in_ok-turn.turn.cursor }) c.self.view_is ∙ ap (λ o. record r { cursor = o }) tick.cursor
+    let tick : IsTick r c.args.pending.now.pairs c.args.certified.now.names c.in_ok-turn.turn
+    c.go_round.new.packets.items = c.in_ok-turn.ensures in
+    ap (λ (s : Resending). record s { cursor = c.in_ok-turn.turn.cursor }) c.self.view_is
+    ∙ ap (λ o. record r { cursor = o }) tick.cursor

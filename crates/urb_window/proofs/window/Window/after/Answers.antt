@@ -1,9 +1,11 @@
-use Rattle.std.proofs.Common.{◌≡◌, ◌<◌, ◌≤◌, ◌+◌, ◌^◌, rules, arith, ap, sym, ◌∙◌, suc, nat_lt, length, get_or, find, Some, None, option_map}
+use Rattle.std.proofs.Common.{◌≡◌, ◌<◌, ◌≤◌, ◌+◌, ◌^◌, rules, arith, ap, sym, ◌∙◌, suc, nat_lt}
+use Rattle.std.proofs.Common.{length, get_or, find, Some, None, option_map}
 use Rattle.std.specs.Prelude.{slice_get}
 use Rattle.std.specs.List.{prefix_len}
 use Rattle.std.proofs.lemmas.Option.{slice_get-get_or, slice_get_past}
 use Rattle.urb_window.specs.Row.{Row, pairs_of}
-use Rattle.urb_window.proofs.Counted.{above_over, after_behind, after_low, after_none, after_place, pairs_over}
+use Rattle.urb_window.proofs.Counted.{above_over, after_behind, after_low, after_none, after_place}
+use Rattle.urb_window.proofs.Counted.{pairs_over}
 use Rattle.urb_window.proofs.window.Window.after.Goals as goal
 
 pub place_of-requires : goal.place_of-requires
@@ -16,14 +18,18 @@ returns-then-number-len g c =
     let n = c.args.number in
     let within : suc n < 1 + length low = search rules in
     let next : n + 1 ≡ suc n = omega arith in
-    ap (λ i. Some i) next ∙ (sym (after_low 1 low above n (omega arith) within) ∙ ap (λ r. option_map (λ pair. pair.0) (find (λ pair. nat_lt n pair.0) (pairs_of r))) c.self.view_is)
+    ap (λ i. Some i) next ∙ (sym (after_low 1 low above n (omega arith) within)
+    ∙ ap (λ r. option_map (λ pair. pair.0) (find (λ pair. nat_lt n pair.0) (pairs_of r)))
+    c.self.view_is)
 
 pub returns-then-number-eq4294967295 : goal.returns-then-number-eq4294967295
 returns-then-number-eq4294967295 g c =
     let n = c.args.number in
     let last : 2 ^ 32 ≤ suc n = search rules in
-    sym (ap (option_map (λ pair. pair.0)) (after_none 0 _ n (pairs_over _ c.self.invariant.row) last))
-    ∙ ap (λ r. option_map (λ pair. pair.0) (find (λ pair. nat_lt n pair.0) (pairs_of r))) c.self.view_is
+    sym (ap (option_map (λ pair. pair.0))
+    (after_none 0 _ n (pairs_over _ c.self.invariant.row) last))
+    ∙ ap (λ r. option_map (λ pair. pair.0) (find (λ pair. nat_lt n pair.0) (pairs_of r)))
+    c.self.view_is
 
 pub returns-in-Some : goal.returns-in-Some
 returns-in-Some g c =
@@ -33,12 +39,17 @@ returns-in-Some g c =
     let d = c.in-Some.pair.now in
     let behind : 1 + length low ≤ suc n = search rules in
     let next : n + 1 ≡ suc n = omega arith in
-    let place : c.place_of.result ≡ prefix_len (λ p. nat_lt p.0 (suc n)) above = c.place_of.ensures.place ∙ ap (λ i. prefix_len (λ p. nat_lt p.0 i) above) next in
+    let place : c.place_of.result ≡ prefix_len (λ p. nat_lt p.0 (suc n)) above =
+    c.place_of.ensures.place ∙ ap (λ i. prefix_len (λ p. nat_lt p.0 i) above) next in
     let within : c.place_of.result < length above = search rules in
     let read : d ≡ get_or above c.place_of.result d = search rules in
     ap (λ p. Some p.0) read
-    ∙ (ap (option_map (λ pair. pair.0)) (sym (slice_get-get_or above c.place_of.result d within) ∙ (ap (slice_get above) place ∙ (sym (after_place above n) ∙ sym (after_behind 1 low above n behind))))
-    ∙ ap (λ r. option_map (λ pair. pair.0) (find (λ pair. nat_lt n pair.0) (pairs_of r))) c.self.view_is)
+    ∙ (ap (option_map (λ pair. pair.0))
+    (sym (slice_get-get_or above c.place_of.result d within)
+    ∙ (ap (slice_get above) place
+    ∙ (sym (after_place above n) ∙ sym (after_behind 1 low above n behind))))
+    ∙ ap (λ r. option_map (λ pair. pair.0) (find (λ pair. nat_lt n pair.0) (pairs_of r)))
+    c.self.view_is)
 
 pub returns-in-None : goal.returns-in-None
 returns-in-None g c =
@@ -47,7 +58,12 @@ returns-in-None g c =
     let n = c.args.number in
     let behind : 1 + length low ≤ suc n = search rules in
     let next : n + 1 ≡ suc n = omega arith in
-    let place : c.place_of.result ≡ prefix_len (λ p. nat_lt p.0 (suc n)) above = c.place_of.ensures.place ∙ ap (λ i. prefix_len (λ p. nat_lt p.0 i) above) next in
+    let place : c.place_of.result ≡ prefix_len (λ p. nat_lt p.0 (suc n)) above =
+    c.place_of.ensures.place ∙ ap (λ i. prefix_len (λ p. nat_lt p.0 i) above) next in
     let beyond : length above ≤ c.place_of.result = search rules in
-    ap (option_map (λ pair. pair.0)) (sym (slice_get_past above c.place_of.result beyond) ∙ (ap (slice_get above) place ∙ (sym (after_place above n) ∙ sym (after_behind 1 low above n behind))))
-    ∙ ap (λ r. option_map (λ pair. pair.0) (find (λ pair. nat_lt n pair.0) (pairs_of r))) c.self.view_is
+    ap (option_map (λ pair. pair.0))
+    (sym (slice_get_past above c.place_of.result beyond)
+    ∙ (ap (slice_get above) place
+    ∙ (sym (after_place above n) ∙ sym (after_behind 1 low above n behind))))
+    ∙ ap (λ r. option_map (λ pair. pair.0) (find (λ pair. nat_lt n pair.0) (pairs_of r)))
+    c.self.view_is

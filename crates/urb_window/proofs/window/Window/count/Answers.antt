@@ -7,8 +7,11 @@ use Rattle.urb_window.proofs.window.Window.count.Goals as goal
 pub returns-clause-value : goal.returns-clause-value
 returns-clause-value g c =
     let row = c.self.inside in
-    let lens : c.len.result + c.len-2.result ≡ length row.low.items + length row.above.items = search rules in
-    lens ∙ (sym (length-pairs record { low = row.low.items; above = row.above.items; reserved = row.reserved }) ∙ ap (λ r. length (pairs_of r)) c.self.view_is)
+    let lens : c.len.result + c.len-2.result ≡ length row.low.items + length row.above.items =
+    search rules in
+    lens ∙ (sym (length-pairs record
+    { low = row.low.items; above = row.above.items; reserved = row.reserved })
+    ∙ ap (λ r. length (pairs_of r)) c.self.view_is)
 
 pub returns-clause-few : goal.returns-clause-few
 returns-clause-few g c =

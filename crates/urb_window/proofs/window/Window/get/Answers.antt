@@ -1,4 +1,5 @@
-use Rattle.std.proofs.Common.{◌≡◌, ◌<◌, ◌≤◌, ◌+◌, ◌-◌, rules, arith, ap, sym, ◌∙◌, true, false, nat_lt, length, get_or, Some, None}
+use Rattle.std.proofs.Common.{◌≡◌, ◌<◌, ◌≤◌, ◌+◌, ◌-◌, rules, arith, ap, sym, ◌∙◌, true, false}
+use Rattle.std.proofs.Common.{nat_lt, length, get_or, Some, None}
 use Rattle.std.specs.List.{prefix_len}
 use Rattle.urb_window.specs.Row.{AreOver, IsRow, Row, holds_at, numbered, pairs_of}
 use Rattle.urb_window.proofs.Counted.{above_over, numbered_behind, numbered_low}
@@ -16,13 +17,15 @@ returns-then-index-len g c =
     let d = c.index.result.now in
     let within : n < 1 + length low = search rules in
     let read : d ≡ get_or low (n - 1) d = search rules in
-    ap (λ v. Some v) read ∙ (sym (numbered_low 1 low above n d c.requires within) ∙ ap (λ r. numbered (pairs_of r) n) c.self.view_is)
+    ap (λ v. Some v) read ∙ (sym (numbered_low 1 low above n d c.requires within)
+    ∙ ap (λ r. numbered (pairs_of r) n) c.self.view_is)
 
 pub index-requires-then-is_at : goal.index-requires-then-is_at
 index-requires-then-is_at g c =
     let above = c.self.inside.above.items in
     let held : holds_at above c.place_of-place.result c.args.number ≡ true = search rules in
-    let within : c.place_of-place.result < length above = holds_within above c.place_of-place.result c.args.number held in
+    let within : c.place_of-place.result < length above =
+    holds_within above c.place_of-place.result c.args.number held in
     search rules
 
 pub returns-then-is_at : goal.returns-then-is_at
@@ -32,11 +35,14 @@ returns-then-is_at g c =
     let n = c.args.number in
     let d = c.index-then-is_at.result.now in
     let place : c.place_of-place.result ≡ prefix_len (λ p. nat_lt p.0 n) above = search rules in
-    let held : holds_at above (prefix_len (λ p. nat_lt p.0 n) above) n ≡ true = ap (λ i. holds_at above i n) (sym place) ∙ search rules in
+    let held : holds_at above (prefix_len (λ p. nat_lt p.0 n) above) n ≡ true =
+    ap (λ i. holds_at above i n) (sym place) ∙ search rules in
     let read : d ≡ get_or above (prefix_len (λ p. nat_lt p.0 n) above) d = search rules in
     let behind : 1 + length low ≤ n = search rules in
     ap (λ p. Some p.1) read
-    ∙ (sym (numbered_found above n d held) ∙ (sym (numbered_behind 1 low above n behind) ∙ ap (λ r. numbered (pairs_of r) n) c.self.view_is))
+    ∙ (sym (numbered_found above n d held)
+    ∙ (sym (numbered_behind 1 low above n behind)
+    ∙ ap (λ r. numbered (pairs_of r) n) c.self.view_is))
 
 pub returns : goal.returns
 returns g c =
@@ -44,6 +50,9 @@ returns g c =
     let above = c.self.inside.above.items in
     let n = c.args.number in
     let place : c.place_of-place.result ≡ prefix_len (λ p. nat_lt p.0 n) above = search rules in
-    let missed : holds_at above (prefix_len (λ p. nat_lt p.0 n) above) n ≡ false = ap (λ i. holds_at above i n) (sym place) ∙ search rules in
+    let missed : holds_at above (prefix_len (λ p. nat_lt p.0 n) above) n ≡ false =
+    ap (λ i. holds_at above i n) (sym place) ∙ search rules in
     let behind : 1 + length low ≤ n = search rules in
-    sym (numbered_absent 0 above n (above_over _ c.self.invariant.row) missed) ∙ (sym (numbered_behind 1 low above n behind) ∙ ap (λ r. numbered (pairs_of r) n) c.self.view_is)
+    sym (numbered_absent 0 above n (above_over _ c.self.invariant.row) missed)
+    ∙ (sym (numbered_behind 1 low above n behind)
+    ∙ ap (λ r. numbered (pairs_of r) n) c.self.view_is)

@@ -1,7 +1,9 @@
-use Rattle.std.proofs.Common.{◌≡◌, ◌<◌, ◌≤◌, ◌+◌, ◌^◌, ◌++◌, ◌∷◌, rules, refl, arith, ap, sym, ◌∙◌, subst, length, Some, None, vec_len, vec_capacity}
+use Rattle.std.proofs.Common.{◌≡◌, ◌<◌, ◌≤◌, ◌+◌, ◌^◌, ◌++◌, ◌∷◌, rules, refl, arith, ap, sym, ◌∙◌}
+use Rattle.std.proofs.Common.{subst, length, Some, None, vec_len, vec_capacity}
 use Rattle.std.specs.VecDeque.{deque_len, deque_capacity}
 use Rattle.urb_names.specs.Ordered.{placed}
-use Rattle.urb_window.specs.Row.{AreOver, IsInserted, IsRow, Row, counted_from, number_lt, numbered, pairs_of}
+use Rattle.urb_window.specs.Row.{AreOver, IsInserted, IsRow, Row, counted_from, number_lt, numbered}
+use Rattle.urb_window.specs.Row.{pairs_of}
 use Rattle.urb_window.specs.Room.{HasRoom}
 use Rattle.urb_window.proofs.Counted.{above_over, numbered_behind}
 use Rattle.urb_window.proofs.Placed.{absent_low, over_placed, placed_above}
@@ -12,7 +14,10 @@ use Rattle.urb_window.proofs.window.Window.insert.Goals as goal
 pub invariant_of-self : goal.invariant_of-self
 invariant_of-self g c =
     let kept = c.in_err-extend.ensures in
-    roomy_bigger c.self.inside _ refl kept.err.1 kept.room.0 kept.room.1 (ap (λ q. q.items) kept.err.2) (ap (λ q. deque_len q) kept.err.2) (let same : deque_capacity c.extend.new.above ≡ deque_capacity c.self.inside.above = ap (λ q. deque_capacity q) kept.err.2 in omega arith) c.self.invariant
+    roomy_bigger c.self.inside _ refl kept.err.1 kept.room.0 kept.room.1
+    (ap (λ q. q.items) kept.err.2) (ap (λ q. deque_len q) kept.err.2)
+    (let same : deque_capacity c.extend.new.above ≡ deque_capacity c.self.inside.above =
+    ap (λ q. deque_capacity q) kept.err.2 in omega arith) c.self.invariant
 
 pub put_above-requires : goal.put_above-requires
 put_above-requires g c = above_over _ c.self.invariant.row
@@ -32,7 +37,8 @@ returns-in_err-extend-clause-reserved g c =
 pub invariant_of-self-in_err-put_above : goal.invariant_of-self-in_err-put_above
 invariant_of-self-in_err-put_above g c =
     let kept = c.in_err-put_above.ensures in
-    roomy_bigger c.self.inside _ refl refl refl (omega arith) kept.err.1 kept.err.2 kept.err.3 c.self.invariant
+    roomy_bigger c.self.inside _ refl refl refl
+    (omega arith) kept.err.1 kept.err.2 kept.err.3 c.self.invariant
 
 pub returns-in_err-put_above-clause-reserved : goal.returns-in_err-put_above-clause-reserved
 returns-in_err-put_above-clause-reserved g c =
@@ -51,13 +57,20 @@ invariant_of-self-2 g c =
     let low = a.low.items in
     let above = a.above.items in
     let n = c.args.number in
-    let absent : numbered (counted_from 1 low ++ above) n ≡ None = ap (λ r. numbered (pairs_of r) n) c.self.view_is ∙ c.requires.absent in
+    let absent : numbered (counted_from 1 low ++ above) n ≡ None =
+    ap (λ r. numbered (pairs_of r) n) c.self.view_is ∙ c.requires.absent in
     let behind : 1 + length low ≤ n = absent_low 1 low above n c.requires.from absent in
     let other : n ≡ length low + 1 → ⊥ = search rules in
     let none : numbered above n ≡ None = sym (numbered_behind 1 low above n behind) ∙ absent in
     let fits : n < 2 ^ 32 = c.ranges.number.fits in
-    let over : AreOver (length low + 1) (placed number_lt above (n, c.args.value)) = over_placed (length low + 1) above n c.args.value (omega arith) fits none c.self.invariant.row.above in
-    roomy_unreserved _ (record { low = c.self.invariant.row.low; above = subst (AreOver (length low + 1)) (sym c.in_ok-put_above.ensures.ok) over }) refl
+    let over : AreOver (length low + 1) (placed number_lt above (n, c.args.value)) =
+    over_placed (length low + 1) above n c.args.value
+    (omega arith) fits none c.self.invariant.row.above in
+    roomy_unreserved _ (record {
+      low = c.self.invariant.row.low;
+      above =
+          subst (AreOver (length low + 1)) (sym c.in_ok-put_above.ensures.ok) over;
+    }) refl
 
 pub returns-clause-ok : goal.returns-clause-ok
 returns-clause-ok g c =
@@ -66,11 +79,13 @@ returns-clause-ok g c =
     let above = a.above.items in
     let n = c.args.number in
     let v = c.args.value in
-    let absent : numbered (counted_from 1 low ++ above) n ≡ None = ap (λ r. numbered (pairs_of r) n) c.self.view_is ∙ c.requires.absent in
+    let absent : numbered (counted_from 1 low ++ above) n ≡ None =
+    ap (λ r. numbered (pairs_of r) n) c.self.view_is ∙ c.requires.absent in
     let behind : 1 + length low ≤ n = absent_low 1 low above n c.requires.from absent in
     record {
       pairs =
           ap (λ ps. counted_from 1 low ++ ps) c.in_ok-put_above.ensures.ok
-          ∙ (sym (placed_above 1 low above n v behind) ∙ ap (λ r. placed number_lt (pairs_of r) (n, v)) c.self.view_is);
+          ∙ (sym (placed_above 1 low above n v behind)
+          ∙ ap (λ r. placed number_lt (pairs_of r) (n, v)) c.self.view_is);
       reserved = refl;
     }

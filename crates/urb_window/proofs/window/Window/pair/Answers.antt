@@ -1,4 +1,5 @@
-use Rattle.std.proofs.Common.{◌≡◌, ◌<◌, ◌≤◌, ◌+◌, ◌-◌, rules, arith, ap, sym, ◌∙◌, length, get_or, Some, None}
+use Rattle.std.proofs.Common.{◌≡◌, ◌<◌, ◌≤◌, ◌+◌, ◌-◌, rules, arith, ap, sym, ◌∙◌, length, get_or}
+use Rattle.std.proofs.Common.{Some, None}
 use Rattle.std.specs.Prelude.{slice_get}
 use Rattle.std.proofs.lemmas.Option.{slice_get-get_or, slice_get_past}
 use Rattle.urb_window.specs.Row.{Row, pairs_of}
@@ -14,7 +15,9 @@ returns-then-index-len g c =
     let within : i < length low = search rules in
     let read : d ≡ get_or low i d = search rules in
     let next : i + 1 ≡ 1 + i = omega arith in
-    ap (λ n. Some (n, d)) next ∙ (ap (λ v. Some (1 + i, v)) read ∙ (sym (pair_low 1 low above i d within) ∙ ap (λ r. slice_get (pairs_of r) i) c.self.view_is))
+    ap (λ n. Some (n, d)) next ∙ (ap (λ v. Some (1 + i, v)) read
+    ∙ (sym (pair_low 1 low above i d within)
+    ∙ ap (λ r. slice_get (pairs_of r) i) c.self.view_is))
 
 pub returns-in-Some : goal.returns-in-Some
 returns-in-Some g c =
@@ -25,7 +28,9 @@ returns-in-Some g c =
     let behind : length low ≤ i = search rules in
     let within : i - length low < length above = search rules in
     let read : d ≡ get_or above (i - length low) d = search rules in
-    ap (λ p. Some p) read ∙ (sym (slice_get-get_or above (i - length low) d within) ∙ (sym (pair_behind 1 low above i behind) ∙ ap (λ r. slice_get (pairs_of r) i) c.self.view_is))
+    ap (λ p. Some p) read ∙ (sym (slice_get-get_or above (i - length low) d within)
+    ∙ (sym (pair_behind 1 low above i behind)
+    ∙ ap (λ r. slice_get (pairs_of r) i) c.self.view_is))
 
 pub returns-in-None : goal.returns-in-None
 returns-in-None g c =
@@ -34,4 +39,6 @@ returns-in-None g c =
     let i = c.args.index in
     let behind : length low ≤ i = search rules in
     let beyond : length above ≤ i - length low = search rules in
-    sym (slice_get_past above (i - length low) beyond) ∙ (sym (pair_behind 1 low above i behind) ∙ ap (λ r. slice_get (pairs_of r) i) c.self.view_is)
+    sym (slice_get_past above (i - length low) beyond)
+    ∙ (sym (pair_behind 1 low above i behind)
+    ∙ ap (λ r. slice_get (pairs_of r) i) c.self.view_is)

@@ -1,11 +1,14 @@
-use Rattle.std.proofs.Common.{◌≡◌, ◌<◌, ◌≤◌, ◌+◌, ◌-◌, ◌^◌, ◌++◌, ◌∷◌, nat_lt, rules, refl, arith, ap, sym, ◌∙◌, subst, length, get_or, slice_set, Some, None, true}
+use Rattle.std.proofs.Common.{◌≡◌, ◌<◌, ◌≤◌, ◌+◌, ◌-◌, ◌^◌, ◌++◌, ◌∷◌, nat_lt, rules, refl, arith}
+use Rattle.std.proofs.Common.{ap, sym, ◌∙◌, subst, length, get_or, slice_set, Some, None, true}
 use Rattle.std.specs.Prelude.{IsSome}
 use Rattle.std.specs.List.{prefix_len}
 use Rattle.std.proofs.lemmas.List.{length-set}
-use Rattle.urb_window.specs.Row.{AreOver, IsReplaced, IsRow, Row, counted_from, holds_at, numbered, pairs_of, renumbered}
+use Rattle.urb_window.specs.Row.{AreOver, IsReplaced, IsRow, Row, counted_from, holds_at, numbered}
+use Rattle.urb_window.specs.Row.{pairs_of, renumbered}
 use Rattle.urb_window.proofs.Counted.{above_over, numbered_behind, numbered_low}
 use Rattle.urb_window.proofs.Halved.{holds_within}
-use Rattle.urb_window.proofs.Renumbered.{IsFound, finds, over_renumbered, renumbered_behind, renumbered_low, stands}
+use Rattle.urb_window.proofs.Renumbered.{IsFound, finds, over_renumbered, renumbered_behind}
+use Rattle.urb_window.proofs.Renumbered.{renumbered_low, stands}
 use Rattle.urb_window.proofs.Rooms.{roomy_as}
 use Rattle.urb_window.proofs.window.Window.replace.Goals as goal
 
@@ -13,7 +16,8 @@ use Rattle.urb_window.proofs.window.Window.replace.Goals as goal
 pub invariant_of-self : goal.invariant_of-self
 invariant_of-self g c =
     let a = c.self.inside in
-    let long : length (slice_set a.low.items (c.args.number - 1) c.replace.new.dest) ≡ length a.low.items = length-set a.low.items (c.args.number - 1) c.replace.new.dest in
+    let long : length (slice_set a.low.items (c.args.number - 1) c.replace.new.dest)
+    ≡ length a.low.items = length-set a.low.items (c.args.number - 1) c.replace.new.dest in
     roomy_as a _
     (record {
       low = subst (λ n. n < 2 ^ 32) (sym long) c.self.invariant.row.low;
@@ -29,7 +33,8 @@ returns-then-index-len-clause-old g c =
     let d = c.replace.result in
     let within : n < 1 + length low = search rules in
     let read : d ≡ get_or low (n - 1) d = search rules in
-    sym (ap (λ r. numbered (pairs_of r) n) c.self.view_is) ∙ (numbered_low 1 low above n d c.requires.from within ∙ sym (ap (λ v. Some v) read))
+    sym (ap (λ r. numbered (pairs_of r) n) c.self.view_is)
+    ∙ (numbered_low 1 low above n d c.requires.from within ∙ sym (ap (λ v. Some v) read))
 
 pub returns-then-index-len-clause-new : goal.returns-then-index-len-clause-new
 returns-then-index-len-clause-new g c =
@@ -42,7 +47,8 @@ returns-then-index-len-clause-new g c =
     record {
       pairs =
           ap (λ w. counted_from 1 (slice_set low (n - 1) w) ++ above) put
-          ∙ (sym (renumbered_low 1 low above n (length low + 1) v c.requires.from within c.self.invariant.row.above (omega arith))
+          ∙ (sym (renumbered_low 1 low above n
+          (length low + 1) v c.requires.from within c.self.invariant.row.above (omega arith))
           ∙ ap (λ r. renumbered (pairs_of r) n v) c.self.view_is);
       reserved = ap (λ r. r.reserved) c.self.view_is;
     }
@@ -56,10 +62,14 @@ index_mut-requires-2 g c =
     let above = c.self.inside.above.items in
     let n = c.args.number in
     let behind : 1 + length low ≤ n = search rules in
-    let there : numbered above n ≡ numbered (pairs_of c.args.self.now) n = sym (numbered_behind 1 low above n behind) ∙ ap (λ r. numbered (pairs_of r) n) c.self.view_is in
+    let there : numbered above n ≡ numbered (pairs_of c.args.self.now) n =
+    sym (numbered_behind 1 low above n behind)
+    ∙ ap (λ r. numbered (pairs_of r) n) c.self.view_is in
     let some : IsSome (numbered above n) = subst (λ o. IsSome o) (sym there) c.requires.present in
-    let held : holds_at above (prefix_len (λ p. nat_lt p.0 n) above) n ≡ true = stands 0 above n (above_over _ c.self.invariant.row) some in
-    let within : prefix_len (λ p. nat_lt p.0 n) above < length above = holds_within above (prefix_len (λ p. nat_lt p.0 n) above) n held in
+    let held : holds_at above (prefix_len (λ p. nat_lt p.0 n) above) n ≡ true =
+    stands 0 above n (above_over _ c.self.invariant.row) some in
+    let within : prefix_len (λ p. nat_lt p.0 n) above < length above =
+    holds_within above (prefix_len (λ p. nat_lt p.0 n) above) n held in
     search rules
 
 -- a value of the upper part
@@ -72,12 +82,18 @@ invariant_of-self-2 g c =
     let d = c.index_mut-2.result.now in
     let w = c.replace-2.new.dest in
     let behind : 1 + length low ≤ n = search rules in
-    let some : IsSome (numbered (counted_from 1 low ++ above) n) = subst (λ r. IsSome (numbered (pairs_of r) n)) (sym c.self.view_is) c.requires.present in
-    let found : IsFound low above n w c.place_of-place.result d = finds low above n w c.place_of-place.result d (above_over _ c.self.invariant.row) behind some c.place_of-place.ensures.place c.index_mut-2.ensures.value in
+    let some : IsSome (numbered (counted_from 1 low ++ above) n) =
+    subst (λ r. IsSome (numbered (pairs_of r) n)) (sym c.self.view_is) c.requires.present in
+    let found : IsFound low above n w c.place_of-place.result d =
+    finds low above n w c.place_of-place.result d
+    (above_over _ c.self.invariant.row)
+    behind some c.place_of-place.ensures.place c.index_mut-2.ensures.value in
     roomy_as a _
     (record {
       low = c.self.invariant.row.low;
-      above = subst (AreOver (length low + 1)) (sym found.set) (over_renumbered (length low + 1) above n w c.self.invariant.row.above);
+      above =
+          subst (AreOver (length low + 1)) (sym found.set)
+          (over_renumbered (length low + 1) above n w c.self.invariant.row.above);
     })
     refl refl refl (omega arith) refl (omega arith) c.self.invariant
 
@@ -88,9 +104,14 @@ returns-clause-old g c =
     let n = c.args.number in
     let d = c.index_mut-2.result.now in
     let behind : 1 + length low ≤ n = search rules in
-    let some : IsSome (numbered (counted_from 1 low ++ above) n) = subst (λ r. IsSome (numbered (pairs_of r) n)) (sym c.self.view_is) c.requires.present in
-    let found : IsFound low above n c.args.value c.place_of-place.result d = finds low above n c.args.value c.place_of-place.result d (above_over _ c.self.invariant.row) behind some c.place_of-place.ensures.place c.index_mut-2.ensures.value in
-    sym (ap (λ r. numbered (pairs_of r) n) c.self.view_is) ∙ (found.old ∙ sym (ap (λ v. Some v) c.replace-2.ensures.value))
+    let some : IsSome (numbered (counted_from 1 low ++ above) n) =
+    subst (λ r. IsSome (numbered (pairs_of r) n)) (sym c.self.view_is) c.requires.present in
+    let found : IsFound low above n c.args.value c.place_of-place.result d =
+    finds low above n c.args.value c.place_of-place.result d
+    (above_over _ c.self.invariant.row)
+    behind some c.place_of-place.ensures.place c.index_mut-2.ensures.value in
+    sym (ap (λ r. numbered (pairs_of r) n) c.self.view_is)
+    ∙ (found.old ∙ sym (ap (λ v. Some v) c.replace-2.ensures.value))
 
 pub returns-clause-new : goal.returns-clause-new
 returns-clause-new g c =
@@ -100,12 +121,18 @@ returns-clause-new g c =
     let v = c.args.value in
     let d = c.index_mut-2.result.now in
     let behind : 1 + length low ≤ n = search rules in
-    let some : IsSome (numbered (counted_from 1 low ++ above) n) = subst (λ r. IsSome (numbered (pairs_of r) n)) (sym c.self.view_is) c.requires.present in
-    let found : IsFound low above n v c.place_of-place.result d = finds low above n v c.place_of-place.result d (above_over _ c.self.invariant.row) behind some c.place_of-place.ensures.place c.index_mut-2.ensures.value in
+    let some : IsSome (numbered (counted_from 1 low ++ above) n) =
+    subst (λ r. IsSome (numbered (pairs_of r) n)) (sym c.self.view_is) c.requires.present in
+    let found : IsFound low above n v c.place_of-place.result d =
+    finds low above n v c.place_of-place.result d
+    (above_over _ c.self.invariant.row)
+    behind some c.place_of-place.ensures.place c.index_mut-2.ensures.value in
     record {
       pairs =
-          ap (λ w. counted_from 1 low ++ slice_set above c.place_of-place.result (d.0, w)) c.replace-2.ensures.after
+          ap (λ w. counted_from 1 low ++ slice_set above c.place_of-place.result (d.0, w))
+          c.replace-2.ensures.after
           ∙ (ap (λ ps. counted_from 1 low ++ ps) found.set
-          ∙ (sym (renumbered_behind 1 low above n v behind) ∙ ap (λ r. renumbered (pairs_of r) n v) c.self.view_is));
+          ∙ (sym (renumbered_behind 1 low above n v behind)
+          ∙ ap (λ r. renumbered (pairs_of r) n v) c.self.view_is));
       reserved = ap (λ r. r.reserved) c.self.view_is;
     }

@@ -1,6 +1,8 @@
-use Rattle.std.proofs.Common.{◌≡◌, ◌<◌, ◌≤◌, ◌+◌, rules, refl, ap, sym, ◌∙◌, subst, slice_set, length, Some}
+use Rattle.std.proofs.Common.{◌≡◌, ◌<◌, ◌≤◌, ◌+◌, rules, refl, ap, sym, ◌∙◌, subst, slice_set}
+use Rattle.std.proofs.Common.{length, Some}
 use Rattle.std.specs.List.{AllByRecursion}
 use Rattle.std.proofs.lemmas.List.{set-get_or}
+use Rattle.urb_names.specs.declared.limits.TheConstants.{MAX_SENDERS}
 use Rattle.urb_window.specs.Row.{IsRow, Row, pairs_of}
 use Rattle.urb_window.specs.Rows.{entries_from}
 use Rattle.urb_window.proofs.Filed.{kept_filled, kept_reserved, same_here}
@@ -8,7 +10,9 @@ use Rattle.urb_window.proofs.windows.Windows.reserve.Goals as goal
 
 -- the allocation of rows was refused
 pub invariant_of-self : goal.invariant_of-self
-invariant_of-self g c = kept_filled c.self.inside _ refl c.fill.ensures.most c.fill.ensures.rows (λ e. (c.fill.ensures.full e).0) c.self.invariant
+invariant_of-self g c =
+    kept_filled c.self.inside _ refl c.fill.ensures.most c.fill.ensures.rows
+    (λ e. (c.fill.ensures.full e).0) c.self.invariant
 
 -- the row's own allocation was refused
 pub invariant_of-self-in_err-reserve : goal.invariant_of-self-in_err-reserve
@@ -17,20 +21,27 @@ invariant_of-self-in_err-reserve g c =
     let i = c.index_of.result in
     let row = c.index_mut-row.result.now in
     let unchanged : c.reserve.new.self ≡ row = search rules in
-    let same : slice_set rows i c.reserve.new.self ≡ rows = ap (slice_set rows i) (unchanged ∙ c.index_mut-row.ensures.value) ∙ set-get_or rows i row in
-    let most : length (slice_set rows i c.reserve.new.self) ≤ 7 = subst (λ rs. length rs ≤ 7) (sym same) c.fill.ensures.most in
-    kept_filled c.self.inside _ refl most (λ h. subst (AllByRecursion IsRow) (sym same) (c.fill.ensures.rows h)) (λ e. same ∙ (c.fill.ensures.full e).0) c.self.invariant
+    let same : slice_set rows i c.reserve.new.self ≡ rows =
+    ap (slice_set rows i) (unchanged ∙ c.index_mut-row.ensures.value) ∙ set-get_or rows i row in
+    let most : length (slice_set rows i c.reserve.new.self) ≤ MAX_SENDERS =
+    subst (λ rs. length rs ≤ MAX_SENDERS) (sym same) c.fill.ensures.most in
+    kept_filled c.self.inside _ refl most
+    (λ h. subst (AllByRecursion IsRow) (sym same) (c.fill.ensures.rows h))
+    (λ e. same ∙ (c.fill.ensures.full e).0) c.self.invariant
 
 pub invariant_of-self-2 : goal.invariant_of-self-2
 invariant_of-self-2 g c =
     let rows = c.fill.new.rows.items in
     let i = c.index_of.result in
     let new = c.reserve.new.self in
-    let seven : length rows ≡ 7 = search rules in
+    let senders : length rows ≡ MAX_SENDERS = search rules in
     let within : i < length rows = search rules in
     let promise : new.reserved ≡ Some c.name.inside.seq = search rules in
-    let is : IsRow new = c.limits-2.ensures in
-    kept_reserved _ rows i new c.args.name refl seven (c.fill.ensures.rows c.self.invariant.rows) refl (c.index_of.ensures.place ∙ ap (λ y. y.sender) c.name.view_is) within (promise ∙ ap (λ y. Some y.seq) c.name.view_is) is
+    let is : IsRow new = c.recall-2.ensures in
+    kept_reserved _ rows i new c.args.name refl senders
+    (c.fill.ensures.rows c.self.invariant.rows) refl
+    (c.index_of.ensures.place ∙ ap (λ y. y.sender) c.name.view_is) within
+    (promise ∙ ap (λ y. Some y.seq) c.name.view_is) is
 
 pub returns-clause-ok : goal.returns-clause-ok
 returns-clause-ok g c =
@@ -40,5 +51,7 @@ returns-clause-ok g c =
     let new = c.reserve.new.self in
     let within : i < length rows = search rules in
     let pairs : pairs_of new ≡ pairs_of row = search rules in
-    let same : entries_from 1 (slice_set rows i new) ≡ entries_from 1 rows = same_here rows i row new within c.index_mut-row.ensures.value pairs in
-    ap (λ es. record { entries = es; reserved = Some c.args.name }) (same ∙ (c.fill.ensures.entries ∙ ap (λ set. set.entries) c.self.view_is))
+    let same : entries_from 1 (slice_set rows i new) ≡ entries_from 1 rows =
+    same_here rows i row new within c.index_mut-row.ensures.value pairs in
+    ap (λ es. record { entries = es; reserved = Some c.args.name })
+    (same ∙ (c.fill.ensures.entries ∙ ap (λ set. set.entries) c.self.view_is))

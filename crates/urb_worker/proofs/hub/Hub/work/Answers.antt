@@ -1,21 +1,29 @@
 use Rattle.std.proofs.Common.{refl, rules, subst, sym, true, ◌∙◌, ◌≡◌}
-use Rattle.urb_worker.proofs.Turned.{stores_none, whole}
+use Rattle.urb_worker.proofs.TurnSteps.{stores_none, whole}
 use Rattle.urb_worker.proofs.hub.Hub.work.Goals as goal
 use Rattle.urb_worker.specs.Jobs.{runs_at}
-use Rattle.urb_worker.specs.Whole.{Does}
+use Rattle.urb_worker.specs.WholeTurns.{Does}
 
 -- nothing was asked of the store: both events came at once
 pub returns-then-is_stored-clause-turn : goal.returns-then-is_stored-clause-turn
 returns-then-is_stored-clause-turn g c =
     let runs : runs_at c.args.node c.args.job ≡ true = search rules in
-    subst (λ b. Does g.S.Stable c.args.node b c.args.job c.args.store.now c.args.store.now c.finish-done.result) (sym runs)
-    (whole g.S.Stable c.args.node c.args.job c.args.store.now c.args.store.now c.finish-done.result _ _ _ _ c.begin-turn.result c.begin-turn.result runs c.begin-turn.ensures.job refl c.finish-done.ensures.sound
-    c.begin-turn.ensures.step (stores_none g.S.Stable c.args.store.now c.args.store.now c.begin-turn.result.stage (search rules)) c.finish-done.ensures.step)
+    subst (λ b. Does g.S.Stable c.args.node b c.args.job c.args.store.now c.args.store.now
+    c.finish-done.result) (sym runs)
+    (whole g.S.Stable c.args.node c.args.job c.args.store.now c.args.store.now c.finish-done.result
+    _ _ _ _ c.begin-turn.result c.begin-turn.result runs c.begin-turn.ensures.job refl
+    c.finish-done.ensures.sound
+    c.begin-turn.ensures.step (stores_none g.S.Stable c.args.store.now c.args.store.now
+    c.begin-turn.result.stage (search rules)) c.finish-done.ensures.step)
 
 -- the store did its part between the two events
 pub returns-clause-turn : goal.returns-clause-turn
 returns-clause-turn g c =
     let runs : runs_at c.args.node c.args.job ≡ true = search rules in
-    subst (λ b. Does g.S.Stable c.args.node b c.args.job c.args.store.now c.store-turn.new.store c.finish-finished.result) (sym runs)
-    (whole g.S.Stable c.args.node c.args.job c.args.store.now c.store-turn.new.store c.finish-finished.result _ _ _ _ c.begin-turn.result c.store-turn.result runs (c.store-turn.ensures.job ∙ c.begin-turn.ensures.job)
-    c.store-turn.ensures.events c.finish-finished.ensures.sound c.begin-turn.ensures.step c.store-turn.ensures.step c.finish-finished.ensures.step)
+    subst (λ b. Does g.S.Stable c.args.node b c.args.job c.args.store.now c.store-turn.new.store
+    c.finish-finished.result) (sym runs)
+    (whole g.S.Stable c.args.node c.args.job c.args.store.now c.store-turn.new.store
+    c.finish-finished.result _ _ _ _ c.begin-turn.result c.store-turn.result runs
+    (c.store-turn.ensures.job ∙ c.begin-turn.ensures.job)
+    c.store-turn.ensures.events c.finish-finished.ensures.sound c.begin-turn.ensures.step
+    c.store-turn.ensures.step c.finish-finished.ensures.step)

@@ -1,8 +1,8 @@
 use Rattle.urb_show.specs.Lists.{lists_in}
 use Rattle.urb_worker_tests.proofs.tests.desks.a_session_at_a_running_node.Given as goal
 
-abbrev pub ghosts-served-K-HouseName : goal.ghosts-served-K-HouseName
-ghosts-served-K-HouseName g a = record { book = a.opened.book; base = lists_in a.opened.group }
+abbrev pub ghosts-run_session-K-HouseName : goal.ghosts-run_session-K-HouseName
+ghosts-run_session-K-HouseName g a = record { book = a.opened.book; base = lists_in a.opened.group }
 
-abbrev pub ghosts-served-L-Ledger : goal.ghosts-served-L-Ledger
-ghosts-served-L-Ledger g a = record { name = a.blank.name; parts = a.blank.parts }
+abbrev pub ghosts-run_session-L-Ledger : goal.ghosts-run_session-L-Ledger
+ghosts-run_session-L-Ledger g a = record { name = a.blank.name; parts = a.blank.parts }

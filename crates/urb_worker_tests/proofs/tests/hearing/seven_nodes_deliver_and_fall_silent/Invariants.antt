@@ -1,8 +1,9 @@
 use Rattle.urb_show.specs.Lists.{lists_in}
 use Rattle.urb_worker_tests.proofs.tests.hearing.seven_nodes_deliver_and_fall_silent.Given as goal
 
-abbrev pub ghosts-played-K-HouseName : goal.ghosts-played-K-HouseName
-ghosts-played-K-HouseName g a = record { book = a.opened.book; base = lists_in a.opened.group }
+abbrev pub ghosts-run_until_quiet-K-HouseName : goal.ghosts-run_until_quiet-K-HouseName
+ghosts-run_until_quiet-K-HouseName g a =
+    record { book = a.opened.book; base = lists_in a.opened.group }
 
-abbrev pub ghosts-played-L-Ledger : goal.ghosts-played-L-Ledger
-ghosts-played-L-Ledger g a = record { name = a.blank.name; parts = a.blank.parts }
+abbrev pub ghosts-run_until_quiet-L-Ledger : goal.ghosts-run_until_quiet-L-Ledger
+ghosts-run_until_quiet-L-Ledger g a = record { name = a.blank.name; parts = a.blank.parts }

@@ -1,5 +1,5 @@
 use Rattle.urb_show.specs.Lists.{lists_in}
 use Rattle.urb_worker_tests.proofs.tests.strays.a_desk_tells_nothing_of_another_job.Given as goal
 
-abbrev pub ghosts-asked : goal.ghosts-asked
-ghosts-asked g a = record { book = a.opened.book; base = lists_in a.opened.group }
+abbrev pub ghosts-ask_desk : goal.ghosts-ask_desk
+ghosts-ask_desk g a = record { book = a.opened.book; base = lists_in a.opened.group }

@@ -1,5 +1,5 @@
 use Rattle.urb_show.specs.Lists.{lists_in}
 use Rattle.urb_worker_tests.proofs.tests.turns.a_turn_has_replies_of_its_own.Given as goal
 
-abbrev pub ghosts-played_other : goal.ghosts-played_other
-ghosts-played_other g a = record { book = a.opened.book; base = lists_in a.opened.group }
+abbrev pub ghosts-run_other_turns : goal.ghosts-run_other_turns
+ghosts-run_other_turns g a = record { book = a.opened.book; base = lists_in a.opened.group }

@@ -1,0 +1,13 @@
+use Rattle.std.proofs.Common.{◌≡◌, subst, true}
+use Rattle.urb_names.specs.Names.{name_lt, same_name}
+use Rattle.urb_certified.specs.Certificates.{Certificates, IsCertificates}
+use Rattle.urb_certified.specs.Parts.{all_names}
+use Rattle.urb_certified.proofs.Sets.{set_rises}
+use Rattle.urb_certified.proofs.Orders.{names_in_order}
+use Rattle.urb_certified.proofs.certified.Certified.recall.Goals as goal
+
+pub returns : goal.returns
+returns g c =
+    subst IsCertificates c.self.view_is
+    (set_rises name_lt same_name names_in_order
+    (all_names c.self.inside.low c.self.inside.above.items))

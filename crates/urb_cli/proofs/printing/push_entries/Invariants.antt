@@ -1,8 +1,0 @@
-use Rattle.std.proofs.Common.{◌≡◌, ◌++◌, drop}
-use Rattle.std.specs.List.{flat_map}
-use Rattle.urb_cli.specs.Shown.{entry_line}
-use Rattle.urb_cli.proofs.printing.push_entries.Given as goal
-
--- what is pushed so far, and what is left
-abbrev pub invariant-loop-entry : goal.invariant-loop-entry
-invariant-loop-entry l = l.text.items ++ flat_map entry_line (drop l.entry-index l.entries) ≡ l.fn.text.items ++ flat_map entry_line l.entries

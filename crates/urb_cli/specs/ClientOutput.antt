@@ -1,0 +1,77 @@
+-- What a client's commands show.
+use Rattle.std.specs.Prelude.{◌≡◌, ◌⊎◌, ◌+◌, ℕ, ◌==◌, ◌/◌, ◌%◌, nat_lt, List, [], ◌∷◌, ◌++◌, length}
+use Rattle.std.specs.Prelude.{flat_map, Option, Some, None, if◌then◌else◌, codes}
+use Rattle.std.specs.Fmt.{decimal}
+use Rattle.urb_names.specs.Naming.{Label, Content}
+use Rattle.urb_client.specs.Responses.{Said, encoding}
+use Rattle.urb_client.specs.ReceivedResponses.{HasNoResponse}
+use Rattle.urb_cli.specs.declared.client.printed.Printed.{Printed}
+use Rattle.urb_client.specs.Responses as said
+
+-- a text, and the status of the program
+abbrev pub Shown : Type 0
+Shown = List ℕ × ℕ
+
+-- what is printed, and the status, wherever they are in memory
+abbrev pub shown_by : Printed → Shown
+shown_by printed = (printed.text.items, printed.status)
+
+-- a digit; from ten on it is a lower-case letter
+abbrev pub hex_digit : ℕ → ℕ
+hex_digit n = if nat_lt n 10 then 48 + n else 87 + n
+
+-- the two digits of a byte
+abbrev pub hex_byte : ℕ → List ℕ
+hex_byte byte = hex_digit (byte / 16) ∷ hex_digit (byte % 16) ∷ []
+
+-- a payload: the digits of its bytes, or a hyphen if it has no bytes
+abbrev pub hex_payload : List ℕ → List ℕ
+hex_payload payload = if length payload == 0 then codes "-" else flat_map hex_byte payload
+
+-- the line of an entry: its name, the client, the client's number, and the payload
+abbrev pub entry_line : Label × Content → List ℕ
+entry_line entry =
+    decimal entry.0.sender ++ (46
+    ∷ (decimal entry.0.seq ++ (32 ∷ (decimal entry.1.client ++ (32 ∷ (decimal entry.1.number
+    ++ (32 ∷ (hex_payload entry.1.payload ++ 10 ∷ []))))))))
+
+-- a message was accepted: the line `accepted SEQ` with this number, and status 0
+abbrev pub accepted_shown : ℕ → Shown
+accepted_shown seq = (codes "accepted " ++ (decimal seq ++ 10 ∷ []), 0)
+
+-- a request was refused: the line `refused NUMBER DETAIL`, and status 4
+abbrev pub refused_shown : ℕ → ℕ → Shown
+refused_shown number detail =
+    (codes "refused " ++ (decimal number ++ (32 ∷ (decimal detail ++ 10 ∷ []))), 4)
+
+-- these entries were read: their lines, and status 0
+abbrev pub listing_shown : List (Label × Content) → Shown
+listing_shown entries = (flat_map entry_line entries, 0)
+
+-- what `urbd submit` shows for a response; nothing if it is no response to a submit
+abbrev pub submit_shown : Said → Option Shown
+submit_shown (said.Accepted seq) = Some (accepted_shown seq)
+submit_shown (said.Refused number detail) = Some (refused_shown number detail)
+submit_shown _ = None
+
+-- what `urbd read` shows for a response; nothing if it is no response to a read
+abbrev pub read_shown : Said → Option Shown
+read_shown (said.Listing entries) = Some (listing_shown entries)
+read_shown (said.Refused number detail) = Some (refused_shown number detail)
+read_shown _ = None
+
+-- this is shown for some response
+abbrev pub IsShown : (Said → Option Shown) → Shown → Type 0
+IsShown shows shown = (answer : Said) × (shows answer ≡ Some shown)
+
+-- the bytes begin with a response, and this is shown for it
+abbrev pub ShowsAs : (Said → Option Shown) → Shown → List ℕ → Type 0
+ShowsAs shows shown input =
+    (answer : Said) × (rest : List ℕ) × (input ≡ encoding answer ++ rest)
+    × (shows answer ≡ Some shown)
+
+-- the bytes begin with no response, or with one that shows nothing
+abbrev pub ShowsNothing : (Said → Option Shown) → List ℕ → Type 0
+ShowsNothing shows input =
+    HasNoResponse input ⊎ ((answer : Said) × (rest : List ℕ) × (input ≡ encoding answer ++ rest)
+    × (shows answer ≡ None))

@@ -1,0 +1,7 @@
+//! The command line: what the parser accepts, how its words are read, and what they ask for.
+
+pub(crate) mod grammar;
+pub(crate) mod options;
+pub(crate) mod parse;
+pub(crate) mod task;
+pub(crate) mod values;

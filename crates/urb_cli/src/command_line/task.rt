@@ -1,0 +1,53 @@
+//! What a command line asks for.
+
+ghost use Rattle.std.specs.Prelude.{◌<◌, ◌≤◌};
+ghost use Rattle.urb_client.specs.declared.format.TheConstants.{MOST_ENTRIES};
+
+use crate::command_line::options::ServeOptions;
+
+/// A message to submit: the port, the client, the message's number, and its text.
+#[derive(Clone, Copy, Debug)]
+pub struct SubmitOptions<'a> {
+    /// The node's port for clients, from 1.
+    pub port: u16,
+    /// The client's number, from 1.
+    pub client: u16,
+    /// Which of the client's messages it is: 0 to 4,294,967,295. The first one is 1. A node refuses
+    /// 0 as a gap.
+    pub number: u32,
+    /// The message. A message over `MAX_PAYLOAD` bytes is refused before it is sent.
+    pub text: &'a str,
+    ghost within: { (0 < port) × (0 < client) },
+}
+
+/// Entries to read: the port, the first place in the log, and the greatest number of entries.
+#[derive(Clone, Copy, Debug)]
+pub struct ReadOptions {
+    /// The node's port for clients, from 1.
+    pub port: u16,
+    /// The first place, from 1.
+    pub from: u32,
+    /// The most entries, 1 to `MOST_ENTRIES`.
+    pub max: u8,
+    ghost within: { (0 < port) × (0 < from) × (0 < max) × (max ≤ MOST_ENTRIES) },
+}
+
+/// Something that the program does by itself, once.
+#[derive(Clone, Copy, Debug)]
+pub enum Errand<'a> {
+    /// Run a script from standard input to standard output.
+    Replay,
+    /// Send one message to a node.
+    Submit(SubmitOptions<'a>),
+    /// Show entries of a node's log.
+    Read(ReadOptions),
+}
+
+/// What the program should do.
+#[derive(Clone, Copy, Debug)]
+pub enum Line<'a> {
+    /// Run a group of nodes until standard input ends.
+    Serve(ServeOptions<'a>),
+    /// Do one thing, and end.
+    Errand(Errand<'a>),
+}

@@ -1,0 +1,111 @@
+//! What the parser found on a command line, turned into a task.
+
+ghost use Rattle.std.specs.Prelude.{◌≡◌, ◌≤◌, ◌&&◌, nat_le, IfSome, Some, None, option_map};
+ghost use Rattle.std.specs.Prelude.{option_and_then, if◌then◌else◌};
+ghost use Rattle.clap.specs.Words.{first_of, found_of, rows_of, subcommand_rows_of};
+ghost use Rattle.urb_cli.specs.Tasks.{Serve, number_of, serve_task, submit_task, read_task};
+ghost use Rattle.urb_cli.specs.Tasks.{task_named, task_of, task_of_serving, task_of_submitting};
+ghost use Rattle.urb_cli.specs.Tasks.{task_of_reading};
+
+use crate::command_line::options::ServeOptions;
+use crate::command_line::task::{Errand, Line, ReadOptions, SubmitOptions};
+use crate::limits::{MAX_BASE_PORT, MAX_TICK_MILLIS, MIN_BASE_PORT};
+use clap::ArgMatches;
+use urb_client::MOST_ENTRIES;
+use urb_names::{MAX_CAP, MAX_NODES};
+
+// The number, if it is within these bounds.
+fn keep_in_range(number: Option<u32>, low: u32, high: u32) -> Option<u32>
+    ensures value { result
+        ≡ option_and_then (λ n. if nat_le low n && nat_le n high then Some n else None) number }
+    ensures range { IfSome result (λ n. (low ≤ n) × (n ≤ high)) }
+{
+    match number {
+        Some(number) if low <= number && number <= high => Some(number),
+        _ => None,
+    }
+}
+
+// The value of an option: a number from `low` to `high`.
+fn number(found: &ArgMatches<'_>, name: &str, low: u32, high: u32) -> Option<u32>
+    ensures value { result ≡ number_of name.now low high (rows_of (found_of found.now)) }
+    ensures range { IfSome result (λ n. (low ≤ n) × (n ≤ high)) }
+{
+    keep_in_range(found.get_one::<u32>(name), low, high)
+}
+
+// The text of an option, or of a word at its place.
+fn text<'a>(found: &ArgMatches<'a>, name: &str) -> Option<&'a str>
+    ensures { option_map (λ s. s.now) result ≡ first_of name.now (rows_of (found_of found.now)) }
+{
+    found.get_str(name)
+}
+
+#[tactic(auto, unfolding(crate::specs::Tasks::serve_task))]
+fn read_serve_options<'a>(found: &ArgMatches<'a>) -> Option<ServeOptions<'a>>
+    ensures { option_map task_of_serving result ≡ serve_task (rows_of (found_of found.now)) }
+{
+    let nodes = number(found, "nodes", 1, MAX_NODES as u32)?;
+    let cap = number(found, "cap", 1, MAX_CAP)?;
+    let dir = text(found, "dir")?;
+    let base = number(
+        found,
+        "base-port",
+        MIN_BASE_PORT as u32,
+        MAX_BASE_PORT as u32,
+    )?;
+    let every = number(found, "tick-ms", 1, MAX_TICK_MILLIS)?;
+    ServeOptions::new(nodes as u8, cap, dir, base as u16, every)
+}
+
+#[tactic(auto, unfolding(crate::specs::Tasks::submit_task))]
+fn read_submit_options<'a>(found: &ArgMatches<'a>) -> Option<SubmitOptions<'a>>
+    ensures { option_map task_of_submitting result ≡ submit_task (rows_of (found_of found.now)) }
+{
+    let port = number(found, "port", 1, 65_535)?;
+    let client = number(found, "client", 1, 65_535)?;
+    let number = number(found, "number", 0, 4_294_967_295)?;
+    let text = text(found, "TEXT")?;
+    Some(SubmitOptions {
+        port: port as u16,
+        client: client as u16,
+        number,
+        text,
+    })
+}
+
+#[tactic(auto, unfolding(crate::specs::Tasks::read_task))]
+fn read_read_options(found: &ArgMatches<'_>) -> Option<ReadOptions>
+    ensures { option_map task_of_reading result ≡ read_task (rows_of (found_of found.now)) }
+{
+    let port = number(found, "port", 1, 65_535)?;
+    let from = number(found, "from", 1, 4_294_967_295)?;
+    let max = number(found, "max", 1, MOST_ENTRIES as u32)?;
+    Some(ReadOptions {
+        port: port as u16,
+        from,
+        max: max as u8,
+    })
+}
+
+fn read_subcommand<'a>(name: &str, found: &ArgMatches<'a>) -> Option<Line<'a>>
+    ensures { option_map task_of result
+        ≡ task_named (Some (name.now, rows_of (found_of found.now))) }
+{
+    match name {
+        "replay" => Some(Line::Errand(Errand::Replay)),
+        "serve" => Some(Line::Serve(read_serve_options(found)?)),
+        "submit" => Some(Line::Errand(Errand::Submit(read_submit_options(found)?))),
+        "read" => Some(Line::Errand(Errand::Read(read_read_options(found)?))),
+        _ => None,
+    }
+}
+
+/// What the program should do. `None` if a required option is missing, or is no number in its
+/// range.
+pub(crate) fn read_matches<'a>(matches: &ArgMatches<'a>) -> Option<Line<'a>>
+    ensures { option_map task_of result ≡ task_named (subcommand_rows_of matches.now) }
+{
+    let (name, found) = matches.subcommand()?;
+    read_subcommand(name, found)
+}

@@ -1,0 +1,37 @@
+-- Every response fits in a frame.
+use Rattle.std.proofs.Common.{◌≡◌, ℕ, ◌+◌, ◌*◌, ◌<◌, ◌≤◌, List, [], ◌∷◌, length, get_or, take, refl}
+use Rattle.std.proofs.Common.{sym, subst, length-append, arith}
+use Rattle.std.specs.List.{flat_map, All, AllByRecursion}
+use Rattle.std.proofs.lemmas.List.{take_all, take_more}
+use Rattle.std.proofs.lemmas.List.Elements.{All-push, recursion_from_All}
+use Rattle.urb_names.specs.Naming.{Label, Content}
+use Rattle.urb_client.specs.declared.format.TheConstants.{LONGEST_FRAME}
+use Rattle.urb_client.specs.Listings.{IsEntry, entry_bytes, entry_head}
+use Rattle.urb_client.specs.Responses.{Said, Accepted, Listing, Status, Done, Refused, IsSaid}
+use Rattle.urb_client.specs.Responses.{response_body}
+
+-- a response fits in a frame
+pub said_fits : (said : Said) → IsSaid said → length (response_body said) ≤ LONGEST_FRAME
+said_fits (Accepted seq) is = omega arith
+said_fits (Listing entries) is = is.2
+said_fits (Status state own logged) is = omega arith
+said_fits Done is = omega arith
+said_fits (Refused number detail) is = omega arith
+
+-- one more is an entry
+pub entries_more : (entries : List (Label × Content)) (i : ℕ) (entry : Label × Content)
+    → i < length entries → entry ≡ get_or entries i entry → IsEntry entry
+    → All IsEntry (take i entries) → All IsEntry (take (i + 1) entries)
+entries_more entries i entry lt here is so_far =
+    subst (All IsEntry) (sym (take_more entries i entry lt))
+    (All-push IsEntry (take i entries) (get_or entries i entry) so_far (subst IsEntry here is))
+
+-- all are, when the loop ends
+pub entries_all : (entries : List (Label × Content)) (i : ℕ) → length entries ≤ i
+    → All IsEntry (take i entries) → All IsEntry entries
+entries_all entries i le are = subst (All IsEntry) (take_all i entries le) are
+
+pub entries_are : (entries other : List (Label × Content)) → other ≡ entries → All IsEntry other
+    → AllByRecursion IsEntry entries
+entries_are entries other e are =
+    subst (AllByRecursion IsEntry) e (recursion_from_All IsEntry other are)

@@ -1,5 +1,0 @@
-use Rattle.urb_client.proofs.Limits.{entries_are}
-use Rattle.urb_client.proofs.response.Entries.limits.Goals as goal
-
-pub returns : goal.returns
-returns g c = (c.as_slice.ensures.limit, entries_are c.args.self.now c.as_slice.result.now c.as_slice.ensures.value c.limits_of.ensures, c.as_slice.ensures.room)

@@ -1,0 +1,8 @@
+use Rattle.std.proofs.Common.{take}
+use Rattle.std.specs.List.{All}
+use Rattle.urb_client.specs.Listings.{IsEntry}
+use Rattle.urb_client.proofs.response.recall_entries.Given as goal
+
+-- all so far are
+abbrev pub invariant-loop-name : goal.invariant-loop-name
+invariant-loop-name g l = All IsEntry (take l.name-index l.entries)

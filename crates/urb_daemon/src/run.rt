@@ -1,0 +1,168 @@
+//! The run of a group over its stores, from its opening until standard input ends.
+
+ghost use Rattle.std.specs.Prelude.{◌≡◌, ◌≤◌, IfErr, vec_len};
+ghost use Rattle.urb_group.specs.Reopening.{HasStopped};
+ghost use Rattle.urb_group.specs.Shown.{GroupView};
+ghost use Rattle.urb_group.specs.World.{World};
+ghost use Rattle.urb_worker.specs.ServedStores.{AreServed};
+ghost use Rattle.urb_daemon.specs.RunsAfterStop.{EndsAfterStop};
+ghost use Rattle.urb_daemon.specs.Runs.{ComeBack, EndsFrom, end_of, limits_of};
+
+use crate::console::Console;
+use crate::group::open_group;
+use crate::journal::Journal;
+use crate::reports::Reports;
+use crate::sockets::{Network, open_network};
+use sqlite_disk::Disk;
+use std::alloc::Global;
+use std::io::Read;
+use std::marker::Brand;
+use std::net::{Net, TcpListener, TcpStream};
+use std::sync::Wait;
+use std::sync::ledger::Blank;
+use std::thread::Threads;
+use std::time::Clock;
+use urb_cli::{Fault, ServeOptions, report_fault};
+use urb_group::{Group, Stable};
+use urb_show::House;
+use urb_worker::{GroupSetting, Watch, run_group};
+
+/// What the daemon needs of the runtime: threads, waiting, the clock and standard error. Functions
+/// that use sockets ask for `Net` as well, because they have to name the types of its sockets.
+pub trait Host: Threads + Wait + Clock + Eprint + Sync {}
+
+impl<R: Threads + Wait + Clock + Eprint + Sync> Host for R {}
+
+/// Runs a group over its stores until the watch ends. It reports on standard error each node that
+/// goes down or comes back. It returns the stores, and the count of the group's events. There is no
+/// count if memory or a thread was refused.
+pub fn run_group_at<S: Stable<Alloc = Global> + Send + Drop, R, W: Watch>(
+    rt: &R,
+    alloc: Global,
+    group: Group,
+    network: &Network,
+    stores: Vec<S>,
+    watch: &mut W,
+) -> (Vec<S>, Option<u64>)
+where
+    R: Host + Net<Listener = TcpListener, Stream = TcpStream>,
+    requires stores { vec_len stores ≡ group.size.n }
+    requires stations { vec_len network.now.stations ≡ group.size.n }
+    ensures count { vec_len result.0 ≡ vec_len stores }
+    // Each store is returned at its place, as its own node's turns left it.
+    ensures order { AreServed S.Stable stores.items result.0.items }
+{
+    let blank = Blank::new(u64::from(group.config().n()));
+    let Ok(opened) = House::open(group) else {
+        unreachable!()
+    };
+    let reports = Reports::new(rt);
+    let setting = GroupSetting {
+        rt,
+        alloc,
+        link: &network.link,
+        stations: network.stations.as_slice(),
+        tick_millis: network.every,
+        reporter: &reports,
+    };
+    run_group::<Brand, Brand, S, Reports<'_, R>, R, W>(&setting, opened, blank, stores, watch)
+}
+
+// How a run has ended, judged by the count of its events, if it has one, and by whether its opening
+// was reported.
+fn judge_end(events: Option<u64>, is_told: bool) -> Result<u64, Fault>
+    ensures { result ≡ end_of events is_told }
+{
+    match events {
+        Some(events) if is_told => Ok(events),
+        Some(_) => Err(Fault::Write),
+        None => Err(Fault::NoMemory),
+    }
+}
+
+/// Opens a group over its stores and its network, and runs it until standard input ends. The
+/// console prints `open N` once everything is open. The result is the count of the group's events,
+/// or the fault. In either case the stores are returned, so nothing that was accepted is lost.
+pub fn run_stores<S: Stable<Alloc = Global> + Send + Drop, R, P: Print, I: Read + Drop>(
+    rt: &R,
+    alloc: Global,
+    serving: ServeOptions<'_>,
+    stores: Vec<S>,
+    console: &mut Console<'_, P, I>,
+) -> (Vec<S>, Result<u64, Fault>)
+where
+    R: Host + Net<Listener = TcpListener, Stream = TcpStream>,
+    requires { vec_len stores ≡ serving.nodes }
+    ensures count { vec_len result.0 ≡ vec_len stores }
+    // The stores are returned in their nodes' order, each as its own node's turns left it.
+    ensures order { ComeBack S.Stable stores.items result.0.items }
+    // A count of events comes only from a run whose opening was reported. A fault is the first that
+    // there was.
+    ensures ends { EndsFrom S.Stable (limits_of serving.entry) stores.items console.new.is_told
+        result.1 result.0.items }
+    // If the stores hold what a stop of a group with these limits left, the group goes on from the
+    // world before the stop.
+    ensures goes_on { (old : GroupView) (w : World)
+        → HasStopped S.Stable old w (limits_of serving.entry) stores.items
+        → EndsAfterStop S.Stable old w (limits_of serving.entry) stores.items
+        console.new.is_told result.1 result.0.items }
+{
+    let (stores, opened) = open_group(rt, alloc, serving.config(), stores);
+    let group = match opened {
+        Ok(group) => group,
+        Err(refusal) => return (stores, Err(Fault::from(refusal))),
+    };
+    match open_network(rt, alloc, serving) {
+        Ok(network) => {
+            let (stores, events) = run_group_at(rt, alloc, group, &network, stores, console);
+            (stores, judge_end(events, console.is_told()))
+        }
+        Err(fault) => (stores, Err(fault)),
+    }
+}
+
+/// Runs a group over its nodes' journals, in files of any kind, as `run_stores` does. That a
+/// journal may go to a thread is proved here, from the one fact that its file may.
+pub fn run_journals<D: Disk + Send + Drop, R, P: Print, I: Read + Drop>(
+    rt: &R,
+    alloc: Global,
+    serving: ServeOptions<'_>,
+    journals: Vec<Journal<D>>,
+    console: &mut Console<'_, P, I>,
+) -> (Vec<Journal<D>>, Result<u64, Fault>)
+where
+    R: Host + Net<Listener = TcpListener, Stream = TcpStream>,
+    requires { vec_len journals ≡ serving.nodes }
+    ensures count { vec_len result.0 ≡ vec_len journals }
+    // The journals are returned in their nodes' order, each as its own node's turns left it.
+    ensures order { ComeBack ⟦<Journal<D> as Stable>⟧ journals.items result.0.items }
+    // A count of events comes only from a run whose opening was reported. A fault is the first that
+    // there was.
+    ensures ends { EndsFrom ⟦<Journal<D> as Stable>⟧ (limits_of serving.entry) journals.items
+        console.new.is_told result.1 result.0.items }
+    // If the stores hold what a stop of a group with these limits left, the group goes on from the
+    // world before the stop.
+    ensures goes_on { (old : GroupView) (w : World)
+        → HasStopped ⟦<Journal<D> as Stable>⟧ old w (limits_of serving.entry) journals.items
+        → EndsAfterStop ⟦<Journal<D> as Stable>⟧ old w (limits_of serving.entry) journals.items
+        console.new.is_told result.1 result.0.items }
+{
+    run_stores(rt, alloc, serving, journals, console)
+}
+
+/// Reports how a run has ended, and returns the program's status. It prints `closed E` with the
+/// count of events and returns 0, or it prints the fault and returns 1. If `closed E` can't be
+/// printed, it reports `write failed` and returns 1, although the group has stopped in order and
+/// nothing is lost.
+pub fn report_end<R: Print + Eprint>(rt: &R, ended: Result<u64, Fault>) -> u8
+    ensures low { result ≤ 1 }
+    ensures fault { IfErr ended (λ why. result ≡ 1) }
+{
+    match ended {
+        Ok(events) => match println!(rt; "closed {events}") {
+            Ok(()) => 0,
+            Err(_) => report_fault(rt, Fault::Write),
+        },
+        Err(fault) => report_fault(rt, fault),
+    }
+}

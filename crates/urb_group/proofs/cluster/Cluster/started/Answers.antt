@@ -1,6 +1,0 @@
-use Rattle.std.proofs.Common.{rules}
-use Rattle.urb_group.proofs.Breaking.{started-tied}
-use Rattle.urb_group.proofs.cluster.Cluster.started.Goals as goal
-
-pub invariant_of-result : goal.invariant_of-result
-invariant_of-result g c = started-tied _ c.args.config _ _ (search rules) c.requires (search rules)

@@ -1,0 +1,6 @@
+use Rattle.std.proofs.Common.{None, ◌≡◌}
+use Rattle.std.specs.Prelude.{replicate}
+use Rattle.urb_group.proofs.held_drafts.no_drafts.Given as goal
+
+abbrev pub invariant-loop : goal.invariant-loop
+invariant-loop g l = l.drafts.items ≡ replicate l.counter None

@@ -1,0 +1,52 @@
+-- The places of a packet's source and of the node that it is for.
+use Rattle.std.proofs.Common.{ap, eq-eqb, false, subst, suc, sym, true, ℕ, ◌&&◌, ◌<◌, ◌==◌, ◌≡◌}
+use Rattle.std.proofs.lemmas.Bool.{and_from, and_right}
+use Rattle.urb_names.specs.Carried.{Carried}
+use Rattle.urb_names.specs.Nodes.{is_node}
+use Rattle.urb_group.specs.Reaching.{AreEnds, is_for_node}
+use Rattle.urb_group.proofs.shown.ShownWorlds.{is-node, no-node}
+
+pub not_target : (n p : ℕ) (packet : Carried) → (packet.target == p) ≡ false
+    → is_for_node n p packet ≡ false
+not_target n p packet h =
+    ap (λ b. b && is_node n p) (and_right (is_node n packet.source && is_node n packet.name.sender)
+    (packet.target == p) h)
+
+pub not_sender : (n p : ℕ) (packet : Carried) → n < packet.name.sender
+    → is_for_node n p packet ≡ false
+not_sender n p packet h =
+    ap (λ b. (b && (packet.target == p)) && is_node n p)
+    (and_right (is_node n packet.source) (is_node n packet.name.sender)
+    (no-node n packet.name.sender h))
+
+pub not_source : (n p : ℕ) (packet : Carried) → n < packet.source → is_for_node n p packet ≡ false
+not_source n p packet h =
+    ap (λ b. ((b && is_node n packet.name.sender) && (packet.target == p)) && is_node n p)
+    (no-node n packet.source h)
+
+pub not_node : (n p : ℕ) (packet : Carried) → n < p → is_for_node n p packet ≡ false
+not_node n p packet h =
+    and_right ((is_node n packet.source && is_node n packet.name.sender) && (packet.target == p))
+    (is_node n p) (no-node n p h)
+
+-- the number of a place is a node's
+is_one : (n p i : ℕ) → (i < n) × (p ≡ suc i) → is_node n p ≡ true
+is_one n p i h = subst (λ (k : ℕ). is_node n k ≡ true) (sym h.1) (is-node n i h.0)
+
+pub ends_are : (n p : ℕ) (packet : Carried) (sender source at : ℕ) → packet.target ≡ p
+    → (sender < n) × (packet.name.sender ≡ suc sender) → (source < n) × (packet.source ≡ suc source)
+    → (at < n) × (p ≡ suc at)
+    → AreEnds n p packet (source, at)
+ends_are n p packet sender source at t s q a =
+    record {
+      is_for =
+          and_from ((is_node n packet.source && is_node n packet.name.sender)
+          && (packet.target == p)) (is_node n p)
+          (and_from (is_node n packet.source && is_node n packet.name.sender) (packet.target == p)
+          (and_from (is_node n packet.source) (is_node n packet.name.sender)
+          (is_one n packet.source source q) (is_one n packet.name.sender sender s))
+          (eq-eqb packet.target p t))
+          (is_one n p at a);
+      source = (q.1, q.0);
+      target = (t, a.1, a.0);
+    }

@@ -1,9 +1,0 @@
-use Rattle.std.proofs.Common.{Err, Ok}
-use Rattle.urb_group.proofs.PlaceMoves.{tick_at}
-use Rattle.urb_group.proofs.places.ticked.Goals as goal
-
-pub returns-in-Ok : goal.returns-in-Ok
-returns-in-Ok g c = tick_at _ c.args.node c.in-Ready.ready (c.tick-ready.result.0, Ok c.in-Ok.packets) c.in-Ready.is (rw c.in-Ok.is at c.tick-ready.ensures.event)
-
-pub returns-in-Err : goal.returns-in-Err
-returns-in-Err g c = tick_at _ c.args.node c.in-Ready.ready (c.tick-ready.result.0, Err c.in-Err.field-0) c.in-Ready.is (rw c.in-Err.is at c.tick-ready.ensures.event)

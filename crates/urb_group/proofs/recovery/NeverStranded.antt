@@ -1,0 +1,79 @@
+-- A group that is not stranded never becomes stranded: a node that is alone stores no pair without
+-- its certificate.
+use Rattle.std.proofs.Common.{List, Some, [], false, refl, subst, ℕ, ◌∷◌, ◌≡◌}
+use Rattle.std.proofs.lemmas.Bool.{false≢true}
+use Rattle.urb_group.proofs.recovery.NodesComeBack.{Whole, whole-joined}
+use Rattle.urb_group.proofs.hearing.LiveWorlds.{WorldLive, reached-live, start-live, step-live}
+use Rattle.urb_group.proofs.hearing.LiveNodes.{IsWhole}
+use Rattle.urb_group.specs.Recovered.{IsNotStranded}
+use Rattle.urb_group.specs.Step.{Event, IsReached, Of_new, Run, run, step}
+use Rattle.urb_group.specs.World.{World, started, stored}
+use Rattle.urb_names.specs.Naming.{Limits}
+use Rattle.urb_node.specs.Part.{Down, Node, State, Storing}
+use Rattle.urb_node.specs.Replies.{Reply}
+use Rattle.urb_node.specs.Steps.{doubt}
+use Rattle.urb_group.proofs.steps.StepCases.{OutcomeCases, node_of, outcome-cases, step-nodes}
+use Rattle.urb_group.proofs.steps.ArriveCases.{arrive-cases}
+use Rattle.urb_group.proofs.steps.DraftsInSteps.{step-size}
+use Rattle.urb_group.specs.Delivering.{event_node}
+
+-- ---- any run
+
+step-free : (w : World) (event : Event) → WorldLive w → IsNotStranded w
+    → IsNotStranded (step w event).1
+step-free w event live free one =
+    step-nodes (λ q n. 1 ≡ q → Whole n.records) w event
+    (λ q e. subst (λ (i : ℕ). Whole (stored w i)) e (free alone))
+    (λ e. outcome-cases (λ o. Whole o.1.records) w event
+    (cases (subst (λ (i : ℕ). Whole (stored w i)) e (free alone)))) 1 refl
+  where
+    alone : w.size.n ≡ 1
+    alone = subst (λ (size : Limits). size.n ≡ 1) (step-size w event) one
+
+    node : Node
+    node = node_of w event
+
+    -- a held or doubtful record is a certificate too
+    whole : (s : State) → node.state ≡ s → IsWhole (doubt s)
+    whole s e =
+        subst (λ (t : State). IsWhole (doubt t)) e ((live.nodes (event_node event)).whole alone)
+
+    cases : Whole node.records → OutcomeCases (λ o. Whole o.1.records) w event
+    cases h =
+        record {
+          refused = λ r. h;
+          again = λ x ready. h;
+          alone = λ m new e. h;
+          among = λ m new e. h;
+          arrived = λ packet e ready t.
+              arrive-cases (λ o. Whole o.1.records) w.size
+              (event_node event) packet.source packet.name packet.message packet.flags node
+              (λ cause. h) (λ cause. h) (λ acks heard cause. h) (λ acks heard told. h);
+          ticked = λ e ready. h;
+          stored =
+              λ position entry held cause e f.
+              whole-joined node.records held (whole (Storing held cause) f) h;
+          down = λ e up. h;
+          up = λ image doubtful e f. h;
+          joined = λ image r e f. whole-joined node.records r (whole (Down (Some r)) f) h;
+        }
+
+pub run-free : (w : World) (events : List Event) → WorldLive w → IsNotStranded w
+    → IsNotStranded (run w events).1
+unfolding run
+run-free w [] live free = free
+run-free w (event ∷ events) live free =
+    run-free (step w event).1 events (step-live w event live) (step-free w event live free)
+
+pub stays-free : (old new : World) (events : List Event) (replies : List Reply) → IsReached old
+    → IsNotStranded old → Run old events replies new → IsNotStranded new
+stays-free old new events replies r free ran =
+    subst (λ (v : List Reply × World). IsNotStranded v.1) ran
+    (run-free old events (reached-live old r) free)
+
+pub new-free : (size : Limits) (events : List Event) (replies : List Reply) (w : World)
+    → Run (started size) events replies w → IsNotStranded w
+new-free size events replies w ran =
+    subst (λ (v : List Reply × World). IsNotStranded v.1) ran
+    (run-free (started size) events (start-live (started size) (Of_new size))
+    (λ one x m h. absurd (false≢true h)))

@@ -1,0 +1,99 @@
+use Rattle.std.proofs.Common.{Err, Ok, [], add-one, ap, arith, inl, length, map, rules, subst, sym}
+use Rattle.std.proofs.Common.{ℕ, ◌+◌, ◌++◌, ◌<◌, ◌∙◌, ◌∷◌, ◌≡◌}
+use Rattle.std.specs.Prelude.{slice_index_or, slice_set}
+use Rattle.urb_group.proofs.stops.AskedStores.{HasAsked, map-more, next-asked, next-fails}
+use Rattle.urb_group.proofs.stops.AskedStores.{none-asked}
+use Rattle.urb_group.specs.Asked.{Gives}
+use Rattle.urb_group.proofs.reopening.retrieve_all.Goals as goal
+
+pub loop-store-init : goal.loop-store-init
+loop-store-init g c =
+    let empty : c.in_ok-images.images.items ≡ [] = search rules in
+    record {
+      asked =
+          subst (λ images. HasAsked g.S.Stable c.args.stores.now c.args.stores.now
+          (map (λ image. image.items) images) 0) (sym empty)
+          (none-asked g.S.Stable c.args.stores.now);
+      count = search rules;
+      room = search rules;
+    }
+
+pub returns-in-Err : goal.returns-in-Err
+returns-in-Err g c =
+    let less : c.loop-store.store-index < length c.loop-store.stores =
+    omega (arith, c.loop-store-test.true, c.loop-store.auto.stores) in
+    let gives : Gives g.S.Stable (slice_index_or c.loop-store.stores c.loop-store.store-index
+    c.store-item.result) (Err c.in-Err.fault) c.retrieve.new.self =
+    record {
+      answers = c.in-Err.ensures.answers;
+      given = c.in-Err.ensures.given;
+      clear = c.in-Err.ensures.clear;
+      failed = c.in-Err.ensures.failed;
+      kept = c.in-Err.ensures.kept;
+      faults = c.in-Err.ensures.faults;
+      sound = c.in-Err.ensures.sound;
+      stop = c.in-Err.ensures.stop;
+      rest = c.in-Err.ensures.rest;
+      device = λ e. c.in-Err.ensures.device (cc);
+      counts = c.in-Err.ensures.counts;
+      honest = c.in-Err.ensures.honest;
+      alive = c.in-Err.ensures.alive;
+      clean = c.in-Err.ensures.clean;
+      shut = c.in-Err.ensures.shut;
+      refuses = c.in-Err.ensures.refuses;
+      lasts = c.in-Err.ensures.lasts;
+    } in
+    inl (
+      c.in-Err.fault,
+      next-fails g.S.Stable c.args.stores.now c.loop-store.stores
+          (map (λ image. image.items) c.loop-store.images.items)
+          c.loop-store.store-index c.loop-store.invariant.asked c.store-item.result
+          c.retrieve.new.self c.in-Err.fault less c.store-item.is gives,
+      c.refusal.ensures,
+    )
+
+pub loop-store-preserved : goal.loop-store-preserved
+loop-store-preserved g c =
+    let less : c.loop-store.store-index < length c.loop-store.stores =
+    omega (arith, c.loop-store-test.true, c.loop-store.auto.stores) in
+    let gives : Gives g.S.Stable (slice_index_or c.loop-store.stores c.loop-store.store-index
+    c.store-item.result) (Ok c.in-Ok.image.items) c.retrieve.new.self =
+    record {
+      answers = c.in-Ok.ensures.answers;
+      given = c.in-Ok.ensures.given;
+      clear = c.in-Ok.ensures.clear;
+      failed = c.in-Ok.ensures.failed;
+      kept = c.in-Ok.ensures.kept;
+      faults = c.in-Ok.ensures.faults;
+      sound = c.in-Ok.ensures.sound;
+      stop = c.in-Ok.ensures.stop;
+      rest = c.in-Ok.ensures.rest;
+      device = λ e. cc;
+      counts = c.in-Ok.ensures.counts;
+      honest = c.in-Ok.ensures.honest;
+      alive = c.in-Ok.ensures.alive;
+      clean = c.in-Ok.ensures.clean;
+      shut = c.in-Ok.ensures.shut;
+      refuses = c.in-Ok.ensures.refuses;
+      lasts = c.in-Ok.ensures.lasts;
+    } in
+    let more = c.push_reserved.ensures.items in
+    let lists =
+    ap (map (λ image. image.items)) more
+    ∙ map-more (λ image. image.items) c.loop-store.images.items c.in-Ok.image in
+    record {
+      asked =
+          subst (λ images. HasAsked g.S.Stable c.args.stores.now
+          (slice_set c.loop-store.stores c.loop-store.store-index c.retrieve.new.self) images
+          (c.loop-store.store-index + 1)) (sym lists)
+          (subst (λ (n : ℕ). HasAsked g.S.Stable c.args.stores.now
+          (slice_set c.loop-store.stores c.loop-store.store-index c.retrieve.new.self)
+          (map (λ image. image.items) c.loop-store.images.items ++ c.in-Ok.image.items ∷ []) n)
+          (sym (add-one c.loop-store.store-index))
+          (next-asked g.S.Stable c.args.stores.now c.loop-store.stores
+          (map (λ image. image.items) c.loop-store.images.items)
+          c.loop-store.store-index c.loop-store.invariant.asked c.store-item.result
+          c.retrieve.new.self c.in-Ok.image.items less c.store-item.is gives));
+      count = omega (arith, c.push_reserved.ensures.len, c.loop-store.invariant.count);
+      room = omega (arith, c.push_reserved.ensures.capacity, c.loop-store.invariant.room);
+    }

@@ -1,0 +1,100 @@
+-- Commands count as what their events count as. So two rounds that are played deliver.
+use Rattle.std.proofs.Common.{List, [], ap, inl, inr, refl, subst, sym, ℕ, ⊎_elim, ◌++◌, ◌∙◌, ◌∷◌}
+use Rattle.std.proofs.Common.{◌≡◌}
+use Rattle.urb_group.proofs.rounds.StaysCounted.{run-size}
+use Rattle.urb_group.proofs.rounds.FairRounds.{two-rounds}
+use Rattle.urb_group.specs.Commands.{AreEvents, At_end, By_event, By_none, IsEventOf, IsUnread}
+use Rattle.urb_group.specs.PlayedRounds.{IsPlayedRound, act_of_command}
+use Rattle.urb_group.specs.Plays.{Runs}
+use Rattle.urb_group.specs.Recovered.{AllDelivered, IsNotStranded}
+use Rattle.urb_group.specs.Recovering.{after}
+use Rattle.urb_group.specs.Rounds.{Act, AllUp, IsRound, IsRoundAmong, act_of, acts_by, acts_of}
+use Rattle.urb_group.specs.Rounds.{disturbance}
+use Rattle.urb_group.specs.Shown.{GroupView}
+use Rattle.urb_group.specs.Step.{Arrive, Crash, Event, IsReached, Restart, Submit, Tick, run}
+use Rattle.urb_group.specs.World.{World}
+use Rattle.urb_group.specs.declared.command.Command.{Command}
+use Rattle.urb_group.specs.declared.command.Command.TheVariants as command
+use Rattle.urb_names.specs.Naming.{Limits}
+use Rattle.urb_names.specs.Nodes.{is_node}
+use Rattle.urb_node.specs.Replies.{Reply}
+
+module _ {A : Type 0} where
+  -- a command and its event
+  same-act : (what : Command A) (event : Event) (reply : Reply) → IsEventOf what event
+      → act_of_command what reply ≡ act_of event reply
+  same-act (command.Submit p client number payload) event reply h =
+      ap (λ (e : Event). act_of e reply) (sym h)
+  same-act (command.Arrive p bytes) event reply h = ap (λ (e : Event). act_of e reply) (sym h)
+  same-act (command.Tick p) event reply h = ap (λ (e : Event). act_of e reply) (sym h)
+  same-act (command.Store p) event reply h =
+      ⊎_elim (λ k. ap (λ (e : Event). act_of e reply) (sym k.2))
+      (λ k. ap (λ (e : Event). act_of e reply) (sym k)) h
+  same-act (command.Crash p) event reply h = ap (λ (e : Event). act_of e reply) (sym h)
+  same-act (command.Restart p) event reply h = ap (λ (e : Event). act_of e reply) (sym h.1)
+
+  -- a restart whose store gave no records
+  unread-act : (what : Command A) (reply : Reply) → IsUnread what reply
+      → act_of_command what reply ≡ []
+  unread-act (command.Restart p) reply h = ap disturbance h.1
+  unread-act (command.Submit p client number payload) reply h = absurd h
+  unread-act (command.Arrive p bytes) reply h = absurd h
+  unread-act (command.Tick p) reply h = absurd h
+  unread-act (command.Store p) reply h = absurd h
+  unread-act (command.Crash p) reply h = absurd h
+
+  no-replies : (commands : List (Command A)) → acts_by act_of_command commands [] ≡ []
+  no-replies [] = refl
+  no-replies (what ∷ commands) = refl
+
+  same-acts : (commands : List (Command A)) (replies : List Reply) (events : List Event)
+      (seen : List Reply) → AreEvents commands replies events seen
+      → acts_by act_of_command commands replies ≡ acts_by act_of events seen
+  same-acts _ _ _ _ (At_end commands) = no-replies commands
+  same-acts _ _ _ _ (By_event what commands reply replies event events seen is are) =
+      ap (λ (first : List Act). first ++ acts_by act_of_command commands replies)
+      (same-act what event reply is)
+      ∙ ap (λ (rest : List Act). act_of event reply ++ rest)
+      (same-acts commands replies events seen are)
+  same-acts _ _ _ _ (By_none what commands reply replies events seen unread are) =
+      ap (λ (first : List Act). first ++ acts_by act_of_command commands replies)
+      (unread-act what reply unread) ∙ same-acts commands replies events seen are
+
+  -- the events of commands that are a round are one
+  module _ (w : World) (commands : List (Command A)) (replies : List Reply) (new : GroupView)
+      (runs : Runs w commands replies new)
+      (played : IsPlayedRound commands replies runs.after) where
+    leads : after w runs.events ≡ runs.after
+    leads = ap (λ (o : List Reply × World). o.1) runs.ran
+
+    same : acts_of w runs.events ≡ acts_by act_of_command commands replies
+    same =
+        ap (λ (o : List Reply × World). acts_by act_of runs.events o.0) runs.ran
+        ∙ sym (same-acts commands replies runs.events runs.seen runs.are)
+
+    same-size : runs.after.size ≡ w.size
+    same-size = sym (ap (λ (v : World). v.size) leads) ∙ run-size runs.events w
+
+    round : IsRound w runs.events
+    round =
+        subst (λ (size : Limits). IsRoundAmong (is_node size.n) (acts_of w runs.events)
+        (after w runs.events)) same-size
+        (subst (λ (list : List Act). IsRoundAmong (is_node runs.after.size.n) list
+        (after w runs.events)) (sym same)
+        (subst (λ (v : World). IsRoundAmong (is_node runs.after.size.n)
+        (acts_by act_of_command commands replies) v) (sym leads) played))
+
+  pub played-deliver : (w : World) (first second : List (Command A)) (told answers : List Reply)
+      (then last : GroupView) (one : Runs w first told then)
+      (two : Runs one.after second answers last)
+      → IsReached w → IsNotStranded w → AllUp w → IsPlayedRound first told one.after
+      → IsPlayedRound second answers two.after → AllDelivered two.after
+  played-deliver w first second told answers then last one two reached free up a b =
+      subst AllDelivered (ap (λ (v : World). after v two.events) at
+      ∙ leads one.after second answers last two b)
+      (two-rounds w one.events two.events reached free up (round w first told then one a)
+      (subst (λ (v : World). IsRound v two.events) (sym at)
+      (round one.after second answers last two b)))
+    where
+      at : after w one.events ≡ one.after
+      at = leads w first told then one a

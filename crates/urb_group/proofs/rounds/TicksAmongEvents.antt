@@ -1,0 +1,76 @@
+-- Words for lists of events in which a node ticks among other events.
+use Rattle.std.specs.Prelude.{Bool, List, Ok, [], false, if◌then◌else◌, is_some, suc, ℕ, ◌==◌, ◌∷◌}
+use Rattle.std.specs.Prelude.{◌≡◌, ◌⊎◌, true}
+use Rattle.std.specs.List.{AllByRecursion}
+use Rattle.urb_group.specs.Step.{Arrive, Commit, Crash, Event, Fail, Restart, Submit, Tick, step}
+use Rattle.urb_group.specs.World.{World, stored}
+use Rattle.urb_names.specs.Acknowledged.{acked}
+use Rattle.urb_names.specs.Carried.{Carried, due_of}
+use Rattle.urb_names.specs.Cyclic.{rising}
+use Rattle.urb_names.specs.Names.{has_name}
+use Rattle.urb_names.specs.Naming.{Content, Label}
+use Rattle.urb_names.specs.Nodes.{majority_passes}
+use Rattle.urb_names.specs.Pairs.{has_pair, message_of}
+use Rattle.urb_node.specs.Replies.{Drafted, Refused, Reply, Same, Sent, Stored, Up, WentDown}
+use Rattle.urb_stable.specs.Records.{cert, pend}
+
+-- whether the event is a tick of node p
+abbrev pub is_tick_of : ℕ → Event → Bool
+is_tick_of p (Submit q m) = false
+is_tick_of p (Arrive q bytes) = false
+is_tick_of p (Tick q) = q == p
+is_tick_of p (Commit q position entry) = false
+is_tick_of p (Fail q) = false
+is_tick_of p (Crash q) = false
+is_tick_of p (Restart q image) = false
+
+-- how often node p ticks among these events
+abbrev pub ticks_among : ℕ → List Event → ℕ
+ticks_among p [] = 0
+ticks_among p (event ∷ events) =
+    if is_tick_of p event then suc (ticks_among p events) else ticks_among p events
+
+-- the pairs that are due at each of these ticks, those of the first one first
+abbrev pub dues_among : ℕ → World → List Event → List (List (Label × Content))
+dues_among p w [] = []
+dues_among p w (event ∷ events) =
+    if is_tick_of p event then due_of w.size.n p (w.node p).heard
+    (rising (pend (stored w p))) ∷ dues_among p (step w event).1 events
+    else dues_among p (step w event).1 events
+
+-- each of these pairs is one of all
+abbrev pub AreAmong : List (Label × Content) → List (Label × Content) → Type 0
+AreAmong all pairs = AllByRecursion (λ pair. has_pair all pair.0 pair.1 ≡ true) pairs
+
+-- Node p knows the name. It has certified it, or it has counted z for it, and all that it has
+-- counted are no majority yet.
+pub record IsCountedAt (w : World) (p : ℕ) (x : Label) (z : ℕ) : Type 0 where
+  pub known : is_some (message_of (pend (stored w p)) x) ≡ true
+  pub counted : has_name (cert (stored w p)) x ≡ false → acked (w.node p).acks x z ≡ true
+  pub few : has_name (cert (stored w p)) x ≡ false
+      → majority_passes w.size.n (acked (w.node p).acks x) ≡ false
+
+-- the event is one of these
+abbrev pub IsAmong : Event → List Event → Type 0
+IsAmong event [] = ⊥
+IsAmong event (other ∷ events) = (other ≡ event) ⊎ IsAmong event events
+
+-- the packets that a tick hands out, by its reply
+abbrev pub resent_in : Reply → List Carried
+resent_in (Drafted x position) = []
+resent_in (Same told) = []
+resent_in (Stored done) = []
+resent_in (Sent packets) = packets
+resent_in (WentDown p) = []
+resent_in (Up p) = []
+resent_in (Refused refusal) = []
+
+-- the same, if the event is a tick
+abbrev pub resent_by : Event → Reply → List Carried
+resent_by (Submit q m) reply = []
+resent_by (Arrive q bytes) reply = []
+resent_by (Tick q) reply = resent_in reply
+resent_by (Commit q position entry) reply = []
+resent_by (Fail q) reply = []
+resent_by (Crash q) reply = []
+resent_by (Restart q image) reply = []

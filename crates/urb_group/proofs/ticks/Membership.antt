@@ -1,0 +1,104 @@
+-- Elements of a list, and of the lists that are made of it.
+use Rattle.std.proofs.Common.{Bool, List, Some, [], ap, ap₂, filter, flat_map, inl, inr, map, refl}
+use Rattle.std.proofs.Common.{slice_get, suc, sym, take, true, zero, ℕ, ⊎_elim, ◌&&◌, ◌++◌, ◌∙◌}
+use Rattle.std.proofs.Common.{◌∷◌, ◌≡◌, ◌⊎◌, subst, length, arith, ◌<◌}
+use Rattle.std.proofs.lemmas.Bool.{and_parts, cond-true, cond_both, false≢true, or_cases}
+use Rattle.std.specs.List.{AllByRecursion}
+use Rattle.urb_names.proofs.SameNames.{same_message-true, same_name-true}
+use Rattle.urb_names.specs.Cyclic.{inserted, rising}
+use Rattle.urb_names.specs.Names.{name_lt, same_message, same_name}
+use Rattle.urb_names.specs.Naming.{Content, Label}
+use Rattle.urb_names.specs.Pairs.{has_pair}
+
+-- the element is in the list
+abbrev pub IsIn : {A : Type 0} → A → List A → Type 0
+IsIn x [] = ⊥
+IsIn x (y ∷ ys) = (y ≡ x) ⊎ IsIn x ys
+
+pub in-left : {A : Type 0} (x : A) (xs ys : List A) → IsIn x xs → IsIn x (xs ++ ys)
+in-left x [] ys h = absurd h
+in-left x (y ∷ xs) ys h = ⊎_elim (λ e. inl e) (λ e. inr (in-left x xs ys e)) h
+
+pub in-right : {A : Type 0} (x : A) (xs ys : List A) → IsIn x ys → IsIn x (xs ++ ys)
+in-right x [] ys h = h
+in-right x (y ∷ xs) ys h = inr (in-right x xs ys h)
+
+pub in-map : {A B : Type 0} (f : A → B) (x : A) (xs : List A) → IsIn x xs → IsIn (f x) (map f xs)
+in-map f x [] h = absurd h
+in-map f x (y ∷ xs) h = ⊎_elim (λ e. inl (ap f e)) (λ e. inr (in-map f x xs e)) h
+
+pub in-filter : {A : Type 0} (test : A → Bool) (x : A) (xs : List A) → test x ≡ true → IsIn x xs
+    → IsIn x (filter test xs)
+in-filter test x [] e h = absurd h
+in-filter test x (y ∷ xs) e h =
+    ⊎_elim (λ f. subst (IsIn x) (sym
+    (cond-true (test y) (y ∷ filter test xs) (filter test xs) (ap test f ∙ e))) (inl f))
+    (λ f. cond_both (test y) (y ∷ filter test xs) (filter test xs) (IsIn x)
+    (λ _. inr (in-filter test x xs e f)) (λ _. in-filter test x xs e f)) h
+
+pub in-flat_map : {A B : Type 0} (f : A → List B) (x : A) (xs : List A) (y : B) → IsIn x xs
+    → IsIn y (f x) → IsIn y (flat_map f xs)
+in-flat_map f x [] y h k = absurd h
+in-flat_map f x (z ∷ xs) y h k =
+    ⊎_elim (λ e. in-left y (f z) (flat_map f xs) (subst (λ (v : _). IsIn y (f v)) (sym e) k))
+    (λ e. in-right y (f z) (flat_map f xs) (in-flat_map f x xs y e k)) h
+
+-- what holds for each element holds for this one
+pub in-all : {A : Type 0} (P : A → Type 0) (x : A) (xs : List A) → AllByRecursion P xs → IsIn x xs
+    → P x
+in-all P x [] h k = absurd k
+in-all P x (y ∷ xs) h k = ⊎_elim (λ e. subst P e h.0) (λ e. in-all P x xs h.1 e) k
+
+-- a property that each element of the list has holds for all
+pub all-in : {A : Type 0} (P : A → Type 0) (xs : List A) → ((x : A) → IsIn x xs → P x)
+    → AllByRecursion P xs
+all-in P [] h = tt
+all-in P (x ∷ xs) h = (h x (inl refl), all-in P xs (λ y k. h y (inr k)))
+
+-- an element of a list has a place in it
+pub in-place : {A : Type 0} (x : A) (xs : List A) → IsIn x xs → (i : ℕ) × (slice_get xs i ≡ Some x)
+in-place x [] h = absurd h
+in-place x (y ∷ xs) h =
+    ⊎_elim (λ e. (zero, ap Some e)) (λ e. let at = in-place x xs e in (suc at.0, at.1)) h
+
+-- the list splits into the elements before an element, the element, and those after it
+pub in-split : {A : Type 0} (x : A) (xs : List A) → IsIn x xs
+    → (us : List A) × (vs : List A) × (xs ≡ us ++ x ∷ vs)
+in-split x [] h = absurd h
+in-split x (y ∷ xs) h =
+    ⊎_elim (λ e. ([], xs, ap (λ z. z ∷ xs) e))
+    (λ e. let at = in-split x xs e in (y ∷ at.0, at.1, ap (λ zs. y ∷ zs) at.2)) h
+
+-- an element is among the first n if fewer than n are before it
+pub in-take : {A : Type 0} (n : ℕ) (us : List A) (x : A) (vs : List A) → length us < n
+    → IsIn x (take n (us ++ x ∷ vs))
+in-take zero us x vs l = absurd (omega arith)
+in-take (suc n) [] x vs l = inl refl
+in-take (suc n) (u ∷ us) x vs l = inr (in-take n us x vs (omega arith))
+
+-- ---- pairs
+
+pub in-pairs : (pairs : List (Label × Content)) (x : Label) (m : Content)
+    → has_pair pairs x m ≡ true → IsIn (x, m) pairs
+in-pairs [] x m h = absurd (false≢true h)
+in-pairs (pair ∷ pairs) x m h =
+    ⊎_elim (λ e. let parts = and_parts (same_name pair.0 x) (same_message pair.1 m) e in
+    inl (ap₂ together (same_name-true pair.0 x parts.0) (same_message-true pair.1 m parts.1)))
+    (λ e. inr (in-pairs pairs x m e))
+    (or_cases (same_name pair.0 x && same_message pair.1 m) (has_pair pairs x m) h)
+  where
+    together : Label → Content → Label × Content
+    together y o = (y, o)
+
+in-inserted : (p : Label × Content) (d : Label × Content) (ps : List (Label × Content))
+    → IsIn d (p ∷ ps) → IsIn d (inserted p ps)
+in-inserted p d [] h = h
+in-inserted p d (q ∷ ps) h =
+    cond_both (name_lt q.0 p.0) (q ∷ inserted p ps) (p ∷ q ∷ ps) (IsIn d)
+    (λ _. ⊎_elim (λ e. inr (in-inserted p d ps (inl e)))
+    (λ k. ⊎_elim (λ e. inl e) (λ e. inr (in-inserted p d ps (inr e))) k) h) (λ _. h)
+
+pub in-rising : (d : Label × Content) (ps : List (Label × Content)) → IsIn d ps → IsIn d (rising ps)
+in-rising d [] h = h
+in-rising d (p ∷ ps) h =
+    in-inserted p d (rising ps) (⊎_elim (λ e. inl e) (λ e. inr (in-rising d ps e)) h)

@@ -1,0 +1,199 @@
+//! The nodes of a group, each in its place.
+
+ghost use Rattle.std.specs.Prelude.{◌<◌, ◌≡◌, Some, slice_get, suc, vec_len};
+ghost use Rattle.std.specs.Option.{ForSome, MatchOption};
+ghost use Rattle.urb_group.specs.Moving.{ArrivesAt, CommitsAt, CrashesAt, FailsAt, MayReach, Moved};
+ghost use Rattle.urb_group.specs.Moving.{RestartsAt, SubmitsAt, TicksAt};
+
+use crate::Taken;
+use std::alloc::{Allocator, Global};
+use urb_names::{ClientId, Config, Message, NoMemory, NodeId, PacketView, Payload, Refusal};
+use urb_node::{Done, Down, Ready, Step, Storing};
+use urb_stable::{Receipt, Record};
+use urb_stubborn::Outbox;
+
+/// Returns the place of a node in its group, if the group has this node.
+pub(crate) fn place_of(config: Config, node: NodeId) -> Option<usize>
+    ensures { MatchOption result (config.n < node) (λ at. (at < config.n) × (node ≡ suc at)) }
+{
+    let number = node.number();
+    if number > config.n() {
+        return None;
+    }
+    Some(usize::from(number) - 1)
+}
+
+/// A node in one of its three states.
+#[derive(Drop)]
+#[derive_where(Debug)]
+pub(crate) enum Node<A: Allocator = Global> {
+    Ready(Ready<A>),
+    Storing(Storing<A>),
+    Down(Down<A>),
+}
+
+/// Moves the item in one place, and leaves the other places as they are.
+pub(crate) fn move_at<T, A: Allocator, R, F: FnOnce(T) -> (T, R)>(
+    nodes: &mut Vec<T, A>,
+    at: usize,
+    moves: F,
+) -> R
+    requires within { at < vec_len nodes.old }
+    requires callable { (node : _) → slice_get nodes.old.items at ≡ Some node → F.pre moves node }
+    ensures { Moved (λ node r. F.post moves node r) nodes.old.items at result nodes.new.items }
+{
+    let (moved, result) = moves(nodes.remove(at));
+    nodes.insert(at, moved).unwrap();
+    result
+}
+
+/// Applies a client's message to a node, which moves, or stays with a refusal.
+pub(crate) fn submit_at<A: Allocator + Copy>(
+    node: Node<A>,
+    alloc: A,
+    client: ClientId,
+    number: u32,
+    payload: &[u8],
+) -> (Node<A>, Result<Taken<A>, Refusal>)
+    ensures { SubmitsAt node (record { client = client; number = number; payload = payload.now })
+        result }
+{
+    match node {
+        Node::Ready(ready) => match ready.submit(alloc, client, number, payload) {
+            Ok(Step::Same(ready, answer)) => (Node::Ready(ready), Ok(Taken::Same(answer))),
+            Ok(Step::Store(storing, draft)) => (Node::Storing(storing), Ok(Taken::Store(draft))),
+            Err((ready, refusal)) => (Node::Ready(ready), Err(refusal)),
+        },
+        Node::Storing(storing) => (Node::Storing(storing), Err(Refusal::Busy)),
+        Node::Down(down) => (Node::Down(down), Err(Refusal::Down)),
+    }
+}
+
+/// Does the same, but the node's message shares the memory of the payload.
+pub(crate) fn submit_sharing_at<A: Allocator + Copy>(
+    node: Node<A>,
+    alloc: A,
+    client: ClientId,
+    number: u32,
+    payload: &Payload<A>,
+) -> (Node<A>, Result<Taken<A>, Refusal>)
+    ensures { SubmitsAt node (record { client = client; number = number; payload = payload.now })
+        result }
+{
+    match node {
+        Node::Ready(ready) => match ready.submit_sharing(alloc, client, number, payload) {
+            Ok(Step::Same(ready, answer)) => (Node::Ready(ready), Ok(Taken::Same(answer))),
+            Ok(Step::Store(storing, draft)) => (Node::Storing(storing), Ok(Taken::Store(draft))),
+            Err((ready, refusal)) => (Node::Ready(ready), Err(refusal)),
+        },
+        Node::Storing(storing) => (Node::Storing(storing), Err(Refusal::Busy)),
+        Node::Down(down) => (Node::Down(down), Err(Refusal::Down)),
+    }
+}
+
+/// Applies a packet that is for the node, which moves, or stays with a refusal.
+pub(crate) fn arrive_at<A: Allocator + Copy>(
+    node: Node<A>,
+    alloc: A,
+    packet: PacketView<'_>,
+    known: Option<Message<A>>,
+    is_truthful: bool,
+) -> (Node<A>, Result<Taken<A>, Refusal>)
+    requires reach { MayReach node packet is_truthful }
+    requires known { ForSome known (λ m. m ≡ packet.message) }
+    ensures { ArrivesAt node packet.entry is_truthful result }
+{
+    match node {
+        Node::Ready(ready) => {
+            if !is_truthful {
+                return (Node::Ready(ready), Err(Refusal::Forged));
+            }
+            match ready.arrive_sharing(alloc, packet, known) {
+                Ok(Step::Same(ready, answer)) => (Node::Ready(ready), Ok(Taken::Same(answer))),
+                Ok(Step::Store(storing, draft)) => {
+                    (Node::Storing(storing), Ok(Taken::Store(draft)))
+                }
+                Err((ready, refusal)) => (Node::Ready(ready), Err(refusal)),
+            }
+        }
+        Node::Storing(storing) => (Node::Storing(storing), Err(Refusal::Busy)),
+        Node::Down(down) => (Node::Down(down), Err(Refusal::Down)),
+    }
+}
+
+/// Applies a receipt to a node, which takes it, or stays and returns it.
+pub(crate) fn commit_at<A: Allocator + Copy>(
+    node: Node<A>,
+    receipt: Receipt<A>,
+) -> (Node<A>, Result<Done<A>, (Receipt<A>, Refusal)>)
+    ensures { CommitsAt node receipt result }
+{
+    match node {
+        Node::Ready(ready) => (Node::Ready(ready), Err((receipt, Refusal::Stale))),
+        Node::Storing(storing) => match storing.confirm(receipt) {
+            Ok((ready, done)) => (Node::Ready(ready), Ok(done)),
+            Err((storing, receipt)) => (Node::Storing(storing), Err((receipt, Refusal::Stale))),
+        },
+        Node::Down(down) => (Node::Down(down), Err((receipt, Refusal::Down))),
+    }
+}
+
+/// Applies a failed store to a node: the store did not take the node's record.
+pub(crate) fn fail_at<A: Allocator + Copy>(node: Node<A>) -> (Node<A>, Result<(), Refusal>)
+    ensures { FailsAt node result }
+{
+    match node {
+        Node::Ready(ready) => (Node::Ready(ready), Err(Refusal::Stale)),
+        Node::Storing(storing) => (Node::Down(storing.fail()), Ok(())),
+        Node::Down(down) => (Node::Down(down), Err(Refusal::Down)),
+    }
+}
+
+/// Crashes a node that isn't down.
+pub(crate) fn crash_at<A: Allocator + Copy>(node: Node<A>) -> (Node<A>, Result<(), Refusal>)
+    ensures { CrashesAt node result }
+{
+    match node {
+        Node::Ready(ready) => (Node::Down(ready.crash()), Ok(())),
+        Node::Storing(storing) => (Node::Down(storing.crash()), Ok(())),
+        Node::Down(down) => (Node::Down(down), Err(Refusal::Down)),
+    }
+}
+
+/// Makes a node that is ready send again.
+pub(crate) fn tick_at<A: Allocator + Copy>(
+    node: Node<A>,
+    alloc: A,
+) -> (Node<A>, Result<Outbox<A>, Refusal>)
+    ensures { TicksAt node result }
+{
+    match node {
+        Node::Ready(ready) => {
+            let (ready, sent) = ready.tick(alloc);
+            match sent {
+                Ok(packets) => (Node::Ready(ready), Ok(packets)),
+                Err(NoMemory) => (Node::Ready(ready), Err(Refusal::NoMemory)),
+            }
+        }
+        Node::Storing(storing) => (Node::Storing(storing), Err(Refusal::Busy)),
+        Node::Down(down) => (Node::Down(down), Err(Refusal::Down)),
+    }
+}
+
+/// Brings a node that is down up with its image.
+pub(crate) fn restart_at<A: Allocator + Copy>(
+    node: Node<A>,
+    alloc: A,
+    image: Vec<Record<Message<A>>, A>,
+) -> (Node<A>, Result<(), Refusal>)
+    ensures { RestartsAt node image.items result }
+{
+    match node {
+        Node::Ready(ready) => (Node::Ready(ready), Err(Refusal::NotDown)),
+        Node::Storing(storing) => (Node::Storing(storing), Err(Refusal::NotDown)),
+        Node::Down(down) => match down.restart(alloc, image) {
+            Ok(ready) => (Node::Ready(ready), Ok(())),
+            Err((down, refusal)) => (Node::Down(down), Err(refusal)),
+        },
+    }
+}

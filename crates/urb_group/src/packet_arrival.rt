@@ -1,0 +1,107 @@
+//! The arrival of a packet at a group.
+
+ghost use Rattle.std.specs.Prelude.{◌≡◌, false, MatchOption};
+ghost use Rattle.std.specs.Bool.{MatchBool};
+ghost use Rattle.std.specs.Option.{ForSome};
+ghost use Rattle.urb_names.specs.Packets.{packet_of};
+ghost use Rattle.urb_group.specs.Calls.{Takes};
+ghost use Rattle.urb_group.specs.Reaching.{AreEnds, HoldsPair, IsAsCertified, TellsTruth};
+ghost use Rattle.urb_group.specs.Reaching.{is_for_node};
+ghost use Rattle.urb_group.specs.Step.{Arrive};
+
+use crate::node_moves::{Node, arrive_at, move_at, place_of};
+use crate::{Group, Taken};
+use std::alloc::Allocator;
+use urb_names::{Config, Message, NodeId, PacketView, Refusal, parse};
+
+// Returns the places of a packet's source and of the node that it is for. `None` if the packet is
+// for another node, or names a node that the group doesn't have.
+fn ends_of(config: Config, node: NodeId, packet: &PacketView<'_>) -> Option<(usize, usize)>
+    ensures { MatchOption result (is_for_node config.n node packet.now ≡ false)
+        (λ ends. AreEnds config.n node packet.now ends) }
+{
+    if packet.target() != node {
+        return None;
+    }
+    place_of(config, packet.name().sender)?;
+    let source = place_of(config, packet.source())?;
+    let at = place_of(config, node)?;
+    Some((source, at))
+}
+
+// Says whether a message is the one that a packet carries.
+fn is_carried<A: Allocator>(message: &Message<A>, packet: &PacketView<'_>) -> bool
+    ensures { MatchBool result (message.now ≡ packet.now.message)
+        (¬ (message.now ≡ packet.now.message)) }
+{
+    message.client() == packet.client()
+        && message.number() == packet.number()
+        && message.payload() == packet.payload()
+}
+
+// Says whether a node has stored the message that a packet carries, under its name.
+fn holds_pair<A: Allocator + Copy>(node: &Node<A>, packet: &PacketView<'_>) -> bool
+    ensures { HoldsPair node.now packet.now result }
+{
+    match node.message(packet.name()) {
+        Some(message) => is_carried(message, packet),
+        None => false,
+    }
+}
+
+// Says whether a node has stored a certificate of a packet's name, if the packet claims one.
+fn is_as_certified<A: Allocator + Copy>(node: &Node<A>, packet: &PacketView<'_>) -> bool
+    ensures { IsAsCertified node.now packet.now result }
+{
+    match packet.flags() {
+        Some(flags) => !flags.certified || node.certified(packet.name()),
+        None => true,
+    }
+}
+
+// Says whether a node's storage confirms what a packet claims.
+fn tells_truth<A: Allocator + Copy>(node: &Node<A>, packet: &PacketView<'_>) -> bool
+    ensures { TellsTruth node.now packet.now result }
+{
+    holds_pair(node, packet) && is_as_certified(node, packet)
+}
+
+// Returns the message that a packet carries, sharing the payload that the packet's source has
+// stored. `None` if the source holds another message, or if sharing fails.
+fn share_stored<A: Allocator + Copy>(
+    alloc: A,
+    node: &Node<A>,
+    packet: &PacketView<'_>,
+) -> Option<Message<A>>
+    ensures { ForSome result (λ m. m ≡ packet.now.message) }
+{
+    let message = node.message(packet.name())?;
+    if !is_carried(message, packet) {
+        return None;
+    }
+    message.share(alloc).ok()
+}
+
+impl<A: Allocator + Copy> Group<A> {
+    /// Delivers bytes to a node, as a datagram brings them, from anywhere. The node takes a packet
+    /// only if it is for this node and its source has stored the message. A packet that claims a
+    /// certificate is taken only if its source has stored that certificate.
+    ///
+    /// `Packet`: the bytes are no packet. `BadNode`: the packet names a node that the group doesn't
+    /// have, or is for another node. `Down`, `Busy`: the node takes no packet now; a later tick may
+    /// send it again. `Forged`: the source has not stored the message, or not the certificate that
+    /// the packet claims. `NoMemory`: the packet is lost; a later tick may send it again.
+    pub fn arrive(&mut self, alloc: A, node: NodeId, bytes: &[u8]) -> Result<Taken<A>, Refusal>
+        ensures { Takes self.old node (Arrive node (packet_of bytes.now)) result self.new }
+    {
+        let packet = parse(bytes)?;
+        let Some((source, at)) = ends_of(self.config, node, &packet) else {
+            return Err(Refusal::BadNode);
+        };
+        let is_truthful = tells_truth(&self.nodes[source], &packet);
+        let known = share_stored(alloc, &self.nodes[source], &packet);
+        move_at(&mut self.nodes, at, move |node| {
+            arrive_at(node, alloc, packet, known, is_truthful)
+        })
+    }
+}

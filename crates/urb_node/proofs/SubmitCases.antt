@@ -1,0 +1,86 @@
+-- The outcomes of a submit. A property holds for its outcome if it holds for any refusal, for a
+-- message that was accepted before, and for a new draft. A new refusal of a submit changes only
+-- this file.
+use Rattle.std.proofs.Common.{Bool, List, None, Option, Some, bytes_eq, false, find, length, nat_lt}
+use Rattle.std.proofs.Common.{not, refl, suc, sym, true, ℕ, ◌==◌, ◌≡◌, ◌≤◌}
+use Rattle.std.proofs.lemmas.Bool.{cond_both, false≢true, ltb-false, not-false}
+use Rattle.std.specs.Prelude.{if◌then◌else◌}
+use Rattle.std.specs.List.{position_or_len}
+use Rattle.urb_names.specs.Names.{name}
+use Rattle.urb_names.specs.Naming.{Content, Label, Limits}
+use Rattle.urb_names.specs.Pairs.{is_numbered, next_number}
+use Rattle.urb_names.specs.declared.limits.TheConstants.{MAX_PAYLOAD}
+use Rattle.urb_names.specs.declared.refusal.Refusal.{Refusal}
+use Rattle.urb_names.specs.declared.refusal.Refusal.TheVariants as refusal
+use Rattle.urb_node.specs.Part.{Down, Node, Ready, State, Storing}
+use Rattle.urb_node.specs.Replies.{Reply, Same}
+use Rattle.urb_node.specs.Steps.{drafts, is_down, is_storing, refuses, submits, submits_by_number}
+use Rattle.urb_node.specs.declared.answer.Answer.TheVariants.{Accepted}
+use Rattle.urb_stable.specs.declared.record.Record.TheVariants.{Pend, PendCert}
+
+-- a node that is up and holds no draft is ready
+pub is-ready : (s : State) → is_down s ≡ false → is_storing s ≡ false → s ≡ Ready
+is-ready Ready up free = refl
+is-ready (Storing entry cause) up free = absurd (false≢true (sym free))
+is-ready (Down doubtful) up free = absurd (false≢true (sym up))
+
+-- the message is drafted under a new name
+pub record IsNew (size : Limits) (m : Content) (node : Node) : Type 0 where
+  pub ready : node.state ≡ Ready
+  pub short : length m.payload ≤ MAX_PAYLOAD
+  pub number : (m.number == next_number m.client node.broadcast) ≡ true
+  pub room : nat_lt (length node.broadcast) size.cap ≡ true
+
+-- it was accepted before, as this message
+pub record IsAgain (m first : Content) (node : Node) : Type 0 where
+  pub ready : node.state ≡ Ready
+  pub found : find (is_numbered m.client m.number) node.broadcast ≡ Some first
+  pub same : bytes_eq first.payload m.payload ≡ true
+
+-- the name of the node's next message
+abbrev pub next_name : ℕ → Node → Label
+next_name p node = name p (suc (length node.broadcast))
+
+-- the name under which a message of this client and number was accepted
+abbrev pub first_name : ℕ → Content → Node → Label
+first_name p m node = name p (suc (position_or_len (is_numbered m.client m.number) node.broadcast))
+
+pub submits-cases : (P : Reply × Node → Type 0) (size : Limits) (p : ℕ) (m : Content) (node : Node)
+    → ((r : Refusal) → P (refuses node r))
+    → ((first : Content) → IsAgain m first node → P (Same (Accepted (first_name p m node)), node))
+    → (IsNew size m node → (size.n == 1) ≡ true
+    → P (drafts node (PendCert (next_name p node) m) None))
+    → (IsNew size m node → (size.n == 1) ≡ false → P (drafts node (Pend (next_name p node) m) None))
+    → P (submits size p m node)
+submits-cases P size p m node refused again alone among =
+    cond_both (is_down node.state) _ _ P (λ _. refused refusal.Down)
+    (λ up. cond_both (is_storing node.state) _ _ P (λ _. refused refusal.Busy)
+    (λ free. cond_both (nat_lt MAX_PAYLOAD (length m.payload)) _ _ P (λ _. refused refusal.TooLong)
+    (λ fits. by_number (is-ready node.state up free) (ltb-false MAX_PAYLOAD (length m.payload) fits)
+    (find (is_numbered m.client m.number) node.broadcast) refl)))
+  where
+    by_number : node.state ≡ Ready → length m.payload ≤ MAX_PAYLOAD → (o : Option Content)
+        → find (is_numbered m.client m.number) node.broadcast ≡ o
+        → P (submits_by_number size p m o node)
+    by_number ready short None found =
+        cond_both (not (m.number == next_number m.client node.broadcast)) _ _ P
+        (λ _. refused (refusal.Gap (next_number m.client node.broadcast)))
+        (λ number. cond_both (not (nat_lt (length node.broadcast) size.cap)) _ _ P
+        (λ _. refused refusal.Full)
+        (λ room. drafted (record {
+          ready = ready;
+          short = short;
+          number =
+              not-false (m.number == next_number m.client node.broadcast) number;
+          room =
+              not-false (nat_lt (length node.broadcast) size.cap) room;
+        })))
+      where
+        drafted : IsNew size m node → P
+            (if size.n == 1 then drafts node (PendCert (next_name p node) m) None else drafts node
+            (Pend (next_name p node) m) None)
+        drafted new = cond_both (size.n == 1) _ _ P (alone new) (among new)
+    by_number ready short (Some first) found =
+        cond_both (bytes_eq first.payload m.payload) _ _ P
+        (λ same. again first (record { ready = ready; found = found; same = same }))
+        (λ _. refused refusal.Conflict)

@@ -1,4 +1,0 @@
-use Rattle.urb_node.proofs.down.fallen.Goals as goal
-
-pub invariant_of-result : goal.invariant_of-result
-invariant_of-result g c = record { held = c.requires.kept; doubtful = c.requires.next }

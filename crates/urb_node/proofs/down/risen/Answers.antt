@@ -1,8 +1,0 @@
-use Rattle.std.proofs.Common.{ap}
-use Rattle.urb_stubborn.specs.Resending.{Resending}
-use Rattle.urb_node.proofs.Leads.{resend-kept}
-use Rattle.urb_node.proofs.down.risen.Goals as goal
-
-pub invariant_of-result : goal.invariant_of-result
-invariant_of-result g c =
-    resend-kept c.args.held c.rewind.new.self c.requires (ap (λ (r : Resending). r.limits) c.rewind.ensures, ap (λ (r : Resending). r.node) c.rewind.ensures, ap (λ (r : Resending). r.roomy) c.rewind.ensures)

@@ -1,5 +1,0 @@
-use Rattle.urb_node.proofs.JoinedLayers.{down-kept}
-use Rattle.urb_node.proofs.down.unheard.Goals as goal
-
-pub returns-clause-fallen : goal.returns-clause-fallen
-returns-clause-fallen g c = down-kept c.args.held c.forget.new.self c.forget-2.new.self c.args.doubt.now c.requires.kept c.requires.next c.forget.ensures c.forget-2.ensures

@@ -1,0 +1,35 @@
+use Rattle.std.proofs.Common.{rules, ◌≡◌, ◌<◌, ◌∙◌, [], arith, ap, length, slice_get, Some, None}
+use Rattle.urb_names.specs.Acknowledged.{acked}
+use Rattle.urb_names.specs.Names.{has_name}
+use Rattle.urb_majority.specs.Acks.{AckSet}
+use Rattle.urb_node.specs.Layers.{counted_with}
+use Rattle.urb_node.proofs.ImagePairs.{counted_more, none_left}
+use Rattle.urb_node.proofs.image_verdict.count_itself.Goals as goal
+use Rattle.urb_node.proofs.image_verdict.count_itself.Goals.{in-Some+in_ok-note, in_default}
+
+pub loop-index-preserved : goal.loop-index-preserved
+loop-index-preserved g c = elim c.match-get.branch [
+  | in-Some+in_ok-note w ↦
+      let got : slice_get c.args.pending.now.pairs c.loop-index.index ≡ Some
+      (w.in-Some.name, w.in-Some._message.now) = search rules in
+      let counted : w.note.new.acks.counted
+      ≡ counted_with c.loop-index.acks.counted w.in-Some.name c.args.node = search rules in
+      record {
+        limits =
+            ap (λ (a : AckSet). a.limits) w.acks-is
+            ∙ (w.in_ok-note.ensures.ok.1 ∙ c.loop-index.invariant.limits);
+        certified =
+            ap (λ (a : AckSet). a.certified) w.acks-is
+            ∙ (w.in_ok-note.ensures.ok.2 ∙ c.loop-index.invariant.certified);
+        counted =
+            counted_more c.loop-index.acks.counted c.match-get.acks.counted c.args.node
+            c.args.pending.now.pairs c.loop-index.index (w.in-Some.name, w.in-Some._message.now)
+            (acked c.args.acks.now.counted) got
+            (ap (λ (a : AckSet). a.counted) w.acks-is ∙ counted) c.loop-index.invariant.counted;
+      }
+  | in_default w ↦
+      let less : c.loop-index.index < length c.args.pending.now.pairs = omega arith in
+      let none : slice_get c.args.pending.now.pairs c.loop-index.index ≡ None = search rules in
+      absurd (none_left (λ pair. has_name [] pair.0)
+      c.args.pending.now.pairs c.loop-index.index less none)
+]

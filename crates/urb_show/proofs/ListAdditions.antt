@@ -1,0 +1,42 @@
+-- One more entry in the list at a place.
+use Rattle.std.proofs.Common.{◌≡◌, ℕ, zero, suc, ◌<◌, ◌≤◌, false, List, [], ◌∷◌, ◌++◌, length, map}
+use Rattle.std.proofs.Common.{slice_index_or, slice_set, refl, ap, ◌∙◌, arith, Result, Ok, Err}
+use Rattle.std.proofs.Common.{MatchResult}
+use Rattle.std.specs.Result.{is_err}
+use Rattle.urb_show.specs.declared.entry.Entry.{Entry}
+use Rattle.urb_show.specs.Lists.{add_at}
+
+pub add_at-set : {A : Type 0} (f : A → List Entry) (vs : List A) (p : ℕ) (v w : A) (e : Entry)
+    → p < length vs → v ≡ slice_index_or vs p v → f w ≡ f v ++ e ∷ []
+    → map f (slice_set vs p w) ≡ add_at (map f vs) p e
+add_at-set f [] p v w e low at is = absurd (omega arith)
+add_at-set f (x ∷ vs) zero v w e low at is =
+    ap (λ r. r ∷ map f vs) (is ∙ ap (λ u. f u ++ e ∷ []) at)
+add_at-set f (x ∷ vs) (suc p) v w e low at is =
+    ap (λ r. f x ∷ r) (add_at-set f vs p v w e (omega arith) at is)
+
+pub add_at-beyond : (lists : List (List Entry)) (p : ℕ) (e : Entry) → length lists ≤ p
+    → add_at lists p e ≡ lists
+add_at-beyond [] p e far = refl
+add_at-beyond (x ∷ xs) zero e far = absurd (omega arith)
+add_at-beyond (x ∷ xs) (suc p) e far = ap (λ r. x ∷ r) (add_at-beyond xs p e (omega arith))
+
+pub add_at-same : {A : Type 0} (f : A → List Entry) (vs : List A) (p : ℕ) (v w : A) → p < length vs
+    → v ≡ slice_index_or vs p v → f w ≡ f v → map f (slice_set vs p w) ≡ map f vs
+add_at-same f [] p v w low at is = absurd (omega arith)
+add_at-same f (x ∷ vs) zero v w low at is = ap (λ r. r ∷ map f vs) (is ∙ ap f at)
+add_at-same f (x ∷ vs) (suc p) v w low at is =
+    ap (λ r. f x ∷ r) (add_at-same f vs p v w (omega arith) at is)
+
+pub pushed : {A U : Type 0} (f : A → List Entry) (vs : List A) (p : ℕ) (v w : A) (e : Entry)
+    (r : Result U Entry) → p < length vs → v ≡ slice_index_or vs p v
+    → MatchResult r (λ _. f w ≡ f v ++ e ∷ []) (λ x. (x ≡ e) × (f w ≡ f v))
+    → MatchResult r (λ _. map f (slice_set vs p w) ≡ add_at (map f vs) p e)
+    (λ x. (x ≡ e) × (map f (slice_set vs p w) ≡ map f vs))
+pushed f vs p v w e (Ok u) low at is = add_at-set f vs p v w e low at is
+pushed f vs p v w e (Err x) low at is = (is.0, add_at-same f vs p v w low at is.1)
+
+pub when_ok : {U E : Type 0} (r : Result U E) (P : Type 0) (Q : E → Type 0) → is_err r ≡ false
+    → MatchResult r (λ _. P) Q → P
+when_ok (Ok u) P Q fine is = is
+when_ok (Err e) P Q fine is = absurd (cc (fine))

@@ -1,0 +1,70 @@
+-- Lists that are prefixes of others, node by node.
+use Rattle.std.proofs.Common.{◌≡◌, ◌⊎◌, inl, inr, ℕ, zero, suc, List, [], ◌∷◌, ◌++◌, refl, subst}
+use Rattle.std.proofs.Common.{sym, ap, ◌∙◌}
+use Rattle.std.proofs.lemmas.List.Sums.{fold-append}
+use mathlib.Core.List.{IsPrefix}
+use Rattle.urb_show.specs.declared.entry.Entry.{Entry}
+use Rattle.urb_show.specs.declared.entry.Addition.{Addition}
+use Rattle.urb_show.specs.Lists.{Agree, Begins, Lists, OneBeginsAll, add_at}
+use Rattle.urb_show.specs.Readers.{ReaderView, Takes}
+use Rattle.urb_show.specs.History.{lists_of}
+use Rattle.urb_show.proofs.Prefixes.{prefix_self, prefix_trans}
+
+pub begins_self : (xs : Lists) → Begins xs xs
+begins_self [] = tt
+begins_self (x ∷ xs) = (prefix_self x, begins_self xs)
+
+pub begins_trans : (xs ys zs : Lists) → Begins xs ys → Begins ys zs → Begins xs zs
+begins_trans [] ys zs p q = tt
+begins_trans (x ∷ xs) [] zs p q = absurd p
+begins_trans (x ∷ xs) (y ∷ ys) [] p q = absurd q
+begins_trans (x ∷ xs) (y ∷ ys) (z ∷ zs) p q =
+    (prefix_trans x y z p.0 q.0, begins_trans xs ys zs p.1 q.1)
+
+pub begins_add : (xs : Lists) (p : ℕ) (e : Entry) → Begins xs (add_at xs p e)
+begins_add [] p e = tt
+begins_add (x ∷ xs) zero e =
+    let one : IsPrefix x (x ++ e ∷ []) = (e ∷ [], refl) in (one, begins_self xs)
+begins_add (x ∷ xs) (suc p) e = (prefix_self x, begins_add xs p e)
+
+pub begins_all : (lists : Lists) (log : List Addition) → Begins lists (lists_of lists log)
+begins_all lists [] = begins_self lists
+begins_all lists (a ∷ log) =
+    begins_trans lists (add_at lists a.place a.entry) _ (begins_add lists a.place a.entry)
+    (begins_all (add_at lists a.place a.entry) log)
+
+-- if a history is a prefix of another one, its lists are prefixes of the other's lists
+pub begins_later : (base : Lists) (log later : List Addition) → IsPrefix log later
+    → Begins (lists_of base log) (lists_of base later)
+begins_later base log later pre =
+    let e : lists_of base later ≡ lists_of (lists_of base log) pre.0 =
+    ap (lists_of base) (sym pre.1)
+    ∙ fold-append (λ lists (x : Addition). add_at lists x.place x.entry) base log pre.0 in
+    subst (λ (w : Lists). Begins (lists_of base log) w) (sym e)
+    (begins_all (lists_of base log) pre.0)
+
+-- If both of two histories are prefixes of the longer one, the lists of one are prefixes of the
+-- lists of the other.
+pub longer_begins : (base : Lists) (one other longest : List Addition)
+    → (longest ≡ one) ⊎ (longest ≡ other) → IsPrefix one longest → IsPrefix other longest
+    → OneBeginsAll (lists_of base one) (lists_of base other)
+longer_begins base one other longest (inl same) p q =
+    inr (begins_later base other one (subst (λ (w : List Addition). IsPrefix other w) same q))
+longer_begins base one other longest (inr same) p q =
+    inl (begins_later base one other (subst (λ (w : List Addition). IsPrefix one w) same p))
+
+-- what a reader takes begins with what it knew, if the histories do
+pub takes : (base : Lists) (seen told now : List Addition) (before : ReaderView)
+    → record { seen = lists_of base seen; told = lists_of base told } ≡ before
+    → IsPrefix seen now → IsPrefix told now → Agree (lists_of base now)
+    → Takes before (record { seen = lists_of base now; told = lists_of base told })
+takes base seen told now before is p q agree = record {
+  agree = agree;
+  seen =
+      subst (λ (k : ReaderView). Begins k.seen (lists_of base now)) is
+      (begins_later base seen now p);
+  told =
+      subst (λ (k : ReaderView). Begins k.told (lists_of base now)) is
+      (begins_later base told now q);
+  kept = ap (λ (k : ReaderView). k.told) is;
+}

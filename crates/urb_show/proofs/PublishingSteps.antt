@@ -1,0 +1,97 @@
+-- A step that does not shorten the history keeps the rule.
+use Rattle.std.proofs.Common.{◌≡◌, ℕ, zero, suc, ◌≤◌, ◌≢◌, List, [], ◌∷◌, length, refl, subst}
+use Rattle.std.proofs.Common.{⊎_elim, le_refl, le_trans, zero-le}
+use mathlib.Core.Option.{some}
+use lib.ListN.{get_elem?}
+use Rattle.logbook.specs.Pages.{Book}
+use Rattle.left_right.specs.Register.{Admits, TurnsAt}
+use Rattle.atomic_table.proofs.Lists.{at_set, at_snoc}
+use mathlib.Core.List.{IsPrefix}
+use Rattle.std.proofs.Common.{ap, sym, ◌∙◌, fold, ◌++◌, Option, Some, None}
+use Rattle.std.specs.Option.{MatchOption}
+use Rattle.urb_show.specs.declared.entry.Addition.{Addition}
+use Rattle.urb_show.specs.declared.published_lists.State.{State}
+use Rattle.urb_show.specs.declared.published_lists.Operation.{Operation}
+use Rattle.urb_show.specs.Operations.{state_of, applied_to}
+use Rattle.urb_show.specs.Lists.{Lists, Agree}
+use Rattle.urb_show.specs.History.{Issue, issue_of, lists_of}
+use Rattle.urb_show.proofs.Prefixes.{prefix_length, prefix_trans}
+use Rattle.urb_show.specs.PublishingRule.{IsIssue, Keeps, Rises}
+
+pub admits : (book : Book) (base : Lists) → Admits (Keeps book base) 0
+admits book base x views h = (
+  h.0,
+  λ seat v at. ⊎_elim (h.1 seat v)
+      (λ (e : 0 ≡ v). subst (λ (z : ℕ). z ≤ length x.mark.log) e zero-le) (at_snoc views 0 v seat at),
+)
+
+no_views : (n seat v : ℕ) → get_elem? [] seat ≡ some v → v ≤ n
+no_views n zero v at = absurd (cc (at))
+no_views n (suc seat) v at = absurd (cc (at))
+
+-- what the house publishes first
+pub first_issue : (book : Book) (base : Lists) (x : Issue) → x ≡ issue_of book base [] → Agree base
+    → Keeps book base x (0 ∷ [])
+first_issue book base x is agree =
+    let good : IsIssue book base x = rw is (record { named = refl; lists = refl; agree = agree }) in
+    admits book base x [] (good, no_views (length x.mark.log))
+
+pub rises : (book : Book) (base : Lists) (seat v : ℕ) (x y : Issue)
+    → length x.mark.log ≤ length y.mark.log → (IsIssue book base x → IsIssue book base y)
+    → TurnsAt (Keeps book base) seat v x y (Rises book base)
+rises book base seat v x y up good views h at = let top = length y.mark.log in (
+  top,
+  (
+    good h.0,
+    λ j u e. ⊎_elim (λ (t : (j ≡ seat) × (top ≡ u)). subst (λ (z : ℕ). z ≤ top) t.1 (le_refl top))
+        (λ (t : (j ≢ seat) × (get_elem? views j ≡ some u)). le_trans (h.1 j u t.1) up)
+        (at_set views seat j top u e),
+  ),
+  (h.0, h.1 seat v at, refl),
+)
+
+pub same_issue : (x y : Issue) → state_of x ≡ state_of y → x ≡ y
+same_issue x y is = ap (λ (s : State). record { lists = s.lists; mark = s.mark }) is
+
+-- the writer's step: what it has is published, and that is no shorter
+pub turns : (book : Book) (base : Lists) (shown all : List Addition) (x next : Issue)
+    (pending : List Operation) (seat v : ℕ) → x ≡ issue_of book base shown
+    → fold applied_to (state_of (issue_of book base shown)) pending ≡ state_of
+    (issue_of book base all) → IsPrefix shown all → Agree (lists_of base all)
+    → state_of next ≡ fold applied_to (state_of x) pending
+    → TurnsAt (Keeps book base) seat v x next (Rises book base)
+turns book base shown all x next pending seat v was after pre agree is =
+    let now : next ≡ issue_of book base all =
+    same_issue next (issue_of book base all)
+    (is ∙ (ap (λ (i : Issue). fold applied_to (state_of i) pending) was ∙ after)) in
+    let le : length x.mark.log ≤ length next.mark.log =
+    rw (was, now) (prefix_length shown all pre) in
+    let good : IsIssue book base next =
+    rw now (record { named = refl; lists = refl; agree = agree }) in
+    rises book base seat v x next le (λ _. good)
+
+pub now_published : (book : Book) (base : Lists) (shown queued all again : List Addition)
+    (x y : Issue) (pending rest : List Operation) → x ≡ issue_of book base shown
+    → fold applied_to (state_of (issue_of book base shown)) pending ≡ state_of
+    (issue_of book base queued) → queued ≡ all → again ≡ all
+    → (state_of y ≡ fold applied_to (state_of x) pending) × (rest ≡ [])
+    → (y ≡ issue_of book base again)
+    × (fold applied_to (state_of (issue_of book base again)) rest ≡ state_of
+    (issue_of book base queued))
+now_published book base shown queued all again x y pending rest was after flushed same now =
+    let top : again ≡ queued = same ∙ sym flushed in
+    let y_is : y ≡ issue_of book base queued =
+    same_issue y (issue_of book base queued)
+    (now.0 ∙ (ap (λ (i : Issue). fold applied_to (state_of i) pending) was ∙ after)) in
+    (rw top y_is, rw (top, now.1) refl)
+
+-- what is published is a prefix of everything, whether or not the last addition waits for room
+pub shown_begins : (kept : Option Operation) (X : Operation → Type 0)
+    (shown queued all : List Addition) → IsPrefix shown queued
+    → MatchOption kept (all ≡ queued) (λ op. (all ≡ queued ++ op.addition ∷ []) × X op)
+    → IsPrefix shown all
+shown_begins None X shown queued all pre is =
+    subst (λ (w : List Addition). IsPrefix shown w) (sym is) pre
+shown_begins (Some op) X shown queued all pre is =
+    let last : IsPrefix queued all = (op.addition ∷ [], sym is.0) in
+    prefix_trans shown queued all pre last

@@ -1,0 +1,30 @@
+-- Publishing what was prepared settles the node.
+use Rattle.std.proofs.Common.{◌≡◌, ℕ, ◌≤◌, sym, ap, subst, ◌∙◌, length, Result, Ok, Err}
+use Rattle.std.proofs.Common.{MatchResult}
+use Rattle.urb_show.specs.Lists.{Begins, Lists, list_at, lists_in}
+use Rattle.urb_show.specs.Houses.{HouseView, Grew, Settled}
+use Rattle.urb_show.proofs.Prefixes.{prefix_whole}
+use Rattle.urb_show.proofs.AgreeingLists.{begins_at}
+
+pub settles : {E : Type 0} (place : ℕ) (old mid new : HouseView) (r : Result Lists E)
+    → Grew place old mid → Begins mid.prepared (lists_in mid.group)
+    → length (list_at (lists_in mid.group) place) ≤ length (list_at mid.prepared place)
+    → MatchResult r (λ told. (new ≡ record mid { published = mid.prepared })
+    × (told ≡ mid.prepared)) (λ _. new ≡ mid)
+    → MatchResult r (λ told. Settled place old new told) (λ _. Grew place old new)
+settles place old mid new (Ok told) grew begins whole h =
+    let own : list_at mid.prepared place ≡ list_at (lists_in mid.group) place =
+    prefix_whole (list_at mid.prepared place) (list_at (lists_in mid.group) place)
+    (begins_at mid.prepared (lists_in mid.group) place begins) whole in
+    let published : new.published ≡ mid.prepared = ap (λ (x : HouseView). x.published) h.0 in
+    record {
+      group = ap (λ (x : HouseView). x.group) h.0 ∙ grew.group;
+      events = ap (λ (x : HouseView). x.events) h.0 ∙ grew.events;
+      own =
+          ap (λ (w : Lists). list_at w place) published
+          ∙ (own ∙ sym (ap (λ (x : HouseView). list_at (lists_in x.group) place) h.0));
+      others = λ q apart. ap (λ (w : Lists). list_at w q) published ∙ grew.others q apart;
+      prepared = ap (λ (x : HouseView). x.prepared) h.0 ∙ sym published;
+      told = h.1 ∙ sym published;
+    }
+settles place old mid new (Err e) grew begins whole h = subst (Grew place old) (sym h) grew

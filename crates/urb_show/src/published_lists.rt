@@ -1,0 +1,178 @@
+//! The value that readers take: a list of entries for each node, and the history behind the lists.
+ghost use Rattle.std.specs.Prelude.{◌≡◌, ◌≤◌, ◌<◌, ◌^◌, length, [], ◌∷◌, ◌++◌, map, MatchResult};
+ghost use Rattle.std.specs.Prelude.{IfOk};
+ghost use Rattle.urb_show.specs.Lists.{Lists, Agree, add_at, list_at};
+ghost use Rattle.urb_show.specs.History.{Issue, issue_of};
+ghost use Rattle.urb_show.specs.Pages.{IsPageOf};
+
+use crate::entry::{Addition, Entry, Page};
+use crate::history::tokens::Mark;
+use left_right::Absorb;
+use std::alloc::{AllocError, Allocator, Global};
+use std::marker::Model;
+use urb_group::NoMemory;
+
+/// A list of entries for each node, and the history behind the lists.
+#[derive(Drop)]
+pub(crate) struct PublishedLists {
+    lists: Vec<Vec<Entry>>,
+    mark: Mark,
+}
+
+impl Model for PublishedLists {
+    ghost use Rattle.std.specs.Prelude.{map};
+    ghost use Rattle.urb_show.specs.History.{Issue};
+
+    ghost Value = { Issue };
+
+    ghost view = { λ p. record { lists = map (λ l. l.items) p.lists.items; mark = p.mark } };
+}
+
+/// One more entry of a node, and the history with this entry.
+#[derive(Drop)]
+pub(crate) struct Operation {
+    pub(crate) addition: Addition,
+    pub(crate) mark: Mark,
+}
+
+/// What the two published copies have in common. No value of this type is made.
+pub(crate) struct State {
+    pub(crate) lists: [[Entry; 0]; 0],
+    pub(crate) mark: Mark,
+}
+
+impl Absorb<Operation> for PublishedLists {
+    ghost use Rattle.urb_show.specs.Operations.{state_of, applied_to};
+
+    type State = State;
+
+    ghost state = { state_of };
+
+    ghost applied = { applied_to };
+
+    fn absorb_first(
+        &mut self,
+        operation: &Operation,
+        _other: &PublishedLists,
+    ) -> Result<(), AllocError> {
+        let Ok(copy) = operation.addition.entry.share(*self.lists.allocator()) else {
+            return Err(AllocError);
+        };
+        if push_at(&mut self.lists, operation.addition.place, copy).is_err() {
+            return Err(AllocError);
+        }
+        self.mark = operation.mark.copy();
+        Ok(())
+    }
+
+    fn absorb_second(
+        &mut self,
+        operation: Operation,
+        _other: &PublishedLists,
+    ) -> Result<(), Operation> {
+        let Operation { addition, mark } = operation;
+        let Addition { place, entry } = addition;
+        match push_at(&mut self.lists, place, entry) {
+            Ok(()) => {
+                self.mark = mark;
+                Ok(())
+            }
+            Err(entry) => Err(Operation {
+                addition: Addition { place, entry },
+                mark,
+            }),
+        }
+    }
+}
+
+// Appends an entry to the list at that place, if there is such a list.
+fn push_at(lists: &mut Vec<Vec<Entry>>, place: usize, entry: Entry) -> Result<(), Entry>
+    ensures { MatchResult result
+        (λ _. map (λ l. l.items) lists.new.items
+        ≡ add_at (map (λ l. l.items) lists.old.items) place entry) (λ e.
+        (e ≡ entry) × (map (λ l. l.items) lists.new.items ≡ map (λ l. l.items) lists.old.items)) }
+{
+    if place >= lists.len() {
+        return Ok(());
+    }
+    push_entry(&mut lists[place], entry)
+}
+
+fn push_entry(list: &mut Vec<Entry>, entry: Entry) -> Result<(), Entry>
+    ensures { MatchResult result
+        (λ _. list.new.items ≡ list.old.items ++ entry ∷ [])
+        (λ e. (e ≡ entry) × (list.new.items ≡ list.old.items)) }
+{
+    match list.push(entry) {
+        Ok(()) => Ok(()),
+        Err(failed) => Err(failed.value),
+    }
+}
+
+impl PublishedLists {
+    pub(crate) fn new(lists: Vec<Vec<Entry>>, mark: Mark) -> PublishedLists
+        ensures { result ≡ record { lists = map (λ l. l.items) lists.items; mark = mark } }
+    {
+        PublishedLists { lists, mark }
+    }
+
+    /// The history behind the lists.
+    pub(crate) fn mark(&self) -> &Mark
+        ensures { result.now ≡ self.now.mark }
+    {
+        &self.mark
+    }
+
+    // A node's list.
+    fn list(&self, place: usize) -> &[Entry]
+        ensures { result.now ≡ list_at self.now.lists place }
+    {
+        match self.lists.get(place) {
+            Some(list) => list.as_slice(),
+            None => &[],
+        }
+    }
+
+    /// The entries of a node from the place `first` on, which counts from 1, at most `max` of them.
+    /// The list's memory comes from `alloc`.
+    pub(crate) fn page<B: Allocator + Copy>(
+        &self,
+        alloc: B,
+        place: usize,
+        first: u32,
+        max: u8,
+    ) -> Result<Page<B>, NoMemory>
+        requires first { 1 ≤ first }
+        requires agree { Agree self.now.lists }
+        ensures { IfOk result (λ p. IsPageOf (list_at self.now.lists place) first max p) }
+    {
+        let list = self.list(place);
+        let from = list.len().min(first as usize - 1);
+        let to = list.len().min(from + max as usize);
+        let entries = copy_all(*self.lists.allocator(), alloc, &list[from..to])?;
+        Ok(Page {
+            entries,
+            total: list.len() as u32,
+        })
+    }
+}
+
+// Copies of these entries. The list's memory comes from `list`. If a payload can't be shared, it is
+// copied to memory of `alloc`.
+fn copy_all<B: Allocator + Copy>(
+    alloc: Global,
+    list: B,
+    entries: &[Entry],
+) -> Result<Vec<Entry, B>, NoMemory>
+    ensures { IfOk result (λ v. v.items ≡ entries.now) }
+{
+    let mut copies = Vec::new(list);
+    copies.reserve(entries.len())?;
+    for entry in entries {
+        let copy = entry.share(alloc)?;
+        if copies.push(copy).is_err() {
+            return Err(NoMemory);
+        }
+    }
+    Ok(copies)
+}

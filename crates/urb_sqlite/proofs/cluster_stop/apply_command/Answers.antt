@@ -1,0 +1,14 @@
+use Rattle.std.proofs.Common.{List, subst, sym}
+use Rattle.urb_group.specs.Stocked.{WouldLeave}
+use Rattle.urb_sqlite.proofs.AppliedCommands.{applies-size}
+use Rattle.urb_sqlite.proofs.cluster_stop.apply_command.Goals as goal
+
+pub returns-clause-sized : goal.returns-clause-sized
+returns-clause-sized g c =
+    applies-size g.S.Stable c.args.cluster.now c.apply.new.self c.args.command.now _
+    c.recall_rest.ensures.sound c.apply.ensures.applied
+
+pub returns-clause-leaves : goal.returns-clause-leaves
+returns-clause-leaves g c stores same secured =
+    subst (λ (xs : List _). WouldLeave g.S.Stable secured.stocked.world xs) (sym same)
+    (c.apply.ensures.leaves secured)

@@ -1,6 +1,0 @@
-use Rattle.std.proofs.Common.{refl}
-use Rattle.std.proofs.lemmas.Result.{IfOk-weaker}
-use Rattle.urb_sqlite.proofs.open.SqlStable+FileStore+File.open.Goals as goal
-
-pub returns-clause-fresh : goal.returns-clause-fresh
-returns-clause-fresh c = IfOk-weaker c.open_from.result _ _ (λ s fresh clean. fresh clean refl) c.open_from.ensures.fresh

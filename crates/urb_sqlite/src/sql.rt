@@ -1,0 +1,128 @@
+//! The SQL statements of a journal, each in a call of its own.
+
+ghost use Rattle.std.specs.Prelude.{◌≡◌, []};
+ghost use Rattle.sqlite.specs.State.{HasCleanDisk, Executes, Survives, CommitsBy};
+ghost use Rattle.sqlite.specs.Held.{state};
+ghost use Rattle.urb_sqlite.specs.Journal.{create_of, insert_text, select_of};
+ghost use Rattle.urb_sqlite.specs.Rows.{columns_of, row_of};
+
+use crate::rows::Columns;
+use sqlite::{Alter, Connection, Error, params};
+use urb_names::{Message, Name};
+use urb_stable::Record;
+
+/// A table of a journal: the older one, and the one that takes new records.
+#[derive(Clone, Copy, Drop)]
+pub enum Part {
+    First,
+    Second,
+}
+
+/// Makes the table if it is absent.
+pub fn create<S: Alter>(conn: &mut Connection<S>, part: Part) -> Result<usize, Error>
+    ensures runs { HasCleanDisk (state S.Store conn.new)
+        → Executes (create_of part) [] (state S.Store conn.old) (state S.Store conn.new) result }
+    ensures survives { Survives (state S.Store conn.old) (state S.Store conn.new)
+        (CommitsBy (create_of part) [] (state S.Store conn.old)) }
+{
+    match part {
+        Part::First => conn.execute(
+            "CREATE TABLE IF NOT EXISTS journal(pos INTEGER PRIMARY KEY, kind INTEGER NOT NULL, sender INTEGER NOT NULL, seq INTEGER NOT NULL, client INTEGER NOT NULL, number INTEGER NOT NULL, payload BLOB NOT NULL) STRICT",
+            &[],
+        ),
+        Part::Second => conn.execute(
+            "CREATE TABLE IF NOT EXISTS journal2(pos INTEGER PRIMARY KEY, kind INTEGER NOT NULL, sender INTEGER NOT NULL, seq INTEGER NOT NULL, client INTEGER NOT NULL, number INTEGER NOT NULL, payload BLOB NOT NULL) STRICT",
+            &[],
+        ),
+    }
+}
+
+// The numbers of the row of a message's record.
+fn columns_with(place: u32, kind: u32, name: Name, m: &Message) -> Columns
+    ensures { result
+        ≡ record {
+          pos = place;
+          kind = kind;
+          sender = name.sender;
+          seq = name.seq;
+          client = m.now.client;
+          number = m.now.number;
+        } }
+{
+    Columns {
+        pos: place,
+        kind,
+        sender: u32::from(name.sender.number()),
+        seq: name.seq,
+        client: u32::from(m.client().number()),
+        number: m.number(),
+    }
+}
+
+// Adds a row with these numbers and this payload.
+fn insert_row<S: Alter>(
+    conn: &mut Connection<S>,
+    columns: Columns,
+    payload: &[u8],
+) -> Result<usize, Error>
+    ensures runs { HasCleanDisk (state S.Store conn.new)
+        → Executes insert_text
+        (columns_of columns.pos columns.kind columns.sender columns.seq columns.client
+        columns.number payload.now) (state S.Store conn.old) (state S.Store conn.new) result }
+    ensures survives { Survives (state S.Store conn.old) (state S.Store conn.new)
+        (CommitsBy insert_text
+        (columns_of columns.pos columns.kind columns.sender columns.seq columns.client
+        columns.number payload.now) (state S.Store conn.old)) }
+{
+    let (place, kind, sender) = (columns.pos, columns.kind, columns.sender);
+    let (seq, client, number) = (columns.seq, columns.client, columns.number);
+    conn.execute(
+        "INSERT INTO journal2 VALUES (?1, ?2, ?3, ?4, ?5, ?6, ?7)",
+        params![place, kind, sender, seq, client, number, payload],
+    )
+}
+
+/// Adds the record's row.
+pub fn insert<S: Alter>(
+    conn: &mut Connection<S>,
+    place: u32,
+    entry: &Record,
+) -> Result<usize, Error>
+    ensures runs { HasCleanDisk (state S.Store conn.new)
+        → Executes insert_text (row_of place entry.now) (state S.Store conn.old)
+        (state S.Store conn.new) result }
+    ensures survives { Survives (state S.Store conn.old) (state S.Store conn.new)
+        (CommitsBy insert_text (row_of place entry.now) (state S.Store conn.old)) }
+{
+    match entry {
+        Record::Pend(name, m) => { insert_row(conn, columns_with(place, 1, *name, m), m.payload()) }
+        Record::PendCert(name, m) => {
+            insert_row(conn, columns_with(place, 2, *name, m), m.payload())
+        }
+        Record::Cert(name) => {
+            let columns = Columns {
+                pos: place,
+                kind: 3,
+                sender: u32::from(name.sender.number()),
+                seq: name.seq,
+                client: 0,
+                number: 0,
+            };
+            insert_row(conn, columns, &[])
+        }
+    }
+}
+
+/// The text of the SELECT that reads the rows of a table, in order of `pos`.
+pub fn select(part: Part) -> &'static str
+    ensures { result.now ≡ select_of part }
+{
+    match part {
+        Part::First => {
+            "SELECT pos, kind, sender, seq, client, number, payload FROM journal ORDER BY pos"
+        }
+        Part::Second => {
+            "SELECT pos, kind, sender, seq, client, number, payload FROM journal2 ORDER BY pos"
+        }
+    }
+}

@@ -1,8 +1,0 @@
-use Rattle.urb_stable.proofs.Walks.{Seeks, left}
-use Rattle.urb_stable.proofs.index.finds.Given as goal
-
-abbrev pub invariant-loop-place : goal.invariant-loop-place
-invariant-loop-place g l = Seeks l.image l.name l.message l.place
-
-abbrev pub decreases-loop-place : goal.decreases-loop-place
-decreases-loop-place g l = left l.place

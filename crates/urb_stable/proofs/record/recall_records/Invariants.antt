@@ -1,0 +1,8 @@
+use Rattle.std.proofs.Common.{take}
+use Rattle.std.specs.List.{All}
+use Rattle.urb_stable.specs.Entries.{IsEntry}
+use Rattle.urb_stable.proofs.record.recall_records.Given as goal
+
+-- all records so far are within their limits
+abbrev pub invariant-loop-record : goal.invariant-loop-record
+invariant-loop-record g l = All IsEntry (take l.record-index l.records)

@@ -1,8 +1,0 @@
-use Rattle.std.proofs.Common.{subst}
-use Rattle.urb_window.specs.Marks.{IsMarkSet}
-use Rattle.urb_window.proofs.Flattened.{marks_rise}
-use Rattle.urb_window.proofs.Roomy.{names_rise}
-use Rattle.urb_window.proofs.marks.Marks.limits.Goals as goal
-
-pub returns : goal.returns
-returns g c = let entries = c.self.inside.masks.entries in subst IsMarkSet c.self.view_is (record { marks = marks_rise entries c.limits.ensures.rising; roomy = names_rise entries c.limits.ensures.rising })

@@ -1,0 +1,15 @@
+use Rattle.std.proofs.Common.{subst}
+use Rattle.urb_window.specs.Marks.{IsMarkSet}
+use Rattle.urb_window.proofs.Flattened.{marks_rise}
+use Rattle.urb_window.proofs.Roomy.{names_rise}
+use Rattle.urb_window.proofs.marks.Marks.recall.Goals as goal
+
+pub returns : goal.returns
+returns g c =
+    let entries = c.self.inside.masks.entries in
+    subst IsMarkSet c.self.view_is
+    (record {
+      marks = marks_rise entries c.recall.ensures.rising;
+      roomy =
+          names_rise entries c.recall.ensures.rising;
+    })

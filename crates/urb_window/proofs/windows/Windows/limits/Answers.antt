@@ -1,7 +1,0 @@
-use Rattle.std.proofs.Common.{subst}
-use Rattle.urb_window.specs.WindowSet.{IsWindowSet}
-use Rattle.urb_window.proofs.Ranked.{entries_are}
-use Rattle.urb_window.proofs.windows.Windows.limits.Goals as goal
-
-pub returns : goal.returns
-returns g c = let a = c.self.inside in subst (λ set. IsWindowSet set) c.self.view_is (entries_are a.rows.items a.reserved c.self.invariant.most c.self.invariant.rows)

@@ -1,0 +1,158 @@
+-- A turn from one stage to the next, and the whole turn.
+use Rattle.std.proofs.Common.{Bool, Err, Ok, Option, Result, Vec, ap, false, inl, inr, refl, subst}
+use Rattle.std.proofs.Common.{sym, true, ℕ, ◌-◌, ◌∙◌, ◌≡◌, ◌⊎◌, ⊎_elim}
+use Rattle.std.proofs.lemmas.Bool.{false≢true}
+use Rattle.std.specs.declared.alloc.Global.{Global}
+use Rattle.urb_group.specs.Shown.{IsSound}
+use Rattle.urb_group.specs.declared.reply.Reply.{Reply}
+use Rattle.urb_show.specs.Houses.{HouseView}
+use Rattle.urb_show.specs.declared.status.Status.{Status}
+use Rattle.urb_stable.specs.Doubted.{Doubted}
+use Rattle.urb_stable.specs.Entries.{Entry}
+use Rattle.urb_stable.specs.Placed.{Placed}
+use Rattle.urb_stable.specs.declared.stable.Stable.{Ghosts}
+use Rattle.urb_stable.specs.declared.stable.StoreFault.{StoreFault}
+use Rattle.urb_worker.proofs.StoreKeeping.{turn-keeps, turn-leaves}
+use Rattle.urb_worker.specs.Jobs.{runs_at}
+use Rattle.urb_worker.proofs.ServedStores.{one_turn}
+use Rattle.urb_worker.specs.ServedStores.{IsLeftOf, Turns}
+use Rattle.urb_worker.specs.Settlings.{Published}
+use Rattle.urb_worker.specs.Stages.{image_stage, is_stored, kept_stage}
+use Rattle.urb_worker.specs.Turns.{Begins, CameOf, Ends, Finishes, Goes, HasBegun, IsKeptOf, Stores}
+use Rattle.urb_worker.specs.Views.{FinishedView, TurnView}
+use Rattle.urb_worker.specs.WholeTurns.{Does, IsTurn, IsTurnAt}
+use Rattle.urb_worker.specs.declared.job.Job.{Job}
+use Rattle.urb_worker.specs.declared.turn_stages.Stage.{Stage}
+use Rattle.urb_worker.specs.declared.turn_stages.Stage.TheVariants as stage
+
+-- ---- stages
+
+-- a turn that has just begun
+goes_still : (at : Stage) → Goes at at
+goes_still (stage.Drafted draft) = inl refl
+goes_still stage.Retrieving = inl refl
+goes_still (stage.Kept receipt) = refl
+goes_still (stage.Doubtful doubt) = refl
+goes_still (stage.Retrieved image) = refl
+goes_still (stage.Unread fault) = refl
+goes_still stage.Asking = refl
+goes_still (stage.Answered reply) = refl
+
+pub just_begun : (old new : HouseView) (j : Job) (at : Stage) (events : ℕ) → IsSound old.group
+    → Begins old j new at events → HasBegun j at
+just_begun old new j at events sound begins = (old, new, at, events, sound, begins, goes_still at)
+
+module _ {S A : Type 0} (g : Ghosts S A) (before after : S) where
+  from_draft : (draft : Placed) (s t : Stage) → Goes (stage.Drafted draft) s
+      → Stores g before s after t → Goes (stage.Drafted draft) t
+  from_draft draft s t (inl e) stores =
+      let stored = subst (λ (u : Stage). Stores g before u after t) e stores in
+      inr (stored.0, stored.1, stored.3)
+  from_draft draft s t (inr (Ok receipt, kept, e)) stores =
+      inr (Ok receipt, kept, (subst (λ (u : Stage). Stores g before u after t) e stores).1)
+  from_draft draft s t (inr (Err doubt, kept, e)) stores =
+      inr (Err doubt, kept, (subst (λ (u : Stage). Stores g before u after t) e stores).1)
+
+  from_retrieving : (s t : Stage) → Goes stage.Retrieving s → Stores g before s after t
+      → Goes stage.Retrieving t
+  from_retrieving s t (inl e) stores =
+      let stored = subst (λ (u : Stage). Stores g before u after t) e stores in
+      inr (stored.0, stored.2)
+  from_retrieving s t (inr (Ok image, e)) stores =
+      inr (Ok image, (subst (λ (u : Stage). Stores g before u after t) e stores).1)
+  from_retrieving s t (inr (Err fault, e)) stores =
+      inr (Err fault, (subst (λ (u : Stage). Stores g before u after t) e stores).1)
+
+  -- the store does its part
+  goes_on : (at s t : Stage) → Goes at s → Stores g before s after t → Goes at t
+  goes_on (stage.Drafted draft) s t goes stores = from_draft draft s t goes stores
+  goes_on stage.Retrieving s t goes stores = from_retrieving s t goes stores
+  goes_on (stage.Kept receipt) s t goes stores =
+      (subst (λ (u : Stage). Stores g before u after t) goes stores).1
+  goes_on (stage.Doubtful doubt) s t goes stores =
+      (subst (λ (u : Stage). Stores g before u after t) goes stores).1
+  goes_on (stage.Retrieved image) s t goes stores =
+      (subst (λ (u : Stage). Stores g before u after t) goes stores).1
+  goes_on (stage.Unread fault) s t goes stores =
+      (subst (λ (u : Stage). Stores g before u after t) goes stores).1
+  goes_on stage.Asking s t goes stores =
+      (subst (λ (u : Stage). Stores g before u after t) goes stores).1
+  goes_on (stage.Answered reply) s t goes stores =
+      (subst (λ (u : Stage). Stores g before u after t) goes stores).1
+
+  pub begun_on : (j : Job) (s t : Stage) → HasBegun j s → Stores g before s after t → HasBegun j t
+  begun_on j s t begun stores =
+      (begun.0, begun.1, begun.2, begun.3, begun.4, begun.5, goes_on begun.2 s t begun.6 stores)
+
+  -- a stage in which the store has done its part
+  pub stores_none : (at : Stage) → is_stored at ≡ true → Stores g before at before at
+  stores_none (stage.Drafted draft) e = absurd (false≢true e)
+  stores_none stage.Retrieving e = absurd (false≢true e)
+  stores_none (stage.Kept receipt) e = (refl, refl)
+  stores_none (stage.Doubtful doubt) e = (refl, refl)
+  stores_none (stage.Retrieved image) e = (refl, refl)
+  stores_none (stage.Unread fault) e = (refl, refl)
+  stores_none stage.Asking e = (refl, refl)
+  stores_none (stage.Answered reply) e = (refl, refl)
+
+-- ---- the end
+
+pub came_on : (old new : HouseView) (j : Job) (at : Stage) (said : Reply Global)
+    (status : Option Status) (settling : Published) (events : ℕ) → IsSound old.group → HasBegun j at
+    → Ends old j at new said status settling events → CameOf j said status settling
+came_on old new j at said status settling events sound begun ends =
+    (at, old, new, events, sound, begun, ends)
+
+module _ {S A : Type 0} (g : Ghosts S A) (n : ℕ) where
+  pub whole : (j : Job) (before after : S) (done : FinishedView)
+      (lent given_back again left : HouseView) (begun stored : TurnView) → runs_at n j ≡ true
+      → stored.job ≡ j → stored.events ≡ begun.events → IsSound left.group
+      → Begins lent j given_back begun.stage begun.events
+      → Stores g before begun.stage after stored.stage → Finishes again stored left done
+      → IsTurnAt g n j before after done
+  whole j before after done lent given_back again left begun stored runs same count sound begins
+      stores ends =
+      record {
+        turn =
+            record {
+              lent = lent;
+              given_back = given_back;
+              lent_again = again;
+              left = left;
+              at = begun.stage;
+              new = stored.stage;
+              events = begun.events;
+              begins = begins;
+              stores = stores;
+              finishes = finishes;
+            };
+        sound = sound;
+        keeps = λ is waits.
+            turn-keeps g n before after lent given_back again left begun.stage stored.stage
+            begun.events done.reply done.status done.settling
+            (done.events - begun.events) j runs begins stores finishes is waits;
+        leaves = λ is.
+            turn-leaves g n before after lent given_back again left begun.stage stored.stage
+            begun.events done.reply done.status done.settling
+            (done.events - begun.events) j runs begins stores is;
+      }
+    where
+      finishes : Ends again j stored.stage left done.reply done.status done.settling
+          (done.events - begun.events)
+      finishes =
+          subst (λ (k : ℕ). Ends again j stored.stage left done.reply done.status done.settling
+          (done.events - k)) count
+          (subst (λ (i : Job). Ends again i stored.stage left done.reply done.status done.settling
+          (done.events - stored.events)) same ends)
+
+  -- what the turn did to the store
+  pub does_turn : (runs : Bool) (j : Job) (before after : S) (done : FinishedView)
+      → Does g n runs j before after done → Turns g before after
+  does_turn true j before after done does = inr (does.turn.at, does.turn.new, does.turn.stores)
+  does_turn false j before after done does = inl does.0
+
+-- one more job
+pub one_job : {S A : Type 0} (g : Ghosts S A) (a b c : S) (n : ℕ) (runs : Bool) (j : Job)
+    (done : FinishedView) → IsLeftOf g a b → Does g n runs j b c done → IsLeftOf g a c
+one_job g a b c n runs j done so_far does =
+    one_turn g a b c so_far (does_turn g n runs j b c done does)

@@ -1,0 +1,285 @@
+-- A node to which nothing happened except a crash; and what an event says about a node that holds a
+-- draft or is down.
+use Rattle.std.proofs.Common.{Bool, Err, List, None, Ok, Option, Result, Some, ap, cond, eq-eqb}
+use Rattle.std.proofs.Common.{eqb-true, false, inl, inr, length, refl, subst, suc, sym, true, ℕ}
+use Rattle.std.proofs.Common.{◌&&◌, ◌==◌, ◌∙◌, ◌≡◌, ◌⊎◌, ⊎_elim}
+use Rattle.std.proofs.lemmas.Bool.{and_from, cond-false, cond-true, cond_both}
+use Rattle.urb_group.proofs.steps.DraftsInSteps.{event_node, step-elsewhere, step-size}
+use Rattle.urb_group.proofs.steps.OneNodeStep.{updated-at}
+use Rattle.urb_group.proofs.stops.StockedSteps.{Stays, quiet-stays}
+use Rattle.urb_group.specs.Calls.{Steps}
+use Rattle.urb_group.specs.Shown.{GroupView, Shows}
+use Rattle.urb_group.specs.Step.{Commit, Crash, Event, Fail, Restart, at_node, step, world_after}
+use Rattle.urb_group.specs.World.{World}
+use Rattle.urb_names.specs.Naming.{Limits}
+use Rattle.urb_names.specs.Nodes.{is_node}
+use Rattle.urb_names.specs.declared.refusal.Refusal.TheVariants as refusal
+use Rattle.urb_node.proofs.Calls.{same_record-same}
+use Rattle.urb_node.specs.Part.{Down, Node, Ready, State, Storing}
+use Rattle.urb_node.specs.Replies.{Done, Refused, Reply, Stored, WentDown}
+use Rattle.urb_node.specs.Steps.{commits, crashes, done, doubt, fails, goes_down, is_down}
+use Rattle.urb_node.specs.Steps.{keeps_record, next_position, refuses, same_record}
+use Rattle.urb_node.specs.declared.cause.Cause.{Cause}
+use Rattle.urb_stable.specs.Entries.{Entry}
+use Rattle.urb_stable.specs.Placed.{Placed}
+use Rattle.urb_worker.specs.WholeTurns.{HasWaited, Waits}
+
+-- ---- what one event says about its node
+
+reply-at : (w : World) (p : ℕ) (outcome : Reply × Node) → is_node w.size.n p ≡ true
+    → (at_node w p outcome).0 ≡ outcome.0
+reply-at w p outcome there =
+    ap (λ (o : Reply × World). o.0)
+    (cond-true (is_node w.size.n p) (world_after w p outcome) (Refused refusal.BadNode, w) there)
+
+node-at : (w : World) (p : ℕ) (outcome : Reply × Node) → is_node w.size.n p ≡ true
+    → (at_node w p outcome).1.node p ≡ outcome.1
+node-at w p outcome there =
+    ap (λ (o : Reply × World). o.1.node p)
+    (cond-true (is_node w.size.n p) (world_after w p outcome)
+    (Refused refusal.BadNode, w) there) ∙ updated-at w.node p outcome.1
+
+-- node n of this world holds this draft
+pub record HoldsAt (w : World) (n : ℕ) (draft : Placed) : Type 0 where
+  pub cause : Option Cause
+  pub there : is_node w.size.n n ≡ true
+  pub storing : (w.node n).state ≡ Storing draft.entry cause
+  pub position : draft.pos ≡ suc (length (w.node n).records)
+
+-- the node takes the draft's receipt
+pub held-commits : (w : World) (n : ℕ) (draft : Placed) → HoldsAt w n draft
+    → (told : Done) × ((step w (Commit n draft.pos draft.entry)).0 ≡ Stored told)
+unfolding step
+held-commits w n draft h = (
+  done w.size.n n draft.entry h.cause (w.node n),
+  reply-at w n (commits w.size.n n draft.pos draft.entry (w.node n) (w.node n).state) h.there
+      ∙ (ap (λ (s : State). (commits w.size.n n draft.pos draft.entry (w.node n) s).0) h.storing
+      ∙ ap (λ (o : Reply × Node). o.0)
+      (cond-true ((draft.pos == next_position (w.node n)) && same_record draft.entry draft.entry) (
+        Stored (done w.size.n n draft.entry h.cause (w.node n)),
+        keeps_record n draft.entry h.cause (w.node n),
+      ) (refuses (w.node n) refusal.Stale)
+      (and_from (draft.pos == next_position (w.node n)) _
+      (eq-eqb draft.pos (next_position (w.node n)) h.position)
+      (same_record-same draft.entry)))),
+)
+
+-- the draft's failure takes the node down
+pub held-fails : (w : World) (n : ℕ) (draft : Placed) → HoldsAt w n draft
+    → (step w (Fail n)).0 ≡ WentDown n
+unfolding step
+held-fails w n draft h =
+    reply-at w n (fails n (w.node n) (w.node n).state) h.there
+    ∙ ap (λ (s : State). (fails n (w.node n) s).0) h.storing
+
+-- a node that is down takes no receipt and no failure
+pub down-commits : (w : World) (n : ℕ) (draft : Placed) (o : Option Entry)
+    → is_node w.size.n n ≡ true → (w.node n).state ≡ Down o
+    → (step w (Commit n draft.pos draft.entry)).0 ≡ Refused refusal.Down
+unfolding step
+down-commits w n draft o there down =
+    reply-at w n (commits w.size.n n draft.pos draft.entry (w.node n) (w.node n).state) there
+    ∙ ap (λ (s : State). (commits w.size.n n draft.pos draft.entry (w.node n) s).0) down
+
+pub down-fails : (w : World) (n : ℕ) (o : Option Entry) → is_node w.size.n n ≡ true
+    → (w.node n).state ≡ Down o → (step w (Fail n)).0 ≡ Refused refusal.Down
+unfolding step
+down-fails w n o there down =
+    reply-at w n (fails n (w.node n) (w.node n).state) there
+    ∙ ap (λ (s : State). (fails n (w.node n) s).0) down
+
+-- ---- a crash
+
+-- a crash of a node that holds a draft
+pub record FellWith (old new : Node) (draft : Placed) : Type 0 where
+  pub records : new.records ≡ old.records
+  pub down : new.state ≡ Down (Some draft.entry)
+
+pub crash-held : (w : World) (n : ℕ) (draft : Placed) → HoldsAt w n draft
+    → FellWith (w.node n) ((step w (Crash n)).1.node n) draft
+unfolding step
+crash-held w n draft h =
+    record {
+      records = ap (λ (node : Node). node.records) is;
+      down = ap (λ (node : Node). node.state) is ∙ ap (λ (s : State). Down (doubt s)) h.storing;
+    }
+  where
+    is : (at_node w n (crashes n (w.node n))).1.node n ≡ (goes_down n (w.node n)).1
+    is =
+        node-at w n (crashes n (w.node n)) h.there
+        ∙ ap (λ (o : Reply × Node). o.1)
+        (cond-false (is_down (w.node n).state) (refuses (w.node n) refusal.Down)
+        (goes_down n (w.node n)) (ap is_down h.storing))
+
+-- a crash of a node that is down
+pub crash-down : (w : World) (n : ℕ) → is_down (w.node n).state ≡ true
+    → (step w (Crash n)).1.node n ≡ w.node n
+unfolding step
+crash-down w n down =
+    cond_both (is_node w.size.n n) (world_after w n (crashes n (w.node n)))
+    (Refused refusal.BadNode, w) (λ (o : Reply × World). o.1.node n ≡ w.node n)
+    (λ there. updated-at w.node n (crashes n (w.node n)).1
+    ∙ ap (λ (o : Reply × Node). o.1)
+    (cond-true (is_down (w.node n).state) (refuses (w.node n) refusal.Down)
+    (goes_down n (w.node n)) down))
+    (λ _. refl)
+
+-- ---- a node that waited
+
+pub unchanged : (node : Node) → Stays node node
+unchanged node = record { records = refl; doubt = inr refl; up = λ e. e }
+
+pub waited-stays : (n : ℕ) (w : World) (later : GroupView) (h : HasWaited n w later)
+    → Stays (w.node n) (h.world.node n)
+waited-stays n w later h =
+    ⊎_elim (λ e. subst (λ (node : Node). Stays (w.node n) node) (sym e) (unchanged (w.node n)))
+    (λ e. subst (λ (node : Node). Stays (w.node n) node) (sym e) (quiet-stays w (Crash n) tt n))
+    h.node
+
+pub waited-there : (n : ℕ) (w : World) (later : GroupView) (h : HasWaited n w later)
+    → is_node w.size.n n ≡ true → is_node h.world.size.n n ≡ true
+waited-there n w later h there = subst (λ (l : Limits). is_node l.n n ≡ true) (sym h.size) there
+
+-- a node that held a draft still holds it, or went down with it
+pub waited-held : (n : ℕ) (w : World) (later : GroupView) (draft : Placed) (h : HasWaited n w later)
+    → HoldsAt w n draft → HoldsAt h.world n draft ⊎ FellWith (w.node n) (h.world.node n) draft
+waited-held n w later draft h held =
+    ⊎_elim (λ e. inl (still e)) (λ e.
+    inr (subst (λ (node : Node). FellWith (w.node n) node draft) (sym e)
+    (crash-held w n draft held))) h.node
+  where
+    still : h.world.node n ≡ w.node n → HoldsAt h.world n draft
+    still e =
+        record {
+          cause = held.cause;
+          there = waited-there n w later h held.there;
+          storing = ap (λ (node : Node). node.state) e ∙ held.storing;
+          position = held.position ∙ ap (λ (node : Node). suc (length node.records)) (sym e);
+        }
+
+-- a node that was down is unchanged
+pub waited-down : (n : ℕ) (w : World) (later : GroupView) (h : HasWaited n w later)
+    → is_down (w.node n).state ≡ true → h.world.node n ≡ w.node n
+waited-down n w later h down = ⊎_elim (λ e. e) (λ e. e ∙ crash-down w n down) h.node
+
+-- a node waits from a moment to the same moment, and waiting goes on
+pub waits-none : (n : ℕ) (group : GroupView) → Waits n group group
+waits-none n group w shows = record { world = w; shows = shows; size = refl; node = inl refl }
+
+-- two crashes have the effect of one
+crashed-twice : (n : ℕ) (w v : World) → v.size ≡ w.size → v.node n ≡ (step w (Crash n)).1.node n
+    → (step v (Crash n)).1.node n ≡ (step w (Crash n)).1.node n
+unfolding step
+crashed-twice n w v size e = at (is_node w.size.n n) refl
+  where
+    in_v : is_node v.size.n n ≡ is_node w.size.n n
+    in_v = ap (λ (l : Limits). is_node l.n n) size
+
+    at : (b : Bool) → is_node w.size.n n ≡ b
+        → (at_node v n (crashes n (v.node n))).1.node n
+        ≡ (at_node w n (crashes n (w.node n))).1.node n
+    at true there =
+        crash-down v n (subst (λ (node : Node). is_down node.state ≡ true)
+        (sym (e ∙ node-at w n (crashes n (w.node n)) there))
+        (fallen (is_down (w.node n).state) refl)) ∙ e
+      where
+        fallen : (b : Bool) → is_down (w.node n).state ≡ b
+            → is_down (crashes n (w.node n)).1.state ≡ true
+        fallen true down =
+            ap (λ (o : Reply × Node). is_down o.1.state)
+            (cond-true (is_down (w.node n).state) (refuses (w.node n) refusal.Down)
+            (goes_down n (w.node n)) down) ∙ down
+        fallen false up =
+            ap (λ (o : Reply × Node). is_down o.1.state)
+            (cond-false (is_down (w.node n).state) (refuses (w.node n) refusal.Down)
+            (goes_down n (w.node n)) up)
+    at false none =
+        ap (λ (o : Reply × World). o.1.node n)
+        (cond-false (is_node v.size.n n) (world_after v n (crashes n (v.node n)))
+        (Refused refusal.BadNode, v) (in_v ∙ none)) ∙ e
+
+-- a crash of an equal node
+crash-alike : (n : ℕ) (v w : World) → v.size ≡ w.size → v.node n ≡ w.node n
+    → (step v (Crash n)).1.node n ≡ (step w (Crash n)).1.node n
+unfolding step
+crash-alike n v w size e = at (is_node w.size.n n) refl
+  where
+    at : (b : Bool) → is_node w.size.n n ≡ b
+        → (at_node v n (crashes n (v.node n))).1.node n
+        ≡ (at_node w n (crashes n (w.node n))).1.node n
+    at true there =
+        node-at v n (crashes n (v.node n)) (ap (λ (l : Limits). is_node l.n n) size ∙ there)
+        ∙ (ap (λ (node : Node). (crashes n node).1) e
+        ∙ sym (node-at w n (crashes n (w.node n)) there))
+    at false none =
+        ap (λ (o : Reply × World). o.1.node n)
+        (cond-false (is_node v.size.n n) (world_after v n (crashes n (v.node n)))
+        (Refused refusal.BadNode, v) (ap (λ (l : Limits). is_node l.n n) size ∙ none))
+        ∙ (e ∙ sym (ap (λ (o : Reply × World). o.1.node n)
+        (cond-false (is_node w.size.n n) (world_after w n (crashes n (w.node n)))
+        (Refused refusal.BadNode, w) none)))
+
+pub waits-on : (n : ℕ) (first second third : GroupView) → Waits n first second
+    → Waits n second third → Waits n first third
+waits-on n first second third earlier later w shows =
+    record {
+      world = two.world;
+      shows = two.shows;
+      size = two.size ∙ one.size;
+      node =
+          ⊎_elim same crashed two.node;
+    }
+  where
+    one : HasWaited n w second
+    one = earlier w shows
+
+    two : HasWaited n one.world third
+    two = later one.world one.shows
+
+    same : two.world.node n ≡ one.world.node n
+        → (two.world.node n ≡ w.node n) ⊎ (two.world.node n ≡ (step w (Crash n)).1.node n)
+    same e = ⊎_elim (λ f. inl (e ∙ f)) (λ f. inr (e ∙ f)) one.node
+
+    crashed : two.world.node n ≡ (step one.world (Crash n)).1.node n
+        → (two.world.node n ≡ w.node n) ⊎ (two.world.node n ≡ (step w (Crash n)).1.node n)
+    crashed e =
+        ⊎_elim (λ f. inr (e ∙ crash-as f))
+        (λ f. inr (e ∙ crashed-twice n w one.world one.size f)) one.node
+      where
+        crash-as : one.world.node n ≡ w.node n
+            → (step one.world (Crash n)).1.node n ≡ (step w (Crash n)).1.node n
+        crash-as f = crash-alike n one.world w one.size f
+
+-- an event of another node, and a crash of any node
+pub waits-event : (n : ℕ) (old new : GroupView) (event : Event) (IsTold : Reply → Type 0)
+    → (n == event_node event) ≡ false → Steps old event IsTold new → Waits n old new
+waits-event n old new event IsTold apart steps w shows =
+    record {
+      world = (step w event).1;
+      shows = (steps w shows).shows;
+      size =
+          step-size w event;
+      node = inl (step-elsewhere w event n apart);
+    }
+
+pub waits-crash : (n p : ℕ) (old new : GroupView) (IsTold : Reply → Type 0)
+    → Steps old (Crash p) IsTold new → Waits n old new
+waits-crash n p old new IsTold steps = at (n == p) refl
+  where
+    here : (n == p) ≡ true → Waits n old new
+    here same w shows =
+        record {
+          world = (step w (Crash p)).1;
+          shows = (steps w shows).shows;
+          size = step-size w (Crash p);
+          node =
+              inr (subst (λ (i : ℕ). (step w (Crash i)).1.node n ≡ (step w (Crash n)).1.node n)
+              (eqb-true n p same) refl);
+        }
+
+    at : (b : Bool) → (n == p) ≡ b → Waits n old new
+    at false apart = waits-event n old new (Crash p) IsTold apart steps
+    at true same = here same
+
+pub waits-same : (n : ℕ) (old new : GroupView) → new ≡ old → Waits n old new
+waits-same n old new e = subst (λ (group : GroupView). Waits n old group) (sym e) (waits-none n old)

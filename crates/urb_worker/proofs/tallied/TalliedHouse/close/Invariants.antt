@@ -1,5 +1,0 @@
-use Rattle.std.proofs.Common.{◌≡◌, sum, length}
-use Rattle.urb_worker.proofs.tallied.TalliedHouse.close.Given as goal
-
-abbrev pub invariant-loop-tally : goal.invariant-loop-tally
-invariant-loop-tally g l = (l.all.parts ≡ length l.yielded) × (l.all.amount ≡ sum l.yielded)

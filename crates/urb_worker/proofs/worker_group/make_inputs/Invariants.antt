@@ -1,0 +1,18 @@
+use Rattle.std.proofs.Common.{◌≡◌, ◌+◌, ◌++◌, ◌≤◌, reverse, vec_len, vec_capacity}
+use Rattle.urb_worker.specs.ServedStores.{each, numbers_from}
+use Rattle.urb_worker.proofs.worker_group.make_inputs.Given as goal
+
+abbrev pub invariant-loop-store : goal.invariant-loop-store
+invariant-loop-store g l = record {
+  jobs : vec_len l.jobs ≡ vec_len l.stores;
+  tallies : vec_len l.tallies ≡ vec_len l.stores;
+  all : vec_len l.inputs + vec_len l.stores ≡ vec_len l.initial.stores;
+  room : vec_len l.initial.stores ≤ vec_capacity l.inputs;
+  taken : l.stores.items ++ reverse (each l.inputs.items (λ input. input.store))
+      ≡ l.initial.stores.items;
+  numbered : reverse (each l.inputs.items (λ input. input.node)) ≡ numbers_from
+      (vec_len l.stores + 1) (vec_len l.inputs);
+}
+
+abbrev pub decreases-loop-store : goal.decreases-loop-store
+decreases-loop-store g l = vec_len l.stores

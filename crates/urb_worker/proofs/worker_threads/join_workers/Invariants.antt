@@ -1,0 +1,14 @@
+use Rattle.std.proofs.Common.{◌≡◌, ◌≤◌, length, vec_len, vec_capacity}
+use Rattle.urb_worker.specs.ServedStores.{AreServed, each, in_either}
+use Rattle.urb_worker.proofs.worker_threads.join_workers.Given as goal
+
+abbrev pub invariant-loop-worker : goal.invariant-loop-worker
+invariant-loop-worker g l = record {
+  stores : vec_len l.stores ≡ length l.yielded;
+  tallies : vec_len l.tallies ≡ length l.yielded;
+  places : vec_len l.fn.workers ≤ vec_capacity l.stores;
+  counts : vec_len l.fn.workers ≤ vec_capacity l.tallies;
+  order : AreServed g.S.Stable (each l.yielded
+      (λ worker. in_either worker (λ thread. thread.promise.0.value) (λ left. left.came.value)))
+      l.stores.items;
+}

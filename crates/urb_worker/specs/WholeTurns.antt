@@ -1,0 +1,89 @@
+-- What a worker does with a job: the whole of its turn, with the store of its node.
+use Rattle.std.specs.Prelude.{Bool, None, false, true, ℕ, ◌≡◌, ◌⊎◌}
+use Rattle.urb_names.specs.declared.refusal.Refusal.TheVariants as refusal
+use Rattle.urb_stable.specs.declared.stable.Stable.{Ghosts}
+use Rattle.urb_group.specs.Shown.{GroupView, IsSound, Shows}
+use Rattle.urb_group.specs.Step.{Crash, step}
+use Rattle.urb_group.specs.Stocked.{IsLasting, IsStoreOf, LeavesOf}
+use Rattle.urb_group.specs.World.{World}
+use Rattle.urb_group.specs.declared.reply.Reply.TheVariants as reply
+use Rattle.urb_show.specs.Houses.{HouseView}
+use Rattle.urb_worker.specs.Settlings.{NothingNew}
+use Rattle.urb_worker.specs.Turns.{Begins, Finishes, Stores}
+use Rattle.urb_worker.specs.Views.{FinishedView}
+use Rattle.urb_worker.specs.declared.job.Job.{Job}
+use Rattle.urb_worker.specs.declared.turn_stages.Stage.{Stage}
+
+-- the result of a job for another node than its worker's: it is refused, and did not run
+abbrev pub misrouted : Job → FinishedView
+misrouted job =
+    record {
+      job = job;
+      reply = reply.Refused refusal.BadNode;
+      status = None;
+      settling = NothingNew;
+      ran = false;
+      events = 0;
+    }
+
+-- ---- a node and its store
+
+-- The later group shows a world in which nothing happened to node n of this world, except that it
+-- may have crashed.
+pub record HasWaited (n : ℕ) (w : World) (later : GroupView) : Type 0 where
+  pub world : World
+  pub shows : Shows later world
+  pub size : world.size ≡ w.size
+  pub node : (world.node n ≡ w.node n) ⊎ (world.node n ≡ (step w (Crash n)).1.node n)
+
+-- from one moment to another nothing happened to node n, except that it may have crashed
+abbrev pub Waits : ℕ → GroupView → GroupView → Type 0
+Waits n earlier later = (w : World) → Shows earlier w → HasWaited n w later
+
+module _ {S A : Type 0} (g : Ghosts S A) where
+  -- The store matches the group's node n: it holds the node's records, or these and the held or the
+  -- doubtful one. A stop leaves nothing else in it.
+  pub record IsStoreAt (n : ℕ) (group : GroupView) (store : S) : Type 0 where
+    pub world : World
+    pub shows : Shows group world
+    pub contents : IsStoreOf g (world.node n) store
+    pub lasting : IsLasting g (world.node n) store
+
+  -- A stop at this moment leaves in the store the records of the group's node n, or these and the
+  -- held or the doubtful one.
+  pub record LeavesAt (n : ℕ) (group : GroupView) (store : S) : Type 0 where
+    pub world : World
+    pub shows : Shows group world
+    pub left : g.is_clean store → LeavesOf g (world.node n) store
+
+  -- ---- a turn
+
+  -- The whole turn of a job. The worker locked the House and unlocked it. The store did its part.
+  -- The worker locked the House again, and left it in this state.
+  pub record IsTurn (job : Job) (before after : S) (done : FinishedView) : Type 0 where
+    pub lent : HouseView
+    pub given_back : HouseView
+    pub lent_again : HouseView
+    pub left : HouseView
+    pub at : Stage
+    pub new : Stage
+    pub events : ℕ
+    pub begins : Begins lent job given_back at events
+    pub stores : Stores g before at after new
+    pub finishes : Finishes lent_again
+        (record { job = job; stage = new; events = events }) left done
+
+  -- The whole turn of a job at the worker of node n. The store still matches node n if other
+  -- workers meanwhile did no more to this node than crash it. A stop in between leaves in the store
+  -- what it may leave of the node.
+  pub record IsTurnAt (n : ℕ) (job : Job) (before after : S) (done : FinishedView) : Type 0 where
+    pub turn : IsTurn job before after done
+    pub sound : IsSound turn.left.group
+    pub keeps : IsStoreAt n turn.lent.group before
+        → Waits n turn.given_back.group turn.lent_again.group → IsStoreAt n turn.left.group after
+    pub leaves : IsStoreAt n turn.lent.group before → LeavesAt n turn.given_back.group after
+
+  -- what the worker of node n does with a job: its turn if the job runs there, and else nothing
+  abbrev pub Does : ℕ → Bool → Job → S → S → FinishedView → Type 0
+  Does n true job before after done = IsTurnAt n job before after done
+  Does n false job before after done = (after ≡ before) × (done ≡ misrouted job)

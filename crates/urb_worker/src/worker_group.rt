@@ -1,0 +1,355 @@
+//! Running a group, from the opened group to the closed house.
+//!
+//! A running group has its workers, and the threads outside them.
+
+ghost use Rattle.std.specs.Prelude.{◌≡◌, ◌<◌, ◌≤◌, ◌*◌, ◌+◌, IfOk, IfSome, length, reverse, sum};
+ghost use Rattle.std.specs.Prelude.{vec_len, vec_capacity};
+ghost use Rattle.urb_names.specs.declared.limits.TheConstants.{MAX_NODES};
+ghost use Rattle.urb_show.specs.Lists.{lists_in};
+ghost use Rattle.urb_worker.specs.Counting.{count_after};
+ghost use Rattle.urb_worker.specs.ServedStores.{AreServed, each, numbers_from};
+ghost use Rattle.urb_worker.specs.declared.stations.TheConstants.{SESSIONS};
+
+use crate::listeners::{ListenerInput, run_listeners};
+use crate::polling::Polling;
+use crate::worker_threads::{Worker, WorkerInput, join_workers, start_workers};
+use crate::{
+    Hub, HubName, Link, OpenGate, PacedLink, Reporter, Station, Tally, Ticket, UdpLink, Watch,
+    WorkerSetting,
+};
+use crossbeam_channel::{Receiver, Sender};
+use std::alloc::{AllocError, Global};
+use std::net::{Net, TcpListener, TcpStream};
+use std::sync::Wait;
+use std::sync::ledger::Blank;
+use std::thread;
+use std::thread::{Scope, Threads};
+use std::time::Clock;
+use urb_names::NodeId;
+use urb_show::{HouseName, LogReader, Opened};
+use urb_stable::Stable;
+
+// The number of tickets that a worker's channel has room for.
+const ROOM: usize = 64;
+
+/// What a group of `count` nodes needs besides its house. These are a channel for each worker, and
+/// lists with room for the workers' inputs and for what they leave. All of this is allocated before
+/// the house is opened.
+#[derive(Drop)]
+struct GroupRoom<K: HouseName, L: HubName, S: Stable<Alloc = Global>> {
+    queues: Vec<Sender<Ticket<K>>>,
+    jobs: Vec<Receiver<Ticket<K>>>,
+    inputs: Vec<WorkerInput<K, L, S>>,
+    workers: Vec<Worker<L, S>>,
+    stores: Vec<S>,
+    tallies: Vec<Tally<L>>,
+}
+
+// A channel for each of `count` workers.
+fn make_queues<K: HouseName>(
+    alloc: Global,
+    count: usize,
+) -> Result<(Vec<Sender<Ticket<K>>>, Vec<Receiver<Ticket<K>>>), AllocError>
+    ensures { IfOk result (λ made. (vec_len made.0 ≡ count) × (vec_len made.1 ≡ count)) }
+{
+    let mut queues = Vec::with_capacity(alloc, count)?;
+    let mut jobs = Vec::with_capacity(alloc, count)?;
+    for _i in 0..count {
+        let (queue, end) = crossbeam_channel::bounded(alloc, ROOM)?;
+        queues.push_reserved(queue);
+        jobs.push_reserved(end);
+    }
+    Ok((queues, jobs))
+}
+
+// The lists of `count` workers, all of them empty.
+fn reserve_room<K: HouseName, L: HubName, S: Stable<Alloc = Global> + Drop>(
+    alloc: Global,
+    count: usize,
+) -> Result<GroupRoom<K, L, S>, AllocError>
+    ensures queues { IfOk result
+        (λ made. (vec_len made.queues ≡ count) × (vec_len made.jobs ≡ count)) }
+    ensures inputs { IfOk result
+        (λ made. (vec_len made.inputs ≡ 0) × (count ≤ vec_capacity made.inputs)) }
+    ensures workers { IfOk result
+        (λ made. (vec_len made.workers ≡ 0) × (count ≤ vec_capacity made.workers)) }
+    ensures stores { IfOk result
+        (λ made. (vec_len made.stores ≡ 0) × (count ≤ vec_capacity made.stores)) }
+    ensures tallies { IfOk result
+        (λ made. (vec_len made.tallies ≡ 0) × (count ≤ vec_capacity made.tallies)) }
+{
+    let (queues, jobs) = make_queues(alloc, count)?;
+    Ok(GroupRoom {
+        queues,
+        jobs,
+        inputs: Vec::with_capacity(alloc, count)?,
+        workers: Vec::with_capacity(alloc, count)?,
+        stores: Vec::with_capacity(alloc, count)?,
+        tallies: Vec::with_capacity(alloc, count)?,
+    })
+}
+
+// Makes an input for each store, the last node's first.
+#[tactic(auto, using(crate::proofs::ServedStores::takes_up, crate::proofs::ServedStores::reverse_push))]
+fn make_inputs<K: HouseName, L: HubName, S: Stable<Alloc = Global> + Drop>(
+    inputs: Vec<WorkerInput<K, L, S>>,
+    stores: Vec<S>,
+    jobs: Vec<Receiver<Ticket<K>>>,
+    tallies: Vec<Tally<L>>,
+) -> Vec<WorkerInput<K, L, S>>
+    requires room { (vec_len inputs ≡ 0) × (vec_len stores ≤ vec_capacity inputs) }
+    requires one_each { (vec_len jobs ≡ vec_len stores) × (vec_len tallies ≡ vec_len stores) }
+    requires nodes { vec_len stores ≤ MAX_NODES }
+    ensures count { vec_len result ≡ vec_len stores }
+    ensures stores { reverse (each result.items (λ input. input.store)) ≡ stores.items }
+    ensures nodes { reverse (each result.items (λ input. input.node))
+        ≡ numbers_from 1 (vec_len stores) }
+{
+    let mut inputs = inputs;
+    let mut stores = stores;
+    let mut jobs = jobs;
+    let mut tallies = tallies;
+    while let Some(store) = stores.pop() {
+        let node = NodeId::new(stores.len() as u8 + 1).unwrap();
+        inputs.push_reserved(WorkerInput {
+            node,
+            store,
+            jobs: jobs.pop().unwrap(),
+            tally: tallies.pop().unwrap(),
+        });
+    }
+    inputs
+}
+
+// The Hub of the opened group, with its tallies and its readers. `None` if memory was refused.
+fn open_hub<K: HouseName, L: HubName, R: Wait>(
+    rt: &R,
+    alloc: Global,
+    opened: Opened,
+    blank: Blank,
+) -> Option<(Hub<K, L>, Vec<Tally<L>>, Vec<LogReader<K>>)>
+    requires names { (opened.book ≡ K.book) × (lists_in opened.group ≡ K.base) }
+    requires name { blank.name ≡ L.name }
+    requires parts { (blank.parts ≡ L.parts) × (L.parts ≡ opened.group.size.n) }
+    requires start { L.start ≡ 0 }
+    ensures tallies { IfSome result (λ it. vec_len it.1 ≡ L.parts) }
+    ensures readers { IfSome result (λ it. length it.2.items ≡ SESSIONS * L.parts) }
+    ensures nodes { IfSome result (λ it. (L.parts ≡ length K.base) × (L.parts ≤ MAX_NODES)) }
+{
+    let (house, readers) = match opened.parts::<K, R>(rt, alloc) {
+        Ok(parts) => parts,
+        Err((opened, _)) => {
+            drop(opened.close());
+            return None;
+        }
+    };
+    house.recall();
+    house.config().recall();
+    match Hub::new(alloc, house, blank) {
+        Ok((hub, tallies)) => Some((hub, tallies, readers)),
+        Err((house, _)) => {
+            drop(house.close(rt));
+            None
+        }
+    }
+}
+
+/// What a group runs with, besides the opened group.
+#[derive(Drop)]
+pub struct GroupSetting<'a, H: Reporter, R> {
+    pub rt: &'a R,
+    pub alloc: Global,
+    /// Carries the nodes' packets.
+    pub link: &'a UdpLink,
+    /// The stations of the nodes 1, 2, ... Each takes its node's datagrams and clients.
+    pub stations: &'a [Station],
+    /// The time between two ticks of a node, in milliseconds.
+    pub tick_millis: u32,
+    /// Reports each node that goes down or comes back.
+    pub reporter: &'a H,
+}
+
+// The inputs of a group's workers, and room for the workers and for what they leave.
+#[derive(Drop)]
+struct WorkerGroup<K: HouseName, L: HubName, S: Stable<Alloc = Global>> {
+    inputs: Vec<WorkerInput<K, L, S>>,
+    workers: Vec<Worker<L, S>>,
+    stores: Vec<S>,
+    tallies: Vec<Tally<L>>,
+    ghost room: { (vec_len workers ≡ 0) × (vec_len inputs ≤ vec_capacity workers) },
+    ghost store_room: { (vec_len stores ≡ 0) × (vec_len inputs ≤ vec_capacity stores) },
+    ghost tally_room: { (vec_len tallies ≡ 0) × (vec_len inputs ≤ vec_capacity tallies) },
+}
+
+// Runs the workers in a scope, and the listeners, until the watch ends. Returns all stores and
+// tallies, and whether all threads could be made.
+fn run_in_scope<
+    's,
+    E,
+    K: HouseName + Send + Sync,
+    L: HubName + Send + Sync,
+    S: Stable<Alloc = Global> + Send + Drop + 's,
+    N: Link + Sync,
+    H: Reporter + Sync,
+    R,
+    W: Watch,
+>(
+    scope: &Scope<'s, E>,
+    setting: &'s WorkerSetting<'s, K, L, N, OpenGate, H, R>,
+    outer: &GroupSetting<'_, H, R>,
+    group: WorkerGroup<K, L, S>,
+    listening: ListenerInput<K>,
+    watch: &mut W,
+) -> ((Vec<S>, Vec<Tally<L>>), bool)
+where
+    R: Threads + Wait + Clock + Sync + Net<Listener = TcpListener, Stream = TcpStream>,
+    requires nodes { (length outer.now.stations.now ≤ length K.base) × (length K.base ≤ MAX_NODES) }
+    requires queues { vec_len listening.queues ≡ length outer.now.stations.now }
+    ensures stores { vec_len result.0.0 ≡ vec_len group.inputs }
+    ensures tallies { vec_len result.0.1 ≡ vec_len group.inputs }
+    ensures order { AreServed S.Stable (reverse (each group.inputs.items (λ input. input.store)))
+        result.0.0.items }
+{
+    let WorkerGroup {
+        inputs,
+        workers,
+        stores,
+        tallies,
+    } = group;
+    let ListenerInput { queues, readers } = listening;
+    let (workers, queues) = start_workers(scope, setting, inputs, workers, queues);
+    let whole = match queues {
+        Some(queues) => run_listeners(outer, ListenerInput { queues, readers }, watch),
+        None => false,
+    };
+    (join_workers(setting.rt, workers, stores, tallies), whole)
+}
+
+// Does the same in a scope of its own. The workers send no faster than the stations' receivers
+// take.
+fn run_worker_group<
+    K: HouseName + Send + Sync,
+    L: HubName + Send + Sync,
+    S: Stable<Alloc = Global> + Send + Drop,
+    H: Reporter + Sync,
+    R,
+    W: Watch,
+>(
+    outer: &GroupSetting<'_, H, R>,
+    hub: &Hub<K, L>,
+    group: WorkerGroup<K, L, S>,
+    listening: ListenerInput<K>,
+    watch: &mut W,
+) -> ((Vec<S>, Vec<Tally<L>>), bool)
+where
+    R: Threads + Wait + Clock + Sync + Net<Listener = TcpListener, Stream = TcpStream>,
+    requires nodes { (length outer.now.stations.now ≤ length K.base) × (length K.base ≤ MAX_NODES) }
+    requires queues { vec_len listening.queues ≡ length outer.now.stations.now }
+    ensures stores { vec_len result.0.0 ≡ vec_len group.inputs }
+    ensures tallies { vec_len result.0.1 ≡ vec_len group.inputs }
+    ensures order { AreServed S.Stable (reverse (each group.inputs.items (λ input. input.store)))
+        result.0.0.items }
+{
+    let rt = outer.rt;
+    let link = PacedLink::new(rt, outer.link, outer.stations);
+    let gate = OpenGate;
+    let setting = WorkerSetting {
+        rt,
+        alloc: outer.alloc,
+        hub,
+        link: &link,
+        gate: &gate,
+        reporter: outer.reporter,
+        polling: Polling::for_workers(rt, group.inputs.len()),
+    };
+    let setting = &setting;
+    thread::scope(
+        thread::scope_env(),
+        rt,
+        move |scope| -> ((Vec<S>, Vec<Tally<L>>), bool)
+            requires { (length outer.now.stations.now ≤ length K.base)
+                × (length K.base ≤ MAX_NODES)
+                × (vec_len listening.queues ≡ length outer.now.stations.now) }
+            ensures { (vec_len result.0.0 ≡ vec_len group.inputs)
+                × (vec_len result.0.1 ≡ vec_len group.inputs)
+                × AreServed S.Stable (reverse (each group.inputs.items (λ input. input.store)))
+                result.0.0.items }
+        { run_in_scope(scope, setting, outer, group, listening, watch) },
+    )
+}
+
+// Closes the house, and returns the count of its events, which is that of all tallies.
+fn close_hub<K: HouseName, L: HubName, R: Wait>(
+    rt: &R,
+    hub: Hub<K, L>,
+    tallies: Vec<Tally<L>>,
+) -> u64
+    requires { vec_len tallies ≡ L.parts }
+    ensures { result ≡ count_after (sum tallies.items) L.start }
+{
+    let house = hub.close(tallies);
+    let events = house.events();
+    drop(house.close(rt));
+    events
+}
+
+/// Runs a group that was opened, until the watch ends. Each node has a worker with its store, and a
+/// station. The stores are those of the nodes 1, 2, ... They are returned, with the count of
+/// events.
+///
+/// At the end it waits for sessions that have begun. There is no count if memory or a thread was
+/// refused. Then nothing runs any more, and the watch was not called.
+#[tactic(auto, using(crate::proofs::ServedStores::unserved))]
+pub fn run_group<
+    K: HouseName + Send + Sync,
+    L: HubName + Send + Sync,
+    S: Stable<Alloc = Global> + Send + Drop,
+    H: Reporter + Sync,
+    R,
+    W: Watch,
+>(
+    setting: &GroupSetting<'_, H, R>,
+    opened: Opened,
+    blank: Blank,
+    stores: Vec<S>,
+    watch: &mut W,
+) -> (Vec<S>, Option<u64>)
+where
+    R: Threads + Wait + Clock + Sync + Net<Listener = TcpListener, Stream = TcpStream>,
+    requires names { (opened.book ≡ K.book) × (lists_in opened.group ≡ K.base) }
+    requires name { blank.name ≡ L.name }
+    requires parts { (blank.parts ≡ L.parts) × (L.parts ≡ opened.group.size.n) }
+    requires start { L.start ≡ 0 }
+    requires stores { vec_len stores ≡ opened.group.size.n }
+    requires stations { length setting.now.stations.now ≡ opened.group.size.n }
+    ensures count { vec_len result.0 ≡ vec_len stores }
+    // Each store is returned at its place, as its own node's turns left it.
+    ensures order { AreServed S.Stable stores.items result.0.items }
+{
+    let (rt, alloc) = (setting.rt, setting.alloc);
+    let Ok(rooms) = reserve_room::<K, L, S>(alloc, setting.stations.len()) else {
+        drop(opened.close());
+        return (stores, None);
+    };
+    let Some((hub, cut, readers)) = open_hub::<K, L, R>(rt, alloc, opened, blank) else {
+        return (stores, None);
+    };
+    let GroupRoom {
+        queues,
+        jobs,
+        inputs,
+        workers,
+        stores: left,
+        tallies,
+    } = rooms;
+    let group = WorkerGroup {
+        inputs: make_inputs(inputs, stores, jobs, cut),
+        workers,
+        stores: left,
+        tallies,
+    };
+    let listening = ListenerInput { queues, readers };
+    let ((stores, tallies), whole) = run_worker_group(setting, &hub, group, listening, watch);
+    let events = close_hub(rt, hub, tallies);
+    (stores, if whole { Some(events) } else { None })
+}
