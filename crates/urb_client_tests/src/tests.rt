@@ -175,8 +175,8 @@ fn each_fault_of_a_frame_has_its_code(rt: HostRuntime) {
     assert_eq!(rt; first_wrong_code(rt.alloc(), &FAULTS), None);
 }
 
-// Returns how many entries the desk gives to a read from each of these places on. Its log has eight
-// of the longest entries.
+// Returns how many entries of its log the desk gives to a read from each of these places on. The
+// log has eight of the longest entries.
 fn counts_from(alloc: Global, places: [u32; 4]) -> Option<[usize; 4]> {
     let client = ClientId::new(7)?;
     let mut desk = OneNode::new(alloc);

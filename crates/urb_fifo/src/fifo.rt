@@ -18,8 +18,8 @@ use urb_certified::Certified;
 use urb_names::{Config, Name, NoMemory, NodeId};
 
 /// The certified names, and the log of the released ones. A name is released once it and all lower
-/// numbers of its sender are certified (broadcast with sequence number, section 3.9 of the
-/// textbook).
+/// numbers of its sender are certified (broadcast with sequence number, section 3.9 of the textbook
+/// that docs/GLOSSARY.md names).
 #[derive(Drop)]
 #[derive_where(Debug)]
 pub struct Fifo<A: Allocator = Global> {
@@ -41,7 +41,7 @@ impl<A: Allocator> Model for Fifo<A> {
     ghost invariant = { IsKept };
 }
 
-// The reservation left once this name has been added.
+// The reservation left once this name has been added: another name may use up the reserved space.
 fn reservation_after(reserved: Option<Name>, name: Name) -> Option<Name>
     ensures { result ≡ reserved_for reserved name }
 {
@@ -143,7 +143,7 @@ impl<A: Allocator + Copy> Fifo<A> {
     }
 
     // The names of its sender that a certificate would release: those after the first number
-    // returned, up to the second.
+    // returned, up to the second. They are none if the two numbers are equal.
     fn range_released_by(&self, certificate: Name) -> (u32, u32)
         requires sender { certificate.sender ≤ self.now.limits.n }
         requires seq { certificate.seq ≤ self.now.limits.cap }

@@ -1,4 +1,4 @@
-//! The nodes of a group, each in its place.
+//! The nodes of a group, each in its place. A call moves a node to its next state, or leaves it.
 
 ghost use Rattle.std.specs.Prelude.{◌<◌, ◌≡◌, Some, slice_get, suc, vec_len};
 ghost use Rattle.std.specs.Option.{ForSome, MatchOption};
@@ -32,7 +32,8 @@ pub(crate) enum Node<A: Allocator = Global> {
     Down(Down<A>),
 }
 
-/// Moves the item in one place, and leaves the other places as they are.
+/// Replaces the item in one place by what `moves` makes of it, and leaves the other places as they
+/// are.
 pub(crate) fn move_at<T, A: Allocator, R, F: FnOnce(T) -> (T, R)>(
     nodes: &mut Vec<T, A>,
     at: usize,
@@ -47,7 +48,7 @@ pub(crate) fn move_at<T, A: Allocator, R, F: FnOnce(T) -> (T, R)>(
     result
 }
 
-/// Applies a client's message to a node, which moves, or stays with a refusal.
+/// Applies a client's message to a node, which moves to its next state, or stays with a refusal.
 pub(crate) fn submit_at<A: Allocator + Copy>(
     node: Node<A>,
     alloc: A,
@@ -91,7 +92,9 @@ pub(crate) fn submit_sharing_at<A: Allocator + Copy>(
     }
 }
 
-/// Applies a packet that is for the node, which moves, or stays with a refusal.
+/// Applies a packet that is for the node, which moves to its next state, or stays with a refusal.
+/// `known` is the packet's message, if it can be shared. `is_truthful` says whether the packet's
+/// source bears the packet out.
 pub(crate) fn arrive_at<A: Allocator + Copy>(
     node: Node<A>,
     alloc: A,
@@ -121,7 +124,7 @@ pub(crate) fn arrive_at<A: Allocator + Copy>(
     }
 }
 
-/// Applies a receipt to a node, which takes it, or stays and returns it.
+/// Applies a receipt to a node. The node takes it, or stays as it is and returns it with a refusal.
 pub(crate) fn commit_at<A: Allocator + Copy>(
     node: Node<A>,
     receipt: Receipt<A>,

@@ -95,8 +95,8 @@ impl Read for FailingReader<'_> {
     }
 }
 
-/// Writes into a buffer of fixed length, at most `piece` bytes a write, and fails at one call: a
-/// write or a flush. The failing call writes nothing, and the calls after it continue.
+/// Writes into a buffer of fixed length, at most `piece` bytes a write (with 0, none), and fails at
+/// one call: a write or a flush. The failing call writes nothing, and the calls after it continue.
 #[derive(Drop)]
 pub struct FailingWriter<'a> {
     room: &'a mut [u8],

@@ -1,4 +1,5 @@
-//! Tests of the allocator's count, which no contract can name; and of the reader and the writer.
+//! Tests of the allocator's count, which no contract can name because it is in a cell; and of the
+//! reader and the writer.
 
 use super::*;
 use std::alloc::{AllocError, Global};

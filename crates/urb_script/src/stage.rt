@@ -52,7 +52,8 @@ fn make_stores<A: Allocator + Copy>(alloc: A, n: u8) -> Result<Vec<MemStable<A>,
     Ok(stores)
 }
 
-// Returns a copy of a message. Without a message, it returns the message that nobody sent.
+// Returns a copy of a message. Without a message, it returns a stand-in: number 1 of client 1, with
+// an empty payload.
 fn share_or_make_empty<A: Allocator + Copy>(
     alloc: A,
     stored: Option<&Message<A>>,
@@ -271,7 +272,7 @@ impl<A: Allocator + Copy> Stage<A> {
         }
     }
 
-    // Writes a node, if it has a name stored.
+    // Adds to the text a node's number, if the node has a name stored.
     fn push_if_holder(
         &self,
         node: NodeId,
@@ -289,7 +290,7 @@ impl<A: Allocator + Copy> Stage<A> {
         Ok(())
     }
 
-    // Writes the nodes that have a name stored.
+    // Adds to the text the numbers of the nodes that have a name stored.
     fn push_holders(&self, name: Name, text: &mut Vec<u8, A>) -> Result<(), NoMemory>
         ensures { OnOk result ((w : World)
             → Shows self.now.cluster.group w
@@ -317,7 +318,7 @@ impl<A: Allocator + Copy> Stage<A> {
         self.push_holders(name, text)
     }
 
-    // Does a command that goes on with this cluster, and writes the answer.
+    // Does a command and writes the answer. `play` does `reopen`; only the first line is `group`.
     fn do_command(&mut self, found: CommandLine<'_>, text: &mut Vec<u8, A>) -> Result<(), NoMemory>
         requires fresh { text.old.items ≡ [] }
         requires later { IsLater (command found) }

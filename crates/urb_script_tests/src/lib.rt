@@ -1,6 +1,7 @@
 //! Tests of `urb_script`, in a crate of their own.
 //!
-//! What the tests call is proved once, and the tests see what users of the crate see.
+//! So `urb_script` is proved once, and not again with its tests. The tests see what users of the
+//! crate see.
 #![tactic(auto)]
 
 #[cfg(test)]

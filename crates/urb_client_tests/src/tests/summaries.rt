@@ -29,8 +29,9 @@ pub(super) fn asked_by<A: Allocator>(request: &Request<A>) -> Asked<'_> {
     }
 }
 
-/// What a response says. Entries have their entry if there is exactly one: its sender, its number
-/// there, its client, its number there, and its payload.
+/// What a response says. A single entry has the sender and number of its name, the client and the
+/// client's number for the message, and the payload. More entries have their count. A status has
+/// the node's state, the count of its own messages, and the length of its log.
 #[derive(Clone, Copy, PartialEq, Eq)]
 pub(super) enum Said<'a> {
     Accepted(u32),

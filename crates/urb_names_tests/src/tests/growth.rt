@@ -1,10 +1,10 @@
-//! Tests that refuse each allocation in turn.
+//! Tests that refuse each allocation in turn. A growth is an allocation.
 
 use super::*;
 use std::alloc::Allocator;
 use urb_refusing::Refusing;
 
-// Decodes the first vector. If an allocation is refused, the error says so, and the same call
+// Decodes the first test vector. If an allocation is refused, the error says so, and the same call
 // succeeds the second time.
 fn read<A: Allocator + Copy>(alloc: A) -> Option<Packet<A>> {
     match decode(alloc, WITH_PAYLOAD) {
@@ -38,7 +38,8 @@ fn is_spelled_late<A: Allocator + Copy>(alloc: A, packet: &Packet<A>) -> bool {
     }
 }
 
-// The same after its message was shared, even if one allocation is refused.
+// Whether a packet that shares this one's message encodes to the first vector, even if one
+// allocation is refused. `None` if no such packet can be made.
 fn is_remade_late<A: Allocator + Copy>(alloc: A, packet: &Packet<A>) -> Option<bool> {
     let again = match remake(alloc, packet) {
         Some(again) => again,
