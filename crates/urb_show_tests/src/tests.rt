@@ -247,8 +247,15 @@ fn each_growth_of_a_house_may_be_refused(rt: HostRuntime) -> Result<(), Fail> {
         assert_eq!(rt; tally.all(), 1);
         all = all.plus(tally);
     }
-    assert!(rt; is_done);
-    assert!(rt; all.opening > 10 && all.settling > 2);
+    assert!(rt;
+        is_done,
+        "each of 299 growths was refused, and there are more"
+    );
+    let (opening, settling) = (all.opening, all.settling);
+    assert!(rt;
+        opening > 10 && settling > 2,
+        "{opening} growths in opening, {settling} in settling"
+    );
     assert_eq!(rt; all.reading, 5);
     Ok(())
 }

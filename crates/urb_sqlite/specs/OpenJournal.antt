@@ -1,10 +1,11 @@
 -- What contracts see of an open journal.
 use Rattle.std.specs.Prelude.{◌≡◌, ℕ, ◌+◌, Bool, false, List, [], ◌∷◌, ◌++◌, length, IsTrue, refl}
-use Rattle.std.specs.Prelude.{◌⊎◌}
+use Rattle.std.specs.Prelude.{◌⊎◌, Result, IfErr}
 use Rattle.std.specs.Coded.{Coded, code_by, coded×, coded_ℕ, coded_bool}
 use Rattle.sqlite.specs.Held.{Held, held_code}
 use Rattle.std.specs.List.{AllByRecursion}
-use Rattle.sqlite.specs.State.{State, HasCleanDisk, IsUnchanged, KeepsCommit, CommitsBy}
+use Rattle.sqlite.specs.State.{State, HasCleanDisk, IsUnchanged, IsRolledBack, KeepsCommit}
+use Rattle.sqlite.specs.State.{CommitsBy}
 use Rattle.sqlite.specs.Table.{Table}
 use Rattle.urb_stable.specs.Storing.{is_bad_row}
 use Rattle.urb_stable.specs.declared.stable.StoreFault.{StoreFault}
@@ -158,6 +159,23 @@ pub record IsLeft (old new : State) (place : ℕ) : Type 0 where
 -- Between two calls, a stop leaves the records that the journal shows.
 abbrev pub IsSafeAtRest : State → Type 0
 IsSafeAtRest s = IsHonestJournal s → LeavesOnly s (λ records. records ≡ records_of s.now)
+
+-- nothing changed, or what was not committed is gone
+abbrev pub RollsBackAtMost : State → State → Type 0
+RollsBackAtMost old new = IsUnchanged old new ⊎ IsRolledBack old new
+
+-- If the next position agreed with the rows, then at rest a stop leaves what the journal shows.
+abbrev pub StaysSafe : State → State → Type 0
+StaysSafe old new = (next : ℕ) → IsInStep old next → IsSafeAtRest new
+
+-- the answer does not say that a row is no record
+abbrev pub FindsNoBadRow : {A : Type 0} → Result A StoreFault → Type 0
+FindsNoBadRow result = IfErr result (λ e. is_bad_row e ≡ false)
+
+-- If both tables are there and each of their rows is a record, the answer does not say otherwise.
+abbrev pub TakesRecords : {A : Type 0} → State → Result A StoreFault → Type 0
+TakesRecords s result =
+    HasBoth s.now.schema → (next : ℕ) → IsCounted s.now next → FindsNoBadRow result
 
 -- ---- what opening leaves
 

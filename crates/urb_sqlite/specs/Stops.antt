@@ -22,13 +22,22 @@ abbrev pub IsFoundAfter : {A E : Type 0} → Result A E → List Entry → Entry
 IsFoundAfter (Ok _) before r found = found ≡ before ++ r ∷ []
 IsFoundAfter (Err e) before r found = (found ≡ before) ⊎ (found ≡ before ++ r ∷ [])
 
--- The new journal was opened after a stop of the old one. While the storage returns what was
--- written, the new journal is honest, and holds what the stop left, whatever that is.
+-- If P holds of whatever records a stop leaves of the old journal, then the new journal is honest,
+-- and P holds of its records.
+abbrev pub FindsWhatIsLeft : State → State → (List Entry → Type 0) → Type 0
+FindsWhatIsLeft old new P = LeavesOnly old P → IsHonestJournal new × P (records_of new.now)
+
+-- The new journal was opened after a stop of the old one. If its disk is clean, so was the old
+-- journal's. Then the new journal is honest and holds what the stop left, whatever that is: certain
+-- records, or these and one more.
 pub record IsReopened (old new : State) : Type 0 where
   pub clean : HasCleanDisk new → HasCleanDisk old
+  pub kept : HasCleanDisk new → (records : List Entry)
+      → FindsWhatIsLeft old new (λ left. left ≡ records)
+  pub found : HasCleanDisk new → (records : List Entry) (r : Entry)
+      → FindsWhatIsLeft old new (λ left. (left ≡ records) ⊎ (left ≡ records ++ r ∷ []))
   pub left : HasCleanDisk new → (certain : List Entry) (doubtful : Option Entry)
-      → LeavesOnly old (IsContents certain doubtful)
-      → IsHonestJournal new × IsContents certain doubtful (records_of new.now)
+      → FindsWhatIsLeft old new (IsContents certain doubtful)
 
 -- the same for several journals, one after the other
 abbrev pub AreReopened : {S : Type 0} → List S → List S → (S → State) → Type 0

@@ -1,14 +1,12 @@
 //! What the next opening of one journal finds after the machine stopped, over disks that can be
 //! made to crash.
 
-ghost use Rattle.std.specs.Prelude.{◌≡◌, ◌⊎◌, List, [], ◌∷◌, ◌++◌, Option, IfOk};
+ghost use Rattle.std.specs.Prelude.{IfOk};
 ghost use Rattle.sqlite.specs.State.{HasCleanDisk};
 ghost use Rattle.sqlite.specs.Files.{file_state};
-ghost use Rattle.urb_stable.specs.Entries.{Entry};
-ghost use Rattle.urb_stable.specs.Storing.{IsContents};
 ghost use Rattle.urb_sqlite.specs.Reading.{records_of};
-ghost use Rattle.urb_sqlite.specs.OpenJournal.{IsHonestJournal, LeavesOnly};
-ghost use Rattle.urb_sqlite.specs.Stops.{IsFoundAfter};
+ghost use Rattle.urb_sqlite.specs.OpenJournal.{IsHonestJournal};
+ghost use Rattle.urb_sqlite.specs.Stops.{IsFoundAfter, IsReopened};
 
 use crate::SqlStable;
 use sqlite::{FileStore, Files, Options};
@@ -24,29 +22,10 @@ impl<D: Crash + Drop> SqlStable<FileStore<D>> {
         alloc: Global,
         options: Options,
     ) -> Result<SqlStable<FileStore<D>>, StoreFault>
-        // If the new journal's disk is clean, the old journal's disk was clean.
-        ensures clean { IfOk result
-            (λ again. HasCleanDisk (file_state again.conn) → HasCleanDisk (file_state self.conn)) }
-        // If a stop leaves exactly these records, they are found.
-        ensures kept { IfOk result (λ again. HasCleanDisk (file_state again.conn)
-            → (records : List Entry)
-            → LeavesOnly (file_state self.conn) (λ left. left ≡ records)
-            → IsHonestJournal (file_state again.conn)
-            × (records_of (file_state again.conn).now ≡ records)) }
-        // If a stop leaves these records, or these and one more, one of the two is found.
-        ensures found { IfOk result (λ again. HasCleanDisk (file_state again.conn)
-            → (records : List Entry) (r : Entry)
-            → LeavesOnly (file_state self.conn)
-            (λ left. (left ≡ records) ⊎ (left ≡ records ++ r ∷ []))
-            → IsHonestJournal (file_state again.conn)
-            × ((records_of (file_state again.conn).now ≡ records)
-            ⊎ (records_of (file_state again.conn).now ≡ records ++ r ∷ []))) }
-        // If a stop leaves certain records, or these and a doubtful one, such records are found.
-        ensures left { IfOk result (λ again. HasCleanDisk (file_state again.conn)
-            → (certain : List Entry) (doubtful : Option Entry)
-            → LeavesOnly (file_state self.conn) (IsContents certain doubtful)
-            → IsHonestJournal (file_state again.conn)
-            × IsContents certain doubtful (records_of (file_state again.conn).now)) }
+        // The new journal holds what the stop left, as far as the disks have given back what was
+        // written.
+        ensures { IfOk result
+            (λ again. IsReopened (file_state self.conn) (file_state again.conn)) }
     {
         let Files { mut log, mut db } = self.into_connection().into_store().close();
         log.crash();

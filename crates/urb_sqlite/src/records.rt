@@ -2,10 +2,10 @@
 
 ghost use Rattle.std.specs.Prelude.{ℕ, List, ◌≡◌, ◌⊎◌, ◌<◌, ◌≤◌, ◌∷◌, ◌++◌, [], ◌+◌, length, true};
 ghost use Rattle.std.specs.Prelude.{false, IfOk, IfErr, OnOk, OnErr, IsTrue, Ok, Err};
-ghost use Rattle.sqlite.specs.State.{HasCleanDisk, IsLive, IsUnchanged, IsRolledBack, KeepsCommit};
+ghost use Rattle.sqlite.specs.State.{HasCleanDisk, IsLive, IsUnchanged, KeepsCommit};
 ghost use Rattle.sqlite.specs.State.{Survives, CommitsBy};
 ghost use Rattle.sqlite.specs.Held.{state};
-ghost use Rattle.urb_stable.specs.Storing.{is_place, is_bad_row};
+ghost use Rattle.urb_stable.specs.Storing.{is_place};
 ghost use Rattle.urb_sqlite.specs.Blame.{is_memory, blamed};
 ghost use Rattle.urb_stable.specs.Entries.{Entry};
 ghost use Rattle.urb_names.specs.declared.limits.TheConstants.{MAX_PAYLOAD};
@@ -17,10 +17,11 @@ ghost use Rattle.urb_sqlite.specs.declared.sql.Part.TheVariants.{First, Second};
 ghost use Rattle.urb_sqlite.specs.Rows.{table_rows, IsInOrder, IsFirstBad, IsFirstBadOf, StandsFor};
 ghost use Rattle.urb_sqlite.specs.Reading.{read_from, records_of};
 ghost use Rattle.urb_sqlite.specs.Shape.{has_table};
-ghost use Rattle.urb_sqlite.specs.OpenJournal.{IsCounted, IsInStep, IsHonestJournal, IsMade};
+ghost use Rattle.urb_sqlite.specs.OpenJournal.{IsInStep, IsHonestJournal, IsMade};
 ghost use Rattle.urb_sqlite.specs.OpenJournal.{IsShutJournal, MakesAtMost, CommitsAtMost};
 ghost use Rattle.urb_sqlite.specs.OpenJournal.{KeepsRows, CommitsEither, SparesRows, IsAppended};
-ghost use Rattle.urb_sqlite.specs.OpenJournal.{IsLeft, IsSafeAtRest, LeavesOnly};
+ghost use Rattle.urb_sqlite.specs.OpenJournal.{IsLeft, IsSafeAtRest, LeavesOnly, RollsBackAtMost};
+ghost use Rattle.urb_sqlite.specs.OpenJournal.{StaysSafe, FindsNoBadRow, TakesRecords};
 ghost use Rattle.urb_sqlite.specs.PartOpening.{IsPartOpened, IsPartRefused};
 
 use crate::counting::count_part;
@@ -134,8 +135,7 @@ fn read_part<S: Alter>(
     ensures same { HasCleanDisk (state S.Store conn.new)
         → OnOk result (IsUnchanged (state S.Store conn.old) (state S.Store conn.new)) }
     ensures left { HasCleanDisk (state S.Store conn.new)
-        → IsUnchanged (state S.Store conn.old) (state S.Store conn.new)
-        ⊎ IsRolledBack (state S.Store conn.old) (state S.Store conn.new) }
+        → RollsBackAtMost (state S.Store conn.old) (state S.Store conn.new) }
     ensures unchanged { HasCleanDisk (state S.Store conn.new)
         → IfErr result (λ e. (place : ℕ)
         → e ≡ StoreFault.BadRow place
@@ -150,7 +150,7 @@ fn read_part<S: Alter>(
         → (records : List Entry)
         → read_from (limit_of part) first (table_rows (state S.Store conn.old).now (name_of part))
         ≡ Ok records
-        → IfErr result (λ e. is_bad_row e ≡ false) }
+        → FindsNoBadRow result }
     ensures bad { HasCleanDisk (state S.Store conn.new)
         → HasTable (state S.Store conn.old).now.schema (name_of part)
         → IfErr result (λ e. (place : ℕ)
@@ -202,23 +202,17 @@ pub fn read<S: Alter>(
     ensures same { HasCleanDisk (state S.Store conn.new)
         → OnOk result (IsUnchanged (state S.Store conn.old) (state S.Store conn.new)) }
     ensures left { HasCleanDisk (state S.Store conn.new)
-        → IsUnchanged (state S.Store conn.old) (state S.Store conn.new)
-        ⊎ IsRolledBack (state S.Store conn.old) (state S.Store conn.new) }
+        → RollsBackAtMost (state S.Store conn.old) (state S.Store conn.new) }
     ensures found { HasCleanDisk (state S.Store conn.new)
         → HasBoth (state S.Store conn.old).now.schema
         → IfOk result (λ records. StandsFor (state S.Store conn.old).now records.items) }
     ensures sound { HasCleanDisk (state S.Store conn.new)
-        → HasBoth (state S.Store conn.old).now.schema
-        → (next : ℕ)
-        → IsCounted (state S.Store conn.old).now next
-        → IfErr result (λ e. is_bad_row e ≡ false) }
+        → TakesRecords (state S.Store conn.old) result }
     ensures shut { HasCleanDisk (state S.Store conn.new)
         → IsShutJournal (state S.Store conn.old)
-        → IfErr result (λ e. is_bad_row e ≡ false) }
+        → FindsNoBadRow result }
     ensures stop { Survives (state S.Store conn.old) (state S.Store conn.new) (λ _. ⊥) }
-    ensures rest { (next : ℕ)
-        → IsInStep (state S.Store conn.old) next
-        → IsSafeAtRest (state S.Store conn.new) }
+    ensures rest { StaysSafe (state S.Store conn.old) (state S.Store conn.new) }
     ensures live_before { IsLive (state S.Store conn.old) }
     ensures live { IsLive (state S.Store conn.new) }
     ensures placed { IfErr result (λ e. is_place e ≡ false) }
@@ -365,7 +359,7 @@ pub fn take_over<S: Alter>(
     ensures rowless { HasCleanDisk (state S.Store conn.new)
         → Lacks (state S.Store conn.old).now.schema journal_name
         → Lacks (state S.Store conn.old).now.schema second_name
-        → IfErr result (λ e. is_bad_row e ≡ false) }
+        → FindsNoBadRow result }
     ensures placed { IfErr result (λ e. is_place e ≡ false) }
     ensures refused { HasCleanDisk (state S.Store conn.new)
         → HasJournal (state S.Store conn.old).now.schema

@@ -17,6 +17,16 @@ use urb_window::Marks;
 /// node.
 pub const OUTBOX_MAX: usize = NAMES_PER_TICK as usize * (MAX_SENDERS - 1);
 
+// A name that a node sends to the others of its group, and whether the node has stored a
+// certificate of it.
+#[derive(Clone, Copy, Drop)]
+pub(crate) struct Sending {
+    pub(crate) config: Config,
+    pub(crate) node: NodeId,
+    pub(crate) name: Name,
+    pub(crate) certified: bool,
+}
+
 /// Packets for the other nodes, at most `OUTBOX_MAX`.
 #[derive(Drop)]
 #[derive_where(Debug)]
@@ -73,16 +83,13 @@ impl<A: Allocator + Copy> Outbox<A> {
             (λ outbox. outbox ≡ to_others config.n node certified heard (name, message.now)) }
     {
         let mut packets = Vec::new(alloc);
-        push_to_others(
-            &mut packets,
-            alloc,
+        let sending = Sending {
             config,
             node,
             name,
-            message,
             certified,
-            heard,
-        )?;
+        };
+        push_to_others(&mut packets, alloc, message, heard, sending)?;
         Ok(Outbox { packets })
     }
 
@@ -125,19 +132,23 @@ impl<A: Allocator> Outbox<A> {
 pub(crate) fn push_to_unheard<A: Allocator + Copy>(
     packets: &mut Vec<Packet<A>, A>,
     alloc: A,
-    config: Config,
-    node: NodeId,
-    heard: &Marks<A>,
-    name: Name,
     message: &Message<A>,
-    certified: bool,
+    heard: &Marks<A>,
+    sending: Sending,
 ) -> Result<(), NoMemory>
     ensures { OnOk result (packets.new.items
         ≡ packets.old.items
-        ++ packets_to node (λ q. record { certified = certified; heard = false })
-        (filter (λ q. not (acked heard.now.marks name q)) (others config.n node))
-        (name, message.now)) }
+        ++ packets_to sending.node (λ q. record { certified = sending.certified; heard = false })
+        (filter (λ q. not (acked heard.now.marks sending.name q))
+        (others sending.config.n sending.node))
+        (sending.name, message.now)) }
 {
+    let Sending {
+        config,
+        node,
+        name,
+        certified,
+    } = sending;
     for number in 1..config.n() + 1 {
         let target = NodeId::new(number).unwrap();
         if is_unheard(heard, node, name, target) {
@@ -156,16 +167,21 @@ pub(crate) fn push_to_unheard<A: Allocator + Copy>(
 fn push_to_others<A: Allocator + Copy>(
     packets: &mut Vec<Packet<A>, A>,
     alloc: A,
-    config: Config,
-    node: NodeId,
-    name: Name,
     message: &Message<A>,
-    certified: bool,
     heard: Option<NodeId>,
+    sending: Sending,
 ) -> Result<(), NoMemory>
     ensures { OnOk result (packets.new.items
-        ≡ packets.old.items ++ to_others config.n node certified heard (name, message.now)) }
+        ≡ packets.old.items
+        ++ to_others sending.config.n sending.node sending.certified heard
+        (sending.name, message.now)) }
 {
+    let Sending {
+        config,
+        node,
+        name,
+        certified,
+    } = sending;
     let end = config.n() + 1;
     for number in 1..end {
         let target = NodeId::new(number).unwrap();

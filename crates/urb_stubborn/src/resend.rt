@@ -13,7 +13,7 @@ ghost use Rattle.urb_stubborn.specs.Walking.{due_pairs, is_within};
 
 use crate::Outbox;
 use crate::due::{is_due, settle_from};
-use crate::outbox::push_to_unheard;
+use crate::outbox::{Sending, push_to_unheard};
 use std::alloc::{Allocator, Global};
 use std::marker::Model;
 use urb_certified::Certified;
@@ -26,6 +26,14 @@ use urb_window::Marks;
 struct Turn {
     left: u32,
     cursor: Option<Name>,
+}
+
+// Names that a turn resends: those after `from`, up to `last`, or all if there is no such limit.
+#[derive(Clone, Copy, Drop)]
+struct Walk {
+    from: Option<Name>,
+    last: Option<Name>,
+    turn: Turn,
 }
 
 /// A node's position in its resends, and which nodes' certificates of which names it has heard. It
@@ -165,27 +173,21 @@ impl<A: Allocator + Copy> Resend<A> {
             left: NAMES_PER_TICK,
             cursor: self.cursor,
         };
-        let turned = self.send(
-            packets,
-            alloc,
-            pending,
-            certified,
-            self.cursor,
-            &None,
-            begun,
-        )?;
+        let to_the_end = Walk {
+            from: self.cursor,
+            last: None,
+            turn: begun,
+        };
+        let turned = self.send(packets, alloc, pending, certified, to_the_end)?;
         if self.cursor.is_none() {
             return Ok(turned);
         }
-        self.send(
-            packets,
-            alloc,
-            pending,
-            certified,
-            None,
-            &self.cursor,
-            turned,
-        )
+        let from_the_start = Walk {
+            from: None,
+            last: self.cursor,
+            turn: turned,
+        };
+        self.send(packets, alloc, pending, certified, from_the_start)
     }
 
     // If this name isn't due, a name after which the sender's next due name may come; `None` if it
@@ -244,42 +246,38 @@ impl<A: Allocator + Copy> Resend<A> {
         }
     }
 
-    // Appends the packets of the due names after a cursor, up to `last`, for as many names as the
-    // turn has left.
+    // Appends the packets of the due names of a walk, for as many names as its turn has left.
     fn send(
         &self,
         packets: &mut Vec<Packet<A>, A>,
         alloc: A,
         pending: &Pending<A>,
         certified: &Certified<A>,
-        from: Option<Name>,
-        last: &Option<Name>,
-        turn: Turn,
+        walk: Walk,
     ) -> Result<Turn, NoMemory>
         ensures { IfOk result (λ after. IsWalked self.now certified.now.names
-            (take turn.left (between from last.now (due_pairs self.now pending.now.pairs))) turn
+            (take walk.turn.left
+            (between walk.from walk.last (due_pairs self.now pending.now.pairs))) walk.turn
             packets.old.items after packets.new.items) }
     {
+        let Walk { from, last, turn } = walk;
         pending.recall();
         let mut at = from;
         let mut left = turn.left;
         let mut cursor = turn.cursor;
         while 0 < left {
-            let Some(name) = self.next_within(pending, at, last) else {
+            let Some(name) = self.next_within(pending, at, &last) else {
                 return Ok(Turn { left, cursor });
             };
             let message = pending.message(name).unwrap();
             let is_certified = certified.has(name);
-            push_to_unheard(
-                packets,
-                alloc,
-                self.config,
-                self.node,
-                &self.heard,
+            let sending = Sending {
+                config: self.config,
+                node: self.node,
                 name,
-                message,
-                is_certified,
-            )?;
+                certified: is_certified,
+            };
+            push_to_unheard(packets, alloc, message, &self.heard, sending)?;
             at = Some(name);
             cursor = Some(name);
             left -= 1;

@@ -38,18 +38,11 @@ fn page(port: u16) -> ReadOptions
     }
 }
 
-/// Whether this is shown, with this status.
-fn shows(outcome: &Result<Printed, Fault>, text: &[u8], status: u8) -> bool {
+/// What is shown, with its status, or the fault.
+fn told(outcome: &Result<Printed, Fault>) -> Result<(&[u8], u8), Fault> {
     match outcome {
-        Ok(shown) => shown.text.as_slice() == text && shown.status == status,
-        Err(_) => false,
-    }
-}
-
-fn fails(outcome: &Result<Printed, Fault>, fault: Fault) -> bool {
-    match outcome {
-        Ok(_) => false,
-        Err(other) => *other == fault,
+        Ok(shown) => Ok((shown.text.as_slice(), shown.status)),
+        Err(fault) => Err(*fault),
     }
 }
 
@@ -90,7 +83,7 @@ fn a_submit_shows_its_response(rt: HostRuntime) -> Result<(), Fail> {
         let mut reader = sent;
         let mut written = Vec::new(rt.alloc());
         let outcome = submit_over(rt.alloc(), &mut reader, &mut written, submitting);
-        assert!(rt; shows(&outcome, text, status));
+        assert_eq!(rt; told(&outcome), Ok((text, status)));
         assert_eq!(rt;
             written.as_slice(),
             b"\x00\x09\x01\x00\x07\x00\x00\x00\x01hi".as_slice()
@@ -100,12 +93,12 @@ fn a_submit_shows_its_response(rt: HostRuntime) -> Result<(), Fail> {
         let mut reader = *sent;
         let mut written = Vec::new(rt.alloc());
         let outcome = submit_over(rt.alloc(), &mut reader, &mut written, submitting);
-        assert!(rt; fails(&outcome, Fault::BadReply));
+        assert_eq!(rt; told(&outcome), Err(Fault::BadReply));
     }
     let mut reader = ENTRIES;
     let mut written = Vec::new(rt.alloc());
     let outcome = submit_over(rt.alloc(), &mut reader, &mut written, submitting);
-    assert!(rt; fails(&outcome, Fault::BadReply));
+    assert_eq!(rt; told(&outcome), Err(Fault::BadReply));
     Ok(())
 }
 
@@ -119,7 +112,7 @@ fn a_read_shows_its_response(rt: HostRuntime) -> Result<(), Fail> {
         let mut reader = sent;
         let mut written = Vec::new(rt.alloc());
         let outcome = read_over(rt.alloc(), &mut reader, &mut written, page(1));
-        assert!(rt; shows(&outcome, text, status));
+        assert_eq!(rt; told(&outcome), Ok((text, status)));
         assert_eq!(rt;
             written.as_slice(),
             b"\x00\x06\x02\x00\x00\x00\x01\x08".as_slice()
@@ -129,12 +122,12 @@ fn a_read_shows_its_response(rt: HostRuntime) -> Result<(), Fail> {
         let mut reader = *sent;
         let mut written = Vec::new(rt.alloc());
         let outcome = read_over(rt.alloc(), &mut reader, &mut written, page(1));
-        assert!(rt; fails(&outcome, Fault::BadReply));
+        assert_eq!(rt; told(&outcome), Err(Fault::BadReply));
     }
     let mut reader = ACCEPTED;
     let mut written = Vec::new(rt.alloc());
     let outcome = read_over(rt.alloc(), &mut reader, &mut written, page(1));
-    assert!(rt; fails(&outcome, Fault::BadReply));
+    assert_eq!(rt; told(&outcome), Err(Fault::BadReply));
     Ok(())
 }
 
@@ -228,12 +221,12 @@ fn a_submit_goes_over_a_socket(rt: HostRuntime) -> Result<(), Fail> {
         (GAP, b"refused 7 2\n", 4),
     ] {
         let (seen, outcome) = submit_beside(&rt, rt.alloc(), &listener, answer, submitting);
-        assert!(rt; shows(&outcome, text, status));
+        assert_eq!(rt; told(&outcome), Ok((text, status)));
         assert_eq!(rt; seen.ok_or("a request")?.as_slice(), asked);
     }
     for answer in [b"".as_slice(), b"\x00\x05\x81\x00", ENTRIES] {
         let (_, outcome) = submit_beside(&rt, rt.alloc(), &listener, answer, submitting);
-        assert!(rt; fails(&outcome, Fault::BadReply));
+        assert_eq!(rt; told(&outcome), Err(Fault::BadReply));
     }
     // A text over 16,384 bytes isn't sent.
     let long = Vec::from_elem(rt.alloc(), b'x', MAX_PAYLOAD + 1)?;
@@ -245,7 +238,7 @@ fn a_submit_goes_over_a_socket(rt: HostRuntime) -> Result<(), Fail> {
         text,
     };
     let outcome = submit_at(&rt, rt.alloc(), submitting);
-    assert!(rt; shows(&outcome, b"refused 5 0\n", 4));
+    assert_eq!(rt; told(&outcome), Ok((b"refused 5 0\n".as_slice(), 4)));
     Ok(())
 }
 
@@ -257,14 +250,14 @@ fn a_read_goes_over_a_socket(rt: HostRuntime) -> Result<(), Fail> {
         return Err("a port")?;
     }
     let (seen, outcome) = read_beside(&rt, rt.alloc(), &listener, ENTRIES, page(port));
-    assert!(rt; shows(&outcome, ENTRIES_TEXT, 0));
+    assert_eq!(rt; told(&outcome), Ok((ENTRIES_TEXT, 0)));
     let asked = b"\x00\x06\x02\x00\x00\x00\x01\x08".as_slice();
     assert_eq!(rt; seen.ok_or("a request")?.as_slice(), asked);
     let (_, outcome) = read_beside(&rt, rt.alloc(), &listener, ACCEPTED, page(port));
-    assert!(rt; fails(&outcome, Fault::BadReply));
+    assert_eq!(rt; told(&outcome), Err(Fault::BadReply));
     // If no node listens, that is reported.
     drop(listener);
     let outcome = read_at(&rt, rt.alloc(), page(port));
-    assert!(rt; fails(&outcome, Fault::Network));
+    assert_eq!(rt; told(&outcome), Err(Fault::Network));
     Ok(())
 }

@@ -32,7 +32,8 @@ fn mistakes_are_told_on_standard_error(rt: HostRuntime) -> Result<(), Fail> {
                 b"",
                 b"error: ",
                 b"\n\nFor more information, try '--help'.\n"
-            )
+            ),
+            "{words:?}"
         );
     }
     let shown = shown_by(rt.alloc(), &[b"urbd", b"\xff"], b"", true);
@@ -58,7 +59,7 @@ fn help_goes_to_standard_output(rt: HostRuntime) -> Result<(), Fail> {
     ] {
         let shown = shown_by(rt.alloc(), words, b"", true);
         assert_eq!(rt; shown.status, 0);
-        assert!(rt; shown.output.as_slice().starts_with(begins));
+        assert!(rt; shown.output.as_slice().starts_with(begins), "{words:?}");
         assert_eq!(rt; shown.errors.len(), 0);
         // If help can't be written, that is reported.
         let shown = shown_by(rt.alloc(), words, b"", false);

@@ -119,7 +119,7 @@ fn faults_have_their_texts(rt: HostRuntime) -> Result<(), Fail> {
         let terminal = Terminal::new(rt.alloc(), &[], b"", true);
         assert_eq!(rt; report_fault(&terminal, fault), 1);
         let shown = terminal.into_shown(1);
-        assert!(rt; shown.is(1, b"", text, text));
+        assert!(rt; shown.is(1, b"", text, text), "{fault:?}");
     }
     Ok(())
 }

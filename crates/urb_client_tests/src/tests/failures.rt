@@ -265,7 +265,7 @@ fn first_unmet(alloc: Global, failing: Failing) -> Result<u64, u64> {
 #[test]
 fn each_growth_may_be_refused(rt: HostRuntime) {
     let unmet = first_unmet(rt.alloc(), Failing::SessionGrowth);
-    assert!(rt; matches!(unmet, Ok(2..)));
+    assert!(rt; matches!(unmet, Ok(2..)), "{unmet:?}");
 }
 
 #[test]
@@ -283,7 +283,7 @@ fn each_write_and_each_flush_may_fail(rt: HostRuntime) {
 #[test]
 fn each_growth_of_a_frame_may_be_refused(rt: HostRuntime) {
     let unmet = first_unmet(rt.alloc(), Failing::PageGrowth);
-    assert!(rt; matches!(unmet, Ok(22..)));
+    assert!(rt; matches!(unmet, Ok(22..)), "{unmet:?}");
 }
 
 #[test]
@@ -295,7 +295,7 @@ fn a_failed_read_is_told(rt: HostRuntime) {
 #[test]
 fn each_growth_for_a_response_may_be_refused(rt: HostRuntime) {
     let unmet = first_unmet(rt.alloc(), Failing::ResponseGrowth);
-    assert!(rt; matches!(unmet, Ok(2..)));
+    assert!(rt; matches!(unmet, Ok(2..)), "{unmet:?}");
 }
 
 // Says whether the fault has this text.

@@ -218,9 +218,9 @@ fn a_frame_has_room_for_eight_entries_or_seven_or_three_of_the_longest(rt: HostR
     let longest = [b'x'; MAX_PAYLOAD];
     // Their lengths are 65,530, 57,346 and 49,193.
     let eight = are_read_again(rt.alloc(), &longest[..8178], [0xff, 0xfa, 0x82, 8]);
-    assert!(rt; eight == Ok(true));
+    assert_eq!(rt; eight, Ok(true));
     let seven = are_read_again(rt.alloc(), &longest[..8179], [0xe0, 0x02, 0x82, 7]);
-    assert!(rt; seven == Ok(true));
+    assert_eq!(rt; seven, Ok(true));
     let three = are_read_again(rt.alloc(), &longest, [0xc0, 0x29, 0x82, 3]);
-    assert!(rt; three == Ok(true));
+    assert_eq!(rt; three, Ok(true));
 }

@@ -19,7 +19,7 @@ fn a_response_is_read_and_no_byte_behind_it(rt: HostRuntime) {
     assert!(rt; is_received(rt.alloc(), &mut reader, Said::Accepted(7)));
     assert_eq!(rt; reader, b"\x00\x01\x84".as_slice());
     assert!(rt; is_received(rt.alloc(), &mut reader, Said::Done));
-    assert!(rt; reader.is_empty());
+    assert_eq!(rt; reader, b"".as_slice());
 }
 
 /// Says whether the response that a reader has at its front has entries.

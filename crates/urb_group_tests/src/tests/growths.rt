@@ -151,6 +151,6 @@ fn each_growth_may_be_refused(rt: HostRuntime) -> Result<(), Fail> {
             break;
         }
     }
-    assert!(rt; 5 < growths);
+    assert!(rt; 5 < growths, "{growths} growths");
     Ok(())
 }

@@ -85,6 +85,6 @@ fn play_ends_where_memory_is_refused(rt: HostRuntime) -> Result<(), Fail> {
             ended = refused;
         }
     }
-    assert!(rt; 3 < ended && ended < 99);
+    assert!(rt; 3 < ended && ended < 99, "the last at growth {ended}");
     Ok(())
 }

@@ -105,6 +105,6 @@ fn no_store_is_lost_where_memory_is_refused(rt: HostRuntime) -> Result<(), Fail>
             break;
         }
     }
-    assert!(rt; 5 < growths);
+    assert!(rt; 5 < growths, "{growths} growths");
     Ok(())
 }

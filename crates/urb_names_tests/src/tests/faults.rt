@@ -70,7 +70,10 @@ fn bytes_are_refused_with_their_first_fault(rt: HostRuntime) {
         ),
     ];
     for (bytes, fault) in cases {
-        assert!(rt; is_refused(rt.alloc(), bytes, fault));
+        assert!(rt;
+            is_refused(rt.alloc(), bytes, fault),
+            "not {fault:?}: {bytes:?}"
+        );
     }
 }
 
@@ -145,7 +148,8 @@ fn is_refused_cut(packet: &[u8], header: usize) -> bool {
 fn a_packet_that_is_cut_or_has_more_is_refused(rt: HostRuntime) {
     for (packet, header) in [(WITH_PAYLOAD, 18), (WITH_FLAGS, 19)] {
         let fault = fault_of(rt.alloc(), &[packet, b"\0"]);
-        assert!(rt; is_refused_cut(packet, header) && fault == Some(Some(PacketFault::Length)));
+        assert!(rt; is_refused_cut(packet, header), "{packet:?}");
+        assert_eq!(rt; fault, Some(Some(PacketFault::Length)), "{packet:?}");
     }
 }
 

@@ -51,6 +51,14 @@ impl<K: HouseName> Board<K> {
     }
 }
 
+// What a writer works with, besides the house and the stores.
+#[derive(Drop)]
+struct Writer<'a, K: HouseName, R> {
+    rt: &'a R,
+    alloc: Global,
+    board: &'a Mutex<Board<K>>,
+}
+
 /// The stores of nodes 1, 2 and 3.
 pub fn three_stores(alloc: Global) -> [MemStable; 3] {
     [
@@ -150,19 +158,17 @@ pub fn broadcast<K: HouseName, A: Allocator + Copy>(
 // Stores the packet for this node there, and settles what that delivers. Returns the node's
 // packets.
 fn deliver<K: HouseName, R: Wait>(
-    rt: &R,
-    alloc: Global,
+    writer: &Writer<'_, K, R>,
     house: &mut House<K>,
     stores: &mut [MemStable],
-    board: &Mutex<Board<K>>,
     node: NodeId,
     sent: &Outbox,
 ) -> Option<Outbox>
     requires { node ≤ length K.base }
 {
-    let taken = arrive(alloc, house, node, sent)?;
+    let taken = arrive(writer.alloc, house, node, sent)?;
     let answered = keep(house, stores, taken)?.sent;
-    settle(rt, house, board, node)?;
+    settle(writer.rt, house, writer.board, node)?;
     Some(answered)
 }
 
@@ -170,58 +176,50 @@ fn deliver<K: HouseName, R: Wait>(
 // node's packet causes a draft at the first one, which is stored too. Now both have delivered the
 // message. Returns the packets for the others.
 fn there_and_back<K: HouseName, R: Wait>(
-    rt: &R,
-    alloc: Global,
+    writer: &Writer<'_, K, R>,
     house: &mut House<K>,
     stores: &mut [MemStable],
-    board: &Mutex<Board<K>>,
     ends: (NodeId, NodeId),
     number: u32,
 ) -> Option<Outbox>
     requires { (ends.0 ≤ length K.base) × (ends.1 ≤ length K.base) }
 {
     let (from, to) = ends;
-    let sent = broadcast(alloc, house, stores, from, number)?;
-    let there = deliver(rt, alloc, house, stores, board, to, &sent)?;
-    deliver(rt, alloc, house, stores, board, from, &there)?;
+    let sent = broadcast(writer.alloc, house, stores, from, number)?;
+    let there = deliver(writer, house, stores, to, &sent)?;
+    deliver(writer, house, stores, from, &there)?;
     Some(sent)
 }
 
 // Node 3 delivers the messages of both, that of node 2 first. Returns whether no call was refused.
 fn third_delivers<K: HouseName, R: Wait>(
-    rt: &R,
-    alloc: Global,
+    writer: &Writer<'_, K, R>,
     house: &mut House<K>,
     stores: &mut [MemStable],
-    board: &Mutex<Board<K>>,
     sent: (&Outbox, &Outbox),
 ) -> bool
     requires { 3 ≤ length K.base }
 {
     let three = NodeId::new(3).unwrap();
-    deliver(rt, alloc, house, stores, board, three, sent.1).is_some()
-        && deliver(rt, alloc, house, stores, board, three, sent.0).is_some()
+    deliver(writer, house, stores, three, sent.1).is_some()
+        && deliver(writer, house, stores, three, sent.0).is_some()
 }
 
 // Nodes 1 and 2 broadcast, and every node delivers both messages, node 3 in another order. Returns
 // whether no call was refused.
 fn round<K: HouseName, R: Wait>(
-    rt: &R,
-    alloc: Global,
+    writer: &Writer<'_, K, R>,
     house: &mut House<K>,
     stores: &mut [MemStable],
-    board: &Mutex<Board<K>>,
     number: u32,
 ) -> bool
     requires { 3 ≤ length K.base }
 {
     let (one, two) = (NodeId::new(1).unwrap(), NodeId::new(2).unwrap());
-    let first = there_and_back(rt, alloc, house, stores, board, (one, two), number);
-    let second = there_and_back(rt, alloc, house, stores, board, (two, one), number);
+    let first = there_and_back(writer, house, stores, (one, two), number);
+    let second = there_and_back(writer, house, stores, (two, one), number);
     match (&first, &second) {
-        (Some(first), Some(second)) => {
-            third_delivers(rt, alloc, house, stores, board, (first, second))
-        }
+        (Some(first), Some(second)) => third_delivers(writer, house, stores, (first, second)),
         _ => false,
     }
 }
@@ -236,9 +234,10 @@ fn write_rounds<K: HouseName, R: Wait>(
     requires { 3 ≤ length K.base }
 {
     let mut stores = three_stores(alloc);
+    let writer = Writer { rt, alloc, board };
     for number in 0..ROUNDS {
         let mut guard = house.lock(rt);
-        let written = round(rt, alloc, &mut *guard, &mut stores, board, number + 1);
+        let written = round(&writer, &mut *guard, &mut stores, number + 1);
         MutexGuard::unlock(guard);
         if !written {
             return false;

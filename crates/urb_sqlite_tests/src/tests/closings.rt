@@ -138,6 +138,6 @@ fn a_journal_that_cannot_be_copied_keeps_both_files(rt: HostRuntime) -> Result<(
     let fault = fault_of(&rt);
     let are_left = fs::metadata(&rt, FILE).is_ok() && fs::metadata(&rt, LOG).is_ok();
     fs::remove_dir_all(&rt, FOLDER)?;
-    assert!(rt; are_left && fault == Some(StoreFault::Device));
+    assert_eq!(rt; (are_left, fault), (true, Some(StoreFault::Device)));
     Ok(())
 }

@@ -28,7 +28,11 @@ static ANALYZED: [(usize, &'static [u8]); 7] = [
     ),
     (
         210,
-        b"K\x02\x06\x17%%\x01[tablesqlite_stat1sqlite_stat1\x03CREATE TABLE sqlite_stat1(tbl,idx,stat)\x81^\x01\x07\x17\x1b\x1b\x01\x83\x13tablejournaljournal\x02CREATE TABLE journal(pos INTEGER PRIMARY KEY, kind INTEGER NOT NULL, sender INTEGER NOT NULL, seq INTEGER NOT NULL, client INTEGER NOT NULL, number INTEGER NOT NULL, payload BLOB NOT NULL) STRICT\x0d\x00\x00\x00\x02\x01\xe8\x00\x01\xf3\x01\xe8",
+        b"K\x02\x06\x17%%\x01[tablesqlite_stat1sqlite_stat1\x03\
+CREATE TABLE sqlite_stat1(tbl,idx,stat)\x81^\x01\x07\x17\x1b\x1b\x01\x83\x13tablejournaljournal\x02\
+CREATE TABLE journal(pos INTEGER PRIMARY KEY, kind INTEGER NOT NULL, sender INTEGER NOT NULL, \
+seq INTEGER NOT NULL, client INTEGER NOT NULL, number INTEGER NOT NULL, \
+payload BLOB NOT NULL) STRICT\x0d\x00\x00\x00\x02\x01\xe8\x00\x01\xf3\x01\xe8",
     ),
     (
         1000,

@@ -120,7 +120,7 @@ fn apply_event<S: Stable<Alloc = Global>>(
 
 /// What a group reports: which of its nodes have delivered the message, whether it was accepted,
 /// also as a repeat, and whether a store failed.
-#[derive(Clone, Copy, PartialEq, Eq)]
+#[derive(Clone, Copy, Debug, PartialEq, Eq)]
 pub struct Told {
     pub logs: [bool; 3],
     pub is_accepted: bool,

@@ -261,5 +261,5 @@ fn journals_bring_a_group_back(rt: HostRuntime) {
         is_same: true,
         is_down: false,
     };
-    assert!(rt; deliver_at_places_and_reopen(rt.alloc()) == Some(wanted));
+    assert_eq!(rt; deliver_at_places_and_reopen(rt.alloc()), Some(wanted));
 }

@@ -102,16 +102,22 @@ fn answers<R: Wait + Clock>(rt: &R, link: &MemoryLink<'_, R>, count: usize) -> O
     Some(sent)
 }
 
-// Has node 1 store a message of its own, which is held, and sends it these packets meanwhile.
+// The packets of a burst, and how they are sent.
+#[derive(Drop)]
+struct SentBurst<'a> {
+    sender: &'a UdpLink,
+    stations: &'a [Station],
+    packets: &'a [Vec<u8>],
+}
+
+// Has node 1 store a message of its own, which is held, and sends it a burst meanwhile.
 // Returns whether the store was held, and how many packets node 1 then sends. They are its own
 // message, and an answer to each message of the burst.
 fn burst<K: HouseName, R: Wait + Clock>(
     rt: &R,
     alloc: Global,
     signs: &Signs,
-    sender: &UdpLink,
-    stations: &[Station],
-    packets: &[Vec<u8>],
+    sent: &SentBurst<'_>,
     line: &Sender<Ticket<K>>,
     link: &MemoryLink<'_, R>,
 ) -> Option<(bool, usize)> {
@@ -122,8 +128,8 @@ fn burst<K: HouseName, R: Wait + Clock>(
     };
     line.send(rt, ticket).ok()?;
     let is_held = comes(rt, &signs.is_held);
-    let paced = PacedLink::new(rt, sender, stations);
-    for packet in packets {
+    let paced = PacedLink::new(rt, sent.sender, sent.stations);
+    for packet in sent.packets {
         paced.send(node, packet.as_slice());
     }
     signs.may_go_on.store(true, Ordering::SeqCst);
@@ -214,9 +220,12 @@ where
                 rt,
                 move || take_datagrams(rt, alloc, stop, 1, station, line),
                 move || {
-                    let came = burst(
-                        rt, alloc, signs_of, sender, stations, packets, line, link_of,
-                    );
+                    let sent = SentBurst {
+                        sender,
+                        stations,
+                        packets,
+                    };
+                    let came = burst(rt, alloc, signs_of, &sent, line, link_of);
                     signs_of.may_go_on.store(true, Ordering::SeqCst);
                     stop.set();
                     station.wake(rt);

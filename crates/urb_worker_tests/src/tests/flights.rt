@@ -142,7 +142,7 @@ fn nobody_waits_for_a_receiver_that_has_ended(rt: HostRuntime) -> Result<(), Fai
         flight.enter(&rt, LONGEST);
     }
     let took = began.elapsed(&rt)?;
-    assert!(rt; took < Duration::from_millis(50 * WAIT));
+    assert!(rt; took < Duration::from_millis(50 * WAIT), "{took:?}");
     assert_eq!(rt; flight.load(), 100 * (LONGEST as u64 + CARRYING));
     Ok(())
 }
@@ -152,7 +152,10 @@ fn a_sender_waits_in_vain_once(rt: HostRuntime) -> Result<(), Fail> {
     assert_eq!(rt; MOST_IN_FLIGHT / (LONGEST as u64 + CARRYING), 3);
     let [(_, fitting), (wait, next), (meanwhile, others)] = waits(&rt, rt.alloc()).ok_or("memory")?;
     assert_eq!(rt; (fitting, next, others), (3, 1, 100));
-    assert!(rt; Duration::from_millis(WAIT) <= wait);
-    assert!(rt; meanwhile < Duration::from_millis(50 * WAIT));
+    assert!(rt; Duration::from_millis(WAIT) <= wait, "{wait:?}");
+    assert!(rt;
+        meanwhile < Duration::from_millis(50 * WAIT),
+        "{meanwhile:?}"
+    );
     Ok(())
 }

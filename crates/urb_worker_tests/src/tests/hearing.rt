@@ -106,24 +106,12 @@ fn have_delivered<K: HouseName>(house: &House<K>, count: u8) -> bool {
     true
 }
 
-// What nodes with these stores play at a hub.
-fn play_at<'a, 'r, K: HouseName, L: HubName, R: Wait>(
-    rt: &'r R,
-    alloc: Global,
-    hub: &'a Hub<K, L>,
-    link: &'a MemoryLink<'r, R>,
-    stores: Vec<MemStable>,
-    count: u8,
+// What these nodes play.
+fn play_with<K: HouseName, L: HubName, R: Wait>(
+    nodes: Nodes<'_, '_, K, L, R>,
     tally: Tally<L>,
 ) -> ((usize, usize, usize), Tally<L>) {
-    let mut nodes = Nodes {
-        rt,
-        alloc,
-        hub,
-        link,
-        stores,
-        count,
-    };
+    let mut nodes = nodes;
     nodes.play(tally)
 }
 
@@ -149,7 +137,15 @@ fn run_until_quiet<K: HouseName, L: HubName, R: Wait>(
     let (hub, mut tallies, readers) = open_hub::<K, L, R>(rt, alloc, opened, blank)?;
     drop(readers);
     let tally = tallies.pop().unwrap();
-    let (counts, tally) = play_at(rt, alloc, &hub, &link, stores, count, tally);
+    let nodes = Nodes {
+        rt,
+        alloc,
+        hub: &hub,
+        link: &link,
+        stores,
+        count,
+    };
+    let (counts, tally) = play_with(nodes, tally);
     tallies.push_reserved(tally);
     let house = hub.close(tallies);
     let delivered = have_delivered(&house, count);

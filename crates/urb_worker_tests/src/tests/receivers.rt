@@ -186,7 +186,8 @@ fn the_longest_packet_arrives_whole(rt: HostRuntime) -> Result<(), Fail> {
 #[test]
 fn what_is_longer_than_a_packet_arrives_longer(rt: HostRuntime) -> Result<(), Fail> {
     let arrived = run_receiver(&rt, rt.alloc(), Course::One(LONGEST + 1)).ok_or("nothing")?;
-    assert!(rt; LONGEST < arrived.length);
+    let length = arrived.length;
+    assert!(rt; LONGEST < length, "{length} bytes");
     Ok(())
 }
 
@@ -216,7 +217,8 @@ fn what_comes_while_a_channel_is_full_arrives_in_order(rt: HostRuntime) -> Resul
 fn a_full_backlog_keeps_what_came_first(rt: HostRuntime) -> Result<(), Fail> {
     let arrived = run_receiver(&rt, rt.alloc(), Course::Many(300)).ok_or("nothing")?;
     let kept = BACKLOG / (LONGEST + KEEPING) + ROOM;
-    assert!(rt; kept <= arrived.count as usize);
+    let count = arrived.count;
+    assert!(rt; kept <= count as usize, "{count} arrived, not {kept}");
     assert_eq!(rt; arrived.in_order, arrived.count);
     Ok(())
 }

@@ -125,7 +125,7 @@ fn a_timer_ticks_at_each_of_seven_nodes_in_its_time(rt: HostRuntime) -> Result<(
     let (are_ticks, took) = ticks(&rt, rt.alloc(), 20, 2).ok_or("memory")?;
     assert!(rt; are_ticks);
     // The second tick comes after two times that.
-    assert!(rt; took >= Duration::from_millis(40));
+    assert!(rt; took >= Duration::from_millis(40), "{took:?}");
     Ok(())
 }
 
@@ -133,7 +133,7 @@ fn a_timer_ticks_at_each_of_seven_nodes_in_its_time(rt: HostRuntime) -> Result<(
 fn a_timer_sleeps_where_no_time_is_told(rt: HostRuntime) -> Result<(), Fail> {
     let (are_ticks, took) = ticks(&rt, rt.alloc(), 0, 100).ok_or("memory")?;
     assert!(rt; are_ticks);
-    assert!(rt; took >= Duration::from_millis(100));
+    assert!(rt; took >= Duration::from_millis(100), "{took:?}");
     Ok(())
 }
 

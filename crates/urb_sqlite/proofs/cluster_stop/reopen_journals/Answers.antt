@@ -10,11 +10,7 @@ loop-journal-preserved g c =
     let yielded = c.loop-journal.yielded in
     let is : IsReopened (file_state c.in-Some.journal.conn)
     (file_state c.in_ok-stop_and_open.field-0.conn) =
-    record {
-      clean = c.in_ok-stop_and_open.ensures.clean;
-      left =
-          c.in_ok-stop_and_open.ensures.left;
-    } in
+    c.in_ok-stop_and_open.ensures in
     let more = one_more_length yielded c.in-Some.journal in
     record {
       all =

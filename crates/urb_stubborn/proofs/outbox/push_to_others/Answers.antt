@@ -9,11 +9,11 @@ use Rattle.urb_stubborn.proofs.outbox.push_to_others.Goals.{then-ne+in_ok-share+
 
 pub loop-number-preserved : goal.loop-number-preserved
 loop-number-preserved g c =
-    let p = c.args.node in
+    let p = c.args.sending.node in
     let i = c.loop-number.number in
     let flags : ℕ → Flags =
-    λ q. record { certified = c.args.certified; heard = is_heard_of c.args.heard q } in
-    let pair : Label × Content = (c.args.name, c.args.message.now) in
+    λ q. record { certified = c.args.sending.certified; heard = is_heard_of c.args.heard q } in
+    let pair : Label × Content = (c.args.sending.name, c.args.message.now) in
     let here : i + 1 - 1 ≡ i = omega arith in
     let target : c.unwrap-target.result ≡ i = search rules in
     elim c.if-ne.branch [
@@ -26,19 +26,19 @@ loop-number-preserved g c =
           record {
             source = p;
             target = t;
-            name = c.args.name;
+            name = c.args.sending.name;
             message =
                 w.in_ok-share.field-0;
             flags =
-                Some (record { certified = c.args.certified; heard = w.is_heard_of.result });
+                Some (record { certified = c.args.sending.certified; heard = w.is_heard_of.result });
           }) target
           ∙ ap₂ (λ m b. record {
             source = p;
             target = i;
-            name = c.args.name;
+            name = c.args.sending.name;
             message = m;
             flags =
-                Some (record { certified = c.args.certified; heard = b });
+                Some (record { certified = c.args.sending.certified; heard = b });
           })
           w.in_ok-share.ensures told) in
           rw (w.packets-is, w.in_ok-push.ensures.items, sent)

@@ -11,11 +11,11 @@ use Rattle.urb_stubborn.proofs.outbox.push_to_unheard.Goals.{else-is_unheard}
 
 pub loop-number-preserved : goal.loop-number-preserved
 loop-number-preserved g c =
-    let p = c.args.node in
+    let p = c.args.sending.node in
     let i = c.loop-number.number in
-    let flags : ℕ → Flags = λ q. record { certified = c.args.certified; heard = false } in
-    let pair : Label × Content = (c.args.name, c.args.message.now) in
-    let unheard : ℕ → Bool = λ q. not (acked c.args.heard.now.marks c.args.name q) in
+    let flags : ℕ → Flags = λ q. record { certified = c.args.sending.certified; heard = false } in
+    let pair : Label × Content = (c.args.sending.name, c.args.message.now) in
+    let unheard : ℕ → Bool = λ q. not (acked c.args.heard.now.marks c.args.sending.name q) in
     let here : i + 1 - 1 ≡ i = omega arith in
     let target : c.unwrap-target.result ≡ i = search rules in
     let tested : c.is_unheard.result ≡ (not (i == p) && unheard i) =
@@ -28,10 +28,10 @@ loop-number-preserved g c =
           ∙ ap₂ (λ t m. record {
             source = p;
             target = t;
-            name = c.args.name;
+            name = c.args.sending.name;
             message =
                 m;
-            flags = Some (record { certified = c.args.certified; heard = false });
+            flags = Some (record { certified = c.args.sending.certified; heard = false });
           })
           target w.in_ok-share.ensures in
           rw (w.packets-is, w.in_ok-push.ensures.items, sent)

@@ -1,30 +1,23 @@
-use Rattle.std.proofs.Common.{◌≡◌, ◌⊎◌, [], ◌∷◌, ◌++◌, sym, subst}
+use Rattle.std.proofs.Common.{◌≡◌, ◌⊎◌, List, [], ◌∷◌, ◌++◌, sym, subst}
 use Rattle.std.proofs.Math.Logic.{∥∥₁_map}
 use Rattle.std.proofs.lemmas.Result.{IfOk-weaker}
 use Rattle.sqlite.specs.State.{HasCleanDisk}
 use Rattle.sqlite.specs.Held.{Held}
 use Rattle.sqlite.specs.Files.{file_state}
+use Rattle.urb_stable.specs.Entries.{Entry}
 use Rattle.urb_sqlite.specs.OpenJournal.{LeavesOnly}
+use Rattle.urb_sqlite.specs.Stops.{FindsWhatIsLeft}
 use Rattle.urb_sqlite.proofs.JournalStops.{found_again, honest_again, same_again, one_again}
 use Rattle.urb_sqlite.proofs.JournalStops.{both_ok, contents_again, crashed, store_was_clean}
 use Rattle.urb_sqlite.proofs.journal_stop.SqlStable+FileStore+D.stop_and_open.Goals as goal
 
-pub returns-clause-clean : goal.returns-clause-clean
-returns-clause-clean g c =
-    IfOk-weaker c.open_files.result _ _ (λ again open_clean clean.
-    let fell =
-    crashed g.D.Disk c.into_store.result c.close-log.result.log c.close-log.result.db
-    c.crash.new.self c.crash-2.new.self c.close-log.ensures
-    c.crash.ensures.clean c.crash-2.ensures.clean c.crash.ensures.left c.crash-2.ensures.left
-    (open_clean clean) in
-    subst (λ (conn : Held _). HasCleanDisk (file_state conn)) c.into_connection.ensures
-    (store_was_clean c.into_connection.result c.into_store.result fell.0
-    c.into_store.ensures.quiet.clean))
-    c.open_files.ensures.clean
-
-pub returns-clause-kept : goal.returns-clause-kept
-returns-clause-kept g c =
-    IfOk-weaker c.open_files.result _ _ (λ again both clean records leaves.
+pub returns : goal.returns
+returns g c =
+    IfOk-weaker c.open_files.result _ _ (λ again both.
+    let kept : HasCleanDisk (file_state again.conn) → (records : List Entry)
+    → FindsWhatIsLeft (file_state c.args.self.conn) (file_state again.conn)
+    (λ left. left ≡ records) =
+    λ clean records leaves.
     let fell =
     crashed g.D.Disk c.into_store.result c.close-log.result.log c.close-log.result.db
     c.crash.new.self c.crash-2.new.self c.close-log.ensures
@@ -39,12 +32,11 @@ returns-clause-kept g c =
     (sym c.into_connection.ensures) leaves) in (
       honest_again (file_state again.conn) clean (∥∥₁_map got (λ x. x.0)),
       same_again _ records (∥∥₁_map got (λ x. x.1)),
-    ))
-    (both_ok c.open_files.result _ _ c.open_files.ensures.clean c.open_files.ensures.found)
-
-pub returns-clause-found : goal.returns-clause-found
-returns-clause-found g c =
-    IfOk-weaker c.open_files.result _ _ (λ again both clean records r leaves.
+    ) in
+    let found : HasCleanDisk (file_state again.conn) → (records : List Entry) (r : Entry)
+    → FindsWhatIsLeft (file_state c.args.self.conn) (file_state again.conn)
+    (λ left. (left ≡ records) ⊎ (left ≡ records ++ r ∷ [])) =
+    λ clean records r leaves.
     let fell =
     crashed g.D.Disk c.into_store.result c.close-log.result.log c.close-log.result.db
     c.crash.new.self c.crash-2.new.self c.close-log.ensures
@@ -61,13 +53,22 @@ returns-clause-found g c =
     (sym c.into_connection.ensures) leaves) in (
       honest_again (file_state again.conn) clean (∥∥₁_map got (λ x. x.0)),
       one_again _ records r (∥∥₁_map got (λ x. x.1)),
-    ))
+    ) in
+    record {
+      clean = λ clean.
+          let fell =
+          crashed g.D.Disk c.into_store.result c.close-log.result.log c.close-log.result.db
+          c.crash.new.self c.crash-2.new.self c.close-log.ensures
+          c.crash.ensures.clean c.crash-2.ensures.clean c.crash.ensures.left
+          c.crash-2.ensures.left
+          (both.0 clean) in
+          subst (λ (conn : Held _). HasCleanDisk (file_state conn)) c.into_connection.ensures
+          (store_was_clean c.into_connection.result c.into_store.result fell.0
+          c.into_store.ensures.quiet.clean);
+      kept = kept;
+      found = found;
+      left = λ clean certain doubtful.
+          contents_again (file_state c.args.self.conn) (file_state again.conn) certain doubtful
+          (kept clean) (found clean);
+    })
     (both_ok c.open_files.result _ _ c.open_files.ensures.clean c.open_files.ensures.found)
-
-pub returns-clause-left : goal.returns-clause-left
-returns-clause-left g c =
-    IfOk-weaker c.open_files.result _ _
-    (λ again both clean certain doubtful.
-    contents_again (file_state c.args.self.conn) (file_state again.conn) certain doubtful
-    (both.0 clean) (both.1 clean))
-    (both_ok c.open_files.result _ _ (returns-clause-kept g c) (returns-clause-found g c))

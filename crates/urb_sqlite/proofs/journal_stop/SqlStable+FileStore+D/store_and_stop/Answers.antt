@@ -1,16 +1,14 @@
 use Rattle.std.proofs.lemmas.Result.{IfOk-weaker}
 use Rattle.sqlite.specs.Files.{file_state}
-use Rattle.urb_sqlite.proofs.JournalStops.{both_ok, found_after}
+use Rattle.urb_sqlite.proofs.JournalStops.{found_after}
 use Rattle.urb_sqlite.proofs.journal_stop.SqlStable+FileStore+D.store_and_stop.Goals as goal
 
 pub returns : goal.returns
 returns g c =
     let stored = c.store-stored.ensures in
-    let opened = c.stop_and_open.ensures in
-    IfOk-weaker c.stop_and_open.result _ _ (λ again all clean honest.
+    IfOk-weaker c.stop_and_open.result _ _ (λ again reopened clean honest.
     found_after c.store-stored.result (file_state c.args.self.conn)
     (file_state c.store-stored.new.self.conn)
     (file_state again.conn) c.args.entry.now stored.alive stored.stored stored.rest stored.stop
-    (all.1.0 clean) (all.1.1 clean) (all.0 clean) honest)
-    (both_ok c.stop_and_open.result _ _ opened.clean
-    (both_ok c.stop_and_open.result _ _ opened.kept opened.found))
+    (reopened.kept clean) (reopened.found clean) (reopened.clean clean) honest)
+    c.stop_and_open.ensures

@@ -7,8 +7,8 @@ use Rattle.urb_stubborn.proofs.resend.Resend.send.Given as goal
 abbrev pub invariant-loop-left : goal.invariant-loop-left
 invariant-loop-left g l =
     Walks l.self l.certified.names
-    (between l.fn.from l.last (due_pairs l.self l.pending.pairs))
-    l.fn.turn l.fn.packets.items l.left
+    (between l.fn.walk.from l.last (due_pairs l.self l.pending.pairs))
+    l.fn.walk.turn l.fn.packets.items l.left
     (between l.at l.last (due_pairs l.self l.pending.pairs)) l.cursor l.packets.items
 
 abbrev pub decreases-loop-left : goal.decreases-loop-left
