@@ -4,7 +4,7 @@ ghost use Rattle.std.specs.Prelude.{◌≡◌, ◌≤◌, IfErr, IfOk, length, m
 ghost use Rattle.urb_group.specs.Asked.{Gives};
 ghost use Rattle.urb_daemon.specs.StoresAsked.{AllAnswer, RetrievesTogether, list_in};
 
-use crate::parallel::{Outcomes, collect_opened};
+use crate::first_fault::{Outcomes, collect_opened};
 use std::alloc::Global;
 use std::thread;
 use std::thread::Threads;

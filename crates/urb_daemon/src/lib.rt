@@ -2,7 +2,7 @@
 //!
 //! ```text
 //! let _streams = Streams::take(&rt);                     // before anything else is opened
-//! let journals = open_journals(&rt, &rt, serving)?;      // node-1.db, node-2.db, ..
+//! let journals = open_journals::<Brand, HostRuntime>(&rt, &rt, serving)?;   // node-1.db, ..
 //! let mut console = Console::new(&rt, rt.reader());
 //! let (journals, ended) = run_journals(&rt, rt.alloc(), serving, journals, &mut console);
 //! close_journals(&rt, serving, journals);
@@ -19,11 +19,13 @@
 #![tactic(auto)]
 
 mod console;
+mod first_fault;
 mod folder;
 mod foreign_journals;
 mod group;
 mod images;
 mod journal;
+mod node_journal;
 mod parallel;
 mod reports;
 mod run;
@@ -31,10 +33,11 @@ mod sockets;
 mod standard_streams;
 
 pub use console::Console;
+pub use first_fault::{Outcomes, collect_opened};
 pub use folder::{close_journals, open_journals};
 pub use group::open_group;
 pub use journal::{FileId, Journal};
-pub use parallel::{Opener, Outcomes, close_all, collect_opened, open_all};
+pub use node_journal::FileJournal;
 pub use reports::Reports;
 pub use run::{Host, report_end, run_group_at, run_journals, run_stores};
 pub use sockets::{Network, open_link, open_network};

@@ -1,6 +1,7 @@
 //! The program `urbd`: logged uniform FIFO broadcast, by its command line.
 #![tactic(auto)]
 
+use std::marker::Brand;
 use std::process::ExitCode;
 use urb_cli::{Line, parse_line, read_words, report_fault, run_errand};
 use urb_daemon::{Console, Streams, close_journals, open_journals, report_end, run_journals};
@@ -16,7 +17,7 @@ fn main(rt: HostRuntime) -> ExitCode {
         Ok(Line::Errand(errand)) => return ExitCode::from(run_errand(&rt, errand)),
         Err(status) => return ExitCode::from(status),
     };
-    let journals = match open_journals(&rt, &rt, serving) {
+    let journals = match open_journals::<Brand, HostRuntime>(&rt, &rt, serving) {
         Ok(journals) => journals,
         Err(fault) => return ExitCode::from(report_fault(&rt, fault)),
     };

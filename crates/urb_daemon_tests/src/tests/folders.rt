@@ -2,6 +2,7 @@
 //! their place.
 
 use std::fs;
+use std::marker::Brand;
 use std::rt::HostRuntime;
 use std::test::Fail;
 use urb_cli::ServeOptions;
@@ -34,7 +35,7 @@ fn is_cleared(rt: &HostRuntime) -> bool {
 fn of_each_closed_journal_one_file_is_left(rt: HostRuntime) -> Result<(), Fail> {
     let serving = two_nodes().ok_or("a group")?;
     assert!(rt; is_cleared(&rt));
-    let Ok(journals) = open_journals(&rt, &rt, serving) else {
+    let Ok(journals) = open_journals::<Brand, HostRuntime>(&rt, &rt, serving) else {
         return Err("journals")?;
     };
     let were_open = has_journals(&rt, true);
@@ -49,11 +50,11 @@ fn the_logs_of_journals_in_their_place_stay(rt: HostRuntime) -> Result<(), Fail>
     let serving = two_nodes().ok_or("a group")?;
     let _ = fs::remove_dir_all(&rt, AWAY);
     assert!(rt; is_cleared(&rt));
-    let Ok(moved) = open_journals(&rt, &rt, serving) else {
+    let Ok(moved) = open_journals::<Brand, HostRuntime>(&rt, &rt, serving) else {
         return Err("journals")?;
     };
     let is_moved = fs::rename(&rt, FOLDER, AWAY).is_ok() && is_cleared(&rt);
-    let Ok(others) = open_journals(&rt, &rt, serving) else {
+    let Ok(others) = open_journals::<Brand, HostRuntime>(&rt, &rt, serving) else {
         return Err("others")?;
     };
     close_journals(&rt, serving, moved);

@@ -1,12 +1,15 @@
 //! What is opened in parallel: everything, or the first fault.
 
-ghost use Rattle.std.specs.Prelude.{⊤};
-
+use super::visits::{Leave, is_cleared, open_and_leave};
+use sqlite::Connection;
 use std::alloc::Global;
-use std::sync::atomic::{AtomicUsize, Ordering};
+use std::fs;
+use std::os::unix::fs::symlink;
+use std::rt::HostRuntime;
 use std::test::Fail;
 use std::thread::Threads;
-use urb_daemon::{Opener, close_all, collect_opened, open_all};
+use urb_cli::Fault;
+use urb_daemon::collect_opened;
 use urb_stable::StoreFault;
 
 // How many things were opened, or were returned, and the fault.
@@ -39,105 +42,124 @@ fn all_that_was_opened_or_the_first_fault(rt: HostRuntime) -> Result<(), Fail> {
     Ok(())
 }
 
-/// Opens each place as its own number, except for the broken ones. It counts what it closes. It
-/// adds up the powers of two of the places that it makes.
-#[derive(Drop)]
-struct Places<'a> {
-    there: &'a [usize],
-    broken: &'a [usize],
-    made: AtomicUsize,
-    closed: AtomicUsize,
+const FOLDER: &str = "urbd_openings";
+
+// The file of the node at this place, or its log.
+fn path_of(alloc: Global, place: u8, kind: &str) -> Option<String> {
+    let node = place.checked_add(1)?;
+    format!(in alloc; "urbd_openings/node-{node}.{kind}").ok()
 }
 
-impl Places<'_> {
-    fn open_at(&self, place: usize) -> Result<usize, StoreFault> {
-        if self.broken.contains(&place) {
-            return Err(StoreFault::BadRow(u32::try_from(place).unwrap_or(0)));
-        }
-        Ok(place)
+// Puts a first row that is no record into the journal at this path, and says whether that worked.
+fn has_bad_row(rt: &HostRuntime, path: &str) -> bool {
+    let Ok(mut conn) = Connection::open(rt, path) else {
+        return false;
+    };
+    let sql = "INSERT INTO journal2 VALUES (1, 9, 1, 1, 7, 1, x'61')";
+    let is_changed = conn.execute_batch(sql).is_ok();
+    is_changed && conn.close().is_ok()
+}
+
+// Makes the folder anew, with journals at these places. One that is broken has a first row that is
+// no record. If one that is broken is missing, its name leads to a folder that doesn't exist, so
+// that it can't be made.
+fn is_prepared<R: Threads + Sync>(
+    threads: &R,
+    rt: &HostRuntime,
+    there: &[u8],
+    broken: &[u8],
+) -> Option<()> {
+    if !is_cleared(rt, FOLDER) || open_and_leave(threads, rt, FOLDER, 7, Leave::Closed).is_err() {
+        return None;
     }
-}
-
-impl Opener<usize> for Places<'_> {
-    ghost finds = { λ _ _ _. ⊤ };
-
-    ghost makes = { λ _ _ _. ⊤ };
-
-    fn find(&self, place: usize) -> Option<Result<usize, StoreFault>> {
-        if self.there.contains(&place) {
-            Some(self.open_at(place))
+    for place in 0..7 {
+        let path = path_of(rt.alloc(), place, "db")?;
+        let is_broken = broken.contains(&place);
+        if there.contains(&place) {
+            if is_broken && !has_bad_row(rt, path.as_str()) {
+                return None;
+            }
         } else {
-            None
+            fs::remove_file(rt, path.as_str()).ok()?;
+            if is_broken {
+                symlink(rt, "nowhere/journal", path.as_str()).ok()?;
+            }
         }
     }
-
-    fn make_next(&self, earlier: &[usize]) -> Result<usize, StoreFault> {
-        let place = earlier.len();
-        if place < 8 {
-            self.made.fetch_add(1 << place, Ordering::SeqCst);
-        }
-        self.open_at(place)
-    }
-
-    fn close(&self, _it: usize) {
-        self.closed.fetch_add(1, Ordering::SeqCst);
-    }
+    Some(())
 }
 
-/// Opens `count` places and closes them. Returns how many were open, or the fault. Also returns the
-/// sum of the powers of two of those that were made, and how many were closed in the end.
-type Outcome = (Result<usize, StoreFault>, usize, usize);
+// The sum of the powers of two of the places that have this kind of file.
+fn sum_of_places(rt: &HostRuntime, kind: &str) -> Option<usize> {
+    let mut sum = 0;
+    for place in 0..7u8 {
+        let path = path_of(rt.alloc(), place, kind)?;
+        if fs::metadata(rt, path.as_str()).is_ok() {
+            sum |= 1 << usize::from(place);
+        }
+    }
+    Some(sum)
+}
+
+/// The outcome of opening `count` journals and closing them, and the sum of the powers of two of
+/// the places that have a journal then, or a log.
+type Outcome = (Result<(), Fault>, Option<usize>, Option<usize>);
 
 fn open_and_close<R: Threads + Sync>(
-    rt: &R,
-    alloc: Global,
-    there: &[usize],
-    broken: &[usize],
-    count: usize,
-) -> Outcome {
-    let places = Places {
-        there,
-        broken,
-        made: AtomicUsize::new(0),
-        closed: AtomicUsize::new(0),
-    };
-    let opened = match open_all(rt, alloc, &places, count) {
-        Ok(all) => {
-            let count = all.len();
-            close_all(&places, all);
-            Ok(count)
-        }
-        Err(fault) => Err(fault),
-    };
-    let made = places.made.load(Ordering::SeqCst);
-    (opened, made, places.closed.load(Ordering::SeqCst))
+    threads: &R,
+    rt: &HostRuntime,
+    there: &[u8],
+    broken: &[u8],
+    count: u8,
+) -> Option<Outcome> {
+    is_prepared(threads, rt, there, broken)?;
+    let outcome = open_and_leave(threads, rt, FOLDER, count, Leave::Closed);
+    Some((
+        outcome,
+        sum_of_places(rt, "db"),
+        sum_of_places(rt, "db-wal"),
+    ))
 }
+
+/// No journal can be made.
+const UNMADE: Result<(), Fault> = Err(Fault::Refused(15, 0));
+
+/// The first row is no record.
+const BAD_ROW: Result<(), Fault> = Err(Fault::Refused(17, 1));
 
 #[test]
 fn what_is_missing_is_made_in_order_up_to_the_first_fault(rt: HostRuntime) -> Result<(), Fail> {
-    let bad = |place| Err(StoreFault::BadRow(place));
-    for (there, broken, count, opened, made, closed) in [
-        ([].as_slice(), [].as_slice(), 0, Ok(0), 0, 0),
-        // All of them exist, or none does.
-        (&[0, 1, 2, 3, 4, 5, 6], &[], 7, Ok(7), 0, 7),
-        (&[], &[], 7, Ok(7), 127, 7),
-        (&[1], &[], 3, Ok(3), 5, 3),
+    for (there, broken, count, opened, journals, logs) in [
+        // All exist, or none does.
+        (
+            [0, 1, 2, 3, 4, 5, 6].as_slice(),
+            [].as_slice(),
+            7,
+            Ok(()),
+            127,
+            0,
+        ),
+        (&[], &[], 7, Ok(()), 127, 0),
+        (&[1], &[], 3, Ok(()), 7, 0),
         // One that exists is refused. Those that are missing after it are not made, and those
         // before it are.
-        (&[0, 1, 2], &[0], 3, bad(0), 0, 2),
-        (&[0, 2], &[0], 3, bad(0), 0, 1),
-        (&[1], &[1], 3, bad(1), 1, 1),
-        (&[0, 2], &[2], 4, bad(2), 2, 2),
+        (&[0, 1, 2], &[0], 3, BAD_ROW, 7, 1),
+        (&[0, 2], &[0], 3, BAD_ROW, 5, 1),
+        (&[1], &[1], 3, BAD_ROW, 3, 2),
+        (&[0, 2], &[2], 4, BAD_ROW, 7, 4),
         // One that is missing can't be made.
-        (&[0, 2], &[1], 4, bad(1), 2, 2),
-        (&[], &[0], 3, bad(0), 1, 0),
+        (&[0, 2], &[1], 4, UNMADE, 5, 0),
+        (&[], &[0], 3, UNMADE, 0, 0),
+        (&[], &[2], 4, UNMADE, 3, 0),
         // If two are refused, the fault is that of the first, whichever of them exists.
-        (&[0, 1, 2], &[1, 2], 3, bad(1), 0, 1),
-        (&[2], &[1, 2], 3, bad(1), 3, 1),
-        (&[1], &[1, 2], 3, bad(1), 1, 1),
+        (&[0, 1, 2], &[1, 2], 3, BAD_ROW, 7, 6),
+        (&[2], &[1, 2], 3, UNMADE, 5, 4),
+        (&[1], &[1, 2], 3, BAD_ROW, 3, 2),
     ] {
-        let came = open_and_close(&rt, rt.alloc(), there, broken, count);
-        assert_eq!(rt; came, (opened, made, closed));
+        // All that were opened are closed. So only a journal that was refused has a log.
+        let came = open_and_close(&rt, &rt, there, broken, count);
+        assert_eq!(rt; came, Some((opened, Some(journals), Some(logs))));
     }
+    fs::remove_dir_all(&rt, FOLDER)?;
     Ok(())
 }

@@ -3,6 +3,7 @@
 use std::alloc::Global;
 use std::cell::RefCell;
 use std::io::{Read, Write};
+use std::marker::Brand;
 use std::net::{Ipv4Addr, Net, TcpListener, TcpStream};
 use std::rt::HostRuntime;
 use std::thread::Threads;
@@ -185,7 +186,7 @@ fn visit_at<R>(
 where
     R: Host + Net<Listener = TcpListener, Stream = TcpStream>,
 {
-    let journals = open_journals(threads, rt, serving)?;
+    let journals = open_journals::<Brand, R>(threads, rt, serving)?;
     let seen = RefCell::new(None);
     let terminal = Terminal::new(rt.alloc(), &[], b"", true);
     let clients = Clients {
@@ -243,7 +244,7 @@ pub fn open_and_leave<R: Threads + Sync>(
     let Some(serving) = ServeOptions::new(nodes, 100, folder, 22_510, 50) else {
         return Err(Fault::BadReply);
     };
-    let journals = open_journals(threads, rt, serving)?;
+    let journals = open_journals::<Brand, R>(threads, rt, serving)?;
     match leave {
         Leave::Closed => close_journals(rt, serving, journals),
         Leave::Dropped => drop(journals),

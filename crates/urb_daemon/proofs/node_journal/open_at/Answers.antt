@@ -4,7 +4,7 @@ use Rattle.sqlite.specs.State.{HasCleanDisk}
 use Rattle.urb_sqlite.specs.Nodes.{IsFoundIn, held_by}
 use Rattle.urb_sqlite.specs.OpenJournal.{IsHonestJournal}
 use Rattle.urb_sqlite.specs.Reading.{records_of}
-use Rattle.urb_daemon.proofs.folder.open_at.Goals as goal
+use Rattle.urb_daemon.proofs.node_journal.open_at.Goals as goal
 
 pub returns-in-Some-file_of-clause-found : goal.returns-in-Some-file_of-clause-found
 returns-in-Some-file_of-clause-found g c =

@@ -1,7 +1,7 @@
 use Rattle.std.proofs.Common.{◌≡◌, ◌+◌, ◌++◌, ◌≤◌, Ok, length, map, vec_len, vec_capacity}
 use Rattle.std.specs.List.{All}
 use Rattle.urb_daemon.specs.Outcomes.{IsOpen}
-use Rattle.urb_daemon.proofs.parallel.unwrap_all.Given as goal
+use Rattle.urb_daemon.proofs.first_fault.unwrap_all.Given as goal
 
 -- those unwrapped so far come before the others, which are successes too, and there is room for all
 abbrev pub invariant-loop-outcome : goal.invariant-loop-outcome

@@ -1,7 +1,7 @@
 use Rattle.std.proofs.Common.{take}
 use Rattle.std.specs.List.{All}
 use Rattle.urb_daemon.specs.Outcomes.{IsOpen}
-use Rattle.urb_daemon.proofs.parallel.find_first_fault.Given as goal
+use Rattle.urb_daemon.proofs.first_fault.find_first_fault.Given as goal
 
 -- the outcomes so far are successes
 abbrev pub invariant-loop-outcome : goal.invariant-loop-outcome

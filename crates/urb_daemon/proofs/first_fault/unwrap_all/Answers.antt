@@ -2,7 +2,7 @@ use Rattle.std.proofs.Common.{rules, arith, ap, subst, ◌∙◌, ◌≡◌, ◌
 use Rattle.std.proofs.lemmas.List.{append_assoc, map-append}
 use Rattle.std.specs.List.{All}
 use Rattle.urb_daemon.specs.Outcomes.{IsOpen}
-use Rattle.urb_daemon.proofs.parallel.unwrap_all.Goals as goal
+use Rattle.urb_daemon.proofs.first_fault.unwrap_all.Goals as goal
 
 pub loop-outcome-preserved : goal.loop-outcome-preserved
 loop-outcome-preserved g c =

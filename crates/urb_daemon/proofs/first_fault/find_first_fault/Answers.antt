@@ -3,7 +3,7 @@ use Rattle.std.proofs.Common.{◌≤◌, ◌<◌, ◌++◌, ◌∷◌, slice_ind
 use Rattle.std.proofs.lemmas.List.{drop_more, take-append-drop, take_all}
 use Rattle.std.specs.List.{All}
 use Rattle.urb_daemon.specs.Outcomes.{IsOpen}
-use Rattle.urb_daemon.proofs.parallel.find_first_fault.Goals as goal
+use Rattle.urb_daemon.proofs.first_fault.find_first_fault.Goals as goal
 
 pub returns-in-Err : goal.returns-in-Err
 returns-in-Err g c =
