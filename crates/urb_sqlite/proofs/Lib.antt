@@ -17,6 +17,4 @@ pub mod CreateStatement
 pub mod JournalSchemas
 pub mod JournalStops
 pub mod NodeJournals
-pub mod ClusterStops
-pub mod AppliedCommands
 pub mod BlankFiles

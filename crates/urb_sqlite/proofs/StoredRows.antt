@@ -33,7 +33,7 @@ use Rattle.urb_sqlite.specs.Reading.{ok_or_none, records_of}
 use Rattle.urb_sqlite.proofs.SortOrder.{sort_is}
 use Rattle.urb_sqlite.proofs.SpelledRows.{at_place, went_on, is_read_as, spells_if_read}
 use Rattle.urb_sqlite.proofs.SpelledRows.{read_if_spelled}
-use Rattle.urb_group.proofs.stops.AskedStores.{map-more}
+use Rattle.std.proofs.lemmas.List.{map_push}
 
 pub by_pos_total : IsTotalOrder by_pos
 by_pos_total = on_total (λ (r : Row). column r 0) value_cmp_total
@@ -126,7 +126,7 @@ module _ (limit tree : ℕ) where
       put ∙ put_end row (old tree) (all_unmap
       (λ r. value_cmp (column r 0) (column row 0) ≡ Less) shown (old tree) all) in
       ap (λ rows. sort_by by_pos (map shown rows)) ended
-      ∙ ap (sort_by by_pos) (map-more shown (old tree) row)
+      ∙ ap (sort_by by_pos) (map_push shown (old tree) row)
       ∙ sort_push (map shown (old tree)) (shown row) at.rising below
 
   pub read_end : (place : ℕ) (rows : List Row) (rs : List Entry) (row : Row) (r : Entry)

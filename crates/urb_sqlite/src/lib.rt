@@ -14,7 +14,6 @@
 //! removed.
 #![tactic(auto)]
 
-mod cluster_stop;
 mod counting;
 mod journal;
 mod journal_close;
@@ -29,7 +28,6 @@ mod rows;
 mod sql;
 mod table_shape;
 
-pub use cluster_stop::{apply_and_stop, stop_and_open_all, stop_and_reopen};
 pub use journal::SqlStable;
 pub use journal_close::Copied;
 pub use message_pool::MessagePool;

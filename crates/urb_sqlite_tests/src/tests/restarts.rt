@@ -8,8 +8,8 @@ use sqlite::Options;
 use sqlite_disk::{Fuse, Memory};
 use std::alloc::Global;
 use std::test::Fail;
+use urb_cluster_stop::{apply_and_stop, stop_and_open_all, stop_and_reopen};
 use urb_group::Cluster;
-use urb_sqlite::{apply_and_stop, stop_and_open_all, stop_and_reopen};
 
 type Trio = Cluster<Journal<Fuse<Memory>>>;
 

@@ -1,9 +1,10 @@
 use Rattle.std.proofs.Common.{[], ap, arith, subst, sym, ◌++◌, ◌∙◌, ◌∷◌, ◌≡◌}
 use Rattle.sqlite.specs.Files.{file_state}
-use Rattle.urb_sqlite.specs.Stops.{AreReopened, IsReopened}
-use Rattle.urb_sqlite.proofs.ClusterStops.{append-none, moved, none_left, one_more_length}
-use Rattle.urb_sqlite.proofs.ClusterStops.{one_more_reopened}
-use Rattle.urb_sqlite.proofs.cluster_stop.reopen_journals.Goals as goal
+use Rattle.urb_cluster_stop.specs.ClusterStops.{AreReopened}
+use Rattle.urb_sqlite.specs.Stops.{IsReopened}
+use Rattle.urb_cluster_stop.proofs.JournalsReopened.{append-none, moved, none_left, one_more_length}
+use Rattle.urb_cluster_stop.proofs.JournalsReopened.{one_more_reopened}
+use Rattle.urb_cluster_stop.proofs.cluster_stop.reopen_journals.Goals as goal
 
 pub loop-journal-preserved : goal.loop-journal-preserved
 loop-journal-preserved g c =

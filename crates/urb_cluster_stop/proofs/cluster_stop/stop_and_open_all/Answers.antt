@@ -3,8 +3,8 @@ use Rattle.std.proofs.lemmas.List.Elements.{All-from_recursion}
 use Rattle.std.proofs.lemmas.Result.{IfOk-weaker}
 use Rattle.sqlite.specs.Files.{file_state}
 use Rattle.urb_sqlite.proofs.JournalStops.{both_ok}
-use Rattle.urb_sqlite.proofs.ClusterStops.{all_genuine, all_hold, same_count}
-use Rattle.urb_sqlite.proofs.cluster_stop.stop_and_open_all.Goals as goal
+use Rattle.urb_cluster_stop.proofs.JournalsReopened.{all_genuine, all_hold, same_count}
+use Rattle.urb_cluster_stop.proofs.cluster_stop.stop_and_open_all.Goals as goal
 
 pub open_cluster-requires : goal.open_cluster-requires
 open_cluster-requires g c = record {

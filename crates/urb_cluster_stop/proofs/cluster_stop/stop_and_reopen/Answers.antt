@@ -1,7 +1,7 @@
 use Rattle.std.proofs.Common.{ap, ◌∙◌}
 use Rattle.std.proofs.lemmas.Result.{IfOk-weaker}
 use Rattle.urb_names.specs.Naming.{Limits}
-use Rattle.urb_sqlite.proofs.cluster_stop.stop_and_reopen.Goals as goal
+use Rattle.urb_cluster_stop.proofs.cluster_stop.stop_and_reopen.Goals as goal
 
 pub stop_and_open_all-requires : goal.stop_and_open_all-requires
 stop_and_open_all-requires g c =

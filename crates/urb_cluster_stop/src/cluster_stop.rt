@@ -9,14 +9,15 @@ ghost use Rattle.urb_group.specs.Reopening.{ContinuesFrom, HasStopped};
 ghost use Rattle.urb_group.specs.Shown.{GroupView, IsSound, Shows};
 ghost use Rattle.urb_group.specs.Stocked.{IsGenuine, IsKnown, IsSecured, WouldLeave};
 ghost use Rattle.urb_group.specs.World.{World};
-ghost use Rattle.urb_sqlite.specs.Stops.{AreReopened, GoesOnBehind, GoesOnFrom, IsContinuation};
+ghost use Rattle.urb_cluster_stop.specs.ClusterStops.{AreReopened, GoesOnBehind, GoesOnFrom};
+ghost use Rattle.urb_cluster_stop.specs.ClusterStops.{IsContinuation};
 
-use crate::SqlStable;
 use sqlite::{FileStore, Options};
 use sqlite_disk::Crash;
 use std::alloc::Global;
 use urb_group::{Cluster, Command, Reply};
 use urb_names::{Config, Refusal};
+use urb_sqlite::SqlStable;
 use urb_stable::{Stable, StoreFault};
 
 /// Opens each journal again after a stop of the machine, in order.

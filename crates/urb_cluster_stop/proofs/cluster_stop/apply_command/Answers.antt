@@ -1,7 +1,7 @@
 use Rattle.std.proofs.Common.{List, subst, sym}
 use Rattle.urb_group.specs.Stocked.{WouldLeave}
-use Rattle.urb_sqlite.proofs.AppliedCommands.{applies-size}
-use Rattle.urb_sqlite.proofs.cluster_stop.apply_command.Goals as goal
+use Rattle.urb_cluster_stop.proofs.AppliedCommands.{applies-size}
+use Rattle.urb_cluster_stop.proofs.cluster_stop.apply_command.Goals as goal
 
 pub returns-clause-sized : goal.returns-clause-sized
 returns-clause-sized g c =

@@ -1,6 +1,6 @@
 use Rattle.std.proofs.lemmas.List.Elements.{All-from_recursion, recursion_from_All}
-use Rattle.urb_sqlite.proofs.ClusterStops.{honest-again}
-use Rattle.urb_sqlite.proofs.cluster_stop.open_cluster.Goals as goal
+use Rattle.urb_cluster_stop.proofs.JournalsReopened.{honest-again}
+use Rattle.urb_cluster_stop.proofs.cluster_stop.open_cluster.Goals as goal
 
 pub returns-in-Ok-clause-alive : goal.returns-in-Ok-clause-alive
 returns-in-Ok-clause-alive g c were clean =

@@ -1,7 +1,7 @@
 use Rattle.std.proofs.Common.{length, vec_capacity, vec_len, ◌++◌, ◌≡◌, ◌≤◌}
 use Rattle.sqlite.specs.Files.{file_state}
-use Rattle.urb_sqlite.specs.Stops.{AreReopened}
-use Rattle.urb_sqlite.proofs.cluster_stop.reopen_journals.Given as goal
+use Rattle.urb_cluster_stop.specs.ClusterStops.{AreReopened}
+use Rattle.urb_cluster_stop.proofs.cluster_stop.reopen_journals.Given as goal
 
 -- the journals so far are opened again, and there is room for all
 abbrev pub invariant-loop-journal : goal.invariant-loop-journal

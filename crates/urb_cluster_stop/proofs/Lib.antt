@@ -1,0 +1,2 @@
+pub mod JournalsReopened
+pub mod AppliedCommands
