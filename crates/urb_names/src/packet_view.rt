@@ -1,6 +1,6 @@
 //! Packets whose payload is borrowed.
 ghost use Rattle.std.specs.Prelude.{◌≡◌, ◌≢◌, ◌<◌, ◌≤◌, length, IfOk};
-ghost use Rattle.urb_names.specs.Packets.{IsPacket, FitsVersion};
+ghost use Rattle.urb_names.specs.Packets.{IsPacket};
 
 use crate::{ClientId, Flags, MAX_PAYLOAD, Message, Name, NoMemory, NodeId, Packet};
 use std::alloc::Allocator;
@@ -9,13 +9,13 @@ use std::marker::Model;
 /// A packet whose payload is borrowed: what `parse` finds in a datagram, without a copy.
 #[derive(Debug, Drop)]
 pub struct PacketView<'a> {
-    source: NodeId,
-    target: NodeId,
-    name: Name,
-    client: ClientId,
-    number: u32,
-    payload: &'a [u8],
-    flags: Option<Flags>,
+    pub(crate) source: NodeId,
+    pub(crate) target: NodeId,
+    pub(crate) name: Name,
+    pub(crate) client: ClientId,
+    pub(crate) number: u32,
+    pub(crate) payload: &'a [u8],
+    pub(crate) flags: Option<Flags>,
 }
 
 impl<'a> Model for PacketView<'a> {
@@ -41,40 +41,6 @@ impl<'a> Model for PacketView<'a> {
 }
 
 impl<'a> PacketView<'a> {
-    // The packet made of these parts.
-    pub(crate) fn new(
-        source: NodeId,
-        target: NodeId,
-        name: Name,
-        client: ClientId,
-        number: u32,
-        payload: &'a [u8],
-        flags: Option<Flags>,
-    ) -> PacketView<'a>
-        requires apart { source ≢ target }
-        requires number { 0 < number }
-        requires payload { length payload.now ≤ MAX_PAYLOAD }
-        requires version { FitsVersion flags payload.now }
-        ensures { result
-            ≡ record {
-              source = source;
-              target = target;
-              name = name;
-              message = record { client = client; number = number; payload = payload.now };
-              flags = flags;
-            } }
-    {
-        PacketView {
-            source,
-            target,
-            name,
-            client,
-            number,
-            payload,
-            flags,
-        }
-    }
-
     /// The node that sent it.
     pub fn source(&self) -> NodeId
         ensures { result ≡ self.now.source }

@@ -154,15 +154,15 @@ fn packet_in_range<'a>(fields: &Fields<'a>) -> Option<PacketView<'a>>
         sender,
         seq: fields.seq,
     };
-    Some(PacketView::new(
+    Some(PacketView {
         source,
         target,
         name,
         client,
-        fields.number,
-        fields.payload,
+        number: fields.number,
+        payload: fields.payload,
         flags,
-    ))
+    })
 }
 
 // The greatest length of a payload after these flags.
