@@ -1,7 +1,7 @@
 -- Rounds, which may be interleaved with other events: two of them deliver what is stored. A round
 -- exists from every world, and once all is certified everywhere, ticks end. The laws on fairness
 -- use `two-rounds` (FairRounds), `round-exists` (RoundExists) and `three-rounds` (TicksEnd). This
--- folder uses the folders steps, ticks, safety and recovery.
+-- folder uses the folders steps, ticks, safety, hearing and recovery.
 pub mod FairRounds
 pub mod PlayedRounds
 pub mod JudgedRounds

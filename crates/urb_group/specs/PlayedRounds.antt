@@ -1,5 +1,5 @@
 -- Rounds of a running cluster: what its commands count as, by the replies that `play` returns.
-use Rattle.std.specs.Prelude.{List, ℕ}
+use Rattle.std.specs.Prelude.{List}
 use Rattle.urb_group.specs.Rounds.{Act, IsRoundAmong, acts_by, arrival_by, disturbance, tick_by}
 use Rattle.urb_group.specs.World.{World}
 use Rattle.urb_group.specs.declared.command.Command.{Command}

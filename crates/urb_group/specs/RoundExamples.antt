@@ -13,7 +13,7 @@ use Rattle.urb_group.specs.World.{World, stored}
 use Rattle.urb_names.specs.Carried.{Carried}
 use Rattle.urb_names.specs.Names.{same_message, same_name}
 use Rattle.urb_names.specs.Naming.{Label}
-use Rattle.urb_names.specs.Nodes.{is_node, nodes}
+use Rattle.urb_names.specs.Nodes.{nodes}
 use Rattle.urb_names.specs.declared.flags.Flags.{Flags}
 use Rattle.urb_node.specs.Part.{Down, Ready, State, Storing}
 use Rattle.urb_stable.specs.Records.{pend}

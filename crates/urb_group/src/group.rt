@@ -1,4 +1,4 @@
-//! A group: all its nodes, and one event per call.
+//! A group has all nodes in one process. Each call is one event at one node.
 
 ghost use Rattle.std.specs.Prelude.{◌≡◌, IfOk};
 ghost use Rattle.urb_group.specs.Calls.{ComesUp, Commits, GoesDown, Takes, Ticks};

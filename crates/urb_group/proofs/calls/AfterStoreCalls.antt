@@ -33,6 +33,11 @@ store-moves xs p q before after e l h =
     subst (λ (i : ℕ). StoreMoves xs i before after (slice_set xs (q - 1) after)) e
     (record { was = slice_get_read xs (length xs) (q - 1) before refl l h; is = refl })
 
+-- the place of a node of the group is in a list that has a place for each node
+node-within : {X : Type 0} (xs : List X) (p q n : ℕ) → (0 < p) × (p ≤ n) → length xs ≡ n → q ≡ p
+    → q - 1 < length xs
+node-within xs p q n bounds count e = omega (arith, bounds.0, bounds.1)
+
 -- if a node's draft is in its place, the node is one of the group
 pub held-bounds : (group : GroupView) (p : ℕ) (draft : Placed) → held_draft group p ≡ Some draft
     → (0 < p) × (p ≤ group.size.n)
@@ -66,14 +71,11 @@ stored-tied : (old new : GroupView) (p stores : ℕ) (drafts : List (Option Plac
 stored-tied old new p stores drafts draft event IsTold tied held e steps free =
     let node : draft.node ≡ p = (held-as old p draft held).node in
     let bounds = held-bounds old p draft held in
-    let low : 0 < p = bounds.0 in
-    let high : p ≤ old.size.n = bounds.1 in
-    let count : length drafts ≡ old.size.n = tied.all_places in
-    let within : p - 1 < length drafts = omega arith in
-    tied-set old new event IsTold stores drafts tied steps p None (e ∙ node) low within
+    tied-set old new event IsTold stores drafts tied steps p None (e ∙ node) bounds.0
+    (node-within drafts p p old.size.n bounds tied.all_places refl)
     (subst (λ (i : ℕ). held_draft new i ≡ None) node free)
 
--- a store that failed in the way in which it was armed
+-- the store was armed to fail, and failed so
 pub lost-tied : {S : Type 0} (old new : GroupView) (p q : ℕ) (stores : List S)
     (drafts places : List (Option Placed)) (draft : Placed) (after : S) (reply : Reply)
     → IsTied old (length stores) drafts → held_draft old p ≡ Some draft
@@ -95,11 +97,9 @@ pub lost-fails : (old : Clustered Memory) (new : GroupView) (p q : ℕ)
     → FailsHeld old p (held_draft old.group p) failure reply
     (record { group = new; stores = slice_set old.stores (q - 1) after })
 lost-fails old new p q drafts draft before after failure reply tied held e lent breaks steps =
-    let bounds = held-bounds old.group p draft held in
-    let low : 0 < p = bounds.0 in
-    let high : p ≤ old.group.size.n = bounds.1 in
-    let count : length old.stores ≡ old.group.size.n = tied.all_stores in
-    let within : q - 1 < length old.stores = omega arith in
+    let within =
+    node-within old.stores p q old.group.size.n (held-bounds old.group p draft held)
+    tied.all_stores e in
     subst (λ (o : Option Placed).
     FailsHeld old p o failure reply
     (record { group = new; stores = slice_set old.stores (q - 1) after })) (sym held)
@@ -141,11 +141,9 @@ module _ {S A : Type 0} (g : Ghosts S A) where
       → StoresHeld g old p (held_draft old.group p) reply
       (record { group = new; stores = slice_set old.stores (q - 1) after })
   kept-stores old new p q drafts draft before after reply tied held e lent kept =
-      let bounds = held-bounds old.group p draft held in
-      let low : 0 < p = bounds.0 in
-      let high : p ≤ old.group.size.n = bounds.1 in
-      let count : length old.stores ≡ old.group.size.n = tied.all_stores in
-      let within : q - 1 < length old.stores = omega arith in
+      let within =
+      node-within old.stores p q old.group.size.n (held-bounds old.group p draft held)
+      tied.all_stores e in
       subst (λ (o : Option Placed).
       StoresHeld g old p o reply (record
       { group = new; stores = slice_set old.stores (q - 1) after })) (sym held)
@@ -192,11 +190,9 @@ module _ {S A : Type 0} (g : Ghosts S A) where
       → RestartsBy g (is_fallen old.group p) old p reply
       (record { group = new; stores = slice_set old.stores (q - 1) after })
   read-restarts old new p q drafts before after reply tied fallen e lent reads =
-      let bounds = fallen-bounds old.group p fallen in
-      let low : 0 < p = bounds.0 in
-      let high : p ≤ old.group.size.n = bounds.1 in
-      let count : length old.stores ≡ old.group.size.n = tied.all_stores in
-      let within : q - 1 < length old.stores = omega arith in
+      let within =
+      node-within old.stores p q old.group.size.n (fallen-bounds old.group p fallen)
+      tied.all_stores e in
       subst (λ (b : Bool). RestartsBy g b old p reply
       (record { group = new; stores = slice_set old.stores (q - 1) after })) (sym fallen)
       (record {

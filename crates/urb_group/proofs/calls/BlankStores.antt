@@ -1,5 +1,5 @@
 -- New stores in memory have no record.
-use Rattle.std.proofs.Common.{List, None, [], ap, slice_index_or, subst, ◌≡◌}
+use Rattle.std.proofs.Common.{List, ap, slice_index_or, subst, ◌≡◌}
 use Rattle.std.specs.List.{All}
 use Rattle.urb_group.specs.Asked.{IsBlank}
 use Rattle.urb_group.specs.InMemory.{in_memory}

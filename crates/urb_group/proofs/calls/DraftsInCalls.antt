@@ -19,7 +19,7 @@ use Rattle.urb_names.specs.Naming.{Limits}
 use Rattle.urb_names.specs.Nodes.{is_node}
 use Rattle.urb_names.specs.declared.refusal.Refusal.{Refusal}
 use Rattle.urb_node.specs.Part.{State}
-use Rattle.urb_node.specs.Replies.{Drafted, Refused, Reply, Same, Sent, Stored, Up, WentDown}
+use Rattle.urb_node.specs.Replies.{Drafted, Refused, Reply, Same, Sent, WentDown}
 use Rattle.urb_stable.specs.Entries.{name_of}
 use Rattle.urb_stable.specs.Placed.{Placed}
 
@@ -157,17 +157,7 @@ pub reacts-tied : (old new : GroupView) (event : Event) (stores : ℕ) (drafts :
     → IsTied old stores drafts → (reply : Reply) → Reacts old event reply new
     → held_draft old (event_node event) ≡ None → held_draft new (event_node event) ≡ None
     → IsTied new stores drafts
-reacts-tied old new event stores drafts tied (Drafted x position) h a b =
-    tied-kept old new event (λ told. told ≡ Drafted x position) stores drafts tied h a b
-reacts-tied old new event stores drafts tied (Same answer) h a b =
-    tied-kept old new event (λ told. told ≡ Same answer) stores drafts tied h a b
-reacts-tied old new event stores drafts tied (Stored done) h a b =
-    tied-kept old new event (λ told. told ≡ Stored done) stores drafts tied h a b
-reacts-tied old new event stores drafts tied (Sent packets) h a b =
-    tied-kept old new event (λ told. told ≡ Sent packets) stores drafts tied h a b
-reacts-tied old new event stores drafts tied (WentDown p) h a b =
-    tied-kept old new event (λ told. told ≡ WentDown p) stores drafts tied h a b
-reacts-tied old new event stores drafts tied (Up p) h a b =
-    tied-kept old new event (λ told. told ≡ Up p) stores drafts tied h a b
 reacts-tied old new event stores drafts tied (Refused r) h a b =
     refused-tied old new stores drafts tied h.1
+reacts-tied old new event stores drafts tied reply h a b =
+    tied-kept old new event (λ told. told ≡ reply) stores drafts tied h a b

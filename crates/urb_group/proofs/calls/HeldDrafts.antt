@@ -15,7 +15,7 @@ use Rattle.urb_group.specs.World.{World}
 use Rattle.urb_names.specs.Naming.{Limits}
 use Rattle.urb_names.specs.Nodes.{is_node}
 use Rattle.urb_node.specs.Part.{Down, Node, Ready, State, Storing}
-use Rattle.urb_node.specs.Replies.{Drafted, Refused, Reply, Same, Sent, Stored, Up, WentDown}
+use Rattle.urb_node.specs.Replies.{Drafted, Refused, Reply, Same, Sent}
 use Rattle.urb_node.specs.Steps.{is_storing}
 use Rattle.urb_stable.specs.Placed.{Placed}
 
@@ -53,22 +53,18 @@ same-draft v w q e f =
 abbrev pub CalmDrafts : Reply → Option Placed → Option Placed → Type 0
 CalmDrafts (Drafted x position) before after = Unit {0}
 CalmDrafts (Same answer) before after = (before ≡ None) × (after ≡ None)
-CalmDrafts (Stored done) before after = after ≡ None
 CalmDrafts (Sent packets) before after = (before ≡ None) × (after ≡ None)
-CalmDrafts (WentDown p) before after = after ≡ None
-CalmDrafts (Up p) before after = after ≡ None
 CalmDrafts (Refused r) before after = Unit {0}
+CalmDrafts reply before after = after ≡ None
 
 to_drafts : (reply : Reply) (v w : World) (p : ℕ)
     → CalmAs reply (is_storing (v.node p).state) (is_storing (w.node p).state)
     → CalmDrafts reply (draft_in v p) (draft_in w p)
 to_drafts (Drafted x position) v w p h = tt
 to_drafts (Same answer) v w p h = (no-draft v p h.0, no-draft w p h.1)
-to_drafts (Stored done) v w p h = no-draft w p h
 to_drafts (Sent packets) v w p h = (no-draft v p h.0, no-draft w p h.1)
-to_drafts (WentDown q) v w p h = no-draft w p h
-to_drafts (Up q) v w p h = no-draft w p h
 to_drafts (Refused r) v w p h = tt
+to_drafts reply v w p h = no-draft w p h
 
 -- ---- an event that happened
 

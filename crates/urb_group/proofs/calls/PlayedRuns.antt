@@ -62,17 +62,6 @@ steps-moved old new event r h w s = record { reply = (h w s).told; shows = (h w 
 
 reacts-moved : (old new : GroupView) (event : Event) (r : told.Reply) → Reacts old event r new
     → IsTold r → (w : World) → Shows old w → Moved w event r new
-reacts-moved old new event (told.Drafted x position) h other w s =
-    steps-moved old new event (told.Drafted x position) h w s
-reacts-moved old new event (told.Same answer) h other w s =
-    steps-moved old new event (told.Same answer) h w s
-reacts-moved old new event (told.Stored done) h other w s =
-    steps-moved old new event (told.Stored done) h w s
-reacts-moved old new event (told.Sent packets) h other w s =
-    steps-moved old new event (told.Sent packets) h w s
-reacts-moved old new event (told.WentDown p) h other w s =
-    steps-moved old new event (told.WentDown p) h w s
-reacts-moved old new event (told.Up p) h other w s = steps-moved old new event (told.Up p) h w s
 reacts-moved old new event (told.Refused why) h other w s =
     let is : (step w event).0 ≡ told.Refused why =
     own-refusal (step w event).0 why other (h.0 w s) in
@@ -82,16 +71,12 @@ reacts-moved old new event (told.Refused why) h other w s =
           subst (λ (v : World). Shows new v) (sym (refused-stays w event why is))
           (subst (λ (group : GroupView). Shows group w) (sym h.1) s);
     }
+reacts-moved old new event r h other w s = steps-moved old new event r h w s
 
 reacts-sound : (old new : GroupView) (event : Event) (r : told.Reply) → Reacts old event r new
     → IsSound old → IsSound new
-reacts-sound old new event (told.Drafted x position) h sound = steps-sound old new event _ sound h
-reacts-sound old new event (told.Same answer) h sound = steps-sound old new event _ sound h
-reacts-sound old new event (told.Stored done) h sound = steps-sound old new event _ sound h
-reacts-sound old new event (told.Sent packets) h sound = steps-sound old new event _ sound h
-reacts-sound old new event (told.WentDown p) h sound = steps-sound old new event _ sound h
-reacts-sound old new event (told.Up p) h sound = steps-sound old new event _ sound h
 reacts-sound old new event (told.Refused why) h sound = subst IsSound (sym h.1) sound
+reacts-sound old new event r h sound = steps-sound old new event _ sound h
 
 -- ---- one command
 
@@ -178,18 +163,12 @@ module _ {S A : Type 0} (g : Ghosts S A) where
   applied-played : (old new : Clustered S) (what : Command A) (r : told.Reply)
       → Applies g old what r new → IsSound old.group → IsTold r → (w : World) → Shows old.group w
       → IsPlayed w old.group what r new.group
-  applied-played old new (command.Submit p client number payload) r h sound other w s =
-      by_event w old.group _ r new.group _ refl h.0 sound other s
-  applied-played old new (command.Arrive p bytes) r h sound other w s =
-      by_event w old.group _ r new.group _ refl h.0 sound other s
-  applied-played old new (command.Tick p) r h sound other w s =
-      by_event w old.group _ r new.group _ refl h.0 sound other s
   applied-played old new (command.Store p) r h sound other w s =
       stored-played old new p r (held_draft old.group p) refl h sound other w s
-  applied-played old new (command.Crash p) r h sound other w s =
-      by_event w old.group _ r new.group _ refl h.0 sound other s
   applied-played old new (command.Restart p) r h sound other w s =
       restarted-played old new p r (is_fallen old.group p) h sound other w s
+  applied-played old new what r h sound other w s =
+      by_event w old.group _ r new.group _ refl h.0 sound other s
 
   -- ---- a command that was refused
 
@@ -234,14 +213,11 @@ module _ {S A : Type 0} (g : Ghosts S A) where
   -- a refused command leaves the group
   applied-refused : (old new : Clustered S) (what : Command A) (why : Refusal)
       → Applies g old what (told.Refused why) new → IsSound old.group → new.group ≡ old.group
-  applied-refused old new (command.Submit p client number payload) why h sound = h.0.1
-  applied-refused old new (command.Arrive p bytes) why h sound = h.0.1
-  applied-refused old new (command.Tick p) why h sound = h.0.1
   applied-refused old new (command.Store p) why h sound =
       stored-refused old new p why (held_draft old.group p) refl h sound
-  applied-refused old new (command.Crash p) why h sound = h.0.1
   applied-refused old new (command.Restart p) why h sound =
       restarted-refused old new p why (is_fallen old.group p) h
+  applied-refused old new what why h sound = h.0.1
 
   -- ---- many commands
 
@@ -257,24 +233,12 @@ module _ {S A : Type 0} (g : Ghosts S A) where
     pub shows : Shows new after
 
   not_short : (r : Reply A) → is_no_memory r ≡ false → IsTold (reply_of r)
-  not_short (reply.Drafted x position) e f = cc
-  not_short (reply.Same answer) e f = cc
-  not_short (reply.Stored done) e f = cc
-  not_short (reply.Sent packets) e f = cc
-  not_short (reply.WentDown p) e f = cc
-  not_short (reply.Up p) e f = cc
   not_short (reply.Refused refusal.NoMemory) e f = cc
-  not_short (reply.Refused why) e f = cc
+  not_short r e f = cc
 
   is-short : (r : Reply A) → is_no_memory r ≡ true → reply_of r ≡ told.Refused refusal.NoMemory
   is-short (reply.Refused refusal.NoMemory) e = refl
-  is-short (reply.Refused why) e = cc
-  is-short (reply.Drafted x position) e = cc
-  is-short (reply.Same answer) e = cc
-  is-short (reply.Stored done) e = cc
-  is-short (reply.Sent packets) e = cc
-  is-short (reply.WentDown p) e = cc
-  is-short (reply.Up p) e = cc
+  is-short r e = cc
 
   -- a command before them
   run-on : (w : World) (old next new : GroupView) (what : Command A) (commands : List (Command A))
@@ -339,11 +303,7 @@ module _ {S A : Type 0} (g : Ghosts S A) where
       → AreTruthful w (packets_in r)
   unread-truth w (command.Restart p) r h =
       subst (λ (x : told.Reply). AreTruthful w (packets_in x)) (sym h.1) tt
-  unread-truth w (command.Submit p client number payload) r h = absurd h
-  unread-truth w (command.Arrive p bytes) r h = absurd h
-  unread-truth w (command.Tick p) r h = absurd h
-  unread-truth w (command.Store p) r h = absurd h
-  unread-truth w (command.Crash p) r h = absurd h
+  unread-truth w what r h = absurd h
 
   events-truth : (w : World) (commands : List (Command A)) (replies : List told.Reply)
       (events : List Event) (seen : List told.Reply) → AreEvents commands replies events seen

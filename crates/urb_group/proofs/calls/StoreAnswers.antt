@@ -30,7 +30,7 @@ use Rattle.urb_node.specs.declared.cause.Cause.{Cause}
 
 -- ---- replies by what the group holds
 
--- the answer about a node's state is what the group holds of it
+-- if a sound group is asked for a node's state, it answers with the state that it shows
 answers-state : (group : GroupView) (p : ℕ) (result : Option State) → IsSound group
     → Answers (λ w. Some (state_of (w.node p).state)) group p result
     → result ≡ cond (is_node group.size.n p) (Some (state_of (view_of group p).state)) None

@@ -108,6 +108,14 @@ arrive-hears size p q x m flags node h =
     (λ _. counts-hears size q x flags (hears q x flags node) told)
     (λ _. answers-hears p q x m flags (hears q x flags node) told))
 
+-- the name of a record's pair is pending once the record is stored
+its_own : (records : List Entry) (r : Entry) (x : Label) (m : Content) → pend (r ∷ []) ≡ (x, m) ∷ []
+    → IsPending (records ++ r ∷ []) x
+its_own records r x m e =
+    subst (λ (ps : List (Label × Content)). is_some (message_of ps x) ≡ true)
+    (sym (pend-append records (r ∷ []) ∙ ap (λ ps. pend records ++ ps) e))
+    (pair_pending (pend records) x m)
+
 -- a record is stored: if it is a pair's, its own certificate may be heard with it
 record-hears : (records : List Entry) (heard : List (Label × ℕ)) (r : Entry) (cause : Option Cause)
     → ((x : Label) (q : ℕ) → acked heard x q ≡ true → IsPending records x)
@@ -116,27 +124,11 @@ record-hears : (records : List Entry) (heard : List (Label × ℕ)) (r : Entry) 
 record-hears records heard (Pend y m) cause h x q k =
     ⊎_elim (λ old. more_pending records (Pend y m) x (h x q old))
     (λ new. subst (λ (name : Label). IsPending (records ++ Pend y m ∷ []) name) new.0
-    (its_own (Pend y m) y m refl))
-    (heard-cases heard y (heard_of cause) x q k)
-  where
-    its_own : (r : Entry) (y : Label) (m : Content) → pend (r ∷ []) ≡ (y, m) ∷ []
-        → IsPending (records ++ r ∷ []) y
-    its_own r y m e =
-        subst (λ (ps : List (Label × Content)). is_some (message_of ps y) ≡ true)
-        (sym (pend-append records (r ∷ []) ∙ ap (λ ps. pend records ++ ps) e))
-        (pair_pending (pend records) y m)
+    (its_own records (Pend y m) y m refl)) (heard-cases heard y (heard_of cause) x q k)
 record-hears records heard (PendCert y m) cause h x q k =
     ⊎_elim (λ old. more_pending records (PendCert y m) x (h x q old))
     (λ new. subst (λ (name : Label). IsPending (records ++ PendCert y m ∷ []) name) new.0
-    (its_own (PendCert y m) y m refl))
-    (heard-cases heard y (heard_of cause) x q k)
-  where
-    its_own : (r : Entry) (y : Label) (m : Content) → pend (r ∷ []) ≡ (y, m) ∷ []
-        → IsPending (records ++ r ∷ []) y
-    its_own r y m e =
-        subst (λ (ps : List (Label × Content)). is_some (message_of ps y) ≡ true)
-        (sym (pend-append records (r ∷ []) ∙ ap (λ ps. pend records ++ ps) e))
-        (pair_pending (pend records) y m)
+    (its_own records (PendCert y m) y m refl)) (heard-cases heard y (heard_of cause) x q k)
 record-hears records heard (Cert y) cause h x q k = more_pending records (Cert y) x (h x q k)
 
 -- a node that has heard nothing has heard of no name

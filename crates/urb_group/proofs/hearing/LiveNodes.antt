@@ -40,10 +40,8 @@ DraftTrue images (Down doubtful) = Unit {0}
 
 -- the record, if there is one, is a certificate too
 abbrev pub IsWhole : Option Entry → Type 0
-IsWhole None = Unit {0}
 IsWhole (Some (Pend x m)) = ⊥
-IsWhole (Some (PendCert x m)) = Unit {0}
-IsWhole (Some (Cert x)) = Unit {0}
+IsWhole doubtful = Unit {0}
 
 -- What a node has heard is true. While it is up, it counts itself for each pair. If it is alone, it
 -- holds no pair without its certificate.

@@ -19,17 +19,15 @@ use Rattle.urb_group.proofs.steps.StepCases.{OutcomeCases, node_of, outcome-case
 use Rattle.urb_group.proofs.steps.StepCases.{step-cases}
 use Rattle.urb_group.specs.Delivering.{event_node}
 
--- what every node of the world keeps, and that there is no node 0
+-- each node of the world is live, and there is no node 0
 pub record WorldLive (w : World) : Type 0 where
   pub nodes : (p : ℕ) → NodeLive w.size.n (stored w) p (w.node p)
   pub none : stored w 0 ≡ []
 
-abbrev StepLive : Reply × World → Type 0
-StepLive outcome = WorldLive outcome.1
-
 -- ---- one step
 
--- if the nodes are live by what was stored before, they are live by what is stored now
+-- After a step, the nodes are live by what was stored before it. So they are live by what is
+-- stored then.
 module _ (w : World) (live : WorldLive w) where
   abbrev NodesLive : Reply × World → Type 0
   NodesLive outcome =

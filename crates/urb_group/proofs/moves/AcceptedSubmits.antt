@@ -119,32 +119,26 @@ module _ (w : World) (p position : ℕ) (entry : Entry) (told : Done) where
           (sym (pend-append (stored w p) (held ∷ [])))
           (has_pair-right (pend (stored w p)) (pend (held ∷ [])) x m h))
 
+      -- the message of the record that is held and was stored
+      its_own : (x : Label) (m : Content) → has_pair (pend (held ∷ [])) x m ≡ true → entry ≡ held
+          → (x.sender == p) ≡ true
+          → (m : Content) × (has_pair (pend (entry ∷ [])) x m ≡ true) × HasStored after p x m
+      its_own x m has g a = (
+        m,
+        subst (λ (t : Entry). has_pair (pend (t ∷ [])) x m ≡ true) (sym g) has,
+        (eqb-true x.sender p a, there x m has),
+      )
+
       over : (r : Entry) → held ≡ r → entry ≡ held → is_accepted p r ≡ true
           → (m : Content) × (has_pair (pend (entry ∷ [])) (name_of r) m ≡ true)
           × HasStored after p (name_of r) m
-      over (Pend x m) f g a = (
-        m,
-        subst (λ (t : Entry). has_pair (pend (t ∷ [])) x m ≡ true) (sym (g ∙ f))
-            (has_pair-head (x, m) []),
-        (
-          eqb-true x.sender p a,
-          there x m
-              (subst (λ (t : Entry). has_pair (pend (t ∷ [])) x m ≡ true) (sym f)
-              (has_pair-head (x, m) [])),
-        ),
-      )
-      over (PendCert x m) f g a = (
-        m,
-        subst (λ (t : Entry). has_pair (pend (t ∷ [])) x m ≡ true) (sym (g ∙ f))
-            (has_pair-head (x, m) []),
-        (
-          eqb-true x.sender p a,
-          there x m
-              (subst (λ (t : Entry). has_pair (pend (t ∷ [])) x m ≡ true) (sym f)
-              (has_pair-head (x, m) [])),
-        ),
-      )
-      over (Cert x) f g a = absurd (false≢true a)
+      over (Pend x m) f =
+          its_own x m (subst (λ (t : Entry). has_pair (pend (t ∷ [])) x m ≡ true) (sym f)
+          (has_pair-head (x, m) []))
+      over (PendCert x m) f =
+          its_own x m (subst (λ (t : Entry). has_pair (pend (t ∷ [])) x m ≡ true) (sym f)
+          (has_pair-head (x, m) []))
+      over (Cert x) f = λ g a. absurd (false≢true a)
 
   by_state : (s : State) → OnlyOwn
       (world_after w p (commits w.size.n p position entry (w.node p) s))

@@ -7,6 +7,7 @@ use Rattle.urb_group.proofs.shown.SoundConditions.{fitting-own}
 use Rattle.urb_group.specs.Shown.{GroupView, Shows, view_of}
 use Rattle.urb_group.specs.World.{AreImages, opened}
 use Rattle.urb_names.specs.Naming.{Limits}
+use Rattle.urb_group.proofs.steps.Runs.{past_end}
 use Rattle.urb_node.proofs.Openings.{nothing-shows}
 use Rattle.urb_node.specs.Part.{opened_node}
 use Rattle.urb_node.specs.Shown.{NodeView, ShowsNode, no_view}
@@ -44,11 +45,6 @@ opened-own limits images are e =
 
 -- ---- the opened world
 
-past : {A : Type 0} (xs : List A) (i : ℕ) (d : A) → length xs ≤ i → slice_index_or xs i d ≡ d
-past [] i d l = refl
-past (x ∷ xs) zero d l = absurd (omega arith)
-past (x ∷ xs) (suc i) d l = past xs i d (omega arith)
-
 -- a group shows the opened world if each of its nodes shows the node that is opened from its image
 pub opened-shows : (group : GroupView) (limits : Limits) (images : List (List Entry))
     → group.size ≡ limits → length group.nodes ≡ length images
@@ -66,9 +62,9 @@ opened-shows group limits images size many each = record { size = size; nodes = 
         (λ l.
         subst (λ (view : NodeView). ShowsNode limits (suc i) view
         (opened_node (suc i) (slice_index_or images i [])))
-        (sym (past group.nodes i no_view (omega arith)))
+        (sym (past_end group.nodes i no_view (omega arith)))
         (subst (λ (image : List Entry).
-        ShowsNode limits (suc i) no_view (opened_node (suc i) image)) (sym (past images i [] l))
+        ShowsNode limits (suc i) no_view (opened_node (suc i) image)) (sym (past_end images i [] l))
         (nothing-shows limits (suc i))))
         within
 

@@ -1,6 +1,6 @@
 -- The places of a new group show the new world.
 use Rattle.std.proofs.Common.{IsSome, List, None, Option, Some, SomeIff, [], ap, length, map, refl}
-use Rattle.std.proofs.Common.{replicate, subst, suc, sym, zero, ℕ, ⊎_elim, ◌++◌, ◌∙◌, ◌∷◌, ◌≡◌, ◌⊎◌}
+use Rattle.std.proofs.Common.{replicate, subst, suc, sym, zero, ℕ, ⊎_elim, ◌++◌, ◌∙◌, ◌∷◌, ◌≡◌}
 use Rattle.std.specs.Prelude.{slice_get}
 use Rattle.urb_names.specs.Naming.{Limits}
 use Rattle.urb_node.specs.Shown.{NodeView, no_view}
@@ -18,7 +18,7 @@ abbrev pub first_places : {A : Type 0} → Limits → ℕ → List (Place A)
 first_places size zero = []
 first_places size (suc k) = first_places size k ++ place.Ready (new_memory size (suc k)) ∷ []
 
-one_longer : {X : Type 0} (xs : List X) (y : X) → length (xs ++ y ∷ []) ≡ suc (length xs)
+pub one_longer : {X : Type 0} (xs : List X) (y : X) → length (xs ++ y ∷ []) ≡ suc (length xs)
 one_longer [] y = refl
 one_longer (x ∷ xs) y = ap suc (one_longer xs y)
 

@@ -30,7 +30,7 @@ use Rattle.urb_group.specs.declared.node_moves.Node.{Node as Place}
 use Rattle.urb_group.specs.declared.node_moves.Node.TheVariants as place
 use Rattle.urb_group.specs.declared.taken.Taken.{Taken}
 use Rattle.urb_group.proofs.shown.SoundConditions.{arrival-meets}
-use Rattle.urb_group.proofs.moves.GroupMoves.{takes}
+use Rattle.urb_group.proofs.moves.GroupMoves.{Call, takes}
 use Rattle.urb_group.proofs.shown.NodeMoves.{place_shows}
 use Rattle.urb_group.proofs.shown.ReplacedElements.{read_mapped}
 use Rattle.urb_group.proofs.steps.ConfirmedPackets.{borne-pair}
@@ -83,12 +83,6 @@ both_true node packet b pair certified n s =
     certified n s ∙ ap (λ (c : Bool). c
     && (not (says_certified packet.flags) || has_name (cert n.records) packet.name)) (pair n s)
 
-pair_lacks : {A : Type 0} (node : Place A) (packet : Carried) → HoldsPair node packet false
-    → TellsTruth node packet false
-pair_lacks node packet pair n s =
-    ap (λ (c : Bool). c && (not (says_certified packet.flags)
-    || has_name (cert n.records) packet.name)) (pair n s)
-
 -- ---- refused before it reaches the node
 
 pub arrive-fault : (group : GroupView) (p : ℕ) (bytes : Result Carried PacketFault)
@@ -137,8 +131,8 @@ arrive-step w p packet b h e =
     cond-true (is_for w p packet) _ _ h
     ∙ ap (λ (c : Bool). at_node w p (arrives_as packet c w.size p (w.node p))) (sym e)
 
-module _ {A : Type 0} (size : Limits) (places : List (Place A)) (group : IsGroup size places)
-    (p i source : ℕ) (packet : Carried) (b : Bool) (from : Place A)
+module _ {A : Type 0} {size : Limits} {places : List (Place A)} (group : IsGroup size places)
+    {p i source : ℕ} {packet : Carried} {b : Bool} {from : Place A}
     (ends : AreEnds size.n p packet (source, i)) (was : slice_get places source ≡ Some from)
     (tells : TellsTruth from packet b) where
   -- the test is that of each world
@@ -184,29 +178,21 @@ module _ {A : Type 0} (size : Limits) (places : List (Place A)) (group : IsGroup
                 (suc i) view.pairs packet.name packet.message) v meets));
           }
 
-  pub arrive-moved : (bytes : Result Carried PacketFault) (new : List (Place A))
-      (result : Result (Taken A) Refusal) → Ok packet ≡ bytes
-      → Moved (λ node r. ArrivesAt node packet b r) places i result new
+  pub arrive-moved : {new : List (Place A)} {call : Call A (Result (Taken A) Refusal)}
+      (bytes : Result Carried PacketFault) (result : Result (Taken A) Refusal) → Ok packet ≡ bytes
+      → (moved : Moved call places i result new)
+      → ArrivesAt moved.node packet b (moved.moved, result)
       → Takes (shown size places) p (Arrive p bytes) result (shown size new) × IsGroup size new
-  arrive-moved bytes new result e moved =
+  arrive-moved {new = new} bytes result e moved h =
       subst (λ (read : Result Carried PacketFault).
       Takes (shown size places) p (Arrive p read) result (shown size new) × IsGroup size new) e
-      (subst (λ (q : ℕ). Takes (shown size places) q (Arrive q (Ok packet)) result (shown size new)
-      × IsGroup size new) (sym ends.target.1)
-      (subst (λ (ps : List (Place A)).
-      Takes (shown size places) (suc i) (Arrive (suc i) (Ok packet)) result (shown size ps)
-      × IsGroup size ps) (sym moved.is)
-      (takes size places group i moved.node moved.moved moved.was (Arrive (suc i) (Ok packet))
-      (arrives_as packet b) is result moved.step)))
+      (takes group ends.target.1 moved (Arrive p (Ok packet)) (arrives_as packet b) is
+      result h)
     where
-      is_here : is_for_node size.n (suc i) packet ≡ true
-      is_here = subst (λ (q : ℕ). is_for_node size.n q packet ≡ true) ends.target.1 ends.is_for
-
       is : (w : World) → Shows (shown size places) w
-          → step w (Arrive (suc i) (Ok packet)) ≡ at_node w (suc i)
-          (arrives_as packet b w.size (suc i) (w.node (suc i)))
+          → step w (Arrive p (Ok packet)) ≡ at_node w p (arrives_as packet b w.size p (w.node p))
       is w s =
-          arrive-step w (suc i) packet b
-          (and_parts (is_for w (suc i) packet) (is_node w.size.n (suc i))
-          (subst (λ (l : Limits). is_for_node l.n (suc i) packet ≡ true) s.size is_here)).0
+          arrive-step w p packet b
+          (and_parts (is_for w p packet) (is_node w.size.n p)
+          (subst (λ (l : Limits). is_for_node l.n p packet ≡ true) s.size ends.is_for)).0
           (truth_is w s)

@@ -26,6 +26,11 @@ use Rattle.urb_group.specs.declared.taken.Taken.{Taken}
 use Rattle.urb_group.specs.declared.taken.Taken.TheVariants as taken
 use Rattle.urb_node.proofs.Calls.{same_record-true}
 
+-- a client's message, by its parts
+abbrev pub content : ℕ → ℕ → List ℕ → Content
+content client number payload =
+    record { client = client; number = number; payload = payload }
+
 -- the place of a node in each of its states
 abbrev at_ready : (A : Type 0) → Memory → Place A
 at_ready A a = place.Ready a

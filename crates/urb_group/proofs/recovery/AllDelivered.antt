@@ -1,12 +1,11 @@
 -- After two rounds every node has certified every name, so everything is delivered: no state is a
 -- dead end.
-use Rattle.std.proofs.Common.{Bool, List, Option, Some, [], ap, arith, count_by, eqb-true, false}
-use Rattle.std.proofs.Common.{filter, is_some, length, lt-ltb, ltb-true, map, nat_lt, refl}
-use Rattle.std.proofs.Common.{slice_get, subst, suc, sym, take, true, zero, ℕ, ⊎_elim, ◌&&◌, ◌*◌}
+use Rattle.std.proofs.Common.{Bool, ap, arith, count_by, eqb-true, false}
+use Rattle.std.proofs.Common.{filter, length, lt-ltb, ltb-true, nat_lt, refl}
+use Rattle.std.proofs.Common.{subst, suc, sym, true, zero, ℕ, ⊎_elim, ◌*◌}
 use Rattle.std.proofs.Common.{◌+◌, ◌<◌, ◌==◌, ◌∙◌, ◌∷◌, ◌≡◌, ◌≤◌}
-use Rattle.std.proofs.lemmas.Bool.{and_from, and_parts, cases_Bool, cases_eq, cases_lt, cond-true}
-use Rattle.std.proofs.lemmas.Bool.{false≢true, or_cases}
-use Rattle.std.proofs.lemmas.List.{length-map}
+use Rattle.std.proofs.lemmas.Bool.{and_from, and_parts, cases_Bool, cases_eq, cond-true}
+use Rattle.std.proofs.lemmas.Bool.{false≢true}
 use Rattle.std.proofs.lemmas.List.Sums.{length-filter}
 use Rattle.urb_group.proofs.recovery.CertifiedNames.{certified-delivered}
 use Rattle.urb_group.proofs.recovery.NodesComeBack.{all-back}
@@ -17,24 +16,17 @@ use Rattle.urb_group.proofs.recovery.WorldsGoOn.{Calm, Onward, Sound, known-pair
 use Rattle.urb_group.proofs.recovery.EventPlans.{Reaches, reaches-both, reaches-weaker}
 use Rattle.urb_group.proofs.recovery.OneRound.{HasTold, rounds-reach}
 use Rattle.urb_group.proofs.steps.Runs.{reached-keeps}
-use Rattle.urb_group.proofs.safety.SafeWorlds.{safe}
 use Rattle.urb_group.proofs.recovery.CountedArrivals.{knows}
 use Rattle.urb_group.specs.Recovered.{AllDelivered, CanDeliver, IsNotStranded}
 use Rattle.urb_group.specs.Recovering.{after, all_back, both, recovery, rounds}
-use Rattle.urb_group.specs.Safe.{IsInOrder}
 use Rattle.urb_group.specs.Step.{IsReached, run}
 use Rattle.urb_group.specs.World.{World, stored}
-use Rattle.urb_names.proofs.Released.{has_name-part}
 use Rattle.urb_names.specs.Acknowledged.{acked}
-use Rattle.urb_names.specs.Names.{has_name, name, names}
+use Rattle.urb_names.specs.Names.{has_name}
 use Rattle.urb_names.specs.Naming.{Content, Label, Limits}
 use Rattle.urb_names.specs.Nodes.{is_node, majority_passes, nodes, numbers_from}
-use Rattle.urb_names.specs.Pairs.{has_pair, message_of}
-use Rattle.urb_names.specs.Release.{part_of}
+use Rattle.urb_names.specs.Pairs.{has_pair}
 use Rattle.urb_node.specs.Steps.{is_down}
-use Rattle.urb_stable.proofs.KeptRules.{kept-numbered}
-use Rattle.urb_stable.proofs.Logs.{delivers}
-use Rattle.urb_stable.specs.Log.{log}
 use Rattle.urb_stable.specs.Records.{cert, pend}
 
 -- ---- all nodes are a majority

@@ -18,19 +18,17 @@ use Rattle.urb_group.specs.Recovered.{IsDone, WasSent}
 use Rattle.urb_group.specs.Recovering.{after, carries, each, receipt_of, stores}
 use Rattle.urb_group.specs.Step.{Arrive, Commit, is_for, run, step, world_after}
 use Rattle.urb_group.specs.World.{World, stored, truthful}
-use Rattle.urb_names.proofs.SameNames.{same_message-same, same_name-same}
 use Rattle.urb_names.specs.Beginnings.{Begins}
 use Rattle.urb_names.specs.Carried.{Carried}
-use Rattle.urb_names.specs.Names.{same_message, same_name}
 use Rattle.urb_names.specs.Naming.{Label, Limits}
 use Rattle.urb_names.specs.Nodes.{is_node}
+use Rattle.urb_node.proofs.Calls.{same_record-same}
 use Rattle.urb_node.specs.Part.{Down, Node, Ready, State, Storing}
 use Rattle.urb_node.specs.Replies.{Reply, Stored, packets_in}
 use Rattle.urb_node.specs.Steps.{arrives, commits, done, is_down, is_storing, keeps_record}
 use Rattle.urb_node.specs.Steps.{next_position, same_record}
 use Rattle.urb_node.specs.declared.cause.Cause.{Cause}
 use Rattle.urb_stable.specs.Entries.{Entry}
-use Rattle.urb_stable.specs.declared.record.Record.TheVariants.{Cert, Pend, PendCert}
 
 -- ---- one node moved
 
@@ -76,13 +74,6 @@ moved-each w q node v moved P h k p = ⊎_elim at_q elsewhere (cases_Bool (p == 
     elsewhere e = subst (P p) (sym (moved.there p e)) (k p)
 
 -- ---- a held record is stored
-
-same_record-same : (r : Entry) → same_record r r ≡ true
-same_record-same (Pend x m) =
-    and_from (same_name x x) (same_message m m) (same_name-same x) (same_message-same m)
-same_record-same (PendCert x m) =
-    and_from (same_name x x) (same_message m m) (same_name-same x) (same_message-same m)
-same_record-same (Cert x) = same_name-same x
 
 commit-is : (u : World) (q : ℕ) (node : Node) (entry : Entry) (cause : Option Cause)
     → u.node q ≡ node → node.state ≡ Storing entry cause → is_node u.size.n q ≡ true

@@ -1,6 +1,6 @@
 -- If a node has certified each name of a sender up to some number, it has delivered them. If it has
 -- certified all names, it has delivered all.
-use Rattle.std.proofs.Common.{List, Option, Some, [], ap, arith, eqb-true, false, is_some, length}
+use Rattle.std.proofs.Common.{List, Option, Some, [], ap, arith, eqb-true, is_some, length}
 use Rattle.std.proofs.Common.{map, refl, slice_get, suc, sym, take, true, zero, ℕ, ⊎_elim, ◌&&◌}
 use Rattle.std.proofs.Common.{◌+◌, ◌<◌, ◌==◌, ◌∙◌, ◌∷◌, ◌≡◌, ◌≤◌}
 use Rattle.std.proofs.lemmas.Bool.{and_parts, cases_lt, false≢true, or_cases}
@@ -17,6 +17,7 @@ use Rattle.urb_names.specs.Names.{has_name, name, names}
 use Rattle.urb_names.specs.Naming.{Content, Label}
 use Rattle.urb_names.specs.Nodes.{is_node, numbers_from}
 use Rattle.urb_names.specs.Pairs.{message_of}
+use Rattle.urb_names.proofs.Places.{get_some}
 use Rattle.urb_names.specs.Release.{part_of}
 use Rattle.urb_node.specs.Part.{Ready}
 use Rattle.urb_stable.proofs.KeptRules.{kept-numbered}
@@ -34,11 +35,6 @@ names-high s first (suc count) j h =
     (λ e. let k = names-high s (suc first) count j e in omega (arith, k))
     (or_cases ((s == s) && (first == j))
     (has_name (map (name s) (numbers_from (suc first) count)) (name s j)) h)
-
-get-some : {A : Type 0} (xs : List A) (i : ℕ) → i < length xs → (a : A) × (slice_get xs i ≡ Some a)
-get-some [] i l = absurd (omega arith)
-get-some (x ∷ xs) zero l = (x, refl)
-get-some (x ∷ xs) (suc i) l = get-some xs i (omega arith)
 
 length-first : {A : Type 0} (n : ℕ) (xs : List A) → length (take n xs) ≤ length xs
 length-first zero xs = omega arith
@@ -99,7 +95,7 @@ module _ (z : World) (sound : Sound z) (q s : ℕ) where
   own-known : (j : ℕ) → j < length messages → knows (stored z s) (name s (suc j)) ≡ true
   own-known j l =
       let kept = sound.kept.nodes s in
-      let found = get-some messages j l in
+      let found = get_some messages j l in
       ap is_some (kept-numbered z.size (stored z) s (stored z s) kept.kept j
       ∙ (ap (λ ms. slice_get ms j) (sym kept.broadcast) ∙ found.1))
 

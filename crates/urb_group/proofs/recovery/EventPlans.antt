@@ -60,9 +60,9 @@ reaches-weaker Q R w events f h = record { goes = h.goes; leads = f (after w eve
 
 -- ---- a plan for each of many
 
--- The plans start in good worlds. In each good world, a plan whose condition holds succeeds, and
--- leads to a good world in which the plan's result holds. Conditions and results are preserved by
--- further plans.
+-- There is a plan for each element of a list. If the world is good and the plan's condition holds,
+-- the plan succeeds. The world after it is good too, and the plan's result holds there. Later plans
+-- preserve conditions and results.
 pub record Course {A : Type 0} (plan : A → Plan) (Good : World → Type 0)
     (Onward : World → World → Type 0) (Before After : A → World → Type 0) : Type 0 where
   pub one : (x : A) (w : World) → Good w → Before x w

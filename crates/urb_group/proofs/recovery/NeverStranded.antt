@@ -1,6 +1,6 @@
 -- A group that is not stranded never becomes stranded: a node that is alone stores no pair without
 -- its certificate.
-use Rattle.std.proofs.Common.{List, Some, [], false, refl, subst, ℕ, ◌∷◌, ◌≡◌}
+use Rattle.std.proofs.Common.{List, Some, [], refl, subst, ℕ, ◌∷◌, ◌≡◌}
 use Rattle.std.proofs.lemmas.Bool.{false≢true}
 use Rattle.urb_group.proofs.recovery.NodesComeBack.{Whole, whole-joined}
 use Rattle.urb_group.proofs.hearing.LiveWorlds.{WorldLive, reached-live, start-live, step-live}

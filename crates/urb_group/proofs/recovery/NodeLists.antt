@@ -1,17 +1,19 @@
 -- Lists of nodes, packets that go to nodes, and the senders of names that are known.
-use Rattle.std.proofs.Common.{Bool, List, [], ap, arith, false, filter, lt-ltb, ltb-true, nat_lt}
+use Rattle.std.proofs.Common.{Bool, List, Some, [], ap, arith, false, filter, flat_map, lt-ltb}
+use Rattle.std.proofs.Common.{ltb-true, nat_lt}
 use Rattle.std.proofs.Common.{not, refl, suc, sym, true, zero, ℕ, ⊎_elim, ◌+◌, ◌<◌, ◌==◌, ◌∙◌, ◌∷◌}
 use Rattle.std.proofs.Common.{◌≡◌, ◌≤◌, inl, inr}
 use Rattle.std.proofs.lemmas.Bool.{and_from, and_parts, cases_eq, cond_both, false≢true}
 use Rattle.std.specs.List.{AllByRecursion}
 use Rattle.urb_group.proofs.recovery.WorldsGoOn.{Sound, known-pair, known-sender}
 use Rattle.urb_group.proofs.recovery.CountedArrivals.{knows}
-use Rattle.urb_group.proofs.ticks.Membership.{IsIn, in-filter}
+use Rattle.urb_group.proofs.ticks.Membership.{IsIn, in-filter, in-flat_map, in-map}
 use Rattle.urb_group.proofs.recovery.SentByTicks.{resent_packets}
 use Rattle.urb_group.specs.World.{World, stored}
 use Rattle.urb_names.proofs.SentPairs.{all_append}
 use Rattle.urb_names.specs.Acknowledged.{acked}
 use Rattle.urb_names.specs.Carried.{Carried, others, packets_to, to_unheard}
+use Rattle.urb_names.specs.Names.{has_name}
 use Rattle.urb_names.specs.Naming.{Content, Label}
 use Rattle.urb_names.specs.Nodes.{is_node, nodes, numbers_from}
 use Rattle.urb_names.specs.declared.flags.Flags.{Flags}
@@ -81,6 +83,33 @@ resent-to_nodes n p node (pair ∷ pairs) =
     (λ q h. nodes-in n q (filtered-in (λ i. not (i == p)) q (nodes n)
     (filtered-in (λ i. not (acked node.heard pair.0 i)) q (others n p) h))))
     (resent-to_nodes n p node pairs)
+
+-- ---- the packet of one pair
+
+-- the packet of the pair that a tick of p in this world sends to q
+abbrev pub packet_to : World → ℕ → ℕ → Label → Content → Carried
+packet_to w p q x m = record {
+  source = p;
+  target = q;
+  name = x;
+  message = m;
+  flags =
+      Some (record { certified = has_name (cert (stored w p)) x; heard = false });
+}
+
+-- the packet of a pair that is resent, if its certificate wasn't heard from q
+pub packet-in : (w : World) (p q : ℕ) (x : Label) (m : Content) → (q == p) ≡ false
+    → acked (w.node p).heard x q ≡ false → is_node w.size.n q ≡ true
+    → (pairs : List (Label × Content)) → IsIn (x, m) pairs
+    → IsIn (packet_to w p q x m) (flat_map
+    (to_unheard w.size.n p (cert (w.node p).records) (w.node p).heard) pairs)
+packet-in w p q x m other unheard there pairs h =
+    in-flat_map (to_unheard w.size.n p (cert (w.node p).records) (w.node p).heard) (x, m) pairs
+    (packet_to w p q x m) h
+    (in-map (λ i. packet_to w p i x m) q
+    (filter (λ i. not (acked (w.node p).heard x i)) (others w.size.n p))
+    (in-filter (λ i. not (acked (w.node p).heard x i)) q (others w.size.n p) (ap not unheard)
+    (in-others w.size.n p q there other)))
 
 -- ---- a name's sender is a node
 

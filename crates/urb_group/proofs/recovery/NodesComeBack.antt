@@ -23,6 +23,7 @@ use Rattle.urb_names.specs.Names.{has_name, same_name}
 use Rattle.urb_names.specs.Naming.{Content, Label, Limits}
 use Rattle.urb_names.specs.Nodes.{is_node, nodes}
 use Rattle.urb_names.specs.Pairs.{has_pair}
+use Rattle.urb_node.proofs.ImageNames.{same_list-same}
 use Rattle.urb_node.specs.Part.{Down, Node, Ready, State, Storing}
 use Rattle.urb_node.specs.Replies.{Reply}
 use Rattle.urb_node.specs.Steps.{doubt, keeps_record, restarts, restarts_with, same_list}
@@ -50,15 +51,12 @@ all-names all (y ∷ xs) h =
     and_from (has_name all y) _ (h y (or_left (same_name y y) _ (same_name-same y)))
     (all-names all xs (λ x k. h x (or_right (same_name y x) _ k)))
 
-list-itself : (xs : List Label) → same_list xs xs ≡ true
-list-itself [] = refl
-list-itself (x ∷ xs) = and_from (same_name x x) _ (same_name-same x) (list-itself xs)
-
-says-itself : (records : List Entry) → says records records ≡ true
+-- an image says what it says
+pub says-itself : (records : List Entry) → says records records ≡ true
 says-itself records =
     and_from (same_pairs (pend records) (pend records)) _ (and_from _ _ pairs pairs)
     (and_from (same_names (cert records) (cert records)) _ (and_from _ _ names names)
-    (and_from (same_list (log records) (log records)) _ (list-itself (log records))
+    (and_from (same_list (log records) (log records)) _ (same_list-same (log records))
     (eq-eqb (length records) (length records) refl)))
   where
     pairs : list_all (λ pair. has_pair (pend records) pair.0 pair.1) (pend records) ≡ true

@@ -1,6 +1,6 @@
 -- A round of one node. Each other node then knows what it knew, and has counted it for each name or
 -- certified the name.
-use Rattle.std.proofs.Common.{List, Some, ap, arith, eqb-true, false, filter, is_some, length, not}
+use Rattle.std.proofs.Common.{List, Some, ap, arith, eqb-true, false, is_some, length}
 use Rattle.std.proofs.Common.{refl, slice_get, subst, sym, true, ℕ, ⊎_elim, ◌++◌, ◌==◌, ◌∙◌, ◌≡◌}
 use Rattle.std.proofs.Common.{◌≤◌, ◌⊎◌, inl, inr}
 use Rattle.std.proofs.lemmas.Bool.{cases_Bool, false≢true}
@@ -15,7 +15,7 @@ use Rattle.urb_group.proofs.recovery.WorldsGoOn.{truth-stays}
 use Rattle.urb_group.proofs.recovery.EventPlans.{Course, Reaches, reaches-append, reaches-each}
 use Rattle.urb_group.proofs.recovery.EventPlans.{reaches-weaker}
 use Rattle.urb_group.proofs.recovery.CountedArrivals.{Counts, certified-counts, knows}
-use Rattle.urb_group.proofs.ticks.Membership.{IsIn, all-in, in-all, in-filter, in-flat_map, in-map}
+use Rattle.urb_group.proofs.ticks.Membership.{IsIn, all-in, in-all}
 use Rattle.urb_group.proofs.ticks.Membership.{in-place, in-right}
 use Rattle.urb_group.proofs.recovery.SentByTicks.{Ticks, due_pairs, resent_packets, tick_events}
 use Rattle.urb_group.proofs.recovery.SentByTicks.{ticks-go}
@@ -26,7 +26,7 @@ use Rattle.urb_group.specs.Step.{run}
 use Rattle.urb_group.specs.World.{World, bears_out, stored}
 use Rattle.urb_names.proofs.SentPairs.{AllIn, all-from, in_due, in_itself, in_rising}
 use Rattle.urb_names.specs.Acknowledged.{acked}
-use Rattle.urb_names.specs.Carried.{Carried, IsFrom, others, to_unheard}
+use Rattle.urb_names.specs.Carried.{Carried, IsFrom}
 use Rattle.urb_names.specs.Cyclic.{rising}
 use Rattle.urb_names.specs.Names.{has_name}
 use Rattle.urb_names.specs.Naming.{Content, Label, Limits}
@@ -36,7 +36,8 @@ use Rattle.urb_node.specs.Part.{Node, Ready}
 use Rattle.urb_stable.proofs.KeptRules.{kept-held}
 use Rattle.urb_stable.specs.Records.{cert, pend}
 use Rattle.urb_group.proofs.recovery.NodeLists.{ToNode, in-nodes, in-others, nodes-in}
-use Rattle.urb_group.proofs.recovery.NodeLists.{resent-to_nodes, sender-node}
+use Rattle.urb_group.proofs.recovery.NodeLists.{packet-in, packet_to, resent-to_nodes}
+use Rattle.urb_group.proofs.recovery.NodeLists.{sender-node}
 
 -- ---- the ticks
 
@@ -159,16 +160,6 @@ module _ (w : World) (calm : Calm w) (p : ℕ) (is : is_node w.size.n p ≡ true
       (other : (q == p) ≡ false) (unheard : acked (w.node p).heard x q ≡ false)
       (held : has_pair (pend (stored w p)) x m ≡ true)
       (many : length (pend (stored w p)) ≤ count) where
-    abbrev packet : Carried
-    packet = record {
-      source = p;
-      target = q;
-      name = x;
-      message = m;
-      flags =
-          Some (record { certified = has_name (cert (stored w p)) x; heard = false });
-    }
-
     has-turn : IsIn (x, m) sent_pairs
     has-turn =
         all-turn due (due-rises w.size (stored w) p (stored w p)
@@ -179,27 +170,15 @@ module _ (w : World) (calm : Calm w) (p : ℕ) (is : is_node w.size.n p ≡ true
         (in-due w.size.n p q (w.node p).heard (pend (stored w p)) x m
         (in-others w.size.n p q there other) unheard held)
 
-    was-sent : IsIn packet packets
+    was-sent : IsIn (packet_to w p q x m) packets
     was-sent =
-        subst (IsIn packet) (sym ticks.packets)
-        (in-flat_map (to_unheard w.size.n p (cert (stored w p)) (w.node p).heard)
-        (x, m) sent_pairs packet has-turn
-        (in-map (λ i. record {
-          source = p;
-          target = i;
-          name = x;
-          message = m;
-          flags =
-              Some (record { certified = has_name (cert (stored w p)) x; heard = false });
-        }) q
-        (filter (λ i. not (acked (w.node p).heard x i)) (others w.size.n p))
-        (in-filter (λ i. not (acked (w.node p).heard x i)) q (others w.size.n p)
-        (ap not unheard) (in-others w.size.n p q there other))))
+        subst (IsIn (packet_to w p q x m)) (sym ticks.packets)
+        (packet-in w p q x m other unheard there sent_pairs has-turn)
 
     told-others : (u : World) → AllByRecursion (λ packet. IsToldBy packet u) packets
         → (knows (stored u q) x ≡ true) × CountsAt u q x p
     told-others u told =
-        let one = in-all (λ c. IsToldBy c u) packet packets told was-sent in
+        let one = in-all (λ c. IsToldBy c u) (packet_to w p q x m) packets told was-sent in
         (one.known, one.counted)
 
 -- ---- the round

@@ -1,7 +1,7 @@
 -- A node has no more names pending than the storages of all nodes took messages.
-use Rattle.std.proofs.Common.{Bool, List, [], ap, arith, eq-eqb, eqb-true, false, filter, flat_map}
-use Rattle.std.proofs.Common.{inl, inr, length, map, nat_lt, refl, subst, suc, sym, true, zero, ℕ}
-use Rattle.std.proofs.Common.{⊎_elim, ◌&&◌, ◌*◌, ◌+◌, ◌++◌, ◌<◌, ◌==◌, ◌∙◌, ◌∷◌, ◌≡◌, ◌≤◌, ◌⊎◌}
+use Rattle.std.proofs.Common.{Bool, List, [], ap, arith, eq-eqb, eqb-true, flat_map}
+use Rattle.std.proofs.Common.{inl, inr, length, map, refl, subst, suc, sym, true, zero, ℕ}
+use Rattle.std.proofs.Common.{⊎_elim, ◌++◌, ◌==◌, ◌∙◌, ◌∷◌, ◌≡◌, ◌≤◌}
 use Rattle.std.proofs.Math.Path.{fun_ext}
 use Rattle.std.proofs.lemmas.Bool.{and_parts, cases_Bool, false≢true}
 use Rattle.std.proofs.lemmas.List.Concat.{length-flat_map}
@@ -13,7 +13,7 @@ use Rattle.urb_group.proofs.ticks.DuePairs.{rises-rising}
 use Rattle.urb_group.proofs.recovery.NodeLists.{in-nodes, in-numbers, sender-node}
 use Rattle.urb_group.proofs.recovery.WorldsGoOn.{Sound, known-pair, known-sender, knows-pair}
 use Rattle.urb_group.proofs.recovery.CountedArrivals.{knows}
-use Rattle.urb_group.proofs.ticks.Membership.{IsIn, in-flat_map, in-left, in-map, in-right}
+use Rattle.urb_group.proofs.ticks.Membership.{IsIn, in-flat_map, in-map}
 use Rattle.urb_group.proofs.ticks.Membership.{in-split}
 use Rattle.urb_group.proofs.ticks.CyclicOrder.{not_before_itself}
 use Rattle.urb_group.specs.Rounds.{taken}
@@ -118,14 +118,14 @@ numbered size images p rs h =
 
 -- ---- how many are taken
 
+pub length-names : (s first count : ℕ) → length (map (name s) (numbers_from first count)) ≡ count
+length-names s first zero = refl
+length-names s first (suc count) = ap suc (length-names s (suc first) count)
+
 module _ (w : World) (sound : Sound w) where
   -- the names of all messages that storages took
   abbrev all : List Label
   all = flat_map (λ s. names s (length (w.node s).broadcast)) (nodes w.size.n)
-
-  length-names : (s first count : ℕ) → length (map (name s) (numbers_from first count)) ≡ count
-  length-names s first zero = refl
-  length-names s first (suc count) = ap suc (length-names s (suc first) count)
 
   counted : sum_by (λ s. length (names s (length (w.node s).broadcast))) (nodes w.size.n) ≡ taken w
   counted =

@@ -1,5 +1,5 @@
--- A group that is stranded stays so: a node that is alone hears no packet, so it drafts no
--- certificate of what it has stored.
+-- A stranded group stays stranded. Its one node receives no packet, so it never certifies a pair
+-- that it has stored without a certificate.
 use Rattle.std.proofs.Common.{List, None, Ok, Option, Some, [], ap, append-nil, arith, cond, false}
 use Rattle.std.proofs.Common.{filter, flat_map, is_none, is_some, ltb-true, nat_lt, not, refl}
 use Rattle.std.proofs.Common.{slice_get, subst, suc, sym, true, ℕ, ⊎_elim, ◌++◌, ◌==◌, ◌∙◌, ◌∷◌}
@@ -37,10 +37,8 @@ use Rattle.urb_group.specs.Delivering.{event_node}
 
 -- the record, if there is one, is no certificate of an earlier pair
 abbrev IsNoCertificate : Option Entry → Type 0
-IsNoCertificate None = Unit {0}
-IsNoCertificate (Some (Pend x m)) = Unit {0}
-IsNoCertificate (Some (PendCert x m)) = Unit {0}
 IsNoCertificate (Some (Cert x)) = ⊥
+IsNoCertificate doubtful = Unit {0}
 
 -- what holds for a name that a node has stored alone, and not certified
 record IsStuck (x : Label) (w : World) : Type 0 where

@@ -3,21 +3,17 @@ use Rattle.std.proofs.Common.{Err, List, Ok, Result, [], refl, ℕ, ◌∷◌, �
 use Rattle.urb_group.proofs.rounds.TicksAmongEvents.{resent_by}
 use Rattle.urb_group.specs.Delivering.{event_node}
 use Rattle.urb_group.specs.Rounds.{Act, Arrives, Disturbs, Ticks, act_of, disturbance}
-use Rattle.urb_group.specs.Step.{Arrive, Commit, Crash, Event, Fail, Restart, Submit, Tick}
+use Rattle.urb_group.specs.Step.{Arrive, Event, Tick}
 use Rattle.urb_names.specs.Carried.{Carried}
 use Rattle.urb_names.specs.declared.refusal.PacketFault.{PacketFault}
-use Rattle.urb_node.specs.Replies.{Drafted, Refused, Reply, Same, Sent, Stored, Up, WentDown}
+use Rattle.urb_node.specs.Replies.{Drafted, Reply, Same, Sent, WentDown}
 
 -- a reply counts as a disturbance or as nothing
 pub disturbance-cases : (P : List Act → Type 0) (reply : Reply) → P [] → P (Disturbs ∷ [])
     → P (disturbance reply)
 disturbance-cases P (Drafted x position) none disturbs = disturbs
-disturbance-cases P (Same told) none disturbs = none
-disturbance-cases P (Stored done) none disturbs = none
-disturbance-cases P (Sent packets) none disturbs = none
 disturbance-cases P (WentDown q) none disturbs = disturbs
-disturbance-cases P (Up q) none disturbs = none
-disturbance-cases P (Refused r) none disturbs = none
+disturbance-cases P reply none disturbs = none
 
 module _ (P : List Act → Type 0) where
   arrival-cases : (q : ℕ) (packet : Carried) (reply : Reply) → P []
@@ -25,22 +21,13 @@ module _ (P : List Act → Type 0) where
       → P (act_of (Arrive q (Ok packet)) reply)
   arrival-cases q packet (Drafted x position) none arrives = arrives []
   arrival-cases q packet (Same told) none arrives = arrives _
-  arrival-cases q packet (Stored done) none arrives = none
-  arrival-cases q packet (Sent packets) none arrives = none
-  arrival-cases q packet (WentDown p) none arrives = none
-  arrival-cases q packet (Up p) none arrives = none
-  arrival-cases q packet (Refused r) none arrives = none
+  arrival-cases q packet reply none arrives = none
 
   tick-cases : (q : ℕ) (reply : Reply) → (resent_by (Tick q) reply ≡ [] → P [])
       → ((packets : List Carried) → resent_by (Tick q) reply ≡ packets → P (Ticks q packets ∷ []))
       → P (act_of (Tick q) reply)
-  tick-cases q (Drafted x position) none ticks = none refl
-  tick-cases q (Same told) none ticks = none refl
-  tick-cases q (Stored done) none ticks = none refl
   tick-cases q (Sent packets) none ticks = ticks packets refl
-  tick-cases q (WentDown p) none ticks = none refl
-  tick-cases q (Up p) none ticks = none refl
-  tick-cases q (Refused r) none ticks = none refl
+  tick-cases q reply none ticks = none refl
 
   -- Only a tick resends packets. An arrival and a tick never disturb.
   pub act-cases : (event : Event) (reply : Reply) → (resent_by event reply ≡ [] → P [])
@@ -52,18 +39,10 @@ module _ (P : List Act → Type 0) where
       → ((packets : List Carried) → event ≡ Tick (event_node event)
       → resent_by event reply ≡ packets → P (Ticks (event_node event) packets ∷ []))
       → P (act_of event reply)
-  act-cases (Submit p m) reply none disturbs arrives ticks =
-      disturbance-cases P reply (none refl) (disturbs refl (λ bytes e. cc) (λ e. cc))
   act-cases (Arrive p (Err fault)) reply none disturbs arrives ticks = none refl
   act-cases (Arrive p (Ok packet)) reply none disturbs arrives ticks =
       arrival-cases p packet reply (none refl) (λ answers. arrives packet answers refl refl)
   act-cases (Tick p) reply none disturbs arrives ticks =
       tick-cases p reply none (λ packets e. ticks packets refl e)
-  act-cases (Commit p position entry) reply none disturbs arrives ticks =
-      disturbance-cases P reply (none refl) (disturbs refl (λ bytes e. cc) (λ e. cc))
-  act-cases (Fail p) reply none disturbs arrives ticks =
-      disturbance-cases P reply (none refl) (disturbs refl (λ bytes e. cc) (λ e. cc))
-  act-cases (Crash p) reply none disturbs arrives ticks =
-      disturbance-cases P reply (none refl) (disturbs refl (λ bytes e. cc) (λ e. cc))
-  act-cases (Restart p image) reply none disturbs arrives ticks =
+  act-cases event reply none disturbs arrives ticks =
       disturbance-cases P reply (none refl) (disturbs refl (λ bytes e. cc) (λ e. cc))

@@ -1,6 +1,6 @@
 -- Acts of lists of events, one list after another. Events that proceed don't disturb.
 use Rattle.std.proofs.Common.{List, None, Some, [], ap, append_assoc, refl, subst, sym, ℕ, ◌&&◌}
-use Rattle.std.proofs.Common.{◌+◌, ◌++◌, ◌==◌, ◌∙◌, ◌∷◌, ◌≡◌}
+use Rattle.std.proofs.Common.{◌++◌, ◌==◌, ◌∙◌, ◌∷◌, ◌≡◌}
 use Rattle.std.proofs.lemmas.Bool.{cond_both}
 use Rattle.urb_group.proofs.recovery.EventPlans.{after-none}
 use Rattle.urb_group.proofs.rounds.Proceeding.{IsQuiet, Proceeds, acts-more, acts-none}
@@ -85,7 +85,6 @@ gentle-world w p outcome h =
 quiet-calm : (w : World) (event : Event) → IsQuiet event
     → IsUndisturbed (act_of event (step w event).0)
 unfolding step
-quiet-calm w (Submit p m) q = absurd q
 quiet-calm w (Arrive p bytes) q =
     act-cases IsUndisturbed (Arrive p bytes) _ (λ _. tt) (λ _ never _. absurd (never bytes refl))
     (λ _ _ _ _. tt) (λ _ _ _. tt)
@@ -94,10 +93,9 @@ quiet-calm w (Tick p) q =
     (λ _ _ _. tt)
 quiet-calm w (Commit p position entry) q =
     gentle-world w p _ (commit-gentle w.size.n p position entry (w.node p) (w.node p).state)
-quiet-calm w (Fail p) q = absurd q
-quiet-calm w (Crash p) q = absurd q
 quiet-calm w (Restart p image) q =
     gentle-world w p _ (restart-gentle p image (w.node p) (w.node p).state)
+quiet-calm w event q = absurd q
 
 pub proceeds-calm : (events : List Event) (w : World) → Proceeds w events
     → IsUndisturbed (acts_of w events)
@@ -109,12 +107,9 @@ proceeds-calm (event ∷ events) w h =
 
 harmless-quiet : (w : World) (event : Event) → IsHarmless w event → IsQuiet event
 harmless-quiet w (Submit p m) h = h
-harmless-quiet w (Arrive p bytes) h = tt
-harmless-quiet w (Tick p) h = tt
-harmless-quiet w (Commit p position entry) h = tt
 harmless-quiet w (Fail p) h = h
 harmless-quiet w (Crash p) h = h
-harmless-quiet w (Restart p image) h = tt
+harmless-quiet w event h = tt
 
 pub goes-proceeds : (events : List Event) (w : World) → Goes w events → Proceeds w events
 goes-proceeds [] w h = tt

@@ -1,19 +1,19 @@
 -- Rounds among nodes that are up. After one round, what one of them knew or held is known to all of
 -- them. After the next it is certified. So two rounds deliver.
-use Rattle.std.proofs.Common.{Bool, List, [], ap, arith, count_by, eqb-true, false, filter, inl}
-use Rattle.std.proofs.Common.{inr, is_some, length, ltb-true, nat_lt, refl, subst, suc, sym, true}
-use Rattle.std.proofs.Common.{zero, ℕ, ⊎_elim, ◌&&◌, ◌*◌, ◌+◌, ◌++◌, ◌-◌, ◌<◌, ◌==◌, ◌∙◌, ◌∷◌, ◌≡◌}
+use Rattle.std.proofs.Common.{Bool, List, ap, arith, count_by, eqb-true, false, filter, inl}
+use Rattle.std.proofs.Common.{inr, length, ltb-true, nat_lt, refl, subst, suc, sym, true}
+use Rattle.std.proofs.Common.{zero, ℕ, ⊎_elim, ◌*◌, ◌+◌, ◌++◌, ◌-◌, ◌<◌, ◌==◌, ◌∙◌, ◌∷◌, ◌≡◌}
 use Rattle.std.proofs.Common.{◌≤◌, ◌⊎◌}
 use Rattle.std.proofs.lemmas.Bool.{and_parts, cases_Bool, cond-false, cond-true, false≢true}
 use Rattle.std.proofs.lemmas.List.Sums.{length-filter}
 use Rattle.urb_names.specs.declared.limits.TheConstants.{NAMES_PER_TICK}
-use Rattle.urb_group.proofs.rounds.RoundActs.{AllArrive, all-arrive, ticks-counted}
+use Rattle.urb_group.proofs.rounds.RoundActs.{all-arrive, ticks-counted}
 use Rattle.urb_group.proofs.recovery.CertifiedNames.{AllCertified, certified-delivered, in_order}
-use Rattle.urb_group.proofs.recovery.CertifiedNames.{part, reaches-number}
+use Rattle.urb_group.proofs.recovery.CertifiedNames.{reaches-number}
 use Rattle.urb_group.proofs.rounds.StaysCounted.{knows-begins, run-further, run-size, whole}
 use Rattle.urb_group.proofs.rounds.StaysCounted.{whole-knows}
 use Rattle.urb_group.proofs.recovery.AllDelivered.{all-majority, reached-sound}
-use Rattle.urb_group.proofs.rounds.TicksAmongEvents.{IsCountedAt, ticks_among}
+use Rattle.urb_group.proofs.rounds.TicksAmongEvents.{IsCountedAt}
 use Rattle.urb_group.proofs.recovery.NodeLists.{sender-node}
 use Rattle.urb_group.proofs.rounds.NoNewNames.{Names, run-names, whole-sender}
 use Rattle.urb_group.proofs.recovery.WorldsGoOn.{Sound, known-pair, known-sender, run-sound}
@@ -23,20 +23,19 @@ use Rattle.urb_group.proofs.recovery.NeverStranded.{run-free}
 use Rattle.urb_group.proofs.rounds.HeardInRound.{sound-tells}
 use Rattle.urb_group.specs.Recovered.{AllDelivered, IsNotStranded}
 use Rattle.urb_group.specs.Recovering.{after}
-use Rattle.urb_group.specs.Rounds.{Act, AllUp, AreUp, HaveDeliveredHeld, IsHeldAmong, IsRound}
+use Rattle.urb_group.specs.Rounds.{Act, AllUp, AreUp, HaveDeliveredHeld, IsRound}
 use Rattle.urb_group.specs.Rounds.{IsRoundAmong, acts_of}
 use Rattle.urb_group.specs.Step.{Event, IsReached}
 use Rattle.urb_group.specs.World.{World, stored}
 use Rattle.urb_names.proofs.Released.{row, row-split}
 use Rattle.urb_names.proofs.SameNames.{majority_grows}
 use Rattle.urb_names.specs.Acknowledged.{acked}
-use Rattle.urb_names.specs.Beginnings.{Begins}
 use Rattle.urb_names.specs.Names.{has_name, name, names}
 use Rattle.urb_names.specs.Naming.{Content, Label, Limits}
 use Rattle.urb_names.specs.Nodes.{is_node, majority_passes, nodes, numbers_from}
 use Rattle.urb_names.specs.Pairs.{has_pair}
 use Rattle.urb_names.specs.Release.{part_of}
-use Rattle.urb_node.specs.Part.{Node, Ready}
+use Rattle.urb_node.specs.Part.{Node}
 use Rattle.urb_node.specs.Steps.{is_down}
 use Rattle.urb_stable.specs.Log.{log}
 use Rattle.urb_stable.specs.Records.{cert, pend}
@@ -314,16 +313,22 @@ module _ (among : ℕ → Bool) (w : World) (events : List Event)
       (subst (λ (list : List Act). IsRoundAmong among list (after w events))
       (sym rest.acts) round)
 
-pub two-among : (among : ℕ → Bool) (w : World) (first second : List Event) → IsReached w
-    → IsNotStranded w → majority_passes w.size.n among ≡ true → AreUp among w
+-- what follows from two rounds in which every event proceeds, follows from any two rounds
+both : (among : ℕ → Bool) (w : World) (first second : List Event)
     → IsRoundAmong among (acts_of w first) (after w first)
     → IsRoundAmong among (acts_of (after w first) second) (after (after w first) second)
-    → HaveDeliveredHeld among w (after (after w first) second)
-two-among among w first second reached free most up one two =
-    subst (λ (v : World). HaveDeliveredHeld among w v) b.leads
-    (subst (λ (u : World). HaveDeliveredHeld among w (after u b.list)) a.leads
-    (held-delivered among w (reached-sound w reached) free most up a.list a.proceeds
-    (round-rest among w first one) b.list goes round))
+    → (P : World → Type 0)
+    → ((xs : List Event) → Proceeds w xs → IsRoundAmong among (acts_of w xs) (after w xs)
+    → (ys : List Event) → Proceeds (after w xs) ys
+    → IsRoundAmong among (acts_of (after w xs) ys) (after (after w xs) ys)
+    → P (after (after w xs) ys)) → P (after (after w first) second)
+both among w first second one two P h =
+    subst P b.leads
+    (subst (λ (u : World). P (after u b.list)) a.leads
+    (h a.list a.proceeds (round-rest among w first one) b.list
+    (subst (λ (u : World). Proceeds u b.list) (sym a.leads) b.proceeds)
+    (subst (λ (u : World). IsRoundAmong among (acts_of u b.list) (after u b.list)) (sym a.leads)
+    (round-rest among (after w first) second two))))
   where
     a : Proceeding w first
     a = rest among w first one
@@ -331,43 +336,23 @@ two-among among w first second reached free most up one two =
     b : Proceeding (after w first) second
     b = rest among (after w first) second two
 
-    goes : Proceeds (after w a.list) b.list
-    goes = subst (λ (u : World). Proceeds u b.list) (sym a.leads) b.proceeds
-
-    round : IsRoundAmong among (acts_of (after w a.list) b.list) (after (after w a.list) b.list)
-    round =
-        subst (λ (u : World). IsRoundAmong among (acts_of u b.list) (after u b.list)) (sym a.leads)
-        (round-rest among (after w first) second two)
+pub two-among : (among : ℕ → Bool) (w : World) (first second : List Event) → IsReached w
+    → IsNotStranded w → majority_passes w.size.n among ≡ true → AreUp among w
+    → IsRoundAmong among (acts_of w first) (after w first)
+    → IsRoundAmong among (acts_of (after w first) second) (after (after w first) second)
+    → HaveDeliveredHeld among w (after (after w first) second)
+two-among among w first second reached free most up one two =
+    both among w first second one two (HaveDeliveredHeld among w)
+    (held-delivered among w (reached-sound w reached) free most up)
 
 pub two-rounds-certify : (w : World) (first second : List Event) → IsReached w → IsNotStranded w
     → AllUp w → IsRound w first → IsRound (after w first) second
     → AllCertified (after (after w first) second)
 two-rounds-certify w first second reached free up one two =
-    subst AllCertified b.leads
-    (subst (λ (u : World). AllCertified (after u b.list)) a.leads
-    (all-certified w (reached-sound w reached) free up a.list a.proceeds
-    (round-rest (is_node w.size.n) w first one) b.list goes round))
-  where
-    two_among : IsRoundAmong (is_node w.size.n) (acts_of (after w first) second)
-        (after (after w first) second)
-    two_among =
-        subst (λ (size : Limits). IsRoundAmong (is_node size.n) (acts_of (after w first) second)
-        (after (after w first) second)) (run-size first w) two
-
-    a : Proceeding w first
-    a = rest (is_node w.size.n) w first one
-
-    b : Proceeding (after w first) second
-    b = rest (is_node w.size.n) (after w first) second two_among
-
-    goes : Proceeds (after w a.list) b.list
-    goes = subst (λ (u : World). Proceeds u b.list) (sym a.leads) b.proceeds
-
-    round : IsRoundAmong (is_node w.size.n) (acts_of (after w a.list) b.list)
-        (after (after w a.list) b.list)
-    round =
-        subst (λ (u : World). IsRoundAmong (is_node w.size.n) (acts_of u b.list) (after u b.list))
-        (sym a.leads) (round-rest (is_node w.size.n) (after w first) second two_among)
+    both (is_node w.size.n) w first second one
+    (subst (λ (size : Limits). IsRoundAmong (is_node size.n) (acts_of (after w first) second)
+    (after (after w first) second)) (run-size first w) two) AllCertified
+    (all-certified w (reached-sound w reached) free up)
 
 pub two-rounds : (w : World) (first second : List Event) → IsReached w → IsNotStranded w → AllUp w
     → IsRound w first → IsRound (after w first) second → AllDelivered (after (after w first) second)

@@ -1,15 +1,15 @@
 -- A round in which the packets of ticks arrive: each other node hears what a node had pending.
-use Rattle.std.proofs.Common.{Bool, List, Ok, Option, [], ap, eq-eqb, false, is_some, length, refl}
-use Rattle.std.proofs.Common.{subst, sym, true, ℕ, ⊎_elim, ◌&&◌, ◌*◌, ◌==◌, ◌∙◌, ◌∷◌, ◌≡◌, ◌≤◌}
+use Rattle.std.proofs.Common.{Bool, List, Ok, [], ap, false, is_some, length}
+use Rattle.std.proofs.Common.{subst, sym, true, ℕ, ⊎_elim, ◌&&◌, ◌*◌, ◌==◌, ◌∷◌, ◌≡◌, ◌≤◌}
 use Rattle.std.proofs.lemmas.Bool.{and_from}
-use Rattle.std.specs.List.{AllByRecursion}
 use Rattle.urb_names.specs.declared.limits.TheConstants.{NAMES_PER_TICK}
 use Rattle.urb_group.proofs.rounds.RoundActs.{AllArrive}
 use Rattle.urb_group.proofs.rounds.StaysCounted.{sound-counted, whole}
-use Rattle.urb_group.proofs.rounds.SentAmongEvents.{Comes, Sends, comes-about, packet_to}
+use Rattle.urb_group.proofs.recovery.NodeLists.{packet_to}
+use Rattle.urb_group.proofs.rounds.SentAmongEvents.{Comes, Sends, comes-about}
 use Rattle.urb_group.proofs.rounds.TicksAmongEvents.{IsAmong, IsCountedAt, resent_in, ticks_among}
 use Rattle.urb_group.proofs.recovery.WorldsGoOn.{Sound, run-sound}
-use Rattle.urb_group.proofs.rounds.Proceeding.{Proceeds, after-more}
+use Rattle.urb_group.proofs.rounds.Proceeding.{Proceeds}
 use Rattle.urb_group.proofs.recovery.CountedArrivals.{certified-counts}
 use Rattle.urb_group.proofs.ticks.Membership.{in-all}
 use Rattle.urb_group.specs.Recovering.{after}
@@ -23,7 +23,7 @@ use Rattle.urb_names.specs.Pairs.{has_pair}
 use Rattle.urb_node.specs.Part.{Ready}
 use Rattle.urb_node.specs.Steps.{is_down}
 use Rattle.urb_stable.proofs.KeptRules.{kept-held}
-use Rattle.urb_stable.specs.Records.{cert, pend}
+use Rattle.urb_stable.specs.Records.{pend}
 
 -- a packet that arrives among these events is counted in the end
 arrive-among : (events : List Event) (u : World) (packet : Carried) → Sound u → Proceeds u events

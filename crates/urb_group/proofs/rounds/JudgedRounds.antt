@@ -1,7 +1,7 @@
 -- What the worked examples judge to be a round is one.
 use Rattle.std.proofs.Common.{Bool, List, None, Option, Some, [], ap, arith, eqb-true, false}
-use Rattle.std.proofs.Common.{length, ltb-true, nat_lt, not, refl, suc, sym, true, ℕ, ⊎_elim, ◌&&◌}
-use Rattle.std.proofs.Common.{◌*◌, ◌==◌, ◌||◌, ◌∙◌, ◌∷◌, ◌≡◌, ◌≤◌, inl, inr}
+use Rattle.std.proofs.Common.{length, ltb-true, nat_lt, refl, suc, true, ℕ, ⊎_elim, ◌&&◌}
+use Rattle.std.proofs.Common.{◌*◌, ◌==◌, ◌∙◌, ◌∷◌, ◌≡◌, inl, inr}
 use Rattle.std.proofs.lemmas.Bool.{and_parts, false≢true, or_cases}
 use Rattle.std.specs.List.{list_all}
 use Rattle.urb_names.specs.declared.limits.TheConstants.{NAMES_PER_TICK}

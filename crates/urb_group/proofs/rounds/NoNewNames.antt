@@ -1,9 +1,9 @@
 -- No name is new if nothing is submitted: every name that a node knows, also by the record that it
 -- holds, its sender knew already.
-use Rattle.std.proofs.Common.{Bool, Err, List, Ok, Option, Result, [], ap, append-nil, eqb-true}
-use Rattle.std.proofs.Common.{false, if◌then◌else◌, is_some, refl, subst, sym, true, ℕ, ⊎_elim}
-use Rattle.std.proofs.Common.{◌++◌, ◌==◌, ◌∙◌, ◌∷◌, ◌≡◌, ◌⊎◌}
-use Rattle.std.proofs.lemmas.Bool.{cases_Bool, cond-false, false≢true}
+use Rattle.std.proofs.Common.{Err, List, Ok, [], ap, append-nil, eqb-true}
+use Rattle.std.proofs.Common.{false, if◌then◌else◌, is_some, subst, sym, true, ℕ, ⊎_elim}
+use Rattle.std.proofs.Common.{◌++◌, ◌==◌, ◌∙◌, ◌∷◌, ◌≡◌}
+use Rattle.std.proofs.lemmas.Bool.{cases_Bool, cond-false}
 use Rattle.urb_group.proofs.steps.DraftsInSteps.{event_node, step-elsewhere, step-size}
 use Rattle.urb_group.proofs.rounds.StaysCounted.{Arrived, arrive-done, at-node-done, commit-whole}
 use Rattle.urb_group.proofs.rounds.StaysCounted.{node-is, restart-not, took, whole, whole-knows}
@@ -15,18 +15,15 @@ use Rattle.urb_group.proofs.steps.ConfirmedPackets.{borne-pair}
 use Rattle.urb_group.specs.Invariant.{StateKept}
 use Rattle.urb_group.specs.Recovered.{IsDone}
 use Rattle.urb_group.specs.Recovering.{after}
-use Rattle.urb_group.specs.Step.{Arrive, Commit, Crash, Event, Fail, Restart, Submit, Tick, run}
+use Rattle.urb_group.specs.Step.{Arrive, Commit, Event, Restart, Tick, run}
 use Rattle.urb_group.specs.Step.{step}
 use Rattle.urb_group.specs.World.{World, stored, updated}
 use Rattle.urb_names.specs.Carried.{Carried}
 use Rattle.urb_names.specs.Naming.{Content, Label, Limits}
 use Rattle.urb_names.specs.Nodes.{is_node}
 use Rattle.urb_names.specs.Pairs.{has_pair, message_of}
-use Rattle.urb_names.specs.declared.refusal.PacketFault.{PacketFault}
 use Rattle.urb_node.specs.Part.{Down, Node, Ready, State, Storing}
-use Rattle.urb_node.specs.Replies.{Reply}
 use Rattle.urb_node.specs.Steps.{commits, is_down, resends, restarts}
-use Rattle.urb_node.specs.declared.cause.Cause.{Cause}
 use Rattle.urb_stable.proofs.JoinedRecords.{pend-append}
 use Rattle.urb_stable.specs.Entries.{Entry}
 use Rattle.urb_stable.specs.Fitting.{keeps_c}
@@ -101,9 +98,8 @@ module _ (Known : Label → Type 0) where
   cursor-only : (p : ℕ) (node : Node) (c : _) (s : State) (x : Label)
       → knows (settled p (record node { cursor = c }) s).records x ≡ true
       → knows (settled p node s).records x ≡ true
-  cursor-only p node c Ready x h = h
   cursor-only p node c (Storing entry cause) x h = h
-  cursor-only p node c (Down doubtful) x h = h
+  cursor-only p node c s x h = h
 
   arrive-only : (u : World) → Names u → (p : ℕ) (packet : Carried)
       → IsDone (step u (Arrive p (Ok packet))).0 → is_node u.size.n p ≡ true
@@ -128,7 +124,6 @@ module _ (Known : Label → Type 0) where
       → (x : Label) → knows (whole (event_node event)
       ((step u event).1.node (event_node event))).records x ≡ true → Known x
   unfolding step
-  here-only u n (Submit p m) h d is x k = absurd h
   here-only u n (Arrive p (Err fault)) h d is x k = absurd d
   here-only u n (Arrive p (Ok packet)) h d is x k = arrive-only u n p packet d is x k
   here-only u n (Tick p) h d is x k =
@@ -140,12 +135,11 @@ module _ (Known : Label → Type 0) where
       (λ (new : Node). knows (whole p new).records x ≡ true → Known x)
       (λ e l. n.only p is x (subst (λ (node : Node). knows node.records x ≡ true)
       (commit-whole u.size.n p position entry (u.node p) e) l)) d k
-  here-only u n (Fail p) h d is x k = absurd h
-  here-only u n (Crash p) h d is x k = absurd h
   here-only u n (Restart p image) h d is x k =
       at-node-done u p (restarts p image (u.node p) (u.node p).state)
       (λ (new : Node). knows (whole p new).records x ≡ true → Known x)
       (λ e. absurd (restart-not p image (u.node p) (u.node p).state (n.up p is) e)) d k
+  here-only u n event h d is x k = absurd h
 
   step-names : (u : World) → Names u → (event : Event) → IsQuiet event → IsDone (step u event).0
       → Names (step u event).1

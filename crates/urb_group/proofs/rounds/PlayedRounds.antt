@@ -1,5 +1,5 @@
 -- Commands count as what their events count as. So two rounds that are played deliver.
-use Rattle.std.proofs.Common.{List, [], ap, inl, inr, refl, subst, sym, ℕ, ⊎_elim, ◌++◌, ◌∙◌, ◌∷◌}
+use Rattle.std.proofs.Common.{List, [], ap, refl, subst, sym, ⊎_elim, ◌++◌, ◌∙◌, ◌∷◌}
 use Rattle.std.proofs.Common.{◌≡◌}
 use Rattle.urb_group.proofs.rounds.StaysCounted.{run-size}
 use Rattle.urb_group.proofs.rounds.FairRounds.{two-rounds}
@@ -11,7 +11,7 @@ use Rattle.urb_group.specs.Recovering.{after}
 use Rattle.urb_group.specs.Rounds.{Act, AllUp, IsRound, IsRoundAmong, act_of, acts_by, acts_of}
 use Rattle.urb_group.specs.Rounds.{disturbance}
 use Rattle.urb_group.specs.Shown.{GroupView}
-use Rattle.urb_group.specs.Step.{Arrive, Crash, Event, IsReached, Restart, Submit, Tick, run}
+use Rattle.urb_group.specs.Step.{Event, IsReached}
 use Rattle.urb_group.specs.World.{World}
 use Rattle.urb_group.specs.declared.command.Command.{Command}
 use Rattle.urb_group.specs.declared.command.Command.TheVariants as command
@@ -23,25 +23,17 @@ module _ {A : Type 0} where
   -- a command and its event
   same-act : (what : Command A) (event : Event) (reply : Reply) → IsEventOf what event
       → act_of_command what reply ≡ act_of event reply
-  same-act (command.Submit p client number payload) event reply h =
-      ap (λ (e : Event). act_of e reply) (sym h)
-  same-act (command.Arrive p bytes) event reply h = ap (λ (e : Event). act_of e reply) (sym h)
-  same-act (command.Tick p) event reply h = ap (λ (e : Event). act_of e reply) (sym h)
   same-act (command.Store p) event reply h =
       ⊎_elim (λ k. ap (λ (e : Event). act_of e reply) (sym k.2))
       (λ k. ap (λ (e : Event). act_of e reply) (sym k)) h
-  same-act (command.Crash p) event reply h = ap (λ (e : Event). act_of e reply) (sym h)
   same-act (command.Restart p) event reply h = ap (λ (e : Event). act_of e reply) (sym h.1)
+  same-act what event reply h = ap (λ (e : Event). act_of e reply) (sym h)
 
   -- a restart whose store gave no records
   unread-act : (what : Command A) (reply : Reply) → IsUnread what reply
       → act_of_command what reply ≡ []
   unread-act (command.Restart p) reply h = ap disturbance h.1
-  unread-act (command.Submit p client number payload) reply h = absurd h
-  unread-act (command.Arrive p bytes) reply h = absurd h
-  unread-act (command.Tick p) reply h = absurd h
-  unread-act (command.Store p) reply h = absurd h
-  unread-act (command.Crash p) reply h = absurd h
+  unread-act what reply h = absurd h
 
   no-replies : (commands : List (Command A)) → acts_by act_of_command commands [] ≡ []
   no-replies [] = refl

@@ -6,9 +6,9 @@ use Rattle.std.proofs.lemmas.Bool.{cond_both}
 use Rattle.urb_group.proofs.safety.Refusals.{refused-stays, same_nodes}
 use Rattle.urb_group.specs.Recovered.{IsDone}
 use Rattle.urb_group.specs.Recovering.{after}
-use Rattle.urb_group.specs.Rounds.{Act, Arrives, Disturbs, IsUndisturbed, Ticks, act_of, acts_of}
+use Rattle.urb_group.specs.Rounds.{Act, Disturbs, IsUndisturbed, act_of, acts_of}
 use Rattle.urb_group.specs.Rounds.{disturbance}
-use Rattle.urb_group.specs.Step.{Arrive, Commit, Crash, Event, Fail, Restart, Submit, Tick, at_node}
+use Rattle.urb_group.specs.Step.{Arrive, Crash, Event, Fail, Submit, at_node}
 use Rattle.urb_group.specs.Step.{run, step, world_after}
 use Rattle.urb_group.specs.World.{World}
 use Rattle.urb_names.specs.Carried.{Carried}
@@ -17,7 +17,7 @@ use Rattle.urb_names.specs.Nodes.{is_node}
 use Rattle.urb_names.specs.declared.refusal.Refusal.{Refusal}
 use Rattle.urb_names.specs.declared.refusal.Refusal.TheVariants as refusal
 use Rattle.urb_node.specs.Part.{Down, Node, Ready, State, Storing}
-use Rattle.urb_node.specs.Replies.{Drafted, Refused, Reply, Same, Sent, Stored, Up, WentDown}
+use Rattle.urb_node.specs.Replies.{Drafted, Refused, Reply, WentDown}
 use Rattle.urb_node.specs.Replies.{packets_in}
 use Rattle.urb_node.specs.Steps.{crashes, fails, is_down, submits}
 use Rattle.urb_node.proofs.SubmitCases.{submits-cases}
@@ -25,12 +25,9 @@ use Rattle.urb_node.proofs.SubmitCases.{submits-cases}
 -- no submit, no crash and no failed store
 abbrev pub IsQuiet : Event → Type 0
 IsQuiet (Submit p m) = ⊥
-IsQuiet (Arrive p bytes) = Unit {0}
-IsQuiet (Tick p) = Unit {0}
-IsQuiet (Commit p position entry) = Unit {0}
 IsQuiet (Fail p) = ⊥
 IsQuiet (Crash p) = ⊥
-IsQuiet (Restart p image) = Unit {0}
+IsQuiet event = Unit {0}
 
 -- each of these events, one after the other, is quiet and isn't refused
 abbrev pub Proceeds : World → List Event → Type 0
@@ -56,15 +53,13 @@ after-more w event events = refl
 
 undisturbed-first : (xs ys : List Act) → IsUndisturbed (xs ++ ys) → IsUndisturbed xs
 undisturbed-first [] ys h = tt
-undisturbed-first (Ticks p packets ∷ xs) ys h = undisturbed-first xs ys h
-undisturbed-first (Arrives packet answers ∷ xs) ys h = undisturbed-first xs ys h
 undisturbed-first (Disturbs ∷ xs) ys h = absurd h
+undisturbed-first (act ∷ xs) ys h = undisturbed-first xs ys h
 
 undisturbed-rest : (xs ys : List Act) → IsUndisturbed (xs ++ ys) → IsUndisturbed ys
 undisturbed-rest [] ys h = h
-undisturbed-rest (Ticks p packets ∷ xs) ys h = undisturbed-rest xs ys h
-undisturbed-rest (Arrives packet answers ∷ xs) ys h = undisturbed-rest xs ys h
 undisturbed-rest (Disturbs ∷ xs) ys h = absurd h
+undisturbed-rest (act ∷ xs) ys h = undisturbed-rest xs ys h
 
 -- ---- one event
 
@@ -74,14 +69,9 @@ record Idle (w : World) (event : Event) (o : Reply × World) : Type 0 where
   nothing : act_of event o.0 ≡ []
 
 nothing-refused : (event : Event) (r : Refusal) → act_of event (Refused r) ≡ []
-nothing-refused (Submit p m) r = refl
 nothing-refused (Arrive p (Err fault)) r = refl
 nothing-refused (Arrive p (Ok packet)) r = refl
-nothing-refused (Tick p) r = refl
-nothing-refused (Commit p position entry) r = refl
-nothing-refused (Fail p) r = refl
-nothing-refused (Crash p) r = refl
-nothing-refused (Restart p image) r = refl
+nothing-refused event r = refl
 
 refused-idle : (w : World) (event : Event) (r : Refusal) → (step w event).0 ≡ Refused r
     → Idle w event (step w event)
@@ -89,24 +79,15 @@ refused-idle w event r e = record
     { same = refused-stays w event r e; nothing = ap (act_of event) e ∙ nothing-refused event r }
 
 done-or-refused : (reply : Reply) → IsDone reply ⊎ ((r : Refusal) × (reply ≡ Refused r))
-done-or-refused (Drafted x position) = inl tt
-done-or-refused (Same told) = inl tt
-done-or-refused (Stored done) = inl tt
-done-or-refused (Sent packets) = inl tt
-done-or-refused (WentDown p) = inl tt
-done-or-refused (Up p) = inl tt
 done-or-refused (Refused r) = inr (r, refl)
+done-or-refused reply = inl tt
 
 -- ---- a submit, a failed store and a crash
 
 still-nothing : (reply : Reply) → IsUndisturbed (disturbance reply) → disturbance reply ≡ []
 still-nothing (Drafted x position) h = absurd h
-still-nothing (Same told) h = refl
-still-nothing (Stored done) h = refl
-still-nothing (Sent packets) h = refl
 still-nothing (WentDown p) h = absurd h
-still-nothing (Up p) h = refl
-still-nothing (Refused r) h = refl
+still-nothing reply h = refl
 
 -- if it doesn't disturb, the node stays, and nothing is sent
 abbrev Still : Node → Reply × Node → Type 0
@@ -158,16 +139,13 @@ unfolding step
 quiet-or-idle w (Submit p m) u =
     let s = still-world w p (submits w.size p m (w.node p))
     (submit-still w.size p m (w.node p)) u in inl (record { same = s.0; nothing = s.1 })
-quiet-or-idle w (Arrive p bytes) u = quiet-done w (Arrive p bytes) tt
-quiet-or-idle w (Tick p) u = quiet-done w (Tick p) tt
-quiet-or-idle w (Commit p position entry) u = quiet-done w (Commit p position entry) tt
 quiet-or-idle w (Fail p) u =
     let s = still-world w p (fails p (w.node p) (w.node p).state)
     (fail-still p (w.node p) (w.node p).state) u in inl (record { same = s.0; nothing = s.1 })
 quiet-or-idle w (Crash p) u =
     let s = still-world w p (crashes p (w.node p)) (crash-still p (w.node p)) u in
     inl (record { same = s.0; nothing = s.1 })
-quiet-or-idle w (Restart p image) u = quiet-done w (Restart p image) tt
+quiet-or-idle w event u = quiet-done w event tt
 
 -- ---- whole lists
 

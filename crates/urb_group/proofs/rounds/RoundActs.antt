@@ -9,7 +9,7 @@ use Rattle.urb_group.proofs.rounds.TicksAmongEvents.{IsAmong, is_tick_of, resent
 use Rattle.urb_group.specs.Recovered.{IsDone}
 use Rattle.urb_group.specs.Rounds.{Act, DoArrive, DoesArrive, TicksArrive, act_of, acts_of}
 use Rattle.urb_group.specs.Rounds.{arrival_by, disturbance, tick_by, ticks_of}
-use Rattle.urb_group.specs.Step.{Arrive, Commit, Crash, Event, Fail, Restart, Submit, Tick, step}
+use Rattle.urb_group.specs.Step.{Arrive, Event, Tick, step}
 use Rattle.urb_group.specs.World.{World}
 use Rattle.urb_names.specs.Carried.{Carried}
 use Rattle.urb_names.specs.declared.refusal.PacketFault.{PacketFault}
@@ -36,17 +36,12 @@ plus_tick p event count = if is_tick_of p event then suc count else count
 
 ticks-first : (p : ℕ) (w : World) (event : Event) (rest : List Act) → IsDone (step w event).0
     → ticks_of p (act_of event (step w event).0 ++ rest) ≡ plus_tick p event (ticks_of p rest)
-ticks-first p w (Submit q m) rest d = ticks-disturbance p (step w (Submit q m)).0 rest
 ticks-first p w (Arrive q bytes) rest d = ticks-arrival p q bytes (step w (Arrive q bytes)).0 rest
 ticks-first p w (Tick q) rest d =
     subst (λ (o : Reply × World).
     ticks_of p (tick_by q o.0 ++ rest) ≡ plus_tick p (Tick q) (ticks_of p rest))
     (sym (tick-done w q d)) refl
-ticks-first p w (Commit q position entry) rest d =
-    ticks-disturbance p (step w (Commit q position entry)).0 rest
-ticks-first p w (Fail q) rest d = ticks-disturbance p (step w (Fail q)).0 rest
-ticks-first p w (Crash q) rest d = ticks-disturbance p (step w (Crash q)).0 rest
-ticks-first p w (Restart q image) rest d = ticks-disturbance p (step w (Restart q image)).0 rest
+ticks-first p w event rest d = ticks-disturbance p (step w event).0 rest
 
 -- the ticks of p that count are those among the events
 pub ticks-counted : (p : ℕ) (events : List Event) (w : World) → Proceeds w events

@@ -3,7 +3,7 @@
 -- stored.
 use Rattle.std.proofs.Common.{Bool, List, Ok, [], ap, append-nil, append_assoc, arith, eq-eqb}
 use Rattle.std.proofs.Common.{false, if◌then◌else◌, inl, inr, length, refl, subst, suc, sym, true}
-use Rattle.std.proofs.Common.{zero, ℕ, ⊎_elim, ◌&&◌, ◌+◌, ◌++◌, ◌==◌, ◌∙◌, ◌∷◌, ◌≡◌, ◌≤◌, ◌⊎◌}
+use Rattle.std.proofs.Common.{zero, ℕ, ⊎_elim, ◌&&◌, ◌+◌, ◌++◌, ◌==◌, ◌∙◌, ◌∷◌, ◌≡◌, ◌≤◌}
 use Rattle.std.proofs.lemmas.Bool.{cond-false, cond-true, cond_both}
 use Rattle.std.specs.List.{AllByRecursion}
 use Rattle.urb_group.proofs.rounds.ActLists.{acts-append, goes-proceeds, packets-append}
@@ -32,7 +32,7 @@ use Rattle.urb_group.specs.Recovering.{readied, receipt_of, stores}
 use Rattle.urb_group.specs.Rounds.{Act, Arrives, Disturbs, DoesArrive, IsRound, IsRoundAmong}
 use Rattle.urb_group.specs.Rounds.{Ticks as Ticking, TicksArrive, act_of, acts_of, arrival_by}
 use Rattle.urb_group.specs.Rounds.{taken, tick_by, ticks_of}
-use Rattle.urb_group.specs.Step.{Arrive, Commit, Crash, Event, Fail, IsReached, Restart, Submit}
+use Rattle.urb_group.specs.Step.{Arrive, Event, IsReached}
 use Rattle.urb_group.specs.Step.{Tick, run, step, world_after}
 use Rattle.urb_group.specs.World.{World, stored}
 use Rattle.urb_names.proofs.SentPairs.{all_append}
@@ -268,13 +268,8 @@ all-do (other ∷ packets) w packet goes h =
 -- ---- lists without ticks
 
 abbrev IsNoTick : Event → Type 0
-IsNoTick (Submit q m) = Unit {0}
-IsNoTick (Arrive q bytes) = Unit {0}
 IsNoTick (Tick q) = ⊥
-IsNoTick (Commit q position entry) = Unit {0}
-IsNoTick (Fail q) = Unit {0}
-IsNoTick (Crash q) = Unit {0}
-IsNoTick (Restart q image) = Unit {0}
+IsNoTick event = Unit {0}
 
 receipt-no_tick : (p : ℕ) (node : Node) (s : State) → AllByRecursion IsNoTick (receipt_of p node s)
 receipt-no_tick p node Ready = tt

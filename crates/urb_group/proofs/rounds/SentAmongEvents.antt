@@ -1,7 +1,7 @@
 -- Ticks among other events. What a node had pending is sent to another node if it stays unheard
 -- there. So whatever follows from sending it holds.
-use Rattle.std.proofs.Common.{List, Option, Some, [], ap, arith, eq-eqb, false, filter, flat_map}
-use Rattle.std.proofs.Common.{inl, inr, length, not, refl, subst, suc, sym, true, ℕ, ⊎_elim, ◌*◌}
+use Rattle.std.proofs.Common.{List, Option, [], ap, arith, eq-eqb, false}
+use Rattle.std.proofs.Common.{inl, inr, length, refl, subst, suc, sym, true, ℕ, ⊎_elim, ◌*◌}
 use Rattle.std.proofs.Common.{◌++◌, ◌<◌, ◌==◌, ◌∙◌, ◌∷◌, ◌≡◌, ◌≤◌, ◌⊎◌}
 use Rattle.std.proofs.lemmas.Bool.{cases_Bool, cond-false, cond-true, cond_both, false≢true}
 use Rattle.std.specs.List.{AllByRecursion}
@@ -14,12 +14,12 @@ use Rattle.urb_group.proofs.ticks.DuePairs.{rises-records, rises-rising}
 use Rattle.urb_group.proofs.steps.Growth.{pair-begins, run-goes_on}
 use Rattle.urb_group.proofs.rounds.TicksAmongEvents.{AreAmong, dues_among, is_tick_of, resent_in}
 use Rattle.urb_group.proofs.rounds.TicksAmongEvents.{ticks_among}
-use Rattle.urb_group.proofs.recovery.NodeLists.{in-others}
+use Rattle.urb_group.proofs.recovery.NodeLists.{in-others, packet-in, packet_to}
 use Rattle.urb_group.proofs.recovery.WorldsGoOn.{Sound, run-sound}
 use Rattle.urb_group.proofs.ticks.PassedPairs.{Nearer}
 use Rattle.urb_group.proofs.rounds.Proceeding.{Proceeds, after-more}
 use Rattle.urb_group.proofs.recovery.CountedArrivals.{settled}
-use Rattle.urb_group.proofs.ticks.Membership.{IsIn, all-in, in-filter, in-flat_map, in-map}
+use Rattle.urb_group.proofs.ticks.Membership.{IsIn, all-in}
 use Rattle.urb_group.proofs.ticks.Membership.{in-pairs}
 use Rattle.urb_group.proofs.rounds.StayingUp.{run-hears, step-stays, tick-done, tick-node, tick-of}
 use Rattle.urb_group.proofs.rounds.StayingUp.{tick-ready}
@@ -29,31 +29,19 @@ use Rattle.urb_group.specs.Resends.{IsDueAmong, cursor_next}
 use Rattle.urb_group.specs.Step.{Event, Tick, run, step}
 use Rattle.urb_group.specs.World.{World, stored}
 use Rattle.urb_names.specs.Acknowledged.{acked}
-use Rattle.urb_names.specs.Carried.{Carried, due_of, is_due, others, to_unheard}
+use Rattle.urb_names.specs.Carried.{due_of, is_due}
 use Rattle.urb_names.specs.Cyclic.{are_rising, cyclic, resent, rising}
-use Rattle.urb_names.specs.Names.{has_name}
 use Rattle.urb_names.specs.Naming.{Content, Label, Limits}
 use Rattle.urb_names.specs.Nodes.{is_node}
 use Rattle.urb_names.specs.Pairs.{has_pair}
 use Rattle.urb_node.specs.Part.{Node, Ready}
 use Rattle.urb_node.specs.Replies.{Reply}
 use Rattle.urb_node.specs.Steps.{is_down}
-use Rattle.urb_stable.specs.Records.{cert, pend}
+use Rattle.urb_stable.specs.Records.{pend}
 use Rattle.urb_group.proofs.recovery.EventPlans.{after-one}
 
 abbrev Pairs : Type 0
 Pairs = List (Label × Content)
-
--- the packet of the pair that a tick of p in this world sends to q
-abbrev pub packet_to : World → ℕ → ℕ → Label → Content → Carried
-packet_to w p q x m = record {
-  source = p;
-  target = q;
-  name = x;
-  message = m;
-  flags =
-      Some (record { certified = has_name (cert (stored w p)) x; heard = false });
-}
 
 -- p ticks, and sends the pair to q, among events that proceed
 pub record Sends (p q : ℕ) (x : Label) (m : Content) (w : World)
@@ -114,19 +102,6 @@ module _ (all : Pairs) (rises : are_rising all ≡ true) (p q : ℕ) (x : Label)
             (subst (λ (node : Node). has_pair (pend node.records) x m ≡ true)
             (ap (settled p (w.node p)) ready) b.held));
       }
-
-  -- the packet of a pair that is resent
-  packet-in : (w : World) → acked (w.node p).heard x q ≡ false → is_node w.size.n q ≡ true
-      → (pairs : Pairs) → IsIn (x, m) pairs
-      → IsIn (packet_to w p q x m) (flat_map
-      (to_unheard w.size.n p (cert (w.node p).records) (w.node p).heard) pairs)
-  packet-in w unheard there pairs h =
-      in-flat_map (to_unheard w.size.n p (cert (w.node p).records) (w.node p).heard) (x, m) pairs
-      (packet_to w p q x m) h
-      (in-map (λ i. packet_to w p i x m) q
-      (filter (λ i. not (acked (w.node p).heard x i)) (others w.size.n p))
-      (in-filter (λ i. not (acked (w.node p).heard x i)) q (others w.size.n p) (ap not unheard)
-      (in-others w.size.n p q there other)))
 
   -- what still holds after the first event
   next : (w : World) (event : Event) (events : List Event) → Begun w (event ∷ events)
@@ -191,7 +166,7 @@ module _ (all : Pairs) (rises : are_rising all ≡ true) (p q : ℕ) (x : Label)
               sent =
                   subst (λ (o : Reply × World). IsIn (packet_to w p q x m) (resent_in o.0))
                   (sym (tick-done w p done))
-                  (packet-in w (unheard-now w (Tick p ∷ events) b) b.there
+                  (packet-in w p q x m other (unheard-now w (Tick p ∷ events) b) b.there
                   (resent (w.node p).cursor due) i);
             })
 

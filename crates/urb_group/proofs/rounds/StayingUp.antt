@@ -2,14 +2,14 @@
 -- still has heard what it heard. Its cursor stays, except at its own ticks.
 use Rattle.std.proofs.Common.{List, [], None, Option, Some, ap, eq-eqb, eqb-true, false, is_none}
 use Rattle.std.proofs.Common.{not, refl, subst, sym, true, ℕ, ⊎_elim, ◌==◌, ◌||◌, ◌∙◌, ◌∷◌, ◌≡◌}
-use Rattle.std.proofs.lemmas.Bool.{cases_Bool, cond_both, false≢true, or_right}
+use Rattle.std.proofs.lemmas.Bool.{cases_Bool, cond_both, false≢true}
 use Rattle.urb_group.proofs.steps.DraftsInSteps.{event_node, step-each}
 use Rattle.urb_group.proofs.rounds.TicksAmongEvents.{is_tick_of}
 use Rattle.urb_group.proofs.rounds.Proceeding.{IsQuiet, Proceeds}
 use Rattle.urb_group.specs.Recovered.{IsDone}
 use Rattle.urb_group.proofs.steps.OneNodeStep.{updated-at}
 use Rattle.urb_group.specs.Recovering.{after}
-use Rattle.urb_group.specs.Step.{Arrive, Commit, Crash, Event, Fail, Restart, Submit, Tick, run}
+use Rattle.urb_group.specs.Step.{Event, Tick, run}
 use Rattle.urb_group.specs.Step.{step, world_after}
 use Rattle.urb_group.specs.World.{World}
 use Rattle.urb_names.specs.Acknowledged.{acked, with_ack}
@@ -29,6 +29,7 @@ use Rattle.urb_stable.specs.Records.{cert, pend}
 use Rattle.urb_stable.specs.declared.record.Record.TheVariants.{Cert, Pend, PendCert}
 use Rattle.urb_group.proofs.steps.StepCases.{OutcomeCases, node_of, outcome-cases, step-cases}
 use Rattle.urb_group.proofs.steps.StepCases.{step-here, ticks-cases}
+use Rattle.urb_group.proofs.hearing.CountedNodes.{acked-stays}
 
 -- what is kept
 pub record Stays (old new : Node) : Type 0 where
@@ -39,12 +40,6 @@ pub record Stays (old new : Node) : Type 0 where
 still : (node : Node) → is_down node.state ≡ false → Stays node node
 still node e = record { cursor = refl; up = e; heard = λ x q h. h }
 
-more_heard : (heard : List (Label × ℕ)) (y : Label) (z : ℕ) (x : Label) (q : ℕ)
-    → acked heard x q ≡ true → acked (with_ack heard y z) x q ≡ true
-more_heard heard y z x q h =
-    cond_both (acked heard y z) heard ((y, z) ∷ heard) (λ acks. acked acks x q ≡ true) (λ _. h)
-    (λ _. or_right _ (acked heard x q) h)
-
 -- ---- an arrival
 
 module _ (node : Node) (e : is_down node.state ≡ false) where
@@ -54,7 +49,7 @@ module _ (node : Node) (e : is_down node.state ≡ false) where
   hears-stays : (q : ℕ) (x : Label) (flags : Option Flags) → Stays node (hears q x flags node)
   hears-stays q x flags =
       cond_both (says_certified flags) _ _ (Stays node)
-      (λ _. record { cursor = refl; up = e; heard = λ y z h. more_heard node.heard x q y z h })
+      (λ _. record { cursor = refl; up = e; heard = λ y z h. acked-stays node.heard x q y z h })
       (λ _. still node e)
 
   counts-stays : (size : Limits) (q : ℕ) (x : Label) (flags : Option Flags) (told : Node)
@@ -87,7 +82,7 @@ module _ (node : Node) (e : is_down node.state ≡ false) where
   heard_more : (x : Label) (o : Option ℕ) (y : Label) (z : ℕ) → acked node.heard y z ≡ true
       → acked (with_heard node.heard x o) y z ≡ true
   heard_more x None y z h = h
-  heard_more x (Some q) y z h = more_heard node.heard x q y z h
+  heard_more x (Some q) y z h = acked-stays node.heard x q y z h
 
   record_more : (entry : Entry) (cause : Option Cause) (y : Label) (z : ℕ)
       → acked node.heard y z ≡ true → acked (heard_after entry cause node.heard) y z ≡ true
@@ -175,13 +170,8 @@ tick-node w p h =
     ∙ updated-at w.node p (resends w.size.n p (w.node p)).1
 
 pub tick-of : (p : ℕ) (event : Event) → is_tick_of p event ≡ true → event ≡ Tick p
-tick-of p (Submit q m) h = absurd (false≢true h)
-tick-of p (Arrive q bytes) h = absurd (false≢true h)
 tick-of p (Tick q) h = ap Tick (eqb-true q p h)
-tick-of p (Commit q position entry) h = absurd (false≢true h)
-tick-of p (Fail q) h = absurd (false≢true h)
-tick-of p (Crash q) h = absurd (false≢true h)
-tick-of p (Restart q image) h = absurd (false≢true h)
+tick-of p event h = absurd (false≢true h)
 
 -- ---- whole lists of events
 

@@ -13,7 +13,7 @@ use Rattle.urb_group.proofs.rounds.TicksAmongEvents.{IsCountedAt}
 use Rattle.urb_group.proofs.rounds.Proceeding.{IsQuiet, Proceeds}
 use Rattle.urb_group.specs.Recovered.{IsDone}
 use Rattle.urb_group.specs.Recovering.{after}
-use Rattle.urb_group.specs.Step.{Arrive, Commit, Crash, Event, Fail, Restart, Submit, Tick, at_node}
+use Rattle.urb_group.specs.Step.{Arrive, Commit, Event, Restart, Tick, at_node}
 use Rattle.urb_group.specs.Step.{is_for, packet_arrives, run, step, world_after}
 use Rattle.urb_group.specs.World.{World, stored, truthful}
 use Rattle.urb_names.proofs.FoundPairs.{some_found}
@@ -207,7 +207,6 @@ here-further : (w : World) → Sound w → (event : Event) → IsQuiet event →
     → Further w.size.n (whole (event_node event) (w.node (event_node event)))
     (whole (event_node event) ((step w event).1.node (event_node event)))
 unfolding step
-here-further w sound (Submit p m) h d up = absurd h
 here-further w sound (Arrive p (Err fault)) h d up = absurd d
 here-further w sound (Arrive p (Ok packet)) h d up = arrive-further w sound p packet d
 here-further w sound (Tick p) h d up =
@@ -218,12 +217,11 @@ here-further w sound (Commit p position entry) h d up =
     at-node-done w p (commits w.size.n p position entry (w.node p) (w.node p).state)
     (λ (new : Node). Further w.size.n (whole p (w.node p)) (whole p new))
     (λ k. commit-further w.size.n p position entry (w.node p) k) d
-here-further w sound (Fail p) h d up = absurd h
-here-further w sound (Crash p) h d up = absurd h
 here-further w sound (Restart p image) h d up =
     at-node-done w p (restarts p image (w.node p) (w.node p).state)
     (λ (new : Node). Further w.size.n (whole p (w.node p)) (whole p new))
     (λ k. absurd (restart-not p image (w.node p) (w.node p).state up k)) d
+here-further w sound event h d up = absurd h
 
 pub step-further : (w : World) → Sound w → (event : Event) (p : ℕ) → IsQuiet event
     → IsDone (step w event).0 → is_down (w.node p).state ≡ false

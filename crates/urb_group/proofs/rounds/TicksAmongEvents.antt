@@ -1,8 +1,8 @@
 -- Words for lists of events in which a node ticks among other events.
-use Rattle.std.specs.Prelude.{Bool, List, Ok, [], false, if◌then◌else◌, is_some, suc, ℕ, ◌==◌, ◌∷◌}
+use Rattle.std.specs.Prelude.{Bool, List, [], false, if◌then◌else◌, is_some, suc, ℕ, ◌==◌, ◌∷◌}
 use Rattle.std.specs.Prelude.{◌≡◌, ◌⊎◌, true}
 use Rattle.std.specs.List.{AllByRecursion}
-use Rattle.urb_group.specs.Step.{Arrive, Commit, Crash, Event, Fail, Restart, Submit, Tick, step}
+use Rattle.urb_group.specs.Step.{Event, Tick, step}
 use Rattle.urb_group.specs.World.{World, stored}
 use Rattle.urb_names.specs.Acknowledged.{acked}
 use Rattle.urb_names.specs.Carried.{Carried, due_of}
@@ -11,18 +11,13 @@ use Rattle.urb_names.specs.Names.{has_name}
 use Rattle.urb_names.specs.Naming.{Content, Label}
 use Rattle.urb_names.specs.Nodes.{majority_passes}
 use Rattle.urb_names.specs.Pairs.{has_pair, message_of}
-use Rattle.urb_node.specs.Replies.{Drafted, Refused, Reply, Same, Sent, Stored, Up, WentDown}
+use Rattle.urb_node.specs.Replies.{Reply, Sent}
 use Rattle.urb_stable.specs.Records.{cert, pend}
 
 -- whether the event is a tick of node p
 abbrev pub is_tick_of : ℕ → Event → Bool
-is_tick_of p (Submit q m) = false
-is_tick_of p (Arrive q bytes) = false
 is_tick_of p (Tick q) = q == p
-is_tick_of p (Commit q position entry) = false
-is_tick_of p (Fail q) = false
-is_tick_of p (Crash q) = false
-is_tick_of p (Restart q image) = false
+is_tick_of p event = false
 
 -- how often node p ticks among these events
 abbrev pub ticks_among : ℕ → List Event → ℕ
@@ -57,20 +52,10 @@ IsAmong event (other ∷ events) = (other ≡ event) ⊎ IsAmong event events
 
 -- the packets that a tick hands out, by its reply
 abbrev pub resent_in : Reply → List Carried
-resent_in (Drafted x position) = []
-resent_in (Same told) = []
-resent_in (Stored done) = []
 resent_in (Sent packets) = packets
-resent_in (WentDown p) = []
-resent_in (Up p) = []
-resent_in (Refused refusal) = []
+resent_in reply = []
 
 -- the same, if the event is a tick
 abbrev pub resent_by : Event → Reply → List Carried
-resent_by (Submit q m) reply = []
-resent_by (Arrive q bytes) reply = []
 resent_by (Tick q) reply = resent_in reply
-resent_by (Commit q position entry) reply = []
-resent_by (Fail q) reply = []
-resent_by (Crash q) reply = []
-resent_by (Restart q image) reply = []
+resent_by event reply = []

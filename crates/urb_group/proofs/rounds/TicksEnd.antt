@@ -2,7 +2,7 @@
 -- answers make certificates heard, and no name is due any more.
 use Rattle.std.proofs.Common.{Bool, Err, List, None, Ok, Option, Some, [], ap, false, filter}
 use Rattle.std.proofs.Common.{flat_map, inl, inr, is_none, is_some, length, not, refl, subst, sym}
-use Rattle.std.proofs.Common.{true, ℕ, ⊎_elim, ◌&&◌, ◌*◌, ◌++◌, ◌==◌, ◌∙◌, ◌∷◌, ◌≡◌, ◌≤◌, ◌⊎◌}
+use Rattle.std.proofs.Common.{true, ℕ, ⊎_elim, ◌&&◌, ◌*◌, ◌++◌, ◌==◌, ◌∙◌, ◌∷◌, ◌≡◌, ◌≤◌}
 use Rattle.std.proofs.lemmas.Bool.{and_from, cases_Bool, cond-false, cond_both, false≢true, or_from}
 use Rattle.std.specs.List.{list_any}
 use Rattle.urb_names.specs.declared.limits.TheConstants.{NAMES_PER_TICK}
@@ -11,7 +11,8 @@ use Rattle.urb_group.proofs.recovery.CertifiedNames.{AllCertified}
 use Rattle.urb_group.proofs.rounds.FairRounds.{two-rounds-certify}
 use Rattle.urb_group.proofs.steps.DraftsInSteps.{event_node, step-size, step-each}
 use Rattle.urb_group.proofs.rounds.StaysCounted.{arrive-done, at-node-done, restart-not, run-size}
-use Rattle.urb_group.proofs.rounds.SentAmongEvents.{Comes, Sends, comes-about, packet_to}
+use Rattle.urb_group.proofs.recovery.NodeLists.{packet_to}
+use Rattle.urb_group.proofs.rounds.SentAmongEvents.{Comes, Sends, comes-about}
 use Rattle.urb_group.proofs.rounds.TicksAmongEvents.{IsAmong, resent_in, resent_by}
 use Rattle.urb_group.proofs.ticks.DueInTurn.{in-has}
 use Rattle.urb_group.proofs.ticks.DuePairs.{has_pair-rising}
@@ -29,7 +30,7 @@ use Rattle.urb_group.specs.Recovering.{after}
 use Rattle.urb_group.specs.Rounds.{Act, AnswersArrive, Arrives, Disturbs, AllUp, IsRound}
 use Rattle.urb_group.specs.Rounds.{IsRoundAmong, IsUndisturbed, NoneDue, Ticks, TicksAreSilent}
 use Rattle.urb_group.specs.Rounds.{act_of, acts_of, arrival_by}
-use Rattle.urb_group.specs.Step.{Arrive, Commit, Crash, Event, Fail, IsReached, Restart, Submit}
+use Rattle.urb_group.specs.Step.{Arrive, Commit, Event, IsReached, Restart}
 use Rattle.urb_group.specs.Step.{Tick, run, step}
 use Rattle.urb_group.specs.World.{World, stored}
 use Rattle.urb_names.specs.Acknowledged.{acked}
@@ -43,7 +44,6 @@ use Rattle.urb_names.specs.declared.flags.Flags.{Flags}
 use Rattle.urb_node.specs.Part.{Down, Node, Ready, State, Storing}
 use Rattle.urb_node.specs.Replies.{Reply, Same}
 use Rattle.urb_node.specs.Steps.{answers, arrives, commits, hears, is_down, reply_to, restarts}
-use Rattle.urb_node.specs.Steps.{ticks}
 use Rattle.urb_node.specs.declared.answer.Answer.TheVariants.{Answered}
 use Rattle.urb_stable.proofs.KeptRules.{kept-held}
 use Rattle.urb_stable.specs.Entries.{Entry}
@@ -169,7 +169,6 @@ module _ (w : World) (c : AllCertified w) where
       → is_node w.size.n (event_node event) ≡ true
       → Rests (w.node (event_node event)) ((step w event).1.node (event_node event))
   unfolding step
-  here-rests (Submit p m) q d is = absurd q
   here-rests (Arrive p (Err fault)) q d is = absurd d
   here-rests (Arrive p (Ok packet)) q d is = (arrive-answers p packet is d).rests
   here-rests (Tick p) q d is =
@@ -178,12 +177,11 @@ module _ (w : World) (c : AllCertified w) where
       at-node-done w p (commits w.size.n p position entry (w.node p) (w.node p).state)
       (Rests (w.node p)) (λ k. absurd
       (commit-not p position entry (w.node p).state (c.ready p is) k)) d
-  here-rests (Fail p) q d is = absurd q
-  here-rests (Crash p) q d is = absurd q
   here-rests (Restart p image) q d is =
       at-node-done w p (restarts p image (w.node p) (w.node p).state) (Rests (w.node p))
       (λ k. absurd (restart-not p image (w.node p) (w.node p).state (ap is_down (c.ready p is)) k))
       d
+  here-rests event q d is = absurd q
 
   -- each node's records and state stay
   step-rests : (event : Event) → IsQuiet event → IsDone (step w event).0 → (p : ℕ)

@@ -20,12 +20,12 @@ pub was_read : {X : Type 0} (xs : List X) (i n : ℕ) (x : X) → length xs ≡ 
 was_read xs i n x e low at =
     let within : i < length xs = omega (arith, e) in slice_get_read _ _ _ _ refl within at
 
-module _ {A : Type 0} (size : Limits) (places : List (Place A)) (group : IsGroup size places)
-    (T : Type 0) (of_node : Node → Option T) where
-  pub answered : (i p : ℕ) (node : Place A) (value : Option T) → node ≡ slice_index_or places i node
+module _ {A : Type 0} {size : Limits} {places : List (Place A)} (group : IsGroup size places)
+    {T : Type 0} (of_node : Node → Option T) where
+  pub answered : {i p : ℕ} (node : Place A) (value : Option T) → node ≡ slice_index_or places i node
       → i < size.n → p ≡ suc i → ((n : Node) → ShowsAt node n → value ≡ of_node n)
       → Answers (λ w. of_node (w.node p)) (shown size places) p value
-  answered i p node value at low own says =
+  answered {i = i} {p = p} node value at low own says =
       subst (λ (p : ℕ). Answers (λ w. of_node (w.node p)) (shown size places) p value) (sym own)
       (λ w s.
       says (w.node (suc i)) (place_shows size places group i node node

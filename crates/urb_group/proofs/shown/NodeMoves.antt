@@ -13,6 +13,7 @@ use Rattle.urb_node.specs.Part.{Node, Storing}
 use Rattle.urb_node.specs.Replies.{Reply}
 use Rattle.urb_node.specs.Shown.{NodeView, ShowsNode, no_view}
 use Rattle.urb_node.specs.Values.{IsSameNode}
+use Rattle.urb_group.specs.Delivering.{event_node}
 use Rattle.urb_group.specs.Calls.{Happens, HoldsDraft, IsRefused, Steps}
 use Rattle.urb_group.specs.Moving.{IsHeldAt, Leads, LeadsAt, Outcomes, Told}
 use Rattle.urb_group.specs.Places.{IsGroup, IsNumbered, ShowsAt, memory_in, shown, view_at}
@@ -23,6 +24,7 @@ use Rattle.urb_group.specs.declared.node_moves.Node.{Node as Place}
 use Rattle.urb_group.specs.declared.node_moves.Node.TheVariants as place
 use Rattle.urb_group.proofs.shown.ShownWorldsAgree.{sound-kept, sound-step}
 use Rattle.urb_group.proofs.steps.Growth.{step-goes_on}
+use Rattle.urb_group.proofs.steps.StepCases.{IsNoArrival, outcome_of, step-outcome}
 use Rattle.urb_group.proofs.shown.ReplacedElements.{read_after_write, read_mapped, read_within}
 use Rattle.urb_group.proofs.shown.ReplacedElements.{set_same}
 use Rattle.urb_group.proofs.steps.Runs.{step-keeps}
@@ -47,13 +49,13 @@ happens old new event IsTold w sound s t n =
     }
 
 -- an event at a node that the group doesn't have is refused
-pub nowhere : {A : Type 0} (size : Limits) (places : List (Place A)) (p : ℕ) (event : Event)
-    (outcome : World → Reply × Node) → size.n < p
-    → ((w : World) → step w event ≡ at_node w p (outcome w))
+pub nowhere : {A : Type 0} (size : Limits) (places : List (Place A)) (event : Event)
+    → IsNoArrival event → size.n < event_node event
     → IsRefused (shown size places) event refusal.BadNode (shown size places)
-nowhere size places p event outcome past is = (
+nowhere size places event other past = (
   λ w s. ap (λ (o : Reply × World). o.0)
-      (is w ∙ at_no_node w p (outcome w) (subst (λ (l : Limits). l.n < p) s.size past)),
+      (step-outcome w event other ∙ at_no_node w (event_node event) (outcome_of w event)
+      (subst (λ (l : Limits). l.n < event_node event) s.size past)),
   refl,
 )
 
@@ -95,11 +97,11 @@ module _ {A : Type 0} (size : Limits) (places : List (Place A)) (group : IsGroup
   module _ (event : Event) (outcome : Outcomes)
       (is : (w : World) → Shows (shown size places) w
       → step w event ≡ at_node w (suc i) (outcome w.size (suc i) (w.node (suc i)))) where
-    abbrev outcome_of : World → Reply × Node
-    outcome_of w = outcome w.size (suc i) (w.node (suc i))
+    abbrev outcome_in : World → Reply × Node
+    outcome_in w = outcome w.size (suc i) (w.node (suc i))
 
     leads_in : (told : Told) → LeadsAt outcome node told moved → (w : World)
-        → Shows (shown size places) w → Leads (outcome_of w) node told moved
+        → Shows (shown size places) w → Leads (outcome_in w) node told moved
     leads_in told leads w s =
         subst (λ (l : Limits). Leads (outcome l (suc i) (w.node (suc i))) node told moved)
         (numbered.limits ∙ s.size)
@@ -107,9 +109,9 @@ module _ {A : Type 0} (size : Limits) (places : List (Place A)) (group : IsGroup
         node told moved) numbered.number (leads (w.node (suc i)) (place_shows w s)))
 
     step_is : (w : World) → Shows (shown size places) w
-        → step w event ≡ world_after w (suc i) (outcome_of w)
+        → step w event ≡ world_after w (suc i) (outcome_in w)
     step_is w s =
-        is w s ∙ at_some_node w i (outcome_of w) (subst (λ (l : Limits). i < l.n) s.size below)
+        is w s ∙ at_some_node w i (outcome_in w) (subst (λ (l : Limits). i < l.n) s.size below)
 
     same_node : (told : Told) → LeadsAt outcome node told moved
         → IsSameNode (memory_in node) (memory_in moved)
@@ -132,7 +134,7 @@ module _ {A : Type 0} (size : Limits) (places : List (Place A)) (group : IsGroup
     shows_after reply leads w s =
         let l = leads_in (Ok reply) leads w s in
         subst (λ (o : Reply × World). Shows (shown size (set places i moved)) o.1)
-        (sym (step_is w s)) (moved_shows w (outcome_of w) s l.same l.shows)
+        (sym (step_is w s)) (moved_shows w (outcome_in w) s l.same l.shows)
 
     pub lifted : (told : Told) → LeadsAt outcome node told moved
         → StepsTo (shown size places) event told (shown size (set places i moved))

@@ -1,11 +1,12 @@
 -- What one world of a group keeps, each world that the group shows keeps. A step keeps a group
 -- sound.
-use Rattle.std.proofs.Common.{Bool, List, None, Option, Some, [], ap, ap₂, cond, false, is_none}
+use Rattle.std.proofs.Common.{Bool, List, None, Some, [], ap, ap₂, cond, false, is_none}
 use Rattle.std.proofs.Common.{is_some, not, refl, subst, suc, sym, true, ℕ, ⊎_elim, ◌&&◌, ◌++◌}
 use Rattle.std.proofs.Common.{◌==◌, ◌∙◌, ◌∷◌, ◌≡◌}
+use Rattle.urb_group.proofs.steps.OneNodeStep.{caused-grows}
 use Rattle.urb_group.proofs.steps.Runs.{step-keeps}
 use Rattle.urb_group.proofs.steps.ShortPayloads.{step-short}
-use Rattle.urb_group.specs.Invariant.{DoubtShort, IsCaused, IsKept, MayJoin, NodeKept, NodeShort}
+use Rattle.urb_group.specs.Invariant.{DoubtShort, IsKept, MayJoin, NodeKept, NodeShort}
 use Rattle.urb_group.specs.Invariant.{StateKept}
 use Rattle.urb_group.specs.Shown.{GroupView, IsSound, Shows}
 use Rattle.urb_group.specs.Step.{Event, step}
@@ -28,7 +29,6 @@ use Rattle.urb_stable.specs.Fitting.{KeepsOwn, Kept, Rules, held_by_majority, in
 use Rattle.urb_stable.specs.Fitting.{known_held}
 use Rattle.urb_stable.specs.Records.{cert, pend}
 use Rattle.urb_stable.specs.declared.record.Record.TheVariants.{Cert, Pend, PendCert}
-use Rattle.urb_node.specs.declared.cause.Cause.{Cause}
 
 -- the two don't differ in what a group holds in memory
 pub record Alike (size : Limits) (p : ℕ) (a b : Node) : Type 0 where
@@ -147,14 +147,8 @@ module _ (size : Limits) (node new : ℕ → Node) (alike : (p : ℕ) → Alike 
   state-same : (p : ℕ) (s : State) → StateKept size old_images p (old_images p) s
       → StateKept size new_images p (new_images p) s
   state-same p Ready h = tt
-  state-same p (Storing r cause) h = (joins p r h.0, caused r cause h.1)
-    where
-      caused : (r : Entry) (cause : Option Cause) → IsCaused old_images r cause
-          → IsCaused new_images r cause
-      caused r None h = tt
-      caused (Pend x m) (Some cause) h = grows cause.source x m h
-      caused (PendCert x m) (Some cause) h = grows cause.source x m h
-      caused (Cert x) (Some cause) h = tt
+  state-same p (Storing r cause) h =
+      (joins p r h.0, caused-grows old_images new_images r cause grows h.1)
   state-same p (Down None) h = tt
   state-same p (Down (Some r)) h = joins p r h
 

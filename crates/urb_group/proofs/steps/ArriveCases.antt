@@ -1,6 +1,6 @@
 -- The cases of an arrival at a ready node, whatever was counted and heard before.
-use Rattle.std.proofs.Common.{Bool, List, None, Option, Some, false, is_none, not, true, ℕ, ◌==◌}
-use Rattle.std.proofs.Common.{◌||◌, ◌≡◌}
+use Rattle.std.proofs.Common.{List, None, Option, Some, is_none, not, ℕ, ◌==◌}
+use Rattle.std.proofs.Common.{◌||◌}
 use Rattle.std.proofs.lemmas.Bool.{cond_both}
 use Rattle.urb_names.specs.Acknowledged.{acked, with_ack}
 use Rattle.urb_names.specs.Carried.{Carried, says_certified}

@@ -9,7 +9,7 @@ use Rattle.urb_group.specs.World.{World}
 use Rattle.urb_names.specs.Nodes.{is_node}
 use Rattle.urb_names.specs.declared.refusal.Refusal.{Refusal}
 use Rattle.urb_node.specs.Part.{Node}
-use Rattle.urb_node.specs.Replies.{Drafted, Refused, Reply, Same, Sent, Stored, Up, WentDown}
+use Rattle.urb_node.specs.Replies.{Drafted, Refused, Reply, Same, Sent}
 use Rattle.urb_node.specs.Steps.{is_storing}
 use Rattle.urb_group.proofs.steps.StepCases.{OutcomeCases, node_of, outcome-cases, outcome_of}
 use Rattle.urb_group.proofs.steps.StepCases.{step-cases, step-here}
@@ -57,11 +57,9 @@ step-at w event =
 abbrev pub CalmAs : Reply → Bool → Bool → Type 0
 CalmAs (Drafted x position) before after = Unit {0}
 CalmAs (Same answer) before after = (before ≡ false) × (after ≡ false)
-CalmAs (Stored done) before after = after ≡ false
 CalmAs (Sent packets) before after = (before ≡ false) × (after ≡ false)
-CalmAs (WentDown p) before after = after ≡ false
-CalmAs (Up p) before after = after ≡ false
 CalmAs (Refused r) before after = Unit {0}
+CalmAs reply before after = after ≡ false
 
 abbrev Calm : Node → Reply × Node → Type 0
 Calm node outcome = CalmAs outcome.0 (is_storing node.state) (is_storing outcome.1.state)

@@ -47,7 +47,7 @@ may_join-grows size old new p records r g h =
     (updated new p (records ++ r ∷ [])) p records r
     (updated-grows old new p (records ++ r ∷ []) g) h
 
-caused-grows : (old new : ℕ → List Entry) (r : Entry) (cause : Option Cause) → Grows old new
+pub caused-grows : (old new : ℕ → List Entry) (r : Entry) (cause : Option Cause) → Grows old new
     → IsCaused old r cause → IsCaused new r cause
 caused-grows old new r None g h = tt
 caused-grows old new (Pend x m) (Some cause) g h = g cause.source x m h

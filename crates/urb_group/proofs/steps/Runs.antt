@@ -188,12 +188,12 @@ each_node f a (suc k) e p h l =
     ⊎_elim (λ same. subst (λ (i : ℕ). f i ≡ []) same parts.0)
     (λ other. each_node f (suc a) k parts.1 p (omega arith) (omega arith)) (cases_eq a p)
 
--- no image is after the last
-past_end : (images : List (List Entry)) (i : ℕ) → length images ≤ i
-    → slice_index_or images i [] ≡ []
-past_end [] i h = refl
-past_end (x ∷ xs) zero h = absurd (omega arith)
-past_end (x ∷ xs) (suc i) h = past_end xs i (omega arith)
+-- nothing is after the last element
+pub past_end : {A : Type 0} (xs : List A) (i : ℕ) (d : A) → length xs ≤ i
+    → slice_index_or xs i d ≡ d
+past_end [] i d h = refl
+past_end (x ∷ xs) zero d h = absurd (omega arith)
+past_end (x ∷ xs) (suc i) d h = past_end xs i d (omega arith)
 
 pub fitting-kept : (size : Limits) (images : List (List Entry)) → length images ≡ size.n
     → Fits size (image_of images) → AllKept size (image_of images)
@@ -204,7 +204,7 @@ fitting-kept size images e fits (suc i) =
     (each_node (λ p. misfits_behind size (image_of images) p [] (image_of images p))
     1 size.n fits (suc i) (omega arith) (omega arith)))
     (λ l. subst (λ (rs : List Entry). Kept size (image_of images) (suc i) [] rs)
-    (sym (past_end images i (omega arith))) tt)
+    (sym (past_end images i [] (omega arith))) tt)
     (cases_lt i size.n)
 
 -- ---- any run

@@ -1,5 +1,5 @@
 -- Every payload that is stored, held or doubtful is within the limit, in every world of a run.
-use Rattle.std.proofs.Common.{List, None, Option, Some, [], ap, false, length, refl, subst, suc}
+use Rattle.std.proofs.Common.{List, None, Option, Some, [], ap, length, refl, subst, suc}
 use Rattle.std.proofs.Common.{sym, true, zero, ℕ, ⊎_elim, ◌++◌, ◌∷◌, ◌≡◌, ◌≤◌}
 use Rattle.std.proofs.lemmas.Bool.{false≢true}
 use Rattle.std.proofs.lemmas.List.Elements.{recursion_from_All}
@@ -11,7 +11,6 @@ use Rattle.urb_group.specs.Step.{Event, run, step}
 use Rattle.urb_group.specs.World.{World, image_of, opened, stored}
 use Rattle.urb_names.proofs.FoundPairs.{has_pair-cases}
 use Rattle.urb_names.proofs.OrderedPairs.{has_pair-first}
-use Rattle.urb_names.specs.Names.{name}
 use Rattle.urb_names.specs.Naming.{Content, Label, Limits}
 use Rattle.urb_names.specs.Pairs.{has_pair}
 use Rattle.urb_names.specs.declared.flags.Flags.{Flags}

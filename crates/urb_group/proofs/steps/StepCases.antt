@@ -7,7 +7,7 @@ use Rattle.std.proofs.lemmas.Bool.{cond_both, not-false}
 use Rattle.urb_group.proofs.steps.OneNodeStep.{updated-at}
 use Rattle.urb_group.specs.Delivering.{event_node}
 use Rattle.urb_group.specs.Step.{Arrive, Commit, Crash, Event, Fail, Restart, Submit, Tick, is_for}
-use Rattle.urb_group.specs.Step.{packet_arrives, step, world_after}
+use Rattle.urb_group.specs.Step.{at_node, packet_arrives, step, world_after}
 use Rattle.urb_group.specs.World.{World, truthful}
 use Rattle.urb_names.specs.Carried.{Carried}
 use Rattle.urb_names.specs.Naming.{Content, Label}
@@ -43,29 +43,31 @@ outcome_of w (Restart p image) = restarts p image (w.node p) (w.node p).state
 
 -- ---- the world
 
+-- the event isn't an arrival
+abbrev pub IsNoArrival : Event → Type 0
+IsNoArrival (Arrive p bytes) = ⊥
+IsNoArrival event = Unit {0}
+
+-- any other event than an arrival has its outcome, if there is such a node
+pub step-outcome : (w : World) (event : Event) → IsNoArrival event
+    → step w event ≡ at_node w (event_node event) (outcome_of w event)
+unfolding step
+step-outcome w (Arrive p bytes) other = absurd other
+step-outcome w event other = refl
+
 -- the event is refused, or its node has its outcome
 pub step-cases : (P : Reply × World → Type 0) (w : World) (event : Event)
     → ((r : Refusal) → P (Refused r, w))
     → (is_node w.size.n (event_node event) ≡ true
     → P (world_after w (event_node event) (outcome_of w event))) → P (step w event)
 unfolding step
-step-cases P w (Submit p m) refused here =
-    cond_both (is_node w.size.n p) _ _ P here (λ _. refused refusal.BadNode)
 step-cases P w (Arrive p (Err fault)) refused here = refused (refusal.Packet fault)
 step-cases P w (Arrive p (Ok packet)) refused here =
     cond_both (is_for w p packet) _ _ P
     (λ _. cond_both (is_node w.size.n p) _ _ P here (λ _. refused refusal.BadNode))
     (λ _. refused refusal.BadNode)
-step-cases P w (Tick p) refused here =
-    cond_both (is_node w.size.n p) _ _ P here (λ _. refused refusal.BadNode)
-step-cases P w (Commit p position entry) refused here =
-    cond_both (is_node w.size.n p) _ _ P here (λ _. refused refusal.BadNode)
-step-cases P w (Fail p) refused here =
-    cond_both (is_node w.size.n p) _ _ P here (λ _. refused refusal.BadNode)
-step-cases P w (Crash p) refused here =
-    cond_both (is_node w.size.n p) _ _ P here (λ _. refused refusal.BadNode)
-step-cases P w (Restart p image) refused here =
-    cond_both (is_node w.size.n p) _ _ P here (λ _. refused refusal.BadNode)
+step-cases P w event refused here =
+    cond_both (is_node w.size.n (event_node event)) _ _ P here (λ _. refused refusal.BadNode)
 
 -- each node stays, and the event's node becomes the node of its outcome
 pub step-nodes : (P : ℕ → Node → Type 0) (w : World) (event : Event) → ((q : ℕ) → P q (w.node q))

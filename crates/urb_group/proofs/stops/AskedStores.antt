@@ -1,11 +1,13 @@
 -- Stores that are asked for their records one after the other.
-use Rattle.std.proofs.Common.{Err, List, Ok, [], ap, arith, length, map, refl, subst, suc, sym, ℕ}
-use Rattle.std.proofs.Common.{◌++◌, ◌<◌, ◌∙◌, ◌∷◌, ◌≡◌, ◌≤◌}
+use Rattle.std.proofs.Common.{Err, List, Ok, [], ap, append_assoc, arith, length, map}
+use Rattle.std.proofs.Common.{refl, subst, suc, sym, ℕ}
+use Rattle.std.proofs.Common.{◌++◌, ◌<◌, ◌∙◌, ◌∷◌, ◌≡◌}
 use Rattle.std.specs.Prelude.{drop, slice_index_or, slice_set, take}
 use Rattle.std.proofs.Math.Seq.{drop-length, take-append_seam}
 use Rattle.urb_stable.specs.Entries.{Entry}
 use Rattle.urb_stable.specs.declared.stable.Stable.{Ghosts}
 use Rattle.urb_stable.specs.declared.stable.StoreFault.{StoreFault}
+use Rattle.urb_group.proofs.moves.NewPlaces.{one_longer}
 use Rattle.urb_group.proofs.stops.Reopened.{give-more}
 use Rattle.urb_group.specs.Asked.{Gives}
 use Rattle.urb_group.specs.Reopening.{AllGive, FirstFails}
@@ -33,18 +35,6 @@ none-asked g stores = record {
   are = refl;
 }
 
-no_more : {S : Type 0} (xs : List S) → xs ++ [] ≡ xs
-no_more [] = refl
-no_more (x ∷ xs) = ap (λ zs. x ∷ zs) (no_more xs)
-
-moved : {S : Type 0} (xs ys : List S) (x : S) → xs ++ x ∷ ys ≡ (xs ++ x ∷ []) ++ ys
-moved [] ys x = refl
-moved (z ∷ xs) ys x = ap (λ zs. z ∷ zs) (moved xs ys x)
-
-longer : {S : Type 0} (xs : List S) (x : S) → length (xs ++ x ∷ []) ≡ suc (length xs)
-longer [] x = refl
-longer (y ∷ xs) x = ap suc (longer xs x)
-
 -- the item after some elements, and the item that is put there
 read-behind : {S : Type 0} (xs ys : List S) (y d : S)
     → slice_index_or (xs ++ y ∷ ys) (length xs) d ≡ y
@@ -66,12 +56,6 @@ next-of : {S : Type 0} (gave later : List S) → length gave < length (gave ++ l
 next-of [] [] less = absurd (omega arith)
 next-of [] (y ∷ ys) less = record { next = y; rest = ys; is = refl }
 next-of (x ∷ gave) later less = next-of gave later (omega (arith, less))
-
--- nothing is left after the last one
-none-behind : {S : Type 0} (gave later : List S) → length (gave ++ later) ≤ length gave → later ≡ []
-none-behind [] [] less = refl
-none-behind [] (y ∷ ys) less = absurd (omega arith)
-none-behind (x ∷ gave) later less = none-behind gave later (omega (arith, less))
 
 -- a map of one more element
 pub map-more : {T U : Type 0} (f : T → U) (xs : List T) (x : T)
@@ -119,9 +103,10 @@ module _ {S A : Type 0} (g : Ghosts S A) (stores now : List S) (images : List (L
         given =
             give-more g h.earlier images h.gave before after image h.given
             (subst (λ (s : S). Gives g s (Ok image) after) (sym read) gives);
-        count = longer h.gave after ∙ ap suc h.count;
-        were = h.were ∙ (ap (λ ys. h.earlier ++ ys) next.1 ∙ moved h.earlier next.0 before);
-        are = put-next before after next.0 next.1 ∙ moved h.gave next.0 after;
+        count = one_longer h.gave after ∙ ap suc h.count;
+        were = h.were ∙ (ap (λ ys. h.earlier ++ ys) next.1
+            ∙ sym (append_assoc h.earlier (before ∷ []) next.0));
+        are = put-next before after next.0 next.1 ∙ sym (append_assoc h.gave (after ∷ []) next.0);
       }
 
   -- the next store answered with a fault
@@ -143,17 +128,6 @@ module _ {S A : Type 0} (g : Ghosts S A) (stores now : List S) (images : List (L
         were = h.were ∙ ap (λ ys. h.earlier ++ ys) next.1;
         are = put-next before after next.0 next.1;
       }
-
-  -- all stores were asked
-  all-asked : length now ≤ index → AllGive g stores images now
-  all-asked most =
-      let none : h.later ≡ [] =
-      none-behind h.gave h.later (subst (λ (xs : List S). length xs ≤ length h.gave) h.are
-      (subst (λ (n : ℕ). length now ≤ n) (sym h.count) most)) in
-      subst (λ (xs : List S). AllGive g xs images now)
-      (sym (h.were ∙ (ap (λ ys. h.earlier ++ ys) none ∙ no_more h.earlier)))
-      (subst (λ (xs : List S). AllGive g h.earlier images xs)
-      (sym (h.are ∙ (ap (λ ys. h.gave ++ ys) none ∙ no_more h.gave))) h.given)
 
 -- a list after all its elements were written
 pub written-back : {S : Type 0} (items now new : List S) (n : ℕ) → n ≡ length items → now ≡ items

@@ -5,7 +5,7 @@ use Rattle.std.proofs.Common.{ℕ, ⊎_elim, ◌&&◌, ◌*◌, ◌+◌, ◌++�
 use Rattle.std.proofs.lemmas.Bool.{and_parts, false≢true, not-true, or_left, or_right}
 use Rattle.std.proofs.lemmas.List.{length-append}
 use Rattle.urb_group.proofs.shown.ShownWorldsAgree.{sound-kept}
-use Rattle.urb_group.proofs.recovery.PendingNames.{in-without}
+use Rattle.urb_group.proofs.recovery.PendingNames.{in-without, length-names}
 use Rattle.urb_group.proofs.recovery.NodeLists.{in-numbers}
 use Rattle.urb_group.proofs.ticks.Membership.{IsIn, in-flat_map, in-map, in-split}
 use Rattle.urb_group.specs.Shown.{GroupView, IsSound, Shows}
@@ -213,11 +213,6 @@ in-allowed size x h =
     (in-map (name x.sender) x.seq (numbers_from 0 (suc size.cap))
     (in-numbers 0 (suc size.cap) x.seq (omega arith)
     (let low = ltb-true x.seq (suc size.cap) parts.1 in omega (arith, low))))
-
-length-names : (sender first count : ℕ)
-    → length (map (name sender) (numbers_from first count)) ≡ count
-length-names sender first zero = refl
-length-names sender first (suc count) = ap suc (length-names sender (suc first) count)
 
 few-names : (size : Limits) → size.cap ≤ 1000000 → (first count : ℕ)
     → length (flat_map (numbered-names size) (numbers_from first count)) ≤ 1000001 * count

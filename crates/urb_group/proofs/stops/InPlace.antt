@@ -1,6 +1,6 @@
 -- The store of a node that is up is in place for the draft that the node holds, if it is honest.
 use Rattle.std.proofs.Common.{Bool, Err, None, Ok, Option, Result, Some, ap, arith, eq-eqb, false}
-use Rattle.std.proofs.Common.{length, ne_eqb, not, refl, subst, suc, sym, true, ℕ, ◌+◌, ◌<◌, ◌==◌}
+use Rattle.std.proofs.Common.{length, ne_eqb, not, refl, subst, suc, sym, ℕ, ◌+◌, ◌<◌, ◌==◌}
 use Rattle.std.proofs.Common.{◌||◌, ◌∙◌, ◌≡◌, ◌≤◌, inl, inr}
 use Rattle.std.proofs.lemmas.Bool.{false≢true}
 use Rattle.urb_group.proofs.stops.NodeStoreInvariant.{HoldsIn, holds-in, store-before}
@@ -107,13 +107,9 @@ module _ {S A : Type 0} (g : Ghosts S A) (old new : Clustered S) (sound : IsSoun
 
   pub applies-in-place : (command : Command A) (reply : Reply) → Applies g old command reply new
       → AppliesInPlace g old command reply new
-  applies-in-place (command.Submit p client number payload) reply alone = tt
-  applies-in-place (command.Arrive p bytes) reply alone = tt
-  applies-in-place (command.Tick p) reply alone = tt
   applies-in-place (command.Store p) reply stores =
       stored-in-place p reply (held_draft old.group p) refl stores
-  applies-in-place (command.Crash p) reply alone = tt
-  applies-in-place (command.Restart p) reply restarts = tt
+  applies-in-place command reply h = tt
 
 -- ---- a failure that is asked for
 

@@ -8,7 +8,7 @@ use Rattle.std.proofs.lemmas.Bool.{and_parts, false≢true}
 use Rattle.urb_names.specs.Naming.{Limits}
 use Rattle.urb_names.specs.Nodes.{is_node}
 use Rattle.urb_node.specs.Part.{Down, Node, Ready, State, Storing}
-use Rattle.urb_node.specs.Replies.{Drafted, Refused, Reply, Same, Sent, Stored, Up, WentDown}
+use Rattle.urb_node.specs.Replies.{Refused, Reply}
 use Rattle.urb_node.specs.Steps.{is_down}
 use Rattle.urb_stable.specs.Entries.{Entry}
 use Rattle.urb_stable.specs.Placed.{Placed}
@@ -60,13 +60,8 @@ pub record Lasts {S A : Type 0} (g : Ghosts S A) (P : Node → S → Type 0) : T
 
 reacts-either : (old new : GroupView) (event : Event) (reply : Reply) → Reacts old event reply new
     → Steps old event (λ told. told ≡ reply) new ⊎ (new ≡ old)
-reacts-either old new event (Drafted x position) h = inl h
-reacts-either old new event (Same answer) h = inl h
-reacts-either old new event (Stored done) h = inl h
-reacts-either old new event (Sent packets) h = inl h
-reacts-either old new event (WentDown p) h = inl h
-reacts-either old new event (Up p) h = inl h
 reacts-either old new event (Refused r) h = inr h.1
+reacts-either old new event reply h = inl h
 
 -- ---- one store was asked
 

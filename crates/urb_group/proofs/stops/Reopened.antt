@@ -1,6 +1,7 @@
 -- A cluster that is opened over stores is stocked. If its stores are honest, it goes on from the
 -- cluster that was stocked with them.
-use Rattle.std.proofs.Common.{Err, IfOk, List, Ok, Option, Result, Some, [], ap, false, inl, inr}
+use Rattle.std.proofs.Common.{Err, IfOk, List, Ok, Option, Result, Some, [], ap, append-nil, false}
+use Rattle.std.proofs.Common.{inl, inr}
 use Rattle.std.proofs.Common.{length, refl, subst, suc, sym, zero, ℕ, ⊎_elim, ◌++◌, ◌∙◌, ◌∷◌, ◌≡◌}
 use Rattle.std.proofs.Common.{◌⊎◌}
 use Rattle.std.specs.List.{All, AllByRecursion}
@@ -41,22 +42,16 @@ pub give-more : {S A : Type 0} (g : Ghosts S A) (stores : List S) (images : List
     → Gives g before (Ok image) after
     → AllGive g (stores ++ before ∷ []) (images ++ image ∷ []) (asked ++ after ∷ [])
 give-more g [] [] [] before after image h one = (one, tt)
-give-more g [] [] (a ∷ asked) before after image h one = absurd h
-give-more g [] (i ∷ images) asked before after image h one = absurd h
-give-more g (s ∷ stores) [] asked before after image h one = absurd h
-give-more g (s ∷ stores) (i ∷ images) [] before after image h one = absurd h
 give-more g (s ∷ stores) (i ∷ images) (a ∷ asked) before after image h one =
     (h.0, give-more g stores images asked before after image h.1 one)
+give-more g _ _ _ before after image h one = absurd h
 
 pub given-count : {S A : Type 0} (g : Ghosts S A) (stores : List S) (images : List (List Entry))
     (asked : List S) → AllGive g stores images asked → length images ≡ length stores
 given-count g [] [] [] h = refl
-given-count g [] [] (a ∷ asked) h = absurd h
-given-count g [] (i ∷ images) asked h = absurd h
-given-count g (s ∷ stores) [] asked h = absurd h
-given-count g (s ∷ stores) (i ∷ images) [] h = absurd h
 given-count g (s ∷ stores) (i ∷ images) (a ∷ asked) h =
     ap suc (given-count g stores images asked h.1)
+given-count g _ _ _ h = absurd h
 
 -- a group that is opened from all lists, or is not
 pub given-opens : {S A : Type 0} (g : Ghosts S A) (size : Limits) (stores asked : List S)
@@ -74,14 +69,11 @@ pub given-at : {S A : Type 0} (g : Ghosts S A) (stores : List S) (images : List 
     → (before : S) × (slice_get stores i ≡ Some before)
     × Gives g before (Ok (slice_index_or images i [])) store
 given-at g [] [] [] h i store e = absurd (cc)
-given-at g [] [] (a ∷ asked) h i store e = absurd h
-given-at g [] (im ∷ images) asked h i store e = absurd h
-given-at g (s ∷ stores) [] asked h i store e = absurd h
-given-at g (s ∷ stores) (im ∷ images) [] h i store e = absurd h
 given-at g (s ∷ stores) (im ∷ images) (a ∷ asked) h zero store e =
     (let f : a ≡ store = cc in (s, refl, subst (λ (t : _). Gives g s (Ok im) t) f h.0))
 given-at g (s ∷ stores) (im ∷ images) (a ∷ asked) h (suc i) store e =
     given-at g stores images asked h.1 i store e
+given-at g _ _ _ h i store e = absurd h
 
 -- if all are honest then, each list is one that its store may have held
 given-chosen : {S A : Type 0} (g : Ghosts S A) (stores : List S) (images : List (List Entry))
@@ -90,10 +82,6 @@ given-chosen : {S A : Type 0} (g : Ghosts S A) (stores : List S) (images : List 
     → slice_get images i ≡ Some image
     → g.is_honest store × IsContents (g.certain store) (g.doubt store) image
 given-chosen g [] [] [] h honest i store image e f = absurd (cc)
-given-chosen g [] [] (a ∷ asked) h honest i store image e f = absurd h
-given-chosen g [] (im ∷ images) asked h honest i store image e f = absurd h
-given-chosen g (s ∷ stores) [] asked h honest i store image e f = absurd h
-given-chosen g (s ∷ stores) (im ∷ images) [] h honest i store image e f = absurd h
 given-chosen g (s ∷ stores) (im ∷ images) (a ∷ asked) h honest zero store image e f =
     let one : s ≡ store = cc in
     let two : im ≡ image = cc in
@@ -103,6 +91,7 @@ given-chosen g (s ∷ stores) (im ∷ images) (a ∷ asked) h honest zero store 
     (h.0.honest honest.0, (h.0.given honest.0).1))
 given-chosen g (s ∷ stores) (im ∷ images) (a ∷ asked) h honest (suc i) store image e f =
     given-chosen g stores images asked h.1 honest.1 i store image e f
+given-chosen g _ _ _ h honest i store image e f = absurd h
 
 -- ---- the opened cluster is stocked
 
@@ -214,23 +203,16 @@ given-stay : {S A : Type 0} (g : Ghosts S A) (stores : List S) (images : List (L
     (asked : List S) → AllGive g stores images asked → (later rest : List S) → AllStay g later rest
     → AllStay g (stores ++ later) (asked ++ rest)
 given-stay g [] [] [] h later rest all = all
-given-stay g [] [] (a ∷ asked) h later rest all = absurd h
-given-stay g [] (im ∷ images) asked h later rest all = absurd h
-given-stay g (s ∷ stores) [] asked h later rest all = absurd h
-given-stay g (s ∷ stores) (im ∷ images) [] h later rest all = absurd h
 given-stay g (s ∷ stores) (im ∷ images) (a ∷ asked) h later rest all =
     one-stays g s a (stores ++ later) (asked ++ rest) (gave-stays g s a im h.0)
     (given-stay g stores images asked h.1 later rest all)
-
-none-later : {S : Type 0} (xs : List S) → xs ++ [] ≡ xs
-none-later [] = refl
-none-later (x ∷ xs) = ap (λ zs. x ∷ zs) (none-later xs)
+given-stay g _ _ _ h later rest all = absurd h
 
 all-given-stay : {S A : Type 0} (g : Ghosts S A) (stores : List S) (images : List (List Entry))
     (asked : List S) → AllGive g stores images asked → AllStay g stores asked
 all-given-stay {S} g stores images asked h =
-    subst (λ (xs : List S). AllStay g xs asked) (none-later stores)
-    (subst (λ (xs : List S). AllStay g (stores ++ []) xs) (none-later asked)
+    subst (λ (xs : List S). AllStay g xs asked) (append-nil stores)
+    (subst (λ (xs : List S). AllStay g (stores ++ []) xs) (append-nil asked)
     (given-stay g stores images asked h [] [] (same-stay g [])))
 
 refused-stay : {S A : Type 0} (g : Ghosts S A) (stores asked : List S) (why : Refusal)
@@ -305,14 +287,11 @@ given-honest : {S A : Type 0} (g : Ghosts S A) (stores : List S) (images : List 
     (asked : List S) → AllGive g stores images asked → AllByRecursion (IsKnown g) stores
     → AllByRecursion g.is_clean asked → AllByRecursion g.is_honest asked
 given-honest g [] [] [] h known clean = tt
-given-honest g [] [] (a ∷ asked) h known clean = absurd h
-given-honest g [] (i ∷ images) asked h known clean = absurd h
-given-honest g (s ∷ stores) [] asked h known clean = absurd h
-given-honest g (s ∷ stores) (i ∷ images) [] h known clean = absurd h
 given-honest g (s ∷ stores) (i ∷ images) (a ∷ asked) h known clean = (
   read-honest g s a i h.0 known.0 clean.0,
   given-honest g stores images asked h.1 known.1 clean.1,
 )
+given-honest g _ _ _ h known clean = absurd h
 
 module _ {S A : Type 0} (g : Ghosts S A) (old : GroupView) (w : World) (size : Limits)
     (stores : List S) (stopped : HasStopped g old w size stores) where

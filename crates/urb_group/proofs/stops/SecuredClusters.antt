@@ -5,7 +5,7 @@ use Rattle.std.proofs.Common.{refl, subst, suc, sym, true, ℕ, ◌-◌, ◌<◌
 use Rattle.std.proofs.Common.{◌++◌, [], arith}
 use Rattle.std.specs.Prelude.{slice_get}
 use Rattle.std.proofs.lemmas.Bool.{and_parts, false≢true}
-use Rattle.urb_node.specs.Part.{Down, Node, Ready, State}
+use Rattle.urb_node.specs.Part.{Down, Node, Ready}
 use Rattle.urb_node.specs.Replies.{Reply}
 use Rattle.urb_node.specs.Steps.{doubt, is_down}
 use Rattle.urb_stable.specs.Entries.{Entry}
@@ -22,7 +22,7 @@ use Rattle.urb_group.proofs.stops.StockedSteps.{Stays, leaves-stay, store-stays}
 use Rattle.urb_group.proofs.stops.StoppedCalls.{leaves-draft}
 use Rattle.urb_group.specs.Asked.{Gives, Keeps}
 use Rattle.urb_group.specs.Clustered.{Clustered, held_draft}
-use Rattle.urb_group.specs.Clusters.{Alone, Applies, AsksStore, RestartsBy, StoreMoves, StoresDraft}
+use Rattle.urb_group.specs.Clusters.{Applies, AsksStore, RestartsBy, StoreMoves, StoresDraft}
 use Rattle.urb_group.specs.Clusters.{StoresHeld, is_fallen}
 use Rattle.urb_group.specs.Shown.{view_of}
 use Rattle.urb_group.specs.Stocked.{IsKnown, IsLasting, IsSecured, IsStoreOf, LeavesOf, WouldLeave}
@@ -273,11 +273,8 @@ module _ {S A : Type 0} (g : Ghosts S A) (old new : Clustered S) (h : IsSecured 
 
   pub applies-left : (command : Command A) (reply : Reply) → Applies g old command reply new
       → WouldLeave g h.stocked.world new.stores
-  applies-left (command.Submit p client number payload) reply alone = alone-left alone.1
-  applies-left (command.Arrive p bytes) reply alone = alone-left alone.1
-  applies-left (command.Tick p) reply alone = alone-left alone.1
   applies-left (command.Store p) reply stores =
       held-left p reply (held_draft old.group p) refl stores
-  applies-left (command.Crash p) reply alone = alone-left alone.1
   applies-left (command.Restart p) reply restarts =
       restarts-left p reply (is_fallen old.group p) refl restarts
+  applies-left command reply alone = alone-left alone.1

@@ -1,6 +1,6 @@
 -- The stores of new clusters, and of clusters that were opened, last.
-use Rattle.std.proofs.Common.{Err, IfOk, List, Ok, Result, Some, [], length, suc, sym, subst, ℕ}
-use Rattle.std.proofs.Common.{◌<◌, ◌≡◌}
+use Rattle.std.proofs.Common.{Err, IfOk, List, Ok, Result, Some, [], suc, sym, subst, ℕ}
+use Rattle.std.proofs.Common.{◌≡◌}
 use Rattle.std.specs.List.{All}
 use Rattle.std.specs.Prelude.{Vec, slice_get, slice_index_or}
 use Rattle.std.proofs.lemmas.List.Elements.{recursion_from_All}

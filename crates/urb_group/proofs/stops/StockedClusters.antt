@@ -1,7 +1,7 @@
 -- The stores of a cluster still match a world that its group shows, whatever a command does to
 -- them.
 use Rattle.std.proofs.Common.{Bool, Err, List, None, Ok, Option, Result, Some, [], ap, false, inl}
-use Rattle.std.proofs.Common.{inr, refl, subst, sym, true, ℕ, ◌∙◌, ◌∷◌, ◌≡◌, ◌⊎◌, ⊎_elim, ◌++◌}
+use Rattle.std.proofs.Common.{inr, refl, subst, sym, true, ◌∙◌, ◌∷◌, ◌≡◌, ◌⊎◌, ⊎_elim, ◌++◌}
 use Rattle.std.proofs.lemmas.Bool.{false≢true}
 use Rattle.urb_node.specs.Part.{Down, Node, Ready, State}
 use Rattle.urb_node.specs.Replies.{Reply}

@@ -24,36 +24,31 @@ pub record Leaves (before after : Memory) (entry : Entry) : Type 0 where
   pub certain : after.certain ≡ before.certain
   pub doubt : before.doubt ≡ None → (after.doubt ≡ None) ⊎ (after.doubt ≡ Some entry)
 
+-- what is certain and what is in doubt stays
+as-before : (m n : Memory) (entry : Entry) (after : Memory) → after ≡ n → n.certain ≡ m.certain
+    → n.doubt ≡ m.doubt → Leaves m after entry
+as-before m n entry after e certain doubt = record {
+  certain = ap (λ (a : Memory). a.certain) e ∙ certain;
+  doubt = λ none. inl (ap (λ (a : Memory). a.doubt) e ∙ (doubt ∙ none));
+}
+
 pub breaks-leaves : (out : Bool) (failure : Failure) (m : Memory) (entry : Entry) (after : Memory)
     → Breaks out failure m entry after → Leaves m after entry
-breaks-leaves true failure m entry after h =
-    record {
-      certain = ap (λ (a : Memory). a.certain) h;
-      doubt =
-          λ none. inl (ap (λ (a : Memory). a.doubt) h ∙ none);
-    }
+breaks-leaves true failure m entry after h = as-before m m entry after h refl refl
 breaks-leaves false failure.Old m entry after h =
     ⊎_elim (λ e. record {
       certain = ap (λ (a : Memory). a.certain) e;
       doubt =
           λ none. inl (ap (λ (a : Memory). a.doubt) e);
     })
-    (λ e. record {
-      certain = ap (λ (a : Memory). a.certain) e;
-      doubt =
-          λ none. inl (ap (λ (a : Memory). a.doubt) e ∙ none);
-    }) h
+    (λ e. as-before m _ entry after e refl refl) h
 breaks-leaves false failure.New m entry after h =
     ⊎_elim (λ e. record {
       certain = ap (λ (a : Memory). a.certain) e;
       doubt =
           λ none. inr (ap (λ (a : Memory). a.doubt) e);
     })
-    (λ e. record {
-      certain = ap (λ (a : Memory). a.certain) e;
-      doubt =
-          λ none. inl (ap (λ (a : Memory). a.doubt) e ∙ none);
-    }) h
+    (λ e. as-before m _ entry after e refl refl) h
 
 broke : {A : Type 0} (node new : Node) (before after : Memory) (draft : Placed) (failure : Failure)
     → BreaksArmed failure before draft after → IsStoreOf (in_memory A) node before

@@ -4,23 +4,18 @@ use Rattle.std.proofs.Math.Path.{fun_ext}
 use Rattle.std.proofs.Common.{Bool, List, None, Option, Some, [], ap, arith, eq-eqb, false, length}
 use Rattle.std.proofs.Common.{length-append, refl, subst, suc, sym, true, ℕ, ◌&&◌, ◌+◌, ◌++◌, ◌==◌}
 use Rattle.std.proofs.Common.{◌∙◌, ◌∷◌, ◌≡◌, ◌⊎◌, ⊎_elim, eqb-true}
-use Rattle.std.specs.List.{list_all}
 use Rattle.std.proofs.lemmas.Bool.{and_from, and_parts, cond-false, cond-true, cond_both}
 use Rattle.std.proofs.lemmas.Bool.{false≢true}
-use Rattle.urb_names.specs.Names.{has_name}
-use Rattle.urb_names.specs.Naming.{Content, Label}
+use Rattle.urb_names.specs.Naming.{Content}
 use Rattle.urb_names.specs.Nodes.{is_node}
-use Rattle.urb_names.specs.Pairs.{has_pair}
 use Rattle.urb_names.specs.declared.refusal.Refusal.TheVariants as refusal
-use Rattle.urb_names.proofs.OrderedPairs.{has_pair-behind, has_pair-head}
 use Rattle.urb_node.specs.Part.{Down, Node, Ready, State, Storing}
 use Rattle.urb_node.specs.Replies.{Refused, Reply, Stored}
 use Rattle.urb_node.specs.Steps.{comes_up, commits, done, doubt, fails, is_down, keeps_record}
 use Rattle.urb_node.specs.Steps.{next_position, refuses, restarts, restarts_with, same_list}
 use Rattle.urb_node.specs.Steps.{same_names, same_pairs, same_record, says, broadcast_after}
 use Rattle.urb_node.proofs.Calls.{same_record-same}
-use Rattle.urb_node.proofs.ImageNames.{same_list-same}
-use Rattle.urb_node.proofs.ShownNodes.{from_named}
+use Rattle.urb_group.proofs.recovery.NodesComeBack.{says-itself}
 use Rattle.urb_stable.specs.Entries.{Entry}
 use Rattle.urb_stable.specs.Log.{log}
 use Rattle.urb_stable.specs.Records.{cert, pend}
@@ -32,28 +27,6 @@ use Rattle.urb_group.specs.World.{World, updated}
 use Rattle.urb_node.specs.declared.cause.Cause.{Cause}
 
 -- ---- what records say of themselves
-
-pairs_in : (ps qs : List (Label × Content))
-    → ((x : Label) (m : Content) → has_pair ps x m ≡ true → has_pair qs x m ≡ true)
-    → list_all (λ pair. has_pair qs pair.0 pair.1) ps ≡ true
-pairs_in [] qs h = refl
-pairs_in (p ∷ ps) qs h =
-    and_from (has_pair qs p.0 p.1) _ (h p.0 p.1 (has_pair-head p ps))
-    (pairs_in ps qs (λ x m k. h x m (has_pair-behind p ps x m k)))
-
--- an image says what it says
-says-itself : (records : List Entry) → says records records ≡ true
-says-itself records =
-    and_from (same_pairs (pend records) (pend records)) _
-    (and_from (list_all (λ pair. has_pair (pend records) pair.0 pair.1) (pend records)) _
-    (pairs_in (pend records) (pend records) (λ x m k. k))
-    (pairs_in (pend records) (pend records) (λ x m k. k)))
-    (and_from (same_names (cert records) (cert records)) _
-    (and_from (list_all (has_name (cert records)) (cert records)) _
-    (from_named (cert records) (cert records) (λ x k. k))
-    (from_named (cert records) (cert records) (λ x k. k)))
-    (and_from (same_list (log records) (log records)) _ (same_list-same (log records))
-    (eq-eqb (length records) (length records) refl)))
 
 -- an image with one more record says something else
 says-more : (records : List Entry) (r : Entry) → says (records ++ r ∷ []) records ≡ true → ⊥

@@ -25,7 +25,7 @@ use Rattle.urb_group.specs.Clusters.{Applies, Starts}
 use Rattle.urb_group.specs.Commands.{reply_of}
 use Rattle.urb_group.specs.Plays.{Follows, Plays}
 use Rattle.urb_group.specs.Shown.{GroupView, IsSound, Shows, view_of}
-use Rattle.urb_group.specs.Stocked.{AllHold, AreChosen, ContentsFit, HoldsOf, IsStocked, IsStoreOf}
+use Rattle.urb_group.specs.Stocked.{AllHold, AreChosen, ContentsFit, IsStocked, IsStoreOf}
 use Rattle.urb_group.specs.Stopping.{GoesOnIn, MayLeave}
 use Rattle.urb_group.specs.World.{World, image_of, started}
 use Rattle.urb_group.specs.declared.command.Command.{Command}

@@ -1,11 +1,11 @@
 -- A stop inside a call of a cluster. In each store that was honest before, it leaves what a stop
 -- may leave of the store's node.
-use Rattle.std.proofs.Common.{Bool, Err, List, None, Ok, Option, Result, Some, ap, arith, false}
+use Rattle.std.proofs.Common.{Bool, List, None, Option, Some, ap, arith, false}
 use Rattle.std.proofs.Common.{inl, inr, refl, subst, suc, sym, true, ℕ, ◌+◌, ◌++◌, ◌-◌, ◌<◌, ◌∙◌}
 use Rattle.std.proofs.Common.{◌∷◌, ◌≡◌, ◌⊎◌, ⊎_elim, []}
 use Rattle.std.specs.Prelude.{length, slice_get}
 use Rattle.std.proofs.lemmas.Bool.{and_parts}
-use Rattle.urb_node.specs.Part.{Node, State}
+use Rattle.urb_node.specs.Part.{Node}
 use Rattle.urb_node.specs.Replies.{Reply}
 use Rattle.urb_node.specs.Steps.{doubt, is_down}
 use Rattle.urb_stable.specs.Entries.{Entry}
@@ -19,14 +19,12 @@ use Rattle.urb_group.proofs.stops.NodeStoreInvariant.{HoldsIn, holds-in, one-sto
 use Rattle.urb_group.proofs.stops.NodeStoreInvariant.{store-before}
 use Rattle.urb_group.proofs.stops.StockedClusters.{asked-left, beside-stocked, left-by-draft}
 use Rattle.urb_group.proofs.stops.StockedFailures.{breaks-leaves, Leaves}
-use Rattle.urb_group.specs.Asked.{Gives, Keeps}
 use Rattle.urb_group.specs.Clustered.{Clustered, held_draft}
-use Rattle.urb_group.specs.Clusters.{Alone, Applies, AsksStore, BreaksArmed, FailsDraft, FailsHeld}
+use Rattle.urb_group.specs.Clusters.{Applies, AsksStore, BreaksArmed, FailsHeld}
 use Rattle.urb_group.specs.Clusters.{RestartsBy, StoreMoves, StoresDraft, StoresHeld, is_fallen}
 use Rattle.urb_group.specs.InMemory.{in_memory}
 use Rattle.urb_group.specs.Shown.{view_of}
 use Rattle.urb_group.specs.Stocked.{IsStocked, IsStoreOf, LeavesOf, StopLeaves}
-use Rattle.urb_group.specs.Stopping.{MayLeave}
 use Rattle.urb_group.specs.declared.command.Command.{Command}
 use Rattle.urb_group.specs.declared.command.Command.TheVariants as command
 
@@ -133,15 +131,11 @@ restarts-leaves g old new p reply false e alone h = alone-leaves g old new (alon
 pub applies-leaves : {S A : Type 0} (g : Ghosts S A) (old new : Clustered S) (command : Command A)
     (reply : Reply) → Applies g old command reply new → (h : IsStocked g old)
     → StopLeaves g h.world old.stores new.stores
-applies-leaves g old new (command.Submit p client number payload) reply alone h =
-    alone-leaves g old new alone.1 h
-applies-leaves g old new (command.Arrive p bytes) reply alone h = alone-leaves g old new alone.1 h
-applies-leaves g old new (command.Tick p) reply alone h = alone-leaves g old new alone.1 h
 applies-leaves g old new (command.Store p) reply stores h =
     held-leaves g old new p reply (held_draft old.group p) refl stores h
-applies-leaves g old new (command.Crash p) reply alone h = alone-leaves g old new alone.1 h
 applies-leaves g old new (command.Restart p) reply restarts h =
     restarts-leaves g old new p reply (is_fallen old.group p) refl restarts h
+applies-leaves g old new command reply alone h = alone-leaves g old new alone.1 h
 
 -- ---- a store in memory that was armed to fail
 

@@ -8,6 +8,7 @@ use Rattle.std.proofs.lemmas.Bool.{false≢true}
 use Rattle.std.proofs.lemmas.List.Elements.{filter-append}
 use Rattle.std.proofs.lemmas.List.Filters.{length-filter_both}
 use Rattle.std.proofs.lemmas.List.{length-append}
+use Rattle.urb_stubborn.proofs.Between.{all_pass}
 use Rattle.urb_names.specs.Naming.{Label, Content}
 use Rattle.urb_names.specs.Names.{name_lt}
 use Rattle.urb_names.specs.Cyclic.{are_rising, cyclic, is_after}
@@ -28,14 +29,6 @@ all_behind x y (q ∷ qs) e h =
     let parts = and_parts (name_lt y q.0) _ h in
     and_from (name_lt x q.0) _ (name_lt-trans x y q.0 e parts.0) (all_behind x y qs e parts.1)
 
-all_pass : (test : Label × Content → Bool) (ps : Pairs) → list_all test ps ≡ true
-    → filter test ps ≡ ps
-all_pass test [] h = refl
-all_pass test (p ∷ ps) h =
-    let parts = and_parts (test p) (list_all test ps) h in
-    cond-true (test p) (p ∷ filter test ps) (filter test ps) parts.0
-    ∙ ap (λ qs. p ∷ qs) (all_pass test ps parts.1)
-
 none_pass : (test : Label × Content → Bool) (ps : Pairs) → list_all (λ p. not (test p)) ps ≡ true
     → filter test ps ≡ []
 none_pass test [] h = refl
@@ -46,6 +39,10 @@ none_pass test (p ∷ ps) h =
     step : (b : Bool) → not b ≡ true → cond b (p ∷ filter test ps) (filter test ps) ≡ filter test ps
     step true e = absurd (false≢true e)
     step false e = refl
+
+twice : (b : Bool) → b ≡ true → not (not b) ≡ true
+twice true e = refl
+twice false e = e
 
 -- if all elements pass a test, all pass a weaker test
 weaker : (test other : Label × Content → Bool) (ps : Pairs)
@@ -105,10 +102,6 @@ cyclic_at front q back h =
         weaker (λ p. name_lt p.0 q.0) (λ p. not (name_lt q.0 p.0)) front
         (λ p e. not_after p.0 q.0 e) sides.before
 
-    twice : (b : Bool) → b ≡ true → not (not b) ≡ true
-    twice true e = refl
-    twice false e = e
-
     first : filter (λ p. name_lt q.0 p.0) (front ++ q ∷ back) ≡ back
     first =
         filter-append (λ p. name_lt q.0 p.0) front (q ∷ back)
@@ -151,10 +144,6 @@ parted cursor (p ∷ ps) h =
   where
     parts : (list_all (λ r. name_lt p.0 r.0) ps ≡ true) × (are_rising ps ≡ true)
     parts = and_parts _ (are_rising ps) h
-
-    twice : (b : Bool) → b ≡ true → not (not b) ≡ true
-    twice true e = refl
-    twice false e = e
 
     all_high : is_after cursor p.0 ≡ true → Parted cursor (p ∷ ps)
     all_high e =

@@ -1,4 +1,4 @@
-use Rattle.std.proofs.Common.{◌∙◌, ◌≡◌}
+use Rattle.std.proofs.Common.{◌∙◌}
 use Rattle.urb_group.proofs.stops.AskedStores.{written-back}
 use Rattle.urb_group.proofs.shared_payloads.share_image.Goals as goal
 

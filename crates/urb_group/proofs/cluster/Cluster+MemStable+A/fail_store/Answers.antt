@@ -1,7 +1,6 @@
-use Rattle.std.proofs.Common.{arith, rules, Some, sym, ◌<◌, ◌∙◌, ◌≡◌, ◌≤◌}
+use Rattle.std.proofs.Common.{arith, rules, Some, sym, ◌∙◌}
 use Rattle.urb_group.proofs.calls.AfterStoreCalls.{held-bounds, held-self, lost-fails, lost-tied}
 use Rattle.urb_group.proofs.calls.AfterStoreCalls.{unstored-fails}
-use Rattle.urb_group.specs.Clustered.{held_draft}
 use Rattle.urb_group.specs.Drafts.{IsUnstored}
 use Rattle.urb_group.proofs.cluster.Cluster+MemStable+A.fail_store.Goals as goal
 
@@ -17,28 +16,26 @@ take_down-requires-clause-held g c =
 
 pub invariant_of-self : goal.invariant_of-self
 invariant_of-self g c =
-    let held : held_draft c.self.inside.group c.args.node ≡ Some c.take_draft-draft.result =
-    sym (c.self.invariant.held c.args.node) ∙ c.take_draft-draft.ensures.draft in
     lost-tied _ _ c.args.node _ _ c.self.inside.drafts.items _ c.take_draft-draft.result _ _
-    c.self.invariant held c.take_down.ensures.event c.take_down.ensures.free
+    c.self.invariant
+    (sym (c.self.invariant.held c.args.node) ∙ c.take_draft-draft.ensures.draft)
+    c.take_down.ensures.event c.take_down.ensures.free
     c.take_draft-draft.ensures.drafts
 
 pub returns : goal.returns
 returns g c =
-    let held : held_draft c.self.inside.group c.args.node ≡ Some c.take_draft-draft.result =
-    sym (c.self.invariant.held c.args.node) ∙ c.take_draft-draft.ensures.draft in
     rw (← c.self.view_is)
     (lost-fails (record { group = c.self.inside.group; stores = c.self.inside.stores.items })
     c.take_down.new.group c.args.node c.from-at.result c.self.inside.drafts.items
     c.take_draft-draft.result c.index_mut.result.now c.break_store.new.store c.args.failure _
-    c.self.invariant held (c.from-at.ensures ∙ c.number.ensures.number)
+    c.self.invariant
+    (sym (c.self.invariant.held c.args.node) ∙ c.take_draft-draft.ensures.draft)
+    (c.from-at.ensures ∙ c.number.ensures.number)
     c.index_mut.ensures.value c.break_store.ensures c.take_down.ensures.event)
 
 pub index_mut-requires : goal.index_mut-requires
 index_mut-requires g c =
-    let held : held_draft c.self.inside.group c.args.node ≡ Some c.take_draft-draft.result =
-    sym (c.self.invariant.held c.args.node) ∙ c.take_draft-draft.ensures.draft in
-    let bounds = held-bounds c.self.inside.group c.args.node c.take_draft-draft.result held in
-    let low : 0 < c.args.node = bounds.0 in
-    let high : c.args.node ≤ c.self.inside.group.size.n = bounds.1 in
-    omega arith
+    let bounds =
+    held-bounds c.self.inside.group c.args.node c.take_draft-draft.result
+    (sym (c.self.invariant.held c.args.node) ∙ c.take_draft-draft.ensures.draft) in
+    omega (arith, bounds.0, bounds.1)

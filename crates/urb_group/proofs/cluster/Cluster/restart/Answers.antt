@@ -1,4 +1,4 @@
-use Rattle.std.proofs.Common.{arith, rules, None, Some, ◌<◌, ◌∙◌, ◌≤◌}
+use Rattle.std.proofs.Common.{arith, rules, None, Some, ◌∙◌}
 use Rattle.urb_group.proofs.calls.AfterStoreCalls.{fallen-bounds, read-restarts, read-tied}
 use Rattle.urb_group.proofs.calls.AfterStoreCalls.{unfallen-restarts}
 use Rattle.urb_group.specs.Drafts.{IsUnfallen}
@@ -31,6 +31,4 @@ pub index_mut-requires : goal.index_mut-requires
 index_mut-requires g c =
     let fallen : IsUnfallen c.self.inside.group c.args.node None = search rules in
     let bounds = fallen-bounds c.self.inside.group c.args.node fallen.0 in
-    let low : 0 < c.args.node = bounds.0 in
-    let high : c.args.node ≤ c.self.inside.group.size.n = bounds.1 in
-    omega arith
+    omega (arith, bounds.0, bounds.1)

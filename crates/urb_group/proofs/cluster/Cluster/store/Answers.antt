@@ -1,7 +1,6 @@
-use Rattle.std.proofs.Common.{arith, rules, Some, sym, ◌<◌, ◌∙◌, ◌≡◌, ◌≤◌}
+use Rattle.std.proofs.Common.{arith, rules, Some, sym, ◌∙◌}
 use Rattle.urb_group.proofs.calls.AfterStoreCalls.{held-bounds, held-self, kept-stores, kept-tied}
 use Rattle.urb_group.proofs.calls.AfterStoreCalls.{unstored-stores}
-use Rattle.urb_group.specs.Clustered.{held_draft}
 use Rattle.urb_group.specs.Drafts.{IsUnstored}
 use Rattle.urb_group.proofs.cluster.Cluster.store.Goals as goal
 
@@ -18,29 +17,27 @@ store_draft-requires-clause-held g c =
 
 pub invariant_of-self : goal.invariant_of-self
 invariant_of-self g c =
-    let held : held_draft c.self.inside.group c.args.node ≡ Some c.take_draft-draft.result =
-    sym (c.self.invariant.held c.args.node) ∙ c.take_draft-draft.ensures.draft in
     kept-tied g.S.Stable _ _ c.args.node _ _ c.self.inside.drafts.items _ c.take_draft-draft.result
-    _ _ _ c.self.invariant held c.store_draft.ensures.stores c.store_draft.ensures.free
+    _ _ _ c.self.invariant
+    (sym (c.self.invariant.held c.args.node) ∙ c.take_draft-draft.ensures.draft)
+    c.store_draft.ensures.stores c.store_draft.ensures.free
     c.take_draft-draft.ensures.drafts
 
 pub returns : goal.returns
 returns g c =
-    let held : held_draft c.self.inside.group c.args.node ≡ Some c.take_draft-draft.result =
-    sym (c.self.invariant.held c.args.node) ∙ c.take_draft-draft.ensures.draft in
     rw (← c.self.view_is)
     (kept-stores g.S.Stable (record
     { group = c.self.inside.group; stores = c.self.inside.stores.items })
     c.store_draft.new.group c.args.node c.from-at.result c.self.inside.drafts.items
     c.take_draft-draft.result c.index_mut.result.now c.store_draft.new.store _
-    c.self.invariant held (c.from-at.ensures ∙ c.number.ensures.number)
+    c.self.invariant
+    (sym (c.self.invariant.held c.args.node) ∙ c.take_draft-draft.ensures.draft)
+    (c.from-at.ensures ∙ c.number.ensures.number)
     c.index_mut.ensures.value c.store_draft.ensures.stores)
 
 pub index_mut-requires : goal.index_mut-requires
 index_mut-requires g c =
-    let held : held_draft c.self.inside.group c.args.node ≡ Some c.take_draft-draft.result =
-    sym (c.self.invariant.held c.args.node) ∙ c.take_draft-draft.ensures.draft in
-    let bounds = held-bounds c.self.inside.group c.args.node c.take_draft-draft.result held in
-    let low : 0 < c.args.node = bounds.0 in
-    let high : c.args.node ≤ c.self.inside.group.size.n = bounds.1 in
-    omega arith
+    let bounds =
+    held-bounds c.self.inside.group c.args.node c.take_draft-draft.result
+    (sym (c.self.invariant.held c.args.node) ∙ c.take_draft-draft.ensures.draft) in
+    omega (arith, bounds.0, bounds.1)

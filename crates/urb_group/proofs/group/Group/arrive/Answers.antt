@@ -1,8 +1,6 @@
-use Rattle.std.proofs.Common.{Some, arith, rules, ◌≡◌}
+use Rattle.std.proofs.Common.{arith, rules}
 use Rattle.std.proofs.lemmas.Result.{err_from_is_err_and}
-use Rattle.std.specs.Prelude.{slice_get}
 use Rattle.urb_names.specs.Packets.{packet_of}
-use Rattle.urb_group.specs.Moving.{ArrivesAt}
 use Rattle.urb_group.proofs.shown.NodeAnswers.{was_read}
 use Rattle.urb_group.proofs.moves.PacketsAtNodes.{arrive-elsewhere, arrive-fault, arrive-moved}
 use Rattle.urb_group.proofs.moves.PacketsAtNodes.{may_reach}
@@ -41,45 +39,28 @@ move_at-requires-clause-within g c =
 
 pub move_at-requires-clause-callable : goal.move_at-requires-clause-callable
 move_at-requires-clause-callable g c node was k h l o =
-    let from : slice_get c.self.inside.nodes.items c.in-Some.source ≡ Some c.index.result.now =
-    was_read c.self.inside.nodes.items c.in-Some.source c.self.inside.config.n
-    c.index.result.now c.self.invariant.placed.count c.in-Some.ensures.source.1
-    c.index.ensures in (
-      may_reach c.self.inside.config c.self.inside.nodes.items c.self.invariant c.args.node
-          c.in-Some.at c.in-Some.source c.in_ok-packet.packet c.tells_truth-is_truthful.result
-          c.index.result.now c.in-Some.ensures from c.tells_truth-is_truthful.ensures node was,
+    let from =
+    was_read c.self.inside.nodes.items c.in-Some.source _ c.index.result.now
+    c.self.invariant.placed.count c.in-Some.ensures.source.1 c.index.ensures in (
+      may_reach c.self.invariant c.in-Some.ensures from c.tells_truth-is_truthful.ensures node was,
       c.share_stored-known.ensures,
     )
 
 pub invariant_of-self : goal.invariant_of-self
 invariant_of-self g c =
-    let from : slice_get c.self.inside.nodes.items c.in-Some.source ≡ Some c.index.result.now =
-    was_read c.self.inside.nodes.items c.in-Some.source c.self.inside.config.n
-    c.index.result.now c.self.invariant.placed.count c.in-Some.ensures.source.1
-    c.index.ensures in
-    let move = c.move_at.ensures in
-    let step : ArrivesAt move.node c.in_ok-packet.packet c.tells_truth-is_truthful.result
-    (move.moved, c.move_at.result) = search rules in
-    (arrive-moved c.self.inside.config c.self.inside.nodes.items c.self.invariant c.args.node
-    c.in-Some.at c.in-Some.source c.in_ok-packet.packet c.tells_truth-is_truthful.result
-    c.index.result.now c.in-Some.ensures from c.tells_truth-is_truthful.ensures
-    (packet_of c.args.bytes.now) c.move_at.new.nodes.items c.move_at.result
-    c.in_ok-packet.ensures.exact (record
-    { node = move.node; moved = move.moved; was = move.was; step = step; is = move.is })).1
+    let from =
+    was_read c.self.inside.nodes.items c.in-Some.source _ c.index.result.now
+    c.self.invariant.placed.count c.in-Some.ensures.source.1 c.index.ensures in
+    (arrive-moved c.self.invariant c.in-Some.ensures from c.tells_truth-is_truthful.ensures
+    (packet_of c.args.bytes.now) c.move_at.result c.in_ok-packet.ensures.exact c.move_at.ensures
+    (search rules)).1
 
 pub returns : goal.returns
 returns g c =
-    let from : slice_get c.self.inside.nodes.items c.in-Some.source ≡ Some c.index.result.now =
-    was_read c.self.inside.nodes.items c.in-Some.source c.self.inside.config.n
-    c.index.result.now c.self.invariant.placed.count c.in-Some.ensures.source.1
-    c.index.ensures in
-    let move = c.move_at.ensures in
-    let step : ArrivesAt move.node c.in_ok-packet.packet c.tells_truth-is_truthful.result
-    (move.moved, c.move_at.result) = search rules in
+    let from =
+    was_read c.self.inside.nodes.items c.in-Some.source _ c.index.result.now
+    c.self.invariant.placed.count c.in-Some.ensures.source.1 c.index.ensures in
     rw (← c.self.view_is)
-    (arrive-moved c.self.inside.config c.self.inside.nodes.items c.self.invariant c.args.node
-    c.in-Some.at c.in-Some.source c.in_ok-packet.packet c.tells_truth-is_truthful.result
-    c.index.result.now c.in-Some.ensures from c.tells_truth-is_truthful.ensures
-    (packet_of c.args.bytes.now) c.move_at.new.nodes.items c.move_at.result
-    c.in_ok-packet.ensures.exact (record
-    { node = move.node; moved = move.moved; was = move.was; step = step; is = move.is })).0
+    (arrive-moved c.self.invariant c.in-Some.ensures from c.tells_truth-is_truthful.ensures
+    (packet_of c.args.bytes.now) c.move_at.result c.in_ok-packet.ensures.exact c.move_at.ensures
+    (search rules)).0

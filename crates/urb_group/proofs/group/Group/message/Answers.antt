@@ -1,5 +1,4 @@
 use Rattle.std.proofs.Common.{arith, option_map}
-use Rattle.urb_names.specs.Naming.{Content}
 use Rattle.urb_names.specs.Pairs.{message_of}
 use Rattle.urb_stable.specs.Records.{pend}
 use Rattle.urb_group.proofs.shown.NodeAnswers.{answered, unanswered}
@@ -8,8 +7,8 @@ use Rattle.urb_group.proofs.group.Group.message.Goals as goal
 pub returns-in_err-at : goal.returns-in_err-at
 returns-in_err-at g c =
     rw (← c.self.view_is, c.from_residual.ensures)
-    (unanswered c.self.inside.config c.self.inside.nodes.items c.self.invariant Content
-    (λ n. message_of (pend n.records) c.args.name) c.args.node c.in_err-at.ensures)
+    (unanswered c.self.invariant (λ n. message_of (pend n.records) c.args.name) c.args.node
+    c.in_err-at.ensures)
 
 pub index-requires : goal.index-requires
 index-requires g c =
@@ -18,7 +17,6 @@ index-requires g c =
 pub returns : goal.returns
 returns g c =
     rw (← c.self.view_is)
-    (answered c.self.inside.config c.self.inside.nodes.items c.self.invariant Content
-    (λ n. message_of (pend n.records) c.args.name) c.in_ok-at.at c.args.node c.index.result.now
+    (answered c.self.invariant (λ n. message_of (pend n.records) c.args.name) c.index.result.now
     (option_map (λ m. m.now) c.message.result)
     c.index.ensures c.in_ok-at.ensures.0 c.in_ok-at.ensures.1 c.message.ensures)

@@ -48,28 +48,16 @@ loop-image-init g c =
 
 pub unwrap-node-requires : goal.unwrap-node-requires
 unwrap-node-requires g c =
-    let opened =
-    subst (λ left. HasOpened (λ image. image.items)
-    c.args.config c.args.images.items c.loop-image.yielded left c.loop-image.number
-    c.loop-image.nodes.items) c.in-Some-image.ensures.steps.0 c.loop-image.invariant.opened in
-    let few =
-    next-counted (λ image. image.items)
-    c.args.config c.args.images.items c.loop-image.yielded c.next.new.self.rest.items
-    c.in-Some-image.image c.loop-image.number c.loop-image.nodes.items opened in
+    let opened = rw c.in-Some-image.ensures.steps.0 at c.loop-image.invariant.opened in
+    let few = next-counted opened in
     let below : c.loop-image.number + 1 ≤ MAX_NODES =
     omega (arith, few, c.requires, c.n-n.ensures.range.1) in
     some_from c.new.result _ c.new.ensures (omega arith, below)
 
 pub open_beside-requires-clause-node : goal.open_beside-requires-clause-node
 open_beside-requires-clause-node g c =
-    let opened =
-    subst (λ left. HasOpened (λ image. image.items)
-    c.args.config c.args.images.items c.loop-image.yielded left c.loop-image.number
-    c.loop-image.nodes.items) c.in-Some-image.ensures.steps.0 c.loop-image.invariant.opened in
-    let few =
-    next-counted (λ image. image.items)
-    c.args.config c.args.images.items c.loop-image.yielded c.next.new.self.rest.items
-    c.in-Some-image.image c.loop-image.number c.loop-image.nodes.items opened in
+    let opened = rw c.in-Some-image.ensures.steps.0 at c.loop-image.invariant.opened in
+    let few = next-counted opened in
     let is : c.unwrap-node.result ≡ c.loop-image.number + 1 =
     value_from c.new.result _ (c.loop-image.number + 1)
     c.unwrap-node.result c.new.ensures c.unwrap-node.ensures in
@@ -77,10 +65,7 @@ open_beside-requires-clause-node g c =
 
 pub open_beside-requires-clause-rules : goal.open_beside-requires-clause-rules
 open_beside-requires-clause-rules g c =
-    let opened =
-    subst (λ left. HasOpened (λ image. image.items)
-    c.args.config c.args.images.items c.loop-image.yielded left c.loop-image.number
-    c.loop-image.nodes.items) c.in-Some-image.ensures.steps.0 c.loop-image.invariant.opened in
+    let opened = rw c.in-Some-image.ensures.steps.0 at c.loop-image.invariant.opened in
     let same : c.deref-2.result.now ≡ c.args.images.items = search rules in
     let read : c.deref.result.now ≡ c.args.images.items = search rules in
     let none =
@@ -98,28 +83,17 @@ open_beside-requires-clause-rules g c =
     c.unwrap-node.result c.new.ensures c.unwrap-node.ensures in
     subst (λ (p : ℕ). KeepsOwn c.args.config p [] c.in-Some-image.image.items)
     (sym (is ∙ add-one c.loop-image.number))
-    (next-keeps (λ image. image.items)
-    c.args.config c.args.images.items c.loop-image.yielded c.next.new.self.rest.items
-    c.in-Some-image.image c.loop-image.number c.loop-image.nodes.items opened are none)
+    (next-keeps opened are none)
 
 pub push_reserved-requires : goal.push_reserved-requires
 push_reserved-requires g c =
-    let opened =
-    subst (λ left. HasOpened (λ image. image.items)
-    c.args.config c.args.images.items c.loop-image.yielded left c.loop-image.number
-    c.loop-image.nodes.items) c.in-Some-image.ensures.steps.0 c.loop-image.invariant.opened in
-    let few =
-    next-counted (λ image. image.items)
-    c.args.config c.args.images.items c.loop-image.yielded c.next.new.self.rest.items
-    c.in-Some-image.image c.loop-image.number c.loop-image.nodes.items opened in
+    let opened = rw c.in-Some-image.ensures.steps.0 at c.loop-image.invariant.opened in
+    let few = next-counted opened in
     omega (arith, few, c.requires, c.loop-image.invariant.count, c.loop-image.invariant.room)
 
 pub loop-image-preserved : goal.loop-image-preserved
 loop-image-preserved g c =
-    let opened =
-    subst (λ left. HasOpened (λ image. image.items)
-    c.args.config c.args.images.items c.loop-image.yielded left c.loop-image.number
-    c.loop-image.nodes.items) c.in-Some-image.ensures.steps.0 c.loop-image.invariant.opened in
+    let opened = rw c.in-Some-image.ensures.steps.0 at c.loop-image.invariant.opened in
     let is : c.unwrap-node.result ≡ suc c.loop-image.number =
     value_from c.new.result _ (c.loop-image.number + 1)
     c.unwrap-node.result c.new.ensures c.unwrap-node.ensures ∙ add-one c.loop-image.number in
@@ -132,12 +106,8 @@ loop-image-preserved g c =
           (c.loop-image.yielded ++ c.in-Some-image.image ∷ [])
           c.next.new.self.rest.items n c.push_reserved.new.self.items)
           (sym (add-one c.loop-image.number))
-          (more-opened (λ image. image.items)
-          c.args.config c.args.images.items c.loop-image.yielded c.next.new.self.rest.items
-          c.in-Some-image.image c.loop-image.number c.loop-image.nodes.items
-          c.push_reserved.new.self.items c.in_ok-ready.ready opened
-          c.in_ok-ready.ensures.0 (c.in_ok-ready.ensures.1 ∙ is)
-          shows c.push_reserved.ensures.items);
+          (more-opened opened c.in_ok-ready.ensures.0 (c.in_ok-ready.ensures.1 ∙ is) shows
+          c.push_reserved.ensures.items);
       count = omega (arith, c.push_reserved.ensures.len, c.loop-image.invariant.count);
       room = omega (arith, c.push_reserved.ensures.capacity, c.loop-image.invariant.room);
     }
@@ -159,12 +129,7 @@ invariant_of-result g c =
           subst (λ xs. All (All IsEntry) (map (λ image. image.items) xs))
           read c.recall_images.ensures;
     } in
-    all-group (λ image. image.items)
-    c.args.config c.args.images.items c.loop-image.yielded c.loop-image.number
-    c.loop-image.nodes.items
-    (subst (λ left. HasOpened (λ image. image.items)
-    c.args.config c.args.images.items c.loop-image.yielded left c.loop-image.number
-    c.loop-image.nodes.items) gone c.loop-image.invariant.opened) are none
+    all-group (rw gone at c.loop-image.invariant.opened) are none
 
 pub returns : goal.returns
 returns g c =
@@ -175,9 +140,4 @@ returns g c =
     let none =
     subst (λ xs. first_misfit c.args.config (image_of (map (λ image. image.items) xs)) ≡ None)
     same (sym c.in_ok-misfit.ensures ∙ c.in_default.is) in
-    all-opens (λ image. image.items)
-    c.args.config c.args.images.items c.loop-image.yielded c.loop-image.number
-    c.loop-image.nodes.items
-    (subst (λ left. HasOpened (λ image. image.items)
-    c.args.config c.args.images.items c.loop-image.yielded left c.loop-image.number
-    c.loop-image.nodes.items) gone c.loop-image.invariant.opened) none
+    all-opens (rw gone at c.loop-image.invariant.opened) none

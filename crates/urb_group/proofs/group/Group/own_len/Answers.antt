@@ -1,12 +1,11 @@
-use Rattle.std.proofs.Common.{Some, ap, arith, length, ℕ}
+use Rattle.std.proofs.Common.{Some, ap, arith, length}
 use Rattle.urb_group.proofs.shown.NodeAnswers.{answered, unanswered}
 use Rattle.urb_group.proofs.group.Group.own_len.Goals as goal
 
 pub returns-in_err-at : goal.returns-in_err-at
 returns-in_err-at g c =
     rw (← c.self.view_is, c.from_residual.ensures)
-    (unanswered c.self.inside.config c.self.inside.nodes.items c.self.invariant ℕ
-    (λ n. Some (length n.broadcast)) c.args.node c.in_err-at.ensures)
+    (unanswered c.self.invariant (λ n. Some (length n.broadcast)) c.args.node c.in_err-at.ensures)
 
 pub index-requires : goal.index-requires
 index-requires g c =
@@ -15,7 +14,6 @@ index-requires g c =
 pub returns : goal.returns
 returns g c =
     rw (← c.self.view_is)
-    (answered c.self.inside.config c.self.inside.nodes.items c.self.invariant ℕ
-    (λ n. Some (length n.broadcast)) c.in_ok-at.at c.args.node c.index.result.now
+    (answered c.self.invariant (λ n. Some (length n.broadcast)) c.index.result.now
     (Some c.own_len.result) c.index.ensures c.in_ok-at.ensures.0 c.in_ok-at.ensures.1
     (λ n s. ap Some (c.own_len.ensures n s)))

@@ -1,14 +1,12 @@
 use Rattle.std.proofs.Common.{Some, ap, arith, ◌∙◌}
 use Rattle.urb_group.specs.States.{state_of}
-use Rattle.urb_group.specs.declared.state.State.{State}
 use Rattle.urb_group.proofs.shown.NodeAnswers.{answered, unanswered}
 use Rattle.urb_group.proofs.group.Group.state.Goals as goal
 
 pub returns-in_err-at : goal.returns-in_err-at
 returns-in_err-at g c =
     rw (← c.self.view_is, c.from_residual.ensures)
-    (unanswered c.self.inside.config c.self.inside.nodes.items c.self.invariant State
-    (λ n. Some (state_of n.state)) c.args.node c.in_err-at.ensures)
+    (unanswered c.self.invariant (λ n. Some (state_of n.state)) c.args.node c.in_err-at.ensures)
 
 pub index-requires : goal.index-requires
 index-requires g c =
@@ -17,7 +15,6 @@ index-requires g c =
 pub returns : goal.returns
 returns g c =
     rw (← c.self.view_is)
-    (answered c.self.inside.config c.self.inside.nodes.items c.self.invariant State
-    (λ n. Some (state_of n.state)) c.in_ok-at.at c.args.node c.index.result.now
+    (answered c.self.invariant (λ n. Some (state_of n.state)) c.index.result.now
     (Some c.state.result) c.index.ensures c.in_ok-at.ensures.0 c.in_ok-at.ensures.1
     (λ n s. ap Some (c.state.ensures ∙ ap state_of s.state)))
