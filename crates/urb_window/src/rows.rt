@@ -1,6 +1,6 @@
 //! The rows of the senders, in order of their numbers.
 
-ghost use Rattle.std.specs.Prelude.{◌≡◌, ◌+◌, ◌-◌, ◌≤◌, ◌<◌, Some, IfSome, IfNone, OnOk, IsOk};
+ghost use Rattle.std.specs.Prelude.{◌≡◌, ◌+◌, ◌-◌, ◌≤◌, ◌<◌, IfSome, IfNone, OnOk, IsOk};
 ghost use Rattle.std.specs.Prelude.{length, find, option_map, slice_get, drop};
 ghost use Rattle.std.specs.List.{AllByRecursion};
 ghost use Rattle.urb_names.specs.Names.{name_lt};
@@ -31,11 +31,11 @@ pub(crate) fn row_of<T, A: Allocator>(
 }
 
 // The sender whose row is at this index.
-fn sender_at(index: usize) -> Option<NodeId>
+fn sender_at(index: usize) -> NodeId
     requires { index < MAX_SENDERS }
-    ensures { result ≡ Some (index + 1) }
+    ensures { result ≡ index + 1 }
 {
-    NodeId::new(index as u8 + 1)
+    NodeId::new(index as u8 + 1).unwrap()
 }
 
 // Appends empty rows until there is one for each sender.
@@ -85,7 +85,7 @@ pub(crate) fn entry_of<T, A: Allocator + Copy>(
         if left < count {
             row.recall();
             let (seq, value) = row.pair(left)?;
-            let sender = sender_at(i)?;
+            let sender = sender_at(i);
             return Some((Name { sender, seq }, value));
         }
         left -= count;
@@ -107,7 +107,7 @@ pub(crate) fn first_from<T, A: Allocator + Copy>(
         let row = &rows[i];
         row.recall();
         if let Some((seq, _)) = row.pair(0) {
-            let sender = sender_at(i)?;
+            let sender = sender_at(i);
             return Some(Name { sender, seq });
         }
     }

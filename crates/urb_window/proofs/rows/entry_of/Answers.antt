@@ -25,8 +25,7 @@ returns-then-left-count g c =
     let few : j < length (pairs_of row) = search rules in
     let got : slice_get (pairs_of row) j ≡ Some (c.in_ok-seq.seq, c.in_ok-seq.value.now) =
     sym c.in_ok-seq.ensures in
-    let at : c.in_ok-sender.sender ≡ i + 1 = search rules in
-    ap (λ s. Some (name s c.in_ok-seq.seq, c.in_ok-seq.value.now)) at
+    ap (λ s. Some (name s c.in_ok-seq.seq, c.in_ok-seq.value.now)) c.sender_at-sender.ensures
     ∙ (sym (entry_within rows i row j within c.index-rows-i.is few
     ∙ ap (option_map (λ p. (name (i + 1) p.0, p.1))) got) ∙ c.loop-i.invariant)
 

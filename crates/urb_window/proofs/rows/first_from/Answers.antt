@@ -23,8 +23,7 @@ returns-in-Some g c =
     let within : i < length rows = search rules in
     let got : slice_get (pairs_of row) 0 ≡ Some (c.in-Some.seq, c.in-Some.field-0-1.now) =
     sym c.in-Some.ensures in
-    let at : c.in_ok-sender.sender ≡ i + 1 = search rules in
-    ap (λ s. Some (name s c.in-Some.seq)) at
+    ap (λ s. Some (name s c.in-Some.seq)) c.sender_at-sender.ensures
     ∙ ap (option_map (λ entry. entry.0))
     (sym (first_within rows i row
     (c.in-Some.seq, c.in-Some.field-0-1.now) within c.index-rows-i.is got)
