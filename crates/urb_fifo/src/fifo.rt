@@ -142,8 +142,8 @@ impl<A: Allocator + Copy> Fifo<A> {
         self.certified.is_same(&other.certified) && are_same(&self.log, &other.log)
     }
 
-    // The names of its sender that a certificate would release: those after the first number
-    // returned, up to the second. They are none if the two numbers are equal.
+    // Returns two numbers. The certificate would release its sender's names after the first number,
+    // up to the second. If the two are equal, it would release none.
     fn range_released_by(&self, certificate: Name) -> (u32, u32)
         requires sender { certificate.sender ≤ self.now.limits.n }
         requires seq { certificate.seq ≤ self.now.limits.cap }

@@ -29,6 +29,7 @@
 #![tactic(auto)]
 
 mod entry;
+pub mod entry_lists;
 mod group_entries;
 mod history;
 mod house;

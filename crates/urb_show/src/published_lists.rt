@@ -6,9 +6,10 @@ ghost use Rattle.urb_show.specs.History.{Issue, issue_of};
 ghost use Rattle.urb_show.specs.Pages.{IsPageOf};
 
 use crate::entry::{Addition, Entry, Page};
+use crate::entry_lists::{copy_entries, push_at};
 use crate::history::tokens::Mark;
 use left_right::Absorb;
-use std::alloc::{AllocError, Allocator, Global};
+use std::alloc::{AllocError, Allocator};
 use std::marker::Model;
 use urb_group::NoMemory;
 
@@ -85,30 +86,6 @@ impl Absorb<Operation> for PublishedLists {
     }
 }
 
-// Appends an entry to the list at that place, if there is such a list.
-fn push_at(lists: &mut Vec<Vec<Entry>>, place: usize, entry: Entry) -> Result<(), Entry>
-    ensures { MatchResult result
-        (λ _. map (λ l. l.items) lists.new.items
-        ≡ add_at (map (λ l. l.items) lists.old.items) place entry) (λ e.
-        (e ≡ entry) × (map (λ l. l.items) lists.new.items ≡ map (λ l. l.items) lists.old.items)) }
-{
-    if place >= lists.len() {
-        return Ok(());
-    }
-    push_entry(&mut lists[place], entry)
-}
-
-fn push_entry(list: &mut Vec<Entry>, entry: Entry) -> Result<(), Entry>
-    ensures { MatchResult result
-        (λ _. list.new.items ≡ list.old.items ++ entry ∷ [])
-        (λ e. (e ≡ entry) × (list.new.items ≡ list.old.items)) }
-{
-    match list.push(entry) {
-        Ok(()) => Ok(()),
-        Err(failed) => Err(failed.value),
-    }
-}
-
 impl PublishedLists {
     pub(crate) fn new(lists: Vec<Vec<Entry>>, mark: Mark) -> PublishedLists
         ensures { result ≡ record { lists = map (λ l. l.items) lists.items; mark = mark } }
@@ -149,30 +126,10 @@ impl PublishedLists {
         let list = self.list(place);
         let from = list.len().min(first as usize - 1);
         let to = list.len().min(from + max as usize);
-        let entries = copy_all(*self.lists.allocator(), alloc, &list[from..to])?;
+        let entries = copy_entries(*self.lists.allocator(), alloc, &list[from..to])?;
         Ok(Page {
             entries,
             total: list.len() as u32,
         })
     }
-}
-
-// Copies of these entries. The list's memory comes from `list`. If a payload can't be shared, it is
-// copied to memory of `alloc`.
-fn copy_all<B: Allocator + Copy>(
-    alloc: Global,
-    list: B,
-    entries: &[Entry],
-) -> Result<Vec<Entry, B>, NoMemory>
-    ensures { IfOk result (λ v. v.items ≡ entries.now) }
-{
-    let mut copies = Vec::new(list);
-    copies.reserve(entries.len())?;
-    for entry in entries {
-        let copy = entry.share(alloc)?;
-        if copies.push(copy).is_err() {
-            return Err(NoMemory);
-        }
-    }
-    Ok(copies)
 }

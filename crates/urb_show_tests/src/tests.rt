@@ -5,6 +5,7 @@ ghost use Rattle.std.specs.Prelude.{◌≡◌, ◌≤◌, IfSome, length};
 ghost use Rattle.urb_show.specs.Lists.{lists_in};
 
 mod again;
+mod lists;
 mod readers;
 mod seven;
 mod walk;

@@ -1,5 +1,5 @@
 use Rattle.std.proofs.Common.{◌≡◌, take}
-use Rattle.urb_show.proofs.published_lists.copy_all.Given as goal
+use Rattle.urb_show.proofs.entry_lists.copy_entries.Given as goal
 
 abbrev pub invariant-loop-entry : goal.invariant-loop-entry
 invariant-loop-entry g l = l.copies.items ≡ take l.entry-index l.entries
