@@ -19,11 +19,11 @@ use std::marker::Brand;
 use std::sync::{Mutex, Wait};
 use std::test::*;
 use std::thread::{Threads, join};
-use urb_group::{Config, Group, NodeId};
+use urb_group::{Config, Group};
 use urb_refusing::Refusing;
 use urb_show::*;
 use walk::walk;
-use writer::{Board, ROUNDS, write};
+use writer::{Board, ROUNDS, node, write};
 
 // A new group of three nodes, opened.
 fn open_three(alloc: Global) -> Option<Opened>
@@ -161,8 +161,7 @@ fn read_and_write<K: HouseName + Send + Sync, R: Threads + Wait + Sync>(
 fn is_gone<K: HouseName>(alloc: Global, reader: &mut LogReader<K>) -> bool
     requires { 3 ≤ length K.base }
 {
-    let node = NodeId::new(1).unwrap();
-    reader.read(alloc, node, 1, 1).err() == Some(ReadFault::Gone)
+    reader.read(alloc, node(1), 1, 1).err() == Some(ReadFault::Gone)
 }
 
 // Readers read a house while it is written. Another reader learns nothing, and reads once all is
@@ -236,28 +235,31 @@ fn run_refusing_growth<R: Wait>(
     }
 }
 
+// Refuses each growth in turn, until there are no more. Each time one call is refused memory. The
+// result is how many calls of each kind were.
+fn refuse_each_growth<R: Wait>(rt: &R, alloc: Global) -> Result<Tally, &'static str> {
+    let mut all = Tally::none();
+    for refused in 1..300 {
+        match run_refusing_growth(rt, alloc, refused)? {
+            Some(tally) if tally.all() == 1 => all = all.plus(tally),
+            Some(_) => return Err("a refused growth is reported once"),
+            None => return Ok(all),
+        }
+    }
+    Err("each of 299 growths was refused, and there are more")
+}
+
 #[test]
 fn each_growth_of_a_house_may_be_refused(rt: HostRuntime) -> Result<(), Fail> {
-    let mut all = Tally::none();
-    let mut is_done = false;
-    for refused in 1..300 {
-        let Some(tally) = run_refusing_growth(&rt, rt.alloc(), refused)? else {
-            is_done = true;
-            break;
-        };
-        assert_eq!(rt; tally.all(), 1);
-        all = all.plus(tally);
-    }
+    let Tally {
+        opening,
+        settling,
+        reading,
+    } = refuse_each_growth(&rt, rt.alloc())?;
     assert!(rt;
-        is_done,
-        "each of 299 growths was refused, and there are more"
+        opening > 10 && settling > 2 && reading == 5,
+        "{opening} growths in opening, {settling} in settling, {reading} in reading"
     );
-    let (opening, settling) = (all.opening, all.settling);
-    assert!(rt;
-        opening > 10 && settling > 2,
-        "{opening} growths in opening, {settling} in settling"
-    );
-    assert_eq!(rt; all.reading, 5);
     Ok(())
 }
 

@@ -6,10 +6,10 @@ ghost use Rattle.std.specs.Prelude.{◌≡◌, ◌≤◌, IfOk, length};
 ghost use Rattle.urb_show.specs.Lists.{lists_in};
 
 use super::readers::agrees;
-use super::writer::{arrive, broadcast, keep, three_stores};
+use super::writer::{answer, broadcast, node, three_stores};
 use std::alloc::Global;
 use std::sync::Wait;
-use urb_group::{Group, MemStable, NoMemory, NodeId};
+use urb_group::{Group, MemStable, NoMemory};
 use urb_refusing::Refusing;
 use urb_show::{House, HouseName, LogReader, Opened, ReadFault, Told};
 
@@ -89,7 +89,7 @@ fn site_of<'a, K: HouseName, R: Wait>(
 fn has<K: HouseName>(alloc: Global, reader: &mut LogReader<K, Heap<'_>>, total: u32) -> bool
     requires { 3 ≤ length K.base }
 {
-    match reader.read(alloc, NodeId::new(2).unwrap(), 1, 255) {
+    match reader.read(alloc, node(2), 1, 255) {
         Ok(page) => agrees(&page) && page.total == total,
         Err(_) => false,
     }
@@ -106,14 +106,14 @@ fn settle<K: HouseName, R: Wait>(
 ) -> Option<(Told<K>, u32)>
     requires { 3 ≤ length K.base }
 {
-    let node = NodeId::new(2).unwrap();
-    match house.settle(rt, node) {
+    let two = node(2);
+    match house.settle(rt, two) {
         Ok(told) => Some((told, 0)),
         Err(NoMemory) => {
             if !has(alloc, reader, before) {
                 return None;
             }
-            Some((house.settle(rt, node).ok()?, 1))
+            Some((house.settle(rt, two).ok()?, 1))
         }
     }
 }
@@ -127,10 +127,10 @@ fn read<'a, K: HouseName>(
 ) -> Option<u32>
     requires { 3 ≤ length K.base }
 {
-    let node = NodeId::new(2).unwrap();
-    let (page, refused) = match reader.read(heap, node, 1, 255) {
+    let two = node(2);
+    let (page, refused) = match reader.read(heap, two, 1, 255) {
         Ok(page) => (page, 0),
-        Err(ReadFault::NoMemory) => (reader.read(heap, node, 1, 255).ok()?, 1),
+        Err(ReadFault::NoMemory) => (reader.read(heap, two, 1, 255).ok()?, 1),
         Err(ReadFault::Gone) => return None,
     };
     if agrees(&page) && page.total == total {
@@ -147,10 +147,8 @@ fn send<K: HouseName>(
     stores: &mut [MemStable],
     number: u32,
 ) -> Option<()> {
-    let (one, two) = (NodeId::new(1)?, NodeId::new(2)?);
-    let sent = broadcast(alloc, house, stores, one, number)?;
-    let taken = arrive(alloc, house, two, &sent)?;
-    keep(house, stores, taken)?;
+    let sent = broadcast(alloc, house, stores, node(1), number)?;
+    answer(alloc, house, stores, node(2), &sent)?;
     Some(())
 }
 

@@ -3,9 +3,10 @@
 //! After a refusal the entry is returned, the lists are as before, and the second call gives what
 //! the first one would have given.
 
+use super::writer::node;
 use std::alloc::Global;
 use std::test::*;
-use urb_group::{ClientId, Message, Name, NoMemory, NodeId};
+use urb_group::{ClientId, Message, Name, NoMemory};
 use urb_refusing::Refusing;
 use urb_show::Entry;
 use urb_show::entry_lists::{copy_entries, push_at, push_entry};
@@ -35,7 +36,7 @@ fn make_entry(alloc: Global, number: u32) -> Option<Entry> {
     if number == 0 {
         return None;
     }
-    let sender = NodeId::new(2)?;
+    let sender = node(2);
     let payload = [(number % 256) as u8];
     let message = Message::copy_of(alloc, ClientId::new(7)?, number, &payload).ok()?;
     Some(Entry {

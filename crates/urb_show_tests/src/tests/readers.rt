@@ -1,7 +1,7 @@
 //! Readers, and checks that what they read agrees.
 ghost use Rattle.std.specs.Prelude.{◌≤◌, length};
 
-use super::writer::{Board, News, ROUNDS};
+use super::writer::{Board, News, ROUNDS, node};
 use std::alloc::{Allocator, Global};
 use std::sync::{Mutex, MutexGuard, Wait};
 use urb_group::NodeId;
@@ -57,9 +57,9 @@ fn length_of<K: HouseName>(alloc: Global, reader: &mut LogReader<K>, node: NodeI
 fn lengths<K: HouseName>(alloc: Global, reader: &mut LogReader<K>) -> Option<[u32; 3]>
     requires { 3 ≤ length K.base }
 {
-    let one = length_of(alloc, reader, NodeId::new(1).unwrap())?;
-    let two = length_of(alloc, reader, NodeId::new(2).unwrap())?;
-    let three = length_of(alloc, reader, NodeId::new(3).unwrap())?;
+    let one = length_of(alloc, reader, node(1))?;
+    let two = length_of(alloc, reader, node(2))?;
+    let three = length_of(alloc, reader, node(3))?;
     Some([one, two, three])
 }
 

@@ -1,10 +1,10 @@
 //! A house of seven nodes: the last node broadcasts, and what it delivers is published and read.
-ghost use Rattle.std.specs.Prelude.{◌≡◌, ◌≤◌, length};
+ghost use Rattle.std.specs.Prelude.{◌≡◌, ◌<◌, ◌≤◌, length};
 ghost use Rattle.urb_show.specs.Lists.{lists_in};
 
 use super::first_false;
 use super::readers::agrees;
-use super::writer::{arrive, keep, submit};
+use super::writer::{answer, arrive, broadcast, keep, node};
 use std::alloc::Global;
 use std::sync::Wait;
 use urb_group::{MemStable, NodeId, Outbox};
@@ -23,41 +23,59 @@ fn seven_stores(alloc: Global) -> [MemStable; 7] {
     ]
 }
 
-// Stores the packet for this node there. Then the packet that the node sends back to node 7
-// arrives. Returns how many names node 7 releases, if the packet makes it draft anything.
-fn there_and_back<K: HouseName>(
+// The packet for node 7 arrives there. Returns how many names node 7 releases, if the packet makes
+// it draft anything.
+fn released_at_seven<K: HouseName>(
     alloc: Global,
     house: &mut House<K>,
     stores: &mut [MemStable],
-    node: NodeId,
-    sent: &Outbox,
+    back: &Outbox,
 ) -> Option<u32> {
-    let seven = NodeId::new(7)?;
-    let taken = arrive(alloc, house, node, sent)?;
-    let back = keep(house, stores, taken)?.sent;
-    let taken = arrive(alloc, house, seven, &back)?;
+    let taken = arrive(alloc, house, node(7), back)?;
     match keep(house, stores, taken) {
         Some(done) => Some(done.released),
         None => Some(0),
     }
 }
 
-// Node 7 broadcasts, and nodes 1, 2 and 3 take the message. Returns how many names node 7 releases
-// each time.
+// Stores the packet for this node there. Then the packet that the node sends back to node 7
+// arrives. Returns how many names node 7 releases.
+fn there_and_back<K: HouseName>(
+    alloc: Global,
+    house: &mut House<K>,
+    stores: &mut [MemStable],
+    number: u8,
+    sent: &Outbox,
+) -> Option<u32>
+    requires { (0 < number) × (number ≤ 7) }
+{
+    let back = answer(alloc, house, stores, node(number), sent)?;
+    released_at_seven(alloc, house, stores, &back)
+}
+
+// Nodes 1, 2 and 3 take the message. Returns how many names node 7 releases each time.
+fn released_by_three<K: HouseName>(
+    alloc: Global,
+    house: &mut House<K>,
+    stores: &mut [MemStable],
+    sent: &Outbox,
+) -> Option<[u32; 3]> {
+    let first = there_and_back(alloc, house, stores, 1, sent)?;
+    let second = there_and_back(alloc, house, stores, 2, sent)?;
+    let third = there_and_back(alloc, house, stores, 3, sent)?;
+    Some([first, second, third])
+}
+
+// Node 7 broadcasts to six nodes, and nodes 1, 2 and 3 take the message. Returns how many names
+// node 7 releases each time.
 fn broadcast_at_seven<K: HouseName>(
     alloc: Global,
     house: &mut House<K>,
     stores: &mut [MemStable],
 ) -> Option<[u32; 3]> {
-    let taken = submit(alloc, house, NodeId::new(7)?, 1)?;
-    let sent = keep(house, stores, taken)?.sent;
-    if sent.len() != 6 {
-        return None;
-    }
-    let first = there_and_back(alloc, house, stores, NodeId::new(1)?, &sent)?;
-    let second = there_and_back(alloc, house, stores, NodeId::new(2)?, &sent)?;
-    let third = there_and_back(alloc, house, stores, NodeId::new(3)?, &sent)?;
-    Some([first, second, third])
+    let sent = broadcast(alloc, house, stores, node(7), 1)?;
+    let released = released_by_three(alloc, house, stores, &sent);
+    if sent.len() == 6 { released } else { None }
 }
 
 // The number of entries in a node's list, if its page agrees.
@@ -92,7 +110,7 @@ fn settle_seven<K: HouseName, R: Wait>(
 ) -> bool
     requires { 7 ≤ length K.base }
 {
-    match house.settle(rt, NodeId::new(7).unwrap()) {
+    match house.settle(rt, node(7)) {
         Ok(told) => {
             reader.learn(told);
             true
@@ -115,7 +133,7 @@ fn calls<K: HouseName, R: Wait>(
     let before = lists_are(alloc, reader, 0);
     let settled = settle_seven(rt, house, reader);
     let after = lists_are(alloc, reader, 1);
-    let ticked = house.tick(alloc, NodeId::new(7).unwrap());
+    let ticked = house.tick(alloc, node(7));
     first_false(&[
         (released == Some([0, 0, 1]), "four of seven deliver"),
         (before, "nothing is published before it is settled"),

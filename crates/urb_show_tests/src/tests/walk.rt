@@ -4,7 +4,7 @@ ghost use Rattle.urb_show.specs.Lists.{lists_in};
 
 use super::first_false;
 use super::readers::reads;
-use super::writer::{arrive, draft_in, keep, submit, three_stores};
+use super::writer::{arrive, draft_in, keep, node, submit, three_stores};
 use std::alloc::Global;
 use std::sync::Wait;
 use urb_group::{ClientId, Failure, MemStable, Name, NodeId, Outbox, Refusal, Stable, State};
@@ -49,7 +49,7 @@ fn ticked_by<K: HouseName>(alloc: Global, house: &mut House<K>, node: NodeId) ->
 
 // Whether the house reports that node 1 has sent a message, and node 2 has delivered it.
 fn tells<K: HouseName>(house: &House<K>) -> Option<bool> {
-    let (one, two, none) = (NodeId::new(1)?, NodeId::new(2)?, NodeId::new(4)?);
+    let (one, two, none) = (node(1), node(2), node(4));
     let name = Name {
         sender: one,
         seq: 1,
@@ -85,7 +85,7 @@ fn delivers<K: HouseName>(
 // Node 1 broadcasts and node 2 delivers. Checks the statuses and the answers of both, and what
 // refused calls leave.
 fn events<K: HouseName>(alloc: Global, house: &mut House<K>, stores: &mut [MemStable]) -> bool {
-    let (one, two) = (NodeId::new(1).unwrap(), NodeId::new(2).unwrap());
+    let (one, two) = (node(1), node(2));
     if is_refused(alloc, house, one) != Some(true) {
         return false;
     }
@@ -123,7 +123,7 @@ fn comes_back<K: HouseName>(
 
 // Node 3's store fails, and the node restarts. Then node 1 crashes.
 fn failures<K: HouseName>(alloc: Global, house: &mut House<K>, store: &mut MemStable) -> bool {
-    let (one, three) = (NodeId::new(1).unwrap(), NodeId::new(3).unwrap());
+    let (one, three) = (node(1), node(3));
     let failed = fails(alloc, house, store, three).is_some();
     let back = comes_back(alloc, house, store, three) == Some(true);
     let crashed = house.crash(one).is_ok();
@@ -148,7 +148,7 @@ fn counts_from<K: HouseName>(
 fn counts_of_none<K: HouseName>(alloc: Global, reader: &mut LogReader<K>) -> Option<(u32, usize)>
     requires { 3 ≤ length K.base }
 {
-    let page = reader.read(alloc, NodeId::new(2)?, 1, 0).ok()?;
+    let page = reader.read(alloc, node(2), 1, 0).ok()?;
     Some((page.total, page.entries.len()))
 }
 
@@ -162,7 +162,7 @@ fn settles_nothing<K: HouseName, R: Wait>(
 ) -> Option<bool>
     requires { 3 ≤ length K.base }
 {
-    let two = NodeId::new(2)?;
+    let two = node(2);
     reader.learn(house.settle(rt, two).ok()?);
     let same = counts_from(alloc, reader, two, 1)? == (1, 1);
     Some(same && counts_of_none(alloc, reader)? == (1, 0))
@@ -177,7 +177,7 @@ fn tells_another<K: HouseName>(
     requires { 3 ≤ length K.base }
 {
     other.learn(reader.seen_token());
-    let counts = counts_from(alloc, other, NodeId::new(2)?, 1)?;
+    let counts = counts_from(alloc, other, node(2), 1)?;
     reader.agrees_with(other);
     Some(counts == (1, 1))
 }
@@ -191,7 +191,7 @@ fn settles<K: HouseName, R: Wait>(
 ) -> Option<bool>
     requires { 3 ≤ length K.base }
 {
-    let two = NodeId::new(2)?;
+    let two = node(2);
     let before = reads(alloc, reader, 0);
     reader.learn(house.settle(rt, two).ok()?);
     let counts = counts_from(alloc, reader, two, 1)?;
@@ -244,6 +244,6 @@ pub fn walk<K: HouseName, R: Wait>(
     let mut other = readers.pop().unwrap();
     let called = calls(rt, alloc, &mut house, &mut readers[0], &mut other);
     let group = house.close(rt);
-    let kept = group.log(NodeId::new(2).unwrap()).map(|log| log.len()) == Some(1);
+    let kept = group.log(node(2)).map(|log| log.len()) == Some(1);
     if kept { called } else { Err("the group") }
 }

@@ -1,5 +1,5 @@
 //! A thread that submits, carries packets, stores and settles, and reports what it settled.
-ghost use Rattle.std.specs.Prelude.{◌≤◌, length};
+ghost use Rattle.std.specs.Prelude.{◌≡◌, ◌<◌, ◌≤◌, length};
 
 use std::alloc::{Allocator, Global};
 use std::sync::{Mutex, MutexGuard, Wait};
@@ -117,6 +117,26 @@ pub fn arrive<K: HouseName, A: Allocator + Copy>(
     None
 }
 
+/// The packet for a node arrives there, and what it drafts is stored. Returns the node's packets.
+pub fn answer<K: HouseName, A: Allocator + Copy>(
+    alloc: Global,
+    house: &mut House<K, A>,
+    stores: &mut [MemStable],
+    node: NodeId,
+    sent: &Outbox,
+) -> Option<Outbox> {
+    let taken = arrive(alloc, house, node, sent)?;
+    Some(keep(house, stores, taken)?.sent)
+}
+
+/// The node with this number.
+pub fn node(number: u8) -> NodeId
+    requires { (0 < number) × (number ≤ 7) }
+    ensures { result ≡ number }
+{
+    NodeId::new(number).unwrap()
+}
+
 // Posts the report of a settling.
 fn tell<K: HouseName, R: Wait>(rt: &R, board: &Mutex<Board<K>>, news: News<K>) -> bool {
     let mut guard = board.lock(rt);
@@ -166,8 +186,7 @@ fn deliver<K: HouseName, R: Wait>(
 ) -> Option<Outbox>
     requires { node ≤ length K.base }
 {
-    let taken = arrive(writer.alloc, house, node, sent)?;
-    let answered = keep(house, stores, taken)?.sent;
+    let answered = answer(writer.alloc, house, stores, node, sent)?;
     settle(writer.rt, house, writer.board, node)?;
     Some(answered)
 }
@@ -200,7 +219,7 @@ fn third_delivers<K: HouseName, R: Wait>(
 ) -> bool
     requires { 3 ≤ length K.base }
 {
-    let three = NodeId::new(3).unwrap();
+    let three = node(3);
     deliver(writer, house, stores, three, sent.1).is_some()
         && deliver(writer, house, stores, three, sent.0).is_some()
 }
@@ -215,7 +234,7 @@ fn round<K: HouseName, R: Wait>(
 ) -> bool
     requires { 3 ≤ length K.base }
 {
-    let (one, two) = (NodeId::new(1).unwrap(), NodeId::new(2).unwrap());
+    let (one, two) = (node(1), node(2));
     let first = there_and_back(writer, house, stores, (one, two), number);
     let second = there_and_back(writer, house, stores, (two, one), number);
     match (&first, &second) {
