@@ -1,7 +1,7 @@
 -- What each call does with the node in one place, by the definition's outcome for every node that
 -- the place shows.
-use Rattle.std.specs.Prelude.{Bool, Err, List, Ok, Result, Some, if◌then◌else◌, not, slice_get}
-use Rattle.std.specs.Prelude.{slice_set, true, ℕ, ◌≡◌}
+use Rattle.std.specs.Prelude.{Bool, Err, List, Ok, Result, if◌then◌else◌, not}
+use Rattle.std.specs.Prelude.{true, ℕ, ◌≡◌}
 use Rattle.urb_names.specs.Carried.{Carried}
 use Rattle.urb_names.specs.Naming.{Content, Limits}
 use Rattle.urb_names.specs.declared.refusal.Refusal.{Refusal}
@@ -13,21 +13,14 @@ use Rattle.urb_node.specs.Part.{Node}
 use Rattle.urb_node.specs.Replies.{Done, Drafted, Reply, Same, Sent, Stored, Up, WentDown}
 use Rattle.urb_node.specs.Steps.{arrives, commits, crashes, fails, is_down, is_storing, refuses}
 use Rattle.urb_node.specs.Steps.{restarts, submits, ticks}
-use Rattle.urb_node.specs.Values.{IsSameNode, draft_of}
+use Rattle.urb_node.specs.Values.{IsSameNode, Memory, draft_of}
+use Rattle.urb_node.specs.declared.step.Step.{Step}
+use Rattle.urb_node.specs.declared.step.Step.TheVariants as step
 use Rattle.urb_group.specs.Places.{ShowsAt, memory_in}
 use Rattle.urb_group.specs.declared.node_moves.Node.{Node as Place}
 use Rattle.urb_group.specs.declared.node_moves.Node.TheVariants as place
 use Rattle.urb_group.specs.declared.taken.Taken.{Taken}
 use Rattle.urb_group.specs.declared.taken.Taken.TheVariants as taken
-
--- the item in this place moves, and the others stay
-pub record Moved {T R : Type 0} (moves : T → T × R → Type 0) (old : List T) (at : ℕ) (result : R)
-    (new : List T) : Type 0 where
-  pub node : T
-  pub moved : T
-  pub was : slice_get old at ≡ Some node
-  pub step : moves node (moved, result)
-  pub is : new ≡ slice_set old at moved
 
 -- the result of a call that took an event: its reply, or a refusal
 abbrev pub Told : Type 0
@@ -84,6 +77,13 @@ told_sent (Ok packets) = Ok (Sent packets)
 told_sent (Err r) = Err r
 
 -- ---- each call at one place
+
+-- the place of a ready node after its step
+abbrev pub after_step : {A : Type 0} → Result (Step A) (Memory × Refusal)
+    → Place A × Result (Taken A) Refusal
+after_step (Ok (step.Same ready answer)) = (place.Ready ready, Ok (taken.Same answer))
+after_step (Ok (step.Store storing draft)) = (place.Storing storing, Ok (taken.Store draft))
+after_step (Err e) = (place.Ready e.0, Err e.1)
 
 -- the draft that was returned is the one that the node holds
 abbrev pub IsHeldAt : {A : Type 0} → Place A → Placed → Type 0

@@ -2,14 +2,13 @@
 
 ghost use Rattle.std.specs.Prelude.{◌≡◌, IfOk};
 ghost use Rattle.urb_group.specs.Calls.{ComesUp, Commits, GoesDown, Takes, Ticks};
-ghost use Rattle.urb_group.specs.Moving.{RestartsAt};
 ghost use Rattle.urb_group.specs.Shown.{Shows};
 ghost use Rattle.urb_group.specs.Step.{Crash, Fail, Restart, Submit, Tick};
 ghost use Rattle.urb_group.specs.World.{started};
 
 use crate::Taken;
 use crate::node_moves::{
-    Node, commit_at, crash_at, fail_at, move_at, place_of, restart_at, submit_at,
+    Node, commit_at, crash_at, fail_at, place_of, put_back, restart_at, submit_at,
     submit_sharing_at, tick_at,
 };
 use crate::shared_payloads::share_image;
@@ -77,9 +76,9 @@ impl<A: Allocator + Copy> Group<A> {
         let Some(at) = place_of(self.config, node) else {
             return Err(Refusal::BadNode);
         };
-        move_at(&mut self.nodes, at, |node| {
-            submit_at(node, alloc, client, number, payload)
-        })
+        let (moved, taken) = submit_at(self.nodes.remove(at), alloc, client, number, payload);
+        put_back(&mut self.nodes, at, moved);
+        taken
     }
 
     /// Does the same, with the same refusals, but the node's message shares the memory of the
@@ -99,9 +98,10 @@ impl<A: Allocator + Copy> Group<A> {
         let Some(at) = place_of(self.config, node) else {
             return Err(Refusal::BadNode);
         };
-        move_at(&mut self.nodes, at, |node| {
-            submit_sharing_at(node, alloc, client, number, payload)
-        })
+        let current = self.nodes.remove(at);
+        let (moved, taken) = submit_sharing_at(current, alloc, client, number, payload);
+        put_back(&mut self.nodes, at, moved);
+        taken
     }
 
     /// Takes the receipt for a draft: the node's store has kept the draft's record. The node goes
@@ -115,7 +115,9 @@ impl<A: Allocator + Copy> Group<A> {
         let Some(at) = place_of(self.config, receipt.node()) else {
             return Err((receipt, Refusal::BadNode));
         };
-        move_at(&mut self.nodes, at, move |node| commit_at(node, receipt))
+        let (moved, done) = commit_at(self.nodes.remove(at), receipt);
+        put_back(&mut self.nodes, at, moved);
+        done
     }
 
     /// Takes the doubt about a draft: the node's store may or may not have kept the draft's record.
@@ -129,7 +131,9 @@ impl<A: Allocator + Copy> Group<A> {
         let Some(at) = place_of(self.config, doubt.node()) else {
             return Err(Refusal::BadNode);
         };
-        move_at(&mut self.nodes, at, fail_at)
+        let (moved, done) = fail_at(self.nodes.remove(at));
+        put_back(&mut self.nodes, at, moved);
+        done
     }
 
     /// Makes a node send pending messages again, as on each timeout of its links.
@@ -142,7 +146,9 @@ impl<A: Allocator + Copy> Group<A> {
         let Some(at) = place_of(self.config, node) else {
             return Err(Refusal::BadNode);
         };
-        move_at(&mut self.nodes, at, |node| tick_at(node, alloc))
+        let (moved, sent) = tick_at(self.nodes.remove(at), alloc);
+        put_back(&mut self.nodes, at, moved);
+        sent
     }
 
     /// Stops a node, which loses what it has not stored. Allocates no memory.
@@ -154,7 +160,9 @@ impl<A: Allocator + Copy> Group<A> {
         let Some(at) = place_of(self.config, node) else {
             return Err(Refusal::BadNode);
         };
-        move_at(&mut self.nodes, at, crash_at)
+        let (moved, done) = crash_at(self.nodes.remove(at));
+        put_back(&mut self.nodes, at, moved);
+        done
     }
 
     /// Brings a node up again with all the records that its storage returned. The node sends
@@ -176,12 +184,8 @@ impl<A: Allocator + Copy> Group<A> {
             return Err(Refusal::BadNode);
         };
         let shared = share_image(&self.nodes, alloc, image);
-        move_at(
-            &mut self.nodes,
-            at,
-            move |node| -> (Node<A>, Result<(), Refusal>)
-                ensures { RestartsAt node shared.items result }
-            { restart_at(node, alloc, shared) },
-        )
+        let (moved, done) = restart_at(self.nodes.remove(at), alloc, shared);
+        put_back(&mut self.nodes, at, moved);
+        done
     }
 }

@@ -1,9 +1,10 @@
 //! The nodes of a group, each in its place. A call moves a node to its next state, or leaves it.
 
-ghost use Rattle.std.specs.Prelude.{◌<◌, ◌≡◌, Some, slice_get, suc, vec_len};
+ghost use Rattle.std.specs.Prelude.{◌<◌, ◌≡◌, ◌≤◌, suc, vec_capacity, vec_len};
+ghost use Rattle.std.specs.List.{insert};
 ghost use Rattle.std.specs.Option.{ForSome, MatchOption};
-ghost use Rattle.urb_group.specs.Moving.{ArrivesAt, CommitsAt, CrashesAt, FailsAt, MayReach, Moved};
-ghost use Rattle.urb_group.specs.Moving.{RestartsAt, SubmitsAt, TicksAt};
+ghost use Rattle.urb_group.specs.Moving.{ArrivesAt, CommitsAt, CrashesAt, FailsAt, MayReach};
+ghost use Rattle.urb_group.specs.Moving.{RestartsAt, SubmitsAt, TicksAt, after_step};
 
 use crate::Taken;
 use std::alloc::{Allocator, Global};
@@ -32,20 +33,26 @@ pub(crate) enum Node<A: Allocator = Global> {
     Down(Down<A>),
 }
 
-/// Replaces the item in one place by what `moves` makes of it, and leaves the other places as they
-/// are.
-pub(crate) fn move_at<T, A: Allocator, R, F: FnOnce(T) -> (T, R)>(
-    nodes: &mut Vec<T, A>,
-    at: usize,
-    moves: F,
-) -> R
-    requires within { at < vec_len nodes.old }
-    requires callable { (node : _) → slice_get nodes.old.items at ≡ Some node → F.pre moves node }
-    ensures { Moved (λ node r. F.post moves node r) nodes.old.items at result nodes.new.items }
+/// Puts a node back into its place, from which it was taken.
+pub(crate) fn put_back<A: Allocator>(nodes: &mut Vec<Node<A>, A>, at: usize, node: Node<A>)
+    requires within { at ≤ vec_len nodes.old }
+    requires room { vec_len nodes.old < vec_capacity nodes.old }
+    ensures { nodes.new.items ≡ insert nodes.old.items at node }
 {
-    let (moved, result) = moves(nodes.remove(at));
-    nodes.insert(at, moved).unwrap();
-    result
+    nodes.insert(at, node).unwrap();
+}
+
+// Returns the node after a ready node's step, with what the step gives.
+fn node_after<A: Allocator + Copy>(
+    outcome: Result<Step<A>, (Ready<A>, Refusal)>,
+) -> (Node<A>, Result<Taken<A>, Refusal>)
+    ensures { result ≡ after_step outcome }
+{
+    match outcome {
+        Ok(Step::Same(ready, answer)) => (Node::Ready(ready), Ok(Taken::Same(answer))),
+        Ok(Step::Store(storing, draft)) => (Node::Storing(storing), Ok(Taken::Store(draft))),
+        Err((ready, refusal)) => (Node::Ready(ready), Err(refusal)),
+    }
 }
 
 /// Applies a client's message to a node, which moves to its next state, or stays with a refusal.
@@ -60,11 +67,7 @@ pub(crate) fn submit_at<A: Allocator + Copy>(
         result }
 {
     match node {
-        Node::Ready(ready) => match ready.submit(alloc, client, number, payload) {
-            Ok(Step::Same(ready, answer)) => (Node::Ready(ready), Ok(Taken::Same(answer))),
-            Ok(Step::Store(storing, draft)) => (Node::Storing(storing), Ok(Taken::Store(draft))),
-            Err((ready, refusal)) => (Node::Ready(ready), Err(refusal)),
-        },
+        Node::Ready(ready) => node_after(ready.submit(alloc, client, number, payload)),
         Node::Storing(storing) => (Node::Storing(storing), Err(Refusal::Busy)),
         Node::Down(down) => (Node::Down(down), Err(Refusal::Down)),
     }
@@ -82,11 +85,7 @@ pub(crate) fn submit_sharing_at<A: Allocator + Copy>(
         result }
 {
     match node {
-        Node::Ready(ready) => match ready.submit_sharing(alloc, client, number, payload) {
-            Ok(Step::Same(ready, answer)) => (Node::Ready(ready), Ok(Taken::Same(answer))),
-            Ok(Step::Store(storing, draft)) => (Node::Storing(storing), Ok(Taken::Store(draft))),
-            Err((ready, refusal)) => (Node::Ready(ready), Err(refusal)),
-        },
+        Node::Ready(ready) => node_after(ready.submit_sharing(alloc, client, number, payload)),
         Node::Storing(storing) => (Node::Storing(storing), Err(Refusal::Busy)),
         Node::Down(down) => (Node::Down(down), Err(Refusal::Down)),
     }
@@ -111,13 +110,7 @@ pub(crate) fn arrive_at<A: Allocator + Copy>(
             if !is_truthful {
                 return (Node::Ready(ready), Err(Refusal::Forged));
             }
-            match ready.arrive_sharing(alloc, packet, known) {
-                Ok(Step::Same(ready, answer)) => (Node::Ready(ready), Ok(Taken::Same(answer))),
-                Ok(Step::Store(storing, draft)) => {
-                    (Node::Storing(storing), Ok(Taken::Store(draft)))
-                }
-                Err((ready, refusal)) => (Node::Ready(ready), Err(refusal)),
-            }
+            node_after(ready.arrive_sharing(alloc, packet, known))
         }
         Node::Storing(storing) => (Node::Storing(storing), Err(Refusal::Busy)),
         Node::Down(down) => (Node::Down(down), Err(Refusal::Down)),

@@ -9,7 +9,7 @@ ghost use Rattle.urb_group.specs.Reaching.{AreEnds, HoldsPair, IsAsCertified, Te
 ghost use Rattle.urb_group.specs.Reaching.{is_for_node};
 ghost use Rattle.urb_group.specs.Step.{Arrive};
 
-use crate::node_moves::{Node, arrive_at, move_at, place_of};
+use crate::node_moves::{Node, arrive_at, place_of, put_back};
 use crate::{Group, Taken};
 use std::alloc::Allocator;
 use urb_names::{Config, Message, NodeId, PacketView, Refusal, parse};
@@ -100,8 +100,8 @@ impl<A: Allocator + Copy> Group<A> {
         };
         let is_truthful = tells_truth(&self.nodes[source], &packet);
         let known = share_stored(alloc, &self.nodes[source], &packet);
-        move_at(&mut self.nodes, at, move |node| {
-            arrive_at(node, alloc, packet, known, is_truthful)
-        })
+        let (moved, taken) = arrive_at(self.nodes.remove(at), alloc, packet, known, is_truthful);
+        put_back(&mut self.nodes, at, moved);
+        taken
     }
 }

@@ -1,5 +1,9 @@
 -- What each call of a group says, once one of its nodes has moved.
-use Rattle.std.proofs.Common.{Err, List, Ok, Result, ap, subst, suc, sym, ℕ, ◌∙◌, ◌≡◌}
+use Rattle.std.proofs.Common.{Err, List, Ok, Result, Some, ap, arith, length, refl, set}
+use Rattle.std.proofs.Common.{slice_index_or, subst, suc, sym, ℕ, ◌<◌, ◌∙◌, ◌≡◌}
+use Rattle.std.proofs.lemmas.Option.{slice_get_read}
+use Rattle.std.specs.List.{insert, remove}
+use Rattle.std.specs.Prelude.{slice_get}
 use Rattle.urb_names.specs.Carried.{Carried}
 use Rattle.urb_names.specs.Naming.{Content, Limits}
 use Rattle.urb_names.specs.declared.refusal.Refusal.{Refusal}
@@ -10,7 +14,7 @@ use Rattle.urb_node.specs.Replies.{Done, Same, Sent, Stored, Up, WentDown}
 use Rattle.urb_node.specs.Steps.{submits}
 use Rattle.urb_group.specs.Calls.{ComesUp, Commits, GoesDown, HoldsDraft, Takes, Ticks}
 use Rattle.urb_group.specs.Moving.{CommitsAt, CrashesAt, FailsAt, HandsBack, HoldsAt, Leads}
-use Rattle.urb_group.specs.Moving.{LeadsAt, Moved, Outcomes, RestartsAt, SubmitsAt, TicksAt, Told}
+use Rattle.urb_group.specs.Moving.{LeadsAt, Outcomes, RestartsAt, SubmitsAt, TicksAt, Told}
 use Rattle.urb_group.specs.Moving.{commits_as}
 use Rattle.urb_group.specs.Moving.{crashes_as, fails_as, restarts_as, ticks_as, told_down}
 use Rattle.urb_group.specs.Moving.{told_sent, told_stored, told_taken, told_up}
@@ -21,17 +25,27 @@ use Rattle.urb_group.specs.World.{World}
 use Rattle.urb_group.specs.declared.node_moves.Node.{Node as Place}
 use Rattle.urb_group.specs.declared.taken.Taken.{Taken}
 use Rattle.urb_group.specs.declared.taken.Taken.TheVariants as taken
+use Rattle.urb_group.proofs.shown.ReplacedElements.{insert_removed}
 use Rattle.urb_group.proofs.shown.NodeMoves.{StepsTo, holds_draft, lifted, place_shows, still_group}
 use Rattle.urb_group.proofs.steps.StepCases.{step-outcome}
 
--- what a call does with a place, and its result
-abbrev pub Call : Type 0 → Type 0 → Type 1
-Call A R = Place A → Place A × R → Type 0
+-- A node is taken out of its place, moves, and is put back.
+module _ {A : Type 0} {size : Limits} {places rest new : List (Place A)}
+    (group : IsGroup size places) {i p : ℕ} (own : p ≡ suc i) (low : i < size.n)
+    {node : Place A} (moved : Place A) (is-node : node ≡ slice_index_or places i node)
+    (out : rest ≡ remove places i) (back : new ≡ insert rest i moved) where
+  within : i < length places
+  within = omega (arith, group.placed.count)
 
-module _ {A : Type 0} {size : Limits} {places new : List (Place A)} (group : IsGroup size places)
-    {i p : ℕ} (own : p ≡ suc i) where
-  module _ {R : Type 0} {result : R} {call : Call A R} (moved : Moved call places i result new)
-      (event : Event) (outcome : Outcomes)
+  was : slice_get places i ≡ Some node
+  was = slice_get_read _ _ _ _ refl within is-node
+
+  set-back : new ≡ set places i moved
+  set-back =
+      back ∙ (ap (λ (ps : List (Place A)). insert ps i moved) out
+      ∙ insert_removed places i moved within)
+
+  module _ (event : Event) (outcome : Outcomes)
       (is : (w : World) → Shows (shown size places) w
       → step w event ≡ at_node w p (outcome w.size p (w.node p))) where
     here : (w : World) → Shows (shown size places) w
@@ -39,118 +53,106 @@ module _ {A : Type 0} {size : Limits} {places new : List (Place A)} (group : IsG
     here w s = is w s ∙ ap (λ (q : ℕ). at_node w q (outcome w.size q (w.node q))) own
 
     -- the number of the node that the place shows
-    own_number : (memory_in moved.node).node ≡ p
-    own_number = (group.placed.each i moved.node moved.was).number ∙ sym own
+    own_number : (memory_in node).node ≡ p
+    own_number = (group.placed.each i node was).number ∙ sym own
 
     -- the step in each world that the group showed, and the group after it
-    steps : (told : Told) → LeadsAt outcome moved.node told moved.moved
+    steps : (told : Told) → LeadsAt outcome node told moved
         → StepsTo (shown size places) event told (shown size new) × IsGroup size new
     steps told leads =
         subst (λ (ps : List (Place A)). StepsTo (shown size places) event told (shown size ps)
-        × IsGroup size ps) (sym moved.is) (
-          lifted size places group i moved.node moved.moved moved.was event outcome here told leads,
-          still_group size places group i moved.node moved.moved moved.was event outcome here told
+        × IsGroup size ps) (sym set-back) (
+          lifted size places group i node moved was event outcome here told leads,
+          still_group size places group i node moved was event outcome here told
               leads,
         )
 
     pub takes : (r : Result (Taken A) Refusal)
-        → ((n : Node) → ShowsAt moved.node n
-        → Leads (outcome (memory_in moved.node).limits (memory_in moved.node).node n) moved.node
-        (told_taken r) moved.moved × HoldsAt moved.moved r)
+        → ((n : Node) → ShowsAt node n
+        → Leads (outcome (memory_in node).limits (memory_in node).node n) node
+        (told_taken r) moved × HoldsAt moved r)
         → Takes (shown size places) p event r (shown size new) × IsGroup size new
     takes (Ok (taken.Same answer)) h = steps (Ok (Same answer)) (λ n s. (h n s).0)
     takes (Ok (taken.Store draft)) h =
         let all = steps (told_taken {A = A} (Ok (taken.Store draft))) (λ n s. (h n s).0) in
         let led =
         h (group.sound.world.node (suc i))
-        (place_shows size places group i moved.node moved.moved moved.was group.sound.world
+        (place_shows size places group i node moved was group.sound.world
         group.sound.shows) in
         let held =
         subst (λ (ps : List (Place A)). (draft.node ≡ suc i) × HoldsDraft (shown size ps) draft)
-        (sym moved.is) (holds_draft size places group i moved.node moved.moved moved.was draft
+        (sym set-back) (holds_draft size places group i node moved was draft
         led.0.same led.1) in ((all.0, held.0 ∙ sym own, held.1), all.1)
     takes (Err r) h = steps (Err r) (λ n s. (h n s).0)
 
     goes_down : (r : Result (Unit {0}) Refusal)
-        → LeadsAt outcome moved.node (told_down (memory_in moved.node).node r) moved.moved
+        → LeadsAt outcome node (told_down (memory_in node).node r) moved
         → GoesDown (shown size places) p event r (shown size new) × IsGroup size new
     goes_down (Ok done) leads =
-        steps (Ok (WentDown p)) (subst (λ (q : ℕ). LeadsAt outcome moved.node (Ok (WentDown q))
-        moved.moved) own_number leads)
+        steps (Ok (WentDown p)) (subst (λ (q : ℕ). LeadsAt outcome node (Ok (WentDown q))
+        moved) own_number leads)
     goes_down (Err r) leads = steps (Err r) leads
 
     comes_up : (r : Result (Unit {0}) Refusal)
-        → LeadsAt outcome moved.node (told_up (memory_in moved.node).node r) moved.moved
+        → LeadsAt outcome node (told_up (memory_in node).node r) moved
         → ComesUp (shown size places) p event r (shown size new) × IsGroup size new
     comes_up (Ok done) leads =
-        steps (Ok (Up p)) (subst (λ (q : ℕ). LeadsAt outcome moved.node (Ok (Up q)) moved.moved)
+        steps (Ok (Up p)) (subst (λ (q : ℕ). LeadsAt outcome node (Ok (Up q)) moved)
         own_number leads)
     comes_up (Err r) leads = steps (Err r) leads
 
     ticks : (r : Result (List Carried) Refusal)
-        → LeadsAt outcome moved.node (told_sent r) moved.moved
+        → LeadsAt outcome node (told_sent r) moved
         → Ticks (shown size places) event r (shown size new) × IsGroup size new
     ticks (Ok packets) leads = steps (Ok (Sent packets)) leads
     ticks (Err r) leads = steps (Err r) leads
 
   -- ---- the calls
 
-  pub submit-moved : {call : Call A (Result (Taken A) Refusal)} (m : Content)
-      (result : Result (Taken A) Refusal) (moved : Moved call places i result new)
-      → SubmitsAt moved.node m (moved.moved, result)
+  pub submit-moved : (m : Content) (result : Result (Taken A) Refusal)
+      → SubmitsAt node m (moved, result)
       → Takes (shown size places) p (Submit p m) result (shown size new) × IsGroup size new
-  submit-moved m result moved h =
-      takes moved (Submit p m) (λ l q n. submits l q m n) (λ w s. step-outcome w (Submit p m) tt)
-      result h
+  submit-moved m =
+      takes (Submit p m) (λ l q n. submits l q m n) (λ w s. step-outcome w (Submit p m) tt)
 
-  pub fail-moved : {call : Call A (Result (Unit {0}) Refusal)} (result : Result (Unit {0}) Refusal)
-      (moved : Moved call places i result new) → FailsAt moved.node (moved.moved, result)
+  pub fail-moved : (result : Result (Unit {0}) Refusal) → FailsAt node (moved, result)
       → GoesDown (shown size places) p (Fail p) result (shown size new) × IsGroup size new
-  fail-moved result moved h =
-      goes_down moved (Fail p) fails_as (λ w s. step-outcome w (Fail p) tt) result h
+  fail-moved = goes_down (Fail p) fails_as (λ w s. step-outcome w (Fail p) tt)
 
-  pub crash-moved : {call : Call A (Result (Unit {0}) Refusal)} (result : Result (Unit {0}) Refusal)
-      (moved : Moved call places i result new) → CrashesAt moved.node (moved.moved, result)
+  pub crash-moved : (result : Result (Unit {0}) Refusal) → CrashesAt node (moved, result)
       → GoesDown (shown size places) p (Crash p) result (shown size new) × IsGroup size new
-  crash-moved result moved h =
-      goes_down moved (Crash p) crashes_as (λ w s. step-outcome w (Crash p) tt) result h
+  crash-moved = goes_down (Crash p) crashes_as (λ w s. step-outcome w (Crash p) tt)
 
-  pub tick-moved : {call : Call A (Result (List Carried) Refusal)}
-      (result : Result (List Carried) Refusal)
-      (moved : Moved call places i result new) → TicksAt moved.node (moved.moved, result)
+  pub tick-moved : (result : Result (List Carried) Refusal) → TicksAt node (moved, result)
       → Ticks (shown size places) (Tick p) result (shown size new) × IsGroup size new
-  tick-moved result moved h =
-      ticks moved (Tick p) ticks_as (λ w s. step-outcome w (Tick p) tt) result h
+  tick-moved = ticks (Tick p) ticks_as (λ w s. step-outcome w (Tick p) tt)
 
-  pub restart-moved : {call : Call A (Result (Unit {0}) Refusal)} (image : List Entry)
-      (result : Result (Unit {0}) Refusal) (moved : Moved call places i result new)
-      → RestartsAt moved.node image (moved.moved, result)
+  pub restart-moved : (image : List Entry) (result : Result (Unit {0}) Refusal)
+      → RestartsAt node image (moved, result)
       → ComesUp (shown size places) p (Restart p image) result (shown size new) × IsGroup size new
-  restart-moved image result moved h =
-      comes_up moved (Restart p image) (restarts_as image)
-      (λ w s. step-outcome w (Restart p image) tt) result h
+  restart-moved image =
+      comes_up (Restart p image) (restarts_as image) (λ w s. step-outcome w (Restart p image) tt)
 
-pub commit-moved : {A : Type 0} {size : Limits} {places new : List (Place A)} {i : ℕ}
-    {call : Call A (Result Done (Placed × Refusal))} (group : IsGroup size places)
-    (receipt : Placed) → receipt.node ≡ suc i → (result : Result Done (Placed × Refusal))
-    (moved : Moved call places i result new) → CommitsAt moved.node receipt (moved.moved, result)
-    → Commits (shown size places) receipt result (shown size new) × IsGroup size new
-commit-moved {size = size} {places = places} {new = new} {i = i} group receipt own result moved h =
-    at result (h.0 (sym (own_number group own moved event (commits_as receipt) is))) h.1
-  where
-    event : Event
-    event = Commit receipt.node receipt.pos receipt.entry
+  pub commit-moved : (receipt : Placed) → receipt.node ≡ p
+      → (result : Result Done (Placed × Refusal))
+      → CommitsAt node receipt (moved, result)
+      → Commits (shown size places) receipt result (shown size new) × IsGroup size new
+  commit-moved receipt same result h =
+      at result (h.0 (same ∙ sym (own_number event (commits_as receipt) is))) h.1
+    where
+      event : Event
+      event = Commit receipt.node receipt.pos receipt.entry
 
-    is : (w : World) → Shows (shown size places) w → step w event
-        ≡ at_node w receipt.node (commits_as receipt w.size receipt.node (w.node receipt.node))
-    is w s = step-outcome w event tt
+      is : (w : World) → Shows (shown size places) w
+          → step w event ≡ at_node w p (commits_as receipt w.size p (w.node p))
+      is w s =
+          step-outcome w event tt
+          ∙ ap (λ (q : ℕ). at_node w q (commits_as receipt w.size q (w.node q))) same
 
-    at : (r : Result Done (Placed × Refusal))
-        → LeadsAt (commits_as receipt) moved.node (told_stored r) moved.moved
-        → HandsBack receipt r
-        → Commits (shown size places) receipt r (shown size new) × IsGroup size new
-    at (Ok done) leads back =
-        steps group own moved event (commits_as receipt) is (Ok (Stored done)) leads
-    at (Err e) leads back =
-        let all = steps group own moved event (commits_as receipt) is (Err e.1) leads in
-        ((all.0, back), all.1)
+      at : (r : Result Done (Placed × Refusal))
+          → LeadsAt (commits_as receipt) node (told_stored r) moved → HandsBack receipt r
+          → Commits (shown size places) receipt r (shown size new) × IsGroup size new
+      at (Ok done) leads handed = steps event (commits_as receipt) is (Ok (Stored done)) leads
+      at (Err e) leads handed =
+          let all = steps event (commits_as receipt) is (Err e.1) leads in
+          ((all.0, handed), all.1)

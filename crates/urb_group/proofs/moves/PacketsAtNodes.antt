@@ -3,6 +3,7 @@ use Rattle.std.proofs.Common.{Bool, Err, List, MatchBool, None, Ok, Result, Some
 use Rattle.std.proofs.Common.{map, not, refl, slice_index_or, subst, suc, sym, true, ℕ, ◌&&◌, ◌||◌}
 use Rattle.std.proofs.Common.{◌∙◌, ◌≡◌, ◌≤◌, ◌<◌, arith}
 use Rattle.std.proofs.lemmas.Bool.{and_parts, cond-true}
+use Rattle.std.specs.List.{insert, remove}
 use Rattle.std.specs.Prelude.{slice_get}
 use Rattle.urb_names.proofs.FoundPairs.{has_pair-found}
 use Rattle.urb_names.specs.Carried.{Carried, says_certified}
@@ -20,7 +21,7 @@ use Rattle.urb_node.specs.Next.{MayArrive}
 use Rattle.urb_node.specs.Replies.{Refused, Reply}
 use Rattle.urb_node.specs.Shown.{NodeView, no_view}
 use Rattle.urb_group.specs.Calls.{IsRefused, Takes}
-use Rattle.urb_group.specs.Moving.{ArrivesAt, MayReach, Moved, arrives_as}
+use Rattle.urb_group.specs.Moving.{ArrivesAt, MayReach, arrives_as}
 use Rattle.urb_group.specs.Places.{IsGroup, ShowsAt, memory_in, shown, view_at}
 use Rattle.urb_group.specs.Reaching.{AreEnds, HoldsPair, IsAsCertified, TellsTruth, is_for_node}
 use Rattle.urb_group.specs.Shown.{GroupView, Shows, view_of}
@@ -30,7 +31,7 @@ use Rattle.urb_group.specs.declared.node_moves.Node.{Node as Place}
 use Rattle.urb_group.specs.declared.node_moves.Node.TheVariants as place
 use Rattle.urb_group.specs.declared.taken.Taken.{Taken}
 use Rattle.urb_group.proofs.shown.SoundConditions.{arrival-meets}
-use Rattle.urb_group.proofs.moves.GroupMoves.{Call, takes}
+use Rattle.urb_group.proofs.moves.GroupMoves.{takes}
 use Rattle.urb_group.proofs.shown.NodeMoves.{place_shows}
 use Rattle.urb_group.proofs.shown.ReplacedElements.{read_mapped}
 use Rattle.urb_group.proofs.steps.ConfirmedPackets.{borne-pair}
@@ -178,16 +179,16 @@ module _ {A : Type 0} {size : Limits} {places : List (Place A)} (group : IsGroup
                 (suc i) view.pairs packet.name packet.message) v meets));
           }
 
-  pub arrive-moved : {new : List (Place A)} {call : Call A (Result (Taken A) Refusal)}
-      (bytes : Result Carried PacketFault) (result : Result (Taken A) Refusal) → Ok packet ≡ bytes
-      → (moved : Moved call places i result new)
-      → ArrivesAt moved.node packet b (moved.moved, result)
+  pub arrive-moved : {rest new : List (Place A)} {node : Place A} (moved : Place A)
+      (bytes : Result Carried PacketFault) → Ok packet ≡ bytes → node ≡ slice_index_or places i node
+      → rest ≡ remove places i → new ≡ insert rest i moved → (result : Result (Taken A) Refusal)
+      → ArrivesAt node packet b (moved, result)
       → Takes (shown size places) p (Arrive p bytes) result (shown size new) × IsGroup size new
-  arrive-moved {new = new} bytes result e moved h =
+  arrive-moved {new = new} moved bytes e is-node out back result h =
       subst (λ (read : Result Carried PacketFault).
       Takes (shown size places) p (Arrive p read) result (shown size new) × IsGroup size new) e
-      (takes group ends.target.1 moved (Arrive p (Ok packet)) (arrives_as packet b) is
-      result h)
+      (takes group ends.target.1 ends.target.2 moved is-node out back (Arrive p (Ok packet))
+      (arrives_as packet b) is result h)
     where
       is : (w : World) → Shows (shown size places) w
           → step w (Arrive p (Ok packet)) ≡ at_node w p (arrives_as packet b w.size p (w.node p))

@@ -19,11 +19,10 @@ use Rattle.urb_node.specs.Values.{Fallen, Holding, Memory, ShowsReady, ShowsStor
 use Rattle.urb_node.specs.declared.step.Step.{Step}
 use Rattle.urb_node.specs.declared.step.Step.TheVariants as step
 use Rattle.urb_group.specs.Moving.{ArrivesAt, CommitsAt, CrashesAt, FailsAt, HoldsAt, Leads}
-use Rattle.urb_group.specs.Moving.{RestartsAt, SubmitsAt, TicksAt, arrives_as, told_taken}
+use Rattle.urb_group.specs.Moving.{RestartsAt, SubmitsAt, TicksAt, after_step, arrives_as}
+use Rattle.urb_group.specs.Moving.{told_taken}
 use Rattle.urb_group.specs.declared.node_moves.Node.{Node as Place}
 use Rattle.urb_group.specs.declared.node_moves.Node.TheVariants as place
-use Rattle.urb_group.specs.declared.taken.Taken.{Taken}
-use Rattle.urb_group.specs.declared.taken.Taken.TheVariants as taken
 use Rattle.urb_node.proofs.Calls.{same_record-true}
 
 -- a client's message, by its parts
@@ -40,13 +39,6 @@ at_storing A h = place.Storing h
 
 abbrev at_down : (A : Type 0) → Fallen → Place A
 at_down A f = place.Down f
-
--- the place of a ready node after its step
-abbrev pub after_step : {A : Type 0} → Result (Step A) (Memory × Refusal)
-    → Place A × Result (Taken A) Refusal
-after_step (Ok (step.Same ready answer)) = (place.Ready ready, Ok (taken.Same answer))
-after_step (Ok (step.Store storing draft)) = (place.Storing storing, Ok (taken.Store draft))
-after_step (Err e) = (place.Ready e.0, Err e.1)
 
 step-leads : (A : Type 0) (outcome : Reply × Node) (a : Memory)
     (r : Result (Step A) (Memory × Refusal)) → LeadsTo outcome a r

@@ -229,7 +229,8 @@ module _ (keeps_doubtful : ℕ → Bool) where
           sound = r.0;
           ready =
               λ p is. in-all (λ i. (v.node i).state ≡ Ready) p (nodes w.size.n) r.2
-              (in-nodes w.size.n p (subst (λ (size : Limits). is_node size.n p ≡ true) r.1.size is));
+              (in-nodes w.size.n p (subst (λ (size : Limits). is_node size.n p ≡ true)
+              r.1.size is));
         },
         r.1.size,
         r.1.whole,

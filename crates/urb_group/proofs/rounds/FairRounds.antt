@@ -159,7 +159,8 @@ module _ (among : ℕ → Bool) (w : World) (sound : Sound w) (up : AreUp among 
           pair = known-pair (stored z q) x known
 
           itself : acked (z.node q).acks x q ≡ true
-          itself = ((run-sound w events sound).live.nodes q).counts (still-up q to).1 x pair.0 pair.1
+          itself =
+              ((run-sound w events sound).live.nodes q).counts (still-up q to).1 x pair.0 pair.1
 
           not-alone : has_name (cert (stored z q)) x ≡ false → Other among q → ⊥
           not-alone none other =
@@ -212,7 +213,8 @@ module _ (among : ℕ → Bool) (w : World) (sound : Sound w) (free : IsNotStran
     certified p q from to x k =
         certifies among u (run-sound w first sound)
         (still-up among w sound up first goes_first one) second goes_second two
-        (subst (λ (size : Limits). majority_passes size.n among ≡ true) (sym (run-size first w)) most)
+        (subst (λ (size : Limits). majority_passes size.n among ≡ true) (sym (run-size first w))
+        most)
         (run-free w first sound.live free) x
         (λ i is. spreads among w sound up first goes_first one p i from is x k) q to
 

@@ -118,7 +118,8 @@ module _ {A : Type 0} (size : Limits) (places : List (Place A)) (group : IsGroup
     same_node (Ok reply) leads =
         (leads_in (Ok reply) leads group.sound.world group.sound.shows).same
     same_node (Err r) leads =
-        let stays : moved ≡ node = (leads_in (Err r) leads group.sound.world group.sound.shows).1 in (
+        let stays : moved ≡ node =
+        (leads_in (Err r) leads group.sound.world group.sound.shows).1 in (
           ap (λ (p : Place A). (memory_in p).limits) stays,
           ap (λ (p : Place A). (memory_in p).node) stays,
         )

@@ -1,24 +1,9 @@
-use Rattle.std.proofs.Common.{Err, Ok}
-use Rattle.urb_node.specs.declared.step.Step.TheVariants as step
 use Rattle.urb_group.proofs.moves.PlaceMoves.{arrive_at}
 use Rattle.urb_group.proofs.node_moves.arrive_at.Goals as goal
 
-pub returns-in-Ok-Same : goal.returns-in-Ok-Same
-returns-in-Ok-Same g c =
-    arrive_at c.args.node c.in-Ready.ready c.args.packet c.args.is_truthful
-    (Ok (step.Same c.in-Ok-Same.ready c.in-Ok-Same.answer))
-    c.in-Ready.is c.if-not-is_truthful.false
-    (rw c.in-Ok-Same.field-0-is at c.in-Ok-Same.ensures.event)
-
-pub returns-in-Ok-Store : goal.returns-in-Ok-Store
-returns-in-Ok-Store g c =
-    arrive_at c.args.node c.in-Ready.ready c.args.packet c.args.is_truthful
-    (Ok (step.Store c.in-Ok-Store.storing c.in-Ok-Store.draft))
-    c.in-Ready.is c.if-not-is_truthful.false
-    (rw c.in-Ok-Store.field-0-is at c.in-Ok-Store.ensures.event)
-
-pub returns-in-Err : goal.returns-in-Err
-returns-in-Err g c =
-    arrive_at c.args.node c.in-Ready.ready c.args.packet c.args.is_truthful
-    (Err (c.in-Err.ready, c.in-Err.refusal))
-    c.in-Ready.is c.if-not-is_truthful.false c.in-Err.ensures.event
+pub returns-else-not-is_truthful : goal.returns-else-not-is_truthful
+returns-else-not-is_truthful g c =
+    rw c.node_after.ensures
+    (arrive_at c.args.node c.in-Ready.ready c.args.packet c.args.is_truthful
+    c.arrive_sharing.result c.in-Ready.is c.if-not-is_truthful.false
+    c.arrive_sharing.ensures.event)

@@ -1,4 +1,4 @@
-use Rattle.std.proofs.Common.{arith, rules}
+use Rattle.std.proofs.Common.{arith}
 use Rattle.std.proofs.lemmas.Result.{err_from_is_err_and}
 use Rattle.urb_names.specs.Packets.{packet_of}
 use Rattle.urb_group.proofs.shown.NodeAnswers.{was_read}
@@ -28,8 +28,8 @@ index-requires g c =
       c.self.inside.nodes.ok.0,
     )
 
-pub move_at-requires-clause-within : goal.move_at-requires-clause-within
-move_at-requires-clause-within g c =
+pub remove-requires : goal.remove-requires
+remove-requires g c =
     omega (
       arith,
       c.in-Some.ensures.target.2,
@@ -37,14 +37,15 @@ move_at-requires-clause-within g c =
       c.self.inside.nodes.ok.0,
     )
 
-pub move_at-requires-clause-callable : goal.move_at-requires-clause-callable
-move_at-requires-clause-callable g c node was k h l o =
+pub arrive_at-moved-requires-clause-reach : goal.arrive_at-moved-requires-clause-reach
+arrive_at-moved-requires-clause-reach g c =
     let from =
     was_read c.self.inside.nodes.items c.in-Some.source _ c.index.result.now
-    c.self.invariant.placed.count c.in-Some.ensures.source.1 c.index.ensures in (
-      may_reach c.self.invariant c.in-Some.ensures from c.tells_truth-is_truthful.ensures node was,
-      c.share_stored-known.ensures,
-    )
+    c.self.invariant.placed.count c.in-Some.ensures.source.1 c.index.ensures in
+    may_reach c.self.invariant c.in-Some.ensures from c.tells_truth-is_truthful.ensures
+    c.remove.result
+    (was_read c.self.inside.nodes.items c.in-Some.at _ c.remove.result
+    c.self.invariant.placed.count c.in-Some.ensures.target.2 c.remove.ensures.value)
 
 pub invariant_of-self : goal.invariant_of-self
 invariant_of-self g c =
@@ -52,8 +53,9 @@ invariant_of-self g c =
     was_read c.self.inside.nodes.items c.in-Some.source _ c.index.result.now
     c.self.invariant.placed.count c.in-Some.ensures.source.1 c.index.ensures in
     (arrive-moved c.self.invariant c.in-Some.ensures from c.tells_truth-is_truthful.ensures
-    (packet_of c.args.bytes.now) c.move_at.result c.in_ok-packet.ensures.exact c.move_at.ensures
-    (search rules)).1
+    c.arrive_at-moved.result.0 (packet_of c.args.bytes.now) c.in_ok-packet.ensures.exact
+    c.remove.ensures.value c.remove.ensures.items c.put_back.ensures c.arrive_at-moved.result.1
+    c.arrive_at-moved.ensures).1
 
 pub returns : goal.returns
 returns g c =
@@ -62,5 +64,6 @@ returns g c =
     c.self.invariant.placed.count c.in-Some.ensures.source.1 c.index.ensures in
     rw (← c.self.view_is)
     (arrive-moved c.self.invariant c.in-Some.ensures from c.tells_truth-is_truthful.ensures
-    (packet_of c.args.bytes.now) c.move_at.result c.in_ok-packet.ensures.exact c.move_at.ensures
-    (search rules)).0
+    c.arrive_at-moved.result.0 (packet_of c.args.bytes.now) c.in_ok-packet.ensures.exact
+    c.remove.ensures.value c.remove.ensures.items c.put_back.ensures c.arrive_at-moved.result.1
+    c.arrive_at-moved.ensures).0

@@ -1,5 +1,3 @@
-use Rattle.std.proofs.Common.{rules, subst}
-use Rattle.urb_group.specs.Moving.{RestartsAt}
 use Rattle.urb_group.specs.Step.{Restart}
 use Rattle.urb_group.proofs.moves.GroupMoves.{restart-moved}
 use Rattle.urb_group.proofs.shown.NodeMoves.{nowhere}
@@ -12,17 +10,15 @@ returns-in_default g c =
 
 pub invariant_of-self : goal.invariant_of-self
 invariant_of-self g c =
-    (restart-moved c.self.invariant c.in-Some.ensures.1 c.args.image.items c.move_at.result
-    c.move_at.ensures
-    (subst (λ items. RestartsAt c.move_at.ensures.node items
-    (c.move_at.ensures.moved, c.move_at.result)) c.share_image-shared.ensures
-    (search rules))).1
+    (restart-moved c.self.invariant c.in-Some.ensures.1 c.in-Some.ensures.0
+    c.restart_at-moved.result.0 c.remove.ensures.value c.remove.ensures.items c.put_back.ensures
+    c.args.image.items c.restart_at-moved.result.1
+    (rw c.share_image-shared.ensures at c.restart_at-moved.ensures)).1
 
 pub returns : goal.returns
 returns g c =
     rw (← c.self.view_is)
-    (restart-moved c.self.invariant c.in-Some.ensures.1 c.args.image.items c.move_at.result
-    c.move_at.ensures
-    (subst (λ items. RestartsAt c.move_at.ensures.node items
-    (c.move_at.ensures.moved, c.move_at.result)) c.share_image-shared.ensures
-    (search rules))).0
+    (restart-moved c.self.invariant c.in-Some.ensures.1 c.in-Some.ensures.0
+    c.restart_at-moved.result.0 c.remove.ensures.value c.remove.ensures.items c.put_back.ensures
+    c.args.image.items c.restart_at-moved.result.1
+    (rw c.share_image-shared.ensures at c.restart_at-moved.ensures)).0

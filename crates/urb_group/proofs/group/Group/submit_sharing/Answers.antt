@@ -1,8 +1,7 @@
-use Rattle.std.proofs.Common.{rules}
+use Rattle.urb_group.specs.Step.{Submit}
 use Rattle.urb_group.proofs.moves.GroupMoves.{submit-moved}
 use Rattle.urb_group.proofs.moves.PlaceMoves.{content}
 use Rattle.urb_group.proofs.shown.NodeMoves.{nowhere}
-use Rattle.urb_group.specs.Step.{Submit}
 use Rattle.urb_group.proofs.group.Group.submit_sharing.Goals as goal
 
 pub returns-in_default : goal.returns-in_default
@@ -13,13 +12,17 @@ returns-in_default g c =
 
 pub invariant_of-self : goal.invariant_of-self
 invariant_of-self g c =
-    (submit-moved c.self.invariant c.in-Some.ensures.1
-    (content c.args.client c.args.number c.args.payload.now) c.move_at.result
-    c.move_at.ensures (search rules)).1
+    (submit-moved c.self.invariant c.in-Some.ensures.1 c.in-Some.ensures.0
+    c.submit_sharing_at-moved.result.0 c.remove-current.ensures.value
+    c.remove-current.ensures.items c.put_back.ensures
+    (content c.args.client c.args.number c.args.payload.now) c.submit_sharing_at-moved.result.1
+    c.submit_sharing_at-moved.ensures).1
 
 pub returns : goal.returns
 returns g c =
     rw (← c.self.view_is)
-    (submit-moved c.self.invariant c.in-Some.ensures.1
-    (content c.args.client c.args.number c.args.payload.now) c.move_at.result
-    c.move_at.ensures (search rules)).0
+    (submit-moved c.self.invariant c.in-Some.ensures.1 c.in-Some.ensures.0
+    c.submit_sharing_at-moved.result.0 c.remove-current.ensures.value
+    c.remove-current.ensures.items c.put_back.ensures
+    (content c.args.client c.args.number c.args.payload.now) c.submit_sharing_at-moved.result.1
+    c.submit_sharing_at-moved.ensures).0

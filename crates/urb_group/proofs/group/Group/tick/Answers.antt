@@ -1,4 +1,3 @@
-use Rattle.std.proofs.Common.{rules}
 use Rattle.urb_group.specs.Step.{Tick}
 use Rattle.urb_group.proofs.moves.GroupMoves.{tick-moved}
 use Rattle.urb_group.proofs.shown.NodeMoves.{nowhere}
@@ -11,10 +10,13 @@ returns-in_default g c =
 
 pub invariant_of-self : goal.invariant_of-self
 invariant_of-self g c =
-    (tick-moved c.self.invariant c.in-Some.ensures.1 c.move_at.result c.move_at.ensures
-    (search rules)).1
+    (tick-moved c.self.invariant c.in-Some.ensures.1 c.in-Some.ensures.0 c.tick_at-moved.result.0
+    c.remove.ensures.value c.remove.ensures.items c.put_back.ensures c.tick_at-moved.result.1
+    c.tick_at-moved.ensures).1
 
 pub returns : goal.returns
 returns g c =
-    rw (← c.self.view_is) (tick-moved c.self.invariant c.in-Some.ensures.1 c.move_at.result
-    c.move_at.ensures (search rules)).0
+    rw (← c.self.view_is)
+    (tick-moved c.self.invariant c.in-Some.ensures.1 c.in-Some.ensures.0 c.tick_at-moved.result.0
+    c.remove.ensures.value c.remove.ensures.items c.put_back.ensures c.tick_at-moved.result.1
+    c.tick_at-moved.ensures).0
