@@ -58,9 +58,7 @@ pub fn copy_entries<A: Allocator + Copy>(
     copies.reserve(entries.len())?;
     for entry in entries {
         let copy = entry.share(alloc)?;
-        if copies.push(copy).is_err() {
-            return Err(NoMemory);
-        }
+        copies.push_reserved(copy);
     }
     Ok(copies)
 }

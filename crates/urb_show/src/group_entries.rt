@@ -54,9 +54,7 @@ pub(crate) fn entries_of(alloc: Global, group: &Group, node: NodeId) -> Result<V
     entries.reserve(count)?;
     for index in 0..count {
         let entry = entry_at(alloc, group, node, index)?;
-        if entries.push(entry).is_err() {
-            return Err(NoMemory);
-        }
+        entries.push_reserved(entry);
     }
     Ok(entries)
 }

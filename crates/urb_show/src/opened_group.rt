@@ -1,7 +1,6 @@
 //! A group that is opened for readers, before its house has a name.
-ghost use Rattle.std.specs.Prelude.{◌≡◌, ◌<◌, ◌≤◌, ◌*◌, ◌^◌, [], length, drop, map, All};
+ghost use Rattle.std.specs.Prelude.{◌≡◌, ◌<◌, ◌*◌, ◌^◌, [], length, drop, map, All};
 ghost use Rattle.std.specs.Prelude.{MatchResult, IfOk};
-ghost use Rattle.urb_names.specs.Naming.{IsLimits};
 ghost use Rattle.urb_show.specs.Lists.{Agree, lists_in};
 ghost use Rattle.urb_show.specs.History.{issue_of};
 ghost use Rattle.urb_show.specs.Houses.{opened_house};
@@ -157,10 +156,10 @@ fn copy_lists(alloc: Global, group: &Group) -> Result<(Vec<Vec<Entry>>, Vec<usiz
     group.recall_deliveries();
     for place in 0..group.config().n() {
         let node = NodeId::new(place + 1).unwrap();
-        let list = entries_of(alloc, group, node)?;
         counts.reserve(1)?;
-        counts.push_reserved(list.len());
         lists.reserve(1)?;
+        let list = entries_of(alloc, group, node)?;
+        counts.push_reserved(list.len());
         lists.push_reserved(list);
     }
     Ok((lists, counts))
@@ -183,7 +182,6 @@ fn make_readers<K: HouseName, A: Allocator + Copy>(
     readers.reserve(count)?;
     for _ in 0..count {
         let reader = factory.reader()?;
-        readers.reserve(1)?;
         readers.push_reserved(LogReader::new(reader, unnamed.mark().token::<K>()));
     }
     Ok(readers)

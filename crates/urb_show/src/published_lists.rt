@@ -1,8 +1,8 @@
 //! The value that readers take: a list of entries for each node, and the history behind the lists.
-ghost use Rattle.std.specs.Prelude.{◌≡◌, ◌≤◌, ◌<◌, ◌^◌, length, [], ◌∷◌, ◌++◌, map, MatchResult};
+ghost use Rattle.std.specs.Prelude.{◌≡◌, ◌≤◌, ◌<◌, [], map};
 ghost use Rattle.std.specs.Prelude.{IfOk};
-ghost use Rattle.urb_show.specs.Lists.{Lists, Agree, add_at, list_at};
-ghost use Rattle.urb_show.specs.History.{Issue, issue_of};
+ghost use Rattle.urb_show.specs.Lists.{Agree, list_at};
+ghost use Rattle.urb_show.specs.History.{Issue};
 ghost use Rattle.urb_show.specs.Pages.{IsPageOf};
 
 use crate::entry::{Addition, Entry, Page};

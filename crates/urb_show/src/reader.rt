@@ -1,7 +1,7 @@
 //! Readers of the published logs. They wait for nobody.
-ghost use Rattle.std.specs.Prelude.{◌≡◌, ◌⊎◌, ◌≤◌, ◌-◌, [], IfOk, IfErr, MatchResult, length};
+ghost use Rattle.std.specs.Prelude.{◌≡◌, ◌≤◌, ◌-◌, [], IfOk, IfErr, length};
 ghost use Rattle.urb_show.specs.Readers.{AreOfOneHistory, Learns, Takes};
-ghost use Rattle.urb_show.specs.Lists.{Agree, Begins, list_at};
+ghost use Rattle.urb_show.specs.Lists.{Agree, list_at};
 ghost use Rattle.urb_show.specs.Pages.{IsPageOf};
 ghost use Rattle.urb_show.specs.ReadFaults.{Leaves};
 ghost use Rattle.urb_show.specs.History.{lists_of};

@@ -1,7 +1,7 @@
 //! The history of all additions to the published lists.
 //!
 //! It exists only in proofs: the program keeps only its length.
-ghost use Rattle.std.specs.Prelude.{◌≡◌, ◌⊎◌, ◌+◌, ◌<◌, ◌≤◌, ◌^◌, ◌++◌, ◌∷◌, [], length, MatchBool};
+ghost use Rattle.std.specs.Prelude.{◌≡◌, ◌⊎◌, ◌+◌, ◌<◌, ◌≤◌, ◌++◌, ◌∷◌, [], length, MatchBool};
 ghost use mathlib.Core.List.{IsPrefix};
 ghost use Rattle.urb_show.specs.History.{IsFull, head_of};
 

@@ -171,8 +171,8 @@ fn count_refusals(alloc: Global, call: Call, heap: Heap<'_>) -> Option<u32> {
     }
 }
 
-// Whether the call, with this growth refused, tells of the refusal just if that growth was
-// requested. Also whether it was requested.
+// Makes the call while this growth is refused. Returns whether the call was refused memory if and
+// only if that growth was requested, and whether it was requested.
 fn outlives(alloc: Global, call: Call, refused: u64) -> (bool, bool) {
     let heap = Refusing::new(alloc, refused);
     let refusals = count_refusals(alloc, call, &heap);
