@@ -1,8 +1,8 @@
 -- The log is the release of certificates, and stays so as more come.
-use Rattle.std.proofs.Common.{◌≡◌, ℕ, suc, ◌+◌, ◌-◌, ◌<◌, ◌≤◌, ◌||◌, Bool, true, false, not, List}
+use Rattle.std.proofs.Common.{◌≡◌, ℕ, ◌+◌, ◌-◌, ◌<◌, ◌≤◌, ◌||◌, Bool, true, false, not, List}
 use Rattle.std.proofs.Common.{◌∷◌, ◌++◌, length, filter, refl, sym, ap, subst, ◌∙◌, ⊎_elim, arith}
 use Rattle.std.proofs.Common.{append-nil}
-use Rattle.std.proofs.lemmas.Bool.{cond-false, cases_lt, or_right}
+use Rattle.std.proofs.lemmas.Bool.{cond-false, cases_lt}
 use Rattle.urb_names.specs.Naming.{Label}
 use Rattle.urb_names.specs.Names.{has_name, name, name_lt, same_name}
 use Rattle.urb_names.specs.Ordered.{placed, reserved_for}
@@ -125,3 +125,21 @@ certifying_new d new x none limits certified log reserved =
           reserved =
               reserved i;
         }
+
+-- a delivery with one more certified name
+pub certified_new : (d new : Delivery) (x : Label) → has_name d.certified x ≡ false
+    → new ≡ certifying d x
+    → new ≡ record d {
+      certified = placed name_lt d.certified x;
+      log =
+          d.log ++ newly_released d.log d.certified x;
+      reserved = reserved_for d.reserved x;
+    }
+certified_new d new x none is =
+    is ∙ cond-false (has_name d.certified x) d
+    (record d {
+      certified = placed name_lt d.certified x;
+      log =
+          d.log ++ newly_released d.log d.certified x;
+      reserved = reserved_for d.reserved x;
+    }) none

@@ -2,7 +2,7 @@
 use Rattle.std.proofs.Common.{◌≡◌, ℕ, suc, ◌+◌, ◌-◌, ◌<◌, ◌≤◌, true, false, not, List, ◌∷◌, ◌++◌}
 use Rattle.std.proofs.Common.{filter, length, map, Some, refl, sym, ap, ap₂, subst, ◌∙◌, ⊎_elim}
 use Rattle.std.proofs.Common.{inl, inr, ◌⊎◌, arith, eq-eqb, vec_len, vec_capacity}
-use Rattle.std.proofs.lemmas.Bool.{cases_Bool, cases_lt, false≢true, or_cases, or_left}
+use Rattle.std.proofs.lemmas.Bool.{cases_lt, false≢true, or_cases, or_left}
 use Rattle.std.specs.Bool.{IsTrue}
 use Rattle.urb_names.specs.declared.limits.TheConstants.{MAX_NODES}
 use Rattle.urb_names.specs.Naming.{IsLimits, Label}

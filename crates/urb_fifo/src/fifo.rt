@@ -1,11 +1,11 @@
 //! Release by number: the certified names, and the log that they deliver.
 
-ghost use Rattle.std.specs.Prelude.{◌≡◌, ℕ, suc, ◌<◌, ◌≤◌, ◌+◌, ◌-◌, ◌*◌, ◌^◌, ◌==◌, true, false};
-ghost use Rattle.std.specs.Prelude.{[], ◌∷◌, ◌++◌, None, Some, map, length, count_by, vec_len};
+ghost use Rattle.std.specs.Prelude.{◌≡◌, suc, ◌<◌, ◌≤◌, ◌+◌, ◌-◌, ◌==◌, true, false};
+ghost use Rattle.std.specs.Prelude.{[], ◌∷◌, ◌++◌, None, Some, map, length, vec_len};
 ghost use Rattle.std.specs.Prelude.{vec_capacity, List, IsOk, IfOk, OnOk, OnErr};
 ghost use Rattle.std.specs.Bool.{Decides};
 ghost use Rattle.urb_names.specs.Nodes.{numbers_from};
-ghost use Rattle.urb_names.specs.Names.{has_name, name, name_lt};
+ghost use Rattle.urb_names.specs.Names.{has_name, name};
 ghost use Rattle.urb_names.specs.Naming.{IsLabel, Label};
 ghost use Rattle.urb_names.specs.Ordered.{reserved_for};
 ghost use Rattle.urb_names.specs.Release.{part_of};
@@ -198,6 +198,22 @@ impl<A: Allocator + Copy> Fifo<A> {
         if self.is_certified(name) {
             return Ok(0);
         }
+        let count = self.certify_new(name)?;
+        Ok(count)
+    }
+
+    // Certifies a name of the group that is not certified yet, and returns how many names this
+    // releases.
+    fn certify_new(&mut self, name: Name) -> Result<u32, NoMemory>
+        requires sender { name.sender ≤ self.old.limits.n }
+        requires seq { name.seq ≤ self.old.limits.cap }
+        requires new { has_name self.old.certified name ≡ false }
+        ensures ok { OnOk result (self.new ≡ certifying self.old name) }
+        ensures count { IfOk result (λ released.
+            length (newly_released self.old.log self.old.certified name) ≡ released) }
+        ensures err { OnErr result (self.new ≡ self.old) }
+        ensures roomy { self.old.reserved ≡ Some name → IsOk result }
+    {
         let (from, end) = self.range_released_by(name);
         let released = end - from;
         self.log.reserve(released as usize)?;

@@ -1,114 +1,38 @@
-use Rattle.std.proofs.Common.{arith, rules, refl, sym, ap, ap₂, subst, ◌∙◌, ◌≡◌, ◌+◌, ◌-◌, ◌≤◌}
-use Rattle.std.proofs.Common.{false, Some, ◌++◌, suc, map, length, vec_len, vec_capacity}
-use Rattle.std.proofs.lemmas.Bool.{cond-false}
-use Rattle.urb_names.specs.Naming.{Label}
-use Rattle.urb_names.specs.Names.{has_name, name, name_lt}
-use Rattle.urb_names.specs.Nodes.{numbers_from}
-use Rattle.urb_names.specs.Ordered.{placed, reserved_for}
-use Rattle.urb_certified.specs.Certificates.{with_name}
-use Rattle.urb_fifo.specs.Delivery.{Delivery, IsDelivery, IsNameOf, IsReleaseOf}
+use Rattle.std.proofs.Common.{arith, sym, ap, ◌∙◌, length, length-append}
+use Rattle.urb_fifo.specs.Delivery.{Delivery}
 use Rattle.urb_fifo.specs.Releasing.{newly_released}
-use Rattle.urb_fifo.specs.Room.{view_of}
-use Rattle.urb_fifo.proofs.Release.{release_goes_on, release_stays}
-use Rattle.urb_fifo.proofs.Rooms.{kept_bigger, kept_certified, newly_count}
+use Rattle.urb_fifo.proofs.Release.{certified_new, release_goes_on, release_stays}
 use Rattle.urb_fifo.proofs.fifo.Fifo.certify.Goals as goal
-use Rattle.urb_fifo.proofs.fifo.Fifo.certify.Goals.{After-self-1}
 
 pub returns-then-is_certified-clause-release : goal.returns-then-is_certified-clause-release
 returns-then-is_certified-clause-release g c =
     λ older h. release_stays older c.args.self.now c.args.name
     (sym c.is_certified.ensures ∙ c.if-is_certified.true) h
 
-pub returns-in_err-reserve-clause-roomy : goal.returns-in_err-reserve-clause-roomy
-returns-in_err-reserve-clause-roomy g c =
-    λ same.
-    let a = c.self.inside in
-    let reserved : a.reserved ≡ Some c.args.name =
-    ap (λ (d : Delivery). d.reserved) c.self.view_is ∙ same in
-    let none : has_name a.certified.names c.args.name ≡ false = search rules in
-    let from = c.range_released_by-from.result.0 in
-    let end = c.range_released_by-from.result.1 in
-    let names : newly_released a.log.items a.certified.names c.args.name ≡ map
-    (name c.args.name.sender) (numbers_from (suc from) (end - from)) =
-    ap (λ (d : Delivery). newly_released d.log d.certified c.args.name) c.self.view_is
-    ∙ c.range_released_by-from.ensures.names in
-    let count : length (newly_released a.log.items a.certified.names c.args.name) ≡ end - from =
-    newly_count (view_of a) c.args.name from end names in
-    let room : vec_len a.log + length
-    (newly_released a.log.items a.certified.names c.args.name) ≤ vec_capacity a.log =
-    (c.self.invariant.room c.args.name reserved).log none in
-    let fits : vec_len a.log + (end - from) ≤ vec_capacity a.log = omega arith in
-    let ok = c.reserve.ensures.succeeds fits in
-    search rules
-
-pub returns-in_err-add-clause-roomy : goal.returns-in_err-add-clause-roomy
-returns-in_err-add-clause-roomy g c =
-    λ same.
-    let a = c.self.inside in
-    let reserved : a.reserved ≡ Some c.args.name =
-    ap (λ (d : Delivery). d.reserved) c.self.view_is ∙ same in
-    let none : has_name a.certified.names c.args.name ≡ false = search rules in
-    let ok = c.add.ensures.roomy ((c.self.invariant.room c.args.name reserved).certified none) in
-    search rules
-
-none_before : (g : _) (c : After-self-1 g)
-    → has_name c.self.inside.certified.names c.args.name ≡ false
-none_before g c = search rules
-
--- the name is at its place
-certified_is : (g : _) (c : After-self-1 g)
-    → c.add.new.self.names ≡ placed name_lt c.self.inside.certified.names c.args.name
-certified_is g c =
-    let old = c.self.inside.certified.names in
-    let x = c.args.name in
-    c.in_ok-add.ensures.ok ∙ cond-false (has_name old x) old (placed name_lt old x)
-    (none_before g c)
-
--- the released names are appended to the log
-log_is : (g : _) (c : After-self-1 g)
-    → c.release.new.log.items ≡ c.self.inside.log.items
-    ++ newly_released c.self.inside.log.items c.self.inside.certified.names c.args.name
-log_is g c =
-    let names =
-    ap (λ (d : Delivery). newly_released d.log d.certified c.args.name) c.self.view_is
-    ∙ c.range_released_by-from.ensures.names in
-    let from = c.range_released_by-from.result.0 in
-    let end = c.range_released_by-from.result.1 in
-    let sender = ap (λ (x : Label). x.sender) c.name.view_is in
-    c.release.ensures.log
-    ∙ (ap (λ s. c.reserve.new.self.items ++ map (name s) (numbers_from (suc from) (end - from)))
-    sender
-    ∙ ap₂ (λ xs ys. xs ++ ys) c.in_ok-reserve.ensures.items (sym names))
-
-pub invariant_of-self-2 : goal.invariant_of-self-2
-invariant_of-self-2 g c =
-    let is : IsNameOf c.self.inside.config c.args.name =
-    record {
-      label = c.range_released_by-from.ensures.label;
-      sender = search rules;
-      seq =
-          search rules;
-    } in
-    kept_certified c.self.inside _ c.args.name is
-    (none_before g c) refl c.reservation_after-self-inside.ensures (certified_is g c)
-    (log_is g c) c.self.invariant
+pub returns-clause-count : goal.returns-clause-count
+returns-clause-count g c =
+    let d = c.args.self.now in
+    let is =
+    certified_new d _ c.args.name (sym c.is_certified.ensures ∙ c.if-is_certified.false)
+    c.in_ok-count.ensures.ok in
+    ap (λ (e : Delivery). length e.log) is
+    ∙ omega (
+      arith,
+      length-append d.log (newly_released d.log d.certified c.args.name),
+      c.in_ok-count.ensures.count,
+    )
 
 pub returns-clause-release : goal.returns-clause-release
 returns-clause-release g c =
     λ older h.
-    release_goes_on older (view_of c.self.inside) _ c.args.name
-    (subst (IsReleaseOf older) (sym c.self.view_is) h) (log_is g c) (certified_is g c)
+    let d = c.args.self.now in
+    let is =
+    certified_new d _ c.args.name (sym c.is_certified.ensures ∙ c.if-is_certified.false)
+    c.in_ok-count.ensures.ok in
+    release_goes_on older d _ c.args.name h (ap (λ (e : Delivery). e.log) is)
+    (ap (λ (e : Delivery). e.certified) is)
 
--- the allocation for the log was refused
-pub invariant_of-self : goal.invariant_of-self
-invariant_of-self g c =
-    let grown = c.reserve.ensures in
-    kept_bigger c.self.inside _ refl refl refl
-    (λ room. room) grown.items grown.len grown.capacity c.self.invariant
-
--- the allocation for the certificates was refused
-pub invariant_of-self-in_err-add : goal.invariant_of-self-in_err-add
-invariant_of-self-in_err-add g c =
-    let log = c.reserve.ensures in
-    kept_bigger c.self.inside _ refl refl c.in_err-add.ensures.err.0 c.in_err-add.ensures.err.1
-    log.items log.len log.capacity c.self.invariant
+pub returns-clause-limits : goal.returns-clause-limits
+returns-clause-limits g c =
+    ap (λ (e : Delivery). e.limits) (certified_new c.args.self.now _ c.args.name
+    (sym c.is_certified.ensures ∙ c.if-is_certified.false) c.in_ok-count.ensures.ok)

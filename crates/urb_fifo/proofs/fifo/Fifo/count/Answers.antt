@@ -1,5 +1,5 @@
-use Rattle.std.proofs.Common.{arith, rules, ap, sym, subst, ◌∙◌, ◌≡◌, ◌≤◌, length}
-use Rattle.urb_names.specs.Release.{beginning, part_of}
+use Rattle.std.proofs.Common.{arith, ap, sym, ◌∙◌, ◌≡◌, ◌≤◌, length}
+use Rattle.urb_names.specs.Release.{part_of}
 use Rattle.urb_fifo.specs.Delivery.{Delivery}
 use Rattle.urb_fifo.specs.Room.{view_of}
 use Rattle.urb_fifo.proofs.Release.{part_within}
