@@ -1,6 +1,6 @@
 -- The two parts after one more name.
-use Rattle.std.proofs.Common.{◌≡◌, ℕ, suc, ◌+◌, ◌-◌, ◌<◌, ◌≤◌, ◌^◌, ◌||◌, ◌&&◌, ◌==◌, Bool, true}
-use Rattle.std.proofs.Common.{false, not, nat_le, IsTrue, List, ◌∷◌, ◌≢◌, filter, length, get_or}
+use Rattle.std.proofs.Common.{◌≡◌, ℕ, suc, ◌+◌, ◌-◌, ◌<◌, ◌≤◌, ◌^◌, ◌||◌, ◌==◌, true}
+use Rattle.std.proofs.Common.{false, nat_le, List, ◌≢◌, filter}
 use Rattle.std.proofs.Common.{slice_set, refl, sym, ap, ◌∙◌, subst, inl, inr, ◌⊎◌, arith}
 use Rattle.std.proofs.lemmas.Bool.{and_from, and_parts, cases_Bool, cases_eq, cases_lt, cases_order}
 use Rattle.std.proofs.lemmas.Bool.{eq-eqb, eqb-true, false_from_ne_true, false≢true, le-leb}
@@ -9,8 +9,8 @@ use Rattle.std.proofs.lemmas.Bool.{true_from_ne_false}
 use Rattle.std.proofs.lemmas.List.{get_or-set_other, get_or-set_same, length-set}
 use Rattle.urb_names.specs.Naming.{Label, IsLabel}
 use Rattle.urb_names.specs.Names.{has_name, name, name_lt, same_name}
-use Rattle.urb_names.specs.Ordered.{is_rising, placed}
-use Rattle.urb_names.proofs.SameNames.{same_name-same, same_name-true}
+use Rattle.urb_names.specs.Ordered.{placed}
+use Rattle.urb_names.proofs.SameNames.{same_name-true}
 use Rattle.urb_names.proofs.Ordered.{any_insert, names_ordered, rising_placed}
 use Rattle.urb_certified.specs.Parts.{IsJoined, IsParts, all_names, is_left, low_of}
 use Rattle.urb_certified.proofs.Sets.{both_ways}

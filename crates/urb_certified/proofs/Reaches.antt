@@ -1,9 +1,9 @@
 -- How far a sender's names go without a gap.
-use Rattle.std.proofs.Common.{◌≡◌, ℕ, suc, ◌+◌, ◌-◌, ◌<◌, ◌≤◌, ◌^◌, ◌||◌, true, false, List, ◌∷◌}
-use Rattle.std.proofs.Common.{length, refl, sym, ap, ◌∙◌, subst, inl, inr, ◌⊎◌, arith}
+use Rattle.std.proofs.Common.{◌≡◌, ℕ, suc, ◌+◌, ◌-◌, ◌<◌, ◌≤◌, ◌^◌, true, false, List, ◌∷◌}
+use Rattle.std.proofs.Common.{length, sym, ap, ◌∙◌, subst, inl, inr, ◌⊎◌, arith}
 use Rattle.std.proofs.lemmas.Bool.{cases_lt, cases_order, false_from_ne_true, false≢true, or_from}
 use Rattle.std.proofs.lemmas.Bool.{or_left, or_right}
-use Rattle.urb_names.specs.Naming.{Label, IsLabel}
+use Rattle.urb_names.specs.Naming.{Label}
 use Rattle.urb_names.specs.Names.{has_name, name, name_lt, same_name}
 use Rattle.urb_names.specs.Release.{beginning}
 use Rattle.urb_names.proofs.SameNames.{same_name-same, same_name-true}

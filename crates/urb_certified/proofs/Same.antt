@@ -1,7 +1,7 @@
 -- Two pairs of parts that hold the same names are equal.
-use Rattle.std.proofs.Common.{◌≡◌, ℕ, zero, suc, ◌+◌, ◌-◌, ◌<◌, ◌≤◌, true, List, [], ◌∷◌, length}
+use Rattle.std.proofs.Common.{◌≡◌, ℕ, suc, ◌+◌, ◌-◌, ◌<◌, ◌≤◌, true, List, [], ◌∷◌, length}
 use Rattle.std.proofs.Common.{get_or, refl, sym, ap, ap₂, ◌∙◌, subst, inl, inr, ◌⊎◌, arith}
-use Rattle.urb_names.specs.Naming.{Label, IsLabel}
+use Rattle.urb_names.specs.Naming.{Label}
 use Rattle.urb_names.specs.Names.{has_name, name_lt, same_name}
 use Rattle.urb_names.specs.Release.{beginning}
 use Rattle.urb_certified.specs.Parts.{IsParts, all_names, low_of}

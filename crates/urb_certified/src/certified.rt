@@ -1,10 +1,10 @@
 //! The set of certified names, whose look-ups stay fast however long the history is.
 
-ghost use Rattle.std.specs.Prelude.{◌≡◌, ℕ, suc, ◌+◌, ◌-◌, ◌<◌, ◌≤◌, ◌^◌, true, false, [], ◌∷◌};
-ghost use Rattle.std.specs.Prelude.{None, Some, length, slice_index_or, vec_len, vec_capacity};
+ghost use Rattle.std.specs.Prelude.{◌≡◌, ◌+◌, ◌-◌, ◌<◌, true, [], ◌∷◌};
+ghost use Rattle.std.specs.Prelude.{length};
 ghost use Rattle.std.specs.Prelude.{OnOk, OnErr, IfOk, IsOk};
 ghost use Rattle.std.specs.Bool.{Decides};
-ghost use Rattle.urb_names.specs.Names.{has_name, name_lt, same_name};
+ghost use Rattle.urb_names.specs.Names.{has_name};
 ghost use Rattle.urb_names.specs.Release.{beginning};
 ghost use Rattle.urb_certified.specs.Certificates.{IsCertificates, with_name};
 

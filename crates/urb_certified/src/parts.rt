@@ -1,8 +1,8 @@
 //! The two parts of the certified names, as plain fields: those without a gap, and those above it.
 
-ghost use Rattle.std.specs.Prelude.{◌≡◌, ℕ, suc, ◌+◌, ◌-◌, ◌<◌, ◌≤◌, ◌^◌, true, false, ◌∷◌, filter};
-ghost use Rattle.std.specs.Prelude.{length, slice_index_or, vec_len, vec_capacity, OnOk, OnErr};
-ghost use Rattle.std.specs.Prelude.{IfOk, IsOk, IsTrue};
+ghost use Rattle.std.specs.Prelude.{◌≡◌, ◌+◌, ◌-◌, ◌<◌, ◌≤◌, true, false, ◌∷◌, filter};
+ghost use Rattle.std.specs.Prelude.{length, vec_len, vec_capacity, OnOk, OnErr};
+ghost use Rattle.std.specs.Prelude.{IsOk, IsTrue};
 ghost use Rattle.urb_names.specs.Naming.{Label};
 ghost use Rattle.urb_names.specs.Names.{has_name, name_lt, same_name};
 ghost use Rattle.urb_names.specs.Ordered.{is_rising, placed};

@@ -1,7 +1,7 @@
 //! Names in rising order, in a vector, found by binary search.
 
-ghost use Rattle.std.specs.Prelude.{◌≡◌, ℕ, suc, ◌+◌, ◌^◌, ◌≤◌, ◌<◌, ◌-◌, true, false, not, ◌&&◌};
-ghost use Rattle.std.specs.Prelude.{◌==◌, IsTrue, length, filter, vec_len, vec_capacity, nat_le};
+ghost use Rattle.std.specs.Prelude.{◌≡◌, ℕ, suc, ◌+◌, ◌^◌, ◌≤◌, ◌<◌, ◌-◌, true, false, ◌&&◌};
+ghost use Rattle.std.specs.Prelude.{◌==◌, IsTrue, length, filter, vec_len, vec_capacity};
 ghost use Rattle.std.specs.Bool.{Decides};
 ghost use Rattle.std.specs.List.{prefix_len};
 ghost use Rattle.urb_names.specs.Names.{has_name, name, name_lt};

@@ -1,4 +1,4 @@
-use Rattle.std.proofs.Common.{rules, arith, ◌≤◌}
+use Rattle.std.proofs.Common.{rules, ◌≤◌}
 use Rattle.urb_certified.proofs.Kept.{all_left}
 use Rattle.urb_certified.proofs.parts.drop_run.Goals as goal
 

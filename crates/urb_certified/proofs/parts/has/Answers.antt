@@ -1,4 +1,4 @@
-use Rattle.std.proofs.Common.{rules, sym, ◌∙◌, ◌≡◌, ◌≤◌, ◌<◌}
+use Rattle.std.proofs.Common.{rules, sym, ◌∙◌, ◌≤◌, ◌<◌}
 use Rattle.std.proofs.lemmas.Bool.{le-leb}
 use Rattle.urb_certified.specs.Parts.{low_of}
 use Rattle.urb_certified.proofs.Members.{all_low, upper_only}

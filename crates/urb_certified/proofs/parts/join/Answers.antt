@@ -1,7 +1,4 @@
-use Rattle.std.proofs.Common.{rules, sym, subst, ◌≡◌}
-use Rattle.urb_names.specs.Naming.{Label}
-use Rattle.urb_names.specs.Names.{name_lt}
-use Rattle.urb_names.specs.Ordered.{placed}
+use Rattle.std.proofs.Common.{sym, subst}
 use Rattle.urb_certified.specs.Parts.{IsJoined}
 use Rattle.urb_certified.proofs.Kept.{puts}
 use Rattle.urb_certified.proofs.parts.join.Goals as goal

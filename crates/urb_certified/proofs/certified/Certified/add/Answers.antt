@@ -1,10 +1,9 @@
-use Rattle.std.proofs.Common.{rules, ap, sym, ◌∙◌, ◌≡◌, ◌<◌, true, false, vec_len, vec_capacity}
+use Rattle.std.proofs.Common.{rules, ap, sym, ◌∙◌, ◌≡◌, ◌<◌, false, vec_len, vec_capacity}
 use Rattle.std.proofs.lemmas.Bool.{cond-false, ltb-true}
 use Rattle.urb_names.specs.Names.{has_name, name_lt, same_name}
 use Rattle.urb_names.specs.Ordered.{placed}
-use Rattle.urb_certified.specs.Certificates.{Certificates, with_name}
+use Rattle.urb_certified.specs.Certificates.{Certificates}
 use Rattle.urb_certified.specs.Parts.{IsJoined, all_names}
-use Rattle.urb_certified.specs.Sets.{set_of}
 use Rattle.urb_certified.proofs.Sets.{set_with}
 use Rattle.urb_certified.proofs.Orders.{names_in_order}
 use Rattle.urb_certified.proofs.Reaches.{held_has}

@@ -1,6 +1,4 @@
-use Rattle.std.proofs.Common.{rules, ap, ap₂, sym, ◌∙◌, ◌≡◌, true, false}
-use Rattle.urb_names.specs.Naming.{Label}
-use Rattle.urb_names.specs.Names.{has_name}
+use Rattle.std.proofs.Common.{rules, ap, ap₂, sym, ◌∙◌, ◌≡◌}
 use Rattle.urb_certified.specs.Certificates.{Certificates}
 use Rattle.urb_certified.proofs.Reaches.{held}
 use Rattle.urb_certified.proofs.Same.{same_above, same_low}

@@ -1,6 +1,6 @@
-use Rattle.std.proofs.Common.{◌≡◌, subst, true}
+use Rattle.std.proofs.Common.{subst}
 use Rattle.urb_names.specs.Names.{name_lt, same_name}
-use Rattle.urb_certified.specs.Certificates.{Certificates, IsCertificates}
+use Rattle.urb_certified.specs.Certificates.{IsCertificates}
 use Rattle.urb_certified.specs.Parts.{all_names}
 use Rattle.urb_certified.proofs.Sets.{set_rises}
 use Rattle.urb_certified.proofs.Orders.{names_in_order}
