@@ -7,6 +7,7 @@ ghost use Rattle.sqlite.specs.WalFiles.{image_at};
 ghost use Rattle.sqlite_wal.specs.Reads.{AreClean};
 ghost use Rattle.urb_stable.specs.Storing.{is_place};
 ghost use Rattle.urb_sqlite.specs.Blame.{blamed};
+ghost use Rattle.urb_sqlite.specs.Journal.{journal_name, second_name, IsAdoptable, Lacks};
 ghost use Rattle.urb_sqlite.specs.Rows.{StandsFor};
 ghost use Rattle.urb_sqlite.specs.Reading.{records_of};
 ghost use Rattle.urb_sqlite.specs.OpenJournal.{IsBare, IsBase, IsHonestJournal, IsJournal};
@@ -26,6 +27,34 @@ pub fn fault_of(error: Error) -> StoreFault
 {
     let mut failures = 0;
     records::blame(&mut failures, error)
+}
+
+impl<D: Disk + Drop> SqlStable<FileStore<D>> {
+    /// Takes over an open connection to a pair of files, as `adopt` does. If it refuses, the
+    /// connection is dropped.
+    fn adopt_files(
+        alloc: Global,
+        conn: Connection<FileStore<D>>,
+    ) -> Result<SqlStable<FileStore<D>>, StoreFault>
+        ensures fault { IfErr result (λ e. is_place e ≡ false) }
+        ensures new { IfOk result (λ s. (s.doubtful ≡ false) × (s.failures ≡ 0)) }
+        ensures rest { IfOk result (λ s. IsSafeAtRest (file_state s.conn)) }
+        ensures clean { IfOk result
+            (λ s. HasCleanDisk (file_state s.conn) → HasCleanDisk (file_state conn)) }
+        ensures fresh { IfOk result (λ s. HasCleanDisk (file_state s.conn)
+            → Lacks (file_state conn).now.schema journal_name
+            → Lacks (file_state conn).now.schema second_name
+            → IsHonestJournal (file_state s.conn) × (records_of (file_state s.conn).now ≡ [])) }
+        ensures found { IfOk result (λ s. HasCleanDisk (file_state s.conn)
+            → IsAdoptable (file_state conn).now.schema
+            → IsHonestJournal (file_state s.conn)
+            × StandsFor (file_state conn).now (records_of (file_state s.conn).now)) }
+    {
+        match SqlStable::adopt(alloc, conn) {
+            Ok(journal) => Ok(journal),
+            Err((_, fault)) => Err(fault),
+        }
+    }
 }
 
 impl SqlStable<FileStore<File>> {
@@ -87,10 +116,7 @@ impl<S: Start> SqlStable<FileStore<FileFrom<S>>> {
             × StandsFor (base_of base) (records_of (file_state s.conn).now)) }
     {
         match Connection::open_from(rt, path, false, start) {
-            Ok(conn) => match SqlStable::adopt(rt.alloc(), conn) {
-                Ok(journal) => Ok(journal),
-                Err((_, fault)) => Err(fault),
-            },
+            Ok(conn) => SqlStable::adopt_files(rt.alloc(), conn),
             Err((error, _)) => Err(fault_of(error)),
         }
     }
@@ -172,10 +198,7 @@ impl<D: Disk + Drop> SqlStable<FileStore<D>> {
             → IsHonestJournal (file_state s.conn) × (records_of (file_state s.conn).now ≡ [])) }
     {
         match new_file::make_database(alloc, files, options) {
-            Ok(conn) => match SqlStable::adopt(alloc, conn) {
-                Ok(journal) => Ok(journal),
-                Err((_, fault)) => Err(fault),
-            },
+            Ok(conn) => SqlStable::adopt_files(alloc, conn),
             Err(fault) => Err(fault),
         }
     }
@@ -225,10 +248,7 @@ impl<D: Disk + Drop> SqlStable<FileStore<D>> {
             × StandsFor (base_of base) (records_of (file_state s.conn).now)) }
     {
         match Connection::open_files(alloc, files, options) {
-            Ok(conn) => match SqlStable::adopt(alloc, conn) {
-                Ok(journal) => Ok(journal),
-                Err((_, fault)) => Err(fault),
-            },
+            Ok(conn) => SqlStable::adopt_files(alloc, conn),
             Err((error, _)) => Err(fault_of(error)),
         }
     }
