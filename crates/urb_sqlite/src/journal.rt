@@ -16,7 +16,8 @@ ghost use Rattle.urb_sqlite.specs.OpenJournal.{OpenJournal, IsInStep, IsHonestJo
 ghost use Rattle.urb_sqlite.specs.OpenJournal.{SparesRows, CommitsEither, IsSafeAtRest, LeavesOnly};
 
 use crate::{MessagePool, records};
-use sqlite::{Alter, Connection};
+use sqlite::{Alter, Connection, FileStore};
+use sqlite_disk::Disk;
 use std::alloc::Global;
 use std::marker::Model;
 use std::sync::Arc;
@@ -150,6 +151,23 @@ impl<S: Alter> SqlStable<S> {
 
     /// The connection in its present state.
     pub fn into_connection(self) -> Connection<S>
+        ensures { result ≡ self.conn }
+    {
+        let SqlStable {
+            conn: connection,
+            next: _,
+            doubtful: _,
+            failures: _,
+            pool: _,
+        } = self;
+        connection
+    }
+}
+
+impl<D: Disk> SqlStable<FileStore<D>> {
+    /// The connection of a journal in files. It is written out, because a call of `into_connection`
+    /// at this store takes long to prove.
+    pub(crate) fn into_file_connection(self) -> Connection<FileStore<D>>
         ensures { result ≡ self.conn }
     {
         let SqlStable {

@@ -86,7 +86,7 @@ impl<D: Disk + Drop> SqlStable<FileStore<D>> {
         // leave.
         ensures left { IfErr result (λ e. LeavesNoMore D.Disk (file_state self.conn) e.1) }
     {
-        match self.into_connection().close_files() {
+        match self.into_file_connection().close_files() {
             Ok(files) => Ok(Copied { files }),
             Err((error, store)) => {
                 let files = store.close();

@@ -27,7 +27,7 @@ impl<D: Crash + Drop> SqlStable<FileStore<D>> {
         ensures { IfOk result
             (λ again. IsReopened (file_state self.conn) (file_state again.conn)) }
     {
-        let Files { mut log, mut db } = self.into_connection().into_store().close();
+        let Files { mut log, mut db } = self.into_file_connection().into_store().close();
         log.crash();
         db.crash();
         SqlStable::open_files(alloc, Files { log, db }, options)

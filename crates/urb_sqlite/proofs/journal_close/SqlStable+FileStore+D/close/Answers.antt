@@ -7,7 +7,7 @@ pub invariant_of-result : goal.invariant_of-result
 invariant_of-result g c clean =
     let is = c.in-Ok.ensures.copied clean in
     ∣ record {
-      db = (file_state c.into_connection.result).committed.trees;
+      db = (file_state c.into_file_connection.result).committed.trees;
       seen = is.seen;
       left = is.left;
     } ∣₁
@@ -17,5 +17,5 @@ returns-in-Err-clause-left g c = record {
   last = c.in-Err.store;
   over = c.close-files.ensures;
   fewer = λ db may. subst (λ (conn : Held _). (file_state conn).may_leave db)
-      c.into_connection.ensures (c.in-Err.ensures.err.0.quiet.outcomes db may);
+      c.into_file_connection.ensures (c.in-Err.ensures.err.0.quiet.outcomes db may);
 }

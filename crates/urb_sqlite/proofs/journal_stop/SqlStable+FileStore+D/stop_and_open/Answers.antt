@@ -24,12 +24,12 @@ returns g c =
     c.crash.ensures.clean c.crash-2.ensures.clean c.crash.ensures.left c.crash-2.ensures.left
     (both.0 clean) in
     let got =
-    found_again c.into_connection.result c.into_store.result _
+    found_again c.into_file_connection.result c.into_store.result _
     (file_state again.conn) fell.0 fell.1 c.into_store.ensures.numbered
     c.into_store.ensures.sound
     c.into_store.ensures.quiet.outcomes (both.1 clean) (λ left. left ≡ records)
     (subst (λ (conn : Held _). LeavesOnly (file_state conn) (λ left. left ≡ records))
-    (sym c.into_connection.ensures) leaves) in (
+    (sym c.into_file_connection.ensures) leaves) in (
       honest_again (file_state again.conn) clean (∥∥₁_map got (λ x. x.0)),
       same_again _ records (∥∥₁_map got (λ x. x.1)),
     ) in
@@ -43,14 +43,14 @@ returns g c =
     c.crash.ensures.clean c.crash-2.ensures.clean c.crash.ensures.left c.crash-2.ensures.left
     (both.0 clean) in
     let got =
-    found_again c.into_connection.result c.into_store.result _
+    found_again c.into_file_connection.result c.into_store.result _
     (file_state again.conn) fell.0 fell.1 c.into_store.ensures.numbered
     c.into_store.ensures.sound
     c.into_store.ensures.quiet.outcomes (both.1 clean)
     (λ left. (left ≡ records) ⊎ (left ≡ records ++ r ∷ []))
     (subst (λ (conn : Held _). LeavesOnly (file_state conn)
     (λ left. (left ≡ records) ⊎ (left ≡ records ++ r ∷ [])))
-    (sym c.into_connection.ensures) leaves) in (
+    (sym c.into_file_connection.ensures) leaves) in (
       honest_again (file_state again.conn) clean (∥∥₁_map got (λ x. x.0)),
       one_again _ records r (∥∥₁_map got (λ x. x.1)),
     ) in
@@ -62,8 +62,8 @@ returns g c =
           c.crash.ensures.clean c.crash-2.ensures.clean c.crash.ensures.left
           c.crash-2.ensures.left
           (both.0 clean) in
-          subst (λ (conn : Held _). HasCleanDisk (file_state conn)) c.into_connection.ensures
-          (store_was_clean c.into_connection.result c.into_store.result fell.0
+          subst (λ (conn : Held _). HasCleanDisk (file_state conn)) c.into_file_connection.ensures
+          (store_was_clean c.into_file_connection.result c.into_store.result fell.0
           c.into_store.ensures.quiet.clean);
       kept = kept;
       found = found;
