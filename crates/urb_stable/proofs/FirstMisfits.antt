@@ -4,6 +4,7 @@ use Rattle.std.proofs.Common.{false, is_some, length, map, not, refl, slice_get,
 use Rattle.std.proofs.Common.{subst, suc, sym, take, true, zero, ℕ, ⊎_elim, ◌++◌, ◌+◌, ◌-◌, ◌&&◌}
 use Rattle.std.proofs.Common.{◌<◌, ◌==◌, ◌∙◌, ◌∷◌, ◌≡◌, ◌≤◌, ◌⊎◌}
 use Rattle.std.proofs.Math.Seq.{take-suc}
+use Rattle.std.proofs.lemmas.List.{drop_all}
 use Rattle.std.specs.Option.{SomeIff, option_or}
 use Rattle.std.specs.Prelude.{filter, find, flat_map, option_map}
 use Rattle.urb_names.specs.Names.{has_name}
@@ -105,6 +106,12 @@ record-step size images p image i r l e =
   where
     taken : take (suc i) image ≡ take i image ++ r ∷ []
     taken = take-suc image i r l ∙ ap (λ x. take i image ++ x ∷ []) (sym e)
+
+pub record-none : (size : Limits) (images : ℕ → List Entry) (p : ℕ) (image : List Entry) (i : ℕ)
+    → length image ≤ i
+    → first_of_all (misfits_behind size images p (take i image) (drop i image)) ≡ None
+record-none size images p image i l =
+    ap (λ rs. first_of_all (misfits_behind size images p (take i image) rs)) (drop_all i image l)
 
 pub node-step : (f : ℕ → List Misfit) (i n : ℕ) → i < n
     → first_of_all (flat_map f (numbers_from (suc i) (n - i))) ≡ option_or

@@ -1,6 +1,8 @@
 -- A list that gains one element, and a list with at most one more.
 use Rattle.std.proofs.Common.{◌≡◌, ℕ, zero, suc, ◌+◌, ◌≤◌, ◌⊎◌, inr, List, [], ◌∷◌, ◌++◌, length}
-use Rattle.std.proofs.Common.{take, Option, None, Some, refl, ap, arith, add-one}
+use Rattle.std.proofs.Common.{take, Option, None, Some, refl, ap, arith, add-one, slice_index_or, sym}
+use Rattle.std.proofs.Common.{◌<◌, ◌∙◌}
+use Rattle.std.proofs.Math.Seq.{take-suc}
 use Rattle.std.specs.Prelude.{slice_get}
 use Rattle.urb_stable.specs.Entries.{Entry}
 use Rattle.urb_stable.specs.Storing.{IsContents}
@@ -51,6 +53,16 @@ pub certain_stop : (xs : List Entry) (r : Entry) (n : ℕ) (ys : List Entry) →
     → (records : List Entry) → IsContents (take (n + 1) ys) (slice_get ys (n + 1)) records
     → IsContents (take n xs) (slice_get xs n) records ⊎ (records ≡ take n xs ++ r ∷ [])
 certain_stop xs r n ys k records h = inr (rw (k.past, k.all) at h)
+
+-- one more element is taken
+pub take-next : {X : Type 0} (xs : List X) (i : ℕ) (x : X) → i < length xs
+    → x ≡ slice_index_or xs i x → take (i + 1) xs ≡ take i xs ++ x ∷ []
+take-next xs i x l e =
+    ap (λ n. take n xs) (one_more i)
+    ∙ (take-suc xs i x l ∙ ap (λ z. take i xs ++ z ∷ []) (sym e))
+  where
+    one_more : (n : ℕ) → n + 1 ≡ suc n
+    one_more n = omega arith
 
 -- what is read from xs, which has at most one element after the first n
 pub record Whole (xs : List Entry) (n : ℕ) : Type 0 where

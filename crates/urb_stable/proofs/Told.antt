@@ -1,5 +1,6 @@
 -- What the earlier records say about a record, during the pass over an image.
-use Rattle.std.proofs.Common.{List, Some, [], ap, append-nil, arith, cond, eq-eqb, eqb-true, false}
+use Rattle.std.proofs.Common.{Err, List, Ok, OnOk, Result, Some, [], ap, append-nil, arith, cond}
+use Rattle.std.proofs.Common.{eq-eqb, eqb-true, false}
 use Rattle.std.proofs.Common.{length, refl, slice_get, slice_index_or, subst, suc, sym, take, true}
 use Rattle.std.proofs.Common.{ℕ, ⊎_elim, ◌++◌, ◌+◌, ◌<◌, ◌==◌, ◌||◌, ◌∙◌, ◌∷◌, ◌≡◌, ◌≤◌, ◌⊎◌}
 use Rattle.std.proofs.Math.Seq.{take-suc}
@@ -13,12 +14,13 @@ use Rattle.urb_names.specs.Naming.{Content, Label}
 use Rattle.urb_names.specs.Pairs.{own}
 use Rattle.urb_stable.proofs.Indexed.{one_longer, order-same, pend-next, read_more, same_some}
 use Rattle.urb_stable.proofs.JoinedRecords.{cert-append}
-use Rattle.urb_stable.specs.EarlierRecords.{AreBefore, IsBefore, IsCount, IsSetOf}
+use Rattle.urb_stable.specs.EarlierRecords.{AreBefore, HasTold, IsBefore, IsCount, IsSetOf}
 use Rattle.urb_stable.specs.Entries.{Entry}
 use Rattle.urb_stable.specs.Indexes.{by_name}
 use Rattle.urb_stable.specs.Records.{cert, pend}
 use Rattle.urb_stable.specs.declared.earlier_records.Before.{Before}
 use Rattle.urb_stable.specs.declared.earlier_records.Counts.{Counts}
+use Rattle.urb_stable.specs.declared.earlier_records.Pass.{Pass}
 use Rattle.urb_stable.specs.declared.record.Record.TheVariants.{Cert, Pend, PendCert}
 
 -- ---- the certified names
@@ -175,3 +177,13 @@ told-more p image i r old new before here is items h =
         subst (λ (n : ℕ). IsBefore p (take n image) s told) (sym k_is)
         (subst (λ (t : Entry). IsBefore p (take i image) t told) (sym s_is)
         (subst (λ (b : Before). IsBefore p (take i image) r b) (sym same) is))
+
+-- one more record's own message is counted, if there is memory for it
+pub has-told : {A E : Type 0} (p : ℕ) (image : List Entry) (i : ℕ) (result : Result (Unit {0}) E)
+    (pass : Pass A) → IsSetOf (cert (take (i + 1) image)) pass.certified
+    → AreBefore p image (i + 1) pass.told.items
+    → OnOk result (IsCount (own p (pend (take (i + 1) image))) pass.counts)
+    → OnOk result (HasTold p image (i + 1) pass)
+has-told p image i (Ok done) pass names told counts =
+    record { names = names; counts = counts; told = told }
+has-told p image i (Err e) pass names told counts = tt

@@ -13,6 +13,7 @@ use Rattle.urb_stable.specs.Indexes.{by_name}
 use Rattle.urb_stable.specs.Records.{cert, pend}
 use Rattle.urb_stable.specs.declared.earlier_records.Before.{Before}
 use Rattle.urb_stable.specs.declared.earlier_records.Counts.{Counts}
+use Rattle.urb_stable.specs.declared.earlier_records.Pass.{Pass}
 use Rattle.urb_stable.specs.declared.record.Record.TheVariants.{Cert, Pend, PendCert}
 
 -- the order of clients
@@ -57,3 +58,9 @@ pub record IsCount {A : Type 0} (messages : List Content) (counts : Counts A) : 
   pub total : counts.own ≡ length messages
   pub each : (client : ℕ) → number_found (tree.get by_client counts.clients client)
       ≡ client_count client messages
+
+-- the pass has gone over the first n records of node p's image
+pub record HasTold {A : Type 0} (p : ℕ) (image : List Entry) (n : ℕ) (pass : Pass A) : Type 0 where
+  pub names : IsSetOf (cert (take n image)) pass.certified
+  pub counts : IsCount (own p (pend (take n image))) pass.counts
+  pub told : AreBefore p image n pass.told.items

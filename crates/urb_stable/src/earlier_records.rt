@@ -2,13 +2,13 @@
 //!
 //! It covers what the rules for images need.
 
-ghost use Rattle.std.specs.Prelude.{◌≡◌, ◌≤◌, ◌<◌, ◌+◌, ◌^◌, ◌∷◌, ◌++◌, [], length, take, IfOk};
+ghost use Rattle.std.specs.Prelude.{◌≡◌, ◌≤◌, ◌<◌, ◌+◌, ◌^◌, ◌∷◌, ◌++◌, [], length, take, IfOk, OnOk};
 ghost use Rattle.std.specs.Prelude.{List, ℕ};
 ghost use Rattle.std.specs.BTreeMap.{get};
 ghost use Rattle.urb_names.specs.Naming.{Content};
 ghost use Rattle.urb_names.specs.Pairs.{own};
-ghost use Rattle.urb_stable.specs.EarlierRecords.{AreBefore, IsBefore, IsCount, IsSetOf, by_client};
-ghost use Rattle.urb_stable.specs.EarlierRecords.{number_found};
+ghost use Rattle.urb_stable.specs.EarlierRecords.{AreBefore, HasTold, IsBefore, IsCount, IsSetOf};
+ghost use Rattle.urb_stable.specs.EarlierRecords.{by_client, number_found};
 ghost use Rattle.urb_stable.specs.Entries.{Entry};
 ghost use Rattle.urb_stable.specs.Records.{cert, pend};
 
@@ -131,6 +131,33 @@ fn facts_about<A: Allocator>(
     }
 }
 
+// What the records so far say, and what was found out about each of them.
+#[derive(Drop)]
+struct Pass<A: Allocator> {
+    certified: BTreeSet<Name, A>,
+    counts: Counts<A>,
+    told: Vec<Before, A>,
+}
+
+// Goes one record further.
+fn tell_next<A: Allocator + Copy>(
+    pass: &mut Pass<A>,
+    number: usize,
+    image: &[Record<Message<A>>],
+    place: usize,
+) -> Result<(), NoMemory>
+    requires within { place < length image.now }
+    requires short { length image.now < 2 ^ 64 }
+    requires told { HasTold number image.now place pass.old }
+    ensures { OnOk result (HasTold number image.now (place + 1) pass.new) }
+{
+    let entry = &image[place];
+    pass.told
+        .push(facts_about(&pass.certified, &pass.counts, entry))?;
+    certify_next(&mut pass.certified, entry)?;
+    count_next(&mut pass.counts, number, image, place)
+}
+
 /// What the earlier records say about each record of an image. The image belongs to the node with
 /// this number. Memory comes from `alloc`.
 pub(crate) fn facts_about_each<A: Allocator + Copy>(
@@ -140,17 +167,17 @@ pub(crate) fn facts_about_each<A: Allocator + Copy>(
 ) -> Result<Vec<Before, A>, NoMemory>
     ensures { IfOk result (λ told. AreBefore number image.now (length image.now) told.items) }
 {
-    let mut certified = BTreeSet::new(alloc);
-    let mut counts = Counts {
-        own: 0,
-        clients: BTreeMap::new(alloc),
+    let mut pass = Pass {
+        certified: BTreeSet::new(alloc),
+        counts: Counts {
+            own: 0,
+            clients: BTreeMap::new(alloc),
+        },
+        told: Vec::new(alloc),
     };
-    let mut told = Vec::new(alloc);
     for place in 0..image.len() {
-        let entry = &image[place];
-        told.push(facts_about(&certified, &counts, entry))?;
-        certify_next(&mut certified, entry)?;
-        count_next(&mut counts, number, image, place)?;
+        tell_next(&mut pass, number, image, place)?;
     }
+    let Pass { told, .. } = pass;
     Ok(told)
 }

@@ -1,7 +1,7 @@
 //! Which images of the nodes' storages fit together, and the first misfit of those that don't.
 
-ghost use Rattle.std.specs.Prelude.{◌≡◌, ◌<◌, ◌≤◌, [], ◌∷◌, length, map, is_some, count_by};
-ghost use Rattle.std.specs.Prelude.{option_map, slice_get, take, IfOk, List, Some};
+ghost use Rattle.std.specs.Prelude.{◌≡◌, ◌+◌, ◌<◌, ◌≤◌, [], ◌∷◌, ◌++◌, length, map, is_some};
+ghost use Rattle.std.specs.Prelude.{count_by, option_map, slice_get, take, IfOk, List, OnOk, Some};
 ghost use Rattle.urb_names.specs.Naming.{Content};
 ghost use Rattle.urb_names.specs.Nodes.{nodes};
 ghost use Rattle.urb_names.specs.Pairs.{has_pair, message_of};
@@ -60,7 +60,7 @@ impl<'r, A: Allocator + Copy> Images<'r, A> {
     {
         let mut read = Vec::new(alloc);
         for (i, image) in images.iter().enumerate() {
-            read.push(Image::new(alloc, i + 1, image)?)?;
+            read_next(&mut read, alloc, i + 1, image)?;
         }
         Ok(Images { images: read })
     }
@@ -72,15 +72,37 @@ impl<'r, A: Allocator + Copy> Images<'r, A> {
         requires { length self.now ≡ config.n }
         ensures { result ≡ first_misfit config (image_of self.now) }
     {
-        config.recall();
         for (i, image) in self.images.iter().enumerate() {
-            let node = NodeId::new(i as u8 + 1).unwrap();
+            let node = node_at(config, i);
             if let Some(misfit) = misfit_in(config, &self.images, node, image) {
                 return Some(misfit);
             }
         }
         None
     }
+}
+
+// Indexes the image of the node with this number.
+fn read_next<'r, A: Allocator + Copy>(
+    read: &mut Vec<Image<'r, A>, A>,
+    alloc: A,
+    number: usize,
+    image: &'r [Record<Message<A>>],
+) -> Result<(), NoMemory>
+    ensures { OnOk result (read.new.items
+        ≡ read.old.items ++ record { number = number; records = image.now } ∷ []) }
+{
+    read.push(Image::new(alloc, number, image)?)?;
+    Ok(())
+}
+
+// The node whose image is at this index.
+fn node_at(config: Config, index: usize) -> NodeId
+    requires { index < config.n }
+    ensures { result ≡ index + 1 }
+{
+    config.recall();
+    NodeId::new(index as u8 + 1).unwrap()
 }
 
 // The first misfit of one image.

@@ -1,5 +1,6 @@
-use Rattle.std.proofs.Common.{List, None, Option, Some, ap, length, map, slice_index_or, subst, sym}
-use Rattle.std.proofs.Common.{take, ◌<◌, ◌∙◌, ◌≡◌}
+use Rattle.std.proofs.Common.{List, None, Option, Some, ap, length, map, refl, slice_get}
+use Rattle.std.proofs.Common.{slice_index_or, subst, sym, take, ◌<◌, ◌∙◌, ◌≡◌, ◌≤◌}
+use Rattle.std.proofs.lemmas.Option.{slice_get_read}
 use Rattle.std.specs.Prelude.{option_map}
 use Rattle.urb_names.specs.Naming.{Label}
 use Rattle.urb_names.specs.declared.refusal.Rule.{Rule}
@@ -7,8 +8,24 @@ use Rattle.urb_stable.specs.Entries.{Entry, name_of}
 use Rattle.urb_stable.specs.Fitting.{broken, first_of_all}
 use Rattle.urb_stable.specs.Images.{image_of}
 use Rattle.urb_stable.specs.declared.fitting.Misfit.{Misfit}
-use Rattle.urb_stable.proofs.FirstMisfits.{broken-first, found, passed, record-step}
+use Rattle.urb_stable.proofs.FirstMisfits.{broken-first, found, passed, record-none, record-step}
 use Rattle.urb_stable.proofs.fitting.misfit_in.Goals as goal
+
+pub broken_rule-requires-clause-here : goal.broken_rule-requires-clause-here
+broken_rule-requires-clause-here g c =
+    let records = c.records-records.result.now in
+    subst (λ (rs : List Entry). slice_get rs c.loop-i.i ≡ Some c.index-records-i.result)
+    c.records-records.ensures
+    (slice_get_read records (length records)
+    c.loop-i.i c.index-records-i.result refl c.loop-i-test.true c.index-records-i.is)
+
+pub returns : goal.returns
+returns g c =
+    let past : length c.args.image.now.records ≤ c.loop-i.i =
+    subst (λ (rs : List Entry). length rs ≤ c.loop-i.i) c.records-records.ensures
+    c.loop-i-test.false in
+    sym (record-none c.args.config (image_of (map (λ image. image.records) c.args.images.now))
+    c.args.node c.args.image.now.records c.loop-i.i past) ∙ c.loop-i.invariant
 
 pub returns-in-Some : goal.returns-in-Some
 returns-in-Some g c =

@@ -1,13 +1,26 @@
 use Rattle.std.proofs.Common.{Option, Some, arith, length, refl, subst, sym, ℕ, ◌<◌, ◌∙◌}
 use Rattle.std.proofs.lemmas.Option.{slice_get_read}
-use Rattle.urb_stable.proofs.Walks.{Seeks, left, left-less, seeks-end, seeks-first, seeks-next}
-use Rattle.urb_stable.proofs.Walks.{stands-next, stands-within}
+use Rattle.urb_stable.proofs.Walks.{Seeks, left, left-less, seeks-end, seeks-first, seeks-found}
+use Rattle.urb_stable.proofs.Walks.{seeks-next, stands-next, stands-within}
 use Rattle.urb_stable.proofs.index.has_pair.Goals as goal
 
 pub loop-place-init : goal.loop-place-init
 loop-place-init g c =
     seeks-first c.args.image.now c.args.name c.args.message.now c.args.places.now
     c.copied-place.result c.requires (c.copied-place.ensures ∙ c.get.ensures.value)
+
+pub returns-then-is_of_pair : goal.returns-then-is_of_pair
+returns-then-is_of_pair g c =
+    let image = c.args.image.now in
+    let here : Seeks image c.args.name c.args.message.now (Some c.in-Some.at) =
+    subst (λ (p : Option ℕ). Seeks image c.args.name c.args.message.now p)
+    c.in-Some.is c.loop-place.invariant in
+    let within : c.in-Some.at < length image =
+    stands-within image c.args.name here.0 c.in-Some.at here.1 in
+    seeks-found image c.args.name c.args.message.now c.in-Some.at c.index-image-at.result here
+    (slice_get_read image (length image)
+    c.in-Some.at c.index-image-at.result refl within c.index-image-at.is)
+    (sym c.if-is_of_pair.true ∙ c.is_of_pair.ensures)
 
 pub loop-place-preserved : goal.loop-place-preserved
 loop-place-preserved g c =
