@@ -1,4 +1,4 @@
-use Rattle.std.proofs.Common.{rules, sym, ap, ◌∙◌, ◌≡◌, ◌<◌, length, true, ◌++◌, ◌∷◌, []}
+use Rattle.std.proofs.Common.{arith, sym, ap, ◌∙◌, ◌≡◌, ◌<◌, length, true, ◌++◌, ◌∷◌, []}
 use Rattle.urb_pending.specs.Rows.{Row}
 use Rattle.urb_pending.specs.ClientIndex.{has_room, numbers_in}
 use Rattle.urb_pending.proofs.Rows.{order_changed, place_in, row_changed}
@@ -8,19 +8,21 @@ use Rattle.urb_pending.proofs.clients.Clients.add.Goals as goal
 pub index_mut-requires : goal.index_mut-requires
 index_mut-requires g c =
     let rows = c.self.inside.rows.items in
-    let asked : has_room c.args.client rows ≡ true = search rules in
+    let asked = ap (has_room c.args.client) c.self.view_is ∙ c.requires in
     let there = roomy_row c.args.client rows c.self.invariant asked in
-    let place : c.place_of-place.result ≡ place_in c.args.client rows = search rules in
+    let place =
+    c.place_of-place.ensures.place ∙ ap (place_in c.args.client) c.deref.ensures.value in
     let within : c.place_of-place.result < length rows =
     row_within c.args.client rows there.row c.place_of-place.result there.held place in
-    search rules
+    omega (arith, within, c.self.inside.rows.ok.0)
 
 pub push-requires : goal.push-requires
 push-requires g c =
     let rows = c.self.inside.rows.items in
-    let asked : has_room c.args.client rows ≡ true = search rules in
+    let asked = ap (has_room c.args.client) c.self.view_is ∙ c.requires in
     let there = roomy_row c.args.client rows c.self.invariant asked in
-    let place : c.place_of-place.result ≡ place_in c.args.client rows = search rules in
+    let place =
+    c.place_of-place.ensures.place ∙ ap (place_in c.args.client) c.deref.ensures.value in
     let here =
     (row_read c.args.client rows there.row c.index_mut.result.now c.place_of-place.result
     there.held place c.index_mut.ensures.value).1 in
@@ -29,9 +31,10 @@ push-requires g c =
 pub invariant_of-self : goal.invariant_of-self
 invariant_of-self g c =
     let rows = c.self.inside.rows.items in
-    let asked : has_room c.args.client rows ≡ true = search rules in
+    let asked = ap (has_room c.args.client) c.self.view_is ∙ c.requires in
     let there = roomy_row c.args.client rows c.self.invariant asked in
-    let place : c.place_of-place.result ≡ place_in c.args.client rows = search rules in
+    let place =
+    c.place_of-place.ensures.place ∙ ap (place_in c.args.client) c.deref.ensures.value in
     let here =
     (row_read c.args.client rows there.row c.index_mut.result.now c.place_of-place.result
     there.held place c.index_mut.ensures.value).1 in
@@ -44,9 +47,9 @@ returns g c =
     let rows = c.self.inside.rows.items in
     let new = c.push.new.self in
     let client = c.args.client in
-    let asked : has_room client rows ≡ true = search rules in
+    let asked = ap (has_room client) c.self.view_is ∙ c.requires in
     let there = roomy_row client rows c.self.invariant asked in
-    let place : c.place_of-place.result ≡ place_in client rows = search rules in
+    let place = c.place_of-place.ensures.place ∙ ap (place_in client) c.deref.ensures.value in
     let here =
     (row_read client rows there.row c.index_mut.result.now c.place_of-place.result there.held
     place c.index_mut.ensures.value).1 in
