@@ -122,6 +122,8 @@ pub(crate) fn apply_command<S: Stable<Alloc = Global>>(
     ensures done { Applies S.Stable cluster.old command.now (reply_of result) cluster.new }
     ensures secured { IsSecured S.Stable cluster.old → IsSecured S.Stable cluster.new }
     ensures sized { cluster.new.group.size ≡ cluster.old.group.size }
+    ensures counted { length cluster.old.group.nodes ≡ cluster.old.group.size.n }
+    ensures sound { IsSound cluster.old.group }
     ensures leaves { (stores : List S)
         → stores ≡ cluster.new.stores
         → (secured : IsSecured S.Stable cluster.old)
@@ -149,6 +151,16 @@ pub fn stop_and_reopen<D: Crash + Drop>(
         (λ new. GoesOnFrom ⟦<SqlStable<FileStore<D>> as Stable>⟧ cluster new) }
     ensures secured { IfOk result (λ new. IsSecured ⟦<SqlStable<FileStore<D>> as Stable>⟧ cluster
         → IsSecured ⟦<SqlStable<FileStore<D>> as Stable>⟧ new) }
+    // It also goes on from any earlier world, if a stop leaves in the journals what it may leave of
+    // that world's nodes.
+    ensures behind { IfOk result (λ new. (old : GroupView) (w : World)
+        → IsSound old
+        → length old.nodes ≡ config.n
+        → old.size ≡ config
+        → Shows old w
+        → WouldLeave ⟦<SqlStable<FileStore<D>> as Stable>⟧ w cluster.stores
+        → All ⟦<SqlStable<FileStore<D>> as Stable>⟧.is_clean new.stores
+        → IsContinuation ⟦<SqlStable<FileStore<D>> as Stable>⟧ w new.group) }
 {
     recall_rest(&cluster);
     stop_and_open_all(alloc, config, cluster.into_stores(), options)
@@ -181,10 +193,7 @@ pub fn apply_and_stop<D: Crash + Drop>(
     ensures secured { IfOk result.1 (λ new. IsSecured ⟦<SqlStable<FileStore<D>> as Stable>⟧ cluster
         → IsSecured ⟦<SqlStable<FileStore<D>> as Stable>⟧ new) }
 {
-    recall_rest(&cluster);
     let mut cluster = cluster;
     let reply = apply_command(alloc, &mut cluster, command);
-    recall_rest(&cluster);
-    let journals = cluster.into_stores();
-    (reply, stop_and_open_all(alloc, config, journals, options))
+    (reply, stop_and_reopen(alloc, cluster, config, options))
 }

@@ -1,4 +1,4 @@
-use Rattle.std.proofs.Common.{ap, ◌∙◌}
+use Rattle.std.proofs.Common.{List, Some, ap, slice_get, subst, ◌∙◌, ◌≡◌}
 use Rattle.std.proofs.lemmas.Result.{IfOk-weaker}
 use Rattle.urb_names.specs.Naming.{Limits}
 use Rattle.urb_cluster_stop.proofs.cluster_stop.stop_and_reopen.Goals as goal
@@ -25,3 +25,11 @@ returns-clause-secured g c =
     (λ new secures secured. secures secured.stocked.world
     (c.recall_rest.ensures.leaves c.into_stores.result.items c.into_stores.ensures.value secured))
     c.stop_and_open_all.ensures.secured
+
+pub returns-clause-behind : goal.returns-clause-behind
+returns-clause-behind g c =
+    IfOk-weaker c.stop_and_open_all.result _ _ (λ new goes_on old w sound counted size shows would.
+    goes_on old w sound counted size shows
+    (λ i store got. would i store
+    (subst (λ (xs : List _). slice_get xs i ≡ Some store) c.into_stores.ensures.value got)))
+    c.stop_and_open_all.ensures.goes_on
