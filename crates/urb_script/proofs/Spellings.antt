@@ -1,18 +1,24 @@
 -- Words that are no command.
-use Rattle.std.proofs.Common.{◌≡◌, ℕ, ◌≤◌, ◌==◌, List, [], ◌∷◌, Option, Some, None, true, length}
-use Rattle.std.proofs.Common.{get_or, sym, ◌∙◌, ap, arith}
-use Rattle.std.specs.Prelude.{codes}
+use Rattle.std.proofs.Common.{◌≡◌, ◌≢◌, ℕ, ◌≤◌, ◌==◌, List, [], ◌∷◌, Option, Some, None, true}
+use Rattle.std.proofs.Common.{Bool, false, get_or, length, subst, sym, ◌∙◌, ap, arith}
+use Rattle.std.specs.Prelude.{IsTrue, ◌↔◌, codes}
 use Rattle.std.specs.Str.{bytes_eq}
-use Rattle.std.specs.Option.{IfNone, is_some}
+use Rattle.std.specs.Option.{IfNone, IfSome, is_some}
 use Rattle.std.specs.Borrow.{Bor}
 use Rattle.std.specs.Fmt.{decimal}
 use Rattle.std.proofs.lemmas.Fmt.{decimal_injective}
 use Rattle.std.proofs.lemmas.List.Splits.{length-slice_split}
 use Rattle.std.proofs.lemmas.Slice.Eq.{bytes_eq-Decides}
+use Rattle.urb_names.specs.declared.flags.Flags.{Flags}
 use Rattle.urb_names.specs.declared.limits.TheConstants.{MAX_NODES}
+use Rattle.urb_names.specs.Naming.{Label, Limits}
+use Rattle.urb_stable.specs.declared.memory.Failure.{Failure}
 use Rattle.urb_script.specs.Lines.{words_of, words_left}
-use Rattle.urb_script.specs.Commands.{Command, Raw, Reopen, keyword, AreArguments, IsSpelled}
-use Rattle.urb_script.specs.Commands.{InRange}
+use Rattle.urb_script.specs.Wording.{IsNodeNumber}
+use Rattle.urb_script.specs.Commands.{Command, Arrive, ArriveFlagged, Crash, Fail, Group, Held, Log}
+use Rattle.urb_script.specs.Commands.{Raw, Reopen, Restart, Stored, Submit, Tick, AreArguments}
+use Rattle.urb_script.specs.Commands.{HasNodeAlone, IsSpelled, InRange, command, keyword}
+use Rattle.urb_script.specs.declared.commands.CommandLine.{CommandLine}
 
 -- a text has a word
 words_some : (text : List ℕ) → words_of text ≡ [] → ⊥
@@ -49,10 +55,111 @@ first_number m n l u e f =
 pub test : (word xs ys : List ℕ) → word ≡ xs → word ≡ ys → bytes_eq xs ys ≡ true
 test word xs ys e f = (bytes_eq-Decides xs ys).1 (sym e ∙ f)
 
--- no command `raw` has these words after it
+-- a test that fails
+pub not_word : (result : Bool) (P : Type 0) → (IsTrue result ↔ P) → result ≡ false → P → ⊥
+not_word result P says fails p = let holds : result ≡ true = says.1 p in absurd (cc)
+
+-- what follows from what holds if nothing is found
+none_of : {T : Type 0} (result : Option T) (P Q : Type 0) → (P → Q) → IfNone result P
+    → IfNone result Q
+none_of None P Q f p = f p
+none_of (Some found) P Q f p = tt
+
+-- what is found has the first word
+pub some_as : (result : Option CommandLine) (word key : List ℕ) (others : List (List ℕ))
+    → word ≡ key
+    → IfSome result (λ found. IsSpelled (key ∷ others) (command found) × InRange (command found))
+    → IfSome result (λ found. IsSpelled (word ∷ others) (command found) × InRange (command found))
+some_as result word key others same some =
+    subst (λ (first : List ℕ). IfSome result
+    (λ found. IsSpelled (first ∷ others) (command found) × InRange (command found)))
+    (sym same) some
+
+-- no command has the word `group` and these words after it
+no_group : (word : List ℕ) (others : List (List ℕ)) → word ≡ codes "group"
+    → ((limits : Limits) → InRange (Group limits)
+    → AreArguments (Group limits) others → ⊥)
+    → (asked : Command) → IsSpelled (word ∷ others) asked → InRange asked → ⊥
+no_group word others same none (Group limits) s r = none limits r s.1
+no_group word others same none asked s r =
+    let e = test word (codes "group") (keyword asked) same s.0 in absurd (cc)
+
+pub none_group : {T : Type 0} (result : Option T) (word : List ℕ) (others : List (List ℕ))
+    → word ≡ codes "group"
+    → IfNone result ((limits : Limits) → InRange (Group limits)
+    → AreArguments (Group limits) others → ⊥)
+    → IfNone result ((asked : Command) → IsSpelled (word ∷ others) asked → InRange asked → ⊥)
+none_group result word others same none = none_of result _ _ (no_group word others same) none
+
+-- no command has the word `submit` and these words after it
+no_submit : (word : List ℕ) (others : List (List ℕ)) → word ≡ codes "submit"
+    → ((node client number : ℕ) (payload : List ℕ) → InRange (Submit node client number payload)
+    → AreArguments (Submit node client number payload) others → ⊥)
+    → (asked : Command) → IsSpelled (word ∷ others) asked → InRange asked → ⊥
+no_submit word others same none (Submit node client number payload) s r = none node client number payload r s.1
+no_submit word others same none asked s r =
+    let e = test word (codes "submit") (keyword asked) same s.0 in absurd (cc)
+
+pub none_submit : {T : Type 0} (result : Option T) (word : List ℕ) (others : List (List ℕ))
+    → word ≡ codes "submit"
+    → IfNone result ((node client number : ℕ) (payload : List ℕ) → InRange (Submit node client number payload)
+    → AreArguments (Submit node client number payload) others → ⊥)
+    → IfNone result ((asked : Command) → IsSpelled (word ∷ others) asked → InRange asked → ⊥)
+none_submit result word others same none = none_of result _ _ (no_submit word others same) none
+
+-- no command has the word `fail` and these words after it
+no_fail : (word : List ℕ) (others : List (List ℕ)) → word ≡ codes "fail"
+    → ((node : ℕ) (failure : Failure) → InRange (Fail node failure)
+    → AreArguments (Fail node failure) others → ⊥)
+    → (asked : Command) → IsSpelled (word ∷ others) asked → InRange asked → ⊥
+no_fail word others same none (Fail node failure) s r = none node failure r s.1
+no_fail word others same none asked s r =
+    let e = test word (codes "fail") (keyword asked) same s.0 in absurd (cc)
+
+pub none_fail : {T : Type 0} (result : Option T) (word : List ℕ) (others : List (List ℕ))
+    → word ≡ codes "fail"
+    → IfNone result ((node : ℕ) (failure : Failure) → InRange (Fail node failure)
+    → AreArguments (Fail node failure) others → ⊥)
+    → IfNone result ((asked : Command) → IsSpelled (word ∷ others) asked → InRange asked → ⊥)
+none_fail result word others same none = none_of result _ _ (no_fail word others same) none
+
+-- no command has the word `arrive` and these words after it
+no_arrive : (word : List ℕ) (others : List (List ℕ)) → word ≡ codes "arrive"
+    → ((source node : ℕ) (name : Label) → InRange (Arrive source node name)
+    → AreArguments (Arrive source node name) others → ⊥)
+    → (asked : Command) → IsSpelled (word ∷ others) asked → InRange asked → ⊥
+no_arrive word others same none (Arrive source node name) s r = none source node name r s.1
+no_arrive word others same none asked s r =
+    let e = test word (codes "arrive") (keyword asked) same s.0 in absurd (cc)
+
+pub none_arrive : {T : Type 0} (result : Option T) (word : List ℕ) (others : List (List ℕ))
+    → word ≡ codes "arrive"
+    → IfNone result ((source node : ℕ) (name : Label) → InRange (Arrive source node name)
+    → AreArguments (Arrive source node name) others → ⊥)
+    → IfNone result ((asked : Command) → IsSpelled (word ∷ others) asked → InRange asked → ⊥)
+none_arrive result word others same none = none_of result _ _ (no_arrive word others same) none
+
+-- no command has the word `arrive2` and these words after it
+no_arrive_flagged : (word : List ℕ) (others : List (List ℕ)) → word ≡ codes "arrive2"
+    → ((source node : ℕ) (name : Label) (flags : Flags) → InRange (ArriveFlagged source node name flags)
+    → AreArguments (ArriveFlagged source node name flags) others → ⊥)
+    → (asked : Command) → IsSpelled (word ∷ others) asked → InRange asked → ⊥
+no_arrive_flagged word others same none (ArriveFlagged source node name flags) s r = none source node name flags r s.1
+no_arrive_flagged word others same none asked s r =
+    let e = test word (codes "arrive2") (keyword asked) same s.0 in absurd (cc)
+
+pub none_arrive_flagged : {T : Type 0} (result : Option T) (word : List ℕ) (others : List (List ℕ))
+    → word ≡ codes "arrive2"
+    → IfNone result ((source node : ℕ) (name : Label) (flags : Flags) → InRange (ArriveFlagged source node name flags)
+    → AreArguments (ArriveFlagged source node name flags) others → ⊥)
+    → IfNone result ((asked : Command) → IsSpelled (word ∷ others) asked → InRange asked → ⊥)
+none_arrive_flagged result word others same none = none_of result _ _ (no_arrive_flagged word others same) none
+
+-- no command has the word `raw` and these words after it
 no_raw : (word : List ℕ) (others : List (List ℕ)) → word ≡ codes "raw"
-    → ((node : ℕ) (bytes : List ℕ) → InRange (Raw node bytes) → AreArguments (Raw node bytes) others
-    → ⊥) → (asked : Command) → IsSpelled (word ∷ others) asked → InRange asked → ⊥
+    → ((node : ℕ) (bytes : List ℕ) → InRange (Raw node bytes)
+    → AreArguments (Raw node bytes) others → ⊥)
+    → (asked : Command) → IsSpelled (word ∷ others) asked → InRange asked → ⊥
 no_raw word others same none (Raw node bytes) s r = none node bytes r s.1
 no_raw word others same none asked s r =
     let e = test word (codes "raw") (keyword asked) same s.0 in absurd (cc)
@@ -62,13 +169,88 @@ pub none_raw : {T : Type 0} (result : Option T) (word : List ℕ) (others : List
     → IfNone result ((node : ℕ) (bytes : List ℕ) → InRange (Raw node bytes)
     → AreArguments (Raw node bytes) others → ⊥)
     → IfNone result ((asked : Command) → IsSpelled (word ∷ others) asked → InRange asked → ⊥)
-none_raw None word others same none = no_raw word others same none
-none_raw (Some found) word others same none = tt
+none_raw result word others same none = none_of result _ _ (no_raw word others same) none
+
+-- no command has the word `held` and these words after it
+no_held : (word : List ℕ) (others : List (List ℕ)) → word ≡ codes "held"
+    → ((name : Label) → InRange (Held name)
+    → AreArguments (Held name) others → ⊥)
+    → (asked : Command) → IsSpelled (word ∷ others) asked → InRange asked → ⊥
+no_held word others same none (Held name) s r = none name r s.1
+no_held word others same none asked s r =
+    let e = test word (codes "held") (keyword asked) same s.0 in absurd (cc)
+
+pub none_held : {T : Type 0} (result : Option T) (word : List ℕ) (others : List (List ℕ))
+    → word ≡ codes "held"
+    → IfNone result ((name : Label) → InRange (Held name)
+    → AreArguments (Held name) others → ⊥)
+    → IfNone result ((asked : Command) → IsSpelled (word ∷ others) asked → InRange asked → ⊥)
+none_held result word others same none = none_of result _ _ (no_held word others same) none
 
 -- no word follows `reopen`
-pub none_reopen : (word : List ℕ) (rest : Option (Bor (List ℕ))) → word ≡ codes "reopen"
-    → is_some rest ≡ true → (asked : Command) → IsSpelled (word ∷ words_left rest) asked
-    → InRange asked → ⊥
-none_reopen word rest same some Reopen s r = left_some rest some s.1
-none_reopen word rest same some asked s r =
+no_reopen : (word : List ℕ) (others : List (List ℕ)) → word ≡ codes "reopen"
+    → (AreArguments Reopen others → ⊥)
+    → (asked : Command) → IsSpelled (word ∷ others) asked → InRange asked → ⊥
+no_reopen word others same none Reopen s r = none s.1
+no_reopen word others same none asked s r =
     let e = test word (codes "reopen") (keyword asked) same s.0 in absurd (cc)
+
+pub none_reopen : {T : Type 0} (result : Option T) (word : List ℕ) (others : List (List ℕ))
+    → word ≡ codes "reopen" → IfNone result (AreArguments Reopen others → ⊥)
+    → IfNone result ((asked : Command) → IsSpelled (word ∷ others) asked → InRange asked → ⊥)
+none_reopen result word others same none = none_of result _ _ (no_reopen word others same) none
+
+-- a word that is none of the other keywords
+pub record IsNodeWord (word : List ℕ) : Type 0 where
+  pub group : word ≢ codes "group"
+  pub submit : word ≢ codes "submit"
+  pub fail : word ≢ codes "fail"
+  pub reopen : word ≢ codes "reopen"
+  pub arrive : word ≢ codes "arrive"
+  pub arrive_flagged : word ≢ codes "arrive2"
+  pub raw : word ≢ codes "raw"
+  pub held : word ≢ codes "held"
+
+no_other : (word : List ℕ) (others : List (List ℕ)) → IsNodeWord word
+    → ((asked : Command) → HasNodeAlone asked → IsSpelled (word ∷ others) asked → InRange asked → ⊥)
+    → (asked : Command) → IsSpelled (word ∷ others) asked → InRange asked → ⊥
+no_other word others not none (Group limits) s r = not.group s.0
+no_other word others not none (Submit node client number payload) s r = not.submit s.0
+no_other word others not none (Fail node failure) s r = not.fail s.0
+no_other word others not none Reopen s r = not.reopen s.0
+no_other word others not none (Arrive source node name) s r = not.arrive s.0
+no_other word others not none (ArriveFlagged source node name flags) s r = not.arrive_flagged s.0
+no_other word others not none (Raw node bytes) s r = not.raw s.0
+no_other word others not none (Held name) s r = not.held s.0
+no_other word others not none asked s r = none asked tt s r
+
+-- the word is none of the other keywords, and no command has it with a node alone
+pub none_other : {T : Type 0} (result : Option T) (word : List ℕ) (others : List (List ℕ))
+    → IsNodeWord word
+    → IfNone result ((asked : Command) → HasNodeAlone asked → IsSpelled (word ∷ others) asked
+    → InRange asked → ⊥)
+    → IfNone result ((asked : Command) → IsSpelled (word ∷ others) asked → InRange asked → ⊥)
+none_other result word others not none = none_of result _ _ (no_other word others not) none
+
+-- no node follows
+pub no_node : (word : List ℕ) (others : List (List ℕ))
+    → ((node : ℕ) → IsNodeNumber node → others ≢ decimal node ∷ [])
+    → (asked : Command) → HasNodeAlone asked → IsSpelled (word ∷ others) asked → InRange asked → ⊥
+no_node word others none (Stored node) h s r = none node r s.1
+no_node word others none (Crash node) h s r = none node r s.1
+no_node word others none (Restart node) h s r = none node r s.1
+no_node word others none (Tick node) h s r = none node r s.1
+no_node word others none (Log node) h s r = none node r s.1
+no_node word others none asked h s r = absurd h
+
+-- the word is none of those that a node alone follows
+pub no_keyword : (word : List ℕ) (others : List (List ℕ))
+    → word ≢ codes "stored" → word ≢ codes "crash" → word ≢ codes "restart" → word ≢ codes "tick"
+    → word ≢ codes "log"
+    → (asked : Command) → HasNodeAlone asked → IsSpelled (word ∷ others) asked → InRange asked → ⊥
+no_keyword word others stored crash restart tick log (Stored node) h s r = stored s.0
+no_keyword word others stored crash restart tick log (Crash node) h s r = crash s.0
+no_keyword word others stored crash restart tick log (Restart node) h s r = restart s.0
+no_keyword word others stored crash restart tick log (Tick node) h s r = tick s.0
+no_keyword word others stored crash restart tick log (Log node) h s r = log s.0
+no_keyword word others stored crash restart tick log asked h s r = absurd h

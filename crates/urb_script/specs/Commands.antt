@@ -106,6 +106,15 @@ abbrev pub IsSpelled : List (List ℕ) → Command → Type 0
 IsSpelled [] asked = ⊥
 IsSpelled (first ∷ others) asked = (first ≡ keyword asked) × AreArguments asked others
 
+-- the command has a node, and nothing else
+abbrev pub HasNodeAlone : Command → Type 0
+HasNodeAlone (Stored node) = Unit {0}
+HasNodeAlone (Crash node) = Unit {0}
+HasNodeAlone (Restart node) = Unit {0}
+HasNodeAlone (Tick node) = Unit {0}
+HasNodeAlone (Log node) = Unit {0}
+HasNodeAlone asked = ⊥
+
 -- what arrives at a node comes from another node
 pub record IsRoute (q p : ℕ) : Type 0 where
   pub source : IsNodeNumber q

@@ -8,14 +8,15 @@ ghost use Rattle.urb_names.specs.Naming.{Limits, IsLimits, Label, IsLabel};
 ghost use Rattle.urb_names.specs.declared.flags.Flags.{Flags};
 ghost use Rattle.urb_stable.specs.declared.memory.Failure.{Failure};
 ghost use Rattle.urb_script.specs.Lines.{words_left};
-ghost use Rattle.urb_script.specs.Wording.{IsNodeNumber, HasWord, IsPrinted, payload_word};
+ghost use Rattle.urb_script.specs.Wording.{HasWord, IsPrinted, payload_word};
 ghost use Rattle.urb_script.specs.Wording.{failure_word, name_text};
-ghost use Rattle.urb_script.specs.Commands.{Command, command, AreArguments, IsRoute, IsSpelled};
-ghost use Rattle.urb_script.specs.Commands.{InRange, Spells, Submit, Arrive, ArriveFlagged, Raw};
+ghost use Rattle.urb_script.specs.Commands.{Command, command, AreArguments, HasNodeAlone, IsRoute};
+ghost use Rattle.urb_script.specs.Commands.{InRange, IsSpelled, Spells, Group, Submit, Fail, Reopen};
+ghost use Rattle.urb_script.specs.Commands.{Arrive, ArriveFlagged, Raw, Held};
 
 use crate::hex::HexBytes;
 use crate::input::LONGEST_LINE;
-use crate::words::{LAST_NODE, first_word, last_node, last_word, number_in, number_word};
+use crate::words::{LAST_NODE, first_word, is_word, last_node, last_word, number_in, number_word};
 use urb_names::{ClientId, Config, Flags, MAX_CAP, MAX_NODES, Name, NodeId};
 use urb_stable::Failure;
 
@@ -99,66 +100,78 @@ fn parse_words<'a>(word: &[u8], rest: Option<&'a [u8]>) -> Option<CommandLine<'a
         → InRange asked
         → ⊥) }
 {
-    if word == b"group".as_slice() {
-        return Some(CommandLine::Group(parse_group(rest)?));
+    if is_word(word, "group") {
+        return parse_group(rest);
     }
-    if word == b"submit".as_slice() {
+    if is_word(word, "submit") {
         return parse_submit(rest);
     }
-    if word == b"stored".as_slice() {
-        return Some(CommandLine::Stored(last_node(rest)?));
+    if is_word(word, "fail") {
+        return parse_fail(rest);
     }
-    if word == b"fail".as_slice() {
-        let (node, failure) = parse_fail(rest)?;
-        return Some(CommandLine::Fail { node, failure });
+    if is_word(word, "reopen") {
+        return parse_reopen(rest);
     }
-    if word == b"crash".as_slice() {
-        return Some(CommandLine::Crash(last_node(rest)?));
-    }
-    if word == b"restart".as_slice() {
-        return Some(CommandLine::Restart(last_node(rest)?));
-    }
-    if word == b"reopen".as_slice() {
-        if rest.is_some() {
-            return None;
-        }
-        return Some(CommandLine::Reopen);
-    }
-    if word == b"arrive".as_slice() {
+    if is_word(word, "arrive") {
         return parse_arrive(rest);
     }
-    if word == b"arrive2".as_slice() {
+    if is_word(word, "arrive2") {
         return parse_arrive_flagged(rest);
     }
-    if word == b"raw".as_slice() {
+    if is_word(word, "raw") {
         return parse_raw(rest);
     }
-    if word == b"tick".as_slice() {
-        return Some(CommandLine::Tick(last_node(rest)?));
+    if is_word(word, "held") {
+        return parse_held(rest);
     }
-    if word == b"log".as_slice() {
-        return Some(CommandLine::Log(last_node(rest)?));
+    parse_node_command(word, rest)
+}
+
+// Parses a command that has a node and nothing else.
+fn parse_node_command<'a>(word: &[u8], rest: Option<&[u8]>) -> Option<CommandLine<'a>>
+    ensures some { IfSome result (λ found.
+        IsSpelled (word.now ∷ words_left rest.entry) (command found) × InRange (command found)) }
+    ensures none { IfNone result ((asked : Command)
+        → HasNodeAlone asked
+        → IsSpelled (word.now ∷ words_left rest.entry) asked
+        → InRange asked
+        → ⊥) }
+{
+    let node = last_node(rest)?;
+    if is_word(word, "stored") {
+        return Some(CommandLine::Stored(node));
     }
-    if word == b"held".as_slice() {
-        return Some(CommandLine::Held(parse_name(last_word(rest)?)?));
+    if is_word(word, "crash") {
+        return Some(CommandLine::Crash(node));
+    }
+    if is_word(word, "restart") {
+        return Some(CommandLine::Restart(node));
+    }
+    if is_word(word, "tick") {
+        return Some(CommandLine::Tick(node));
+    }
+    if is_word(word, "log") {
+        return Some(CommandLine::Log(node));
     }
     None
 }
 
-// Parses the words of a `group` line as the limits of a group.
-fn parse_group(rest: Option<&[u8]>) -> Option<Config>
-    ensures some { IfSome result (λ limits.
-        (words_left rest.entry ≡ decimal limits.n ∷ decimal limits.cap ∷ []) × IsLimits limits) }
+fn parse_group<'a>(rest: Option<&[u8]>) -> Option<CommandLine<'a>>
+    ensures some { IfSome result (λ found.
+        IsSpelled (codes "group" ∷ words_left rest.entry) (command found)
+        × InRange (command found)) }
     ensures none { IfNone result ((limits : Limits)
-        → IsLimits limits
-        → words_left rest.entry ≢ decimal limits.n ∷ decimal limits.cap ∷ []) }
+        → InRange (Group limits)
+        → AreArguments (Group limits) (words_left rest.entry)
+        → ⊥) }
 {
     let (n, rest) = number_word(rest, 1, LAST_NODE)?;
     let (cap, rest) = number_word(rest, 1, LAST_CAP)?;
     if rest.is_some() {
         return None;
     }
-    Some(Config::new(n as u8, cap as u32).unwrap())
+    let config = Config::new(n as u8, cap as u32).unwrap();
+    Some(CommandLine::Group(config))
 }
 
 fn parse_submit(rest: Option<&[u8]>) -> Option<CommandLine<'_>>
@@ -206,31 +219,44 @@ fn is_printable(word: &[u8]) -> bool
     word.iter().all(|byte| matches!(*byte, b'!'..=b'~'))
 }
 
-// Parses the words of a `fail` line: a node, and whether its failing store keeps the record.
-fn parse_fail(rest: Option<&[u8]>) -> Option<(NodeId, Failure)>
-    ensures some { IfSome result
-        (λ r. (words_left rest.entry ≡ decimal r.0 ∷ failure_word r.1 ∷ []) × IsNodeNumber r.0) }
+fn parse_fail<'a>(rest: Option<&[u8]>) -> Option<CommandLine<'a>>
+    ensures some { IfSome result (λ found.
+        IsSpelled (codes "fail" ∷ words_left rest.entry) (command found)
+        × InRange (command found)) }
     ensures none { IfNone result ((node : ℕ) (failure : Failure)
-        → IsNodeNumber node
-        → words_left rest.entry ≢ decimal node ∷ failure_word failure ∷ []) }
+        → InRange (Fail node failure)
+        → AreArguments (Fail node failure) (words_left rest.entry)
+        → ⊥) }
 {
     let (number, rest) = number_word(rest, 1, LAST_NODE)?;
     let failure = parse_failure(last_word(rest)?)?;
     let node = NodeId::new(number as u8).unwrap();
-    Some((node, failure))
+    Some(CommandLine::Fail { node, failure })
 }
 
 fn parse_failure(word: &[u8]) -> Option<Failure>
     ensures some { IfSome result (λ failure. word.now ≡ failure_word failure) }
     ensures none { IfNone result ((failure : Failure) → word.now ≢ failure_word failure) }
 {
-    if word == b"old".as_slice() {
+    if is_word(word, "old") {
         return Some(Failure::Old);
     }
-    if word == b"new".as_slice() {
+    if is_word(word, "new") {
         return Some(Failure::New);
     }
     None
+}
+
+fn parse_reopen<'a>(rest: Option<&[u8]>) -> Option<CommandLine<'a>>
+    ensures some { IfSome result (λ found.
+        IsSpelled (codes "reopen" ∷ words_left rest.entry) (command found)
+        × InRange (command found)) }
+    ensures none { IfNone result (AreArguments Reopen (words_left rest.entry) → ⊥) }
+{
+    match rest {
+        None => Some(CommandLine::Reopen),
+        Some(_) => None,
+    }
 }
 
 // The source of a packet, its target, and its name.
@@ -335,6 +361,19 @@ fn parse_raw(rest: Option<&[u8]>) -> Option<CommandLine<'_>>
         Some(bytes) => Some(CommandLine::Raw { node, bytes }),
         None => None,
     }
+}
+
+fn parse_held<'a>(rest: Option<&[u8]>) -> Option<CommandLine<'a>>
+    ensures some { IfSome result (λ found.
+        IsSpelled (codes "held" ∷ words_left rest.entry) (command found)
+        × InRange (command found)) }
+    ensures none { IfNone result ((name : Label)
+        → InRange (Held name)
+        → AreArguments (Held name) (words_left rest.entry)
+        → ⊥) }
+{
+    let name = parse_name(last_word(rest)?)?;
+    Some(CommandLine::Held(name))
 }
 
 // Parses a word as a name: a node's digit, a full stop, and the number.

@@ -1,7 +1,7 @@
 //! The words of a line.
 
 ghost use Rattle.std.specs.Prelude.{◌≡◌, ◌≢◌, ℕ, ◌^◌, ◌<◌, ◌≤◌, List, [], ◌∷◌, IfSome, IfNone};
-ghost use Rattle.std.specs.Prelude.{position, ◌==◌};
+ghost use Rattle.std.specs.Prelude.{IsTrue, position, ◌==◌, ◌↔◌};
 ghost use Rattle.std.specs.Fmt.{decimal};
 ghost use Rattle.urb_script.specs.Lines.{words_of, words_left};
 ghost use Rattle.urb_script.specs.Wording.{IsNodeNumber};
@@ -79,6 +79,13 @@ pub fn number_word(rest: Option<&[u8]>, low: u64, high: u64) -> Option<(u64, Opt
     let (word, rest) = first_word(rest?);
     let number = number_in(word, low, high)?;
     Some((number, rest))
+}
+
+/// Says whether a word is this text.
+pub fn is_word(word: &[u8], text: &str) -> bool
+    ensures { IsTrue result ↔ (word.now ≡ text.now) }
+{
+    word == text.as_bytes()
 }
 
 /// Returns the word, if it is the last one.
