@@ -34,7 +34,8 @@ none_yet opens [] none =
     record { whole = refl; each = λ at more there. absurd (let e = there in cc) }
 none_yet opens (x ∷ all) none = absurd (let e = none in cc)
 
--- what stands at a place is there, whatever would stand in its place otherwise
+-- If a list has this value at a place, the place is within the list. Reading the place with any
+-- default gives this value.
 pub read_there : {X : Type 0} (xs : List X) (i : ℕ) (d it : X) → slice_get xs i ≡ Some it
     → (i < length xs) × (slice_index_or xs i d ≡ it)
 read_there [] i d it e = absurd (let f = e in cc)

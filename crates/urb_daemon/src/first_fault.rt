@@ -47,7 +47,7 @@ pub fn collect_opened<J: Drop>(
 ) -> Result<Vec<J>, (Outcomes<J>, StoreFault)>
     ensures all { IfOk result (λ all. map Ok all.items ≡ outcomes.items) }
     ensures back { IfErr result (λ e. e.0 ≡ outcomes) }
-    // The fault is the first one in order. If there is none, it says that memory was refused.
+    // The fault is the first one in order. If no outcome is a fault, it says that memory was refused.
     ensures fault { IfErr result (λ e. FailsFirst outcomes.items e.1
         ⊎ (All IsOpen outcomes.items × (e.1 ≡ StoreFault.NoMemory))) }
 {

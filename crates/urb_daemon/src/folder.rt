@@ -43,12 +43,12 @@ fn open_in_folder<K: Contents + Send + Sync, R: Threads + Sync>(
 }
 
 /// Opens the journals of all nodes of a group, `node-1.db`, `node-2.db` and so on in its folder.
-/// Those that exist are opened in parallel. Missing ones are made in the order of the nodes. The
-/// fault is that of the first node that is refused. Then no journal is made for a node after it,
-/// and those that were opened are closed. The fault is the refusal 14 if the folder has records of
-/// a node that this group doesn't have. Then no file is changed. `threads` and `rt` are the same
-/// runtime: one is used for threads, the other for files. `K` names what the files held, and no
-/// code can read it.
+/// Those that exist are opened in parallel, or one after the other if their files are long. Missing
+/// ones are made in the order of the nodes. The fault is that of the first node that is refused.
+/// Then no journal is made for a node after it, and those that were opened are closed. The fault is
+/// the refusal 14 if the folder has records of a node that this group doesn't have. Then no file is
+/// changed. `threads` and `rt` are the same runtime: one is used for threads, the other for files.
+/// `K` names what the files held, and no code can read it.
 pub fn open_journals<K: Contents + Send + Sync, R: Threads + Sync>(
     threads: &R,
     rt: &HostRuntime,

@@ -9,11 +9,11 @@
 //! let status = report_end(&rt, ended);
 //! ```
 //!
-//! Existing journals are opened in parallel, each on a thread of its own if one can be made.
-//! Missing ones are made in the order of the nodes. Then all journals are asked in parallel for
-//! their records. If these are what a stop of such a group left, the group goes on from there. It
-//! runs until the console's input ends. However the run ends, the journals are returned in their
-//! nodes' order.
+//! Existing journals are opened in parallel, each on a thread of its own if one can be made, or one
+//! after the other if their files are long. Missing ones are made in the order of the nodes. Then
+//! all journals are asked in parallel for their records. If these are what a stop of such a group
+//! left, the group goes on from there. It runs until the console's input ends. However the run ends,
+//! the journals are returned in their nodes' order.
 //!
 //! No proof says that a thread runs or that a wait ends: tests show it.
 #![tactic(auto)]

@@ -9,6 +9,7 @@ ghost use Rattle.urb_daemon.specs.OpenedPlaces.{AreOpened};
 use crate::journal::{FileId, Journal};
 use sqlite_disk::Disk;
 use std::fs;
+use std::fs::Metadata;
 use std::os::unix::fs::MetadataExt;
 use std::rt::HostRuntime;
 use std::sync::Arc;
@@ -38,10 +39,16 @@ fn node_at(place: usize) -> Option<NodeId>
     NodeId::new(u8::try_from(place.checked_add(1)?).ok()?)
 }
 
+// What the system says of the file with the name of a node's journal in this folder. `None` if no
+// file has that name.
+fn metadata_of(rt: &HostRuntime, dir: &str, node: NodeId) -> Option<Metadata> {
+    let path = format!(in rt.alloc(); "{dir}/node-{}.db", node.number()).ok()?;
+    fs::metadata(rt, path.as_str()).ok()
+}
+
 // The file with the name of a node's journal in this folder. `None` if no file has that name.
 fn file_of(rt: &HostRuntime, dir: &str, node: NodeId) -> Option<FileId> {
-    let path = format!(in rt.alloc(); "{dir}/node-{}.db", node.number()).ok()?;
-    let found = fs::metadata(rt, path.as_str()).ok()?;
+    let found = metadata_of(rt, dir, node)?;
     Some(FileId {
         device: found.dev(),
         number: found.ino(),
@@ -92,6 +99,12 @@ pub(crate) fn open_at<K: Contents>(
         }),
         None => Err(StoreFault::Device),
     }
+}
+
+/// How many bytes the database file at this place has. `None` if there is no such file.
+pub(crate) fn length_at(folder: &Folder<'_>, place: usize) -> Option<usize> {
+    let found = metadata_of(folder.rt, folder.dir, node_at(place)?)?;
+    usize::try_from(found.len()).ok()
 }
 
 /// Opens the journal of the node at this place if it exists. It makes nothing.

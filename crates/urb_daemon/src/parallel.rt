@@ -1,20 +1,63 @@
 //! Opens the journals of a folder: existing ones in parallel, and then missing ones one after the
 //! other.
 
-ghost use Rattle.std.specs.Prelude.{◌≡◌, ◌⊎◌, ◌≤◌, IfErr, IfOk, IfSome, MatchOption, length};
-ghost use Rattle.std.specs.Prelude.{vec_capacity, vec_len};
+ghost use Rattle.std.specs.Prelude.{◌≡◌, ◌⊎◌, ◌<◌, ◌≤◌, ◌/◌, IfErr, IfOk, IfSome, MatchOption};
+ghost use Rattle.std.specs.Prelude.{length, vec_capacity, vec_len};
 ghost use Rattle.urb_stable.specs.declared.stable.StoreFault.{StoreFault as Fault};
 ghost use Rattle.urb_sqlite.specs.Nodes.{held_by};
 ghost use Rattle.urb_daemon.specs.OpenedJournals.{OpensIn};
 ghost use Rattle.urb_daemon.specs.OpenedPlaces.{AreFound, AreOpened, FailsAtFirst};
 
-use crate::node_journal::{FileJournal, Folder, Found, close_journal, find_at, make_next};
+use crate::node_journal::{
+    FileJournal, Folder, Found, close_journal, find_at, length_at, make_next,
+};
 use sqlite_disk::Disk;
 use std::alloc::Global;
 use std::thread;
 use std::thread::Threads;
 use urb_sqlite::{Contents, NodeFile};
 use urb_stable::StoreFault;
+
+/// How many bytes several database files may have in all if they are opened at the same time. An
+/// opening checks all rows of a table, and holds them in memory meanwhile: about the file's length.
+/// With this limit, the files of three nodes that have 100,000 short messages (12 MB each) are still
+/// opened at the same time.
+const OPENED_TOGETHER: usize = 48_000_000;
+
+// How many of `count` database files, each of at most `longest` bytes, are opened at the same time.
+fn fit_together(count: usize, longest: usize) -> usize
+    requires some { 0 < count }
+    requires long { 0 < longest }
+    ensures range { (0 < result) × (result ≤ count) }
+    // Several files are opened at the same time only if as many files of `longest` bytes have at
+    // most OPENED_TOGETHER bytes in all.
+    ensures within { 1 < result → result ≤ OPENED_TOGETHER / longest }
+    // A file has to wait only if one file more would have more bytes in all.
+    ensures most { result < count → OPENED_TOGETHER / longest ≤ result }
+{
+    match OPENED_TOGETHER / longest {
+        0 => 1,
+        fitting if fitting < count => fitting,
+        _ => count,
+    }
+}
+
+// How many of the first `count` places are opened at the same time, judged by the longest database
+// file among them.
+fn count_threads(folder: &Folder<'_>, count: usize) -> usize
+    requires { 0 < count }
+    ensures { (0 < result) × (result ≤ count) }
+{
+    let mut longest = 1;
+    for place in 0..count {
+        if let Some(length) = length_at(folder, place)
+            && longest < length
+        {
+            longest = length;
+        }
+    }
+    fit_together(count, longest)
+}
 
 // A list with nothing found yet at each of `count` places, or `None` if memory was refused.
 fn prepare_places<K: Contents>(alloc: Global, count: usize) -> Option<Vec<Found<K>>>
@@ -27,7 +70,8 @@ fn prepare_places<K: Contents>(alloc: Global, count: usize) -> Option<Vec<Found<
     Some(found)
 }
 
-// Looks at each place, on a thread of its own if one can be made.
+// Looks at each place. It looks at several at the same time if their files are short enough and if
+// threads can be made.
 fn find_each<K: Contents + Send + Sync, R: Threads + Sync>(
     rt: &R,
     folder: Folder<'_>,
@@ -47,7 +91,7 @@ fn find_each<K: Contents + Send + Sync, R: Threads + Sync>(
     {
         *it = find_at::<K>(&folder, place);
     };
-    thread::for_each_mut(rt, found, count, &find_one);
+    thread::for_each_mut(rt, found, count_threads(&folder, count), &find_one);
 }
 
 // Opens the place after these. It takes what was found there, or makes it if nothing was found.
@@ -106,10 +150,10 @@ fn close_found<K: Contents>(folder: &Folder<'_>, found: Vec<Found<K>>) {
     }
 }
 
-/// Opens the journals at the first `count` places: first those that exist, in parallel, and then
-/// the missing ones, in order. The fault is that of the first place that is refused, or that memory
-/// for the list was refused. After a fault, nothing was made after that place, and everything that
-/// was opened is closed.
+/// Opens the journals at the first `count` places: first those that exist, in parallel unless their
+/// files are long, and then the missing ones, in order. The fault is that of the first place that is
+/// refused, or that memory for the list was refused. After a fault, nothing was made after that
+/// place, and everything that was opened is closed.
 pub(crate) fn open_all<K: Contents + Send + Sync, R: Threads + Sync>(
     rt: &R,
     alloc: Global,
