@@ -20,9 +20,9 @@ use urb_stable::StoreFault;
 
 /// How many bytes several database files may have in all if they are opened at the same time. An
 /// opening checks all rows of a table, and holds them in memory meanwhile: about the file's length.
-/// With this limit, the files of three nodes that have 100,000 short messages (12 MB each) are still
-/// opened at the same time.
-const OPENED_TOGETHER: usize = 48_000_000;
+/// With this limit, the files of three nodes that have 100,000 short messages (up to 15 MB each)
+/// are still opened at the same time.
+const OPENED_TOGETHER: usize = 64_000_000;
 
 // How many of `count` database files, each of at most `longest` bytes, are opened at the same time.
 fn fit_together(count: usize, longest: usize) -> usize
