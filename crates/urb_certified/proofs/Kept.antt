@@ -12,7 +12,8 @@ use Rattle.urb_names.specs.Names.{has_name, name, name_lt, same_name}
 use Rattle.urb_names.specs.Ordered.{placed}
 use Rattle.urb_names.proofs.SameNames.{same_name-true}
 use Rattle.urb_names.proofs.Ordered.{any_insert, names_ordered, rising_placed}
-use Rattle.urb_certified.specs.Parts.{IsJoined, IsParts, all_names, is_left, low_of}
+use Rattle.urb_certified.specs.Parts.{all_names}
+use Rattle.urb_certified.specs.internal.Parts.{IsJoined, IsParts, is_left, low_of}
 use Rattle.urb_certified.proofs.Sets.{both_ways}
 use Rattle.urb_certified.proofs.Orders.{names_in_order}
 use Rattle.urb_certified.proofs.Sorted.{filter_all, filter_has, filter_rises}

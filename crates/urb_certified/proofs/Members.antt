@@ -1,7 +1,6 @@
 -- Which names the two parts hold.
 use Rattle.std.proofs.Common.{◌≡◌, ℕ, zero, suc, ◌+◌, ◌-◌, ◌<◌, ◌≤◌, true, false, List, [], ◌∷◌}
-use Rattle.std.proofs.Common.{◌||◌, map, get_or, refl, sym, ◌∙◌, subst, inl, inr, ◌⊎◌}
-use Rattle.std.proofs.Common.{arith}
+use Rattle.std.proofs.Common.{◌||◌, map, get_or, refl, sym, ◌∙◌, subst, inl, inr, ◌⊎◌, arith}
 use Rattle.std.proofs.lemmas.Bool.{cases_eq, false≢true, or_cases, or_left, or_right}
 use Rattle.std.proofs.lemmas.List.Folds.{list_any-append}
 use Rattle.urb_names.specs.Naming.{Label}
@@ -10,7 +9,8 @@ use Rattle.urb_names.specs.Names.{has_name, name, names, same_name}
 use Rattle.urb_names.proofs.SameNames.{same_name-true}
 use Rattle.urb_names.proofs.Released.{has-row}
 use Rattle.urb_certified.proofs.Sets.{both_ways}
-use Rattle.urb_certified.specs.Parts.{all_names, low_of, rows_from}
+use Rattle.urb_certified.specs.Parts.{all_names, rows_from}
+use Rattle.urb_certified.specs.internal.Parts.{low_of}
 
 -- a name in the row of k numbers from a on
 pub record IsInRow (s a k : ℕ) (y : Label) : Type 0 where

@@ -5,7 +5,7 @@ use Rattle.urb_names.specs.Naming.{Label}
 use Rattle.urb_names.specs.Names.{name_lt, same_name}
 use Rattle.urb_names.proofs.RisingPairs.{name_lt-trans, name_lt-one_way, name_lt-other_way}
 use Rattle.urb_names.proofs.SameNames.{same_name-same, same_name-true}
-use Rattle.urb_certified.specs.Sets.{IsOrder}
+use Rattle.urb_certified.specs.internal.Sets.{IsOrder}
 
 -- no name comes before itself
 pub name_lt-strict : (x : Label) → name_lt x x ≡ false

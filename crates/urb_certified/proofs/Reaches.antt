@@ -10,7 +10,8 @@ use Rattle.urb_names.proofs.SameNames.{same_name-same, same_name-true}
 use Rattle.urb_names.proofs.Released.{beginning_is, length-row, reach}
 use Rattle.urb_names.proofs.Reached.{reach-is}
 use Rattle.urb_certified.specs.Sets.{set_of}
-use Rattle.urb_certified.specs.Parts.{IsParts, all_names, low_of}
+use Rattle.urb_certified.specs.Parts.{all_names}
+use Rattle.urb_certified.specs.internal.Parts.{IsParts, low_of}
 use Rattle.urb_certified.proofs.Sets.{set_has}
 use Rattle.urb_certified.proofs.Orders.{names_in_order}
 use Rattle.urb_certified.proofs.Members.{IsInRows, all_above, all_low, all_true}

@@ -4,7 +4,8 @@ use Rattle.std.proofs.Common.{get_or, refl, sym, ap, ap₂, ◌∙◌, subst, in
 use Rattle.urb_names.specs.Naming.{Label}
 use Rattle.urb_names.specs.Names.{has_name, name_lt, same_name}
 use Rattle.urb_names.specs.Release.{beginning}
-use Rattle.urb_certified.specs.Parts.{IsParts, all_names, low_of}
+use Rattle.urb_certified.specs.Parts.{all_names}
+use Rattle.urb_certified.specs.internal.Parts.{IsParts, low_of}
 use Rattle.urb_certified.proofs.Sets.{both_ways, rising_same}
 use Rattle.urb_certified.proofs.Orders.{names_in_order}
 use Rattle.urb_certified.proofs.Members.{IsInRows, all_above, all_true}

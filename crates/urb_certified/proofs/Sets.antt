@@ -1,12 +1,12 @@
 -- Rising lists with the same elements are equal.
 use Rattle.std.proofs.Common.{◌≡◌, Bool, true, false, cond, ◌||◌, List, [], ◌∷◌, refl, sym}
 use Rattle.std.proofs.Common.{ap, ap₂, ◌∙◌, subst, inl, inr, ◌⊎◌}
-use Rattle.std.proofs.lemmas.Bool.{and_parts}
-use Rattle.std.proofs.lemmas.Bool.{false≢true, false_from_ne_true, or_cases, or_left}
+use Rattle.std.proofs.lemmas.Bool.{and_parts, false≢true, false_from_ne_true, or_cases, or_left}
 use Rattle.std.specs.List.{list_all, list_any}
 use Rattle.urb_names.specs.Ordered.{is_rising, placed}
 use Rattle.urb_names.proofs.Ordered.{IsStrictOrder, any_insert, rising_placed}
-use Rattle.urb_certified.specs.Sets.{IsOrder, set_of}
+use Rattle.urb_certified.specs.Sets.{set_of}
+use Rattle.urb_certified.specs.internal.Sets.{IsOrder}
 
 -- two answers are equal if each follows from the other
 pub both_ways : (a b : Bool) → (a ≡ true → b ≡ true) → (b ≡ true → a ≡ true) → a ≡ b

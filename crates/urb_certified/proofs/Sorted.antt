@@ -7,7 +7,7 @@ use Rattle.std.specs.List.Sorted.{IsPartitionedBy, IsPartitionPoint}
 use Rattle.std.proofs.lemmas.Bool.{and_from, and_left, and_parts, and_right, cond-true, false≢true}
 use Rattle.std.proofs.lemmas.Bool.{false_from_ne_true, or_left, or_right}
 use Rattle.urb_names.specs.Ordered.{is_rising}
-use Rattle.urb_certified.specs.Sets.{IsOrder}
+use Rattle.urb_certified.specs.internal.Sets.{IsOrder}
 use Rattle.urb_certified.proofs.Sets.{comes_after}
 
 module _ {X : Type 0} (before same : X → X → Bool) (laws : IsOrder before same) where

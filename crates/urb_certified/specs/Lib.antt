@@ -1,4 +1,5 @@
 pub mod Sets
 pub mod Certificates
 pub mod Parts
-pub mod Room
+pub mod Fields
+pub mod internal

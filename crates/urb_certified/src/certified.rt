@@ -1,8 +1,7 @@
 //! The set of certified names, whose look-ups stay fast however long the history is.
 
-ghost use Rattle.std.specs.Prelude.{◌≡◌, ◌+◌, ◌-◌, ◌<◌, true, [], ◌∷◌};
-ghost use Rattle.std.specs.Prelude.{length};
-ghost use Rattle.std.specs.Prelude.{OnOk, OnErr, IfOk, IsOk};
+ghost use Rattle.std.specs.Prelude.{◌≡◌, ◌+◌, ◌-◌, ◌<◌, true, [], ◌∷◌, length, OnOk, OnErr, IfOk};
+ghost use Rattle.std.specs.Prelude.{IsOk};
 ghost use Rattle.std.specs.Bool.{Decides};
 ghost use Rattle.urb_names.specs.Names.{has_name};
 ghost use Rattle.urb_names.specs.Release.{beginning};
@@ -28,7 +27,8 @@ impl<A: Allocator> Model for Certified<A> {
 
     ghost Value = { Certificates };
 
-    ghost use Rattle.urb_certified.specs.Room.{view_of, IsKept};
+    ghost use Rattle.urb_certified.specs.Fields.{view_of};
+    ghost use Rattle.urb_certified.specs.internal.Room.{IsKept};
 
     ghost view = { view_of };
 

@@ -1,13 +1,13 @@
 //! The two parts of the certified names, as plain fields: those without a gap, and those above it.
 
-ghost use Rattle.std.specs.Prelude.{◌≡◌, ◌+◌, ◌-◌, ◌<◌, ◌≤◌, true, false, ◌∷◌, filter};
-ghost use Rattle.std.specs.Prelude.{length, vec_len, vec_capacity, OnOk, OnErr};
-ghost use Rattle.std.specs.Prelude.{IsOk, IsTrue};
+ghost use Rattle.std.specs.Prelude.{◌≡◌, ◌+◌, ◌-◌, ◌<◌, ◌≤◌, true, false, ◌∷◌, filter, length};
+ghost use Rattle.std.specs.Prelude.{vec_len, vec_capacity, OnOk, OnErr, IsOk, IsTrue};
 ghost use Rattle.urb_names.specs.Naming.{Label};
 ghost use Rattle.urb_names.specs.Names.{has_name, name_lt, same_name};
 ghost use Rattle.urb_names.specs.Ordered.{is_rising, placed};
 ghost use Rattle.urb_names.specs.Release.{beginning};
-ghost use Rattle.urb_certified.specs.Parts.{IsJoined, IsParts, all_names, is_left, low_of};
+ghost use Rattle.urb_certified.specs.Parts.{all_names};
+ghost use Rattle.urb_certified.specs.internal.Parts.{IsJoined, IsParts, is_left, low_of};
 ghost use Rattle.urb_certified.specs.Sets.{set_of};
 
 use crate::row::{drop_to, holds, place_of, run_end};

@@ -1,5 +1,5 @@
 -- The numbers read from the values that the parser found.
-use Rattle.std.proofs.Common.{◌≡◌, ◌∙◌, ◌&&◌, ◌<◌, ◌≤◌, ◌^◌, ap, ap₂, sym, refl, ℕ, Bool, true}
+use Rattle.std.proofs.Common.{◌≡◌, ◌∙◌, ◌&&◌, ◌<◌, ◌≤◌, ◌^◌, ap, refl, ℕ, Bool, true}
 use Rattle.std.proofs.Common.{false, cond, List, [], ◌∷◌, length, Option, Some, None, Result, Ok}
 use Rattle.std.proofs.Common.{Err, option_map, arith}
 use Rattle.std.specs.Prelude.{IsSome, IfSome, nat_lt, nat_le, option_and_then}
@@ -9,12 +9,12 @@ use Rattle.std.specs.Char.{digit_value}
 use Rattle.std.specs.Str.Parse.{AllDigits, IsNumeral, ParsesUnsigned, digits_value}
 use Rattle.std.specs.Str.Parse.{without_leading_plus}
 use Rattle.std.proofs.lemmas.Bool.{leb-true, lt-ltb, ltb-true}
-use Rattle.clap.specs.Words.{Text, one_of, one_text, rows_of}
+use Rattle.clap.specs.Words.{Text, one_text, rows_of}
 use Rattle.clap.proofs.WalkLemmas.{one_text-rows}
 use Rattle.clap.specs.Matches.{ReadsOne}
 use Rattle.clap.specs.declared.parser.matches.Found.{Found}
 use Rattle.urb_cli.specs.declared.command_line.options.ServeOptions.{ServeOptions}
-use Rattle.urb_cli.specs.Tasks.{Task, Serve, is_decimal, number_in, number_of, task_of_serving}
+use Rattle.urb_cli.specs.Tasks.{Serve, is_decimal, number_in, number_of, task_of_serving}
 
 digits_pass : (ds : List ℕ) → AllDigits 10 ds → list_all (λ d. nat_lt (digit_value d) 10) ds ≡ true
 digits_pass [] h = refl

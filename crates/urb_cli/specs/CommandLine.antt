@@ -1,5 +1,5 @@
 -- The command line of the program, in the terms of its parser.
-use Rattle.std.specs.Prelude.{◌≡◌, ◌⊎◌, ℕ, ℤ, pos, List, [], ◌∷◌, true, codes, Some}
+use Rattle.std.specs.Prelude.{◌≡◌, ◌⊎◌, ℕ, ℤ, pos, List, [], true, codes, Some}
 use Rattle.urb_names.specs.declared.limits.TheConstants.{MAX_CAP, MAX_NODES}
 use Rattle.urb_client.specs.declared.format.TheConstants.{MOST_ENTRIES}
 use Rattle.urb_cli.specs.declared.limits.TheConstants.{MIN_BASE_PORT, MAX_BASE_PORT}

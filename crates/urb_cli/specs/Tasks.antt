@@ -1,5 +1,5 @@
 -- What a command line asks for.
-use Rattle.std.specs.Prelude.{ℕ, Bool, ◌&&◌, nat_lt, nat_le, List, [], ◌∷◌, length, Option, Some}
+use Rattle.std.specs.Prelude.{ℕ, Bool, ◌&&◌, nat_lt, nat_le, List, length, Option, Some}
 use Rattle.std.specs.Prelude.{None, option_and_then, if◌then◌else◌, codes}
 use Rattle.std.specs.List.{list_all}
 use Rattle.std.specs.Char.{digit_value}
@@ -10,7 +10,6 @@ use Rattle.urb_client.specs.declared.format.TheConstants.{MOST_ENTRIES}
 use Rattle.urb_cli.specs.declared.limits.TheConstants.{MIN_BASE_PORT, MAX_BASE_PORT}
 use Rattle.urb_cli.specs.declared.limits.TheConstants.{MAX_TICK_MILLIS}
 use Rattle.clap.specs.Words.{Row, Text, first_of, one_of}
-use Rattle.urb_client.specs.ParsedResponses.{◌>>=◌}
 use Rattle.urb_cli.specs.declared.command_line.options.ServeOptions.{ServeOptions}
 use Rattle.urb_cli.specs.declared.command_line.task.SubmitOptions.{SubmitOptions}
 use Rattle.urb_cli.specs.declared.command_line.task.ReadOptions.{ReadOptions}
@@ -63,6 +62,12 @@ number_in low high text =
     if is_decimal digits && (nat_le low (digits_value 10 digits)
     && nat_le (digits_value 10 digits) high)
     then Some (digits_value 10 digits) else None
+
+infixl 10 ◌>>=◌
+-- one value, and then the one that depends on it; nothing if either is missing
+abbrev pub ◌>>=◌ : {A B : Type 0} → Option A → (A → Option B) → Option B
+(Some x) >>= f = f x
+None >>= f = None
 
 -- the value of an option, as a number
 abbrev pub number_of : Text → ℕ → ℕ → List Row → Option ℕ

@@ -3,8 +3,8 @@
 use std::alloc::Global;
 use std::io;
 use std::io::{Read, Write};
+use urb_client::BufferedAnswers;
 use urb_script::{Ended, RunFault, run};
-use urb_worker::BufferedAnswers;
 
 // Runs a script from an input to an output. It sends the answers together, before a read that may
 // wait and at the end.

@@ -3,7 +3,7 @@ use Rattle.std.proofs.Common.{◌≡◌, ℕ, suc, ◌-◌, ◌+◌, ◌≤◌, 
 use Rattle.std.proofs.Common.{None, refl, sym, ap, ◌∙◌, append_assoc, arith}
 use Rattle.std.proofs.lemmas.List.{append-nil}
 use Rattle.urb_names.specs.Naming.{Label, Content}
-use Rattle.urb_client.specs.ParsedResponses.{◌>>=◌, entry_at, entries_at}
+use Rattle.urb_client.specs.internal.ParsedResponses.{◌>>=◌, entry_at, entries_at}
 
 -- what was read before, and what is still read
 abbrev pub with_front : List (Label × Content) → Option (List (Label × Content) × List ℕ)

@@ -1,5 +1,5 @@
 -- How many bytes the prefixes of a page take, and which entries of a log a reader gets.
-use Rattle.std.proofs.Common.{◌≡◌, ◌∙◌, ℕ, suc, ◌+◌, ◌<◌, ◌≤◌, List, [], ◌∷◌, ◌++◌, length, get_or}
+use Rattle.std.proofs.Common.{◌≡◌, ◌∙◌, ℕ, ◌+◌, ◌<◌, ◌≤◌, List, [], ◌∷◌, ◌++◌, length, get_or}
 use Rattle.std.proofs.Common.{take, drop, refl, sym, ap, arith, append_assoc, length-append}
 use Rattle.std.proofs.Common.{length-take, take_at, drop_at, inl, inr}
 use Rattle.std.specs.List.{flat_map}
@@ -9,7 +9,7 @@ use Rattle.std.proofs.lemmas.List.{take-take, take_more}
 use Rattle.std.proofs.lemmas.List.Concat.{flat_map-append, flat_map-cons}
 use Rattle.urb_names.specs.Naming.{Label, Content}
 use Rattle.urb_client.specs.declared.format.TheConstants.{LONGEST_FRAME, LISTING_HEAD, ENTRY_HEAD}
-use Rattle.urb_client.specs.Pages.{IsReadWhole, ListsPage, ReadsOn}
+use Rattle.urb_client.specs.Pages.{IsReadWhole, ListsPage}
 use Rattle.urb_client.specs.Listings.{entry_bytes, entry_head, listing_body}
 
 -- the bytes of entries

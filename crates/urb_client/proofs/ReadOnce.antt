@@ -8,7 +8,7 @@ use Rattle.urb_client.specs.declared.format.TheConstants.{LONGEST_REQUEST}
 use Rattle.urb_client.specs.declared.sessions.Ended.{Ended}
 use Rattle.urb_client.specs.declared.sessions.Ended.TheVariants.{Closed, BadFrame}
 use Rattle.urb_client.specs.Responses.{frame}
-use Rattle.urb_client.specs.ParsedResponses.{number_at}
+use Rattle.urb_client.specs.internal.ParsedResponses.{number_at}
 use Rattle.urb_client.specs.Sessions.{Event, Asks, Fault, Says, Begins, HasBadLength, IsCut}
 use Rattle.urb_client.specs.Sessions.{IsBroken, Ends, IsReadOnce}
 use Rattle.urb_client.proofs.ResponseParts.{two, number_again}

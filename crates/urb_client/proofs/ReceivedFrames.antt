@@ -8,7 +8,8 @@ use Rattle.std.proofs.KnownBytes.{Consumes-trans}
 use Rattle.byteorder.specs.Endian.{big_bytes}
 use Rattle.urb_client.specs.Responses.{Said, IsSaid, Accepted, Listing, Status, Done, Refused}
 use Rattle.urb_client.specs.Responses.{frame, response_body}
-use Rattle.urb_client.specs.ReceivedResponses.{HasNoFrame, HasNoResponse}
+use Rattle.urb_client.specs.ReceivedResponses.{HasNoResponse}
+use Rattle.urb_client.specs.internal.ReceivedResponses.{HasNoFrame}
 use Rattle.urb_client.proofs.ReadOnce.{one_length}
 use Rattle.urb_client.proofs.ResponseLimits.{said_fits}
 

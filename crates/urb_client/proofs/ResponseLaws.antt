@@ -18,9 +18,9 @@ use Rattle.urb_client.specs.declared.response.NodeState.TheVariants as state
 use Rattle.urb_client.specs.Listings.{IsEntry, entry_bytes}
 use Rattle.urb_client.specs.Responses.{Said, Accepted, Listing, Status, Done, Refused, IsSaid}
 use Rattle.urb_client.specs.Responses.{state_byte, response_body}
-use Rattle.urb_client.specs.ParsedResponses.{◌>>=◌, byte_at, number_at, entry_at, entries_at}
-use Rattle.urb_client.specs.ParsedResponses.{state_of, at_end, accepted_of, entries_of, status_of}
-use Rattle.urb_client.specs.ParsedResponses.{refused_of, said_of}
+use Rattle.urb_client.specs.internal.ParsedResponses.{◌>>=◌, byte_at, number_at, entry_at}
+use Rattle.urb_client.specs.internal.ParsedResponses.{entries_at, state_of, at_end, accepted_of}
+use Rattle.urb_client.specs.internal.ParsedResponses.{entries_of, status_of, refused_of, said_of}
 use Rattle.urb_client.proofs.ResponseParts.{IsBytes, IsBytes-rest, Takes, Takes-then, bind_some}
 use Rattle.urb_client.proofs.ResponseParts.{by_test, four, number_takes, number_again, byte_takes}
 use Rattle.urb_client.proofs.ResponseParts.{entry_takes, entry_again}

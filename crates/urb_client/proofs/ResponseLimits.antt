@@ -1,12 +1,11 @@
 -- Every response fits in a frame.
-use Rattle.std.proofs.Common.{◌≡◌, ℕ, ◌+◌, ◌*◌, ◌<◌, ◌≤◌, List, [], ◌∷◌, length, get_or, take, refl}
-use Rattle.std.proofs.Common.{sym, subst, length-append, arith}
-use Rattle.std.specs.List.{flat_map, All, AllByRecursion}
+use Rattle.std.proofs.Common.{◌≡◌, ℕ, ◌+◌, ◌<◌, ◌≤◌, List, length, get_or, take, sym, subst, arith}
+use Rattle.std.specs.List.{All, AllByRecursion}
 use Rattle.std.proofs.lemmas.List.{take_all, take_more}
 use Rattle.std.proofs.lemmas.List.Elements.{All-push, recursion_from_All}
 use Rattle.urb_names.specs.Naming.{Label, Content}
 use Rattle.urb_client.specs.declared.format.TheConstants.{LONGEST_FRAME}
-use Rattle.urb_client.specs.Listings.{IsEntry, entry_bytes, entry_head}
+use Rattle.urb_client.specs.Listings.{IsEntry}
 use Rattle.urb_client.specs.Responses.{Said, Accepted, Listing, Status, Done, Refused, IsSaid}
 use Rattle.urb_client.specs.Responses.{response_body}
 

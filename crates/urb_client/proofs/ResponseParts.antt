@@ -15,8 +15,8 @@ use Rattle.urb_names.specs.Naming.{Label, Content, IsLabel, IsContent}
 use Rattle.urb_names.specs.Nodes.{is_node}
 use Rattle.urb_names.specs.declared.limits.TheConstants.{MAX_NODES, MAX_PAYLOAD}
 use Rattle.urb_client.specs.Listings.{entry_bytes, IsEntry}
-use Rattle.urb_client.specs.ParsedResponses.{◌>>=◌, byte_at, number_at, name_at, message_at}
-use Rattle.urb_client.specs.ParsedResponses.{entry_at}
+use Rattle.urb_client.specs.internal.ParsedResponses.{◌>>=◌, byte_at, number_at, name_at}
+use Rattle.urb_client.specs.internal.ParsedResponses.{message_at, entry_at}
 
 -- a list of bytes
 abbrev pub IsBytes : List ℕ → Type 0

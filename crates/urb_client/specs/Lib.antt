@@ -2,6 +2,6 @@ pub mod Requests
 pub mod Listings
 pub mod Responses
 pub mod Pages
-pub mod ParsedResponses
 pub mod Sessions
 pub mod ReceivedResponses
+pub mod internal

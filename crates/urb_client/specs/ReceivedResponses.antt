@@ -1,11 +1,6 @@
--- What comes to a client.
-use Rattle.std.specs.Prelude.{◌≡◌, ℕ, ◌<◌, ◌^◌, List, ◌++◌, length}
-use Rattle.urb_client.specs.Responses.{Said, IsSaid, frame, encoding}
-
--- the bytes begin with no whole frame of one byte or more
-abbrev pub HasNoFrame : List ℕ → Type 0
-HasNoFrame input =
-    (body rest : List ℕ) → 0 < length body → length body < 2 ^ 16 → input ≡ frame body ++ rest → ⊥
+-- When no response came to a client.
+use Rattle.std.specs.Prelude.{◌≡◌, ℕ, List, ◌++◌}
+use Rattle.urb_client.specs.Responses.{Said, IsSaid, encoding}
 
 -- the bytes begin with no response
 abbrev pub HasNoResponse : List ℕ → Type 0

@@ -1,14 +1,12 @@
 -- What a session reads and writes.
-use Rattle.std.specs.Prelude.{◌≡◌, ℕ, ◌<◌, ◌≤◌, ◌^◌, ◌⊎◌, List, [], ◌∷◌, ◌++◌, length, take, Option}
-use Rattle.std.specs.Prelude.{IfSome, IsSomeAnd, Result, Ok, Err}
-use Rattle.std.specs.Io.KnownBytes.{Consumes, Appends, IsAtEnd}
+use Rattle.std.specs.Prelude.{◌≡◌, ℕ, ◌<◌, ◌≤◌, ◌^◌, ◌⊎◌, List, [], ◌∷◌, ◌++◌, length, Option}
+use Rattle.std.specs.Prelude.{Ok, Err}
+use Rattle.std.specs.Io.KnownBytes.{Appends}
 use Rattle.byteorder.specs.Endian.{big_bytes}
 use Rattle.urb_client.specs.declared.sessions.Ended.{Ended}
 use Rattle.urb_client.specs.declared.sessions.Ended.TheVariants.{Closed, BadFrame}
 use Rattle.urb_client.specs.declared.sessions.SessionFault.{SessionFault}
 use Rattle.urb_client.specs.declared.sessions.SessionFault.TheVariants as fault
-use Rattle.urb_client.specs.declared.sessions.Piece.{Piece}
-use Rattle.urb_client.specs.declared.sessions.Piece.TheVariants.{End, Broken, Whole}
 use Rattle.urb_client.specs.declared.format.TheConstants.{LONGEST_REQUEST, BAD_LENGTH, CUT}
 use Rattle.urb_client.specs.Requests.{Asked, request_of}
 use Rattle.urb_client.specs.Responses.{Said, Refused, encoding, frame}
@@ -84,19 +82,6 @@ Replies {S} answers old (Fault code ∷ events) output new =
     (rest : List ℕ) × (output ≡ encoding (Refused 19 code) ++ rest)
     × Replies answers old events rest new
 
--- the answer to one frame: the desk's answer, or the refusal
-abbrev pub Answers : {S : Type 0} → (S → Asked → Said → S → Type 0) → S → Result Asked ℕ → Said → S
-    → Type 0
-Answers {S} answers old (Ok asked) said new = answers old asked said new
-Answers {S} answers old (Err code) said new = (said ≡ Refused 19 code) × (new ≡ old)
-
--- A frame that was read is not answered, since memory was refused. The desk is as it was, or, if
--- the frame is a request, as the refused memory left it.
-abbrev pub GoesUnanswered : {S : Type 0} → (S → Asked → S → Type 0) → S → Result Asked ℕ → S
-    → Type 0
-GoesUnanswered {S} refuses old (Ok asked) new = (new ≡ old) ⊎ refuses old asked new
-GoesUnanswered {S} refuses old (Err code) new = new ≡ old
-
 -- A session from its first byte to its end. Everything that the input says is answered, and the
 -- answers are written. `left` is what the reader still has.
 pub record WholeSession {S : Type 0} (answers : S → Asked → Said → S → Type 0) (input : List ℕ)
@@ -156,20 +141,3 @@ BreaksOff {S} answers refuses input fault.Write left old new before after =
     (rest : List ℕ) × (mid : S) × (events : List Event) × (output : List ℕ)
     × Begins input events rest × Replies answers old events output mid
     × TakesFrame (λ event. Meets answers mid event new) rest left
-
--- What is read from the front of the known bytes, into the body: nothing at their end, a broken
--- frame, or a whole one.
-abbrev pub ReadsPiece : Option (List ℕ) → Option (List ℕ) → List ℕ → Piece → Type 0
-ReadsPiece known left body End = Consumes known left [] × IsAtEnd left
-ReadsPiece known left body (Broken code) =
-    IfSome known (λ bytes. IsSomeAnd left (IsBroken bytes code))
-ReadsPiece known left body (Whole n) =
-    (0 < n) × (n ≤ LONGEST_REQUEST) × Consumes known left (frame (take n body))
-
--- fewer than n bytes are read
-abbrev pub ReadsUnder : ℕ → Option (List ℕ) → Option (List ℕ) → Type 0
-ReadsUnder n known left = (part : List ℕ) × Consumes known left part × (length part < n)
-
--- less than a frame is read from the front of the known bytes
-abbrev pub PartRead : Option (List ℕ) → Option (List ℕ) → Type 0
-PartRead known left = IfSome known (λ bytes. IsSomeAnd left (TakesPart bytes))

@@ -1,8 +1,8 @@
 //! One read that fills a buffer, as far as the input goes.
 
-ghost use Rattle.std.specs.Prelude.{◌≡◌, ℕ, ◌<◌, ◌≤◌, take, length, IfOk, OnErr};
+ghost use Rattle.std.specs.Prelude.{◌<◌, ◌≤◌, take, length, IfOk, OnErr};
 ghost use Rattle.std.specs.Io.KnownBytes.{Consumes, IsAtEnd};
-ghost use Rattle.urb_client.specs.Sessions.{ReadsUnder};
+ghost use Rattle.urb_client.specs.internal.Sessions.{ReadsUnder};
 
 use std::io::{ErrorKind, Read};
 

@@ -18,10 +18,14 @@
 //! memory. It ends when the client closes the connection, after bytes that are no frame, or at a
 //! fault.
 //!
+//! `BufferedAnswers` is for code that answers frames or lines: it sends the answers together, and
+//! before a read that may wait.
+//!
 //! `one_reading` and `one_page_after_another` are laws: functions that do nothing, and whose
 //! contracts are proved statements.
 #![tactic(auto)]
 
+mod buffered_answers;
 mod format;
 mod full_read;
 mod pages;
@@ -31,6 +35,7 @@ mod response_parser;
 mod response_receiver;
 mod sessions;
 
+pub use buffered_answers::{BufferedAnswers, BufferedWriter, FlushingInput};
 pub use format::MOST_ENTRIES;
 pub use pages::one_page_after_another;
 pub use request::{Request, encode_request, parse_request};

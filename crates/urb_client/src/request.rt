@@ -1,6 +1,6 @@
 //! Requests of clients, and their frames.
 
-ghost use Rattle.std.specs.Prelude.{◌≡◌, ◌≤◌, ◌<◌, ◌^◌, ℕ, List, [], ◌∷◌, length, IfOk, Ok};
+ghost use Rattle.std.specs.Prelude.{◌≡◌, ◌<◌, [], ◌∷◌, IfOk, Ok};
 ghost use Rattle.urb_client.specs.Requests.{Asked, Gives, IsAsked, IsShort, request_of, asked_by};
 ghost use Rattle.urb_client.specs.Requests.{submit_fields, read_fields, no_fields, request_body};
 ghost use Rattle.urb_client.specs.Responses.{frame};

@@ -1,13 +1,12 @@
 //! Parses the bytes of a response, from left to right.
 
-ghost use Rattle.std.specs.Prelude.{◌≡◌, ◌<◌, ◌≤◌, ℕ, List, Option, Some, length, IfOk, OnErr};
-ghost use Rattle.std.specs.Prelude.{IfSome};
+ghost use Rattle.std.specs.Prelude.{◌≡◌, ◌<◌, ◌≤◌, Option, Some, length, IfOk, OnErr, IfSome};
 ghost use Rattle.std.specs.Option.{option_map};
 ghost use Rattle.urb_client.specs.Responses.{Said, IsSaid, IsListing, response_body, said_by};
-ghost use Rattle.urb_client.specs.ParsedResponses.{byte_at, number_at, name_at, message_at};
-ghost use Rattle.urb_client.specs.ParsedResponses.{entry_at, entries_at, state_of, accepted_of};
-ghost use Rattle.urb_client.specs.ParsedResponses.{entries_of, status_of, refused_of, said_of};
-ghost use Rattle.urb_client.specs.ParsedResponses.{at_end};
+ghost use Rattle.urb_client.specs.internal.ParsedResponses.{byte_at, number_at, name_at};
+ghost use Rattle.urb_client.specs.internal.ParsedResponses.{message_at, entry_at, entries_at};
+ghost use Rattle.urb_client.specs.internal.ParsedResponses.{state_of, accepted_of, entries_of};
+ghost use Rattle.urb_client.specs.internal.ParsedResponses.{status_of, refused_of, said_of, at_end};
 
 use crate::format::{
     LONGEST_FRAME, MOST_ENTRIES, SAY_ACCEPTED, SAY_DONE, SAY_ENTRIES, SAY_REFUSED, SAY_STATUS,
@@ -48,7 +47,7 @@ fn u32_at(bytes: &[u8]) -> Option<(u32, &[u8])>
     Some((number, rest))
 }
 
-#[tactic(auto, unfolding(crate::specs::ParsedResponses::name_at))]
+#[tactic(auto, unfolding(crate::specs::internal::ParsedResponses::name_at))]
 fn name_of(bytes: &[u8]) -> Option<(Name, &[u8])>
     ensures { option_map (λ x. (x.0, x.1.now)) result ≡ name_at bytes.now }
 {
@@ -61,7 +60,7 @@ fn name_of(bytes: &[u8]) -> Option<(Name, &[u8])>
     Some((Name { sender, seq }, rest))
 }
 
-#[tactic(auto, unfolding(crate::specs::ParsedResponses::message_at))]
+#[tactic(auto, unfolding(crate::specs::internal::ParsedResponses::message_at))]
 fn message_of<A: Allocator + Copy>(
     alloc: A,
     bytes: &[u8],
@@ -75,7 +74,7 @@ fn message_of<A: Allocator + Copy>(
     Ok(Some((message, rest)))
 }
 
-#[tactic(auto, unfolding(crate::specs::ParsedResponses::message_at))]
+#[tactic(auto, unfolding(crate::specs::internal::ParsedResponses::message_at))]
 fn content_of(bytes: &[u8]) -> Option<(ClientId, u32, &[u8], &[u8])>
     ensures read { option_map
         (λ x. (record { client = x.0; number = x.1; payload = x.2.now }, x.3.now)) result
@@ -94,7 +93,7 @@ fn content_of(bytes: &[u8]) -> Option<(ClientId, u32, &[u8], &[u8])>
     Some((client, number, payload, rest))
 }
 
-#[tactic(auto, unfolding(crate::specs::ParsedResponses::entry_at))]
+#[tactic(auto, unfolding(crate::specs::internal::ParsedResponses::entry_at))]
 fn entry_of<A: Allocator + Copy>(
     alloc: A,
     bytes: &[u8],
@@ -131,7 +130,7 @@ fn list_of<A: Allocator + Copy>(
     Ok(Some((entries, rest)))
 }
 
-#[tactic(auto, unfolding(crate::specs::ParsedResponses::entries_of))]
+#[tactic(auto, unfolding(crate::specs::internal::ParsedResponses::entries_of))]
 fn page_of<A: Allocator + Copy>(alloc: A, fields: &[u8]) -> Result<Option<Response<A>>, NoMemory>
     requires { length fields.now < LONGEST_FRAME }
     ensures { IfOk result (λ read. option_map said_by read ≡ entries_of fields.now) }
@@ -162,7 +161,7 @@ fn state_of(byte: u8) -> Option<NodeState>
     }
 }
 
-#[tactic(auto, unfolding(crate::specs::ParsedResponses::accepted_of))]
+#[tactic(auto, unfolding(crate::specs::internal::ParsedResponses::accepted_of))]
 fn accepted_of<A: Allocator>(fields: &[u8]) -> Option<Response<A>>
     ensures { option_map said_by result ≡ accepted_of fields.now }
 {
@@ -170,7 +169,7 @@ fn accepted_of<A: Allocator>(fields: &[u8]) -> Option<Response<A>>
     require_end(Response::Accepted(seq), rest)
 }
 
-#[tactic(auto, unfolding(crate::specs::ParsedResponses::status_of))]
+#[tactic(auto, unfolding(crate::specs::internal::ParsedResponses::status_of))]
 fn status_of<A: Allocator>(fields: &[u8]) -> Option<Response<A>>
     ensures { option_map said_by result ≡ status_of fields.now }
 {
@@ -181,7 +180,7 @@ fn status_of<A: Allocator>(fields: &[u8]) -> Option<Response<A>>
     require_end(Response::Status { state, own, logged }, rest)
 }
 
-#[tactic(auto, unfolding(crate::specs::ParsedResponses::refused_of))]
+#[tactic(auto, unfolding(crate::specs::internal::ParsedResponses::refused_of))]
 fn refused_of<A: Allocator>(fields: &[u8]) -> Option<Response<A>>
     ensures { option_map said_by result ≡ refused_of fields.now }
 {

@@ -1,12 +1,11 @@
 //! Sessions: frames in, frames out.
 
-ghost use Rattle.std.specs.Prelude.{◌≡◌, ℕ, List, ◌≢◌, IfOk, IfErr, OnOk, OnErr, IfSome, IsSomeAnd};
-ghost use Rattle.std.specs.Prelude.{length};
+ghost use Rattle.std.specs.Prelude.{◌≡◌, ◌≢◌, IfOk, IfErr, OnOk, OnErr, IfSome, IsSomeAnd, length};
 ghost use Rattle.std.specs.Io.KnownBytes.{Appends};
 ghost use Rattle.byteorder.specs.Endian.{big_bytes};
 ghost use Rattle.urb_client.specs.Requests.{Asked, IsAsked, asked_by, request_of};
-ghost use Rattle.urb_client.specs.Responses.{Said, said_by, Refused, encoding};
-ghost use Rattle.urb_client.specs.Sessions.{ReadsPiece, PartRead, Answers, GoesUnanswered};
+ghost use Rattle.urb_client.specs.Responses.{Said, said_by, encoding};
+ghost use Rattle.urb_client.specs.internal.Sessions.{ReadsPiece, PartRead, Answers, GoesUnanswered};
 ghost use Rattle.urb_client.specs.Sessions.{WholeSession, BreaksOff, IsReadOnce};
 
 use crate::format::{BAD_LENGTH, CUT, LONGEST_REQUEST};

@@ -12,7 +12,7 @@ use Rattle.urb_group.specs.Stopping.{MayLeave}
 use Rattle.urb_node.specs.Part.{Node}
 use Rattle.urb_sqlite.specs.OpenJournal.{IsHonestJournal, LeavesOnly}
 use Rattle.urb_sqlite.specs.Reading.{records_of}
-use Rattle.urb_cluster_stop.specs.ClusterStops.{AreReopened}
+use Rattle.urb_cluster_stop.specs.internal.ClusterStops.{AreReopened}
 use Rattle.urb_sqlite.specs.Stops.{IsReopened}
 
 pub one_more_reopened : {S : Type 0} (before after : List S) (old new : S) (at : S → State)

@@ -1,7 +1,6 @@
 -- What the next opening of a cluster over journals finds after a stop of the machine.
-use Rattle.std.specs.Prelude.{List, [], ◌∷◌}
+use Rattle.std.specs.Prelude.{List}
 use Rattle.std.specs.List.{All}
-use Rattle.sqlite.specs.State.{State}
 use Rattle.urb_stable.specs.declared.stable.Stable.{Ghosts}
 use Rattle.urb_group.specs.Clustered.{Clustered}
 use Rattle.urb_group.specs.Clusters.{Applies}
@@ -11,14 +10,6 @@ use Rattle.urb_group.specs.Stocked.{IsSecured}
 use Rattle.urb_group.specs.World.{World}
 use Rattle.urb_group.specs.declared.command.Command.{Command}
 use Rattle.urb_node.specs.Replies.{Reply}
-use Rattle.urb_sqlite.specs.Stops.{IsReopened}
-
--- Each journal was opened again after a stop of it, one after the other.
-abbrev pub AreReopened : {S : Type 0} → List S → List S → (S → State) → Type 0
-AreReopened [] [] at = Unit {0}
-AreReopened (old ∷ before) (new ∷ after) at =
-    IsReopened (at old) (at new) × AreReopened before after at
-AreReopened before after at = ⊥
 
 module _ {S A : Type 0} (g : Ghosts S A) where
   -- the group was opened over some stores, and continues from this world

@@ -1,1 +1,2 @@
 pub mod ClusterStops
+pub mod internal

@@ -9,8 +9,8 @@ ghost use Rattle.urb_group.specs.Reopening.{ContinuesFrom, HasStopped};
 ghost use Rattle.urb_group.specs.Shown.{GroupView, IsSound, Shows};
 ghost use Rattle.urb_group.specs.Stocked.{IsGenuine, IsKnown, IsSecured, WouldLeave};
 ghost use Rattle.urb_group.specs.World.{World};
-ghost use Rattle.urb_cluster_stop.specs.ClusterStops.{AreReopened, GoesOnBehind, GoesOnFrom};
-ghost use Rattle.urb_cluster_stop.specs.ClusterStops.{IsContinuation};
+ghost use Rattle.urb_cluster_stop.specs.ClusterStops.{GoesOnBehind, GoesOnFrom, IsContinuation};
+ghost use Rattle.urb_cluster_stop.specs.internal.ClusterStops.{AreReopened};
 
 use sqlite::{FileStore, Options};
 use sqlite_disk::Crash;

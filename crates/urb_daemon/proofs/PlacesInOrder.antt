@@ -3,7 +3,7 @@ use Rattle.std.proofs.Common.{List, Ok, Result, Some, [], arith, inl, inr, lengt
 use Rattle.std.proofs.Common.{slice_get, slice_index_or, slice_set, subst, suc, sym, zero, ℕ, ◌++◌, ◌+◌, ◌<◌, ◌∷◌}
 use Rattle.std.proofs.Common.{◌≡◌}
 use Rattle.std.proofs.lemmas.List.{length-append}
-use Rattle.urb_daemon.specs.OpenedPlaces.{AreOpened}
+use Rattle.urb_daemon.specs.internal.OpenedPlaces.{AreOpened}
 use Rattle.urb_stable.proofs.Indexed.{read_more}
 
 -- what is after a place stays there when that place is set

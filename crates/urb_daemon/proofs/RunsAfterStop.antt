@@ -33,9 +33,10 @@ use Rattle.urb_cli.specs.Statuses.{fault_of_refusal}
 use Rattle.urb_cli.specs.declared.faults.Fault.{Fault}
 use Rattle.urb_daemon.specs.RunsAfterStop.{AreIntact, ContinuesTogether, EndsAfterStop}
 use Rattle.urb_daemon.specs.RunsAfterStop.{beside_stores}
-use Rattle.urb_daemon.specs.Runs.{EndsAs, EndsFrom, IsOfSockets, end_of}
-use Rattle.urb_daemon.specs.StoresAsked.{AllAnswer, AreRefusedTogether, OpensTogether}
-use Rattle.urb_daemon.specs.StoresAsked.{RetrievesTogether, list_in}
+use Rattle.urb_daemon.specs.Runs.{EndsAs, EndsFrom, IsOfSockets}
+use Rattle.urb_daemon.specs.internal.Runs.{end_of}
+use Rattle.urb_daemon.specs.StoresAsked.{AllAnswer, AreRefusedTogether, OpensTogether, list_in}
+use Rattle.urb_daemon.specs.internal.StoresAsked.{RetrievesTogether}
 
 -- ---- each store was asked
 

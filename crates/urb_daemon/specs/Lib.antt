@@ -1,7 +1,6 @@
 pub mod RunsAfterStop
 pub mod OpenedJournals
 pub mod Outcomes
-pub mod OpenedPlaces
 pub mod Runs
-pub mod ForeignJournals
 pub mod StoresAsked
+pub mod internal

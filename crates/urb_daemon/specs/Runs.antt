@@ -1,6 +1,5 @@
 -- How a run of a group ends, and its stores after it.
-use Rattle.std.specs.Prelude.{Bool, Err, List, None, Ok, Option, Result, Some, [], false, true, ℕ}
-use Rattle.std.specs.Prelude.{◌∷◌, ◌≡◌, ◌⊎◌}
+use Rattle.std.specs.Prelude.{Bool, Err, List, Ok, Result, [], false, true, ℕ, ◌∷◌, ◌≡◌, ◌⊎◌}
 use Rattle.urb_names.specs.Naming.{Limits}
 use Rattle.urb_names.specs.declared.refusal.Refusal.{Refusal}
 use Rattle.urb_stable.specs.Entries.{Entry}
@@ -29,13 +28,6 @@ abbrev pub EndsAs : Bool → Result ℕ Fault → Type 0
 EndsAs told (Ok events) = told ≡ true
 EndsAs told (Err fault.Write) = told ≡ false
 EndsAs told (Err why) = IsOfSockets why
-
--- how a run of a group ends the program, by the count of its events and by whether its opening
--- could be reported
-abbrev pub end_of : Option ℕ → Bool → Result ℕ Fault
-end_of (Some events) true = Ok events
-end_of (Some events) false = Err fault.Write
-end_of None told = Err fault.NoMemory
 
 module _ {S A : Type 0} (g : Ghosts S A) where
   -- a store was asked for its records, or was left as it was

@@ -1,5 +1,5 @@
 -- Stores that are asked in parallel for their records, and the group that is opened from these.
-use Rattle.std.specs.Prelude.{Err, List, Ok, Result, Vec, [], map, ◌∷◌, ◌≡◌, ◌⊎◌}
+use Rattle.std.specs.Prelude.{Err, List, Ok, Result, Vec, [], ◌∷◌, ◌≡◌, ◌⊎◌}
 use Rattle.urb_names.specs.Naming.{Limits}
 use Rattle.urb_names.specs.declared.refusal.Refusal.{Refusal}
 use Rattle.urb_names.specs.declared.refusal.Refusal.TheVariants as refusal
@@ -8,7 +8,7 @@ use Rattle.urb_stable.specs.Storing.{refusal_of}
 use Rattle.urb_stable.specs.declared.stable.Stable.{Ghosts}
 use Rattle.urb_stable.specs.declared.stable.StoreFault.{StoreFault}
 use Rattle.urb_group.specs.Asked.{Gives}
-use Rattle.urb_group.specs.Reopening.{AllGive, OpensGiven}
+use Rattle.urb_group.specs.Reopening.{OpensGiven}
 use Rattle.urb_group.specs.Shown.{GroupView}
 use Rattle.urb_daemon.specs.Outcomes.{FailsFirst}
 
@@ -38,12 +38,6 @@ module _ {S A : Type 0} (g : Ghosts S A) where
   abbrev pub AreRefusedTogether : List S → Refusal → List S → Type 0
   AreRefusedTogether stores why asked =
       AnswerRefused stores why asked ⊎ ((asked ≡ stores) × (why ≡ refusal.NoMemory))
-
-  -- the result of asking all stores in parallel
-  abbrev pub RetrievesTogether : List S → Result (Vec (Vec Entry A) A) Refusal → List S → Type 0
-  RetrievesTogether stores (Ok images) asked =
-      AllGive g stores (map (λ image. image.items) images.items) asked
-  RetrievesTogether stores (Err why) asked = AreRefusedTogether stores why asked
 
   -- A group is opened from what the stores give. Or it is not, because of a store, or because of
   -- the lists that the stores gave.

@@ -4,7 +4,7 @@ ghost use Rattle.std.specs.Prelude.{◌≡◌, ◌⊎◌, false, IfErr, IfOk, If
 ghost use Rattle.sqlite_disk.specs.Memory.{memory_bytes, memory_is_usable};
 ghost use Rattle.urb_stable.specs.Storing.{is_place};
 ghost use Rattle.urb_daemon.specs.OpenedJournals.{IsOfOpening, misfit};
-ghost use Rattle.urb_daemon.specs.ForeignJournals.{TellsRecords};
+ghost use Rattle.urb_daemon.specs.internal.ForeignJournals.{TellsRecords};
 
 use sqlite::{Files, Options};
 use sqlite_disk::{Disk, Memory};

@@ -1,8 +1,9 @@
 //! Asks the stores in parallel for the records that they hold.
 
-ghost use Rattle.std.specs.Prelude.{◌≡◌, ◌≤◌, IfErr, IfOk, length, map, vec_capacity, vec_len};
+ghost use Rattle.std.specs.Prelude.{◌≡◌, ◌≤◌, IfErr, IfOk, map, vec_capacity, vec_len};
 ghost use Rattle.urb_group.specs.Asked.{Gives};
-ghost use Rattle.urb_daemon.specs.StoresAsked.{AllAnswer, RetrievesTogether, list_in};
+ghost use Rattle.urb_daemon.specs.StoresAsked.{AllAnswer, list_in};
+ghost use Rattle.urb_daemon.specs.internal.StoresAsked.{RetrievesTogether};
 
 use crate::first_fault::{Outcomes, collect_opened};
 use std::alloc::Global;

@@ -3,8 +3,8 @@
 ghost use Rattle.std.specs.Prelude.{◌≡◌, suc, false, length, IfErr, IfOk, IfSome};
 ghost use Rattle.urb_stable.specs.Storing.{is_place};
 ghost use Rattle.urb_sqlite.specs.Nodes.{IsFoundIn, held_by};
-ghost use Rattle.urb_daemon.specs.OpenedJournals.{OpensIn};
-ghost use Rattle.urb_daemon.specs.OpenedPlaces.{AreOpened};
+ghost use Rattle.urb_daemon.specs.internal.OpenedJournals.{OpensIn};
+ghost use Rattle.urb_daemon.specs.internal.OpenedPlaces.{AreOpened};
 
 use crate::journal::{FileId, Journal};
 use sqlite_disk::Disk;

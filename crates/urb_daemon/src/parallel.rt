@@ -5,8 +5,8 @@ ghost use Rattle.std.specs.Prelude.{◌≡◌, ◌⊎◌, ◌<◌, ◌≤◌, �
 ghost use Rattle.std.specs.Prelude.{length, vec_capacity, vec_len};
 ghost use Rattle.urb_stable.specs.declared.stable.StoreFault.{StoreFault as Fault};
 ghost use Rattle.urb_sqlite.specs.Nodes.{held_by};
-ghost use Rattle.urb_daemon.specs.OpenedJournals.{OpensIn};
-ghost use Rattle.urb_daemon.specs.OpenedPlaces.{AreFound, AreOpened, FailsAtFirst};
+ghost use Rattle.urb_daemon.specs.internal.OpenedJournals.{OpensIn};
+ghost use Rattle.urb_daemon.specs.internal.OpenedPlaces.{AreFound, AreOpened, FailsAtFirst};
 
 use crate::node_journal::{
     FileJournal, Folder, Found, close_journal, find_at, length_at, make_next,

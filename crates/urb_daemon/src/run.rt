@@ -6,7 +6,8 @@ ghost use Rattle.urb_group.specs.Shown.{GroupView};
 ghost use Rattle.urb_group.specs.World.{World};
 ghost use Rattle.urb_worker.specs.ServedStores.{AreServed};
 ghost use Rattle.urb_daemon.specs.RunsAfterStop.{EndsAfterStop};
-ghost use Rattle.urb_daemon.specs.Runs.{ComeBack, EndsFrom, end_of, limits_of};
+ghost use Rattle.urb_daemon.specs.Runs.{ComeBack, EndsFrom, limits_of};
+ghost use Rattle.urb_daemon.specs.internal.Runs.{end_of};
 
 use crate::console::Console;
 use crate::group::open_group;

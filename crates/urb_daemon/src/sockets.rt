@@ -1,6 +1,6 @@
 //! The sockets of a group: a station for each node, and the link to all of them.
 
-ghost use Rattle.std.specs.Prelude.{◌≡◌, ◌≤◌, ◌+◌, ◌*◌, IfErr, IfOk, map, vec_capacity, vec_len};
+ghost use Rattle.std.specs.Prelude.{◌≡◌, ◌≤◌, ◌+◌, ◌*◌, IfErr, IfOk, map, vec_len};
 ghost use Rattle.urb_cli.specs.declared.limits.TheConstants.{MAX_BASE_PORT};
 ghost use Rattle.urb_names.specs.declared.limits.TheConstants.{MAX_NODES};
 ghost use Rattle.urb_worker.specs.declared.stations.TheConstants.{SESSIONS};

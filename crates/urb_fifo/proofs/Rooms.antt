@@ -17,7 +17,8 @@ use Rattle.urb_names.proofs.Released.{reach-grows, row}
 use Rattle.urb_names.proofs.Reached.{reach-certified}
 use Rattle.urb_fifo.specs.Delivery.{Delivery, IsDelivery, IsNameOf, IsReleaseOf}
 use Rattle.urb_fifo.specs.Releasing.{newly_released}
-use Rattle.urb_fifo.specs.Room.{HasRoom, IsKept, view_of}
+use Rattle.urb_fifo.specs.Fields.{view_of}
+use Rattle.urb_fifo.specs.internal.Room.{HasRoom, IsKept}
 use Rattle.urb_fifo.specs.declared.fifo.Fifo.TheInside.{Inside}
 use Rattle.urb_fifo.proofs.Lengths.{all_parts}
 use Rattle.urb_fifo.proofs.Release.{certified_with, part_reaches, parts_of_release, reach_within}

@@ -1,3 +1,4 @@
 pub mod Delivery
 pub mod Releasing
-pub mod Room
+pub mod Fields
+pub mod internal

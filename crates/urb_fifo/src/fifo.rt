@@ -34,7 +34,8 @@ impl<A: Allocator> Model for Fifo<A> {
 
     ghost Value = { Delivery };
 
-    ghost use Rattle.urb_fifo.specs.Room.{view_of, IsKept};
+    ghost use Rattle.urb_fifo.specs.Fields.{view_of};
+    ghost use Rattle.urb_fifo.specs.internal.Room.{IsKept};
 
     ghost view = { view_of };
 

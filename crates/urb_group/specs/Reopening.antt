@@ -1,5 +1,5 @@
 -- A cluster that is opened over stores with records, and how it goes on from the earlier cluster.
-use Rattle.std.specs.Prelude.{Err, List, Ok, Result, Vec, [], length, map, ℕ, ◌++◌, ◌∷◌, ◌≡◌, ◌⊎◌}
+use Rattle.std.specs.Prelude.{Err, List, Ok, Result, Vec, [], length, ℕ, ◌++◌, ◌∷◌, ◌≡◌, ◌⊎◌}
 use Rattle.std.specs.List.{All}
 use Rattle.urb_names.specs.Naming.{Limits}
 use Rattle.urb_names.specs.declared.refusal.Refusal.{Refusal}
@@ -50,12 +50,6 @@ module _ {S A : Type 0} (g : Ghosts S A) where
   AreRefused stores why asked =
       ((fault : StoreFault) × FirstFails stores fault asked × (why ≡ refusal_of fault))
       ⊎ ((asked ≡ stores) × (why ≡ refusal.NoMemory))
-
-  -- the result of asking all stores
-  abbrev pub RetrievesAll : List S → Result (Vec (Vec Entry A) A) Refusal → List S → Type 0
-  RetrievesAll stores (Ok images) asked =
-      AllGive stores (map (λ image. image.items) images.items) asked
-  RetrievesAll stores (Err why) asked = AreRefused stores why asked
 
   -- all stores gave their lists, and these were opened as a group
   pub record OpensGiven (size : Limits) (stores asked : List S)

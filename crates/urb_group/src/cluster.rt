@@ -35,7 +35,8 @@ pub struct Cluster<S: Stable> {
 
 impl<S: Stable> Model for Cluster<S> {
     ghost use Rattle.std.specs.Prelude.{length};
-    ghost use Rattle.urb_group.specs.Clustered.{Clustered, IsTied};
+    ghost use Rattle.urb_group.specs.Clustered.{Clustered};
+    ghost use Rattle.urb_group.specs.internal.Clustered.{IsTied};
 
     ghost Value = { Clustered S };
 

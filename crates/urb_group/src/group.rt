@@ -1,6 +1,6 @@
 //! A group has all nodes in one process. Each call is one event at one node.
 
-ghost use Rattle.std.specs.Prelude.{◌≡◌, IfOk};
+ghost use Rattle.std.specs.Prelude.{IfOk};
 ghost use Rattle.urb_group.specs.Calls.{ComesUp, Commits, GoesDown, Takes, Ticks};
 ghost use Rattle.urb_group.specs.Shown.{Shows};
 ghost use Rattle.urb_group.specs.Step.{Crash, Fail, Restart, Submit, Tick};
@@ -29,7 +29,8 @@ pub struct Group<A: Allocator = Global> {
 }
 
 impl<A: Allocator> Model for Group<A> {
-    ghost use Rattle.urb_group.specs.Places.{IsGroup, shown};
+    ghost use Rattle.urb_group.specs.Places.{shown};
+    ghost use Rattle.urb_group.specs.internal.Places.{IsGroup};
     ghost use Rattle.urb_group.specs.Shown.{GroupView};
 
     ghost Value = { GroupView };

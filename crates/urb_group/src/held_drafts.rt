@@ -1,11 +1,11 @@
 //! The drafts that the nodes of a cluster hold, in one place per node.
 
-ghost use Rattle.std.specs.Prelude.{◌≡◌, ◌<◌, ◌≤◌, ◌-◌, ℕ, IfOk, None, Some, length, replicate};
+ghost use Rattle.std.specs.Prelude.{◌≡◌, ◌<◌, ◌≤◌, ◌-◌, IfOk, None, Some, length, replicate};
 ghost use Rattle.std.specs.Prelude.{slice_set};
 ghost use Rattle.urb_stable.specs.Placed.{Placed};
-ghost use Rattle.urb_group.specs.Clustered.{draft_at};
+ghost use Rattle.urb_group.specs.internal.Clustered.{draft_at};
 ghost use Rattle.urb_group.specs.Commands.{reply_of};
-ghost use Rattle.urb_group.specs.Drafts.{IsWithin, noted_in, told_of};
+ghost use Rattle.urb_group.specs.internal.Drafts.{IsWithin, noted_in, told_of};
 
 use crate::{Reply, Taken};
 use std::alloc::Allocator;

@@ -3,8 +3,9 @@
 ghost use Rattle.std.specs.Prelude.{◌<◌, ◌≡◌, ◌≤◌, suc, vec_capacity, vec_len};
 ghost use Rattle.std.specs.List.{insert};
 ghost use Rattle.std.specs.Option.{ForSome, MatchOption};
-ghost use Rattle.urb_group.specs.Moving.{ArrivesAt, CommitsAt, CrashesAt, FailsAt, MayReach};
-ghost use Rattle.urb_group.specs.Moving.{RestartsAt, SubmitsAt, TicksAt, after_step};
+ghost use Rattle.urb_group.specs.internal.Moving.{ArrivesAt, CommitsAt, CrashesAt, FailsAt};
+ghost use Rattle.urb_group.specs.internal.Moving.{MayReach};
+ghost use Rattle.urb_group.specs.internal.Moving.{RestartsAt, SubmitsAt, TicksAt, after_step};
 
 use crate::Taken;
 use std::alloc::{Allocator, Global};
@@ -33,7 +34,7 @@ pub(crate) enum Node<A: Allocator = Global> {
     Down(Down<A>),
 }
 
-/// Puts a node back into its place, from which it was taken.
+/// Puts a node back into the place that it was taken from.
 pub(crate) fn put_back<A: Allocator>(nodes: &mut Vec<Node<A>, A>, at: usize, node: Node<A>)
     requires within { at ≤ vec_len nodes.old }
     requires room { vec_len nodes.old < vec_capacity nodes.old }

@@ -1,7 +1,6 @@
 //! Opening a group from the images of its nodes.
 
-ghost use Rattle.std.specs.Prelude.{◌≡◌, ◌<◌, ◌≤◌, length, map, suc, slice_get, slice_index_or};
-ghost use Rattle.std.specs.Prelude.{Some, [], vec_capacity, vec_len, IfOk};
+ghost use Rattle.std.specs.Prelude.{◌≡◌, ◌<◌, length, map, Some, IfOk};
 ghost use Rattle.std.specs.List.{All};
 ghost use Rattle.urb_stable.specs.Entries.{IsEntry};
 ghost use Rattle.urb_stable.specs.Fitting.{first_misfit};

@@ -5,8 +5,8 @@ ghost use Rattle.std.specs.Bool.{MatchBool};
 ghost use Rattle.std.specs.Option.{ForSome};
 ghost use Rattle.urb_names.specs.Packets.{packet_of};
 ghost use Rattle.urb_group.specs.Calls.{Takes};
-ghost use Rattle.urb_group.specs.Reaching.{AreEnds, HoldsPair, IsAsCertified, TellsTruth};
-ghost use Rattle.urb_group.specs.Reaching.{is_for_node};
+ghost use Rattle.urb_group.specs.internal.Reaching.{AreEnds, HoldsPair, IsAsCertified, TellsTruth};
+ghost use Rattle.urb_group.specs.internal.Reaching.{is_for_node};
 ghost use Rattle.urb_group.specs.Step.{Arrive};
 
 use crate::node_moves::{Node, arrive_at, place_of, put_back};

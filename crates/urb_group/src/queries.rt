@@ -4,7 +4,8 @@ ghost use Rattle.std.specs.Prelude.{◌≡◌, Some, option_map};
 ghost use Rattle.urb_node.specs.Moves.{CountsOwn as CountsOwnAt, FindsMessage as FindsMessageAt};
 ghost use Rattle.urb_node.specs.Moves.{IsCertified, TellsLog as TellsLogAt};
 ghost use Rattle.urb_group.specs.Calls.{Answers, CountsOwn, FindsMessage, Holds, TellsLog};
-ghost use Rattle.urb_group.specs.Places.{ShowsAt, state_in};
+ghost use Rattle.urb_group.specs.Places.{state_in};
+ghost use Rattle.urb_group.specs.internal.Places.{ShowsAt};
 ghost use Rattle.urb_group.specs.States.{state_of};
 
 use crate::node_moves::{Node, place_of};

@@ -3,7 +3,8 @@
 ghost use Rattle.std.specs.Prelude.{◌≡◌, IfOk, length};
 ghost use Rattle.std.specs.List.{All};
 ghost use Rattle.urb_group.specs.Reopening.{Continues, HasStopped, OpensFrom, OpensStores};
-ghost use Rattle.urb_group.specs.Reopening.{RetrievesAll, stores_in};
+ghost use Rattle.urb_group.specs.Reopening.{stores_in};
+ghost use Rattle.urb_group.specs.internal.Reopening.{RetrievesAll};
 ghost use Rattle.urb_group.specs.Shown.{GroupView};
 ghost use Rattle.urb_group.specs.Stocked.{AllHold, IsKnown, IsSecured, IsStocked, RestLeaves};
 ghost use Rattle.urb_group.specs.Stocked.{StopLeaves};

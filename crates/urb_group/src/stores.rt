@@ -1,12 +1,12 @@
 //! What a group and the store of one node do together.
 
-ghost use Rattle.std.specs.Prelude.{◌≡◌, ℕ, None, Some};
+ghost use Rattle.std.specs.Prelude.{◌≡◌, None, Some};
 ghost use Rattle.urb_stable.specs.Placed.{Placed};
 ghost use Rattle.urb_group.specs.Calls.{Steps};
 ghost use Rattle.urb_group.specs.Clustered.{held_draft};
 ghost use Rattle.urb_group.specs.Clusters.{BreaksArmed, Reacts, Reads, Stores};
 ghost use Rattle.urb_group.specs.Commands.{reply_of};
-ghost use Rattle.urb_group.specs.Drafts.{IsUnfallen, IsUnstored, unfallen_in, unstored_in};
+ghost use Rattle.urb_group.specs.internal.Drafts.{IsUnfallen, IsUnstored, unfallen_in, unstored_in};
 ghost use Rattle.urb_group.specs.Shown.{IsSound};
 ghost use Rattle.urb_group.specs.Step.{Commit, Fail, Restart};
 

@@ -6,7 +6,7 @@ use Rattle.urb_names.specs.Names.{has_name, name_lt, same_name}
 use Rattle.urb_names.specs.Ordered.{placed, reserved_for}
 use Rattle.urb_names.proofs.SameNames.{same_name-same}
 use Rattle.urb_names.proofs.Ordered.{any_insert, reserved_for-some}
-use Rattle.urb_majority.specs.Room.{HasRoom, IsKept}
+use Rattle.urb_majority.specs.internal.Room.{HasRoom, IsKept}
 use Rattle.urb_majority.specs.declared.acks.Acks.TheInside.{Inside}
 
 -- if only the space for certificates grows

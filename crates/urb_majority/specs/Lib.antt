@@ -1,3 +1,4 @@
 pub mod Counting
 pub mod Acks
-pub mod Room
+pub mod Fields
+pub mod internal

@@ -42,7 +42,8 @@ impl<A: Allocator> Model for Acks<A> {
 
     ghost Value = { AckSet };
 
-    ghost use Rattle.urb_majority.specs.Room.{view_of, IsKept};
+    ghost use Rattle.urb_majority.specs.Fields.{view_of};
+    ghost use Rattle.urb_majority.specs.internal.Room.{IsKept};
 
     ghost view = { view_of };
 

@@ -20,11 +20,13 @@ use Rattle.urb_node.specs.Part.{Node, packet_from}
 use Rattle.urb_node.specs.Replies.{Same}
 use Rattle.urb_node.specs.declared.answer.Answer.TheVariants as answer
 use Rattle.urb_node.specs.Steps.{answers, arrives, counts, drafts, hears, reply_to, takes}
-use Rattle.urb_node.specs.Values.{Memory, ShowsReady, ready_view}
-use Rattle.urb_node.specs.Layers.{counted_with}
-use Rattle.urb_node.specs.Outcomes.{Answers, Outcome, Wants, answer_with, arrive_outcome}
-use Rattle.urb_node.specs.Outcomes.{certified_outcome, counted_outcome, hearing, pending_outcome}
-use Rattle.urb_node.specs.Outcomes.{with_counted}
+use Rattle.urb_node.specs.Values.{Memory, ShowsReady}
+use Rattle.urb_node.specs.internal.Values.{ready_view}
+use Rattle.urb_node.specs.internal.Layers.{counted_with}
+use Rattle.urb_node.specs.Answers.{answer_with}
+use Rattle.urb_node.specs.internal.Outcomes.{Answers, Outcome, Wants, arrive_outcome}
+use Rattle.urb_node.specs.internal.Outcomes.{certified_outcome, counted_outcome, hearing}
+use Rattle.urb_node.specs.internal.Outcomes.{pending_outcome, with_counted}
 use Rattle.urb_node.proofs.ShownNodes.{shown-found, shown-majority}
 use Rattle.urb_node.proofs.Drafts.{counted-shows, heard-shows}
 use Rattle.urb_node.specs.declared.cause.Cause.{Cause}

@@ -1,6 +1,6 @@
 -- A restart in terms of a node's memory: the reply, and the node that the memory shows afterwards.
 use Rattle.std.proofs.Common.{List, None, Option, Some, [], ap, ap₂, false, refl, subst, sym, true}
-use Rattle.std.proofs.Common.{ℕ, ◌++◌, ◌-◌, ◌∙◌, ◌∷◌, ◌≡◌}
+use Rattle.std.proofs.Common.{ℕ, ◌++◌, ◌∙◌, ◌∷◌, ◌≡◌}
 use Rattle.std.proofs.lemmas.Bool.{and_from, and_parts, cond-false, cond-true, false≢true}
 use Rattle.urb_names.proofs.SameNames.{same_message-same, same_message-true, same_name-same}
 use Rattle.urb_names.proofs.SameNames.{same_name-true}

@@ -1,8 +1,7 @@
 -- A receipt of the held draft: after it, the layers hold what the definition says.
 use Rattle.std.proofs.Common.{◌≡◌, ℕ, suc, ◌+◌, ◌-◌, true, false, not, ◌&&◌, List, length, Option}
-use Rattle.std.proofs.Common.{None, is_none, is_some, Ok, sym, ap, ◌∙◌, subst, arith}
+use Rattle.std.proofs.Common.{None, is_none, is_some, Ok, sym, ap, ◌∙◌, subst, arith, ⊎_elim}
 use Rattle.std.proofs.lemmas.Bool.{and_parts, cases_Bool, false≢true, not-true}
-use Rattle.std.proofs.Common.{⊎_elim}
 use Rattle.urb_names.specs.Names.{has_name}
 use Rattle.urb_names.specs.Naming.{Label}
 use Rattle.urb_names.specs.Carried.{Carried}
@@ -15,8 +14,9 @@ use Rattle.urb_stable.specs.Fitting.{in_range}
 use Rattle.urb_stable.specs.Placed.{Placed}
 use Rattle.urb_stable.specs.declared.record.Record.TheVariants.{Pend, PendCert, Cert}
 use Rattle.urb_node.specs.declared.held.Held.{Held}
-use Rattle.urb_node.specs.Held.{memory_of, IsDrafted, IsHeld, IsNextHeld}
-use Rattle.urb_node.specs.Layers.{with_record}
+use Rattle.urb_node.specs.Fields.{memory_of}
+use Rattle.urb_node.specs.internal.Held.{IsDrafted, IsHeld, IsNextHeld}
+use Rattle.urb_node.specs.internal.Layers.{with_record}
 use Rattle.urb_node.specs.Moves.{Confirms}
 use Rattle.urb_node.specs.Replies.{Done, Stored}
 use Rattle.urb_node.specs.Steps.{commits, is_accepted}

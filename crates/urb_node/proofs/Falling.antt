@@ -5,7 +5,7 @@ use Rattle.std.specs.Option.{ForSome}
 use Rattle.urb_names.specs.declared.refusal.Refusal.TheVariants as refusal
 use Rattle.urb_stable.specs.Entries.{Entry}
 use Rattle.urb_node.specs.declared.held.Held.{Held}
-use Rattle.urb_node.specs.Held.{IsNextHeld}
+use Rattle.urb_node.specs.internal.Held.{IsNextHeld}
 use Rattle.urb_node.specs.Moves.{Crashes, Fails}
 use Rattle.urb_node.specs.Part.{Down, Ready, State}
 use Rattle.urb_node.specs.Replies.{WentDown}

@@ -16,7 +16,7 @@ use Rattle.urb_stable.specs.Entries.{Entry}
 use Rattle.urb_stable.proofs.JoinedRecords.{cert-append}
 use Rattle.urb_stable.specs.Records.{cert, pend}
 use Rattle.urb_stable.specs.declared.record.Record.TheVariants.{Cert, Pend, PendCert}
-use Rattle.urb_node.specs.Layers.{counted_with}
+use Rattle.urb_node.specs.internal.Layers.{counted_with}
 use Rattle.urb_node.specs.Part.{self_acks}
 use Rattle.urb_node.proofs.ArriveOutcomes.{counted-with}
 use Rattle.urb_node.proofs.ShownNodes.{acked-with}

@@ -26,13 +26,13 @@ use Rattle.urb_fifo.specs.Delivery.{Delivery}
 use Rattle.urb_fifo.specs.Releasing.{certifying as fifo_certifying, newly_released}
 use Rattle.urb_stable.specs.Entries.{Entry}
 use Rattle.urb_node.specs.declared.held.Held.{Held}
-use Rattle.urb_node.specs.Held.{IsFallen, IsHeld, IsNextHeld}
+use Rattle.urb_node.specs.internal.Held.{IsFallen, IsHeld, IsNextHeld}
 use Rattle.urb_node.specs.Moves.{Fails}
 use Rattle.urb_node.specs.Part.{State, Storing, Down}
 use Rattle.urb_node.specs.Replies.{WentDown}
 use Rattle.urb_node.specs.Steps.{fails}
 use Rattle.urb_node.specs.Values.{Memory, Holding, ShowsDown, view_in}
-use Rattle.urb_node.specs.Layers.{certified_with}
+use Rattle.urb_node.specs.internal.Layers.{certified_with}
 use Rattle.urb_node.proofs.Drafts.{down-shows}
 
 -- ---- what is pending

@@ -17,10 +17,11 @@ use Rattle.urb_node.specs.declared.held.Held.{Held}
 use Rattle.urb_node.specs.Part.{Node, State}
 use Rattle.urb_node.specs.Replies.{Reply, Drafted, Sent, Refused}
 use Rattle.urb_node.specs.Steps.{is_down, is_storing, refuses, resends, ticks}
-use Rattle.urb_node.specs.Values.{Memory, ShowsReady, ready_view, IsSameNode}
-use Rattle.urb_node.specs.Held.{IsHeld}
-use Rattle.urb_node.specs.Outcomes.{Outcome, Answers, Refuses, Wants}
-use Rattle.urb_node.specs.Found.{Finds, IsFoundIn, IsRefusalOf, TakesMemory, step_from}
+use Rattle.urb_node.specs.Values.{Memory, ShowsReady, IsSameNode}
+use Rattle.urb_node.specs.internal.Values.{ready_view}
+use Rattle.urb_node.specs.internal.Held.{IsHeld}
+use Rattle.urb_node.specs.internal.Outcomes.{Outcome, Answers, Refuses, Wants}
+use Rattle.urb_node.specs.internal.Found.{Finds, IsFoundIn, IsRefusalOf, TakesMemory, step_from}
 use Rattle.urb_node.specs.Moves.{IsRefusedAs, LeadsTo, MayGrow, Ticks}
 use Rattle.urb_node.proofs.Drafts.{tick-shows}
 use Rattle.urb_node.proofs.Told.{Says}

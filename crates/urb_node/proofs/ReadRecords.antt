@@ -13,11 +13,13 @@ use Rattle.urb_node.proofs.NextRecords.{keeps-next, own-parts}
 use Rattle.urb_node.proofs.Openings.{nothing-shows, opened-more}
 use Rattle.urb_node.proofs.RecordOutcomes.{record-more, same_limits}
 use Rattle.urb_node.proofs.ShownNodes.{acked-with, shown-self}
-use Rattle.urb_node.specs.Held.{IsHeld, IsNextHeld, memory_of}
-use Rattle.urb_node.specs.Layers.{with_record}
+use Rattle.urb_node.specs.Fields.{memory_of}
+use Rattle.urb_node.specs.internal.Held.{IsHeld, IsNextHeld}
+use Rattle.urb_node.specs.internal.Layers.{with_record}
 use Rattle.urb_node.specs.Part.{Ready, opened_node, self_acks}
 use Rattle.urb_node.specs.Shown.{ShowsNode}
-use Rattle.urb_node.specs.Values.{Memory, ShowsReady, new_memory, ready_view}
+use Rattle.urb_node.specs.Values.{Memory, ShowsReady, new_memory}
+use Rattle.urb_node.specs.internal.Values.{ready_view}
 use Rattle.urb_node.specs.declared.held.Held.{Held}
 use Rattle.urb_pending.specs.PendingSet.{IsPendingSet}
 use Rattle.urb_stable.specs.Entries.{Entry}

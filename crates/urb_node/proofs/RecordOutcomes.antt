@@ -24,9 +24,10 @@ use Rattle.urb_node.specs.Replies.{Done, Reply, Stored}
 use Rattle.urb_node.specs.Shown.{NodeView, ShowsNode}
 use Rattle.urb_node.specs.Steps.{acks_after, commits, done, heard_after, heard_of, is_accepted}
 use Rattle.urb_node.specs.Steps.{keeps_record, packets_of, same_record, with_heard}
-use Rattle.urb_node.specs.Values.{Memory, Holding, ShowsReady, ShowsStoring, view_in, ready_view}
-use Rattle.urb_node.specs.Layers.{counted_with, certified_with, delivered_with, heard_with}
-use Rattle.urb_node.specs.Layers.{with_record}
+use Rattle.urb_node.specs.Values.{Memory, Holding, ShowsReady, ShowsStoring, view_in}
+use Rattle.urb_node.specs.internal.Values.{ready_view}
+use Rattle.urb_node.specs.internal.Layers.{counted_with, certified_with, delivered_with, heard_with}
+use Rattle.urb_node.specs.internal.Layers.{with_record}
 use Rattle.urb_node.proofs.Calls.{same_record-same}
 use Rattle.urb_node.proofs.ShownNodes.{with-same}
 use Rattle.urb_node.proofs.JoinedMemory.{SaysMore, confirm-shows, done-shown, log-stays}

@@ -10,9 +10,10 @@ use Rattle.urb_names.specs.Naming.{Content, Label, Limits}
 use Rattle.urb_names.specs.declared.refusal.Refusal.TheVariants as refusal
 use Rattle.urb_stable.specs.Entries.{Entry}
 use Rattle.urb_stable.specs.declared.record.Record.TheVariants.{Cert, Pend, PendCert}
-use Rattle.urb_node.specs.Held.{IsNextIn}
-use Rattle.urb_node.specs.ImageVerdicts.{CountsItself, IsOther, IsOtherThan, Says, SaysWith}
-use Rattle.urb_node.specs.Layers.{with_doubtful, with_record}
+use Rattle.urb_node.specs.internal.Held.{IsNextIn}
+use Rattle.urb_node.specs.internal.ImageVerdicts.{CountsItself, IsOther, IsOtherThan, Says}
+use Rattle.urb_node.specs.internal.ImageVerdicts.{SaysWith}
+use Rattle.urb_node.specs.internal.Layers.{with_doubtful, with_record}
 use Rattle.urb_node.specs.Moves.{MayGrow, Restarts}
 use Rattle.urb_node.specs.Part.{Down, Node, Ready, State, self_acks}
 use Rattle.urb_node.specs.Shown.{ShowsNode}

@@ -21,12 +21,13 @@ use Rattle.urb_names.specs.declared.refusal.NoMemory.{NoMemory}
 use Rattle.urb_stable.specs.Entries.{Entry}
 use Rattle.urb_stable.specs.declared.record.Record.TheVariants.{Cert, Pend, PendCert}
 use Rattle.urb_stubborn.specs.Resending.{Resending, tick_packets}
-use Rattle.urb_node.specs.Found.{Finds, step_from}
-use Rattle.urb_node.specs.Layers.{certified_with, with_record}
+use Rattle.urb_node.specs.internal.Found.{Finds, step_from}
+use Rattle.urb_node.specs.internal.Layers.{certified_with, with_record}
 use Rattle.urb_node.specs.Moves.{AnswersFrom, AnswersOfStored, AreOfStored}
-use Rattle.urb_node.specs.Outcomes.{Answers, Outcome, Refuses, Wants, answer_with, arrive_outcome}
-use Rattle.urb_node.specs.Outcomes.{certified_outcome, counted_outcome, hearing, pending_outcome}
-use Rattle.urb_node.specs.Outcomes.{wants_answer, with_counted}
+use Rattle.urb_node.specs.Answers.{answer_with}
+use Rattle.urb_node.specs.internal.Outcomes.{Answers, Outcome, Refuses, Wants, arrive_outcome}
+use Rattle.urb_node.specs.internal.Outcomes.{certified_outcome, counted_outcome, hearing}
+use Rattle.urb_node.specs.internal.Outcomes.{pending_outcome, wants_answer, with_counted}
 use Rattle.urb_node.specs.Part.{Ready, State, packet_from}
 use Rattle.urb_node.specs.Replies.{packets_with}
 use Rattle.urb_node.proofs.RecordOutcomes.{same_limits}

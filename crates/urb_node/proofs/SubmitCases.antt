@@ -1,7 +1,7 @@
 -- The outcomes of a submit. A property holds for its outcome if it holds for any refusal, for a
 -- message that was accepted before, and for a new draft. A new refusal of a submit changes only
 -- this file.
-use Rattle.std.proofs.Common.{Bool, List, None, Option, Some, bytes_eq, false, find, length, nat_lt}
+use Rattle.std.proofs.Common.{None, Option, Some, bytes_eq, false, find, length, nat_lt}
 use Rattle.std.proofs.Common.{not, refl, suc, sym, true, ℕ, ◌==◌, ◌≡◌, ◌≤◌}
 use Rattle.std.proofs.lemmas.Bool.{cond_both, false≢true, ltb-false, not-false}
 use Rattle.std.specs.Prelude.{if◌then◌else◌}

@@ -20,9 +20,11 @@ use Rattle.urb_node.specs.Replies.{Drafted, Same}
 use Rattle.urb_node.specs.declared.answer.Answer.TheVariants as answer
 use Rattle.urb_node.specs.Steps.{is_down, is_storing, submits, submits_by_number, submits_new}
 use Rattle.urb_node.specs.Steps.{submits_again, drafts, refuses}
-use Rattle.urb_node.specs.Values.{Memory, ShowsReady, view_in, ready_view}
-use Rattle.urb_node.specs.Outcomes.{Answers, Refuses, Wants, own_of, own_record, fresh_outcome}
-use Rattle.urb_node.specs.Outcomes.{numbered_outcome, repeat_outcome, submit_outcome}
+use Rattle.urb_node.specs.Values.{Memory, ShowsReady, view_in}
+use Rattle.urb_node.specs.internal.Values.{ready_view}
+use Rattle.urb_node.specs.internal.Outcomes.{Answers, Refuses, Wants, own_of, own_record}
+use Rattle.urb_node.specs.internal.Outcomes.{fresh_outcome}
+use Rattle.urb_node.specs.internal.Outcomes.{numbered_outcome, repeat_outcome, submit_outcome}
 use Rattle.urb_node.proofs.ShownNodes.{shown-found, shown-broadcast}
 use Rattle.urb_node.proofs.Drafts.{draft-shows}
 use Rattle.urb_node.proofs.Told.{Says}

@@ -4,7 +4,7 @@ use Rattle.urb_stable.specs.Entries.{name_of}
 use Rattle.urb_node.specs.Part.{Node}
 use Rattle.urb_node.specs.Replies.{Reply, Drafted, Same, Refused}
 use Rattle.urb_node.specs.Values.{ShowsReady, ShowsStoring}
-use Rattle.urb_node.specs.Outcomes.{Outcome, Answers, Refuses, Wants}
+use Rattle.urb_node.specs.internal.Outcomes.{Outcome, Answers, Refuses, Wants}
 
 -- The reply is the answer, and the memory shows the node after it. Or the reply is the refusal. Or
 -- it is a draft of the record that is wanted, and the memory with that record shows the node after

@@ -21,10 +21,11 @@ use Rattle.urb_stable.specs.Records.{cert, pend}
 use Rattle.urb_stable.specs.declared.record.Record.TheVariants.{Cert, Pend, PendCert}
 use Rattle.urb_node.specs.declared.held.Held.{Held}
 use Rattle.urb_node.specs.declared.image_verdict.Verdict.TheVariants.{Neither}
-use Rattle.urb_node.specs.Held.{memory_of, IsHeld, IsNextHeld, IsNextIn}
-use Rattle.urb_node.specs.ImageVerdicts.{certified_by, delivered_by, pairs_with, IsOtherThan}
-use Rattle.urb_node.specs.ImageVerdicts.{IsVerdict, SaysWith}
-use Rattle.urb_node.specs.Layers.{with_record}
+use Rattle.urb_node.specs.Fields.{memory_of}
+use Rattle.urb_node.specs.internal.Held.{IsHeld, IsNextHeld, IsNextIn}
+use Rattle.urb_node.specs.internal.ImageVerdicts.{certified_by, delivered_by, pairs_with}
+use Rattle.urb_node.specs.internal.ImageVerdicts.{IsOtherThan, IsVerdict, SaysWith}
+use Rattle.urb_node.specs.internal.Layers.{with_record}
 use Rattle.urb_node.specs.Steps.{same_list, same_names, same_pairs, tells}
 use Rattle.urb_node.specs.Values.{Memory}
 use Rattle.urb_node.proofs.JoinedLayers.{with-cases}

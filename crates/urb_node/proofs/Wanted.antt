@@ -25,11 +25,12 @@ use Rattle.urb_fifo.specs.Delivery.{Delivery, IsDelivery, IsNameOf}
 use Rattle.urb_stable.specs.Entries.{Entry}
 use Rattle.urb_stable.specs.declared.record.Record.TheVariants.{Pend, PendCert}
 use Rattle.urb_node.specs.declared.held.Held.{Held}
-use Rattle.urb_node.specs.Held.{memory_of, HasRoom, IsDrafted, IsHeld, IsNextHeld, IsNextIn}
+use Rattle.urb_node.specs.Fields.{memory_of}
+use Rattle.urb_node.specs.internal.Held.{HasRoom, IsDrafted, IsHeld, IsNextHeld, IsNextIn}
 use Rattle.urb_node.specs.Next.{IsNext, MayArrive}
-use Rattle.urb_node.specs.Outcomes.{Wants, arrive_outcome, certified_outcome, counted_outcome}
-use Rattle.urb_node.specs.Outcomes.{hearing, numbered_outcome, pending_outcome, own_of}
-use Rattle.urb_node.specs.Outcomes.{submit_outcome}
+use Rattle.urb_node.specs.internal.Outcomes.{Wants, arrive_outcome, certified_outcome}
+use Rattle.urb_node.specs.internal.Outcomes.{counted_outcome, hearing, numbered_outcome}
+use Rattle.urb_node.specs.internal.Outcomes.{pending_outcome, own_of, submit_outcome}
 use Rattle.urb_node.specs.Steps.{heard_of, packets_of}
 use Rattle.urb_node.specs.Values.{Memory}
 use Rattle.urb_node.proofs.NextRecords.{arrival-next, next_own-fresh, submit-next}

@@ -4,9 +4,7 @@ pub mod Part
 pub mod Shown
 pub mod Next
 pub mod Values
-pub mod Layers
-pub mod Outcomes
-pub mod Held
-pub mod Found
+pub mod Answers
+pub mod Fields
 pub mod Moves
-pub mod ImageVerdicts
+pub mod internal

@@ -44,10 +44,6 @@ view_in state a =
       cursor = a.cursor;
     }
 
--- what the memory of a ready node shows
-abbrev pub ready_view : Memory → NodeView
-ready_view a = view_in Ready a
-
 -- the memory, in this state, shows this node of a world
 abbrev pub ShowsIn : State → Memory → Node → Type 0
 ShowsIn state a node = ShowsNode a.limits a.node (view_in state a) node

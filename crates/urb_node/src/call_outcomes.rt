@@ -1,18 +1,20 @@
 //! What a ready node finds out about a call, before the node changes state.
 
-ghost use Rattle.std.specs.Prelude.{◌≡◌, ◌≢◌, ◌≤◌, true, false, [], ◌∷◌, Some, IsOk, OnOk, OnErr};
+ghost use Rattle.std.specs.Prelude.{◌≡◌, ◌≤◌, true, false, [], ◌∷◌, Some, IsOk, OnOk, OnErr};
 ghost use Rattle.std.specs.Prelude.{IfOk, is_some, if◌then◌else◌};
 ghost use Rattle.std.specs.Option.{ForSome};
 ghost use Rattle.urb_names.specs.Names.{has_name};
 ghost use Rattle.urb_names.specs.Pairs.{message_of};
 ghost use Rattle.urb_stable.specs.declared.record.Record.TheVariants.{Pend, PendCert};
-ghost use Rattle.urb_node.specs.Held.{memory_of, HasRoom, IsHeld, IsNextHeld};
-ghost use Rattle.urb_node.specs.Found.{Finds, IsFoundIn, IsWanted};
-ghost use Rattle.urb_node.specs.Layers.{counted_with};
+ghost use Rattle.urb_node.specs.Fields.{memory_of};
+ghost use Rattle.urb_node.specs.internal.Held.{HasRoom, IsHeld, IsNextHeld};
+ghost use Rattle.urb_node.specs.internal.Found.{Finds, IsFoundIn, IsWanted};
+ghost use Rattle.urb_node.specs.internal.Layers.{counted_with};
 ghost use Rattle.urb_node.specs.Moves.{IsForNode};
-ghost use Rattle.urb_node.specs.Outcomes.{answer_with, arrive_outcome, certified_outcome};
-ghost use Rattle.urb_node.specs.Outcomes.{counted_outcome, hearing, repeat_outcome, submit_outcome};
-ghost use Rattle.urb_node.specs.Outcomes.{wants_answer};
+ghost use Rattle.urb_node.specs.Answers.{answer_with};
+ghost use Rattle.urb_node.specs.internal.Outcomes.{arrive_outcome, certified_outcome};
+ghost use Rattle.urb_node.specs.internal.Outcomes.{counted_outcome, hearing, repeat_outcome};
+ghost use Rattle.urb_node.specs.internal.Outcomes.{submit_outcome, wants_answer};
 ghost use Rattle.urb_node.specs.Values.{IsSameNode};
 
 use crate::Answer;

@@ -2,8 +2,9 @@
 
 ghost use Rattle.std.specs.Prelude.{◌≡◌, [], None, Option};
 ghost use Rattle.std.specs.Option.{ForSome};
-ghost use Rattle.urb_node.specs.Held.{memory_of, HasRoom, IsFallen, IsHeld, IsNextHeld};
-ghost use Rattle.urb_node.specs.Layers.{with_doubtful};
+ghost use Rattle.urb_node.specs.Fields.{memory_of};
+ghost use Rattle.urb_node.specs.internal.Held.{HasRoom, IsFallen, IsHeld, IsNextHeld};
+ghost use Rattle.urb_node.specs.internal.Layers.{with_doubtful};
 ghost use Rattle.urb_node.specs.Moves.{Restarts};
 
 use crate::Ready;
@@ -27,7 +28,8 @@ pub struct Down<A: Allocator = Global> {
 
 impl<A: Allocator> Model for Down<A> {
     ghost use Rattle.std.specs.Prelude.{[]};
-    ghost use Rattle.urb_node.specs.Held.{memory_of, IsDown};
+    ghost use Rattle.urb_node.specs.Fields.{memory_of};
+    ghost use Rattle.urb_node.specs.internal.Held.{IsDown};
     ghost use Rattle.urb_node.specs.Values.{Fallen};
 
     ghost Value = { Fallen };

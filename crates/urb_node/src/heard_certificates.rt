@@ -4,9 +4,10 @@ ghost use Rattle.std.specs.Prelude.{◌≡◌, true, is_some};
 ghost use Rattle.urb_names.specs.Carried.{says_certified};
 ghost use Rattle.urb_names.specs.Names.{has_name};
 ghost use Rattle.urb_names.specs.Pairs.{message_of};
-ghost use Rattle.urb_node.specs.Held.{memory_of, IsHeld};
-ghost use Rattle.urb_node.specs.Layers.{heard_with};
-ghost use Rattle.urb_node.specs.Outcomes.{hearing};
+ghost use Rattle.urb_node.specs.Fields.{memory_of};
+ghost use Rattle.urb_node.specs.internal.Held.{IsHeld};
+ghost use Rattle.urb_node.specs.internal.Layers.{heard_with};
+ghost use Rattle.urb_node.specs.internal.Outcomes.{hearing};
 
 use crate::held::Held;
 use std::alloc::Allocator;

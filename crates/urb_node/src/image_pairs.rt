@@ -9,7 +9,7 @@ ghost use Rattle.std.specs.Prelude.{◌≡◌, [], ◌∷◌};
 ghost use Rattle.std.specs.List.{list_all};
 ghost use Rattle.urb_names.specs.Pairs.{has_pair};
 ghost use Rattle.urb_stable.specs.Records.{pend};
-ghost use Rattle.urb_node.specs.ImageVerdicts.{pairs_with};
+ghost use Rattle.urb_node.specs.internal.ImageVerdicts.{pairs_with};
 ghost use Rattle.urb_node.specs.Steps.{same_pairs};
 
 use std::alloc::Allocator;

@@ -10,7 +10,7 @@ ghost use Rattle.urb_names.specs.Carried.{AreFrom, Carried, due_of, to_others, t
 ghost use Rattle.urb_names.specs.Cyclic.{resent};
 ghost use Rattle.urb_stable.specs.declared.record.Record.TheVariants.{Cert, Pend, PendCert};
 ghost use Rattle.urb_node.specs.Next.{IsNext, MayArrive};
-ghost use Rattle.urb_node.specs.Outcomes.{answer_with};
+ghost use Rattle.urb_node.specs.Answers.{answer_with};
 ghost use Rattle.urb_node.specs.Part.{Node};
 ghost use Rattle.urb_node.specs.Steps.{answers_of, says_heard};
 

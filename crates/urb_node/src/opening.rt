@@ -2,8 +2,9 @@
 
 ghost use Rattle.std.specs.Prelude.{◌≡◌, ◌≤◌, [], None, IfOk};
 ghost use Rattle.urb_stable.specs.Fitting.{KeepsOwn};
-ghost use Rattle.urb_node.specs.Held.{memory_of, IsHeld, IsNextHeld};
-ghost use Rattle.urb_node.specs.Layers.{with_record};
+ghost use Rattle.urb_node.specs.Fields.{memory_of};
+ghost use Rattle.urb_node.specs.internal.Held.{IsHeld, IsNextHeld};
+ghost use Rattle.urb_node.specs.internal.Layers.{with_record};
 ghost use Rattle.urb_node.specs.Part.{opened_node};
 ghost use Rattle.urb_node.specs.Values.{ShowsReady};
 

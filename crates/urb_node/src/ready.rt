@@ -4,8 +4,9 @@ ghost use Rattle.std.specs.Prelude.{◌≡◌, ◌≤◌, [], IfErr, IfOk, OnErr
 ghost use Rattle.std.specs.Option.{ForSome};
 ghost use Rattle.urb_names.specs.Carried.{AreFrom};
 ghost use Rattle.urb_stubborn.specs.Resending.{tick_packets, ticked};
-ghost use Rattle.urb_node.specs.Held.{memory_of, IsHeld};
-ghost use Rattle.urb_node.specs.Found.{IsFoundIn, step_from};
+ghost use Rattle.urb_node.specs.Fields.{memory_of};
+ghost use Rattle.urb_node.specs.internal.Held.{IsHeld};
+ghost use Rattle.urb_node.specs.internal.Found.{IsFoundIn, step_from};
 ghost use Rattle.urb_node.specs.Moves.{AnswersFrom, AnswersOfStored, Arrives, AreOfStored, Crashes};
 ghost use Rattle.urb_node.specs.Moves.{IsForNode, Submits, Ticks};
 ghost use Rattle.urb_node.specs.Part.{opened_node};
@@ -32,7 +33,8 @@ pub struct Ready<A: Allocator = Global> {
 }
 
 impl<A: Allocator> Model for Ready<A> {
-    ghost use Rattle.urb_node.specs.Held.{memory_of, IsHeld};
+    ghost use Rattle.urb_node.specs.Fields.{memory_of};
+    ghost use Rattle.urb_node.specs.internal.Held.{IsHeld};
     ghost use Rattle.urb_node.specs.Values.{Memory};
 
     ghost Value = { Memory };

@@ -7,9 +7,10 @@ ghost use Rattle.urb_names.specs.Carried.{AreFrom};
 ghost use Rattle.urb_names.specs.Names.{has_name};
 ghost use Rattle.urb_names.specs.Pairs.{message_of};
 ghost use Rattle.urb_stable.specs.declared.record.Record.TheVariants.{Pend};
-ghost use Rattle.urb_node.specs.Held.{memory_of, HasRoom, IsHeld, IsNextHeld};
-ghost use Rattle.urb_node.specs.Layers.{counted_cause, counted_with, with_certificate, with_pair};
-ghost use Rattle.urb_node.specs.Layers.{with_record};
+ghost use Rattle.urb_node.specs.Fields.{memory_of};
+ghost use Rattle.urb_node.specs.internal.Held.{HasRoom, IsHeld, IsNextHeld};
+ghost use Rattle.urb_node.specs.internal.Layers.{counted_cause, counted_with, with_certificate};
+ghost use Rattle.urb_node.specs.internal.Layers.{with_pair, with_record};
 ghost use Rattle.urb_node.specs.Moves.{AreOfStored, Confirms, Crashes, Fails};
 ghost use Rattle.urb_node.specs.Steps.{is_accepted};
 ghost use Rattle.urb_node.specs.Values.{ShowsReady, ShowsStoring};
@@ -39,7 +40,8 @@ pub struct Storing<A: Allocator = Global> {
 }
 
 impl<A: Allocator> Model for Storing<A> {
-    ghost use Rattle.urb_node.specs.Held.{memory_of, IsDrafted};
+    ghost use Rattle.urb_node.specs.Fields.{memory_of};
+    ghost use Rattle.urb_node.specs.internal.Held.{IsDrafted};
     ghost use Rattle.urb_node.specs.Values.{Holding};
 
     ghost Value = { Holding };

@@ -4,8 +4,8 @@ use Rattle.std.proofs.Common.{length, get_or, insert, None, Some, Option, slice_
 use Rattle.std.proofs.Common.{◌∙◌, is_some, eq-eqb, eqb-true}
 use Rattle.std.proofs.lemmas.Bool.{false≢true}
 use Rattle.urb_names.specs.Ordered.{placed}
-use Rattle.urb_pending.specs.Rows.{Row, row_lt, row_of, are_in_order}
-use Rattle.urb_pending.specs.ClientIndex.{given_to, has_room, numbers_in, is_roomy}
+use Rattle.urb_pending.specs.internal.Rows.{Row, row_lt, row_of, are_in_order}
+use Rattle.urb_pending.specs.internal.ClientIndex.{given_to, has_room, numbers_in, is_roomy}
 use Rattle.urb_pending.proofs.Rows.{IsHeld, with_row, place_in, held_in, get_at}
 use Rattle.urb_pending.proofs.Index.{with_given}
 

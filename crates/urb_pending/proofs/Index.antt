@@ -10,8 +10,8 @@ use Rattle.std.proofs.lemmas.List.{length-append}
 use Rattle.std.proofs.lemmas.List.Sums.{sum_by-append}
 use Rattle.urb_names.specs.Naming.{Content}
 use Rattle.urb_names.specs.Pairs.{is_numbered, next_number}
-use Rattle.urb_pending.specs.Rows.{Row}
-use Rattle.urb_pending.specs.ClientIndex.{IsIndexOf, given_to, nth, place_given}
+use Rattle.urb_pending.specs.internal.Rows.{Row}
+use Rattle.urb_pending.specs.internal.ClientIndex.{IsIndexOf, given_to, nth, place_given}
 
 -- the place, from 1, of the first message that passes
 abbrev first_place : (Content → Bool) → List Content → Option ℕ

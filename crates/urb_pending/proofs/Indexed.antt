@@ -8,9 +8,10 @@ use Rattle.urb_names.specs.Ordered.{placed}
 use Rattle.urb_window.specs.Entries.{entry_lt}
 use Rattle.urb_window.specs.WindowSet.{WindowSet}
 use Rattle.urb_pending.specs.PendingSet.{PendingSet, IsPendingSet}
-use Rattle.urb_pending.specs.Rows.{Row}
-use Rattle.urb_pending.specs.ClientIndex.{IsIndexOf, given_to, has_room}
-use Rattle.urb_pending.specs.Kept.{IsKept, view_of}
+use Rattle.urb_pending.specs.internal.Rows.{Row}
+use Rattle.urb_pending.specs.internal.ClientIndex.{IsIndexOf, given_to, has_room}
+use Rattle.urb_pending.specs.Fields.{view_of}
+use Rattle.urb_pending.specs.internal.Kept.{IsKept}
 use Rattle.urb_pending.specs.declared.pending.Pending.TheInside.{Inside}
 use Rattle.urb_pending.proofs.Ordered.{inserted_at}
 use Rattle.urb_pending.proofs.Kept.{own_next, own_kept, still_pending_set}

@@ -9,7 +9,7 @@ use Rattle.std.proofs.lemmas.Bool.{and_from, and_parts, cases_order, eqb-false, 
 use Rattle.urb_names.proofs.Places.{get_none}
 use Rattle.urb_names.specs.Ordered.{placed}
 use Rattle.urb_names.proofs.Ordered.{IsStrictOrder, rising_placed, placed_behind, placed_front}
-use Rattle.urb_pending.specs.Rows.{Row, row_lt, row_of, are_in_order}
+use Rattle.urb_pending.specs.internal.Rows.{Row, row_lt, row_of, are_in_order}
 
 -- whether a row comes before a client's place
 abbrev pub stands_before : ℕ → Row → Bool

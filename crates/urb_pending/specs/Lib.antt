@@ -1,4 +1,3 @@
 pub mod PendingSet
-pub mod Rows
-pub mod ClientIndex
-pub mod Kept
+pub mod Fields
+pub mod internal

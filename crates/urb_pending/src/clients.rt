@@ -1,11 +1,11 @@
 //! The index of a node's own messages by client, found by binary search.
 
-ghost use Rattle.std.specs.Prelude.{◌≡◌, ◌+◌, ◌<◌, ◌≤◌, ◌&&◌, ◌==◌, ℕ, true, false, nat_lt, IsTrue};
-ghost use Rattle.std.specs.Prelude.{IsOk, OnOk, OnErr, [], ◌∷◌, ◌++◌, length, if◌then◌else◌, Some};
+ghost use Rattle.std.specs.Prelude.{◌≡◌, ◌+◌, ◌<◌, ◌≤◌, ◌&&◌, ◌==◌, ℕ, true, nat_lt, IsTrue};
+ghost use Rattle.std.specs.Prelude.{IsOk, OnOk, [], ◌∷◌, ◌++◌, length, if◌then◌else◌, Some};
 ghost use Rattle.std.specs.Prelude.{None, option_map, is_some};
 ghost use Rattle.std.specs.List.{prefix_len};
-ghost use Rattle.urb_pending.specs.Rows.{row_of, are_in_order};
-ghost use Rattle.urb_pending.specs.ClientIndex.{given_to, has_room, nth};
+ghost use Rattle.urb_pending.specs.internal.Rows.{row_of, are_in_order};
+ghost use Rattle.urb_pending.specs.internal.ClientIndex.{given_to, has_room, nth};
 
 use crate::row::ClientRow;
 use std::alloc::{Allocator, Global};
@@ -21,7 +21,7 @@ pub(crate) struct Clients<A: Allocator = Global> {
 
 impl<A: Allocator> Model for Clients<A> {
     ghost use Rattle.std.specs.Prelude.{List, IsTrue};
-    ghost use Rattle.urb_pending.specs.Rows.{Row, are_in_order};
+    ghost use Rattle.urb_pending.specs.internal.Rows.{Row, are_in_order};
 
     ghost Value = { List Row };
 

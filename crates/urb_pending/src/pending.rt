@@ -1,8 +1,7 @@
 //! The set of pending pairs, each a name with its message.
 
-ghost use Rattle.std.specs.Prelude.{◌≡◌, ◌≤◌, ◌+◌, ◌*◌, ◌&&◌, ◌==◌, [], length, IsOk, OnOk, OnErr};
+ghost use Rattle.std.specs.Prelude.{◌≡◌, ◌≤◌, ◌+◌, ◌*◌, ◌==◌, [], length, IsOk, OnOk, OnErr};
 ghost use Rattle.std.specs.Prelude.{IfErr, None, Some, option_map, slice_get, filter};
-ghost use Rattle.urb_names.specs.Names.{same_message};
 ghost use Rattle.urb_names.specs.Pairs.{has_pair, message_of, own, next_number};
 ghost use Rattle.urb_names.specs.Cyclic.{cyclic, is_after};
 ghost use Rattle.urb_window.specs.Entries.{above_of, low_of, window_of};
@@ -31,7 +30,8 @@ impl<A: Allocator> Model for Pending<A> {
 
     ghost Value = { PendingSet };
 
-    ghost use Rattle.urb_pending.specs.Kept.{view_of, IsKept};
+    ghost use Rattle.urb_pending.specs.Fields.{view_of};
+    ghost use Rattle.urb_pending.specs.internal.Kept.{IsKept};
 
     ghost view = { view_of };
 

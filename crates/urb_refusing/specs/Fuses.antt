@@ -1,10 +1,6 @@
--- How calls are counted, and which call fails.
-use Rattle.std.specs.Prelude.{◌≡◌, ◌+◌, ◌-◌, ◌^◌, ◌<◌, ◌≤◌, min}
+-- Which of the counted calls fails.
+use Rattle.std.specs.Prelude.{◌≡◌, ◌<◌, ◌≤◌}
 use Rattle.urb_refusing.specs.declared.fuse.Fuse.{Fuse}
-
--- one more call; the count stops at its greatest value
-abbrev pub one_more : Fuse → Fuse
-one_more fuse = record { asked = min (fuse.asked + 1) (2 ^ 64 - 1); refused = fuse.refused }
 
 -- the failing call has been requested
 abbrev pub IsMet : Fuse → Type 0

@@ -5,7 +5,8 @@ ghost use Rattle.std.specs.Prelude.{IfErr, OnOk, OnErr, length, min, take};
 ghost use Rattle.std.specs.Io.{ReadsAtMost, WritesAtMost};
 ghost use Rattle.std.specs.Io.KnownBytes.{Keeps, ReadConsumes, WriteAppends};
 ghost use Rattle.std.specs.IoError.{error_kind};
-ghost use Rattle.urb_refusing.specs.Fuses.{IsLast, IsMet, one_more};
+ghost use Rattle.urb_refusing.specs.Fuses.{IsLast, IsMet};
+ghost use Rattle.urb_refusing.specs.internal.Fuses.{one_more};
 
 use crate::fuse::Fuse;
 use std::io;

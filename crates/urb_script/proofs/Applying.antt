@@ -1,11 +1,11 @@
 -- What a cluster with stores in memory answers is an answer to the line of the script.
 use Rattle.std.proofs.Common.{◌≡◌, ◌≢◌, ◌⊎◌, inl, inr, ℕ, zero, suc, ◌-◌, Bool, true, false, ◌&&◌}
 use Rattle.std.proofs.Common.{List, ◌∷◌, [], ◌++◌, Option, Some, None, Result, Ok, Err, refl, sym}
-use Rattle.std.proofs.Common.{ap, ap₂, ◌∙◌, subst, arith, ltb-true}
-use Rattle.urb_names.specs.Naming.{Limits}
+use Rattle.std.proofs.Common.{ap, ap₂, ◌∙◌, subst}
+use Rattle.urb_names.specs.Naming.{Limits, Content, Label}
 use Rattle.urb_names.specs.Nodes.{is_node}
 use Rattle.urb_names.specs.declared.refusal.Refusal.TheVariants as refusal
-use Rattle.std.specs.Prelude.{length, ◌+◌}
+use Rattle.std.specs.Prelude.{length, ◌+◌, IfOk, OnOk, slice_get, slice_index_or}
 use Rattle.urb_stable.specs.Entries.{Entry}
 use Rattle.urb_stable.specs.Memory.{Memory, armed_with, empty_memory}
 use Rattle.urb_stable.specs.Placed.{Placed}
@@ -13,41 +13,36 @@ use Rattle.urb_stable.specs.Storing.{IsPlaced, is_out_of_place, is_place, refusa
 use Rattle.urb_stable.specs.declared.memory.Failure.{Failure}
 use Rattle.urb_stable.specs.declared.memory.Failure.TheVariants.{Old, New}
 use Rattle.urb_stable.specs.declared.stable.StoreFault.{StoreFault}
-use Rattle.urb_node.specs.Part.{State}
+use Rattle.urb_node.specs.Part.{State, opened_node}
 use Rattle.urb_node.specs.Replies.{Refused, Reply}
 use Rattle.urb_node.specs.Steps.{is_down}
 use Rattle.urb_group.specs.InMemory.{in_memory}
-use Rattle.urb_group.specs.Scripts.{Scene}
+use Rattle.urb_group.specs.Scenes.{Scene, flags_with, or_nothing}
 use Rattle.urb_group.specs.Step.{Arrive, Crash, Event, Submit, Tick}
 use Rattle.urb_group.specs.Step as event
 use Rattle.urb_group.specs.Asked.{Gives, Keeps}
 use Rattle.urb_group.specs.Clustered.{Clustered, held_draft}
 use Rattle.urb_group.specs.Clusters.{Alone, Applies, Breaks, FailsHeld, RestartsBy, Returns}
 use Rattle.urb_group.specs.Clusters.{StoreMoves, StoresHeld, is_fallen, stored_as}
-use Rattle.urb_group.specs.Calls.{Steps}
+use Rattle.urb_group.specs.Calls.{Steps, FindsMessage}
 use Rattle.urb_script.specs.Commands.{Command, Fail, Restart, Stored}
-use Rattle.urb_script.specs.Staged.{IsHeldBy, ShowsScene, StoresAsAsked}
-use Rattle.urb_script.specs.Steps.{Plays, Takes, answer, happens, new_scene}
+use Rattle.urb_script.specs.internal.Staged.{IsHeldBy, ShowsScene, StoresAsAsked}
+use Rattle.urb_script.specs.Steps.{Plays, Takes, answer, happens, new_scene, carried}
 use Rattle.urb_script.specs.Texts.{reply_text, told_text}
-use Rattle.std.specs.Prelude.{IfOk, OnOk, nat_lt, slice_get, slice_index_or}
 use Rattle.std.specs.List.{All}
 use Rattle.std.proofs.lemmas.Option.{slice_get_within}
-use Rattle.urb_node.specs.Part.{opened_node}
 use Rattle.urb_group.specs.Shown.{Shows}
 use Rattle.urb_group.specs.World.{started}
 use Rattle.urb_script.specs.declared.answer_words.Told.TheVariants as told
-use Rattle.urb_names.specs.Naming.{Content, Label}
 use Rattle.urb_names.specs.Carried.{Carried}
 use Rattle.urb_names.specs.declared.refusal.PacketFault.{PacketFault}
 use Rattle.urb_names.specs.Packets.{IsPacket, packet_of, spelling}
 use Rattle.urb_names.specs.declared.flags.Flags.{Flags}
 use Rattle.urb_names.proofs.Parsed.{packet_spelled}
-use Rattle.urb_group.specs.Calls.{FindsMessage}
-use Rattle.urb_group.specs.Scripts.{flags_with, or_nothing}
 use Rattle.urb_script.specs.Commands as lines
-use Rattle.urb_script.specs.Commands.{line_of}
-use Rattle.urb_script.specs.Steps.{carried}
-use Rattle.urb_script.specs.Texts.{IsToldAs}
+use Rattle.urb_script.specs.internal.Commands as made
+use Rattle.urb_script.specs.internal.Commands.{line_of}
+use Rattle.urb_script.specs.internal.Texts.{IsToldAs}
 use Rattle.urb_group.specs.declared.command.Command as acts
 use Rattle.urb_group.specs.declared.command.Command.TheVariants as act
 use Rattle.urb_script.proofs.SceneSteps.{IsQuiet}
@@ -327,7 +322,7 @@ fails_from size old new p failure result said before text fresh t r =
 arrives_as : (scene after : Scene) (q p : ℕ) (x : Label) (flags : Option Flags)
     (bytes text : List ℕ) → packet_of bytes ≡ Ok (carried scene.world q p x flags)
     → Takes (Some scene) (lines.Raw p bytes) text after
-    → Takes (Some scene) (lines.arrival q p x flags) text after
+    → Takes (Some scene) (made.arrival q p x flags) text after
 arrives_as scene after q p x None bytes text e (inl t) =
     inl (t ∙ ap (λ (r : Result Carried PacketFault). happens (Arrive p r) scene) e)
 arrives_as scene after q p x (Some flags) bytes text e (inl t) =
@@ -349,7 +344,7 @@ pub arrives_from : {E : Type 0} (size limits : Limits) (old new : Clustered Memo
     → OnOk result ((scene : Scene) → ShowsScene size old scene
     → TakesTo limits new scene (lines.Raw p bytes) text)
     → OnOk result ((scene : Scene) → ShowsScene size old scene
-    → TakesTo limits new scene (lines.arrival q p x flags) text)
+    → TakesTo limits new scene (made.arrival q p x flags) text)
 arrives_from size limits old new q p x flags found bytes text (Ok done) finds e t = λ scene s.
     let next = t scene s in
     let is : packet_of bytes ≡ Ok (carried scene.world q p x flags) =

@@ -19,7 +19,7 @@ use Rattle.urb_group.proofs.safety.SafeWorlds.{safe}
 use Rattle.urb_group.proofs.stops.StoppedWorlds.{survives}
 use Rattle.urb_group.specs.Growing.{EntriesGrow}
 use Rattle.urb_group.specs.Safe.{Safe}
-use Rattle.urb_group.specs.Scripts.{Scene}
+use Rattle.urb_group.specs.Scenes.{Scene}
 use Rattle.urb_group.specs.Step.{Event, step}
 use Rattle.urb_group.specs.World.{World, stored}
 use Rattle.urb_script.specs.Commands.{Arrive, ArriveFlagged, Command, Crash, Fail, Group, Held, Log}

@@ -12,8 +12,8 @@ use Rattle.std.proofs.lemmas.List.Elements.{All-from_get_or, All-head, All-tail,
 use Rattle.std.proofs.lemmas.List.Sums.{fails_before_first}
 use Rattle.std.proofs.lemmas.List.Splits.{slice_split_first, slice_split_none, slice_split_at}
 use Rattle.std.proofs.lemmas.List.Splits.{slice_split-cons_no, length-slice_split}
-use Rattle.urb_script.specs.Lines.{lines_of, words_of, ended_lines, last_line, ReadsLine, TookPart}
-use Rattle.urb_script.specs.Lines.{IsOneLine}
+use Rattle.urb_script.specs.Lines.{lines_of, words_of, ended_lines, last_line, IsOneLine}
+use Rattle.urb_script.specs.internal.Lines.{ReadsLine, TookPart}
 use Rattle.std.proofs.KnownBytes.{Consumes-nil}
 use Rattle.urb_script.specs.declared.input.LineRead.TheVariants.{Whole, Long}
 use Rattle.std.specs.Io.KnownBytes.{Consumes, IsAtEnd}

@@ -8,16 +8,18 @@ use Rattle.std.specs.Io.KnownBytes.{Appends}
 use Rattle.std.proofs.KnownBytes.{Appends-nil, Appends-trans}
 use Rattle.urb_script.specs.declared.input.LineRead.TheVariants as read
 use Rattle.urb_script.specs.declared.runs.Ended.TheVariants.{Whole, BadLine}
-use Rattle.urb_script.specs.Lines.{lines_of, ReadsLine, TookPart, IsOneLine}
+use Rattle.urb_script.specs.Lines.{lines_of, IsOneLine}
+use Rattle.urb_script.specs.internal.Lines.{ReadsLine, TookPart}
 use Rattle.urb_script.specs.declared.runs.RunFault.{RunFault}
 use Rattle.urb_script.specs.declared.runs.RunFault.TheVariants as faults
 use Rattle.urb_names.specs.Naming.{Limits}
 use Rattle.urb_script.specs.Commands.{Command, Group, Spells}
-use Rattle.urb_group.specs.Scripts.{Scene}
+use Rattle.urb_group.specs.Scenes.{Scene}
 use Rattle.urb_script.specs.Steps.{Takes}
-use Rattle.urb_script.specs.Scripts.{Answers, Answered, AnsweredFrom, IsBad, OpensWith, ShowsSome}
-use Rattle.urb_script.specs.Scripts.{TakesFrom, bad_line, WholeScript, StopsAfter, BrokenOff}
+use Rattle.urb_script.specs.Scripts.{Answers, IsBad, bad_line, WholeScript, StopsAfter, BrokenOff}
 use Rattle.urb_script.specs.Scripts.{BreaksOff}
+use Rattle.urb_script.specs.internal.Scripts.{Answered, AnsweredFrom, OpensWith, ShowsSome}
+use Rattle.urb_script.specs.internal.Scripts.{TakesFrom}
 
 record Progress (input : List ℕ) (before after known : Option (List ℕ)) (count : ℕ)
     (state : Option Scene) : Type 0 where

@@ -19,14 +19,15 @@ use Rattle.urb_group.specs.Clustered.{Clustered}
 use Rattle.urb_group.specs.Calls.{Opens}
 use Rattle.urb_group.specs.InMemory.{in_memory}
 use Rattle.urb_group.specs.Reopening.{AllGive, OpensFrom, OpensGiven}
-use Rattle.urb_group.specs.Scripts.{Scene}
+use Rattle.urb_group.specs.Scenes.{Scene}
 use Rattle.urb_group.specs.Shown.{Shows}
 use Rattle.urb_group.specs.World.{image_of, opened}
-use Rattle.urb_script.specs.Commands.{Reopen, command}
+use Rattle.urb_script.specs.Commands.{Reopen}
+use Rattle.urb_script.specs.internal.Commands.{command}
 use Rattle.urb_script.specs.declared.commands.CommandLine.{CommandLine}
 use Rattle.urb_script.specs.declared.commands.CommandLine.TheVariants as line
 use Rattle.urb_script.proofs.Telling.{node_within}
-use Rattle.urb_script.specs.Staged.{IsHeldBy, ShowsScene}
+use Rattle.urb_script.specs.internal.Staged.{IsHeldBy, ShowsScene}
 use Rattle.urb_script.specs.Steps.{Takes, reopens}
 use Rattle.urb_script.specs.Texts.{told_text}
 use Rattle.urb_script.specs.declared.answer_words.Told.TheVariants as told

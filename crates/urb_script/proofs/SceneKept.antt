@@ -21,14 +21,14 @@ use Rattle.urb_group.proofs.steps.Runs.{new-kept, opened-keeps, run-kept}
 use Rattle.urb_group.proofs.steps.ShortPayloads.{opened-short, short-append}
 use Rattle.urb_group.proofs.stops.StoppedWorlds.{left-kept}
 use Rattle.urb_group.specs.Invariant.{AreShort, DoubtShort, IsKept}
-use Rattle.urb_group.specs.Scripts.{Scene, held_by, receipt}
+use Rattle.urb_group.specs.Scenes.{Scene, held_by, receipt}
 use Rattle.urb_group.specs.Step.{Arrive, Commit, Crash, Event, Fail, Restart, Submit, Tick, at_node}
 use Rattle.urb_group.specs.Step.{run, step, world_after}
 use Rattle.urb_group.specs.World.{World, stored, updated}
 use Rattle.urb_script.specs.Commands as command
 use Rattle.urb_script.specs.Commands.{Command, Group}
 use Rattle.urb_script.specs.Scripts.{Answers}
-use Rattle.urb_script.specs.Staged.{IsHeldBy}
+use Rattle.urb_script.specs.internal.Staged.{IsHeldBy}
 use Rattle.urb_script.specs.Steps.{Plays, Takes, answer, happens, happens_with, new_scene, reopens}
 use Rattle.urb_script.proofs.SceneSteps.{IsQuiet, kept_held, quiet_step, restart_with, stored_held}
 use Rattle.urb_script.proofs.Staging.{commit_node, elsewhere, fail_node, restart_node}

@@ -15,7 +15,7 @@ use Rattle.urb_node.specs.Steps.{broadcast_after, comes_up, doubt, is_down, keep
 use Rattle.urb_node.specs.Steps.{restarts_with, same_list, same_names, same_pairs, says, takes}
 use Rattle.urb_group.specs.World.{World}
 use Rattle.urb_group.specs.Step.{Arrive, Commit, Crash, Event, Fail, Restart, Submit, Tick, step}
-use Rattle.urb_script.specs.Staged.{IsHeldBy}
+use Rattle.urb_script.specs.internal.Staged.{IsHeldBy}
 use Rattle.urb_node.specs.declared.cause.Cause.{Cause}
 use Rattle.urb_group.proofs.steps.StepCases.{OutcomeCases, node_of, outcome-cases, step-nodes}
 use Rattle.urb_group.proofs.steps.ArriveCases.{arrive-cases}

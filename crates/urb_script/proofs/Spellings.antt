@@ -13,11 +13,13 @@ use Rattle.urb_names.specs.declared.flags.Flags.{Flags}
 use Rattle.urb_names.specs.declared.limits.TheConstants.{MAX_NODES}
 use Rattle.urb_names.specs.Naming.{Label, Limits}
 use Rattle.urb_stable.specs.declared.memory.Failure.{Failure}
-use Rattle.urb_script.specs.Lines.{words_of, words_left}
+use Rattle.urb_script.specs.Lines.{words_of}
+use Rattle.urb_script.specs.internal.Lines.{words_left}
 use Rattle.urb_script.specs.Wording.{IsNodeNumber}
 use Rattle.urb_script.specs.Commands.{Command, Arrive, ArriveFlagged, Crash, Fail, Group, Held, Log}
 use Rattle.urb_script.specs.Commands.{Raw, Reopen, Restart, Stored, Submit, Tick, AreArguments}
-use Rattle.urb_script.specs.Commands.{HasNodeAlone, IsSpelled, InRange, command, keyword}
+use Rattle.urb_script.specs.Commands.{IsSpelled, InRange, keyword}
+use Rattle.urb_script.specs.internal.Commands.{HasNodeAlone, command}
 use Rattle.urb_script.specs.declared.commands.CommandLine.{CommandLine}
 
 -- a text has a word
@@ -59,7 +61,7 @@ test word xs ys e f = (bytes_eq-Decides xs ys).1 (sym e ∙ f)
 pub not_word : (result : Bool) (P : Type 0) → (IsTrue result ↔ P) → result ≡ false → P → ⊥
 not_word result P says fails p = let holds : result ≡ true = says.1 p in absurd (cc)
 
--- what follows from what holds if nothing is found
+-- a consequence of what holds if nothing is found
 none_of : {T : Type 0} (result : Option T) (P Q : Type 0) → (P → Q) → IfNone result P
     → IfNone result Q
 none_of None P Q f p = f p
@@ -200,7 +202,7 @@ pub none_reopen : {T : Type 0} (result : Option T) (word : List ℕ) (others : L
     → IfNone result ((asked : Command) → IsSpelled (word ∷ others) asked → InRange asked → ⊥)
 none_reopen result word others same none = none_of result _ _ (no_reopen word others same) none
 
--- a word that is none of the other keywords
+-- a word that isn't one of the other keywords
 pub record IsNodeWord (word : List ℕ) : Type 0 where
   pub group : word ≢ codes "group"
   pub submit : word ≢ codes "submit"
@@ -224,7 +226,7 @@ no_other word others not none (Raw node bytes) s r = not.raw s.0
 no_other word others not none (Held name) s r = not.held s.0
 no_other word others not none asked s r = none asked tt s r
 
--- the word is none of the other keywords, and no command has it with a node alone
+-- the word isn't one of the other keywords, and no command has it with a node alone
 pub none_other : {T : Type 0} (result : Option T) (word : List ℕ) (others : List (List ℕ))
     → IsNodeWord word
     → IfNone result ((asked : Command) → HasNodeAlone asked → IsSpelled (word ∷ others) asked
@@ -243,7 +245,7 @@ no_node word others none (Tick node) h s r = none node r s.1
 no_node word others none (Log node) h s r = none node r s.1
 no_node word others none asked h s r = absurd h
 
--- the word is none of those that a node alone follows
+-- the word isn't one of those that a node alone follows
 pub no_keyword : (word : List ℕ) (others : List (List ℕ))
     → word ≢ codes "stored" → word ≢ codes "crash" → word ≢ codes "restart" → word ≢ codes "tick"
     → word ≢ codes "log"

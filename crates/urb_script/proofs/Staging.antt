@@ -21,7 +21,7 @@ use Rattle.urb_node.specs.Steps.{commits, done, doubt, fails, goes_down, is_down
 use Rattle.urb_node.specs.Steps.{next_position, restarts, restarts_with, same_record}
 use Rattle.urb_node.proofs.Calls.{same_record-same}
 use Rattle.urb_group.specs.Calls.{Steps}
-use Rattle.urb_group.specs.Scripts.{Scene, held_by, receipt}
+use Rattle.urb_group.specs.Scenes.{Scene, held_by, receipt}
 use Rattle.urb_group.specs.Shown.{GroupView, Shows, view_of}
 use Rattle.urb_group.specs.Step.{Commit, Event, Fail, Restart, at_node, step, world_after}
 use Rattle.urb_group.specs.World.{World, updated}
@@ -30,7 +30,7 @@ use Rattle.urb_group.proofs.safety.Refusals.{refused-stays}
 use Rattle.urb_group.specs.Clustered.{Clustered, held_draft, held_in}
 use Rattle.urb_group.specs.Clusters.{Reacts, StoreMoves}
 use Rattle.urb_script.specs.Commands as command
-use Rattle.urb_script.specs.Staged.{AreHeldBy, IsHeldBy, ShowsScene}
+use Rattle.urb_script.specs.internal.Staged.{AreHeldBy, IsHeldBy, ShowsScene}
 use Rattle.urb_script.specs.Steps.{answer, happens, happens_with}
 use Rattle.urb_script.specs.Texts.{reply_text}
 use Rattle.urb_script.proofs.SceneSteps.{IsQuiet, kept_held, lost_held, quiet_step, restart_with}

@@ -15,7 +15,7 @@ use Rattle.urb_stable.specs.Records.{pend}
 use Rattle.urb_group.specs.Calls.{Holds, TellsLog}
 use Rattle.urb_group.specs.Shown.{GroupView, Shows}
 use Rattle.urb_group.specs.World.{World, stored}
-use Rattle.urb_script.specs.Staged.{TellsAt, TellsOf}
+use Rattle.urb_script.specs.internal.Staged.{TellsAt, TellsOf}
 use Rattle.urb_script.specs.Steps.{bad_node, shown_log}
 use Rattle.urb_script.specs.Texts.{entry_text, log_text}
 

@@ -1,5 +1,5 @@
 -- What a line of a script asks for, and how it is written.
-use Rattle.std.specs.Prelude.{◌≡◌, ◌≢◌, ℕ, ◌≤◌, List, [], ◌∷◌, length, codes, Option, None, Some}
+use Rattle.std.specs.Prelude.{◌≡◌, ◌≢◌, ℕ, ◌≤◌, List, [], ◌∷◌, length, codes}
 use Rattle.std.specs.Fmt.{decimal}
 use Rattle.urb_names.specs.Naming.{Limits, IsLimits, Label, IsLabel}
 use Rattle.urb_names.specs.Packets.{flags_number}
@@ -8,11 +8,7 @@ use Rattle.urb_stable.specs.declared.memory.Failure.{Failure}
 use Rattle.urb_script.specs.Hex.{IsHexWord}
 use Rattle.urb_script.specs.Lines.{words_of}
 use Rattle.urb_script.specs.Wording.{IsNodeNumber, HasWord, payload_word, failure_word, name_text}
-use Rattle.urb_group.specs.declared.command.Command as acts
-use Rattle.urb_group.specs.declared.command.Command.TheVariants as act
 use Rattle.urb_script.specs.declared.input.TheConstants.{LONGEST_LINE}
-use Rattle.urb_script.specs.declared.commands.CommandLine.{CommandLine}
-use Rattle.urb_script.specs.declared.commands.CommandLine.TheVariants as line
 
 -- A command of a script. Make the group. Submit a client's message at a node. Store the record that
 -- a node holds, or make its store fail. Crash or restart a node. Stop all nodes at once and open
@@ -33,36 +29,6 @@ pub data Command : Type 0 where
   Tick : (node : ℕ) → Command
   Log : (node : ℕ) → Command
   Held : (name : Label) → Command
-
--- the command of a line, as contracts see it
-abbrev pub command : CommandLine → Command
-command (line.Group config) = Group config
-command (line.Submit node client number payload) = Submit node client number payload.now
-command (line.Stored node) = Stored node
-command (line.Fail node failure) = Fail node failure
-command (line.Crash node) = Crash node
-command (line.Restart node) = Restart node
-command line.Reopen = Reopen
-command (line.Arrive source node name) = Arrive source node name
-command (line.ArriveFlagged source node name flags) = ArriveFlagged source node name flags
-command (line.Raw node bytes) = Raw node bytes
-command (line.Tick node) = Tick node
-command (line.Log node) = Log node
-command (line.Held name) = Held name
-
--- the command that brings a packet of what a node has stored: without flags, or with these
-abbrev pub arrival : ℕ → ℕ → Label → Option Flags → Command
-arrival source node name None = Arrive source node name
-arrival source node name (Some flags) = ArriveFlagged source node name flags
-
--- the script's command for a command of a cluster
-abbrev pub line_of : {A : Type 0} → acts.Command A → Command
-line_of (act.Submit p client number payload) = Submit p client number payload.items
-line_of (act.Arrive p bytes) = Raw p bytes.items
-line_of (act.Tick p) = Tick p
-line_of (act.Store p) = Stored p
-line_of (act.Crash p) = Crash p
-line_of (act.Restart p) = Restart p
 
 -- the first word of a command
 abbrev pub keyword : Command → List ℕ
@@ -105,15 +71,6 @@ AreArguments (Held name) words = words ≡ name_text name ∷ []
 abbrev pub IsSpelled : List (List ℕ) → Command → Type 0
 IsSpelled [] asked = ⊥
 IsSpelled (first ∷ others) asked = (first ≡ keyword asked) × AreArguments asked others
-
--- the command has a node, and nothing else
-abbrev pub HasNodeAlone : Command → Type 0
-HasNodeAlone (Stored node) = Unit {0}
-HasNodeAlone (Crash node) = Unit {0}
-HasNodeAlone (Restart node) = Unit {0}
-HasNodeAlone (Tick node) = Unit {0}
-HasNodeAlone (Log node) = Unit {0}
-HasNodeAlone asked = ⊥
 
 -- what arrives at a node comes from another node
 pub record IsRoute (q p : ℕ) : Type 0 where

@@ -4,6 +4,6 @@ pub mod Wording
 pub mod Commands
 pub mod Texts
 pub mod Steps
-pub mod Staged
 pub mod Scripts
 pub mod LogLines
+pub mod internal

@@ -3,7 +3,7 @@ use Rattle.std.specs.Prelude.{◌≡◌, ℕ, List, ◌∷◌, ◌++◌, Option,
 use Rattle.urb_names.specs.Beginnings.{OneBegins}
 use Rattle.urb_stable.specs.Log.{entries_of}
 use Rattle.urb_group.specs.Safe.{Safe}
-use Rattle.urb_group.specs.Scripts.{Scene}
+use Rattle.urb_group.specs.Scenes.{Scene}
 use Rattle.urb_group.specs.World.{stored}
 use Rattle.urb_script.specs.Commands.{Log, Spells}
 use Rattle.urb_script.specs.Scripts.{Answers}

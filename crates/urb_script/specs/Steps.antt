@@ -16,7 +16,7 @@ use Rattle.urb_stable.specs.declared.memory.Failure.TheVariants.{Old, New}
 use Rattle.urb_group.specs.World.{World, opened, started, stored}
 use Rattle.urb_group.specs.Step.{Event, step}
 use Rattle.urb_group.specs.Step as event
-use Rattle.urb_group.specs.Scripts.{Scene, flags_with, keeping, or_nothing, receipt}
+use Rattle.urb_group.specs.Scenes.{Scene, flags_with, keeping, or_nothing, receipt}
 use Rattle.urb_script.specs.Commands.{Command, Group, Submit, Stored, Fail, Crash, Restart, Arrive}
 use Rattle.urb_script.specs.Commands.{ArriveFlagged, Raw, Tick, Log, Held, Reopen}
 use Rattle.urb_script.specs.Texts.{told_text, reply_text, log_text, held_text}

@@ -1,5 +1,5 @@
 -- The texts of answers.
-use Rattle.std.specs.Prelude.{◌≡◌, ◌≢◌, ℕ, List, [], ◌∷◌, ◌++◌, codes, flat_map, length}
+use Rattle.std.specs.Prelude.{ℕ, List, [], ◌∷◌, ◌++◌, codes, flat_map, length}
 use Rattle.std.specs.Prelude.{if◌then◌else◌, Option, Some, None}
 use Rattle.std.specs.Fmt.{decimal}
 use Rattle.urb_names.specs.Naming.{Label, Content}
@@ -113,10 +113,6 @@ reply_text (reply.Sent packets) = codes "sent" ++ flat_map packet_text packets
 reply_text (reply.WentDown p) = told_text (told.Down p)
 reply_text (reply.Up p) = told_text (told.Up p)
 reply_text (reply.Refused why) = told_text (told.Refused why)
-
--- a reply is written at the end of a text, and doesn't say that memory was refused
-abbrev pub IsToldAs : Reply → List ℕ → List ℕ → Type 0
-IsToldAs said old new = (new ≡ old ++ reply_text said) × (said ≢ reply.Refused refusal.NoMemory)
 
 -- the payload of a message as a word
 abbrev pub message_word : Option Content → List ℕ

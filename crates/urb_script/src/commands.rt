@@ -1,18 +1,18 @@
 //! The commands of a script.
 
-ghost use Rattle.std.specs.Prelude.{◌≡◌, ◌≢◌, ℕ, ◌≤◌, ◌∷◌, List, length, codes, IfSome, IfNone};
-ghost use Rattle.std.specs.Prelude.{IsTrue, ◌↔◌, []};
+ghost use Rattle.std.specs.Prelude.{◌≡◌, ◌≢◌, ℕ, ◌∷◌, List, codes, IfSome, IfNone, IsTrue, ◌↔◌};
 ghost use Rattle.std.specs.List.{AllByRecursion};
 ghost use Rattle.std.specs.Fmt.{decimal};
-ghost use Rattle.urb_names.specs.Naming.{Limits, IsLimits, Label, IsLabel};
+ghost use Rattle.urb_names.specs.Naming.{Limits, Label, IsLabel};
 ghost use Rattle.urb_names.specs.declared.flags.Flags.{Flags};
 ghost use Rattle.urb_stable.specs.declared.memory.Failure.{Failure};
-ghost use Rattle.urb_script.specs.Lines.{words_left};
+ghost use Rattle.urb_script.specs.internal.Lines.{words_left};
 ghost use Rattle.urb_script.specs.Wording.{HasWord, IsPrinted, payload_word};
 ghost use Rattle.urb_script.specs.Wording.{failure_word, name_text};
-ghost use Rattle.urb_script.specs.Commands.{Command, command, AreArguments, HasNodeAlone, IsRoute};
-ghost use Rattle.urb_script.specs.Commands.{InRange, IsSpelled, Spells, Group, Submit, Fail, Reopen};
-ghost use Rattle.urb_script.specs.Commands.{Arrive, ArriveFlagged, Raw, Held};
+ghost use Rattle.urb_script.specs.Commands.{Command, AreArguments, IsRoute, InRange, IsSpelled};
+ghost use Rattle.urb_script.specs.Commands.{Spells, Group, Submit, Fail, Reopen, Arrive};
+ghost use Rattle.urb_script.specs.Commands.{ArriveFlagged, Raw, Held};
+ghost use Rattle.urb_script.specs.internal.Commands.{command, HasNodeAlone};
 
 use crate::hex::HexBytes;
 use crate::input::LONGEST_LINE;

@@ -1,9 +1,10 @@
 //! Reading one whole line at a time from a reader.
 
-ghost use Rattle.std.specs.Prelude.{◌≡◌, ℕ, ◌<◌, ◌≤◌, take, length, IfOk, None, option_to_list};
+ghost use Rattle.std.specs.Prelude.{◌≡◌, ◌<◌, ◌≤◌, IfOk, None, option_to_list};
 ghost use Rattle.std.specs.Prelude.{vec_capacity, OnOk, OnErr};
 ghost use Rattle.std.specs.Io.KnownBytes.{Consumes, IsAtEnd, Keeps};
-ghost use Rattle.urb_script.specs.Lines.{ReadsLine, TookPart, IsOneLine, IsPlain};
+ghost use Rattle.urb_script.specs.Lines.{IsOneLine, IsPlain};
+ghost use Rattle.urb_script.specs.internal.Lines.{ReadsLine, TookPart};
 
 use std::alloc::Allocator;
 use std::io::{ErrorKind, Read};

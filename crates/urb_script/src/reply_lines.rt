@@ -4,8 +4,9 @@ ghost use Rattle.std.specs.Prelude.{◌≡◌, ◌++◌, ◌∷◌, [], OnOk, So
 ghost use Rattle.std.specs.Fmt.{decimal};
 ghost use Rattle.urb_node.specs.Replies.{Same, Sent};
 ghost use Rattle.urb_group.specs.Commands.{reply_of};
-ghost use Rattle.urb_script.specs.Texts.{IsToldAs, answer_text, done_text, entry_text, packet_text};
+ghost use Rattle.urb_script.specs.Texts.{answer_text, done_text, entry_text, packet_text};
 ghost use Rattle.urb_script.specs.Texts.{reply_text};
+ghost use Rattle.urb_script.specs.internal.Texts.{IsToldAs};
 ghost use Rattle.urb_script.specs.Wording.{name_text, payload_word};
 
 use crate::answer_words::{NameWord, Told, push_told};

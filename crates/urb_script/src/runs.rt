@@ -1,14 +1,15 @@
 //! Runs of scripts.
 
-ghost use Rattle.std.specs.Prelude.{◌≡◌, ℕ, ◌≤◌, [], Some, None, IfOk, IfErr, OnOk, IfSome};
-ghost use Rattle.std.specs.Prelude.{IsSomeAnd, ◌⊎◌, vec_capacity};
+ghost use Rattle.std.specs.Prelude.{◌≡◌, [], Some, None, IfOk, IfErr, OnOk, IfSome, IsSomeAnd, ◌⊎◌};
 ghost use Rattle.std.specs.Io.KnownBytes.{Appends};
-ghost use Rattle.urb_script.specs.Commands.{Command, Group, command, InRange};
-ghost use Rattle.urb_group.specs.Scripts.{Scene};
+ghost use Rattle.urb_script.specs.Commands.{Group, InRange};
+ghost use Rattle.urb_script.specs.internal.Commands.{command};
+ghost use Rattle.urb_group.specs.Scenes.{Scene};
 ghost use Rattle.urb_script.specs.Steps.{IsLater, Takes};
 ghost use Rattle.urb_script.specs.LogLines.{LogsAgree, LogsAreSafe};
-ghost use Rattle.urb_script.specs.Scripts.{AnsweredFrom, OpensWith, TakesFrom, WholeScript};
-ghost use Rattle.urb_script.specs.Scripts.{BreaksOff, StaysSafe, HasOneOutcome, bad_line};
+ghost use Rattle.urb_script.specs.Scripts.{WholeScript, BreaksOff, StaysSafe, HasOneOutcome};
+ghost use Rattle.urb_script.specs.Scripts.{bad_line};
+ghost use Rattle.urb_script.specs.internal.Scripts.{AnsweredFrom, OpensWith, TakesFrom};
 
 use crate::commands::{CommandLine, parse_command};
 use crate::input::{LineRead, ReadFailed, TOO_LONG, read_line};

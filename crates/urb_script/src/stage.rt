@@ -7,15 +7,16 @@ ghost use Rattle.urb_names.specs.Pairs.{message_of};
 ghost use Rattle.urb_stable.specs.Memory.{empty_memory};
 ghost use Rattle.urb_stable.specs.Records.{pend};
 ghost use Rattle.urb_group.specs.InMemory.{in_memory};
-ghost use Rattle.urb_group.specs.Scripts.{flags_with, or_nothing};
+ghost use Rattle.urb_group.specs.Scenes.{flags_with, or_nothing};
 ghost use Rattle.urb_group.specs.Stocked.{IsStocked};
 ghost use Rattle.urb_group.specs.World.{World, stored};
 ghost use Rattle.urb_group.specs.Shown.{Shows};
 ghost use Rattle.std.specs.Fmt.{decimal};
-ghost use Rattle.urb_script.specs.Commands.{Fail, InRange, Raw, Reopen, Submit, arrival, command};
-ghost use Rattle.urb_script.specs.Commands.{line_of};
-ghost use Rattle.urb_script.specs.Scripts.{TakesFrom};
-ghost use Rattle.urb_script.specs.Staged.{Shown, ShowsScene, StoresAsAsked, TellsAt, TellsOf};
+ghost use Rattle.urb_script.specs.Commands.{Fail, InRange, Raw, Reopen, Submit};
+ghost use Rattle.urb_script.specs.internal.Commands.{arrival, command, line_of};
+ghost use Rattle.urb_script.specs.internal.Scripts.{TakesFrom};
+ghost use Rattle.urb_script.specs.internal.Staged.{Shown, ShowsScene, StoresAsAsked, TellsAt};
+ghost use Rattle.urb_script.specs.internal.Staged.{TellsOf};
 ghost use Rattle.urb_script.specs.Steps.{IsLater, holders, shown_holders, shown_log};
 ghost use Rattle.urb_script.specs.Texts.{entry_text};
 
@@ -200,8 +201,7 @@ impl<A: Allocator + Copy> Stage<A> {
         })
     }
 
-    // Brings a node what the source has stored under a name, in a packet with these flags or
-    // without flags.
+    // Brings a node what the source has stored under a name, in a packet with or without flags.
     fn arrive(
         &mut self,
         source: NodeId,

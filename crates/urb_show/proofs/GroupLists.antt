@@ -21,7 +21,7 @@ use Rattle.urb_stable.specs.Placed.{Placed}
 use Rattle.urb_show.proofs.AgreeingLists.{map_prefix}
 use Rattle.urb_show.proofs.ListBeginnings.{begins_trans}
 use Rattle.urb_show.specs.Lists.{Agree, Begins, Lists, delivery_of, entry_of, list_at, lists_in}
-use Rattle.urb_show.specs.PreparedLists.{IsHouse}
+use Rattle.urb_show.specs.internal.PreparedLists.{IsHouse}
 use Rattle.urb_show.specs.declared.entry.Entry.{Entry}
 use mathlib.Core.List.{IsPrefix}
 

@@ -7,7 +7,7 @@ use mathlib.Core.List.{IsPrefix}
 use prog.Atomic.{either}
 use Rattle.logbook.specs.Pages.{Cell, cell, keeps, no_nib, step, Moves, Goes}
 use Rattle.urb_show.specs.declared.entry.Addition.{Addition}
-use Rattle.urb_show.specs.History.{IsKept, Adds}
+use Rattle.urb_show.specs.internal.History.{IsKept, Adds}
 use Rattle.urb_show.proofs.Prefixes.{prefix_whole}
 
 abbrev pub shown : List Addition → List Addition

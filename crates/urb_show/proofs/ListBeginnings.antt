@@ -7,7 +7,7 @@ use Rattle.urb_show.specs.declared.entry.Entry.{Entry}
 use Rattle.urb_show.specs.declared.entry.Addition.{Addition}
 use Rattle.urb_show.specs.Lists.{Agree, Begins, Lists, OneBeginsAll, add_at}
 use Rattle.urb_show.specs.Readers.{ReaderView, Takes}
-use Rattle.urb_show.specs.History.{lists_of}
+use Rattle.urb_show.specs.Additions.{lists_of}
 use Rattle.urb_show.proofs.Prefixes.{prefix_self, prefix_trans}
 
 pub begins_self : (xs : Lists) → Begins xs xs

@@ -10,8 +10,8 @@ use Rattle.urb_group.specs.Shown.{GroupView, IsSound}
 use Rattle.urb_show.specs.Lists.{Begins, Lists, add_at, entry_of, list_at, lists_in}
 use Rattle.urb_group.specs.Delivering.{deliveries}
 use Rattle.urb_show.proofs.ListBeginnings.{begins_self}
-use Rattle.urb_show.specs.History.{lists_of}
-use Rattle.urb_show.specs.PreparedLists.{IsHouse}
+use Rattle.urb_show.specs.Additions.{lists_of}
+use Rattle.urb_show.specs.internal.PreparedLists.{IsHouse}
 use Rattle.urb_show.proofs.AgreeingLists.{at_added, at_other, begins_next, length_added}
 
 pub lists_add : (base : Lists) (all : List Addition) (a : Addition)

@@ -12,11 +12,12 @@ use Rattle.std.specs.Option.{MatchOption}
 use Rattle.urb_show.specs.declared.entry.Addition.{Addition}
 use Rattle.urb_show.specs.declared.published_lists.State.{State}
 use Rattle.urb_show.specs.declared.published_lists.Operation.{Operation}
-use Rattle.urb_show.specs.Operations.{state_of, applied_to}
+use Rattle.urb_show.specs.internal.Operations.{state_of, applied_to}
 use Rattle.urb_show.specs.Lists.{Lists, Agree}
-use Rattle.urb_show.specs.History.{Issue, issue_of, lists_of}
+use Rattle.urb_show.specs.Additions.{lists_of}
+use Rattle.urb_show.specs.internal.History.{Issue, issue_of}
 use Rattle.urb_show.proofs.Prefixes.{prefix_length, prefix_trans}
-use Rattle.urb_show.specs.PublishingRule.{IsIssue, Keeps, Rises}
+use Rattle.urb_show.specs.internal.PublishingRule.{IsIssue, Keeps, Rises}
 
 pub admits : (book : Book) (base : Lists) → Admits (Keeps book base) 0
 admits book base x views h = (

@@ -1,11 +1,8 @@
 pub mod Lists
 pub mod Houses
-pub mod PreparedLists
 pub mod Readers
 pub mod Pages
 pub mod ReadFaults
 pub mod Statuses
-pub mod History
-pub mod Operations
-pub mod PublishingRule
-pub mod Examples
+pub mod Additions
+pub mod internal

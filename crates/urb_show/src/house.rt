@@ -3,7 +3,7 @@ ghost use Rattle.std.specs.Prelude.{◌≡◌, ◌<◌, ◌≤◌, ◌-◌, leng
 ghost use Rattle.urb_group.specs.Shown.{IsSound};
 ghost use Rattle.urb_show.specs.Lists.{Agree, Begins, list_at, lists_in};
 ghost use Rattle.urb_show.specs.Houses.{Grew, Settled};
-ghost use Rattle.urb_show.specs.PreparedLists.{GrewByOne, Lacks};
+ghost use Rattle.urb_show.specs.internal.PreparedLists.{GrewByOne, Lacks};
 
 use crate::entry::Addition;
 use crate::group_entries::{entry_at, entry_count};
@@ -30,9 +30,9 @@ pub struct House<K: HouseName, A: Allocator = Global> {
 }
 
 impl<K: HouseName, A: Allocator> Model for House<K, A> {
-    ghost use Rattle.urb_show.specs.History.{lists_of};
+    ghost use Rattle.urb_show.specs.Additions.{lists_of};
     ghost use Rattle.urb_show.specs.Houses.{HouseView};
-    ghost use Rattle.urb_show.specs.PreparedLists.{IsHouse};
+    ghost use Rattle.urb_show.specs.internal.PreparedLists.{IsHouse};
 
     ghost Value = { HouseView };
 

@@ -2,7 +2,7 @@
 ghost use Rattle.std.specs.Prelude.{◌≡◌, ◌<◌, ◌*◌, ◌^◌, [], length, drop, map, All};
 ghost use Rattle.std.specs.Prelude.{MatchResult, IfOk};
 ghost use Rattle.urb_show.specs.Lists.{Agree, lists_in};
-ghost use Rattle.urb_show.specs.History.{issue_of};
+ghost use Rattle.urb_show.specs.internal.History.{issue_of};
 ghost use Rattle.urb_show.specs.Houses.{opened_house};
 ghost use Rattle.urb_show.specs.declared.opened_group.TheConstants.{READERS};
 

@@ -1,8 +1,7 @@
 //! The value that readers take: a list of entries for each node, and the history behind the lists.
-ghost use Rattle.std.specs.Prelude.{◌≡◌, ◌≤◌, ◌<◌, [], map};
-ghost use Rattle.std.specs.Prelude.{IfOk};
+ghost use Rattle.std.specs.Prelude.{◌≡◌, ◌≤◌, ◌<◌, [], map, IfOk};
 ghost use Rattle.urb_show.specs.Lists.{Agree, list_at};
-ghost use Rattle.urb_show.specs.History.{Issue};
+ghost use Rattle.urb_show.specs.internal.History.{Issue};
 ghost use Rattle.urb_show.specs.Pages.{IsPageOf};
 
 use crate::entry::{Addition, Entry, Page};
@@ -22,7 +21,7 @@ pub(crate) struct PublishedLists {
 
 impl Model for PublishedLists {
     ghost use Rattle.std.specs.Prelude.{map};
-    ghost use Rattle.urb_show.specs.History.{Issue};
+    ghost use Rattle.urb_show.specs.internal.History.{Issue};
 
     ghost Value = { Issue };
 
@@ -43,7 +42,7 @@ pub(crate) struct State {
 }
 
 impl Absorb<Operation> for PublishedLists {
-    ghost use Rattle.urb_show.specs.Operations.{state_of, applied_to};
+    ghost use Rattle.urb_show.specs.internal.Operations.{state_of, applied_to};
 
     type State = State;
 

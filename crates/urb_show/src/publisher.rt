@@ -4,7 +4,8 @@
 ghost use Rattle.std.specs.Prelude.{◌≡◌, [], ◌∷◌, ◌++◌, length, drop, MatchResult};
 ghost use mathlib.Core.List.{IsPrefix};
 ghost use Rattle.urb_show.specs.Lists.{Agree};
-ghost use Rattle.urb_show.specs.History.{AddsNothing, lists_of, issue_of};
+ghost use Rattle.urb_show.specs.Additions.{lists_of};
+ghost use Rattle.urb_show.specs.internal.History.{AddsNothing, issue_of};
 
 use crate::entry::Addition;
 use crate::history::rule::{Grows, Sees};
@@ -38,8 +39,9 @@ impl<K: HouseName, A: Allocator> Model for Publisher<K, A> {
     ghost use Rattle.std.specs.Prelude.{◌≡◌, [], ◌∷◌, ◌++◌, drop, fold};
     ghost use Rattle.std.specs.Option.{IsSomeAnd, MatchOption};
     ghost use mathlib.Core.List.{IsPrefix};
-    ghost use Rattle.urb_show.specs.History.{PublisherView, issue_of, lists_of};
-    ghost use Rattle.urb_show.specs.Operations.{state_of, applied_to};
+    ghost use Rattle.urb_show.specs.Additions.{lists_of};
+    ghost use Rattle.urb_show.specs.internal.History.{PublisherView, issue_of};
+    ghost use Rattle.urb_show.specs.internal.Operations.{state_of, applied_to};
     ghost use Rattle.urb_show.specs.Lists.{Agree};
 
     ghost Value = { PublisherView };

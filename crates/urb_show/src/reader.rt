@@ -4,7 +4,7 @@ ghost use Rattle.urb_show.specs.Readers.{AreOfOneHistory, Learns, Takes};
 ghost use Rattle.urb_show.specs.Lists.{Agree, list_at};
 ghost use Rattle.urb_show.specs.Pages.{IsPageOf};
 ghost use Rattle.urb_show.specs.ReadFaults.{Leaves};
-ghost use Rattle.urb_show.specs.History.{lists_of};
+ghost use Rattle.urb_show.specs.Additions.{lists_of};
 
 use crate::entry::Page;
 use crate::history::rule::{Grows, Sees};
@@ -39,7 +39,7 @@ pub struct LogReader<K: HouseName, A: Allocator = Global> {
 impl<K: HouseName, A: Allocator> Model for LogReader<K, A> {
     ghost use Rattle.std.specs.Prelude.{◌≤◌, length};
     ghost use Rattle.std.specs.Option.{IsSomeAnd};
-    ghost use Rattle.urb_show.specs.History.{lists_of};
+    ghost use Rattle.urb_show.specs.Additions.{lists_of};
     ghost use Rattle.urb_show.specs.Readers.{ReaderView};
     ghost use Rattle.urb_show.specs.Lists.{Agree};
 
@@ -61,7 +61,7 @@ pub struct Told<K: HouseName> {
 }
 
 impl<K: HouseName> Model for Told<K> {
-    ghost use Rattle.urb_show.specs.History.{lists_of};
+    ghost use Rattle.urb_show.specs.Additions.{lists_of};
     ghost use Rattle.urb_show.specs.Lists.{Lists};
 
     ghost Value = { Lists };

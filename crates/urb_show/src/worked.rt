@@ -1,8 +1,8 @@
 //! Worked examples of the definitions: small lists, pages and counts, each with its result.
 ghost use Rattle.std.specs.Prelude.{◌≡◌, ◌∷◌, ◌-◌, ◌^◌, []};
-ghost use Rattle.urb_group.specs.Scripts.{message};
+ghost use Rattle.urb_group.specs.internal.Scripts.{message};
 ghost use Rattle.urb_names.specs.Names.{name};
-ghost use Rattle.urb_show.specs.Examples.{entry, group_of, told};
+ghost use Rattle.urb_show.specs.internal.Examples.{entry, group_of, told};
 ghost use Rattle.urb_show.specs.Houses.{next_count};
 ghost use Rattle.urb_show.specs.Lists.{Agree, Begins, list_at, lists_in};
 

@@ -2,10 +2,10 @@
 -- and the new name finds the new table.
 use Rattle.std.proofs.Common.{◌≡◌, ℕ, zero, suc, ◌+◌, ◌<◌, ◌≤◌, ◌==◌, ◌^◌, Bool, true, false, cond}
 use Rattle.std.proofs.Common.{nat_le, max, List, [], ◌∷◌, ◌++◌, length, fold, find, slice_get}
-use Rattle.std.proofs.Common.{option_and_then, option_map, Option, None, Some, is_some, refl, sym}
+use Rattle.std.proofs.Common.{option_and_then, option_map, Option, None, Some, refl, sym}
 use Rattle.std.proofs.Common.{ap, subst, ◌∙◌, arith}
 use Rattle.std.specs.List.{AllByRecursion, AllZip, position_from}
-use Rattle.std.proofs.lemmas.Bool.{eqb-true, eq-eqb, lt-ltb}
+use Rattle.std.proofs.lemmas.Bool.{eqb-true, eq-eqb}
 use Rattle.sqlite.specs.Order.{Row}
 use Rattle.sqlite.specs.Tree.{Trees}
 use Rattle.sqlite.specs.Table.{Table}

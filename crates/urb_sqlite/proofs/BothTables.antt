@@ -10,7 +10,8 @@ use Rattle.urb_sqlite.specs.declared.sql.Part.TheVariants.{First, Second}
 use Rattle.urb_sqlite.specs.Journal.{journal_name, second_name, limit_of, HasTable, HasBoth}
 use Rattle.urb_sqlite.specs.Rows.{table_rows, StandsFor}
 use Rattle.urb_sqlite.specs.Reading.{read_from, records_of}
-use Rattle.urb_sqlite.specs.OpenJournal.{IsInStep, IsHonestJournal, IsSafeAtRest}
+use Rattle.urb_sqlite.specs.OpenJournal.{IsHonestJournal, IsSafeAtRest}
+use Rattle.urb_sqlite.specs.internal.OpenJournal.{IsInStep}
 use Rattle.urb_sqlite.proofs.StoredRows.{stands_by, first_read, second_read, records_are}
 use Rattle.urb_sqlite.proofs.KeptRecords.{IsSettled, earlier_clean, left, same_journal, stops_now}
 

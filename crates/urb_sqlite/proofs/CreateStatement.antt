@@ -1,15 +1,14 @@
 -- What CREATE TABLE IF NOT EXISTS does to a database that lacks the table, and to one that has it.
-use Rattle.std.proofs.Common.{◌≡◌, ◌⊎◌, inl, inr, ℕ, ◌+◌, ◌<◌, ◌||◌, Bool, true, false, cond, List}
-use Rattle.std.proofs.Common.{[], ◌∷◌, ◌++◌, length, slice_get, option_map, Option, None, Some}
-use Rattle.std.proofs.Common.{is_some, Ok, Err, IsTrue, refl, sym, ap, subst, ◌∙◌, append-nil}
-use Rattle.std.proofs.Common.{append_assoc}
+use Rattle.std.proofs.Common.{◌≡◌, ◌⊎◌, inl, inr, ℕ, ◌+◌, ◌<◌, ◌||◌, Bool, true, false, List, []}
+use Rattle.std.proofs.Common.{◌∷◌, ◌++◌, length, slice_get, option_map, Option, None, Some, is_some}
+use Rattle.std.proofs.Common.{Ok, refl, sym, ap, subst, ◌∙◌, append-nil, append_assoc}
 use Rattle.std.specs.List.{AllByRecursion}
 use Rattle.std.proofs.lemmas.Bool.{cases_Bool, true≢false}
 use Rattle.sqlite.specs.Order.{Row}
 use Rattle.sqlite.specs.Tree.{Trees}
 use Rattle.sqlite.specs.Table.{Table}
 use Rattle.sqlite.specs.Schema.{Schema}
-use Rattle.sqlite.specs.Command.TheVariants.{CreateTable, Nothing}
+use Rattle.sqlite.specs.Command.TheVariants.{CreateTable}
 use Rattle.sqlite.specs.Change.{next_tree}
 use Rattle.sqlite_catalog.specs.Calls.{CreatesTable}
 use Rattle.sqlite_catalog.specs.Change.{is_used}
@@ -17,12 +16,12 @@ use Rattle.sqlite_catalog.specs.Listing.{IsSound}
 use Rattle.sqlite.specs.Does.{Tally, Does, lacks_sequence, sequence_text}
 use Rattle.sqlite.specs.Effect.{Database}
 use Rattle.sqlite_schema.specs.Names.{same_name, table_named, index_named, view_named}
-use Rattle.sqlite.specs.State.{State, mode_of, text_of, IsUnchanged, Writes, Executes, ExecutesIn}
-use Rattle.sqlite.specs.State.{CommitsBy}
+use Rattle.sqlite.specs.State.{State, mode_of, IsUnchanged, Executes, ExecutesIn, CommitsBy}
 use Rattle.urb_sqlite.specs.Journal.{create_text, journal_name, second_name, record_table, table_of}
 use Rattle.urb_sqlite.specs.Journal.{tree_of, Lacks, HasTable}
 use Rattle.urb_sqlite.specs.Shape.{is_journal, has_table}
-use Rattle.urb_sqlite.specs.OpenJournal.{AddsTable, AddsOne, IsLonger, IsMade}
+use Rattle.urb_sqlite.specs.OpenJournal.{AddsTable, AddsOne, IsLonger}
+use Rattle.urb_sqlite.specs.internal.OpenJournal.{IsMade}
 use Rattle.urb_sqlite.proofs.InsertStatement.{went, same_value}
 use Rattle.urb_sqlite.proofs.StatementTexts.{Makes}
 use Rattle.sqlite_resolve.specs.Compile.{table_defined_by}

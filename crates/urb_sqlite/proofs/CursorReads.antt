@@ -23,7 +23,8 @@ use Rattle.urb_stable.specs.declared.stable.StoreFault.{StoreFault}
 use Rattle.urb_stable.specs.declared.stable.StoreFault.TheVariants.{NoMemory, Device, BadRow, Place}
 use Rattle.urb_names.specs.declared.limits.TheConstants.{MAX_PAYLOAD}
 use Rattle.urb_sqlite.specs.declared.sql.Part.{Part}
-use Rattle.urb_sqlite.specs.Journal.{select_of, name_of, limit_of, tree_of, HasTable}
+use Rattle.urb_sqlite.specs.Journal.{limit_of, tree_of, HasTable}
+use Rattle.urb_sqlite.specs.internal.Journal.{select_of, name_of}
 use Rattle.urb_sqlite.specs.Rows.{table_rows, IsInOrder, IsFirstBad}
 use Rattle.urb_sqlite.specs.Reading.{record_at, joined, extended, read_from}
 use Rattle.urb_sqlite.proofs.StatementTexts.{select_parsed, select_is}

@@ -1,6 +1,7 @@
 -- A file whose tables are those of a journal opens with the journal's schema.
 use Rattle.std.proofs.Common.{◌≡◌, ℕ, ◌+◌, pos, List, [], ◌∷◌, filter, find, false, nat_le, ◌==◌}
 use Rattle.std.proofs.Common.{◌^◌, Some, Ok, refl, sym, ap, ap₂, subst, ◌∙◌, arith}
+use Rattle.std.proofs.Common.{length, inl, inr}
 use Rattle.std.specs.List.{AllZip}
 use Rattle.sqlite.specs.declared.types.Value.TheVariants.{Int, Text}
 use Rattle.sqlite.specs.Order.{Row, column}
@@ -13,8 +14,8 @@ use Rattle.sqlite_catalog.specs.Listing.{is_index_row, is_view_row}
 use Rattle.sqlite.specs.Effect.{Database}
 use Rattle.sqlite.specs.State.{State, IsLive, Opens}
 use Rattle.urb_sqlite.specs.Journal.{record_table, table_of, tree_of, journal_name, second_name}
-use Rattle.urb_sqlite.specs.Journal.{Lacks, HasTable, MayTake, IsAdoptable, no_schema}
-use Rattle.std.proofs.Common.{◌<◌, ◌⊎◌, length, inl, inr}
+use Rattle.urb_sqlite.specs.Journal.{Lacks, HasTable, MayTake, IsAdoptable}
+use Rattle.urb_sqlite.specs.internal.Journal.{no_schema}
 use Rattle.sqlite.specs.Files.{AreFoundIn, IsNothing}
 use Rattle.sqlite_wal.specs.Recovery.{Image}
 use Rattle.urb_sqlite.specs.Rows.{table_rows, StandsFor}

@@ -1,5 +1,5 @@
 -- Opening one table: the outcomes of its CREATE and its SELECT, one after the other.
-use Rattle.std.proofs.Common.{◌≡◌, ◌⊎◌, inl, inr, ℕ, ◌+◌, List, [], length, false, true, Ok, IsTrue}
+use Rattle.std.proofs.Common.{◌≡◌, ◌⊎◌, inl, inr, ℕ, List, [], false, true, Ok, IsTrue}
 use Rattle.std.proofs.Common.{refl, sym, ap, subst, ◌∙◌}
 use Rattle.sqlite.specs.Effect.{Database}
 use Rattle.sqlite.specs.Order.{Row}
@@ -9,9 +9,11 @@ use Rattle.urb_stable.specs.Storing.{is_bad_row}
 use Rattle.urb_stable.specs.declared.stable.StoreFault.{StoreFault}
 use Rattle.urb_stable.specs.declared.stable.StoreFault.TheVariants.{NoMemory, Device, BadRow}
 use Rattle.urb_sqlite.specs.declared.sql.Part.{Part}
-use Rattle.urb_sqlite.specs.Journal.{name_of, limit_of, tree_of, Lacks, HasTable}
-use Rattle.urb_sqlite.specs.OpenJournal.{AddsTable, IsMade, MakesAtMost, CommitsAtMost}
-use Rattle.urb_sqlite.specs.PartOpening.{IsPartOpened, IsPartRefused, IsRead}
+use Rattle.urb_sqlite.specs.Journal.{limit_of, tree_of, Lacks, HasTable}
+use Rattle.urb_sqlite.specs.internal.Journal.{name_of}
+use Rattle.urb_sqlite.specs.OpenJournal.{AddsTable}
+use Rattle.urb_sqlite.specs.internal.OpenJournal.{IsMade, MakesAtMost, CommitsAtMost}
+use Rattle.urb_sqlite.specs.internal.PartOpening.{IsPartOpened, IsPartRefused, IsRead}
 use Rattle.urb_sqlite.specs.Reading.{read_from}
 use Rattle.urb_sqlite.specs.Rows.{table_rows, IsInOrder, IsFirstBad}
 use Rattle.urb_sqlite.specs.Shape.{has_table}

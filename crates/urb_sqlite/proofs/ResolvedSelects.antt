@@ -1,12 +1,9 @@
 -- What a SELECT of plain columns means if its one table is found by its name.
-use Rattle.std.proofs.Common.{◌≡◌, ℕ, zero, suc, ◌+◌, ◌-◌, ◌++◌, ◌==◌, Bool, true, false, cond}
-use Rattle.std.proofs.Common.{nat_lt, List, [], ◌∷◌, length, map, codes, Option, None, Some}
-use Rattle.std.proofs.Common.{is_some, Ok, Err, Result, refl, sym, ap, ◌∙◌, slice_get, option_map}
-use Rattle.std.proofs.Common.{option_and_then, unwrap_or}
+use Rattle.std.proofs.Common.{◌≡◌, ℕ, suc, ◌+◌, ◌-◌, ◌++◌, Bool, true, false, nat_lt, List, [], ◌∷◌}
+use Rattle.std.proofs.Common.{map, None, Some, Ok, refl, ap, ◌∙◌, slice_get, pos, negsuc}
 use Rattle.sqlite_ast.specs.declared.Expr.{Expr, out-Expr}
 use Rattle.sqlite_ast.specs.declared.Expr.TheOpen.{Expr-F, Shown-F}
 use Rattle.sqlite_ast.specs.declared.Shown.{Shown, out-Shown}
-use Rattle.sqlite_ast.specs.declared.Origin.{Origin}
 use Rattle.sqlite_ast.specs.declared.Origin.TheVariants as origin
 use Rattle.sqlite_ast.specs.declared.Select.{Select, out-Select}
 use Rattle.sqlite_ast.specs.declared.Source.{Source, out-Source}
@@ -16,55 +13,48 @@ use Rattle.sqlite_sql.specs.Term.{Term, lit, col}
 use Rattle.sqlite_schema.specs.declared.schema.Schema.{Schema}
 use Rattle.sqlite_schema.specs.declared.schema.Table.{Table}
 use Rattle.sqlite_schema.specs.declared.schema.Column as schema
-use Rattle.sqlite_schema.specs.Names.{same_name, table_named, column_named, view_named, place_of}
+use Rattle.sqlite_schema.specs.Names.{table_named, column_named, place_of}
 use Rattle.sqlite_resolve.specs.declared.scope.Bound.{Bound}
 use Rattle.sqlite_resolve.specs.declared.scope.Output.{Output}
 use Rattle.sqlite_resolve.specs.declared.scope.Level.{Level}
-use Rattle.sqlite_resolve.specs.declared.scope.Found.{Found}
 use Rattle.sqlite_resolve.specs.declared.scope.Found.TheVariants.{Column}
 use Rattle.sqlite_resolve.specs.declared.state.State.{State}
 use Rattle.sqlite_resolve.specs.declared.state.Carried.{Carried}
 use Rattle.sqlite_resolve.specs.declared.state.Passes.TheVariants as hands
-use Rattle.sqlite_resolve.specs.Lowering.{Checked, and_then, Lowering, begin, finish, spend}
+use Rattle.sqlite_resolve.specs.Lowering.{and_then, Lowering, begin, finish, spend}
+use Rattle.sqlite_resolve.specs.Lowering.{alone, fresh, max_budget, take_slot}
 use Rattle.sqlite_resolve.specs.Scope as scope
 use Rattle.sqlite_resolve.specs.Scope.{Name, Context, find, term_of, column_at, column_in, in_level}
 use Rattle.sqlite_resolve.specs.Scope.{only, hit, is_among, declared}
-use Rattle.sqlite_resolve.specs.Expr.{node, opened, node_at, passes, passes_at, lower_to, lower}
+use Rattle.sqlite_resolve.specs.Expr.{node, opened, node_at, passes, lower_to, lower}
 use Rattle.sqlite_resolve.specs.Body as body
 use Rattle.sqlite_resolve.specs.Order as order
 use Rattle.sqlite_resolve.specs.Select as select
-use Rattle.sqlite_resolve.specs.Select.{outermost, inside}
+use Rattle.sqlite_resolve.specs.Select.{outermost}
 use Rattle.sqlite_resolve.specs.declared.body.Body.{Body}
-use Rattle.sqlite_resolve.specs.declared.body.Joined.{Joined}
-use Rattle.sqlite_resolve.specs.declared.select.Clauses.{Clauses}
 use Rattle.sqlite_value.specs.declared.keys.Key.{Key}
-use Rattle.sqlite_draft.specs.declared.join.Step.{Step}
 use Rattle.sqlite_draft.specs.declared.join.Step.TheVariants.{Inner}
 use Rattle.sqlite_draft.specs.declared.query.Draft.{Draft}
 use Rattle.sqlite_draft.specs.Join.{chain}
 use Rattle.sqlite_ast.specs.declared.Statement.TheVariants as written
 use Rattle.sqlite_syntax.specs.declared.statement.Parsed.{Parsed}
 use Rattle.sqlite.specs.declared.types.Value.TheVariants.{Int}
-use Rattle.std.proofs.Common.{pos, negsuc}
 use Rattle.sqlite_resolve.specs.Program as program
 use Rattle.sqlite_resolve.specs.Compile as compile
-use Rattle.sqlite_resolve.specs.Compile.{first, compiled, with_command, is_reserved}
+use Rattle.sqlite_resolve.specs.Compile.{first, compiled, with_command}
 use Rattle.sqlite_resolve.specs.Define as define
 use Rattle.sqlite_resolve.specs.declared.compiled.Compiled.{Compiled}
 use Rattle.sqlite_schema.specs.declared.command.Command.{Command}
 use Rattle.sqlite_schema.specs.declared.command.Command.TheVariants as command
-use Rattle.sqlite_schema.specs.declared.command.Returning.{Returning}
 use Rattle.sqlite_schema.specs.declared.command.Source as source
 use Rattle.sqlite_typing.specs.Types.{accepts_program}
 use Rattle.sqlite_draft.specs.Query.{query_of}
 use Rattle.sqlite_ast.specs.declared.Statement.{Statement}
 use Rattle.sqlite_ast.specs.declared.Conflict.TheVariants as conflict
 use Rattle.sqlite_ast.specs.declared.Rows.{Rows}
-use Rattle.sqlite_ast.specs.declared.CreateTable.{CreateTable}
 use Rattle.sqlite.specs.Listing.{understood, reads_listing}
 use Rattle.sqlite_resolve.specs.Program.{query, query_to}
 use Rattle.sqlite_schema.specs.declared.program.Table.{Table as Let}
-use Rattle.sqlite_resolve.specs.Lowering.{alone, fresh, max_budget, take_slot}
 
 abbrev pub quiet : ℕ → ℕ → Carried → State
 quiet next budget last = record

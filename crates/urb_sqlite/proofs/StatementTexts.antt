@@ -30,14 +30,13 @@ use Rattle.sqlite.specs.Command.{Command}
 use Rattle.sqlite_schema.specs.declared.command.Returning.{Returning}
 use Rattle.sqlite.specs.State.{text_of}
 use Rattle.sqlite_resolve.specs.declared.scope.Output.{Output}
-use Rattle.urb_sqlite.specs.Journal.{create_of, insert_text, select_of, name_of, second_name}
-use Rattle.urb_sqlite.specs.Journal.{record_table, integer, table_of, tree_of, HasTable}
+use Rattle.urb_sqlite.specs.Journal.{second_name, record_table, integer, tree_of, HasTable}
+use Rattle.urb_sqlite.specs.internal.Journal.{create_of, insert_text, select_of, name_of}
 use Rattle.sqlite_resolve.specs.Lowering.{max_budget, nothing}
 use Rattle.sqlite_resolve.specs.Body.{outputs}
 use Rattle.sqlite_resolve.specs.Expr.{lower}
 use Rattle.sqlite_resolve.specs.Scope.{declared}
 use Rattle.sqlite_draft.specs.Query.{query_of}
-use Rattle.sqlite_draft.specs.declared.query.Draft.{Draft}
 use Rattle.sqlite_typing.specs.Types.{accepts_program}
 use Rattle.sqlite.specs.Query.{Query, inner, end}
 use Rattle.sqlite.specs.Listing.{understood, reads_listing, if_select, listing_schema}
@@ -46,7 +45,7 @@ use Rattle.urb_sqlite.specs.declared.sql.Part.{Part}
 use Rattle.urb_sqlite.specs.declared.sql.Part.TheVariants.{First, Second}
 use Rattle.urb_sqlite.proofs.ResolvedSelects.{IsOfText, IsPlainSelect, IsPlainCore, IsColumn}
 use Rattle.urb_sqlite.proofs.ResolvedSelects.{IsPlainSort, base_of, quiet, bound_to, over, draft_of}
-use Rattle.urb_sqlite.proofs.ResolvedSelects.{output_of, no_page, outputs_more, named_is, read_is}
+use Rattle.urb_sqlite.proofs.ResolvedSelects.{no_page, outputs_more, named_is, read_is}
 use Rattle.urb_sqlite.proofs.ResolvedSelects.{inserted_is, understood_is}
 
 abbrev pub terms : List Term

@@ -26,8 +26,9 @@ use Rattle.sqlite.specs.Table.{Table}
 use Rattle.urb_sqlite.specs.declared.sql.Part.TheVariants.{First, Second}
 use Rattle.urb_sqlite.specs.Journal.{journal_name, second_name, limit_of, table_of, tree_of, Lacks}
 use Rattle.urb_sqlite.specs.Journal.{HasTable, HasBoth}
-use Rattle.urb_sqlite.specs.Rows.{shown, by_pos, rows_in, row_of, kept_of, IsWithin, Spells}
-use Rattle.urb_sqlite.specs.Rows.{table_rows, StandsFor}
+use Rattle.urb_sqlite.specs.Rows.{shown, by_pos, rows_in, row_of, IsWithin, Spells, table_rows}
+use Rattle.urb_sqlite.specs.Rows.{StandsFor}
+use Rattle.urb_sqlite.specs.internal.Rows.{kept_of}
 use Rattle.urb_sqlite.specs.Reading.{record_at, joined, extended, read_from, followed, read_both}
 use Rattle.urb_sqlite.specs.Reading.{ok_or_none, records_of}
 use Rattle.urb_sqlite.proofs.SortOrder.{sort_is}

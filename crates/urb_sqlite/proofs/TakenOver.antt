@@ -1,7 +1,7 @@
 -- Opening both tables, one after the other.
-use Rattle.std.proofs.Common.{◌≡◌, ◌⊎◌, inl, inr, ℕ, ◌+◌, Bool, List, [], ◌++◌, length}
+use Rattle.std.proofs.Common.{◌≡◌, ◌⊎◌, inl, inr, ℕ, ◌+◌, List, [], ◌++◌, length}
 use Rattle.std.proofs.Common.{length-append, option_map, Option, Some, None, true, false, Ok, Err}
-use Rattle.std.proofs.Common.{IsTrue, refl, sym, ap, subst, ◌∙◌, arith}
+use Rattle.std.proofs.Common.{refl, sym, ap, subst, ◌∙◌, arith}
 use Rattle.std.specs.Prelude.{map, unwrap_or, IsPermutation, Result, IfOk, IfErr, OnOk, OnErr}
 use Rattle.sqlite.specs.Effect.{Database}
 use Rattle.sqlite.specs.Order.{Row}
@@ -14,12 +14,13 @@ use Rattle.urb_stable.specs.Storing.{is_bad_row}
 use Rattle.urb_stable.specs.declared.stable.StoreFault.{StoreFault}
 use Rattle.urb_stable.specs.declared.stable.StoreFault.TheVariants.{BadRow}
 use Rattle.urb_sqlite.specs.declared.sql.Part.TheVariants.{First, Second}
-use Rattle.urb_sqlite.specs.Journal.{create_text, second_text, journal_name, second_name, limit_of}
-use Rattle.urb_sqlite.specs.Journal.{table_of, Lacks, HasTable, HasBoth, HasJournal, IsAdoptable}
-use Rattle.urb_sqlite.specs.OpenJournal.{AddsTable, IsCounted, IsInStep, IsHonestJournal, IsMade}
-use Rattle.urb_sqlite.specs.OpenJournal.{IsLonger, MakesAtMost, KeepsRows, SparesRows}
-use Rattle.urb_sqlite.specs.OpenJournal.{CommitsEither}
-use Rattle.urb_sqlite.specs.PartOpening.{IsRead, IsPartOpened, IsPartRefused}
+use Rattle.urb_sqlite.specs.Journal.{create_text, journal_name, second_name, limit_of, table_of}
+use Rattle.urb_sqlite.specs.Journal.{Lacks, HasTable, HasBoth, HasJournal, IsAdoptable}
+use Rattle.urb_sqlite.specs.internal.Journal.{second_text}
+use Rattle.urb_sqlite.specs.OpenJournal.{AddsTable, IsHonestJournal, IsLonger, KeepsRows}
+use Rattle.urb_sqlite.specs.OpenJournal.{SparesRows, CommitsEither}
+use Rattle.urb_sqlite.specs.internal.OpenJournal.{IsCounted, IsInStep, IsMade, MakesAtMost}
+use Rattle.urb_sqlite.specs.internal.PartOpening.{IsRead, IsPartOpened, IsPartRefused}
 use Rattle.urb_sqlite.specs.Reading.{read_from, records_of}
 use Rattle.urb_sqlite.specs.Rows.{shown, table_rows, StandsFor, Spells, IsFirstBad, IsFirstBadOf}
 use Rattle.urb_sqlite.specs.Shape.{is_journal, has_table}

@@ -22,11 +22,6 @@ journal_name = codes "journal"
 abbrev pub second_name : List ℕ
 second_name = codes "journal2"
 
--- the name of each table
-abbrev pub name_of : Part → List ℕ
-name_of First = journal_name
-name_of Second = second_name
-
 -- the greatest number of bytes of a payload in a table: 1,024 in the first table, and MAX_PAYLOAD
 -- in the second
 abbrev pub limit_of : Part → ℕ
@@ -37,27 +32,6 @@ limit_of Second = MAX_PAYLOAD
 abbrev pub create_text : List ℕ
 create_text =
     codes "CREATE TABLE IF NOT EXISTS journal(pos INTEGER PRIMARY KEY, kind INTEGER NOT NULL, sender INTEGER NOT NULL, seq INTEGER NOT NULL, client INTEGER NOT NULL, number INTEGER NOT NULL, payload BLOB NOT NULL) STRICT"
-
--- the text that makes the second table if it is absent
-abbrev pub second_text : List ℕ
-second_text =
-    codes "CREATE TABLE IF NOT EXISTS journal2(pos INTEGER PRIMARY KEY, kind INTEGER NOT NULL, sender INTEGER NOT NULL, seq INTEGER NOT NULL, client INTEGER NOT NULL, number INTEGER NOT NULL, payload BLOB NOT NULL) STRICT"
-
--- the text that makes each table
-abbrev pub create_of : Part → List ℕ
-create_of First = create_text
-create_of Second = second_text
-
--- the text that stores a record
-abbrev pub insert_text : List ℕ
-insert_text = codes "INSERT INTO journal2 VALUES (?1, ?2, ?3, ?4, ?5, ?6, ?7)"
-
--- the text that reads all records of each table
-abbrev pub select_of : Part → List ℕ
-select_of First =
-    codes "SELECT pos, kind, sender, seq, client, number, payload FROM journal ORDER BY pos"
-select_of Second =
-    codes "SELECT pos, kind, sender, seq, client, number, payload FROM journal2 ORDER BY pos"
 
 -- a column of integers that is not null
 abbrev pub integer : List ℕ → Column
@@ -146,7 +120,3 @@ MayTake schema name = HasTable schema name ⊎ Lacks schema name
 -- make no difference.
 abbrev pub IsAdoptable : Schema → Type 0
 IsAdoptable schema = MayTake schema journal_name × MayTake schema second_name
-
--- a database with no table
-abbrev pub no_schema : Schema
-no_schema = record { tables = []; indexes = []; views = [] }

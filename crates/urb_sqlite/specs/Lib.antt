@@ -2,9 +2,8 @@ pub mod Journal
 pub mod Rows
 pub mod Reading
 pub mod OpenJournal
-pub mod PartOpening
-pub mod Blame
 pub mod Stops
 pub mod Shape
 pub mod Nodes
 pub mod Closed
+pub mod internal

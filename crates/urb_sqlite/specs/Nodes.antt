@@ -1,15 +1,13 @@
 -- What the opening of a node's journal finds, depending on what its files held.
-use Rattle.std.specs.Prelude.{◌≡◌, ◌/◌, ℕ, zero, suc, List, [], Some, slice_get}
+use Rattle.std.specs.Prelude.{◌≡◌, ℕ, zero, suc, List, [], Some, slice_get}
 use Rattle.sqlite_disk.specs.declared.start.Start as start
 use Rattle.sqlite_wal.specs.Files.{image_at}
-use Rattle.sqlite_wal.specs.PageSize.{IsPageSize}
 use Rattle.sqlite_wal.specs.Recovery.{Image}
 use Rattle.sqlite_trees.specs.Tree.{Trees}
 use Rattle.sqlite.specs.Files.{HoldsDatabase}
 use Rattle.urb_stable.specs.Entries.{Entry}
 use Rattle.urb_stable.specs.declared.stable.Stable.{Ghosts}
 use Rattle.urb_sqlite.specs.Rows.{StandsFor}
-use Rattle.urb_sqlite.specs.declared.node_journals.TheConstants.{LOG_BYTES, NEW_LOG_PAGES}
 use Rattle.urb_sqlite.specs.OpenJournal.{IsBare, IsBase, IsJournal, IsUnmade, base_of, database_of}
 
 -- what the log and the database file of a node held, for nodes 1 to 7
@@ -22,12 +20,6 @@ held_by a b c d e f g (suc (suc (suc (suc zero)))) = image_at d
 held_by a b c d e f g (suc (suc (suc (suc (suc zero))))) = image_at e
 held_by a b c d e f g (suc (suc (suc (suc (suc (suc zero)))))) = image_at f
 held_by a b c d e f g _ = image_at g
-
--- How many pages a log takes before they are copied into the database file. It is 16,384,000
--- divided by this page size, or 16,000 if no page has this size.
-pub record AreLogPages (size pages : ℕ) : Type 0 where
-  pub sized : IsPageSize size → pages ≡ LOG_BYTES / size
-  pub new : ¬ IsPageSize size → pages ≡ NEW_LOG_PAGES
 
 -- What an opening finds while the storage returns what was written. The journal is honest. If the
 -- files held a journal, it has that journal's records. It has no record if the database file was

@@ -1,7 +1,7 @@
 -- The row of a record, the rows of a table, and the records that rows stand for.
 use Rattle.std.specs.Prelude.{◌≡◌, IsPermutation, IsSorted, All, ℕ, ◌+◌, ◌<◌, ◌≤◌, pos, List, []}
 use Rattle.std.specs.Prelude.{◌∷◌, ◌++◌, length, map, ◌⊎◌, option_map, unwrap_or}
-use Rattle.sqlite.specs.declared.types.Value.TheVariants.{Null, Int, Blob}
+use Rattle.sqlite.specs.declared.types.Value.TheVariants.{Int, Blob}
 use Rattle.sqlite.specs.Order.{Row, column, value_cmp}
 use Rattle.sqlite.specs.Tree.{Trees}
 use Rattle.sqlite.specs.Effect.{Database}
@@ -31,19 +31,6 @@ row_of place (Cert name) = columns_of place 3 name.sender name.seq 0 0 []
 abbrev pub rows_of : ℕ → List Entry → List Row
 rows_of place [] = []
 rows_of place (r ∷ records) = row_of place r ∷ rows_of (place + 1) records
-
--- the entry of a table's tree for a row: the row's number, no value for the key's own column, and
--- the other columns
-abbrev pub kept_row : ℕ → ℕ → ℕ → ℕ → ℕ → ℕ → List ℕ → Row
-kept_row place kind sender seq client number payload =
-    Int (pos place) ∷ Null ∷ Int (pos kind) ∷ Int (pos sender) ∷ Int (pos seq) ∷ Int
-    (pos client) ∷ Int (pos number) ∷ Blob payload ∷ []
-
--- the same for the row of a record
-abbrev pub kept_of : ℕ → Entry → Row
-kept_of place (Pend name m) = kept_row place 1 name.sender name.seq m.client m.number m.payload
-kept_of place (PendCert name m) = kept_row place 2 name.sender name.seq m.client m.number m.payload
-kept_of place (Cert name) = kept_row place 3 name.sender name.seq 0 0 []
 
 -- ---- the rows of a table
 

@@ -9,8 +9,9 @@ ghost use Rattle.sqlite.specs.Held.{state};
 ghost use Rattle.urb_names.specs.declared.limits.TheConstants.{MAX_PAYLOAD};
 ghost use Rattle.urb_stable.specs.Entries.{Entry};
 ghost use Rattle.urb_stable.specs.Storing.{is_place, is_bad_row};
-ghost use Rattle.urb_sqlite.specs.Journal.{select_of, name_of, limit_of, tree_of, HasTable};
-ghost use Rattle.urb_sqlite.specs.PartOpening.{IsRead};
+ghost use Rattle.urb_sqlite.specs.Journal.{limit_of, tree_of, HasTable};
+ghost use Rattle.urb_sqlite.specs.internal.Journal.{select_of, name_of};
+ghost use Rattle.urb_sqlite.specs.internal.PartOpening.{IsRead};
 ghost use Rattle.urb_sqlite.specs.Reading.{read_from};
 ghost use Rattle.urb_sqlite.specs.Rows.{table_rows, IsInOrder, IsFirstBad};
 

@@ -1,19 +1,18 @@
 //! A journal as stable storage.
 
-ghost use Rattle.std.specs.Prelude.{ℕ, ◌≡◌, ◌⊎◌, ◌<◌, ◌≤◌, ◌+◌, ◌∷◌, ◌++◌, [], length, None, Some};
-ghost use Rattle.std.specs.Prelude.{true, false, IfOk, IfErr, IsErrAnd, OnOk, OnErr, IsTrue, Ok};
-ghost use Rattle.std.specs.Prelude.{Err};
+ghost use Rattle.std.specs.Prelude.{ℕ, ◌≡◌, ◌<◌, ◌+◌, [], None, Some, true, false, IfOk, IfErr};
+ghost use Rattle.std.specs.Prelude.{IsErrAnd, IsTrue, Ok, Err};
 ghost use Rattle.sqlite.specs.State.{HasCleanDisk, Survives};
 ghost use Rattle.sqlite.specs.Held.{state};
-ghost use Rattle.urb_stable.specs.Storing.{is_place, is_bad_row, is_out_of_place, IsPlaced};
-ghost use Rattle.urb_stable.specs.Storing.{IsContents};
+ghost use Rattle.urb_stable.specs.Storing.{is_place, is_bad_row};
 ghost use Rattle.urb_sqlite.specs.Journal.{journal_name, second_name, Lacks, HasJournal};
 ghost use Rattle.urb_sqlite.specs.Journal.{IsAdoptable};
 ghost use Rattle.urb_sqlite.specs.Rows.{IsFirstBadOf, StandsFor};
 ghost use Rattle.urb_sqlite.specs.Reading.{records_of};
 ghost use Rattle.urb_sqlite.specs.Shape.{has_table};
-ghost use Rattle.urb_sqlite.specs.OpenJournal.{OpenJournal, IsInStep, IsHonestJournal, KeepsRows};
-ghost use Rattle.urb_sqlite.specs.OpenJournal.{SparesRows, CommitsEither, IsSafeAtRest, LeavesOnly};
+ghost use Rattle.urb_sqlite.specs.OpenJournal.{OpenJournal, IsHonestJournal, KeepsRows, SparesRows};
+ghost use Rattle.urb_sqlite.specs.OpenJournal.{CommitsEither, IsSafeAtRest, LeavesOnly};
+ghost use Rattle.urb_sqlite.specs.internal.OpenJournal.{IsInStep};
 
 use crate::{MessagePool, records};
 use sqlite::{Alter, Connection, FileStore};
@@ -41,7 +40,8 @@ pub struct SqlStable<S: Alter> {
 
 impl<S: Alter> Model for SqlStable<S> {
     ghost use Rattle.sqlite.specs.Held.{state};
-    ghost use Rattle.urb_sqlite.specs.OpenJournal.{OpenJournal, open_code, IsInStep};
+    ghost use Rattle.urb_sqlite.specs.OpenJournal.{OpenJournal, open_code};
+    ghost use Rattle.urb_sqlite.specs.internal.OpenJournal.{IsInStep};
 
     ghost Value = { OpenJournal S };
 

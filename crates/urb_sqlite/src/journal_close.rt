@@ -24,7 +24,7 @@ pub struct Copied<D: Disk> {
 impl<D: Disk> Model for Copied<D> {
     ghost use Rattle.sqlite_disk.specs.declared.Files.{Files};
     ghost use Rattle.sqlite_wal.specs.Reads.{AreClean};
-    ghost use Rattle.urb_sqlite.specs.Closed.{StandsAlone};
+    ghost use Rattle.urb_sqlite.specs.internal.Closed.{StandsAlone};
 
     ghost Value = { Files D };
 

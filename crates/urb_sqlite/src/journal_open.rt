@@ -6,7 +6,7 @@ ghost use Rattle.sqlite.specs.Files.{file_state, image_of, HoldsDatabase, IsNoth
 ghost use Rattle.sqlite.specs.WalFiles.{image_at};
 ghost use Rattle.sqlite_wal.specs.Reads.{AreClean};
 ghost use Rattle.urb_stable.specs.Storing.{is_place};
-ghost use Rattle.urb_sqlite.specs.Blame.{blamed};
+ghost use Rattle.urb_sqlite.specs.internal.Blame.{blamed};
 ghost use Rattle.urb_sqlite.specs.Journal.{journal_name, second_name, IsAdoptable, Lacks};
 ghost use Rattle.urb_sqlite.specs.Rows.{StandsFor};
 ghost use Rattle.urb_sqlite.specs.Reading.{records_of};

@@ -1,13 +1,8 @@
 //! The files of a group's nodes as one type, although they held different bytes. Each variant names
 //! what one node's files held.
 
-ghost use Rattle.std.specs.Prelude.{◌≡◌, ◌⊎◌, ◌+◌, ◌^◌, ◌<◌, ◌≤◌, ℕ, Bool, true, false, List, []};
-ghost use Rattle.std.specs.Prelude.{refl, length, take, drop, is_ok, IsErr, IsTrue, IfOk, OnOk};
+ghost use Rattle.std.specs.Prelude.{◌+◌, ◌<◌, true, [], refl};
 ghost use Rattle.std.proofs.Common.{inl};
-ghost use Rattle.sqlite_disk.specs.Disk.{Holds, Torn, Mixed, Cut, Follows, Only, CountsFault};
-ghost use Rattle.sqlite_disk.specs.Disk.{CountsFaultIf, StaysFrozen};
-ghost use Rattle.sqlite_disk.specs.Digest.{digest, Collide};
-ghost use Rattle.sqlite_disk.specs.Tally.{CountsCatch, CountsRefusal};
 
 use sqlite::{FileFrom, Start};
 use sqlite_disk::{Disk, Tally};

@@ -1,6 +1,6 @@
 //! The journals of a group's nodes in one list. Each is found with what its files held.
 
-ghost use Rattle.std.specs.Prelude.{◌≡◌, ◌⊎◌, length, true, false, IfOk, IfErr, IsTrue};
+ghost use Rattle.std.specs.Prelude.{◌≡◌, ◌⊎◌, length, false, IfOk, IfErr, IsTrue};
 ghost use Rattle.sqlite.specs.Files.{image_of};
 ghost use Rattle.sqlite_wal.specs.Files.{image_at};
 ghost use Rattle.sqlite_wal.specs.Format.{be32};
@@ -8,7 +8,8 @@ ghost use Rattle.sqlite_wal.specs.PageSize.{size_in_file};
 ghost use Rattle.sqlite_wal.specs.Reads.{AreClean, OnlyReads};
 ghost use Rattle.sqlite_wal.specs.Recovery.{IsIgnored};
 ghost use Rattle.urb_stable.specs.Storing.{is_place};
-ghost use Rattle.urb_sqlite.specs.Nodes.{held_by, AreFoundIn, AreLogPages, IsFoundIn};
+ghost use Rattle.urb_sqlite.specs.Nodes.{held_by, AreFoundIn, IsFoundIn};
+ghost use Rattle.urb_sqlite.specs.internal.Nodes.{AreLogPages};
 
 use crate::journal_close::close_and_remove_log;
 use crate::{Contents, NodeFile, SqlStable};

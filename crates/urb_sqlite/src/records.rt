@@ -6,23 +6,25 @@ ghost use Rattle.sqlite.specs.State.{HasCleanDisk, IsLive, IsUnchanged, KeepsCom
 ghost use Rattle.sqlite.specs.State.{Survives, CommitsBy};
 ghost use Rattle.sqlite.specs.Held.{state};
 ghost use Rattle.urb_stable.specs.Storing.{is_place};
-ghost use Rattle.urb_sqlite.specs.Blame.{is_memory, blamed};
+ghost use Rattle.urb_sqlite.specs.internal.Blame.{is_memory, blamed};
 ghost use Rattle.urb_stable.specs.Entries.{Entry};
 ghost use Rattle.urb_names.specs.declared.limits.TheConstants.{MAX_PAYLOAD};
 ghost use Rattle.urb_sqlite.specs.Journal as journal;
-ghost use Rattle.urb_sqlite.specs.Journal.{create_of, name_of, journal_name, second_name, limit_of};
-ghost use Rattle.urb_sqlite.specs.Journal.{tree_of, Lacks, HasTable, HasBoth, HasJournal};
-ghost use Rattle.urb_sqlite.specs.Journal.{IsAdoptable};
+ghost use Rattle.urb_sqlite.specs.internal.Journal as texts;
+ghost use Rattle.urb_sqlite.specs.Journal.{journal_name, second_name, limit_of, tree_of, Lacks};
+ghost use Rattle.urb_sqlite.specs.Journal.{HasTable, HasBoth, HasJournal, IsAdoptable};
+ghost use Rattle.urb_sqlite.specs.internal.Journal.{create_of, name_of};
 ghost use Rattle.urb_sqlite.specs.declared.sql.Part.TheVariants.{First, Second};
 ghost use Rattle.urb_sqlite.specs.Rows.{table_rows, IsInOrder, IsFirstBad, IsFirstBadOf, StandsFor};
 ghost use Rattle.urb_sqlite.specs.Reading.{read_from, records_of};
 ghost use Rattle.urb_sqlite.specs.Shape.{has_table};
-ghost use Rattle.urb_sqlite.specs.OpenJournal.{IsInStep, IsHonestJournal, IsMade};
-ghost use Rattle.urb_sqlite.specs.OpenJournal.{IsShutJournal, MakesAtMost, CommitsAtMost};
-ghost use Rattle.urb_sqlite.specs.OpenJournal.{KeepsRows, CommitsEither, SparesRows, IsAppended};
-ghost use Rattle.urb_sqlite.specs.OpenJournal.{IsLeft, IsSafeAtRest, LeavesOnly, RollsBackAtMost};
-ghost use Rattle.urb_sqlite.specs.OpenJournal.{StaysSafe, FindsNoBadRow, TakesRecords};
-ghost use Rattle.urb_sqlite.specs.PartOpening.{IsPartOpened, IsPartRefused};
+ghost use Rattle.urb_sqlite.specs.OpenJournal.{IsHonestJournal, IsShutJournal, KeepsRows};
+ghost use Rattle.urb_sqlite.specs.OpenJournal.{CommitsEither, SparesRows, IsSafeAtRest, LeavesOnly};
+ghost use Rattle.urb_sqlite.specs.internal.OpenJournal.{IsInStep, IsMade, MakesAtMost};
+ghost use Rattle.urb_sqlite.specs.internal.OpenJournal.{CommitsAtMost, IsAppended, IsLeft};
+ghost use Rattle.urb_sqlite.specs.internal.OpenJournal.{RollsBackAtMost, StaysSafe, FindsNoBadRow};
+ghost use Rattle.urb_sqlite.specs.internal.OpenJournal.{TakesRecords};
+ghost use Rattle.urb_sqlite.specs.internal.PartOpening.{IsPartOpened, IsPartRefused};
 
 use crate::counting::count_part;
 use crate::rows::ReadFault;
@@ -228,7 +230,7 @@ pub fn read<S: Alter>(
 
 /// The name of this table.
 fn name_of(part: Part) -> &'static [u8]
-    ensures { result.now ≡ journal.name_of part }
+    ensures { result.now ≡ texts.name_of part }
 {
     match part {
         Part::First => b"journal",

@@ -1,12 +1,12 @@
 //! The rows of a table of records, and their records.
 
 ghost use Rattle.std.specs.Prelude.{◌≡◌, ◌⊎◌, ◌<◌, ◌≤◌, ◌+◌, ℕ, [], length, IfOk, IfErr, OnErr, Ok};
-ghost use Rattle.std.specs.Prelude.{Err, option_copied, option_map, Option, Some, None, IsTrue};
+ghost use Rattle.std.specs.Prelude.{Err, option_map, Option, Some, None, IsTrue};
 ghost use Rattle.sqlite.specs.State.{HasCleanDisk, IsUnchanged, IsRolledBack, Shown, Begins};
 ghost use Rattle.sqlite.specs.State.{Survives};
 ghost use Rattle.sqlite.specs.Held.{state};
 ghost use Rattle.sqlite.specs.Order.{column};
-ghost use Rattle.urb_sqlite.specs.Journal.{select_of};
+ghost use Rattle.urb_sqlite.specs.internal.Journal.{select_of};
 ghost use Rattle.urb_sqlite.specs.Reading as reading;
 ghost use Rattle.urb_sqlite.specs.Reading.{read_from};
 ghost use Rattle.urb_names.specs.declared.limits.TheConstants.{MAX_PAYLOAD};

@@ -3,7 +3,7 @@
 ghost use Rattle.std.specs.Prelude.{◌≡◌, []};
 ghost use Rattle.sqlite.specs.State.{HasCleanDisk, Executes, Survives, CommitsBy};
 ghost use Rattle.sqlite.specs.Held.{state};
-ghost use Rattle.urb_sqlite.specs.Journal.{create_of, insert_text, select_of};
+ghost use Rattle.urb_sqlite.specs.internal.Journal.{create_of, insert_text, select_of};
 ghost use Rattle.urb_sqlite.specs.Rows.{columns_of, row_of};
 
 use crate::rows::Columns;

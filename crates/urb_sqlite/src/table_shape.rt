@@ -1,7 +1,7 @@
 //! Whether a database has a table of records under a name. A table of another kind or a view
 //! doesn't count.
 
-ghost use Rattle.std.specs.Prelude.{ℕ, Bool, ◌≡◌, ◌==◌, length, codes};
+ghost use Rattle.std.specs.Prelude.{◌≡◌, ◌==◌, length};
 ghost use Rattle.sqlite_schema.specs.Names.{is_key};
 ghost use Rattle.urb_sqlite.specs.Shape as shape;
 

@@ -13,10 +13,11 @@ use Rattle.urb_names.specs.Nodes.{numbers_from}
 use Rattle.urb_names.specs.Pairs.{message_of, own}
 use Rattle.urb_names.specs.declared.refusal.Rule.{Rule}
 use Rattle.urb_names.specs.declared.refusal.Rule.TheVariants.{A, B, C, D}
-use Rattle.urb_stable.specs.EarlierRecords.{client_count, same_client}
+use Rattle.urb_stable.specs.internal.EarlierRecords.{client_count, same_client}
 use Rattle.urb_stable.specs.Entries.{Entry, name_of}
-use Rattle.urb_stable.specs.Fitting.{broken, first_broken, first_of_all, in_range, is_next_own}
-use Rattle.urb_stable.specs.Fitting.{keeps, keeps_a, keeps_b, misfits_behind}
+use Rattle.urb_stable.specs.Fitting.{broken, first_of_all, in_range, is_next_own, keeps, keeps_a}
+use Rattle.urb_stable.specs.Fitting.{keeps_b, misfits_behind}
+use Rattle.urb_stable.specs.internal.Fitting.{first_broken}
 use Rattle.urb_stable.specs.Images.{image_of}
 use Rattle.urb_stable.specs.declared.fitting.Misfit.{Misfit}
 use Rattle.urb_stable.specs.Records.{cert, pend}

@@ -20,7 +20,7 @@ use Rattle.urb_names.specs.Naming.{Content, Label}
 use Rattle.urb_names.specs.Pairs.{has_pair, message_of}
 use Rattle.urb_stable.proofs.JoinedRecords.{pend-append}
 use Rattle.urb_stable.specs.Entries.{Entry, name_of}
-use Rattle.urb_stable.specs.Indexes.{IsIndexOf, IsLast, by_name}
+use Rattle.urb_stable.specs.internal.Indexes.{IsIndexOf, IsLast, by_name}
 use Rattle.urb_stable.specs.Records.{pend}
 use Rattle.urb_stable.specs.declared.index.Places.{Places}
 use Rattle.urb_stable.specs.declared.record.Record.TheVariants.{Cert, Pend, PendCert}

@@ -14,9 +14,9 @@ use Rattle.urb_names.specs.Naming.{Content, Label}
 use Rattle.urb_names.specs.Pairs.{own}
 use Rattle.urb_stable.proofs.Indexed.{one_longer, order-same, pend-next, read_more, same_some}
 use Rattle.urb_stable.proofs.JoinedRecords.{cert-append}
-use Rattle.urb_stable.specs.EarlierRecords.{AreBefore, HasTold, IsBefore, IsCount, IsSetOf}
+use Rattle.urb_stable.specs.internal.EarlierRecords.{AreBefore, HasTold, IsBefore, IsCount, IsSetOf}
 use Rattle.urb_stable.specs.Entries.{Entry}
-use Rattle.urb_stable.specs.Indexes.{by_name}
+use Rattle.urb_stable.specs.internal.Indexes.{by_name}
 use Rattle.urb_stable.specs.Records.{cert, pend}
 use Rattle.urb_stable.specs.declared.earlier_records.Before.{Before}
 use Rattle.urb_stable.specs.declared.earlier_records.Counts.{Counts}

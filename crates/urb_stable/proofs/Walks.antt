@@ -10,7 +10,7 @@ use Rattle.urb_names.specs.Naming.{Content, Label}
 use Rattle.urb_names.specs.Pairs.{has_pair, message_of}
 use Rattle.urb_stable.proofs.Indexed.{none-has}
 use Rattle.urb_stable.specs.Entries.{Entry, name_of}
-use Rattle.urb_stable.specs.Indexes.{IsIndexOf, IsLast, by_name}
+use Rattle.urb_stable.specs.internal.Indexes.{IsIndexOf, IsLast, by_name}
 use Rattle.urb_stable.specs.Records.{pend}
 use Rattle.urb_stable.specs.declared.index.Places.{Places}
 

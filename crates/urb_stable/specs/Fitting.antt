@@ -1,5 +1,5 @@
 -- Which images of the nodes' storages fit together: the rules A to D, and the misfits.
-use Rattle.std.specs.Prelude.{Bool, List, None, Option, Some, [], false, filter, find, flat_map}
+use Rattle.std.specs.Prelude.{Bool, List, None, Option, Some, [], false, filter, flat_map}
 use Rattle.std.specs.Prelude.{if◌then◌else◌, is_none, is_some, length, map, nat_lt, not, suc, true}
 use Rattle.std.specs.Prelude.{ℕ, ◌&&◌, ◌++◌, ◌==◌, ◌∷◌, ◌≡◌}
 use Rattle.urb_names.specs.Names.{has_name}
@@ -73,11 +73,6 @@ keeps size images p earlier r A = keeps_a size earlier r
 keeps size images p earlier r B = keeps_b p earlier r
 keeps size images p earlier r C = keeps_c images p r
 keeps size images p earlier r D = keeps_d size.n images earlier r
-
--- the first rule that a record breaks, if it breaks one
-abbrev pub first_broken : Limits → (ℕ → List Entry) → ℕ → List Entry → Entry → Option Rule
-first_broken size images p earlier r =
-    find (λ rule. not (keeps size images p earlier r rule)) (A ∷ B ∷ C ∷ D ∷ [])
 
 -- the rules that a record breaks, in order
 abbrev pub broken : Limits → (ℕ → List Entry) → ℕ → List Entry → Entry → List Misfit

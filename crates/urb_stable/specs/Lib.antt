@@ -6,9 +6,6 @@ pub mod Doubted
 pub mod Storing
 pub mod Answering
 pub mod Memory
-pub mod IsMemory
 pub mod Images
 pub mod Fitting
-pub mod Indexes
-pub mod EarlierRecords
-pub mod NodeImages
+pub mod internal

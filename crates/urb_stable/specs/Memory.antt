@@ -25,10 +25,6 @@ empty_memory = record { certain = []; doubt = None; doubtful = false; failures =
 abbrev pub armed_with : Failure → Memory → Memory
 armed_with failure m = record m { armed = Some failure }
 
--- the store after it kept the record
-abbrev pub with_record : Entry → Memory → Memory
-with_record entry m = record m { certain = m.certain ++ entry ∷ [] }
-
 -- the store after it had no memory for a record; it kept nothing
 abbrev pub without_memory : Memory → Memory
 without_memory m = record m { doubtful = true; armed = None }
@@ -42,10 +38,6 @@ after_failure left m = record m
 abbrev pub with_doubt : List Entry → Option Entry → List Entry
 with_doubt certain None = certain
 with_doubt certain (Some entry) = certain ++ entry ∷ []
-
--- the store after a retrieve
-abbrev pub retrieved : Memory → Memory
-retrieved m = record m { certain = with_doubt m.certain m.doubt; doubt = None; doubtful = false }
 
 -- What a store with this next position may answer. It depends on whether it is out of place, how it
 -- is armed, and whether one more failure can be counted.

@@ -7,8 +7,8 @@ ghost use Rattle.std.specs.Prelude.{List, ℕ};
 ghost use Rattle.std.specs.BTreeMap.{get};
 ghost use Rattle.urb_names.specs.Naming.{Content};
 ghost use Rattle.urb_names.specs.Pairs.{own};
-ghost use Rattle.urb_stable.specs.EarlierRecords.{AreBefore, HasTold, IsBefore, IsCount, IsSetOf};
-ghost use Rattle.urb_stable.specs.EarlierRecords.{by_client, number_found};
+ghost use Rattle.urb_stable.specs.internal.EarlierRecords.{AreBefore, HasTold, IsBefore, IsCount};
+ghost use Rattle.urb_stable.specs.internal.EarlierRecords.{IsSetOf, by_client, number_found};
 ghost use Rattle.urb_stable.specs.Entries.{Entry};
 ghost use Rattle.urb_stable.specs.Records.{cert, pend};
 

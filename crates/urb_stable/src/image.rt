@@ -2,7 +2,7 @@
 
 ghost use Rattle.std.specs.Prelude.{◌≡◌, ◌<◌, length, option_map, slice_get, take, IfOk, Some};
 ghost use Rattle.urb_names.specs.Pairs.{has_pair, message_of};
-ghost use Rattle.urb_stable.specs.EarlierRecords.{IsBefore};
+ghost use Rattle.urb_stable.specs.internal.EarlierRecords.{IsBefore};
 ghost use Rattle.urb_stable.specs.Entries.{Entry, name_of};
 ghost use Rattle.urb_stable.specs.Records.{pend};
 
@@ -23,8 +23,8 @@ pub(crate) struct Image<'r, A: Allocator> {
 
 impl<'r, A: Allocator> Model for Image<'r, A> {
     ghost use Rattle.std.specs.Prelude.{length};
-    ghost use Rattle.urb_stable.specs.EarlierRecords.{AreBefore};
-    ghost use Rattle.urb_stable.specs.NodeImages.{NodeImage};
+    ghost use Rattle.urb_stable.specs.internal.EarlierRecords.{AreBefore};
+    ghost use Rattle.urb_stable.specs.internal.NodeImages.{NodeImage};
 
     ghost Value = { NodeImage };
 

@@ -3,7 +3,7 @@
 ghost use Rattle.std.specs.Prelude.{◌≡◌, ◌<◌, ◌+◌, length, option_map, slice_get, take, IfOk, Some};
 ghost use Rattle.urb_names.specs.Pairs.{has_pair, message_of};
 ghost use Rattle.urb_stable.specs.Entries.{name_of};
-ghost use Rattle.urb_stable.specs.Indexes.{IsIndexOf};
+ghost use Rattle.urb_stable.specs.internal.Indexes.{IsIndexOf};
 ghost use Rattle.urb_stable.specs.Records.{pend};
 
 use crate::Record;
@@ -32,7 +32,7 @@ pub struct Index<'r, A: Allocator> {
 impl<'r, A: Allocator> Model for Index<'r, A> {
     ghost use Rattle.std.specs.Prelude.{List, length};
     ghost use Rattle.urb_stable.specs.Entries.{Entry};
-    ghost use Rattle.urb_stable.specs.Indexes.{IsIndexOf};
+    ghost use Rattle.urb_stable.specs.internal.Indexes.{IsIndexOf};
 
     ghost Value = { List Entry };
 

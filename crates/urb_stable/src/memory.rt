@@ -3,8 +3,9 @@ ghost use Rattle.std.specs.Prelude.{◌≡◌, ◌⊎◌, ◌<◌, ◌≤◌, �
 ghost use Rattle.std.specs.Prelude.{Some, Ok, Err, false, true, length, IsTrue, OnOk, OnErr, IfOk};
 ghost use Rattle.std.specs.Prelude.{IfErr, MatchResult};
 ghost use Rattle.std.specs.Option.{OnSome};
-ghost use Rattle.urb_stable.specs.Memory.{empty_memory, armed_with, with_record, without_memory};
-ghost use Rattle.urb_stable.specs.Memory.{after_failure, retrieved, Retrieves, Stores};
+ghost use Rattle.urb_stable.specs.Memory.{empty_memory, armed_with, without_memory, after_failure};
+ghost use Rattle.urb_stable.specs.Memory.{Retrieves, Stores};
+ghost use Rattle.urb_stable.specs.internal.Memory.{with_record, retrieved};
 ghost use Rattle.urb_stable.specs.Entries.{Entry};
 ghost use Rattle.urb_stable.specs.Storing.{IsContents, is_out_of_place, is_place, is_bad_row};
 ghost use Rattle.urb_stable.specs.Storing.{IsPlaced};
@@ -42,7 +43,7 @@ pub struct MemStable<A: Allocator = Global> {
 impl<A: Allocator> Model for MemStable<A> {
     ghost use Rattle.std.specs.Prelude.{take, slice_get};
     ghost use Rattle.urb_stable.specs.Memory.{Memory};
-    ghost use Rattle.urb_stable.specs.IsMemory.{IsMemory};
+    ghost use Rattle.urb_stable.specs.internal.IsMemory.{IsMemory};
 
     ghost Value = { Memory };
 

@@ -1,11 +1,10 @@
 -- A node alone in its group: nothing is ever due.
-use Rattle.std.proofs.Common.{◌≡◌, ℕ, ◌≤◌, Bool, true, false, not, ◌==◌, List, [], ◌∷◌, filter}
-use Rattle.std.proofs.Common.{refl, sym, ap, ◌∙◌, flat_map}
+use Rattle.std.proofs.Common.{◌≡◌, ℕ, List, [], ◌∷◌, filter, refl, sym, ap, ◌∙◌, flat_map}
 use Rattle.urb_names.specs.Naming.{Label, Content}
-use Rattle.urb_names.specs.Carried.{is_due, others}
-use Rattle.urb_names.specs.Cyclic.{cyclic, is_after, last_name, resent}
+use Rattle.urb_names.specs.Carried.{is_due}
+use Rattle.urb_names.specs.Cyclic.{last_name, resent}
 use Rattle.urb_stubborn.specs.Resending.{Resending, tick_packets, ticked}
-use Rattle.urb_stubborn.specs.Walking.{due_pairs}
+use Rattle.urb_stubborn.specs.internal.Walking.{due_pairs}
 use Rattle.urb_stubborn.proofs.Round.{sends}
 
 none_due : (r : Resending) (pairs : List (Label × Content)) → r.limits.n ≡ 1 → r.node ≡ 1

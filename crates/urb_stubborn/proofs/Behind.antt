@@ -1,10 +1,9 @@
 -- Sorted names after a cursor: the first due name, and what comes after it.
-use Rattle.std.proofs.Common.{◌≡◌, ℕ, suc, ◌+◌, ◌<◌, ◌≤◌, Bool, true, false, cond, not, ◌&&◌, ◌||◌}
-use Rattle.std.proofs.Common.{◌==◌, nat_lt, List, [], ◌∷◌, filter, length, Option, None, Some, refl}
-use Rattle.std.proofs.Common.{sym, ap, ◌∙◌, subst, inl, inr, ◌⊎◌, ⊎_elim, arith, eq-eqb, ltb-true}
-use Rattle.std.proofs.Common.{lt-ltb}
+use Rattle.std.proofs.Common.{◌≡◌, ◌<◌, ◌≤◌, Bool, true, false, cond, not, ◌&&◌, ◌==◌, nat_lt, List}
+use Rattle.std.proofs.Common.{[], ◌∷◌, length, Option, None, Some, refl, sym, ap, ◌∙◌, subst, inl}
+use Rattle.std.proofs.Common.{inr, ◌⊎◌, arith, eq-eqb, ltb-true, lt-ltb}
 use Rattle.std.specs.List.{list_all}
-use Rattle.std.proofs.lemmas.Bool.{and_from, and_parts, cases_Bool, cases_lt, cond-false, cond-true}
+use Rattle.std.proofs.lemmas.Bool.{and_from, and_parts, cases_lt, cond-false, cond-true}
 use Rattle.std.proofs.lemmas.Bool.{eqb-true, false≢true, false_from_ne_true, or_left, or_parts}
 use Rattle.std.proofs.lemmas.Bool.{or_right, or_cases}
 use Rattle.urb_names.specs.Naming.{Label, Content}
@@ -13,9 +12,9 @@ use Rattle.urb_names.specs.Carried.{is_due}
 use Rattle.urb_names.specs.Cyclic.{are_rising, is_after}
 use Rattle.urb_names.proofs.RisingPairs.{name_lt-other_way, name_lt-trans}
 use Rattle.urb_pending.specs.PendingSet.{first_name}
-use Rattle.urb_pending.proofs.Ordered.{all_behind, not_before_itself}
+use Rattle.urb_pending.proofs.Ordered.{not_before_itself}
 use Rattle.urb_stubborn.specs.Resending.{Resending}
-use Rattle.urb_stubborn.specs.Walking.{IsPassed, behind, due_pairs}
+use Rattle.urb_stubborn.specs.internal.Walking.{IsPassed, behind, due_pairs}
 
 abbrev pub Pairs : Type 0
 Pairs = List (Label × Content)

@@ -1,20 +1,18 @@
 -- Sorted pairs between a cursor and a last name: the first one, and what comes after it.
-use Rattle.std.proofs.Common.{◌≡◌, Bool, true, false, cond, not, List, [], ◌∷◌, filter, Option}
-use Rattle.std.proofs.Common.{None, Some, refl, sym, ap, ◌∙◌, subst, inl, inr, ◌⊎◌}
+use Rattle.std.proofs.Common.{◌≡◌, Bool, true, false, cond, not, [], ◌∷◌, filter, Option}
+use Rattle.std.proofs.Common.{None, Some, refl, sym, ap, ◌∙◌, subst}
 use Rattle.std.specs.List.{AllByRecursion, list_all}
 use Rattle.std.proofs.lemmas.Bool.{and_from, and_parts, cond-false, cond-true, cond_both}
 use Rattle.std.proofs.lemmas.Bool.{false≢true, false_from_ne_true}
 use Rattle.urb_names.specs.Naming.{Label, Content}
 use Rattle.urb_names.specs.Names.{name_lt, same_name}
 use Rattle.urb_names.specs.Pairs.{message_of}
-use Rattle.urb_names.specs.Carried.{is_due}
 use Rattle.urb_names.specs.Cyclic.{are_rising, is_after}
 use Rattle.urb_names.proofs.RisingPairs.{name_lt-trans}
 use Rattle.urb_names.proofs.SameNames.{same_name-same, same_name-true}
 use Rattle.urb_pending.specs.PendingSet.{first_name}
 use Rattle.urb_pending.proofs.Ordered.{not_before_itself}
-use Rattle.urb_stubborn.specs.Resending.{Resending}
-use Rattle.urb_stubborn.specs.Walking.{behind, between, due_pairs, is_within}
+use Rattle.urb_stubborn.specs.internal.Walking.{behind, between, is_within}
 use Rattle.urb_stubborn.proofs.Behind.{Pairs, after_behind, first_after}
 
 -- ---- pairs that pass a test

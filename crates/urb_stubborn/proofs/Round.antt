@@ -1,11 +1,11 @@
 -- A tick, name by name, and its progress.
-use Rattle.std.proofs.Common.{◌≡◌, ℕ, zero, suc, ◌+◌, ◌-◌, ◌*◌, ◌<◌, ◌≤◌, Bool, true, false, not}
-use Rattle.std.proofs.Common.{cond, List, [], ◌∷◌, ◌++◌, take, drop, length, filter, Option, None}
+use Rattle.std.proofs.Common.{◌≡◌, ℕ, zero, suc, ◌+◌, ◌-◌, ◌<◌, ◌≤◌, true, false, not}
+use Rattle.std.proofs.Common.{List, [], ◌∷◌, ◌++◌, take, drop, length, filter, Option, None}
 use Rattle.std.proofs.Common.{Some, is_some, Result, Ok, Err, refl, sym, ap, ap₂, ◌∙◌, subst}
 use Rattle.std.proofs.Common.{append-nil, append_assoc, flat_map, arith}
 use Rattle.std.specs.List.{list_all}
 use Rattle.std.specs.Prelude.{IfOk, IsSome, option_map}
-use Rattle.std.proofs.lemmas.List.{flat_map_more, take_all, length-append, length-take}
+use Rattle.std.proofs.lemmas.List.{flat_map_more, take_all, length-take}
 use Rattle.urb_stubborn.specs.declared.outbox.TheConstants.{OUTBOX_MAX}
 use Rattle.urb_names.specs.declared.limits.TheConstants.{MAX_NODES, NAMES_PER_TICK}
 use Rattle.urb_names.specs.Naming.{Label, Content}
@@ -14,8 +14,9 @@ use Rattle.urb_names.specs.Pairs.{message_of}
 use Rattle.urb_names.specs.Carried.{Carried, to_unheard}
 use Rattle.urb_names.specs.Cyclic.{are_rising, cyclic, is_after, last_name, resent}
 use Rattle.urb_pending.specs.PendingSet.{first_name}
-use Rattle.urb_stubborn.specs.Resending.{Resending, tick_packets, ticked}
-use Rattle.urb_stubborn.specs.Walking.{IsTick, IsWalked, behind, between, due_pairs, is_within}
+use Rattle.urb_stubborn.specs.Resending.{Resending, tick_packets}
+use Rattle.urb_stubborn.specs.internal.Walking.{IsTick, IsWalked, behind, between, due_pairs}
+use Rattle.urb_stubborn.specs.internal.Walking.{is_within}
 use Rattle.urb_stubborn.specs.declared.resend.Turn.{Turn}
 use Rattle.urb_stubborn.proofs.Behind.{Pairs}
 use Rattle.urb_stubborn.proofs.Between.{AreFound, all_found, all_pass, between_next, found_kept}

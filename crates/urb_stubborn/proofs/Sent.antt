@@ -11,7 +11,7 @@ use Rattle.urb_names.specs.Naming.{Label, Content}
 use Rattle.urb_names.specs.Names.{has_name}
 use Rattle.urb_names.specs.Nodes.{nodes, numbers_from}
 use Rattle.urb_names.specs.Acknowledged.{acked}
-use Rattle.urb_names.specs.Carried.{Carried, others, packets_to, to_others, to_unheard}
+use Rattle.urb_names.specs.Carried.{Carried, others, packets_to, to_unheard}
 use Rattle.urb_names.specs.declared.flags.Flags.{Flags}
 use Rattle.urb_pending.proofs.Mine.{numbers_more}
 

@@ -1,20 +1,19 @@
 -- The counts of settled names, after hearing a certificate and after dropping what was heard.
-use Rattle.std.proofs.Common.{◌≡◌, ◌≢◌, ℕ, suc, ◌+◌, ◌-◌, ◌<◌, ◌≤◌, Bool, true, false, ◌&&◌, ◌==◌}
+use Rattle.std.proofs.Common.{◌≡◌, ◌≢◌, ℕ, ◌+◌, ◌-◌, ◌<◌, ◌≤◌, true, false, ◌&&◌, ◌==◌}
 use Rattle.std.proofs.Common.{List, length, get_or, slice_set, get_or-set_other, get_or-set_same}
 use Rattle.std.proofs.Common.{refl, sym, ap, ◌∙◌, subst, inl, inr, ◌⊎◌, arith}
 use Rattle.std.proofs.lemmas.Bool.{cases_eq, cases_lt, or_right}
 use Rattle.std.proofs.lemmas.List.{length-set}
 use Rattle.urb_names.specs.declared.limits.TheConstants.{MAX_SENDERS}
 use Rattle.urb_names.specs.Naming.{Label}
-use Rattle.urb_names.specs.Names.{has_name, name, name_lt, same_name}
+use Rattle.urb_names.specs.Names.{name, same_name}
 use Rattle.urb_names.specs.Acknowledged.{ack_lt, acked}
 use Rattle.urb_names.specs.Carried.{is_due}
 use Rattle.urb_names.specs.Ordered.{placed}
 use Rattle.urb_names.proofs.Ordered.{any_insert}
-use Rattle.urb_window.specs.Marks.{MarkSet, with_mark}
 use Rattle.urb_stubborn.specs.Resending.{Resending}
-use Rattle.urb_stubborn.specs.Settled.{IsKept, IsSettledBy, settled_of}
-use Rattle.urb_stubborn.specs.Walking.{IsPassed}
+use Rattle.urb_stubborn.specs.internal.Settled.{IsKept, IsSettledBy, settled_of}
+use Rattle.urb_stubborn.specs.internal.Walking.{IsPassed}
 use Rattle.urb_stubborn.specs.declared.resend.Resend.TheInside.{Inside}
 use Rattle.urb_stubborn.proofs.Unheard.{due_less}
 

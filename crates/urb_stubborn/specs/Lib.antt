@@ -1,3 +1,3 @@
 pub mod Resending
-pub mod Settled
-pub mod Walking
+pub mod Fields
+pub mod internal

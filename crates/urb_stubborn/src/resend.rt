@@ -8,8 +8,8 @@ ghost use Rattle.urb_names.specs.Names.{has_name};
 ghost use Rattle.urb_names.specs.Carried.{is_due};
 ghost use Rattle.urb_pending.specs.PendingSet.{first_name};
 ghost use Rattle.urb_stubborn.specs.Resending.{hearing, tick_packets, ticked};
-ghost use Rattle.urb_stubborn.specs.Walking.{IsPassed, IsTick, IsWalked, behind, between};
-ghost use Rattle.urb_stubborn.specs.Walking.{due_pairs, is_within};
+ghost use Rattle.urb_stubborn.specs.internal.Walking.{IsPassed, IsTick, IsWalked, behind, between};
+ghost use Rattle.urb_stubborn.specs.internal.Walking.{due_pairs, is_within};
 
 use crate::Outbox;
 use crate::due::{is_due, settle_from};
@@ -53,7 +53,8 @@ impl<A: Allocator> Model for Resend<A> {
 
     ghost Value = { Resending };
 
-    ghost use Rattle.urb_stubborn.specs.Settled.{view_of, IsKept};
+    ghost use Rattle.urb_stubborn.specs.Fields.{view_of};
+    ghost use Rattle.urb_stubborn.specs.internal.Settled.{IsKept};
 
     ghost view = { view_of };
 

@@ -1,19 +1,19 @@
 -- The entries of rows after one row has changed.
 use Rattle.std.proofs.Common.{◌≡◌, ℕ, zero, suc, ◌+◌, ◌-◌, ◌<◌, ◌≤◌, Bool, true, false, cond, not}
-use Rattle.std.proofs.Common.{◌&&◌, ◌==◌, nat_lt, List, [], ◌∷◌, ◌++◌, map, length, get_or}
-use Rattle.std.proofs.Common.{slice_set, Option, Some, None, refl, sym, ap, ap₂, ◌∙◌, subst, inl}
-use Rattle.std.proofs.Common.{inr, ◌⊎◌, arith, eq-eqb, ne_eqb}
-use Rattle.std.specs.List.{AllByRecursion, list_all}
+use Rattle.std.proofs.Common.{◌==◌, nat_lt, List, [], ◌∷◌, ◌++◌, length, get_or, slice_set, refl}
+use Rattle.std.proofs.Common.{sym, ap, ap₂, ◌∙◌, inl, inr, ◌⊎◌, arith, ne_eqb}
+use Rattle.std.specs.List.{AllByRecursion}
 use Rattle.std.proofs.lemmas.Bool.{and_left, cases_Bool, cases_eq, cond-false, not_from_false}
-use Rattle.std.proofs.lemmas.List.{append-nil}
 use Rattle.std.proofs.lemmas.List.{map-append}
 use Rattle.urb_names.specs.Naming.{Label}
-use Rattle.urb_names.specs.Names.{name, name_lt, same_name}
+use Rattle.urb_names.specs.Names.{name, same_name}
 use Rattle.urb_names.specs.Ordered.{placed}
 use Rattle.urb_names.proofs.Ordered.{placed_behind, placed_front}
 use Rattle.urb_window.specs.Entries.{entry_lt, with_value}
-use Rattle.urb_window.specs.Row.{IsRow, Row, number_lt, pairs_of, renumbered}
-use Rattle.urb_window.specs.Rows.{entries_from, named, no_row}
+use Rattle.urb_window.specs.Row.{Row, pairs_of}
+use Rattle.urb_window.specs.internal.Row.{IsRow, number_lt, renumbered}
+use Rattle.urb_window.specs.Rows.{entries_from, named}
+use Rattle.urb_window.specs.internal.Rows.{no_row}
 use Rattle.urb_window.proofs.Looked.{nothing_row, same_number}
 use Rattle.urb_window.proofs.Placed.{placed_after, placed_before}
 use Rattle.urb_window.proofs.Ranked.{all_entries, all_named, higher_sender_lt, lower_sender_lt}

@@ -1,11 +1,11 @@
 -- A gap that closes: the pair with the next number moves from the upper part to the lower.
-use Rattle.std.proofs.Common.{◌≡◌, ℕ, zero, suc, ◌+◌, ◌<◌, ◌≤◌, ◌^◌, Bool, true, false, ◌==◌, List}
-use Rattle.std.proofs.Common.{[], ◌∷◌, ◌++◌, length, refl, sym, ap, ◌∙◌, subst, inl, inr, ◌⊎◌}
-use Rattle.std.proofs.Common.{arith, eq-eqb}
+use Rattle.std.proofs.Common.{◌≡◌, ℕ, ◌+◌, ◌<◌, ◌^◌, true, false, List, [], ◌∷◌, ◌++◌, length, sym}
+use Rattle.std.proofs.Common.{ap, ◌∙◌, subst, inl, inr, ◌⊎◌, arith, eq-eqb}
 use Rattle.std.proofs.lemmas.Bool.{cases_eq, false≢true}
 use Rattle.std.proofs.lemmas.List.{length_push}
 use Rattle.urb_names.specs.Ordered.{placed}
-use Rattle.urb_window.specs.Row.{AreOver, IsRow, Row, counted_from, holds_at, number_lt}
+use Rattle.urb_window.specs.Row.{counted_from}
+use Rattle.urb_window.specs.internal.Row.{AreOver, holds_at, number_lt}
 use Rattle.urb_window.proofs.Counted.{counted_push}
 use Rattle.urb_window.proofs.Placed.{placed_above, placed_under}
 

@@ -1,20 +1,21 @@
 -- Windows preserve their invariant: the rows of the senders, and the space that is promised.
-use Rattle.std.proofs.Common.{◌≡◌, ℕ, suc, ◌+◌, ◌-◌, ◌<◌, ◌≤◌, List, length, get_or, slice_set}
-use Rattle.std.proofs.Common.{Option, Some, None, is_some, refl, sym, ap, ◌∙◌, subst, inl, inr, ◌⊎◌}
-use Rattle.std.proofs.Common.{arith}
+use Rattle.std.proofs.Common.{◌≡◌, ℕ, ◌+◌, ◌-◌, ◌<◌, ◌≤◌, List, length, get_or, slice_set, Some}
+use Rattle.std.proofs.Common.{None, is_some, sym, ap, ◌∙◌, subst, inl, inr, ◌⊎◌, arith}
 use Rattle.std.specs.Prelude.{IsSome}
 use Rattle.std.specs.List.{AllByRecursion}
 use Rattle.std.proofs.lemmas.Bool.{cases_eq, cases_lt, false≢true}
 use Rattle.std.proofs.lemmas.List.{get_or-set_other, get_or-set_same, get_or_default, get_or_past}
-use Rattle.std.proofs.lemmas.List.{length-set, set-get_or}
+use Rattle.std.proofs.lemmas.List.{length-set}
 use Rattle.urb_names.specs.declared.limits.TheConstants.{MAX_SENDERS}
 use Rattle.urb_names.specs.Naming.{Label}
 use Rattle.urb_names.specs.Ordered.{placed}
 use Rattle.urb_window.specs.Entries.{entry_lt, value_of, with_value}
-use Rattle.urb_window.specs.Row.{IsInserted, IsReplaced, IsRow, Row, number_lt, numbered, pairs_of}
-use Rattle.urb_window.specs.Row.{renumbered}
-use Rattle.urb_window.specs.Rows.{entries_from, no_row, row_at}
-use Rattle.urb_window.specs.Kept.{HasRow, IsKept}
+use Rattle.urb_window.specs.Row.{Row, pairs_of}
+use Rattle.urb_window.specs.internal.Row.{IsInserted, IsReplaced, IsRow, number_lt, numbered}
+use Rattle.urb_window.specs.internal.Row.{renumbered}
+use Rattle.urb_window.specs.Rows.{entries_from}
+use Rattle.urb_window.specs.internal.Rows.{no_row, row_at}
+use Rattle.urb_window.specs.internal.Kept.{HasRow, IsKept}
 use Rattle.urb_window.specs.declared.windows.Windows.TheInside.{Inside}
 use Rattle.urb_window.proofs.Changed.{all_set, placed_rows, same_rows, valued_rows}
 use Rattle.urb_window.proofs.Looked.{value_rows}

@@ -11,13 +11,13 @@ use Rattle.urb_names.specs.declared.limits.TheConstants.{MAX_NODES}
 use Rattle.urb_names.specs.Naming.{Label}
 use Rattle.urb_names.specs.Names.{name_lt, same_name}
 use Rattle.urb_names.specs.Nodes.{numbers_from}
-use Rattle.urb_names.specs.Acknowledged.{acked}
+use Rattle.urb_names.specs.Acknowledged.{acked, ack_lt}
 use Rattle.urb_names.specs.Ordered.{is_rising}
 use Rattle.urb_names.proofs.SameNames.{same_name-same, same_name-true}
 use Rattle.urb_window.specs.Entries.{entry_lt, value_of}
 use Rattle.urb_certified.proofs.Orders.{name_lt-strict}
-use Rattle.urb_names.specs.Acknowledged.{ack_lt}
-use Rattle.urb_window.specs.Masks.{marks_in, has_bit, mask_of, nodes_in}
+use Rattle.urb_window.specs.Masks.{marks_in, has_bit, nodes_in}
+use Rattle.urb_window.specs.internal.Masks.{mask_of}
 
 -- ---- the numbers that pass a test
 

@@ -1,12 +1,11 @@
 -- What a binary search finds among pairs with rising numbers.
 use Rattle.std.proofs.Common.{◌≡◌, ℕ, zero, suc, ◌+◌, ◌<◌, ◌≤◌, ◌^◌, Bool, true, false, cond, ◌==◌}
-use Rattle.std.proofs.Common.{nat_lt, List, [], ◌∷◌, length, get_or, Option, Some, None, refl, sym}
-use Rattle.std.proofs.Common.{ap, ◌∙◌, subst, inl, inr, ◌⊎◌, arith, eq-eqb, ne_eqb}
+use Rattle.std.proofs.Common.{nat_lt, List, [], ◌∷◌, length, get_or, Some, None, refl, sym}
+use Rattle.std.proofs.Common.{ap, ◌∙◌, inl, inr, ◌⊎◌, arith, ne_eqb}
 use Rattle.std.specs.List.{prefix_len}
 use Rattle.std.specs.List.Sorted.{IsPartitionedBy, IsPartitionPoint}
-use Rattle.std.proofs.lemmas.Bool.{cases_eq, cases_lt, cond-false, cond-true, eqb-true, false≢true}
-use Rattle.std.proofs.lemmas.Bool.{le-ltb, lt-ltb, ltb-true}
-use Rattle.urb_window.specs.Row.{AreOver, holds_at, numbered}
+use Rattle.std.proofs.lemmas.Bool.{cases_lt, cond-false, cond-true, false≢true, lt-ltb, ltb-true}
+use Rattle.urb_window.specs.internal.Row.{AreOver, holds_at, numbered}
 
 -- a partition point is the number of elements at the front
 pub point_is : {X : Type 0} (test : X → Bool) (xs : List X) (i : ℕ) → i ≤ length xs

@@ -1,16 +1,17 @@
 -- The two parts of a sender's entries: those without a gap, and those above it.
-use Rattle.std.proofs.Common.{◌≡◌, ℕ, zero, suc, ◌+◌, ◌-◌, ◌<◌, ◌≤◌, Bool, true, false, ◌&&◌, ◌==◌}
-use Rattle.std.proofs.Common.{nat_lt, nat_le, List, [], ◌∷◌, ◌++◌, filter, map, length, count_by}
-use Rattle.std.proofs.Common.{refl, sym, ap, ◌∙◌, subst, arith}
+use Rattle.std.proofs.Common.{◌≡◌, ℕ, suc, ◌+◌, ◌-◌, ◌<◌, ◌≤◌, ◌&&◌, ◌==◌, nat_lt, nat_le, List, []}
+use Rattle.std.proofs.Common.{◌∷◌, ◌++◌, filter, map, length, count_by, refl, sym, ap, ◌∙◌, arith}
 use Rattle.std.specs.List.{AllByRecursion}
 use Rattle.std.proofs.lemmas.Bool.{cond-false, cond-true, le-leb, le-ltb, lt-ltb, leb-true}
 use Rattle.std.proofs.lemmas.Bool.{false_from_ne_true}
 use Rattle.std.proofs.lemmas.List.{length-map}
 use Rattle.std.proofs.lemmas.List.Sums.{length-filter}
 use Rattle.urb_names.specs.Naming.{Label}
-use Rattle.urb_window.specs.Entries.{above_of, low_of, window_of}
-use Rattle.urb_window.specs.Row.{AreOver, IsRow, Row, counted_from, pairs_of}
-use Rattle.urb_window.specs.Rows.{entries_from, named, row_at}
+use Rattle.urb_window.specs.Entries.{above_of, window_of}
+use Rattle.urb_window.specs.Row.{Row, counted_from}
+use Rattle.urb_window.specs.internal.Row.{AreOver, IsRow}
+use Rattle.urb_window.specs.Rows.{entries_from, named}
+use Rattle.urb_window.specs.internal.Rows.{row_at}
 use Rattle.urb_window.proofs.Looked.{all_at, low_is, part_rows}
 
 module _ {V : Type 0} where

@@ -1,23 +1,21 @@
 -- The value found under a name, and how far a sender's numbers go.
-use Rattle.std.proofs.Common.{◌≡◌, ℕ, zero, suc, ◌+◌, ◌-◌, ◌<◌, ◌≤◌, ◌^◌, Bool, true, false, cond}
-use Rattle.std.proofs.Common.{◌&&◌, ◌||◌, ◌==◌, nat_lt, nat_le, List, [], ◌∷◌, ◌++◌, filter, map}
-use Rattle.std.proofs.Common.{length, get_or, Option, Some, None, is_some, refl, sym, ap, ◌∙◌}
-use Rattle.std.proofs.Common.{subst, inl, inr, ◌⊎◌, arith, eq-eqb, ne_eqb}
+use Rattle.std.proofs.Common.{◌≡◌, ℕ, zero, suc, ◌+◌, ◌-◌, ◌<◌, ◌≤◌, Bool, true, false, cond, ◌&&◌}
+use Rattle.std.proofs.Common.{◌||◌, ◌==◌, List, [], ◌∷◌, ◌++◌, filter, length, get_or, Option, Some}
+use Rattle.std.proofs.Common.{None, is_some, refl, ap, ◌∙◌, inl, inr, ◌⊎◌, arith, eq-eqb, ne_eqb}
 use Rattle.std.specs.List.{AllByRecursion}
-use Rattle.std.proofs.lemmas.Bool.{and_from, and_left, cases_Bool, cases_eq, cases_lt, cond-false}
-use Rattle.std.proofs.lemmas.Bool.{cond-true, false≢true, false_from_ne_true, le-leb, lt-ltb}
-use Rattle.std.proofs.lemmas.Bool.{le-ltb}
+use Rattle.std.proofs.lemmas.Bool.{and_left, cases_eq, cond-false, cond-true}
 use Rattle.std.proofs.lemmas.List.Elements.{filter-append}
 use Rattle.std.proofs.lemmas.List.{append-nil}
-use Rattle.urb_names.specs.Naming.{Label, IsLabel}
+use Rattle.urb_names.specs.Naming.{Label}
 use Rattle.urb_names.specs.Names.{has_name, name, same_name}
-use Rattle.urb_names.specs.Release.{beginning}
 use Rattle.urb_names.proofs.Released.{beginning_is, length-row, reach}
 use Rattle.urb_names.proofs.Reached.{reach-is}
-use Rattle.urb_window.specs.Entries.{low_of, names_of, value_of, window_of}
-use Rattle.urb_window.specs.Row.{AreOver, IsRow, Row, counted_from, numbered, pairs_of}
-use Rattle.urb_window.specs.Rows.{entries_from, named, no_row, row_at}
-use Rattle.urb_window.proofs.Counted.{numbered_behind, pairs_over}
+use Rattle.urb_window.specs.Entries.{low_of, names_of, value_of}
+use Rattle.urb_window.specs.Row.{Row, counted_from, pairs_of}
+use Rattle.urb_window.specs.internal.Row.{IsRow, numbered}
+use Rattle.urb_window.specs.Rows.{entries_from, named}
+use Rattle.urb_window.specs.internal.Rows.{no_row, row_at}
+use Rattle.urb_window.proofs.Counted.{numbered_behind}
 use Rattle.urb_window.proofs.Halved.{numbered_none}
 
 pub same_number : (s : ℕ) (n : ℕ) (x : Label) → s ≡ x.sender → same_name (name s n) x ≡ (n == x.seq)

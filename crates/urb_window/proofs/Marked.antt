@@ -9,16 +9,16 @@ use Rattle.std.proofs.lemmas.Bool.{cond-true, false≢true, false_from_ne_true, 
 use Rattle.urb_names.specs.declared.limits.TheConstants.{MAX_NODES}
 use Rattle.urb_names.specs.Naming.{Label}
 use Rattle.urb_names.specs.Names.{name_lt, same_name}
-use Rattle.urb_names.specs.Acknowledged.{acked}
+use Rattle.urb_names.specs.Acknowledged.{acked, ack_lt}
 use Rattle.urb_names.specs.Ordered.{is_rising, placed}
 use Rattle.urb_names.proofs.SameNames.{same_name-same, same_name-true}
 use Rattle.urb_names.proofs.Ordered.{any_insert, placed_behind, placed_front, rising_placed}
 use Rattle.urb_window.specs.Entries.{entry_lt, value_of, with_value}
-use Rattle.urb_certified.specs.Sets.{IsOrder}
+use Rattle.urb_certified.specs.internal.Sets.{IsOrder}
 use Rattle.urb_certified.proofs.Sets.{rising_same}
 use Rattle.urb_certified.proofs.Orders.{name_lt-strict}
-use Rattle.urb_names.specs.Acknowledged.{ack_lt}
-use Rattle.urb_window.specs.Masks.{marks_in, has_bit, mask_of, nodes_in}
+use Rattle.urb_window.specs.Masks.{marks_in, has_bit, nodes_in}
+use Rattle.urb_window.specs.internal.Masks.{mask_of}
 use Rattle.urb_window.proofs.AckOrder.{ack_lt-one_way, ack_lt-trans, acks_ordered, same_ack}
 use Rattle.urb_window.proofs.Masks.{set_is, set_more}
 use Rattle.urb_window.proofs.Flattened.{acked_is, marks_rise, is_one_of, none_behind, none_below}

@@ -1,13 +1,14 @@
 -- Putting elements at their places in lists made of parts.
-use Rattle.std.proofs.Common.{◌≡◌, ℕ, zero, suc, ◌+◌, ◌<◌, ◌≤◌, ◌^◌, Bool, true, false, cond, not}
-use Rattle.std.proofs.Common.{◌==◌, nat_lt, List, [], ◌∷◌, ◌++◌, length, Option, Some, None, refl}
+use Rattle.std.proofs.Common.{◌≡◌, ℕ, suc, ◌+◌, ◌<◌, ◌≤◌, ◌^◌, Bool, true, false, not}
+use Rattle.std.proofs.Common.{◌==◌, nat_lt, List, [], ◌∷◌, ◌++◌, length, Some, None, refl}
 use Rattle.std.proofs.Common.{sym, ap, ◌∙◌, subst, inl, inr, ◌⊎◌, arith, eq-eqb, ne_eqb}
 use Rattle.std.specs.List.{list_all}
 use Rattle.std.proofs.lemmas.Bool.{and_from, and_parts, cases_Bool, cases_eq, cases_lt, cond-false}
-use Rattle.std.proofs.lemmas.Bool.{cond-true, false≢true, le-ltb, lt-ltb, ltb-true, not-true}
+use Rattle.std.proofs.lemmas.Bool.{cond-true, le-ltb, lt-ltb, not-true}
 use Rattle.urb_names.specs.Ordered.{placed}
 use Rattle.urb_names.proofs.Ordered.{placed_behind, placed_front}
-use Rattle.urb_window.specs.Row.{AreOver, counted_from, number_lt, numbered}
+use Rattle.urb_window.specs.Row.{counted_from}
+use Rattle.urb_window.specs.internal.Row.{AreOver, number_lt, numbered}
 
 module _ {X : Type 0} (before : X → X → Bool) (x : X) where
   -- after a part whose elements all come before it

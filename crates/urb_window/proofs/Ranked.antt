@@ -1,21 +1,22 @@
 -- The entries of rows are in order of name.
-use Rattle.std.proofs.Common.{◌≡◌, ℕ, zero, suc, ◌+◌, ◌-◌, ◌<◌, ◌≤◌, ◌^◌, Bool, true, false, cond}
-use Rattle.std.proofs.Common.{not, ◌&&◌, ◌||◌, ◌==◌, nat_lt, List, [], ◌∷◌, ◌++◌, length, get_or}
-use Rattle.std.proofs.Common.{Option, Some, None, is_some, refl, sym, ap, ap₂, ◌∙◌, subst, inl, inr}
+use Rattle.std.proofs.Common.{◌≡◌, ℕ, suc, ◌+◌, ◌-◌, ◌<◌, ◌≤◌, ◌^◌, Bool, true, false}
+use Rattle.std.proofs.Common.{◌&&◌, ◌||◌, ◌==◌, nat_lt, List, [], ◌∷◌, ◌++◌, length}
+use Rattle.std.proofs.Common.{Option, Some, None, is_some, refl, sym, ap, ap₂, ◌∙◌, inl, inr}
 use Rattle.std.proofs.Common.{◌⊎◌, arith, eq-eqb, ne_eqb}
 use Rattle.std.specs.List.{AllByRecursion, list_all}
 use Rattle.std.proofs.lemmas.Bool.{and_from, and_left, and_parts, cases_eq, cases_lt, cond-false}
-use Rattle.std.proofs.lemmas.Bool.{cond-true, false≢true, le-ltb, lt-ltb, not_from_false, or_from}
-use Rattle.std.proofs.lemmas.Bool.{or_left, or_right}
+use Rattle.std.proofs.lemmas.Bool.{false≢true, le-ltb, lt-ltb, or_from, or_left}
 use Rattle.std.proofs.lemmas.List.{get_or_past}
 use Rattle.std.proofs.lemmas.List.Folds.{list_all-append}
 use Rattle.urb_names.specs.declared.limits.TheConstants.{MAX_SENDERS}
 use Rattle.urb_names.specs.Naming.{Label, IsLabel}
-use Rattle.urb_names.specs.Names.{has_name, name, name_lt}
+use Rattle.urb_names.specs.Names.{name, name_lt}
 use Rattle.urb_names.specs.Ordered.{is_rising}
-use Rattle.urb_window.specs.Entries.{entry_lt, names_of, value_of}
-use Rattle.urb_window.specs.Row.{AreOver, IsRow, Row, numbered, pairs_of}
-use Rattle.urb_window.specs.Rows.{entries_from, named, no_row, row_at}
+use Rattle.urb_window.specs.Entries.{entry_lt, value_of}
+use Rattle.urb_window.specs.Row.{Row, pairs_of}
+use Rattle.urb_window.specs.internal.Row.{AreOver, IsRow, numbered}
+use Rattle.urb_window.specs.Rows.{entries_from, named}
+use Rattle.urb_window.specs.internal.Rows.{no_row, row_at}
 use Rattle.urb_window.specs.WindowSet.{IsWindowSet}
 use Rattle.urb_window.proofs.Counted.{pairs_over}
 use Rattle.urb_window.proofs.Looked.{all_at, has_value, value_none, value_rows}

@@ -1,13 +1,14 @@
 -- Replacing the value of a number that has one.
-use Rattle.std.proofs.Common.{◌≡◌, ℕ, zero, suc, ◌+◌, ◌-◌, ◌<◌, ◌≤◌, ◌^◌, Bool, true, false, cond}
+use Rattle.std.proofs.Common.{◌≡◌, ℕ, suc, ◌+◌, ◌-◌, ◌<◌, ◌≤◌, Bool, true, false, cond}
 use Rattle.std.proofs.Common.{◌==◌, nat_lt, List, [], ◌∷◌, ◌++◌, length, get_or, slice_set, Option}
-use Rattle.std.proofs.Common.{Some, None, is_some, refl, sym, ap, ap₂, ◌∙◌, subst, inl, inr, ◌⊎◌}
+use Rattle.std.proofs.Common.{Some, is_some, refl, sym, ap, ◌∙◌, subst, inl, inr, ◌⊎◌}
 use Rattle.std.proofs.Common.{arith, eq-eqb, ne_eqb}
 use Rattle.std.specs.List.{prefix_len}
 use Rattle.std.specs.Prelude.{IsSome}
-use Rattle.std.proofs.lemmas.Bool.{cases_Bool, cases_eq, cases_lt, cond-false, cond-true, eqb-true}
-use Rattle.std.proofs.lemmas.Bool.{false≢true, le-ltb, lt-ltb, ltb-true}
-use Rattle.urb_window.specs.Row.{AreOver, counted_from, holds_at, numbered, renumbered}
+use Rattle.std.proofs.lemmas.Bool.{cases_Bool, cases_eq, cond-false, cond-true, eqb-true}
+use Rattle.std.proofs.lemmas.Bool.{false≢true, ltb-true}
+use Rattle.urb_window.specs.Row.{counted_from}
+use Rattle.urb_window.specs.internal.Row.{AreOver, holds_at, numbered, renumbered}
 use Rattle.urb_window.proofs.Halved.{numbered_absent, numbered_found, one_more}
 use Rattle.urb_window.proofs.Counted.{numbered_behind}
 

@@ -1,10 +1,10 @@
 -- A row preserves its order and its space.
-use Rattle.std.proofs.Common.{◌≡◌, ℕ, ◌+◌, ◌<◌, ◌≤◌, ◌^◌, List, length, Some, None, refl, sym, ap}
+use Rattle.std.proofs.Common.{◌≡◌, ℕ, ◌+◌, ◌<◌, ◌≤◌, ◌^◌, List, length, None, sym, ap}
 use Rattle.std.proofs.Common.{◌∙◌, subst, arith}
 use Rattle.std.specs.Vec.{vec_len, vec_capacity}
 use Rattle.std.specs.VecDeque.{deque_len, deque_capacity}
-use Rattle.urb_window.specs.Row.{AreOver, IsRow}
-use Rattle.urb_window.specs.Room.{HasRoom, IsRoomy, row_of}
+use Rattle.urb_window.specs.internal.Row.{AreOver, IsRow}
+use Rattle.urb_window.specs.internal.Room.{HasRoom, IsRoomy, row_of}
 use Rattle.urb_window.specs.declared.window.Window.TheInside.{Inside}
 
 module _ {T A : Type 0} where

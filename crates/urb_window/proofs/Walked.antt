@@ -1,6 +1,6 @@
 -- The entries of rows from one row on.
 use Rattle.std.proofs.Common.{◌≡◌, ℕ, zero, suc, ◌+◌, ◌-◌, ◌<◌, ◌≤◌, Bool, true, false, cond, not}
-use Rattle.std.proofs.Common.{◌==◌, nat_lt, List, [], ◌∷◌, ◌++◌, drop, find, map, length, get_or}
+use Rattle.std.proofs.Common.{nat_lt, List, [], ◌∷◌, ◌++◌, drop, find, length, get_or}
 use Rattle.std.proofs.Common.{Option, Some, None, option_map, refl, sym, ap, ap₂, ◌∙◌, subst, inl}
 use Rattle.std.proofs.Common.{inr, ◌⊎◌, arith}
 use Rattle.std.specs.Prelude.{slice_get}
@@ -13,8 +13,9 @@ use Rattle.std.proofs.lemmas.List.Folds.{find-append}
 use Rattle.std.proofs.lemmas.Option.{slice_get-map}
 use Rattle.urb_names.specs.Naming.{Label}
 use Rattle.urb_names.specs.Names.{name, name_lt}
-use Rattle.urb_window.specs.Row.{AreOver, Row, pairs_of}
-use Rattle.urb_window.specs.Rows.{entries_from, named, no_row}
+use Rattle.urb_window.specs.Row.{Row, pairs_of}
+use Rattle.urb_window.specs.internal.Row.{AreOver}
+use Rattle.urb_window.specs.Rows.{entries_from, named}
 use Rattle.urb_window.proofs.Ranked.{all_entries, all_named, higher_sender_lt, lower_sender_lt}
 use Rattle.urb_window.proofs.Ranked.{same_sender_lt}
 

@@ -2,7 +2,7 @@ pub mod Entries
 pub mod WindowSet
 pub mod Row
 pub mod Rows
-pub mod Room
-pub mod Kept
+pub mod Fields
 pub mod Masks
 pub mod Marks
+pub mod internal

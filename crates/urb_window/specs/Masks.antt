@@ -1,10 +1,8 @@
 -- The nodes marked for a name, as the bits of one number.
 use Rattle.std.specs.Prelude.{ℕ, Bool, ◌-◌, ◌/◌, ◌%◌, ◌^◌, ◌==◌, List, [], ◌∷◌, ◌++◌, map, filter}
-use Rattle.std.specs.Prelude.{unwrap_or}
 use Rattle.urb_names.specs.declared.limits.TheConstants.{MAX_NODES}
 use Rattle.urb_names.specs.Naming.{Label}
 use Rattle.urb_names.specs.Nodes.{nodes}
-use Rattle.urb_window.specs.Entries.{value_of}
 
 -- whether the node's bit is set; node 1 has the lowest bit
 abbrev pub has_bit : ℕ → ℕ → Bool
@@ -18,7 +16,3 @@ nodes_in mask = filter (has_bit mask) (nodes MAX_NODES)
 abbrev pub marks_in : List (Label × ℕ) → List (Label × ℕ)
 marks_in [] = []
 marks_in (entry ∷ entries) = map (λ q. (entry.0, q)) (nodes_in entry.1) ++ marks_in entries
-
--- the mask under a name; 0 if it has none
-abbrev pub mask_of : List (Label × ℕ) → Label → ℕ
-mask_of entries x = unwrap_or (value_of entries x) 0

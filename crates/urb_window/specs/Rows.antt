@@ -1,5 +1,5 @@
 -- The rows of the senders, as one list of entries.
-use Rattle.std.specs.Prelude.{ℕ, suc, ◌-◌, List, [], ◌∷◌, ◌++◌, map, None, slice_index_or}
+use Rattle.std.specs.Prelude.{ℕ, suc, List, [], ◌∷◌, ◌++◌, map}
 use Rattle.urb_names.specs.Naming.{Label}
 use Rattle.urb_names.specs.Names.{name}
 use Rattle.urb_window.specs.Row.{Row, pairs_of}
@@ -13,11 +13,3 @@ module _ {V : Type 0} where
   abbrev pub entries_from : ℕ → List (Row V) → List (Label × V)
   entries_from sender [] = []
   entries_from sender (row ∷ rows) = named sender (pairs_of row) ++ entries_from (suc sender) rows
-
-  -- an empty row
-  abbrev pub no_row : Row V
-  no_row = record { low = []; above = []; reserved = None }
-
-  -- the row of this sender
-  abbrev pub row_at : List (Row V) → ℕ → Row V
-  row_at rows sender = slice_index_or rows (sender - 1) no_row

@@ -1,11 +1,9 @@
 //! The upper part of a row: pairs of a number and its value, sorted by number.
 
-ghost use Rattle.std.specs.Prelude.{◌≡◌, ◌<◌, ◌≤◌, ◌+◌, ◌∷◌, IfSome, IfNone, IfErr, OnOk, OnErr};
-ghost use Rattle.std.specs.Prelude.{IsOk, IsTrue, length, nat_lt, false};
+ghost use Rattle.std.specs.Prelude.{◌≡◌, ◌<◌, ◌≤◌, ◌+◌, ◌∷◌, IfSome, IfNone, length, nat_lt, false};
 ghost use Rattle.std.specs.VecDeque.{deque_len, deque_capacity};
 ghost use Rattle.std.specs.List.{prefix_len};
-ghost use Rattle.urb_window.specs.Row.{AreOver, holds_at, number_lt};
-ghost use Rattle.urb_names.specs.Ordered.{placed};
+ghost use Rattle.urb_window.specs.internal.Row.{AreOver, holds_at};
 
 use std::alloc::{AllocFailed, Allocator};
 use std::collections::VecDeque;

@@ -1,14 +1,14 @@
 //! One sender's values, by number.
 
-ghost use Rattle.std.specs.Prelude.{◌≡◌, ◌<◌, ◌≤◌, ◌+◌, ◌^◌, [], ◌∷◌, None, Some, IsOk, IsSome};
-ghost use Rattle.std.specs.Prelude.{IfErr, OnOk, OnErr, length, find, option_map, slice_get};
-ghost use Rattle.std.specs.Prelude.{nat_lt};
-ghost use Rattle.std.specs.Prelude.{◌++◌, vec_len, vec_capacity};
+ghost use Rattle.std.specs.Prelude.{◌≡◌, ◌<◌, ◌≤◌, ◌+◌, ◌^◌, [], None, Some, IsOk, IsSome, IfErr};
+ghost use Rattle.std.specs.Prelude.{OnOk, OnErr, length, find, option_map, slice_get, nat_lt, ◌++◌};
+ghost use Rattle.std.specs.Prelude.{vec_len, vec_capacity};
 ghost use Rattle.std.specs.Bool.{Decides};
 ghost use Rattle.std.specs.VecDeque.{deque_len, deque_capacity};
 ghost use Rattle.urb_names.specs.Ordered.{placed};
-ghost use Rattle.urb_window.specs.Row.{AreOver, IsInserted, IsReplaced, IsRow, counted_from};
-ghost use Rattle.urb_window.specs.Row.{number_lt, numbered, pairs_of};
+ghost use Rattle.urb_window.specs.Row.{counted_from, pairs_of};
+ghost use Rattle.urb_window.specs.internal.Row.{AreOver, IsInserted, IsReplaced, IsRow, number_lt};
+ghost use Rattle.urb_window.specs.internal.Row.{numbered};
 
 use crate::upper::{is_at, place_of, take_first};
 use std::alloc::{Allocator, Global};
@@ -27,13 +27,14 @@ pub(crate) struct Window<T, A: Allocator = Global> {
 }
 
 impl<T, A: Allocator> Model for Window<T, A> {
-    ghost use Rattle.urb_window.specs.Row.{Row, row_code};
+    ghost use Rattle.urb_window.specs.Row.{Row};
+    ghost use Rattle.urb_window.specs.internal.Row.{row_code};
 
     ghost Value = { Row T };
 
     ghost coded = { row_code T.code };
 
-    ghost use Rattle.urb_window.specs.Room.{row_of, IsRoomy};
+    ghost use Rattle.urb_window.specs.internal.Room.{row_of, IsRoomy};
 
     ghost view = { row_of };
 

@@ -1,6 +1,6 @@
 //! The values of all senders, under their names.
 
-ghost use Rattle.std.specs.Prelude.{◌≡◌, ◌<◌, [], ◌∷◌, None, Some, IsOk, IsSome, IfErr, OnOk};
+ghost use Rattle.std.specs.Prelude.{◌≡◌, ◌<◌, [], None, Some, IsOk, IsSome, IfErr, OnOk};
 ghost use Rattle.std.specs.Prelude.{OnErr, length, find, option_map, slice_get};
 ghost use Rattle.urb_names.specs.Names.{name_lt};
 ghost use Rattle.urb_window.specs.Entries.{above_of, low_of, value_of, window_of, with_value};
@@ -28,7 +28,8 @@ impl<T, A: Allocator> Model for Windows<T, A> {
 
     ghost coded = { set_code T.code };
 
-    ghost use Rattle.urb_window.specs.Kept.{view_of, IsKept};
+    ghost use Rattle.urb_window.specs.Fields.{view_of};
+    ghost use Rattle.urb_window.specs.internal.Kept.{IsKept};
 
     ghost view = { view_of };
 

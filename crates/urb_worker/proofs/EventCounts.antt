@@ -1,6 +1,6 @@
 -- The number of events that a House counts in a turn, and in turns one after the other.
 use Rattle.std.proofs.Common.{◌≡◌, ◌+◌, ◌-◌, ◌^◌, ◌==◌, if◌then◌else◌, eqb-true, ◌<◌, ℕ, zero, suc}
-use Rattle.std.proofs.Common.{Bool, true, false, Ok, Err, None, Some, Option, Result, ap, refl, ◌∙◌}
+use Rattle.std.proofs.Common.{Bool, true, false, Ok, Err, Option, Result, ap, refl, ◌∙◌}
 use Rattle.std.proofs.Common.{arith, add-zero}
 use Rattle.std.specs.declared.alloc.Global.{Global}
 use Rattle.urb_group.specs.declared.reply.Reply.{Reply}

@@ -1,7 +1,7 @@
 -- One node and its store, whatever the store answers: as one of a cluster's stores, and if the node
 -- went down meanwhile.
-use Rattle.std.proofs.Common.{Bool, Err, List, None, Ok, Option, Result, Some, [], ap, false, inl}
-use Rattle.std.proofs.Common.{inr, refl, subst, sym, true, ℕ, ◌++◌, ◌∙◌, ◌∷◌, ◌≡◌, ◌⊎◌, ⊎_elim}
+use Rattle.std.proofs.Common.{Bool, Err, List, Ok, Option, Result, Some, [], ap, false, inl}
+use Rattle.std.proofs.Common.{inr, refl, subst, sym, true, ◌++◌, ◌∙◌, ◌∷◌, ◌≡◌, ◌⊎◌, ⊎_elim}
 use Rattle.std.proofs.lemmas.Bool.{false≢true}
 use Rattle.urb_group.proofs.stops.SecuredClusters.{IsLastingOf, lasting-honest, lasting-known}
 use Rattle.urb_group.proofs.stops.SecuredClusters.{read-honest}

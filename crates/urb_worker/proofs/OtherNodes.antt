@@ -1,15 +1,14 @@
 -- What a turn does to the nodes of other workers, and what a stored record says about its store.
-use Rattle.std.proofs.Common.{Bool, Err, List, None, Ok, Option, Result, Some, Vec, ap, eqb-true}
-use Rattle.std.proofs.Common.{false, inl, inr, refl, subst, sym, true, ℕ, ◌++◌, ◌-◌, ◌==◌, ◌∙◌, ◌∷◌}
-use Rattle.std.proofs.Common.{[], ◌≡◌, ◌≢◌, ◌⊎◌, ⊎_elim}
-use Rattle.std.proofs.lemmas.Bool.{false≢true, ne_eqb}
+use Rattle.std.proofs.Common.{Err, List, None, Ok, Option, Result, Some, Vec, ap, eqb-true, false}
+use Rattle.std.proofs.Common.{refl, subst, sym, true, ℕ, ◌++◌, ◌-◌, ◌==◌, ◌∙◌, ◌∷◌, [], ◌≡◌, ◌≢◌}
+use Rattle.std.proofs.lemmas.Bool.{ne_eqb}
 use Rattle.std.specs.declared.alloc.Global.{Global}
 use Rattle.urb_group.proofs.shown.ShownWorldsAgree.{sound-kept}
 use Rattle.urb_group.proofs.steps.DraftsInSteps.{event_node}
 use Rattle.urb_group.proofs.stops.StockedSteps.{leaves-stay}
 use Rattle.urb_group.proofs.stops.StoppedWorlds.{survives}
 use Rattle.urb_group.specs.Asked.{Keeps}
-use Rattle.urb_group.specs.Calls.{ComesUp, Commits, GoesDown, Steps, Takes}
+use Rattle.urb_group.specs.Calls.{ComesUp, Commits, GoesDown, Takes}
 use Rattle.urb_group.specs.Shown.{GroupView, IsSound, Shows, view_of}
 use Rattle.urb_group.specs.Step.{Arrive, Commit, Crash, Event, Fail, Restart, Submit, Tick}
 use Rattle.urb_group.specs.Stopping.{GoesOnIn, MayLeave}
@@ -24,7 +23,6 @@ use Rattle.urb_names.specs.Naming.{Limits}
 use Rattle.urb_names.specs.Packets.{packet_of}
 use Rattle.urb_names.specs.declared.refusal.Refusal.{Refusal}
 use Rattle.urb_names.specs.declared.refusal.Refusal.TheVariants as refusal
-use Rattle.urb_node.specs.Part.{Node}
 use Rattle.urb_node.specs.Replies.{Done}
 use Rattle.urb_node.specs.Shown.{ShowsNode}
 use Rattle.urb_show.specs.Houses.{HouseView}
@@ -37,12 +35,12 @@ use Rattle.urb_stable.specs.Storing.{refusal_of}
 use Rattle.urb_stable.specs.declared.stable.Stable.{Ghosts}
 use Rattle.urb_stable.specs.declared.stable.StoreFault.{StoreFault}
 use Rattle.urb_worker.proofs.StoreKeeping.{settled_group}
-use Rattle.urb_worker.proofs.WaitingNodes.{waited-stays, waits-crash, waits-event, waits-none}
+use Rattle.urb_worker.proofs.WaitingNodes.{waited-stays, waits-crash, waits-event}
 use Rattle.urb_worker.proofs.WaitingNodes.{waits-on, waits-same}
 use Rattle.urb_worker.specs.Jobs.{node_of, runs_at}
 use Rattle.urb_worker.specs.Settlings.{Published}
-use Rattle.urb_worker.specs.Stages.{crash_stage, image_stage, kept_stage, restart_stage}
-use Rattle.urb_worker.specs.Stages.{state_reply, status_reply, taken_stage, tick_stage}
+use Rattle.urb_worker.specs.Stages.{image_stage, kept_stage, restart_stage}
+use Rattle.urb_worker.specs.Stages.{state_reply, status_reply, taken_stage}
 use Rattle.urb_worker.specs.Turns.{Begins, Ends, IsKeptOf, Stores}
 use Rattle.urb_worker.specs.WholeTurns.{HasWaited, IsTurn, LeavesAt, Waits}
 use Rattle.urb_worker.specs.Views.{FinishedView}

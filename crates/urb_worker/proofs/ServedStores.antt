@@ -3,13 +3,12 @@ use Rattle.std.proofs.Common.{◌≡◌, ◌∙◌, ◌++◌, IfSome, List, [], 
 use Rattle.std.proofs.Common.{Some, append_assoc, ap, inr, sym, map, reverse}
 use Rattle.std.proofs.Math.Logic.{∥∥₁_elim}
 use Rattle.std.proofs.Props.{props}
-use Rattle.std.proofs.lemmas.List.{reverse-append}
+use Rattle.std.proofs.lemmas.List.{reverse-append, map_push}
 use Rattle.urb_stable.specs.declared.stable.Stable.{Ghosts}
-use Rattle.urb_worker.specs.ServedStores.{AllThere, AreServed, IsLeftOf, Rests, Serves, Turns}
-use Rattle.urb_worker.specs.ServedStores.{Works}
+use Rattle.urb_worker.specs.ServedStores.{AreServed, IsLeftOf, Rests, Serves, Turns, Works}
+use Rattle.urb_worker.specs.internal.ServedStores.{AllThere}
 use Rattle.urb_worker.specs.Turns.{Stores}
 use Rattle.urb_worker.specs.declared.turn_stages.Stage.{Stage}
-use Rattle.urb_group.proofs.stops.AskedStores.{map-more}
 
 -- a store that nobody took
 pub not_yet : {S A : Type 0} (g : Ghosts S A) (a : S) → IsLeftOf g a a
@@ -65,14 +64,14 @@ served_again g (a ∷ xs) (b ∷ ys) (c ∷ zs) before after =
 
 pub reverse_push : {X Y : Type 0} (f : X → Y) (xs : List X) (x : X)
     → reverse (map f (xs ++ x ∷ [])) ≡ f x ∷ reverse (map f xs)
-reverse_push f xs x = ap reverse (map-more f xs x) ∙ reverse-append (map f xs) (f x ∷ [])
+reverse_push f xs x = ap reverse (map_push f xs x) ∙ reverse-append (map f xs) (f x ∷ [])
 
 -- one more store is left, if f gives the stores of the list
 pub one_left : {S A W : Type 0} (g : Ghosts S A) (f : W → S) (ws : List W) (w : W)
     (lasts new : List S) (last : S) → AreServed g (map f ws) lasts → IsLeftOf g (f w) last
     → new ≡ lasts ++ last ∷ [] → AreServed g (map f (ws ++ w ∷ [])) new
 one_left g f ws w lasts new last so_far it is =
-    rw (is, map-more f ws w) (one_more g (map f ws) lasts (f w) last so_far it)
+    rw (is, map_push f ws w) (one_more g (map f ws) lasts (f w) last so_far it)
 
 -- the last one of a list goes to the front of those that were taken
 pub takes_up : {X Y : Type 0} (f : X → Y) (old rest whole : List Y) (xs : List X) (x : X)
@@ -91,7 +90,7 @@ pub puts_down : {X Y W : Type 0} (f : X → Y) (h : W → Y) (ws : List W) (w : 
     → map h ws ++ reverse (map f old) ≡ whole → map h new ++ reverse (map f rest) ≡ whole
 puts_down f h ws w new old rest x whole put last same so_far =
     ap (λ xs. map h xs ++ reverse (map f rest)) put
-    ∙ ap (λ ys. ys ++ reverse (map f rest)) (map-more h ws w)
+    ∙ ap (λ ys. ys ++ reverse (map f rest)) (map_push h ws w)
     ∙ append_assoc (map h ws) (h w ∷ []) (reverse (map f rest))
     ∙ ap (λ y. map h ws ++ y ∷ reverse (map f rest)) same
     ∙ ap (λ ys. map h ws ++ ys) (sym (ap (λ xs. reverse (map f xs)) last ∙ reverse_push f rest x))

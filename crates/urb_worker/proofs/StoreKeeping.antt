@@ -1,31 +1,27 @@
 -- After a turn the store still matches its node, and a stop inside the turn leaves what it may
 -- leave of the node.
-use Rattle.std.proofs.Common.{Bool, Err, List, None, Ok, Option, Result, Some, Vec, ap, cond, false}
-use Rattle.std.proofs.Common.{inl, inr, length, refl, subst, suc, sym, true, ℕ, ◌==◌, ◌∙◌, ◌≡◌, ◌⊎◌}
-use Rattle.std.proofs.Common.{⊎_elim, eqb-true}
+use Rattle.std.proofs.Common.{Bool, Err, None, Ok, Option, Result, Some, Vec, ap, cond, false, inl}
+use Rattle.std.proofs.Common.{inr, refl, subst, suc, sym, true, ℕ, ◌∙◌, ◌≡◌, ◌⊎◌, ⊎_elim, eqb-true}
 use Rattle.std.specs.declared.alloc.Global.{Global}
-use Rattle.std.proofs.lemmas.Bool.{cond_both, false≢true}
+use Rattle.std.proofs.lemmas.Bool.{false≢true}
 use Rattle.urb_group.proofs.steps.DraftsInSteps.{event_node, step-at, step-size}
 use Rattle.urb_group.proofs.stops.SecuredClusters.{IsLastingOf}
-use Rattle.urb_group.proofs.stops.StockedNodes.{Rises, commit-node, fail-node, restart-node}
-use Rattle.urb_group.proofs.stops.StockedSteps.{IsQuiet, Stays, leaves-stay, quiet-stays}
+use Rattle.urb_group.proofs.stops.StockedNodes.{commit-node, fail-node, restart-node}
+use Rattle.urb_group.proofs.stops.StockedSteps.{IsQuiet, quiet-stays}
 use Rattle.urb_group.proofs.stops.StoppedCalls.{leaves-draft}
 use Rattle.urb_group.proofs.calls.StoreAnswers.{refused-as}
 use Rattle.urb_group.specs.Asked.{Gives, Keeps}
-use Rattle.urb_group.specs.Calls.{Answers, ComesUp, Commits, GoesDown, HoldsDraft, Steps, Takes}
-use Rattle.urb_group.specs.Calls.{Ticks}
+use Rattle.urb_group.specs.Calls.{ComesUp, Commits, GoesDown, HoldsDraft, Steps, Takes}
 use Rattle.urb_group.specs.Shown.{GroupView, Shows, view_of}
 use Rattle.urb_group.specs.States.{state_of}
 use Rattle.urb_group.specs.Step.{Arrive, Commit, Crash, Event, Fail, Restart, Submit, Tick, step}
-use Rattle.urb_group.specs.Stocked.{IsLasting, IsStoreOf, LeavesOf}
-use Rattle.urb_group.specs.Stopping.{MayLeave}
+use Rattle.urb_group.specs.Stocked.{LeavesOf}
 use Rattle.urb_group.specs.World.{World}
 use Rattle.urb_group.specs.declared.reply.Reply.{Reply as Told}
 use Rattle.urb_group.specs.declared.state.State.{State}
 use Rattle.urb_group.specs.declared.state.State.TheVariants as state
 use Rattle.urb_group.specs.declared.taken.Taken.{Taken}
 use Rattle.urb_group.specs.declared.taken.Taken.TheVariants as taken
-use Rattle.urb_names.specs.Carried.{Carried}
 use Rattle.urb_names.specs.Nodes.{is_node}
 use Rattle.urb_names.specs.Packets.{packet_of}
 use Rattle.urb_names.specs.declared.refusal.Refusal.{Refusal}
@@ -41,7 +37,6 @@ use Rattle.urb_stable.specs.Answering.{answer_of}
 use Rattle.urb_stable.specs.Doubted.{Doubted}
 use Rattle.urb_stable.specs.Entries.{Entry, name_of}
 use Rattle.urb_stable.specs.Placed.{Placed}
-use Rattle.urb_stable.specs.Storing.{IsContents}
 use Rattle.urb_stable.specs.declared.stable.Stable.{Ghosts}
 use Rattle.urb_stable.specs.declared.stable.StoreFault.{StoreFault}
 use Rattle.urb_worker.proofs.LastingStores.{asked-still, gives-rose, gives-unread, keeps-late}
@@ -52,10 +47,8 @@ use Rattle.urb_worker.proofs.WaitingNodes.{waited-stays, waited-there}
 use Rattle.urb_worker.specs.Jobs.{node_of, runs_at}
 use Rattle.urb_worker.specs.Settlings.{NothingNew, OutOfMemory, Published, Settles}
 use Rattle.urb_worker.specs.Settlings as settlings
-use Rattle.urb_worker.specs.Stages.{image_stage, kept_stage, restart_stage, taken_stage, tick_stage}
-use Rattle.urb_worker.specs.Stages.{crash_stage}
-use Rattle.urb_worker.specs.Turns.{Begins, Counts, Ends, IsKeptOf, Stores, has_released, logged}
-use Rattle.urb_worker.specs.Turns.{records_of}
+use Rattle.urb_worker.specs.Stages.{image_stage, kept_stage, restart_stage, taken_stage}
+use Rattle.urb_worker.specs.Turns.{Begins, Ends, IsKeptOf, Stores, records_of}
 use Rattle.urb_worker.specs.WholeTurns.{HasWaited, IsStoreAt, LeavesAt, Waits}
 use Rattle.urb_worker.specs.declared.job.Job.{Job}
 use Rattle.urb_worker.specs.declared.job.Job.TheVariants as job

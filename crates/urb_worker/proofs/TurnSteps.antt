@@ -1,26 +1,23 @@
 -- A turn from one stage to the next, and the whole turn.
-use Rattle.std.proofs.Common.{Bool, Err, Ok, Option, Result, Vec, ap, false, inl, inr, refl, subst}
-use Rattle.std.proofs.Common.{sym, true, ℕ, ◌-◌, ◌∙◌, ◌≡◌, ◌⊎◌, ⊎_elim}
+use Rattle.std.proofs.Common.{Bool, Err, Ok, Option, false, inl, inr, refl, subst}
+use Rattle.std.proofs.Common.{true, ℕ, ◌-◌, ◌≡◌}
 use Rattle.std.proofs.lemmas.Bool.{false≢true}
 use Rattle.std.specs.declared.alloc.Global.{Global}
 use Rattle.urb_group.specs.Shown.{IsSound}
 use Rattle.urb_group.specs.declared.reply.Reply.{Reply}
 use Rattle.urb_show.specs.Houses.{HouseView}
 use Rattle.urb_show.specs.declared.status.Status.{Status}
-use Rattle.urb_stable.specs.Doubted.{Doubted}
-use Rattle.urb_stable.specs.Entries.{Entry}
 use Rattle.urb_stable.specs.Placed.{Placed}
 use Rattle.urb_stable.specs.declared.stable.Stable.{Ghosts}
-use Rattle.urb_stable.specs.declared.stable.StoreFault.{StoreFault}
 use Rattle.urb_worker.proofs.StoreKeeping.{turn-keeps, turn-leaves}
 use Rattle.urb_worker.specs.Jobs.{runs_at}
 use Rattle.urb_worker.proofs.ServedStores.{one_turn}
 use Rattle.urb_worker.specs.ServedStores.{IsLeftOf, Turns}
 use Rattle.urb_worker.specs.Settlings.{Published}
-use Rattle.urb_worker.specs.Stages.{image_stage, is_stored, kept_stage}
-use Rattle.urb_worker.specs.Turns.{Begins, CameOf, Ends, Finishes, Goes, HasBegun, IsKeptOf, Stores}
+use Rattle.urb_worker.specs.Stages.{is_stored}
+use Rattle.urb_worker.specs.Turns.{Begins, CameOf, Ends, Finishes, Goes, HasBegun, Stores}
 use Rattle.urb_worker.specs.Views.{FinishedView, TurnView}
-use Rattle.urb_worker.specs.WholeTurns.{Does, IsTurn, IsTurnAt}
+use Rattle.urb_worker.specs.WholeTurns.{Does, IsTurnAt}
 use Rattle.urb_worker.specs.declared.job.Job.{Job}
 use Rattle.urb_worker.specs.declared.turn_stages.Stage.{Stage}
 use Rattle.urb_worker.specs.declared.turn_stages.Stage.TheVariants as stage

@@ -1,21 +1,20 @@
 -- A node to which nothing happened except a crash; and what an event says about a node that holds a
 -- draft or is down.
-use Rattle.std.proofs.Common.{Bool, Err, List, None, Ok, Option, Result, Some, ap, cond, eq-eqb}
-use Rattle.std.proofs.Common.{eqb-true, false, inl, inr, length, refl, subst, suc, sym, true, ℕ}
-use Rattle.std.proofs.Common.{◌&&◌, ◌==◌, ◌∙◌, ◌≡◌, ◌⊎◌, ⊎_elim}
+use Rattle.std.proofs.Common.{Bool, Option, Some, ap, eq-eqb, eqb-true, false, inl, inr, length}
+use Rattle.std.proofs.Common.{refl, subst, suc, sym, true, ℕ, ◌&&◌, ◌==◌, ◌∙◌, ◌≡◌, ◌⊎◌, ⊎_elim}
 use Rattle.std.proofs.lemmas.Bool.{and_from, cond-false, cond-true, cond_both}
 use Rattle.urb_group.proofs.steps.DraftsInSteps.{event_node, step-elsewhere, step-size}
 use Rattle.urb_group.proofs.steps.OneNodeStep.{updated-at}
 use Rattle.urb_group.proofs.stops.StockedSteps.{Stays, quiet-stays}
 use Rattle.urb_group.specs.Calls.{Steps}
-use Rattle.urb_group.specs.Shown.{GroupView, Shows}
-use Rattle.urb_group.specs.Step.{Commit, Crash, Event, Fail, Restart, at_node, step, world_after}
+use Rattle.urb_group.specs.Shown.{GroupView}
+use Rattle.urb_group.specs.Step.{Commit, Crash, Event, Fail, at_node, step, world_after}
 use Rattle.urb_group.specs.World.{World}
 use Rattle.urb_names.specs.Naming.{Limits}
 use Rattle.urb_names.specs.Nodes.{is_node}
 use Rattle.urb_names.specs.declared.refusal.Refusal.TheVariants as refusal
 use Rattle.urb_node.proofs.Calls.{same_record-same}
-use Rattle.urb_node.specs.Part.{Down, Node, Ready, State, Storing}
+use Rattle.urb_node.specs.Part.{Down, Node, State, Storing}
 use Rattle.urb_node.specs.Replies.{Done, Refused, Reply, Stored, WentDown}
 use Rattle.urb_node.specs.Steps.{commits, crashes, done, doubt, fails, goes_down, is_down}
 use Rattle.urb_node.specs.Steps.{keeps_record, next_position, refuses, same_record}

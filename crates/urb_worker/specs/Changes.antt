@@ -1,7 +1,6 @@
 -- Whether a turn took its node down or brought it back. Operators are informed of such changes.
 use Rattle.std.specs.Prelude.{List, None, Ok, Option, Some, if◌then◌else◌, ℕ, ◌==◌, ◌≡◌}
 use Rattle.std.specs.declared.alloc.Global.{Global}
-use Rattle.urb_names.specs.declared.refusal.Refusal.{Refusal}
 use Rattle.urb_stable.specs.Entries.{Entry}
 use Rattle.urb_stable.specs.Storing.{refusal_of}
 use Rattle.urb_stable.specs.declared.stable.StoreFault.{StoreFault}

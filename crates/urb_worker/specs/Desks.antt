@@ -97,11 +97,6 @@ IsJobOf p IsCrash (job.Crash q) = q ≡ p
 IsJobOf p IsRestart (job.Restart q) = q ≡ p
 IsJobOf p asked other = ⊥
 
--- the worker is asked; this is so for all requests but a read
-abbrev pub IsWork : Asked → Type 0
-IsWork (Read place max) = ⊥
-IsWork asked = Unit {0}
-
 -- The worker returned a turn with the request's job, and this is the result. The reader learnt what
 -- the turn published before its reply was given to the client. Or the worker returned no turn.
 abbrev pub Works : DeskView → Asked → Said → DeskView → Type 0

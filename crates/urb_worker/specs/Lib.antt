@@ -6,8 +6,7 @@ pub mod Stages
 pub mod Turns
 pub mod Changes
 pub mod WholeTurns
-pub mod Replies
 pub mod ServedStores
 pub mod Desks
 pub mod Backlogs
-pub mod Arrivals
+pub mod internal

@@ -20,11 +20,6 @@ use Rattle.urb_show.specs.declared.status.Status.{Status}
 use Rattle.urb_worker.specs.declared.turn_stages.Stage.{Stage}
 use Rattle.urb_worker.specs.declared.turn_stages.Stage.TheVariants as stage
 
--- whether the store has to keep a draft
-abbrev pub is_drafted : Stage → Bool
-is_drafted (stage.Drafted draft) = true
-is_drafted _ = false
-
 -- whether the store has done its part: it has no draft to keep, and no image to retrieve
 abbrev pub is_stored : Stage → Bool
 is_stored (stage.Drafted draft) = false

@@ -5,7 +5,8 @@ ghost use Rattle.urb_client.specs.declared.format.TheConstants.{MOST_ENTRIES};
 ghost use Rattle.urb_client.specs.Requests.{asked_by};
 ghost use Rattle.urb_client.specs.Responses.{said_by};
 ghost use Rattle.urb_show.specs.Readers.{Takes};
-ghost use Rattle.urb_worker.specs.Desks.{IsJobOf, IsWork, LearnsTold, Reads, Tells, Works, told_of};
+ghost use Rattle.urb_worker.specs.Desks.{IsJobOf, LearnsTold, Reads, Tells, Works, told_of};
+ghost use Rattle.urb_worker.specs.internal.Desks.{IsWork};
 ghost use Rattle.urb_worker.specs.Settlings.{told_in};
 
 use crate::responses::{down_response, response_to_read, response_to_turn};

@@ -1,6 +1,6 @@
 //! The Hub: the lock around the House, and one job done with it.
 
-ghost use Rattle.std.specs.Prelude.{◌≡◌, ◌+◌, ◌<◌, ◌≤◌, ◌^◌, IfOk, IfErr, sum, vec_len};
+ghost use Rattle.std.specs.Prelude.{◌≡◌, ◌+◌, ◌<◌, ◌^◌, IfOk, IfErr, sum, vec_len};
 ghost use Rattle.urb_worker.specs.Counting.{count_after};
 ghost use Rattle.urb_worker.specs.Jobs.{runs_at};
 ghost use Rattle.urb_worker.specs.WholeTurns.{Does};

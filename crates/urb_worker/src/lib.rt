@@ -29,16 +29,12 @@
 //! queues. When the inner scope ends, the queues are dropped. So the workers end, and return their
 //! stores and tallies.
 //!
-//! `BufferedAnswers` is for code that answers lines or frames: it sends the answers together, and
-//! before a read that may wait.
-//!
 //! No proof says that a thread runs, that a message comes or that a wait ends: tests show it. A
 //! worker waits for tickets and for the lock. The lock's holder waits for readers that are in the
 //! middle of a read, and these wait for nobody.
 #![tactic(auto)]
 
 mod backlog;
-mod buffered_answers;
 mod change;
 mod counting;
 mod desk;
@@ -63,7 +59,6 @@ mod worker_loop;
 mod worker_threads;
 
 pub use backlog::{BACKLOG, Backlog, KEEPING};
-pub use buffered_answers::{BufferedAnswers, BufferedWriter, FlushingInput};
 pub use change::{Change, Reporter, Silent, change_of};
 pub use counting::tally::{HubName, Tally};
 pub use desk::NodeDesk;

@@ -1,10 +1,10 @@
 //! The listeners of a group that runs: receivers, sessions of clients, and the timer.
 
 ghost use Rattle.urb_names.specs.declared.limits.TheConstants.{MAX_NODES};
-ghost use Rattle.std.specs.Prelude.{◌≡◌, ◌<◌, ◌≤◌, ◌*◌, length, vec_len};
+ghost use Rattle.std.specs.Prelude.{◌≡◌, ◌<◌, ◌≤◌, length, vec_len};
 
 use crate::stations::{SESSIONS, Station, rest};
-use crate::{BufferedAnswers, GroupSetting, NodeDesk, Reporter, Stop, Ticket, receive, timer};
+use crate::{GroupSetting, NodeDesk, Reporter, Stop, Ticket, receive, timer};
 use crossbeam_channel::Sender;
 use std::alloc::Global;
 use std::net::{Net, TcpListener, TcpStream};
@@ -12,7 +12,7 @@ use std::sync::Wait;
 use std::thread;
 use std::thread::{Scope, Threads};
 use std::time::Clock;
-use urb_client::session;
+use urb_client::{BufferedAnswers, session};
 use urb_names::NodeId;
 use urb_show::{HouseName, LogReader};
 

@@ -5,7 +5,7 @@
 //! backlog.
 
 ghost use Rattle.std.specs.Prelude.{◌≡◌, ◌⊎◌, ◌++◌, [], ◌∷◌, IfSome, drop};
-ghost use Rattle.urb_worker.specs.Arrivals.{IsArrival, IsOfFirst};
+ghost use Rattle.urb_worker.specs.internal.Arrivals.{IsArrival, IsOfFirst};
 
 use crate::stations::rest;
 use crate::{Backlog, Job, Spares, Station, Stop, Ticket};

@@ -1,7 +1,5 @@
 //! The sockets of a group's nodes, on this machine's loopback.
 
-ghost use Rattle.std.specs.Prelude.{◌≡◌};
-
 use crate::{InFlight, Spares};
 use std::net::{Ipv4Addr, Net, SocketAddr, TcpListener, TcpStream, UdpSocket};
 use std::time::{Clock, Duration};

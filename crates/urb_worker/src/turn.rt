@@ -3,7 +3,8 @@
 ghost use Rattle.std.specs.Prelude.{◌≡◌, ◌-◌, ◌≤◌, true};
 ghost use Rattle.urb_worker.specs.Counting.{count_after};
 ghost use Rattle.urb_worker.specs.Settlings.{published_by, told_in};
-ghost use Rattle.urb_worker.specs.Stages.{is_drafted, is_stored};
+ghost use Rattle.urb_worker.specs.Stages.{is_stored};
+ghost use Rattle.urb_worker.specs.internal.Stages.{is_drafted};
 ghost use Rattle.urb_worker.specs.Turns.{Begins, Finishes, Stores};
 ghost use Rattle.urb_worker.specs.WholeTurns.{misrouted};
 

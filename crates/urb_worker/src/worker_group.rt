@@ -7,7 +7,8 @@ ghost use Rattle.std.specs.Prelude.{vec_len, vec_capacity};
 ghost use Rattle.urb_names.specs.declared.limits.TheConstants.{MAX_NODES};
 ghost use Rattle.urb_show.specs.Lists.{lists_in};
 ghost use Rattle.urb_worker.specs.Counting.{count_after};
-ghost use Rattle.urb_worker.specs.ServedStores.{AreServed, each, numbers_from};
+ghost use Rattle.urb_worker.specs.ServedStores.{AreServed};
+ghost use Rattle.urb_worker.specs.internal.ServedStores.{each, numbers_from};
 ghost use Rattle.urb_worker.specs.declared.stations.TheConstants.{SESSIONS};
 
 use crate::listeners::{ListenerInput, run_listeners};

@@ -3,7 +3,7 @@
 ghost use Rattle.std.specs.Prelude.{◌≡◌, ◌≤◌, [], MatchOption};
 ghost use Rattle.urb_node.specs.Replies.{packets_in};
 ghost use Rattle.urb_group.specs.Commands.{reply_of};
-ghost use Rattle.urb_worker.specs.Replies.{tells_record};
+ghost use Rattle.urb_worker.specs.internal.Replies.{tells_record};
 ghost use Rattle.urb_worker.specs.ServedStores.{IsLeftOf};
 
 use crate::polling::Polling;

@@ -1,7 +1,8 @@
 //! The workers of a group, each on a thread of its own: what they start with, and what they leave.
 
-ghost use Rattle.std.specs.Prelude.{◌≡◌, ◌≤◌, IfSome, map, reverse, vec_len, vec_capacity};
-ghost use Rattle.urb_worker.specs.ServedStores.{AllThere, AreServed, IsLeftOf, each, in_either};
+ghost use Rattle.std.specs.Prelude.{◌≡◌, ◌≤◌, IfSome, reverse, vec_len, vec_capacity};
+ghost use Rattle.urb_worker.specs.ServedStores.{AreServed, IsLeftOf};
+ghost use Rattle.urb_worker.specs.internal.ServedStores.{AllThere, each, in_either};
 
 use crate::{Gate, HubName, Link, Reporter, Tally, Ticket, WorkerSetting, serve_from};
 use crossbeam_channel::{Receiver, Sender};

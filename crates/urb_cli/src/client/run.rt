@@ -1,7 +1,6 @@
 //! The commands of a client: one request to a node on this machine, and what its response shows.
 
-ghost use Rattle.std.specs.Prelude.{◌≡◌, ◌≢◌, ◌⊎◌, ◌<◌, ◌≤◌, Err, IfOk, IfErr, IfSome, OnOk};
-ghost use Rattle.std.specs.Prelude.{length};
+ghost use Rattle.std.specs.Prelude.{◌≡◌, ◌⊎◌, ◌<◌, ◌≤◌, Err, IfOk, IfErr, IfSome, OnOk, length};
 ghost use Rattle.std.specs.Io.KnownBytes.{Appends, Consumes};
 ghost use Rattle.urb_client.specs.Requests.{IsAsked, IsShort, Read as AskRead, Submit as AskSubmit};
 ghost use Rattle.urb_client.specs.Requests.{asked_by, request_body};

@@ -1,9 +1,9 @@
 //! The definition of the command line, as the parser needs it.
 
-ghost use Rattle.std.specs.Prelude.{◌≡◌, IfOk, false, codes};
+ghost use Rattle.std.specs.Prelude.{◌≡◌, IfOk, false};
 ghost use Rattle.clap.specs.Words.{app_of, rule_of};
 ghost use Rattle.clap.specs.declared.builder.command.Command.TheViews.{out-Command};
-ghost use Rattle.urb_cli.specs.CommandLine.{number_rule, text_rule, place_rule, replay_app};
+ghost use Rattle.urb_cli.specs.CommandLine.{number_rule, text_rule, place_rule};
 ghost use Rattle.urb_cli.specs.CommandLine.{serve_app, submit_app, read_app, urbd_app};
 
 use crate::limits::{MAX_BASE_PORT, MAX_TICK_MILLIS, MIN_BASE_PORT};

@@ -1,7 +1,7 @@
 //! Groups that run on threads and sockets of this machine, with their stores in memory. Clients use
 //! them over TCP.
 
-ghost use Rattle.std.specs.Prelude.{◌≡◌, ◌<◌, ◌≤◌, IfSome, vec_len, vec_capacity};
+ghost use Rattle.std.specs.Prelude.{◌≡◌, ◌<◌, ◌≤◌, IfSome, vec_len};
 
 use std::alloc::Global;
 use std::io::{Read, Write};

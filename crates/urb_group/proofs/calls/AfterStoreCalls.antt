@@ -9,10 +9,11 @@ use Rattle.urb_group.proofs.calls.DraftsInCalls.{node-bounds, reacts-tied, refus
 use Rattle.urb_group.proofs.calls.HeldDrafts.{tied-set}
 use Rattle.urb_group.proofs.calls.StoreAnswers.{held-as}
 use Rattle.urb_group.specs.Calls.{Steps}
-use Rattle.urb_group.specs.Clustered.{Clustered, IsTied, held_draft}
+use Rattle.urb_group.specs.Clustered.{Clustered, held_draft}
+use Rattle.urb_group.specs.internal.Clustered.{IsTied}
 use Rattle.urb_group.specs.Clusters.{BreaksArmed, FailsHeld, Reads, RestartsBy, Returns, StoreMoves}
 use Rattle.urb_group.specs.Clusters.{Stores, StoresHeld, is_fallen, stored_as}
-use Rattle.urb_group.specs.Drafts.{IsUnfallen, IsUnstored}
+use Rattle.urb_group.specs.internal.Drafts.{IsUnfallen, IsUnstored}
 use Rattle.urb_group.specs.Shown.{GroupView, view_of}
 use Rattle.urb_group.specs.Step.{Event, Fail, Restart}
 use Rattle.urb_names.specs.Nodes.{is_node}

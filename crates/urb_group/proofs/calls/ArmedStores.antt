@@ -1,12 +1,13 @@
 -- A store in memory that was armed, and a group of nodes that hold no draft.
 use Rattle.std.proofs.Common.{Bool, Err, List, None, Option, Result, Some, false, length, refl}
 use Rattle.std.proofs.Common.{true, zero, suc, ℕ, ◌-◌, ◌<◌, ◌^◌, ◌≡◌, ◌≤◌, ◌⊎◌, ◌∙◌, sym}
+use Rattle.std.proofs.Common.{[], ap, ⊎_elim, inl, inr}
 use Rattle.std.specs.Prelude.{replicate}
 use Rattle.std.proofs.lemmas.Bool.{cases_lt, cond_both}
 use Rattle.std.proofs.lemmas.List.{length-replicate}
-use Rattle.std.proofs.Common.{[], ap, ⊎_elim, inl, inr}
 use Rattle.urb_group.proofs.shown.ShownWorlds.{sound-new}
-use Rattle.urb_group.specs.Clustered.{IsTied, draft_at, held_draft, held_in}
+use Rattle.urb_group.specs.Clustered.{held_draft, held_in}
+use Rattle.urb_group.specs.internal.Clustered.{IsTied, draft_at}
 use Rattle.urb_group.specs.Clusters.{Breaks}
 use Rattle.urb_group.specs.Shown.{GroupView, IsSound, Shows, view_of}
 use Rattle.urb_group.specs.World.{opened, started}

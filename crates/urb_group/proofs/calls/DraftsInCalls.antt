@@ -7,9 +7,10 @@ use Rattle.std.proofs.lemmas.Bool.{and_parts, cond-true}
 use Rattle.urb_group.proofs.steps.DraftsInSteps.{event_node, step-at}
 use Rattle.urb_group.proofs.calls.HeldDrafts.{steps-calm, steps-size, tied-kept, tied-set}
 use Rattle.urb_group.specs.Calls.{HoldsDraft, Steps, Takes, Ticks}
-use Rattle.urb_group.specs.Clustered.{IsTied, held_draft, held_in}
+use Rattle.urb_group.specs.Clustered.{held_draft, held_in}
+use Rattle.urb_group.specs.internal.Clustered.{IsTied}
 use Rattle.urb_group.specs.Clusters.{Reacts}
-use Rattle.urb_group.specs.Drafts.{IsWithin, noted_in, told_of}
+use Rattle.urb_group.specs.internal.Drafts.{IsWithin, noted_in, told_of}
 use Rattle.urb_group.specs.Shown.{GroupView, IsSound, view_of}
 use Rattle.urb_group.specs.Step.{Event, Tick, step}
 use Rattle.urb_group.specs.declared.taken.Taken.{Taken}

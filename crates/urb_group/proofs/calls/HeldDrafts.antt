@@ -8,7 +8,8 @@ use Rattle.urb_group.proofs.shown.ShownWorldsAgree.{sound-step}
 use Rattle.urb_group.proofs.steps.DraftsInSteps.{CalmAs, event_node, step-calm, step-elsewhere}
 use Rattle.urb_group.proofs.steps.DraftsInSteps.{step-size}
 use Rattle.urb_group.specs.Calls.{Happens, Steps}
-use Rattle.urb_group.specs.Clustered.{IsTied, draft_at, held_draft, held_in}
+use Rattle.urb_group.specs.Clustered.{held_draft, held_in}
+use Rattle.urb_group.specs.internal.Clustered.{IsTied, draft_at}
 use Rattle.urb_group.specs.Shown.{GroupView, IsSound, Shows}
 use Rattle.urb_group.specs.Step.{Event, step}
 use Rattle.urb_group.specs.World.{World}

@@ -5,7 +5,7 @@ use Rattle.std.proofs.Common.{◌⊎◌, IsOk, IsTrue, inl, inr}
 use Rattle.std.proofs.lemmas.Bool.{and_from, cond-false, cond-true}
 use Rattle.urb_group.specs.Calls.{Answers, Commits, GoesDown, Happens, Steps}
 use Rattle.urb_group.specs.Clustered.{held_draft, held_in}
-use Rattle.urb_group.specs.Drafts.{IsUnfallen, IsUnstored, unfallen_in, unstored_in}
+use Rattle.urb_group.specs.internal.Drafts.{IsUnfallen, IsUnstored, unfallen_in, unstored_in}
 use Rattle.urb_group.specs.Shown.{GroupView, IsSound, Shows, view_of}
 use Rattle.urb_group.specs.States.{state_of}
 use Rattle.urb_group.specs.Step.{Commit, Crash, Event, Fail, Restart, at_node, step, world_after}

@@ -26,8 +26,8 @@ pub record WorldLive (w : World) : Type 0 where
 
 -- ---- one step
 
--- After a step, the nodes are live by what was stored before it. So they are live by what is
--- stored then.
+-- A step only adds to storage. So a node that is live, given what was stored before the step, is
+-- live, given what is stored after it.
 module _ (w : World) (live : WorldLive w) where
   abbrev NodesLive : Reply × World → Type 0
   NodesLive outcome =

@@ -13,12 +13,13 @@ use Rattle.urb_node.specs.Part.{Node}
 use Rattle.urb_node.specs.Replies.{Done, Same, Sent, Stored, Up, WentDown}
 use Rattle.urb_node.specs.Steps.{submits}
 use Rattle.urb_group.specs.Calls.{ComesUp, Commits, GoesDown, HoldsDraft, Takes, Ticks}
-use Rattle.urb_group.specs.Moving.{CommitsAt, CrashesAt, FailsAt, HandsBack, HoldsAt, Leads}
-use Rattle.urb_group.specs.Moving.{LeadsAt, Outcomes, RestartsAt, SubmitsAt, TicksAt, Told}
-use Rattle.urb_group.specs.Moving.{commits_as}
-use Rattle.urb_group.specs.Moving.{crashes_as, fails_as, restarts_as, ticks_as, told_down}
-use Rattle.urb_group.specs.Moving.{told_sent, told_stored, told_taken, told_up}
-use Rattle.urb_group.specs.Places.{IsGroup, ShowsAt, memory_in, shown}
+use Rattle.urb_group.specs.internal.Moving.{CommitsAt, CrashesAt, FailsAt, HandsBack, HoldsAt}
+use Rattle.urb_group.specs.internal.Moving.{Leads, LeadsAt, Outcomes, RestartsAt, SubmitsAt}
+use Rattle.urb_group.specs.internal.Moving.{TicksAt, Told, commits_as, crashes_as, fails_as}
+use Rattle.urb_group.specs.internal.Moving.{restarts_as, ticks_as, told_down, told_sent}
+use Rattle.urb_group.specs.internal.Moving.{told_stored, told_taken, told_up}
+use Rattle.urb_group.specs.Places.{memory_in, shown}
+use Rattle.urb_group.specs.internal.Places.{IsGroup, ShowsAt}
 use Rattle.urb_group.specs.Shown.{Shows}
 use Rattle.urb_group.specs.Step.{Commit, Crash, Event, Fail, Restart, Submit, Tick, at_node, step}
 use Rattle.urb_group.specs.World.{World}

@@ -5,7 +5,8 @@ use Rattle.std.specs.Prelude.{slice_get}
 use Rattle.urb_names.specs.Naming.{Limits}
 use Rattle.urb_node.specs.Shown.{NodeView, no_view}
 use Rattle.urb_node.specs.Values.{Memory, new_memory}
-use Rattle.urb_group.specs.Places.{IsGroup, IsNumbered, shown, view_at}
+use Rattle.urb_group.specs.Places.{shown, view_at}
+use Rattle.urb_group.specs.internal.Places.{IsGroup, IsNumbered}
 use Rattle.urb_group.specs.Shown.{Shows}
 use Rattle.urb_group.specs.World.{started}
 use Rattle.urb_group.specs.declared.node_moves.Node.{Node as Place}

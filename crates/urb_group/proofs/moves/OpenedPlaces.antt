@@ -18,7 +18,8 @@ use Rattle.urb_group.proofs.moves.NewPlaces.{one_longer}
 use Rattle.urb_group.proofs.shown.ReplacedElements.{read_mapped}
 use Rattle.urb_group.proofs.shown.ShownWorlds.{sound-opened}
 use Rattle.urb_group.specs.Calls.{Opens}
-use Rattle.urb_group.specs.Places.{IsGroup, IsNumbered, ShowsAt, memory_in, shown, view_at}
+use Rattle.urb_group.specs.Places.{memory_in, shown, view_at}
+use Rattle.urb_group.specs.internal.Places.{IsGroup, IsNumbered, ShowsAt}
 use Rattle.urb_group.specs.Shown.{Shows}
 use Rattle.urb_group.specs.World.{AreImages, opened}
 use Rattle.urb_group.specs.declared.node_moves.Node.{Node as Place}

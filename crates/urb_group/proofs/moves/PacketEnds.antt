@@ -3,7 +3,7 @@ use Rattle.std.proofs.Common.{ap, eq-eqb, false, subst, suc, sym, true, ℕ, ◌
 use Rattle.std.proofs.lemmas.Bool.{and_from, and_right}
 use Rattle.urb_names.specs.Carried.{Carried}
 use Rattle.urb_names.specs.Nodes.{is_node}
-use Rattle.urb_group.specs.Reaching.{AreEnds, is_for_node}
+use Rattle.urb_group.specs.internal.Reaching.{AreEnds, is_for_node}
 use Rattle.urb_group.proofs.shown.ShownWorlds.{is-node, no-node}
 
 pub not_target : (n p : ℕ) (packet : Carried) → (packet.target == p) ≡ false

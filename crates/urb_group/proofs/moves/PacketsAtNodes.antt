@@ -21,9 +21,11 @@ use Rattle.urb_node.specs.Next.{MayArrive}
 use Rattle.urb_node.specs.Replies.{Refused, Reply}
 use Rattle.urb_node.specs.Shown.{NodeView, no_view}
 use Rattle.urb_group.specs.Calls.{IsRefused, Takes}
-use Rattle.urb_group.specs.Moving.{ArrivesAt, MayReach, arrives_as}
-use Rattle.urb_group.specs.Places.{IsGroup, ShowsAt, memory_in, shown, view_at}
-use Rattle.urb_group.specs.Reaching.{AreEnds, HoldsPair, IsAsCertified, TellsTruth, is_for_node}
+use Rattle.urb_group.specs.internal.Moving.{ArrivesAt, MayReach, arrives_as}
+use Rattle.urb_group.specs.Places.{memory_in, shown, view_at}
+use Rattle.urb_group.specs.internal.Places.{IsGroup, ShowsAt}
+use Rattle.urb_group.specs.internal.Reaching.{AreEnds, HoldsPair, IsAsCertified, TellsTruth}
+use Rattle.urb_group.specs.internal.Reaching.{is_for_node}
 use Rattle.urb_group.specs.Shown.{GroupView, Shows, view_of}
 use Rattle.urb_group.specs.Step.{Arrive, at_node, is_for, step}
 use Rattle.urb_group.specs.World.{World, bears_out, stored, truthful}

@@ -18,9 +18,9 @@ use Rattle.urb_node.specs.Steps.{submits, ticks}
 use Rattle.urb_node.specs.Values.{Fallen, Holding, Memory, ShowsReady, ShowsStoring, draft_of}
 use Rattle.urb_node.specs.declared.step.Step.{Step}
 use Rattle.urb_node.specs.declared.step.Step.TheVariants as step
-use Rattle.urb_group.specs.Moving.{ArrivesAt, CommitsAt, CrashesAt, FailsAt, HoldsAt, Leads}
-use Rattle.urb_group.specs.Moving.{RestartsAt, SubmitsAt, TicksAt, after_step, arrives_as}
-use Rattle.urb_group.specs.Moving.{told_taken}
+use Rattle.urb_group.specs.internal.Moving.{ArrivesAt, CommitsAt, CrashesAt, FailsAt, HoldsAt}
+use Rattle.urb_group.specs.internal.Moving.{Leads, RestartsAt, SubmitsAt, TicksAt, after_step}
+use Rattle.urb_group.specs.internal.Moving.{arrives_as, told_taken}
 use Rattle.urb_group.specs.declared.node_moves.Node.{Node as Place}
 use Rattle.urb_group.specs.declared.node_moves.Node.TheVariants as place
 use Rattle.urb_node.proofs.Calls.{same_record-true}

@@ -1,9 +1,8 @@
 -- Rounds among nodes that are up. After one round, what one of them knew or held is known to all of
 -- them. After the next it is certified. So two rounds deliver.
-use Rattle.std.proofs.Common.{Bool, List, ap, arith, count_by, eqb-true, false, filter, inl}
-use Rattle.std.proofs.Common.{inr, length, ltb-true, nat_lt, refl, subst, suc, sym, true}
-use Rattle.std.proofs.Common.{zero, ℕ, ⊎_elim, ◌*◌, ◌+◌, ◌++◌, ◌-◌, ◌<◌, ◌==◌, ◌∙◌, ◌∷◌, ◌≡◌}
-use Rattle.std.proofs.Common.{◌≤◌, ◌⊎◌}
+use Rattle.std.proofs.Common.{Bool, List, ap, arith, count_by, eqb-true, false, filter, inl, inr}
+use Rattle.std.proofs.Common.{length, ltb-true, nat_lt, refl, subst, suc, sym, true, zero, ℕ}
+use Rattle.std.proofs.Common.{⊎_elim, ◌*◌, ◌+◌, ◌++◌, ◌-◌, ◌<◌, ◌==◌, ◌∙◌, ◌∷◌, ◌≡◌, ◌≤◌, ◌⊎◌}
 use Rattle.std.proofs.lemmas.Bool.{and_parts, cases_Bool, cond-false, cond-true, false≢true}
 use Rattle.std.proofs.lemmas.List.Sums.{length-filter}
 use Rattle.urb_names.specs.declared.limits.TheConstants.{NAMES_PER_TICK}
@@ -315,7 +314,8 @@ module _ (among : ℕ → Bool) (w : World) (events : List Event)
       (subst (λ (list : List Act). IsRoundAmong among list (after w events))
       (sym rest.acts) round)
 
--- what follows from two rounds in which every event proceeds, follows from any two rounds
+-- A statement that follows from two rounds in which every event proceeds follows from any two
+-- rounds.
 both : (among : ℕ → Bool) (w : World) (first second : List Event)
     → IsRoundAmong among (acts_of w first) (after w first)
     → IsRoundAmong among (acts_of (after w first) second) (after (after w first) second)

@@ -8,8 +8,9 @@ use Rattle.urb_names.specs.declared.limits.TheConstants.{NAMES_PER_TICK}
 use Rattle.urb_group.proofs.recovery.PendingNames.{in-list_all}
 use Rattle.urb_group.proofs.recovery.NodeLists.{in-nodes}
 use Rattle.urb_group.specs.Recovering.{after}
-use Rattle.urb_group.specs.RoundExamples.{Verdict, a_round, does_arrive, is_ready, is_undisturbed}
-use Rattle.urb_group.specs.RoundExamples.{judged, same_bit, same_flags, same_packet, ticks_arrive}
+use Rattle.urb_group.specs.internal.RoundExamples.{Verdict, a_round, does_arrive, is_ready}
+use Rattle.urb_group.specs.internal.RoundExamples.{is_undisturbed, judged, same_bit, same_flags}
+use Rattle.urb_group.specs.internal.RoundExamples.{same_packet, ticks_arrive}
 use Rattle.urb_group.specs.Rounds.{Act, Arrives, Disturbs, DoArrive, DoesArrive, IsRound}
 use Rattle.urb_group.specs.Rounds.{IsUndisturbed, Ticks, TicksArrive, acts_of, ticks_of}
 use Rattle.urb_group.specs.Step.{Event}

@@ -1,8 +1,7 @@
 -- No name is new if nothing is submitted: every name that a node knows, also by the record that it
 -- holds, its sender knew already.
-use Rattle.std.proofs.Common.{Err, List, Ok, [], ap, append-nil, eqb-true}
-use Rattle.std.proofs.Common.{false, if◌then◌else◌, is_some, subst, sym, true, ℕ, ⊎_elim}
-use Rattle.std.proofs.Common.{◌++◌, ◌==◌, ◌∙◌, ◌∷◌, ◌≡◌}
+use Rattle.std.proofs.Common.{Err, List, Ok, [], ap, append-nil, eqb-true, false, if◌then◌else◌}
+use Rattle.std.proofs.Common.{is_some, subst, sym, true, ℕ, ⊎_elim, ◌++◌, ◌==◌, ◌∙◌, ◌∷◌, ◌≡◌}
 use Rattle.std.proofs.lemmas.Bool.{cases_Bool, cond-false}
 use Rattle.urb_group.proofs.steps.DraftsInSteps.{event_node, step-elsewhere, step-size}
 use Rattle.urb_group.proofs.rounds.StaysCounted.{Arrived, arrive-done, at-node-done, commit-whole}
@@ -15,8 +14,7 @@ use Rattle.urb_group.proofs.steps.ConfirmedPackets.{borne-pair}
 use Rattle.urb_group.specs.Invariant.{StateKept}
 use Rattle.urb_group.specs.Recovered.{IsDone}
 use Rattle.urb_group.specs.Recovering.{after}
-use Rattle.urb_group.specs.Step.{Arrive, Commit, Event, Restart, Tick, run}
-use Rattle.urb_group.specs.Step.{step}
+use Rattle.urb_group.specs.Step.{Arrive, Commit, Event, Restart, Tick, run, step}
 use Rattle.urb_group.specs.World.{World, stored, updated}
 use Rattle.urb_names.specs.Carried.{Carried}
 use Rattle.urb_names.specs.Naming.{Content, Label, Limits}

@@ -6,8 +6,7 @@ use Rattle.std.proofs.lemmas.Bool.{cond_both}
 use Rattle.urb_group.proofs.safety.Refusals.{refused-stays, same_nodes}
 use Rattle.urb_group.specs.Recovered.{IsDone}
 use Rattle.urb_group.specs.Recovering.{after}
-use Rattle.urb_group.specs.Rounds.{Act, Disturbs, IsUndisturbed, act_of, acts_of}
-use Rattle.urb_group.specs.Rounds.{disturbance}
+use Rattle.urb_group.specs.Rounds.{Act, Disturbs, IsUndisturbed, act_of, acts_of, disturbance}
 use Rattle.urb_group.specs.Step.{Arrive, Crash, Event, Fail, Submit, at_node}
 use Rattle.urb_group.specs.Step.{run, step, world_after}
 use Rattle.urb_group.specs.World.{World}
@@ -17,8 +16,7 @@ use Rattle.urb_names.specs.Nodes.{is_node}
 use Rattle.urb_names.specs.declared.refusal.Refusal.{Refusal}
 use Rattle.urb_names.specs.declared.refusal.Refusal.TheVariants as refusal
 use Rattle.urb_node.specs.Part.{Down, Node, Ready, State, Storing}
-use Rattle.urb_node.specs.Replies.{Drafted, Refused, Reply, WentDown}
-use Rattle.urb_node.specs.Replies.{packets_in}
+use Rattle.urb_node.specs.Replies.{Drafted, Refused, Reply, WentDown, packets_in}
 use Rattle.urb_node.specs.Steps.{crashes, fails, is_down, submits}
 use Rattle.urb_node.proofs.SubmitCases.{submits-cases}
 

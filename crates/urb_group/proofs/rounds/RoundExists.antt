@@ -32,8 +32,7 @@ use Rattle.urb_group.specs.Recovering.{readied, receipt_of, stores}
 use Rattle.urb_group.specs.Rounds.{Act, Arrives, Disturbs, DoesArrive, IsRound, IsRoundAmong}
 use Rattle.urb_group.specs.Rounds.{Ticks as Ticking, TicksArrive, act_of, acts_of, arrival_by}
 use Rattle.urb_group.specs.Rounds.{taken, tick_by, ticks_of}
-use Rattle.urb_group.specs.Step.{Arrive, Event, IsReached}
-use Rattle.urb_group.specs.Step.{Tick, run, step, world_after}
+use Rattle.urb_group.specs.Step.{Arrive, Event, IsReached, Tick, run, step, world_after}
 use Rattle.urb_group.specs.World.{World, stored}
 use Rattle.urb_names.proofs.SentPairs.{all_append}
 use Rattle.urb_names.specs.Carried.{Carried}

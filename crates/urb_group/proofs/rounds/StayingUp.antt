@@ -9,8 +9,7 @@ use Rattle.urb_group.proofs.rounds.Proceeding.{IsQuiet, Proceeds}
 use Rattle.urb_group.specs.Recovered.{IsDone}
 use Rattle.urb_group.proofs.steps.OneNodeStep.{updated-at}
 use Rattle.urb_group.specs.Recovering.{after}
-use Rattle.urb_group.specs.Step.{Event, Tick, run}
-use Rattle.urb_group.specs.Step.{step, world_after}
+use Rattle.urb_group.specs.Step.{Event, Tick, run, step, world_after}
 use Rattle.urb_group.specs.World.{World}
 use Rattle.urb_names.specs.Acknowledged.{acked, with_ack}
 use Rattle.urb_names.specs.Carried.{says_certified}

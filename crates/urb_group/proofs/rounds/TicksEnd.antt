@@ -11,12 +11,11 @@ use Rattle.urb_group.proofs.recovery.CertifiedNames.{AllCertified}
 use Rattle.urb_group.proofs.rounds.FairRounds.{two-rounds-certify}
 use Rattle.urb_group.proofs.steps.DraftsInSteps.{event_node, step-size, step-each}
 use Rattle.urb_group.proofs.rounds.StaysCounted.{arrive-done, at-node-done, restart-not, run-size}
-use Rattle.urb_group.proofs.recovery.NodeLists.{packet_to}
+use Rattle.urb_group.proofs.recovery.NodeLists.{packet_to, filtered-in, nodes-in}
 use Rattle.urb_group.proofs.rounds.SentAmongEvents.{Comes, Sends, comes-about}
 use Rattle.urb_group.proofs.rounds.TicksAmongEvents.{IsAmong, resent_in, resent_by}
 use Rattle.urb_group.proofs.ticks.DueInTurn.{in-has}
 use Rattle.urb_group.proofs.ticks.DuePairs.{has_pair-rising}
-use Rattle.urb_group.proofs.recovery.NodeLists.{filtered-in, nodes-in}
 use Rattle.urb_group.proofs.steps.OneNodeStep.{updated-at}
 use Rattle.urb_group.proofs.recovery.WorldsGoOn.{knows-pair, run-sound}
 use Rattle.urb_group.proofs.rounds.Proceeding.{IsQuiet, Proceeding, Proceeds, proceeding, acts-more}
@@ -30,8 +29,7 @@ use Rattle.urb_group.specs.Recovering.{after}
 use Rattle.urb_group.specs.Rounds.{Act, AnswersArrive, Arrives, Disturbs, AllUp, IsRound}
 use Rattle.urb_group.specs.Rounds.{IsRoundAmong, IsUndisturbed, NoneDue, Ticks, TicksAreSilent}
 use Rattle.urb_group.specs.Rounds.{act_of, acts_of, arrival_by}
-use Rattle.urb_group.specs.Step.{Arrive, Commit, Event, IsReached, Restart}
-use Rattle.urb_group.specs.Step.{Tick, run, step}
+use Rattle.urb_group.specs.Step.{Arrive, Commit, Event, IsReached, Restart, Tick, run, step}
 use Rattle.urb_group.specs.World.{World, stored}
 use Rattle.urb_names.specs.Acknowledged.{acked}
 use Rattle.urb_names.specs.Carried.{Carried, is_due, others, says_certified, to_unheard}

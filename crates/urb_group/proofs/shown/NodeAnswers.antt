@@ -9,7 +9,8 @@ use Rattle.urb_names.specs.Naming.{Limits}
 use Rattle.urb_names.specs.Nodes.{is_node}
 use Rattle.urb_node.specs.Part.{Node}
 use Rattle.urb_group.specs.Calls.{Answers}
-use Rattle.urb_group.specs.Places.{IsGroup, ShowsAt, shown}
+use Rattle.urb_group.specs.Places.{shown}
+use Rattle.urb_group.specs.internal.Places.{IsGroup, ShowsAt}
 use Rattle.urb_group.specs.declared.node_moves.Node.{Node as Place}
 use Rattle.urb_group.proofs.shown.NodeMoves.{place_shows}
 use Rattle.urb_group.proofs.shown.ShownWorlds.{is-node, no-node}

@@ -15,8 +15,9 @@ use Rattle.urb_node.specs.Shown.{NodeView, ShowsNode, no_view}
 use Rattle.urb_node.specs.Values.{IsSameNode}
 use Rattle.urb_group.specs.Delivering.{event_node}
 use Rattle.urb_group.specs.Calls.{Happens, HoldsDraft, IsRefused, Steps}
-use Rattle.urb_group.specs.Moving.{IsHeldAt, Leads, LeadsAt, Outcomes, Told}
-use Rattle.urb_group.specs.Places.{IsGroup, IsNumbered, ShowsAt, memory_in, shown, view_at}
+use Rattle.urb_group.specs.internal.Moving.{IsHeldAt, Leads, LeadsAt, Outcomes, Told}
+use Rattle.urb_group.specs.Places.{memory_in, shown, view_at}
+use Rattle.urb_group.specs.internal.Places.{IsGroup, IsNumbered, ShowsAt}
 use Rattle.urb_group.specs.Shown.{GroupView, IsSound, Shows, view_of}
 use Rattle.urb_group.specs.Step.{Event, at_node, step, world_after}
 use Rattle.urb_group.specs.World.{World}

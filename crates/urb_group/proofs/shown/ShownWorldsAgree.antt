@@ -6,8 +6,7 @@ use Rattle.std.proofs.Common.{◌==◌, ◌∙◌, ◌∷◌, ◌≡◌}
 use Rattle.urb_group.proofs.steps.OneNodeStep.{caused-grows}
 use Rattle.urb_group.proofs.steps.Runs.{step-keeps}
 use Rattle.urb_group.proofs.steps.ShortPayloads.{step-short}
-use Rattle.urb_group.specs.Invariant.{DoubtShort, IsKept, MayJoin, NodeKept, NodeShort}
-use Rattle.urb_group.specs.Invariant.{StateKept}
+use Rattle.urb_group.specs.Invariant.{DoubtShort, IsKept, MayJoin, NodeKept, NodeShort, StateKept}
 use Rattle.urb_group.specs.Shown.{GroupView, IsSound, Shows}
 use Rattle.urb_group.specs.Step.{Event, step}
 use Rattle.urb_group.specs.World.{World, stored, updated}

@@ -1,7 +1,6 @@
 -- Stores that are asked for their records one after the other.
-use Rattle.std.proofs.Common.{Err, List, Ok, [], ap, append_assoc, arith, length, map}
-use Rattle.std.proofs.Common.{refl, subst, suc, sym, ℕ}
-use Rattle.std.proofs.Common.{◌++◌, ◌<◌, ◌∙◌, ◌∷◌, ◌≡◌}
+use Rattle.std.proofs.Common.{Err, List, Ok, [], ap, append_assoc, arith, length, refl, subst}
+use Rattle.std.proofs.Common.{suc, sym, ℕ, ◌++◌, ◌<◌, ◌∙◌, ◌∷◌, ◌≡◌}
 use Rattle.std.specs.Prelude.{drop, slice_index_or, slice_set, take}
 use Rattle.std.proofs.Math.Seq.{drop-length, take-append_seam}
 use Rattle.urb_stable.specs.Entries.{Entry}
@@ -56,12 +55,6 @@ next-of : {S : Type 0} (gave later : List S) → length gave < length (gave ++ l
 next-of [] [] less = absurd (omega arith)
 next-of [] (y ∷ ys) less = record { next = y; rest = ys; is = refl }
 next-of (x ∷ gave) later less = next-of gave later (omega (arith, less))
-
--- a map of one more element
-pub map-more : {T U : Type 0} (f : T → U) (xs : List T) (x : T)
-    → map f (xs ++ x ∷ []) ≡ map f xs ++ f x ∷ []
-map-more f [] x = refl
-map-more f (y ∷ xs) x = ap (λ zs. f y ∷ zs) (map-more f xs x)
 
 module _ {S A : Type 0} (g : Ghosts S A) (stores now : List S) (images : List (List Entry))
     (index : ℕ) (h : HasAsked g stores now images index) where

@@ -1,10 +1,11 @@
 //! What a submit is answered: repeats, conflicts, gaps, a full sender, and payloads at the limit.
-ghost use Rattle.std.specs.Prelude.{[], ◌∷◌, None, Some, replicate};
+ghost use Rattle.std.specs.Prelude.{[], ◌∷◌, Some};
 ghost use Rattle.urb_names.specs.declared.refusal.Refusal.TheVariants as refusal;
 ghost use Rattle.urb_names.specs.Names.{name};
-ghost use Rattle.urb_group.specs.Scripts.{◌⇒◌, Plays, Drafts, Accepts, Logs, Refuses, accepted};
-ghost use Rattle.urb_group.specs.Scripts.{down, message, submit, store, crash, log_of};
-ghost use Rattle.urb_group.specs.Examples.{filled};
+ghost use Rattle.urb_group.specs.internal.Scripts.{◌⇒◌, Plays, Drafts, Accepts, Logs, Refuses};
+ghost use Rattle.urb_group.specs.internal.Scripts.{accepted};
+ghost use Rattle.urb_group.specs.internal.Scripts.{down, message, submit, store, crash, log_of};
+ghost use Rattle.urb_group.specs.internal.Examples.{filled};
 
 /// The numbers of each client run 1, 2, 3, .. at each node. A repeat gets the name that the first
 /// submit got.

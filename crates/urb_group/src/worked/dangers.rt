@@ -4,8 +4,8 @@ ghost use Rattle.urb_names.specs.Names.{name};
 ghost use Rattle.urb_stable.specs.declared.record.Record.TheVariants.{Pend};
 ghost use Rattle.urb_group.specs.World.{opened, image_of};
 ghost use Rattle.urb_group.specs.Safe.{Safe, OneMessage};
-ghost use Rattle.urb_group.specs.Scripts.{message};
-ghost use Rattle.urb_group.specs.Examples.{pending, certified, limits};
+ghost use Rattle.urb_group.specs.internal.Scripts.{message};
+ghost use Rattle.urb_group.specs.internal.Examples.{pending, certified, limits};
 
 /// What a safe group doesn't deliver, and what its nodes don't hold.
 pub fn dangers()

@@ -1,13 +1,13 @@
 //! Scripts without failures: what is drafted, stored, sent, counted and delivered.
 ghost use Rattle.std.specs.Prelude.{[], ◌∷◌, None, Some, false};
 ghost use Rattle.urb_names.specs.Names.{name};
-ghost use Rattle.urb_stable.specs.declared.record.Record.TheVariants.{Pend, PendCert, Cert};
+ghost use Rattle.urb_stable.specs.declared.record.Record.TheVariants.{Pend, Cert};
 ghost use Rattle.urb_node.specs.Part.{Ready, Storing, packet_from};
 ghost use Rattle.urb_group.specs.World.{image_of};
-ghost use Rattle.urb_group.specs.Scripts.{◌⇒◌, Plays, PlaysOpened, Drafts, Accepts, Takes, Logs};
-ghost use Rattle.urb_group.specs.Scripts.{Holds, Is, noted, again, message, submit, store, arrive};
-ghost use Rattle.urb_group.specs.Scripts.{log_of, held, look_at};
-ghost use Rattle.urb_group.specs.Examples.{pending, limits};
+ghost use Rattle.urb_group.specs.internal.Scripts.{◌⇒◌, Plays, PlaysOpened, Drafts, Accepts, Takes};
+ghost use Rattle.urb_group.specs.internal.Scripts.{Logs, Holds, Is, noted, again, message, submit};
+ghost use Rattle.urb_group.specs.internal.Scripts.{store, arrive, log_of, held, look_at};
+ghost use Rattle.urb_group.specs.internal.Examples.{pending, limits};
 
 /// Groups of one and of three nodes.
 pub fn small_groups()

@@ -4,12 +4,13 @@ ghost use Rattle.urb_names.specs.declared.refusal.Refusal.TheVariants as refusal
 ghost use Rattle.urb_names.specs.Names.{name};
 ghost use Rattle.urb_stable.specs.declared.record.Record.TheVariants.{Pend, Cert};
 ghost use Rattle.urb_node.specs.Part.{Down, Ready};
-ghost use Rattle.urb_group.specs.Scripts.{◌⇒◌, Plays, Drafts, Accepts, Takes, Logs, Holds, Is};
-ghost use Rattle.urb_group.specs.Scripts.{Opens, Sends, Refuses, accepted, noted, again, down, up};
-ghost use Rattle.urb_group.specs.Scripts.{message, submit, store, fail_old, fail_new, crash};
-ghost use Rattle.urb_group.specs.Scripts.{restart, restart_with, reopen, tick, arrive, log_of};
-ghost use Rattle.urb_group.specs.Scripts.{held, look_at};
-ghost use Rattle.urb_group.specs.Examples.{pending};
+ghost use Rattle.urb_group.specs.internal.Scripts.{◌⇒◌, Plays, Drafts, Accepts, Takes, Logs, Holds};
+ghost use Rattle.urb_group.specs.internal.Scripts.{Is, Opens, Sends, Refuses, accepted, noted};
+ghost use Rattle.urb_group.specs.internal.Scripts.{again, down, up, message, submit, store};
+ghost use Rattle.urb_group.specs.internal.Scripts.{fail_old, fail_new, crash, restart};
+ghost use Rattle.urb_group.specs.internal.Scripts.{restart_with, reopen, tick, arrive, log_of};
+ghost use Rattle.urb_group.specs.internal.Scripts.{held, look_at};
+ghost use Rattle.urb_group.specs.internal.Examples.{pending};
 
 /// Stores that fail.
 pub fn failed_stores()

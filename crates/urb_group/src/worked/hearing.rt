@@ -1,17 +1,19 @@
 //! Certificates that nodes report to one another.
 //!
 //! The examples show which packets may report a certificate, what is heard, and what is answered.
-ghost use Rattle.std.specs.Prelude.{[], ◌∷◌, ◌++◌, None, Some, true};
+ghost use Rattle.std.specs.Prelude.{[], ◌∷◌, None, Some, true};
 ghost use Rattle.urb_names.specs.declared.refusal.Refusal.TheVariants as refusal;
 ghost use Rattle.urb_names.specs.Names.{name};
 ghost use Rattle.urb_stable.specs.declared.record.Record.TheVariants.{Cert};
 ghost use Rattle.urb_node.specs.Part.{Down, Ready, Storing, packet_from};
 ghost use Rattle.urb_group.specs.World.{image_of};
-ghost use Rattle.urb_group.specs.Scripts.{◌⇒◌, Plays, PlaysOpened, Drafts, Accepts, Takes, Is};
-ghost use Rattle.urb_group.specs.Scripts.{Opens, Sends, Refuses, noted, again, answered, down, up};
-ghost use Rattle.urb_group.specs.Scripts.{message, submit, store, crash, restart, restart_with};
-ghost use Rattle.urb_group.specs.Scripts.{reopen, bring, tick, arrive, arrive2, look_at};
-ghost use Rattle.urb_group.specs.Examples.{pending, certified, filled, limits, flagged, to_two};
+ghost use Rattle.urb_group.specs.internal.Scripts.{◌⇒◌, Plays, PlaysOpened, Drafts, Accepts, Takes};
+ghost use Rattle.urb_group.specs.internal.Scripts.{Is, Opens, Sends, Refuses, noted, again};
+ghost use Rattle.urb_group.specs.internal.Scripts.{answered, down, up, message, submit, store};
+ghost use Rattle.urb_group.specs.internal.Scripts.{crash, restart, restart_with, reopen, bring};
+ghost use Rattle.urb_group.specs.internal.Scripts.{tick, arrive, arrive2, look_at};
+ghost use Rattle.urb_group.specs.internal.Examples.{pending, certified, filled, limits, flagged};
+ghost use Rattle.urb_group.specs.internal.Examples.{to_two};
 
 /// Three nodes report their certificates to one another. In the end, ticks send only to the node
 /// that has reported no certificate. Then a node crashes, and has heard nothing.

@@ -6,8 +6,8 @@ ghost use Rattle.urb_stable.specs.Log.{log};
 ghost use Rattle.urb_stable.specs.declared.record.Record.TheVariants.{Pend, PendCert, Cert};
 ghost use Rattle.urb_node.specs.Part.{Ready};
 ghost use Rattle.urb_group.specs.World.{opened, image_of};
-ghost use Rattle.urb_group.specs.Scripts.{message};
-ghost use Rattle.urb_group.specs.Examples.{pending, certified, limits, Judged, misfit};
+ghost use Rattle.urb_group.specs.internal.Scripts.{message};
+ghost use Rattle.urb_group.specs.internal.Examples.{pending, certified, limits, Judged, misfit};
 
 /// Images that fit together.
 pub fn fitting_images()

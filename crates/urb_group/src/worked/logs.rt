@@ -3,8 +3,8 @@ ghost use Rattle.std.specs.Prelude.{◌≡◌, [], ◌∷◌, Some};
 ghost use Rattle.urb_names.specs.Names.{name};
 ghost use Rattle.urb_stable.specs.Log.{log, entries};
 ghost use Rattle.urb_stable.specs.declared.record.Record.TheVariants.{Pend, PendCert, Cert};
-ghost use Rattle.urb_group.specs.Scripts.{message};
-ghost use Rattle.urb_group.specs.Examples.{pending, certified};
+ghost use Rattle.urb_group.specs.internal.Scripts.{message};
+ghost use Rattle.urb_group.specs.internal.Examples.{pending, certified};
 
 /// A log has a sender's names from number 1 on, as far as all are certified. Each enters the log as
 /// soon as all before it are certified.

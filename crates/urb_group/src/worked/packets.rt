@@ -6,8 +6,8 @@ ghost use Rattle.urb_node.specs.Replies.{Drafted, Same, Sent, Stored};
 ghost use Rattle.urb_node.specs.declared.answer.Answer.TheVariants.{Answered};
 ghost use Rattle.urb_group.specs.World.{image_of, opened, started};
 ghost use Rattle.urb_group.specs.Step.{run, Submit, Arrive, Commit, Tick};
-ghost use Rattle.urb_group.specs.Scripts.{message};
-ghost use Rattle.urb_group.specs.Examples.{pending, certified, limits, carried, flagged};
+ghost use Rattle.urb_group.specs.internal.Scripts.{message};
+ghost use Rattle.urb_group.specs.internal.Examples.{pending, certified, limits, carried, flagged};
 
 /// A stored pair goes to every other node, in rising order of target. A certificate goes to no
 /// node. All packets of replies count as sent. Packets are of version two. They report a

@@ -5,11 +5,11 @@ ghost use Rattle.std.specs.Prelude.{[], ◌∷◌, Ok, map};
 ghost use Rattle.urb_names.specs.Names.{name, names};
 ghost use Rattle.urb_names.specs.Nodes.{numbers_from};
 ghost use Rattle.urb_stable.specs.declared.record.Record.TheVariants.{PendCert, Cert};
-ghost use Rattle.urb_group.specs.Examples.{certified, flagged, limits, pending};
-ghost use Rattle.urb_group.specs.Recoveries.{ComesTo, RecoversBy, opened_group, kept_all};
-ghost use Rattle.urb_group.specs.Recoveries.{kept_none};
-ghost use Rattle.urb_group.specs.Scripts.{arrive2, crash, fail_old, message, new_group, store};
-ghost use Rattle.urb_group.specs.Scripts.{submit, tick};
+ghost use Rattle.urb_group.specs.internal.Examples.{certified, flagged, limits, pending};
+ghost use Rattle.urb_group.specs.internal.Recoveries.{ComesTo, RecoversBy, opened_group, kept_all};
+ghost use Rattle.urb_group.specs.internal.Recoveries.{kept_none};
+ghost use Rattle.urb_group.specs.internal.Scripts.{arrive2, crash, fail_old, message, new_group};
+ghost use Rattle.urb_group.specs.internal.Scripts.{store, submit, tick};
 ghost use Rattle.urb_group.specs.Step.{Arrive, Commit, Restart, Tick};
 
 /// Every packet was lost so far.

@@ -1,16 +1,16 @@
 //! Which refusal comes first, for bytes, receipts and nodes.
-ghost use Rattle.std.specs.Prelude.{[], ◌∷◌, None, Some};
+ghost use Rattle.std.specs.Prelude.{[], ◌∷◌, None};
 ghost use Rattle.urb_names.specs.declared.refusal.Refusal.TheVariants as refusal;
 ghost use Rattle.urb_names.specs.declared.refusal.PacketFault.TheVariants as fault;
 ghost use Rattle.urb_names.specs.Names.{name};
 ghost use Rattle.urb_stable.specs.declared.record.Record.TheVariants.{Pend, PendCert, Cert};
 ghost use Rattle.urb_node.specs.Part.{Ready};
 ghost use Rattle.urb_group.specs.World.{image_of};
-ghost use Rattle.urb_group.specs.Scripts.{◌⇒◌, Plays, PlaysOpened, Drafts, Accepts, Takes, Sends};
-ghost use Rattle.urb_group.specs.Scripts.{Logs, Is, Refuses, noted, again, down, message, submit};
-ghost use Rattle.urb_group.specs.Scripts.{store, fail_old, crash, restart, commit, bring};
-ghost use Rattle.urb_group.specs.Scripts.{bring_bytes, tick, arrive, log_of, look_at};
-ghost use Rattle.urb_group.specs.Examples.{pending, certified, limits, carried};
+ghost use Rattle.urb_group.specs.internal.Scripts.{◌⇒◌, Plays, PlaysOpened, Drafts, Accepts, Takes};
+ghost use Rattle.urb_group.specs.internal.Scripts.{Logs, Is, Refuses, again, down, message, submit};
+ghost use Rattle.urb_group.specs.internal.Scripts.{store, fail_old, crash, restart, commit, bring};
+ghost use Rattle.urb_group.specs.internal.Scripts.{bring_bytes, tick, arrive, log_of, look_at};
+ghost use Rattle.urb_group.specs.internal.Examples.{pending, certified, limits, carried};
 
 /// Packets of pairs that their source doesn't hold, packets of nodes that the group doesn't have,
 /// and bytes that are no packet.

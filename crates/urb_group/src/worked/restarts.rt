@@ -2,16 +2,17 @@
 //!
 //! An image is the list of records that a node's storage returned. The functions do nothing. Each
 //! clause plays a script, a list of `event ⇒ answer`, by the definitions alone.
-ghost use Rattle.std.specs.Prelude.{[], ◌∷◌, None, Some};
+ghost use Rattle.std.specs.Prelude.{[], ◌∷◌, None};
 ghost use Rattle.urb_names.specs.declared.refusal.Refusal.TheVariants as refusal;
 ghost use Rattle.urb_names.specs.Names.{name};
-ghost use Rattle.urb_stable.specs.declared.record.Record.TheVariants.{Pend, PendCert, Cert};
+ghost use Rattle.urb_stable.specs.declared.record.Record.TheVariants.{Pend, Cert};
 ghost use Rattle.urb_node.specs.Part.{Ready};
 ghost use Rattle.urb_group.specs.World.{image_of};
-ghost use Rattle.urb_group.specs.Scripts.{◌⇒◌, Plays, PlaysOpened, Drafts, Accepts, Takes, Is};
-ghost use Rattle.urb_group.specs.Scripts.{Refuses, accepted, down, up, message, submit, store};
-ghost use Rattle.urb_group.specs.Scripts.{fail_old, crash, restart_with, arrive, look_at};
-ghost use Rattle.urb_group.specs.Examples.{pending, certified, limits};
+ghost use Rattle.urb_group.specs.internal.Scripts.{◌⇒◌, Plays, PlaysOpened, Drafts, Accepts, Takes};
+ghost use Rattle.urb_group.specs.internal.Scripts.{Is, Refuses, accepted, down, up, message};
+ghost use Rattle.urb_group.specs.internal.Scripts.{submit, store, fail_old, crash, restart_with};
+ghost use Rattle.urb_group.specs.internal.Scripts.{arrive, look_at};
+ghost use Rattle.urb_group.specs.internal.Examples.{pending, certified, limits};
 
 /// Images that match what was stored. The record in doubt may be there or be missing. The node has
 /// its records again in its own order, and one acknowledgement, its own, for each pending name.

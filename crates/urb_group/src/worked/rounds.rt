@@ -5,17 +5,18 @@
 ghost use Rattle.std.specs.Prelude.{[], ◌∷◌, ◌++◌, ◌≡◌, List, Ok, map};
 ghost use Rattle.urb_names.specs.Names.{name, names};
 ghost use Rattle.urb_names.specs.Nodes.{numbers_from};
-ghost use Rattle.urb_group.specs.Examples.{flagged, limits, pending};
-ghost use Rattle.urb_group.specs.Recoveries.{opened_group, scene_after};
+ghost use Rattle.urb_group.specs.internal.Examples.{flagged, limits, pending};
+ghost use Rattle.urb_group.specs.internal.Recoveries.{opened_group, scene_after};
 ghost use Rattle.urb_group.specs.Recovering.{both, rounds, stores};
-ghost use Rattle.urb_group.specs.RoundExamples.{RoundsCome, TicksSend, a_round, as_sent};
-ghost use Rattle.urb_group.specs.RoundExamples.{broadcast_of_two, busy_at_first, disturbed};
-ghost use Rattle.urb_group.specs.RoundExamples.{in_order, judged, leaves_a_draft, loses_a_packet};
-ghost use Rattle.urb_group.specs.RoundExamples.{none_of, old_packets, one_by_one, ticks_too_seldom};
-ghost use Rattle.urb_group.specs.RoundExamples.{two_of_three_nodes_broadcast, with_answers};
-ghost use Rattle.urb_group.specs.RoundExamples.{without_receipts};
+ghost use Rattle.urb_group.specs.internal.RoundExamples.{RoundsCome, TicksSend, a_round, as_sent};
+ghost use Rattle.urb_group.specs.internal.RoundExamples.{broadcast_of_two, busy_at_first};
+ghost use Rattle.urb_group.specs.internal.RoundExamples.{disturbed, in_order, judged};
+ghost use Rattle.urb_group.specs.internal.RoundExamples.{leaves_a_draft, loses_a_packet, none_of};
+ghost use Rattle.urb_group.specs.internal.RoundExamples.{old_packets, one_by_one, ticks_too_seldom};
+ghost use Rattle.urb_group.specs.internal.RoundExamples.{two_of_three_nodes_broadcast};
+ghost use Rattle.urb_group.specs.internal.RoundExamples.{with_answers, without_receipts};
 ghost use Rattle.urb_group.specs.Rounds.{IsRound};
-ghost use Rattle.urb_group.specs.Scripts.{message, submit};
+ghost use Rattle.urb_group.specs.internal.Scripts.{message, submit};
 ghost use Rattle.urb_group.specs.Step.{Arrive, Crash, Event, Restart, Tick};
 ghost use Rattle.urb_group.specs.World.{stored, World};
 

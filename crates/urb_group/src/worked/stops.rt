@@ -1,12 +1,13 @@
 //! What a stop of the process may leave of a node's storage.
 ghost use Rattle.std.specs.Prelude.{[], ◌∷◌, None, Some, false};
-ghost use Rattle.urb_stable.specs.Memory.{after_failure, empty_memory, with_record};
-ghost use Rattle.urb_stable.specs.declared.record.Record.TheVariants.{Pend, PendCert};
+ghost use Rattle.urb_stable.specs.Memory.{after_failure, empty_memory};
+ghost use Rattle.urb_stable.specs.internal.Memory.{with_record};
 ghost use Rattle.urb_node.specs.Part.{Ready, Storing, Down, packet_from};
 ghost use Rattle.urb_group.specs.InMemory.{in_memory};
 ghost use Rattle.urb_group.specs.Stocked.{HoldsOf, IsLasting, IsStoreOf, LeavesOf, StopLeaves};
 ghost use Rattle.urb_group.specs.Stopping.{MayLeave};
-ghost use Rattle.urb_group.specs.Examples.{pending, certified, node_in, shut_by_failures, world_of};
+ghost use Rattle.urb_group.specs.internal.Examples.{pending, certified, node_in, shut_by_failures};
+ghost use Rattle.urb_group.specs.internal.Examples.{world_of};
 
 /// The stored records, with or without the record that is held or in doubt.
 pub fn left_records()

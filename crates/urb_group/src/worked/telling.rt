@@ -11,11 +11,11 @@ ghost use Rattle.urb_node.specs.Replies.{Drafted, Same, Sent, Stored};
 ghost use Rattle.urb_node.specs.declared.answer.Answer.TheVariants.{Answered, Noted};
 ghost use Rattle.urb_group.specs.World.{image_of, opened};
 ghost use Rattle.urb_group.specs.Step.{run, Arrive, Commit, Tick};
-ghost use Rattle.urb_group.specs.Scripts.{◌⇒◌, PlaysOpened, Drafts, Accepts, Takes, Logs, Is};
-ghost use Rattle.urb_group.specs.Scripts.{Sends, Refuses, noted, again, answered, down, up};
-ghost use Rattle.urb_group.specs.Scripts.{message, submit, store, crash, restart, bring, tick};
-ghost use Rattle.urb_group.specs.Scripts.{arrive, arrive2, log_of, look_at};
-ghost use Rattle.urb_group.specs.Examples.{pending, certified, limits, flagged};
+ghost use Rattle.urb_group.specs.internal.Scripts.{◌⇒◌, PlaysOpened, Drafts, Accepts, Takes, Logs};
+ghost use Rattle.urb_group.specs.internal.Scripts.{Is, Sends, Refuses, noted, again, answered};
+ghost use Rattle.urb_group.specs.internal.Scripts.{down, up, message, submit, store, crash};
+ghost use Rattle.urb_group.specs.internal.Scripts.{restart, bring, tick, arrive2, log_of, look_at};
+ghost use Rattle.urb_group.specs.internal.Examples.{pending, certified, limits, flagged};
 
 /// An answer is added to the packets that were sent, after the earlier ones.
 pub fn answers_are_sent()

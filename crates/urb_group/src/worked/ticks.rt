@@ -1,13 +1,14 @@
 //! What ticks send: at most `NAMES_PER_TICK` pending names, in cyclic order.
 //!
 //! Each name goes to every other node, except those that were heard to have certified it.
-ghost use Rattle.std.specs.Prelude.{[], ◌∷◌, ◌++◌, None, Some};
+ghost use Rattle.std.specs.Prelude.{[], ◌∷◌, ◌++◌};
 ghost use Rattle.urb_names.specs.Names.{name};
 ghost use Rattle.urb_group.specs.World.{image_of};
-ghost use Rattle.urb_group.specs.Scripts.{◌⇒◌, Plays, PlaysOpened, Drafts, Accepts, Takes, Sends};
-ghost use Rattle.urb_group.specs.Scripts.{down, up, message, submit, store, crash, restart, tick};
-ghost use Rattle.urb_group.specs.Scripts.{arrive};
-ghost use Rattle.urb_group.specs.Examples.{pending, certified, limits, stored_from, to_two};
+ghost use Rattle.urb_group.specs.internal.Scripts.{◌⇒◌, Plays, PlaysOpened, Drafts, Accepts};
+ghost use Rattle.urb_group.specs.internal.Scripts.{Sends, down, up, message, submit, store, crash};
+ghost use Rattle.urb_group.specs.internal.Scripts.{restart, tick};
+ghost use Rattle.urb_group.specs.internal.Examples.{pending, certified, limits, stored_from};
+ghost use Rattle.urb_group.specs.internal.Examples.{to_two};
 
 /// Ticks of nodes with few names.
 pub fn ticks()

@@ -12,7 +12,7 @@ pub struct Grows<K> {
 }
 
 impl<K: HouseName> Protocol<PublishedLists, u64> for Grows<K> {
-    ghost use Rattle.urb_show.specs.PublishingRule.{Keeps};
+    ghost use Rattle.urb_show.specs.internal.PublishingRule.{Keeps};
 
     ghost holds = { Keeps K.book K.base };
 
@@ -26,7 +26,7 @@ pub struct Sees<K> {
 }
 
 impl<K: HouseName> Outcome<PublishedLists, u64> for Sees<K> {
-    ghost use Rattle.urb_show.specs.PublishingRule.{Rises};
+    ghost use Rattle.urb_show.specs.internal.PublishingRule.{Rises};
 
     ghost then = { Rises K.book K.base };
 }

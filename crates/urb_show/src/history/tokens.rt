@@ -3,7 +3,7 @@
 //! It exists only in proofs: the program keeps only its length.
 ghost use Rattle.std.specs.Prelude.{◌≡◌, ◌⊎◌, ◌+◌, ◌<◌, ◌≤◌, ◌++◌, ◌∷◌, [], length, MatchBool};
 ghost use mathlib.Core.List.{IsPrefix};
-ghost use Rattle.urb_show.specs.History.{IsFull, head_of};
+ghost use Rattle.urb_show.specs.internal.History.{IsFull, head_of};
 
 use crate::entry::Addition;
 use logbook::{Gain, Offer, Plain, Play, Rule, Seen, Start, Word};
@@ -18,7 +18,7 @@ pub(crate) struct Law;
 impl Rule<Addition, u64> for Law {
     ghost use Rattle.std.specs.Prelude.{[]};
     ghost use base.Fml.{ftrue};
-    ghost use Rattle.urb_show.specs.History.{IsKept};
+    ghost use Rattle.urb_show.specs.internal.History.{IsKept};
 
     ghost holds = { λ cells log. IsKept cells log };
 
@@ -46,7 +46,7 @@ impl Gain<Addition, u64> for Nothing {
 pub(crate) struct Add;
 
 impl Play<Addition, u64> for Add {
-    ghost use Rattle.urb_show.specs.History.{Adds};
+    ghost use Rattle.urb_show.specs.internal.History.{Adds};
 
     ghost then = { Adds };
 }
@@ -144,7 +144,7 @@ pub(crate) struct Mark {
 
 impl Model for Mark {
     ghost use Rattle.std.specs.Prelude.{◌≡◌, length};
-    ghost use Rattle.urb_show.specs.History.{MarkView};
+    ghost use Rattle.urb_show.specs.internal.History.{MarkView};
 
     ghost Value = { MarkView };
 

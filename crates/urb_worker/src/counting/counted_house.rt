@@ -1,6 +1,6 @@
 //! The value under a Hub's lock: the House, with the book of its events.
 
-ghost use Rattle.std.specs.Prelude.{◌≡◌, ◌+◌, ◌-◌, ◌<◌, ◌^◌, sum, true, vec_len};
+ghost use Rattle.std.specs.Prelude.{◌≡◌, ◌+◌, ◌-◌, ◌<◌, sum, true, vec_len};
 ghost use Rattle.urb_group.specs.Shown.{IsSound};
 ghost use Rattle.urb_worker.specs.Counting.{count_after};
 ghost use Rattle.urb_worker.specs.Stages.{is_stored};

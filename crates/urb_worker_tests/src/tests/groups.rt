@@ -2,7 +2,7 @@
 //!
 //! What ticks bring, clients that break off, and what is counted.
 
-ghost use Rattle.std.specs.Prelude.{◌≡◌, ◌<◌, ◌≤◌, IfSome, vec_len, vec_capacity};
+ghost use Rattle.std.specs.Prelude.{◌≡◌, ◌<◌, ◌≤◌, IfSome, vec_len};
 
 use super::open_group;
 use std::alloc::Global;

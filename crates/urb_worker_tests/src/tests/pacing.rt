@@ -4,8 +4,8 @@ use std::alloc::Global;
 use std::io;
 use std::io::{Read, Write};
 use std::test::Fail;
+use urb_client::BufferedAnswers;
 use urb_refusing::{FailingReader, FailingWriter};
-use urb_worker::BufferedAnswers;
 
 // Answers each byte of an input by itself, and returns whether all answers went out.
 fn echo(

@@ -1,6 +1,6 @@
 //! What is reported about a node that goes down and comes back while its group runs.
 
-ghost use Rattle.std.specs.Prelude.{◌≡◌, ◌<◌, ◌≤◌, IfSome, vec_len, vec_capacity};
+ghost use Rattle.std.specs.Prelude.{◌≡◌, ◌<◌, ◌≤◌, IfSome, vec_len};
 
 use super::groups::{answers, link_to, make_stations};
 use super::open_group;

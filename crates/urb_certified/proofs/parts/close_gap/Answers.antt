@@ -2,7 +2,7 @@ use Rattle.std.proofs.Common.{rules, sym, subst, ◌≡◌, ◌<◌, ◌≤◌, 
 use Rattle.std.proofs.Common.{filter, slice_set}
 use Rattle.urb_names.specs.Naming.{Label}
 use Rattle.urb_names.specs.Names.{has_name, name}
-use Rattle.urb_certified.specs.Parts.{IsJoined, is_left}
+use Rattle.urb_certified.specs.internal.Parts.{IsJoined, is_left}
 use Rattle.urb_certified.proofs.Kept.{closes}
 use Rattle.urb_certified.proofs.parts.close_gap.Goals as goal
 

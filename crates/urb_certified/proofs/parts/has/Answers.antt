@@ -1,6 +1,6 @@
 use Rattle.std.proofs.Common.{rules, sym, ◌∙◌, ◌≤◌, ◌<◌}
 use Rattle.std.proofs.lemmas.Bool.{le-leb}
-use Rattle.urb_certified.specs.Parts.{low_of}
+use Rattle.urb_certified.specs.internal.Parts.{low_of}
 use Rattle.urb_certified.proofs.Members.{all_low, upper_only}
 use Rattle.urb_certified.proofs.parts.has.Goals as goal
 

@@ -1,5 +1,5 @@
 use Rattle.std.proofs.Common.{sym, subst}
-use Rattle.urb_certified.specs.Parts.{IsJoined}
+use Rattle.urb_certified.specs.internal.Parts.{IsJoined}
 use Rattle.urb_certified.proofs.Kept.{puts}
 use Rattle.urb_certified.proofs.parts.join.Goals as goal
 

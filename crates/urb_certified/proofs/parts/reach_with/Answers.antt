@@ -1,5 +1,5 @@
 use Rattle.std.proofs.Common.{rules, sym, ◌∙◌, ◌≡◌}
-use Rattle.urb_certified.specs.Parts.{low_of}
+use Rattle.urb_certified.specs.internal.Parts.{low_of}
 use Rattle.urb_certified.proofs.Reaches.{reach_joins, reach_stays}
 use Rattle.urb_certified.proofs.parts.reach_with.Goals as goal
 

@@ -1,6 +1,6 @@
 use Rattle.std.proofs.Common.{[], ap, arith, subst, sym, ◌++◌, ◌∙◌, ◌∷◌, ◌≡◌}
 use Rattle.sqlite.specs.Files.{file_state}
-use Rattle.urb_cluster_stop.specs.ClusterStops.{AreReopened}
+use Rattle.urb_cluster_stop.specs.internal.ClusterStops.{AreReopened}
 use Rattle.urb_sqlite.specs.Stops.{IsReopened}
 use Rattle.urb_cluster_stop.proofs.JournalsReopened.{append-none, moved, none_left, one_more_length}
 use Rattle.urb_cluster_stop.proofs.JournalsReopened.{one_more_reopened}

@@ -1,8 +1,7 @@
-use Rattle.std.proofs.Common.{ap, length, nat_lt, refl, subst, sym, ◌∙◌, ◌≡◌}
+use Rattle.std.proofs.Common.{ap, length, nat_lt, refl, subst, sym, ◌∙◌}
 use Rattle.sqlite_trees.specs.View.{doubt}
 use Rattle.sqlite_pool.specs.Pool.{state}
 use Rattle.sqlite.specs.Files.{HoldsDatabase}
-use Rattle.urb_daemon.specs.ForeignJournals.{TellsRecords}
 use Rattle.urb_daemon.proofs.RecordCounts.{some}
 use Rattle.urb_daemon.proofs.foreign_journals.has_records.Goals as goal
 

@@ -3,7 +3,7 @@ use Rattle.std.proofs.lemmas.List.{length-map}
 use Rattle.urb_group.proofs.stops.Reopened.{given-count}
 use Rattle.urb_daemon.proofs.RunsAfterStop.{goes-on-together, leaves-together, opened-together}
 use Rattle.urb_daemon.proofs.RunsAfterStop.{secured-together, stocked-together, unopened-together}
-use Rattle.urb_daemon.specs.StoresAsked.{RetrievesTogether}
+use Rattle.urb_daemon.specs.internal.StoresAsked.{RetrievesTogether}
 use Rattle.urb_daemon.proofs.group.open_group.Goals as goal
 
 pub open-requires : goal.open-requires

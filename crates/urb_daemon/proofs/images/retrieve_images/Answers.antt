@@ -1,4 +1,4 @@
-use Rattle.std.proofs.Common.{Err, Ok, ap, inl, inr, map, rules, subst, sym, ◌∙◌, ◌≡◌}
+use Rattle.std.proofs.Common.{Ok, ap, inl, inr, map, rules, subst, sym, ◌∙◌, ◌≡◌}
 use Rattle.urb_stable.specs.Storing.{refusal_of}
 use Rattle.urb_group.proofs.stops.AskedStores.{written-back}
 use Rattle.urb_daemon.proofs.StoresAsked.{all_give}

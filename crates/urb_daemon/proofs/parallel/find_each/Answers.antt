@@ -1,8 +1,8 @@
 use denote.Param.{param}
 use denote.Param.Send.{param_send}
-use Rattle.std.proofs.Common.{IfSome, length, rules, slice_get, subst, sym, ◌<◌, ◌∙◌, ◌≡◌}
+use Rattle.std.proofs.Common.{IfSome, length, rules, subst, sym, ◌<◌, ◌∙◌, ◌≡◌}
 use Rattle.urb_sqlite.specs.Nodes.{held_by}
-use Rattle.urb_daemon.specs.OpenedJournals.{OpensIn}
+use Rattle.urb_daemon.specs.internal.OpenedJournals.{OpensIn}
 use Rattle.urb_daemon.proofs.PlacesInOrder.{read_there}
 use Rattle.urb_daemon.proofs.SendableFiles.{found_send, node_file_send}
 use Rattle.urb_daemon.proofs.parallel.find_each.Goals as goal

@@ -1,9 +1,9 @@
-use Rattle.std.proofs.Common.{Err, IfSome, Ok, Some, arith, rules, length, slice_get, subst, sym}
-use Rattle.std.proofs.Common.{◌+◌, ◌<◌, ◌∙◌, ◌≡◌, ◌≤◌}
+use Rattle.std.proofs.Common.{IfSome, Ok, Some, arith, rules, length, slice_get, subst, sym}
+use Rattle.std.proofs.Common.{◌+◌, ◌<◌, ◌≡◌}
 use Rattle.std.proofs.lemmas.Option.{slice_get_read}
 use Rattle.urb_sqlite.specs.Nodes.{held_by}
-use Rattle.urb_daemon.specs.OpenedJournals.{OpensIn}
-use Rattle.urb_daemon.specs.OpenedPlaces.{AreOpened, FailsAtFirst}
+use Rattle.urb_daemon.specs.internal.OpenedJournals.{OpensIn}
+use Rattle.urb_daemon.specs.internal.OpenedPlaces.{AreOpened}
 use Rattle.urb_daemon.proofs.PlacesInOrder.{none_yet, one_more, unset}
 use Rattle.urb_daemon.proofs.parallel.open_in_order.Goals as goal
 

@@ -1,7 +1,7 @@
-use Rattle.std.proofs.Common.{IfSome, Some, length, slice_get, vec_capacity, vec_len, ℕ, ◌≡◌, ◌≤◌}
+use Rattle.std.proofs.Common.{IfSome, Some, length, slice_get, vec_capacity, ℕ, ◌≡◌, ◌≤◌}
 use Rattle.urb_sqlite.specs.Nodes.{held_by}
-use Rattle.urb_daemon.specs.OpenedJournals.{OpensIn}
-use Rattle.urb_daemon.specs.OpenedPlaces.{AreOpened}
+use Rattle.urb_daemon.specs.internal.OpenedJournals.{OpensIn}
+use Rattle.urb_daemon.specs.internal.OpenedPlaces.{AreOpened}
 use Rattle.urb_daemon.proofs.parallel.open_in_order.Given as goal
 
 -- the places so far are open, what was found at the others is still there, and there is room for

@@ -1,9 +1,10 @@
-use Rattle.std.proofs.Common.{Err, Ok, ap, inl, rules, subst, ◌∙◌, ◌≡◌}
+use Rattle.std.proofs.Common.{Err, Ok, ap, inl, rules, subst, ◌≡◌}
 use Rattle.urb_worker.proofs.ServedStores.{unserved}
 use Rattle.urb_daemon.proofs.RunsAfterStop.{ends-by-events, ends-opened, ends-without-network}
 use Rattle.urb_daemon.proofs.RunsAfterStop.{refused-after-stop, served-after-stop}
 use Rattle.urb_daemon.proofs.StoresComeBack.{come_back, come_back_at_once}
-use Rattle.urb_daemon.specs.Runs.{end_of, limits_of}
+use Rattle.urb_daemon.specs.Runs.{limits_of}
+use Rattle.urb_daemon.specs.internal.Runs.{end_of}
 use Rattle.urb_daemon.specs.StoresAsked.{OpensTogether}
 use Rattle.urb_daemon.proofs.run.run_stores.Goals as goal
 

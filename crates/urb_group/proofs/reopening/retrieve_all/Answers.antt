@@ -1,8 +1,8 @@
 use Rattle.std.proofs.Common.{Err, Ok, [], add-one, ap, arith, inl, length, map, rules, subst, sym}
 use Rattle.std.proofs.Common.{ℕ, ◌+◌, ◌++◌, ◌<◌, ◌∙◌, ◌∷◌, ◌≡◌}
+use Rattle.std.proofs.lemmas.List.{map_push}
 use Rattle.std.specs.Prelude.{slice_index_or, slice_set}
-use Rattle.urb_group.proofs.stops.AskedStores.{HasAsked, map-more, next-asked, next-fails}
-use Rattle.urb_group.proofs.stops.AskedStores.{none-asked}
+use Rattle.urb_group.proofs.stops.AskedStores.{HasAsked, next-asked, next-fails, none-asked}
 use Rattle.urb_group.specs.Asked.{Gives}
 use Rattle.urb_group.proofs.reopening.retrieve_all.Goals as goal
 
@@ -80,7 +80,7 @@ loop-store-preserved g c =
     let more = c.push_reserved.ensures.items in
     let lists =
     ap (map (λ image. image.items)) more
-    ∙ map-more (λ image. image.items) c.loop-store.images.items c.in-Ok.image in
+    ∙ map_push (λ image. image.items) c.loop-store.images.items c.in-Ok.image in
     record {
       asked =
           subst (λ images. HasAsked g.S.Stable c.args.stores.now

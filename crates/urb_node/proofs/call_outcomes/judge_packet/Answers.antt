@@ -2,10 +2,10 @@ use Rattle.std.proofs.Common.{rules, ◌≡◌, None, not, sym, ap, ap₂, ◌�
 use Rattle.urb_names.specs.Naming.{Label, Content}
 use Rattle.urb_names.specs.Names.{has_name}
 use Rattle.urb_names.specs.Pairs.{message_of}
-use Rattle.urb_node.specs.Found.{Finds}
-use Rattle.urb_node.specs.Held.{memory_of}
+use Rattle.urb_node.specs.internal.Found.{Finds}
+use Rattle.urb_node.specs.Fields.{memory_of}
 use Rattle.urb_node.specs.Next.{IsNext}
-use Rattle.urb_node.specs.Outcomes.{Outcome, counted_outcome}
+use Rattle.urb_node.specs.internal.Outcomes.{Outcome, counted_outcome}
 use Rattle.urb_node.proofs.Wanted.{arrived-next, arrive-answers, arrive-counts, pending_entry}
 use Rattle.urb_node.proofs.Wanted.{some-pending}
 use Rattle.urb_node.proofs.call_outcomes.judge_packet.Goals as goal

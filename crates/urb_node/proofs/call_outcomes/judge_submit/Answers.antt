@@ -4,7 +4,7 @@ use Rattle.urb_names.specs.Names.{name}
 use Rattle.urb_names.specs.Nodes.{is_majority}
 use Rattle.urb_names.specs.Pairs.{own}
 use Rattle.urb_names.specs.declared.limits.TheConstants.{MAX_PAYLOAD}
-use Rattle.urb_node.specs.Held.{memory_of}
+use Rattle.urb_node.specs.Fields.{memory_of}
 use Rattle.urb_node.specs.Next.{IsNext}
 use Rattle.urb_node.proofs.Wanted.{pending_entry, submitted-next, submit-told}
 use Rattle.urb_node.proofs.call_outcomes.judge_submit.Goals as goal

@@ -4,7 +4,7 @@ use Rattle.urb_names.specs.Carried.{to_others}
 use Rattle.urb_names.specs.Naming.{Content}
 use Rattle.urb_node.specs.Values.{Memory}
 use Rattle.urb_stable.specs.Entries.{Entry}
-use Rattle.urb_node.specs.Held.{HasRoom, IsDrafted, IsNextHeld}
+use Rattle.urb_node.specs.internal.Held.{HasRoom, IsDrafted, IsNextHeld}
 use Rattle.urb_node.proofs.Wanted.{made, pending_entry}
 use Rattle.urb_node.proofs.call_outcomes.make_wanted.Goals as goal
 

@@ -1,9 +1,9 @@
 use Rattle.std.proofs.Common.{rules, ◌≡◌, ◌∙◌, [], None, ap, ap₂, Err, Ok, subst, sym}
 use Rattle.urb_names.specs.declared.refusal.Refusal.TheVariants as refusal
-use Rattle.urb_node.specs.Held.{memory_of}
-use Rattle.urb_node.specs.ImageVerdicts.{IsVerdict}
+use Rattle.urb_node.specs.Fields.{memory_of}
+use Rattle.urb_node.specs.internal.ImageVerdicts.{IsVerdict}
 use Rattle.urb_node.specs.declared.image_verdict.Verdict.TheVariants.{Stored, WithDoubtful, Neither}
-use Rattle.urb_node.specs.Layers.{with_doubtful}
+use Rattle.urb_node.specs.internal.Layers.{with_doubtful}
 use Rattle.urb_node.specs.Moves.{Restarts}
 use Rattle.urb_node.specs.Values.{Fallen, Memory}
 use Rattle.urb_node.proofs.ConfirmLeads.{first_held, released_held}

@@ -3,7 +3,8 @@ use Rattle.urb_names.specs.Names.{has_name}
 use Rattle.urb_names.specs.Pairs.{message_of}
 use Rattle.urb_stable.specs.Entries.{Entry}
 use Rattle.urb_stable.specs.declared.record.Record.TheVariants.{Cert, PendCert}
-use Rattle.urb_node.specs.Held.{memory_of, IsNextHeld}
+use Rattle.urb_node.specs.Fields.{memory_of}
+use Rattle.urb_node.specs.internal.Held.{IsNextHeld}
 use Rattle.urb_node.specs.Values.{Memory}
 use Rattle.urb_node.proofs.ConfirmLeads.{certified_pending, first_held}
 use Rattle.urb_node.proofs.JoinedLayers.{counted-kept, joined-pending}

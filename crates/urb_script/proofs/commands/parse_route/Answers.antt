@@ -1,4 +1,4 @@
-use Rattle.std.proofs.Common.{rules, arith}
+use Rattle.std.proofs.Common.{arith}
 use Rattle.urb_script.proofs.Spellings.{next_words, first_number}
 use Rattle.urb_script.proofs.commands.parse_route.Goals as goal
 

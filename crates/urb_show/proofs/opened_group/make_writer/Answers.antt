@@ -1,7 +1,7 @@
 use Rattle.std.proofs.Common.{[], ap, subst, ◌≡◌, ◌∙◌}
 use Rattle.urb_show.proofs.GroupLists.{lists_agree}
 use Rattle.urb_show.proofs.PublishingSteps.{first_issue}
-use Rattle.urb_show.specs.History.{MarkView, issue_of}
+use Rattle.urb_show.specs.internal.History.{MarkView, issue_of}
 use Rattle.urb_show.specs.Lists.{Agree, Lists}
 use Rattle.urb_show.proofs.opened_group.make_writer.Goals as goal
 

@@ -1,7 +1,6 @@
-use Rattle.std.proofs.Common.{◌≡◌}
 use Rattle.std.proofs.lemmas.Result.{err_from_is_err_and}
 use Rattle.sqlite.specs.Held.{state}
-use Rattle.sqlite.specs.State.{HasCleanDisk, State}
+use Rattle.sqlite.specs.State.{HasCleanDisk}
 use Rattle.urb_sqlite.proofs.BothTables.{earlier}
 use Rattle.urb_sqlite.proofs.OneTable.{IsPrepared, opened, unprepared, unread}
 use Rattle.urb_sqlite.proofs.records.open_part.Goals as goal

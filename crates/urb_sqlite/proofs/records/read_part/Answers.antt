@@ -1,4 +1,4 @@
-use Rattle.std.proofs.Common.{◌≡◌, ◌≤◌, ℕ, Ok, inl, arith}
+use Rattle.std.proofs.Common.{◌≤◌, inl, arith}
 use Rattle.sqlite.specs.Held.{state}
 use Rattle.urb_sqlite.specs.declared.sql.Part.{Part}
 use Rattle.urb_sqlite.specs.declared.sql.Part.TheVariants.{First, Second}

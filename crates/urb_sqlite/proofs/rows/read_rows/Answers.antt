@@ -1,11 +1,10 @@
-use Rattle.std.proofs.Common.{◌≡◌, ◌⊎◌, ◌<◌, ◌+◌, ℕ, [], ◌∷◌, List, length, length-append, Ok, Err}
-use Rattle.std.proofs.Common.{OnErr, Some, None, refl, sym, ap, ◌∙◌, arith, rules, option_copied}
+use Rattle.std.proofs.Common.{◌≡◌, [], ◌∷◌, List, length-append, Ok, Err}
+use Rattle.std.proofs.Common.{Some, refl, sym, ap, ◌∙◌, arith, rules, option_copied}
 use Rattle.sqlite.specs.Order.{Row}
-use Rattle.sqlite.specs.State.{HasCleanDisk, IsUnchanged, IsRolledBack, Shown, Begins, Survives}
+use Rattle.sqlite.specs.State.{HasCleanDisk, Shown}
 use Rattle.sqlite.specs.Held.{state}
-use Rattle.urb_sqlite.specs.Journal.{select_of}
+use Rattle.urb_sqlite.specs.internal.Journal.{select_of}
 use Rattle.urb_sqlite.specs.Reading.{read_from, record_at}
-use Rattle.urb_sqlite.specs.declared.rows.ReadFault.{ReadFault}
 use Rattle.urb_sqlite.specs.declared.rows.ReadFault.TheVariants.{BadRow}
 use Rattle.urb_sqlite.proofs.SpelledRows.{found_in}
 use Rattle.urb_sqlite.proofs.BothTables.{survives_both, earlier}

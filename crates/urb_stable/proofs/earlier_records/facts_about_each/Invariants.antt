@@ -1,4 +1,4 @@
-use Rattle.urb_stable.specs.EarlierRecords.{HasTold}
+use Rattle.urb_stable.specs.internal.EarlierRecords.{HasTold}
 use Rattle.urb_stable.proofs.earlier_records.facts_about_each.Given as goal
 
 abbrev pub invariant-loop-place : goal.invariant-loop-place

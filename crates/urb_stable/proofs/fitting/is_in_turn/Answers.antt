@@ -1,7 +1,7 @@
 use Rattle.std.proofs.Common.{ap, length, not, take, ℕ, ◌==◌, ◌∙◌}
 use Rattle.urb_names.specs.Naming.{Label}
 use Rattle.urb_names.specs.Pairs.{own}
-use Rattle.urb_stable.specs.EarlierRecords.{same_client}
+use Rattle.urb_stable.specs.internal.EarlierRecords.{same_client}
 use Rattle.urb_stable.specs.Records.{pend}
 use Rattle.urb_stable.proofs.FirstMisfits.{own-turn, turn-clients}
 use Rattle.urb_stable.proofs.fitting.is_in_turn.Goals as goal

@@ -2,7 +2,6 @@ use Rattle.std.proofs.Common.{◌≡◌, ◌≤◌, ◌<◌, ◌+◌, ◌==◌, 
 use Rattle.std.proofs.Common.{ap, sym, ◌∙◌}
 use Rattle.std.proofs.lemmas.Bool.{or_left}
 use Rattle.urb_names.specs.Acknowledged.{acked}
-use Rattle.urb_names.specs.Carried.{is_due}
 use Rattle.urb_stubborn.proofs.Unheard.{due_from, due_start, due_next, due_end}
 use Rattle.urb_stubborn.proofs.due.is_due.Goals as goal
 

@@ -1,5 +1,5 @@
-use Rattle.std.proofs.Common.{ℕ, Bool, Option, ◌≡◌, ◌≢◌, ◌+◌, ◌-◌, ◌==◌, Some, true, false, not}
-use Rattle.std.proofs.Common.{arith, rules, ap, ap₂, sym, ◌∙◌, eq-eqb, ne_eqb}
+use Rattle.std.proofs.Common.{ℕ, ◌≡◌, ◌≢◌, ◌+◌, ◌-◌, ◌==◌, Some, not}
+use Rattle.std.proofs.Common.{arith, rules, ap, ap₂, ◌∙◌, eq-eqb, ne_eqb}
 use Rattle.urb_names.specs.Naming.{Content, Label}
 use Rattle.urb_names.specs.Carried.{is_heard_of, others}
 use Rattle.urb_names.specs.declared.flags.Flags.{Flags}

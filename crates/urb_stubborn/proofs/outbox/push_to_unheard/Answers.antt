@@ -1,4 +1,4 @@
-use Rattle.std.proofs.Common.{ℕ, Bool, Option, ◌≡◌, ◌+◌, ◌-◌, ◌==◌, ◌&&◌, Some, true, false, not}
+use Rattle.std.proofs.Common.{ℕ, Bool, ◌≡◌, ◌+◌, ◌-◌, ◌==◌, ◌&&◌, Some, true, false, not}
 use Rattle.std.proofs.Common.{filter, arith, rules, ap, ap₂, sym, ◌∙◌}
 use Rattle.urb_names.specs.Acknowledged.{acked}
 use Rattle.urb_names.specs.Naming.{Content, Label}

@@ -2,7 +2,8 @@ use Rattle.std.proofs.Common.{◌≡◌, ℕ, ◌≤◌, sym, ap, ◌∙◌, ari
 use Rattle.urb_names.specs.declared.limits.TheConstants.{MAX_NODES}
 use Rattle.urb_names.specs.Nodes.{nodes}
 use Rattle.urb_names.specs.Acknowledged.{acked}
-use Rattle.urb_window.specs.Masks.{marks_in, has_bit, mask_of}
+use Rattle.urb_window.specs.Masks.{marks_in, has_bit}
+use Rattle.urb_window.specs.internal.Masks.{mask_of}
 use Rattle.urb_window.proofs.Counts.{count_alike}
 use Rattle.urb_window.proofs.Flattened.{acked_bit}
 use Rattle.urb_window.proofs.marks.count_of.Goals as goal

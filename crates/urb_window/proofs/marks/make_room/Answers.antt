@@ -3,7 +3,7 @@ use Rattle.std.proofs.lemmas.Bool.{cond-true}
 use Rattle.urb_names.specs.Names.{has_name, name_lt}
 use Rattle.urb_names.specs.Ordered.{placed}
 use Rattle.urb_window.specs.Entries.{names_of, value_of}
-use Rattle.urb_window.specs.Marks.{MarkSet, marks_of}
+use Rattle.urb_window.specs.Marks.{marks_of}
 use Rattle.urb_window.specs.Masks.{marks_in}
 use Rattle.urb_window.specs.WindowSet.{WindowSet}
 use Rattle.urb_window.proofs.Looked.{has_value}

@@ -2,7 +2,8 @@ use Rattle.std.proofs.Common.{rules, ◌≡◌, ℕ, ◌+◌, ◌-◌, ◌^◌, 
 use Rattle.urb_names.specs.Ordered.{placed}
 use Rattle.urb_window.specs.Entries.{entry_lt, names_of, value_of, with_value}
 use Rattle.urb_window.specs.WindowSet.{WindowSet}
-use Rattle.urb_window.specs.Masks.{has_bit, mask_of}
+use Rattle.urb_window.specs.Masks.{has_bit}
+use Rattle.urb_window.specs.internal.Masks.{mask_of}
 use Rattle.urb_window.proofs.Flattened.{acked_bit}
 use Rattle.urb_window.proofs.Marked.{marks_more, changed_known, changed_new}
 use Rattle.urb_names.specs.Names.{has_name}

@@ -1,6 +1,5 @@
 use Rattle.std.proofs.Common.{◌≡◌, ◌∙◌, ◌<◌, ◌+◌, ℕ, length, suc, [], arith, sym, ap, subst}
 use Rattle.std.proofs.lemmas.List.{length-map}
-use Rattle.urb_names.specs.Naming.{Label}
 use Rattle.urb_window.specs.Entries.{names_of, with_value}
 use Rattle.urb_window.specs.WindowSet.{WindowSet}
 use Rattle.urb_window.proofs.Roomy.{AreEmpty, name_stands, names_valued, none_marked}

@@ -1,7 +1,5 @@
-use Rattle.std.proofs.Common.{◌≡◌, ◌≤◌, ◌<◌, ◌+◌, ◌-◌, ℕ, nat_lt, rules, arith, ap, sym, ◌∙◌, find}
+use Rattle.std.proofs.Common.{◌≡◌, ◌≤◌, ◌<◌, ◌+◌, ◌-◌, nat_lt, rules, arith, ap, sym, ◌∙◌, find}
 use Rattle.std.proofs.Common.{get_or, length, Some, None, option_map}
-use Rattle.std.specs.Prelude.{slice_get}
-use Rattle.urb_names.specs.Naming.{Label}
 use Rattle.urb_names.specs.Names.{name_lt}
 use Rattle.urb_window.specs.Row.{pairs_of}
 use Rattle.urb_window.specs.Rows.{entries_from}

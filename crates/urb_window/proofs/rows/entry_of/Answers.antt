@@ -1,8 +1,8 @@
-use Rattle.std.proofs.Common.{◌≡◌, ◌≤◌, ◌<◌, ◌+◌, ◌-◌, List, ℕ, rules, arith, ap, sym, ◌∙◌, length}
-use Rattle.std.proofs.Common.{Some, None, option_map}
+use Rattle.std.proofs.Common.{◌≡◌, ◌≤◌, ◌<◌, ◌+◌, ◌-◌, rules, ap, sym, ◌∙◌, length}
+use Rattle.std.proofs.Common.{Some, option_map}
 use Rattle.std.specs.Prelude.{slice_get}
 use Rattle.urb_names.specs.Names.{name}
-use Rattle.urb_window.specs.Row.{AreOver, pairs_of}
+use Rattle.urb_window.specs.Row.{pairs_of}
 use Rattle.urb_window.proofs.Counted.{pairs_over}
 use Rattle.urb_window.proofs.Walked.{entries_at, entry_behind, entry_within, pair_over}
 use Rattle.urb_window.proofs.rows.entry_of.Goals as goal

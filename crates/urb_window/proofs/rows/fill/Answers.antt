@@ -1,9 +1,9 @@
-use Rattle.std.proofs.Common.{◌≡◌, ◌≤◌, ◌<◌, ◌++◌, ◌∷◌, [], rules, arith, ap, sym, ◌∙◌, subst}
-use Rattle.std.proofs.Common.{length}
+use Rattle.std.proofs.Common.{◌≡◌, ◌<◌, ◌++◌, ◌∷◌, [], rules, arith, ap, sym, ◌∙◌, subst, length}
 use Rattle.std.specs.List.{AllByRecursion}
 use Rattle.urb_names.specs.declared.limits.TheConstants.{MAX_SENDERS}
-use Rattle.urb_window.specs.Row.{IsRow}
-use Rattle.urb_window.specs.Rows.{entries_from, no_row}
+use Rattle.urb_window.specs.internal.Row.{IsRow}
+use Rattle.urb_window.specs.Rows.{entries_from}
+use Rattle.urb_window.specs.internal.Rows.{no_row}
 use Rattle.urb_window.proofs.Changed.{all_more, more_rows}
 use Rattle.urb_window.proofs.rows.fill.Goals as goal
 

@@ -1,7 +1,7 @@
 use Rattle.std.proofs.Common.{◌≡◌, ◌≤◌, ◌-◌, length}
 use Rattle.std.specs.List.{AllByRecursion}
 use Rattle.urb_names.specs.declared.limits.TheConstants.{MAX_SENDERS}
-use Rattle.urb_window.specs.Row.{IsRow}
+use Rattle.urb_window.specs.internal.Row.{IsRow}
 use Rattle.urb_window.specs.Rows.{entries_from}
 use Rattle.urb_window.proofs.rows.fill.Given as goal
 

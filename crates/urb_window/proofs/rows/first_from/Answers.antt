@@ -1,10 +1,9 @@
-use Rattle.std.proofs.Common.{◌≡◌, ◌≤◌, ◌<◌, ◌+◌, [], List, ℕ, rules, arith, ap, sym, ◌∙◌, length}
-use Rattle.std.proofs.Common.{Some, None, option_map}
+use Rattle.std.proofs.Common.{◌≡◌, ◌<◌, rules, arith, ap, sym, ◌∙◌, length, Some, None, option_map}
 use Rattle.std.specs.Prelude.{slice_get}
 use Rattle.urb_names.specs.Names.{name}
-use Rattle.urb_window.specs.Row.{AreOver, pairs_of}
+use Rattle.urb_window.specs.Row.{pairs_of}
 use Rattle.urb_window.proofs.Counted.{pairs_over}
-use Rattle.urb_window.proofs.Walked.{entries_at, first_within, no_first, pair_over}
+use Rattle.urb_window.proofs.Walked.{first_within, no_first, pair_over}
 use Rattle.urb_window.proofs.rows.first_from.Goals as goal
 
 pub invariant_of-result : goal.invariant_of-result

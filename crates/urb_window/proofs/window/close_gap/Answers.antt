@@ -1,6 +1,7 @@
-use Rattle.std.proofs.Common.{◌≡◌, ◌<◌, ◌≤◌, ◌+◌, ◌^◌, ◌∷◌, ◌++◌, [], List, ℕ, rules, arith, ap}
+use Rattle.std.proofs.Common.{◌≡◌, ◌<◌, ◌+◌, ◌^◌, ◌∷◌, ◌++◌, [], rules, ap}
 use Rattle.std.proofs.Common.{sym, ◌∙◌, subst, false, length}
-use Rattle.urb_window.specs.Row.{AreOver, counted_from, holds_at}
+use Rattle.urb_window.specs.Row.{counted_from}
+use Rattle.urb_window.specs.internal.Row.{AreOver, holds_at}
 use Rattle.urb_window.proofs.Closed.{IsMoved, gap_is, moves}
 use Rattle.urb_window.proofs.window.close_gap.Goals as goal
 

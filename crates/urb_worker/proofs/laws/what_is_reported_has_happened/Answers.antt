@@ -1,4 +1,4 @@
-use Rattle.std.proofs.Common.{Some, subst, ◌-◌, ◌∙◌, ◌≡◌}
+use Rattle.std.proofs.Common.{Some, subst, ◌≡◌}
 use Rattle.urb_worker.proofs.ReportedChanges.{failure-reported, reported-so}
 use Rattle.urb_worker.proofs.laws.what_is_reported_has_happened.Goals as goal
 use Rattle.urb_worker.specs.Changes.{change_by}

@@ -1,4 +1,4 @@
-use Rattle.std.proofs.Common.{subst, ◌-◌, ◌≡◌}
+use Rattle.std.proofs.Common.{subst, ◌-◌}
 use Rattle.urb_worker.proofs.OtherNodes.{stored-in}
 use Rattle.urb_worker.proofs.laws.what_is_told_as_stored_is_kept.Goals as goal
 use Rattle.urb_worker.specs.Turns.{Ends}

@@ -1,5 +1,6 @@
 use Rattle.std.proofs.Common.{◌≡◌, ◌≤◌, length, vec_len, vec_capacity}
-use Rattle.urb_worker.specs.ServedStores.{AreServed, each, in_either}
+use Rattle.urb_worker.specs.ServedStores.{AreServed}
+use Rattle.urb_worker.specs.internal.ServedStores.{each, in_either}
 use Rattle.urb_worker.proofs.worker_threads.join_workers.Given as goal
 
 abbrev pub invariant-loop-worker : goal.invariant-loop-worker

@@ -1,5 +1,5 @@
 use Rattle.std.proofs.Common.{◌≡◌, ◌+◌, ◌++◌, ◌≤◌, IfSome, reverse, vec_len, vec_capacity}
-use Rattle.urb_worker.specs.ServedStores.{AllThere, each, in_either}
+use Rattle.urb_worker.specs.internal.ServedStores.{AllThere, each, in_either}
 use Rattle.urb_worker.proofs.worker_threads.start_workers.Given as goal
 
 abbrev pub invariant-loop-input : goal.invariant-loop-input

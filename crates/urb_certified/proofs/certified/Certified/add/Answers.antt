@@ -3,7 +3,8 @@ use Rattle.std.proofs.lemmas.Bool.{cond-false, ltb-true}
 use Rattle.urb_names.specs.Names.{has_name, name_lt, same_name}
 use Rattle.urb_names.specs.Ordered.{placed}
 use Rattle.urb_certified.specs.Certificates.{Certificates}
-use Rattle.urb_certified.specs.Parts.{IsJoined, all_names}
+use Rattle.urb_certified.specs.Parts.{all_names}
+use Rattle.urb_certified.specs.internal.Parts.{IsJoined}
 use Rattle.urb_certified.proofs.Sets.{set_with}
 use Rattle.urb_certified.proofs.Orders.{names_in_order}
 use Rattle.urb_certified.proofs.Reaches.{held_has}

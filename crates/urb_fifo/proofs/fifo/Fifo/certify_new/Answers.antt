@@ -7,7 +7,7 @@ use Rattle.urb_names.specs.Nodes.{numbers_from}
 use Rattle.urb_names.specs.Ordered.{placed}
 use Rattle.urb_fifo.specs.Delivery.{Delivery, IsNameOf}
 use Rattle.urb_fifo.specs.Releasing.{newly_released}
-use Rattle.urb_fifo.specs.Room.{view_of}
+use Rattle.urb_fifo.specs.Fields.{view_of}
 use Rattle.urb_fifo.proofs.Release.{certifying_new}
 use Rattle.urb_fifo.proofs.Rooms.{kept_bigger, kept_certified, newly_count}
 use Rattle.urb_fifo.proofs.fifo.Fifo.certify_new.Goals as goal

@@ -7,8 +7,8 @@ use Rattle.urb_names.specs.Pairs.{has_pair}
 use Rattle.urb_stable.specs.Entries.{Entry}
 use Rattle.urb_stable.specs.Records.{pend}
 use Rattle.urb_group.specs.World.{image_of}
-use Rattle.urb_group.specs.Scripts.{message}
-use Rattle.urb_group.specs.Examples.{pending, certified}
+use Rattle.urb_group.specs.internal.Scripts.{message}
+use Rattle.urb_group.specs.internal.Examples.{pending, certified}
 use Rattle.urb_group.proofs.worked.dangers.dangers.Goals as goal
 
 pub returns-clause-delivered_by_too_few : goal.returns-clause-delivered_by_too_few

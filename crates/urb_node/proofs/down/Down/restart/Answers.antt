@@ -1,4 +1,4 @@
-use Rattle.std.proofs.Common.{◌≡◌, ◌∙◌, ap, subst}
+use Rattle.std.proofs.Common.{◌∙◌, ap, subst}
 use Rattle.urb_node.specs.Moves.{Restarts}
 use Rattle.urb_node.specs.Values.{Fallen, Memory}
 use Rattle.urb_node.proofs.down.Down.restart.Goals as goal

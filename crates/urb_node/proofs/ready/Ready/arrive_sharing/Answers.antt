@@ -1,8 +1,8 @@
-use Rattle.std.proofs.Common.{◌≡◌, ℕ, ◌≤◌, Ok, Err, sym, subst, ◌∙◌}
-use Rattle.urb_node.specs.Held.{memory_of}
+use Rattle.std.proofs.Common.{◌≡◌, ◌≤◌, Ok, Err, sym, subst, ◌∙◌}
+use Rattle.urb_node.specs.Fields.{memory_of}
 use Rattle.urb_node.specs.Moves.{AnswersFrom, AnswersOfStored, LeadsTo}
 use Rattle.urb_node.specs.Next.{MayArrive}
-use Rattle.urb_node.specs.Outcomes.{arrive_outcome}
+use Rattle.urb_node.specs.internal.Outcomes.{arrive_outcome}
 use Rattle.urb_node.specs.Part.{Node}
 use Rattle.urb_node.specs.Steps.{arrives}
 use Rattle.urb_node.specs.Values.{Memory, ShowsReady}

@@ -1,5 +1,5 @@
 use Rattle.std.proofs.Common.{subst, sym}
-use Rattle.urb_node.specs.Held.{memory_of}
+use Rattle.urb_node.specs.Fields.{memory_of}
 use Rattle.urb_node.specs.Moves.{Crashes}
 use Rattle.urb_node.specs.Values.{Fallen, Memory, ShowsReady}
 use Rattle.urb_node.proofs.Falling.{crashes-ready}

@@ -1,8 +1,8 @@
 use Rattle.std.proofs.Common.{◌≤◌, Ok, Err, sym, subst, arith}
 use Rattle.urb_names.specs.Naming.{Content}
-use Rattle.urb_node.specs.Held.{memory_of}
+use Rattle.urb_node.specs.Fields.{memory_of}
 use Rattle.urb_node.specs.Moves.{LeadsTo}
-use Rattle.urb_node.specs.Outcomes.{submit_outcome}
+use Rattle.urb_node.specs.internal.Outcomes.{submit_outcome}
 use Rattle.urb_node.specs.Part.{Node}
 use Rattle.urb_node.specs.Steps.{submits}
 use Rattle.urb_node.specs.Values.{Memory, ShowsReady}

@@ -1,7 +1,7 @@
 use Rattle.std.proofs.Common.{subst}
 use Rattle.std.specs.Prelude.{IfOk}
 use Rattle.urb_names.specs.Carried.{AreFrom}
-use Rattle.urb_node.specs.Held.{memory_of}
+use Rattle.urb_node.specs.Fields.{memory_of}
 use Rattle.urb_node.specs.Moves.{AreOfStored, Ticks}
 use Rattle.urb_node.specs.Part.{Ready}
 use Rattle.urb_node.specs.Values.{Memory, ShowsReady}

@@ -1,5 +1,5 @@
 use Rattle.std.proofs.Common.{Ok, refl, subst}
-use Rattle.urb_node.specs.Held.{memory_of}
+use Rattle.urb_node.specs.Fields.{memory_of}
 use Rattle.urb_node.specs.Moves.{Confirms}
 use Rattle.urb_node.specs.Part.{Ready}
 use Rattle.urb_node.specs.Values.{Holding}

@@ -1,5 +1,5 @@
 use Rattle.std.proofs.Common.{subst, sym}
-use Rattle.urb_node.specs.Held.{memory_of}
+use Rattle.urb_node.specs.Fields.{memory_of}
 use Rattle.urb_node.specs.Moves.{Fails}
 use Rattle.urb_node.specs.Values.{Fallen, Holding}
 use Rattle.urb_node.proofs.Falling.{doubtful-next}

@@ -1,6 +1,6 @@
-use Rattle.std.proofs.Common.{arith, sym, ap, ◌∙◌, ◌≡◌, ◌<◌, length, true, ◌++◌, ◌∷◌, []}
-use Rattle.urb_pending.specs.Rows.{Row}
-use Rattle.urb_pending.specs.ClientIndex.{has_room, numbers_in}
+use Rattle.std.proofs.Common.{arith, sym, ap, ◌∙◌, ◌<◌, length, ◌++◌, ◌∷◌, []}
+use Rattle.urb_pending.specs.internal.Rows.{Row}
+use Rattle.urb_pending.specs.internal.ClientIndex.{has_room, numbers_in}
 use Rattle.urb_pending.proofs.Rows.{order_changed, place_in, row_changed}
 use Rattle.urb_pending.proofs.Changed.{given_pushed, roomy_row, row_read, row_within}
 use Rattle.urb_pending.proofs.clients.Clients.add.Goals as goal

@@ -3,7 +3,8 @@ use Rattle.std.proofs.Common.{◌<◌, ◌∙◌, ◌∷◌, ◌≡◌}
 use Rattle.urb_show.proofs.AgreeingLists.{agree_begins}
 use Rattle.urb_show.proofs.GroupLists.{lists_agree}
 use Rattle.urb_show.proofs.PreparedEntries.{IsNext, is_next}
-use Rattle.urb_show.specs.History.{PublisherView, lists_of}
+use Rattle.urb_show.specs.Additions.{lists_of}
+use Rattle.urb_show.specs.internal.History.{PublisherView}
 use Rattle.urb_show.specs.Houses.{HouseView}
 use Rattle.urb_show.specs.Lists.{Agree, Lists, delivery_of, list_at, lists_in}
 use Rattle.std.proofs.lemmas.List.{length-map}

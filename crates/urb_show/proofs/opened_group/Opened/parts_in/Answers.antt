@@ -1,7 +1,7 @@
 use Rattle.std.proofs.Common.{ap, subst, ◌≡◌, ◌∙◌}
 use Rattle.urb_show.proofs.GroupLists.{lists_agree}
 use Rattle.urb_show.proofs.PreparedEntries.{opened_house_is}
-use Rattle.urb_show.specs.History.{PublisherView}
+use Rattle.urb_show.specs.internal.History.{PublisherView}
 use Rattle.urb_show.specs.Houses.{OpenedView}
 use Rattle.urb_show.specs.Lists.{Agree, lists_in}
 use Rattle.urb_show.proofs.opened_group.Opened.parts_in.Goals as goal

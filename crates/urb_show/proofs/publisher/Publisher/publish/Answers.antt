@@ -1,7 +1,8 @@
 use Rattle.std.proofs.Common.{◌≡◌, sym, ◌∙◌, ap, subst, List, Some, drop}
 use mathlib.Core.List.{IsPrefix}
 use Rattle.urb_show.specs.declared.entry.Addition.{Addition}
-use Rattle.urb_show.specs.History.{PublisherView, lists_of}
+use Rattle.urb_show.specs.Additions.{lists_of}
+use Rattle.urb_show.specs.internal.History.{PublisherView}
 use Rattle.urb_show.specs.Lists.{Agree}
 use Rattle.urb_show.proofs.Prefixes.{prefix_self}
 use Rattle.urb_show.proofs.PublishingSteps.{turns, now_published}

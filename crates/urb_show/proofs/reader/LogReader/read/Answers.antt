@@ -1,10 +1,11 @@
 use Rattle.std.proofs.Common.{◌≡◌, sym, ◌∙◌, ap, subst, le_refl, inr, List, ◌-◌, ℕ, arith}
 use mathlib.Core.List.{IsPrefix}
 use Rattle.urb_show.specs.declared.entry.Addition.{Addition}
-use Rattle.urb_show.specs.History.{MarkView, lists_of}
+use Rattle.urb_show.specs.Additions.{lists_of}
+use Rattle.urb_show.specs.internal.History.{MarkView}
 use Rattle.urb_show.specs.Lists.{Lists, Agree, list_at}
 use Rattle.urb_show.specs.Pages.{IsPageOf}
-use Rattle.urb_show.specs.PublishingRule.{IsIssue}
+use Rattle.urb_show.specs.internal.PublishingRule.{IsIssue}
 use Rattle.urb_show.proofs.PublishingSteps.{rises}
 use Rattle.urb_show.proofs.ListBeginnings.{takes}
 use Rattle.urb_show.proofs.reader.LogReader.read.Goals as goal

@@ -1,8 +1,8 @@
 use Rattle.std.proofs.Common.{◌≡◌, ◌⊎◌, ◌+◌, inl, [], ◌∷◌, ◌++◌, sym, subst}
 use Rattle.sqlite.specs.State.{HasCleanDisk}
 use Rattle.sqlite.specs.Held.{state}
-use Rattle.urb_sqlite.specs.OpenJournal.{IsSafeAtRest, OpenJournal, IsInStep, IsHonestJournal}
-use Rattle.urb_sqlite.specs.OpenJournal.{LeavesOnly}
+use Rattle.urb_sqlite.specs.OpenJournal.{IsSafeAtRest, OpenJournal, IsHonestJournal, LeavesOnly}
+use Rattle.urb_sqlite.specs.internal.OpenJournal.{IsInStep}
 use Rattle.urb_sqlite.specs.Reading.{records_of}
 use Rattle.urb_sqlite.proofs.KeptRecords.{stops_now}
 use Rattle.urb_sqlite.proofs.journal.SqlStableStable.store.Goals as goal

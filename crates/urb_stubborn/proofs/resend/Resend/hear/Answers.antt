@@ -1,5 +1,4 @@
 use Rattle.std.proofs.Common.{◌≡◌, ◌∙◌, ◌<◌, ◌+◌, ◌-◌, false, true, sym, ap, rules, arith, refl}
-use Rattle.std.proofs.Common.{IsOk}
 use Rattle.std.proofs.lemmas.Bool.{false≢true}
 use Rattle.urb_names.specs.declared.limits.TheConstants.{MAX_SENDERS}
 use Rattle.urb_names.specs.Naming.{Label}

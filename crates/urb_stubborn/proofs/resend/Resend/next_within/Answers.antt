@@ -1,7 +1,6 @@
 use Rattle.std.proofs.Common.{◌≡◌, ◌∙◌, Some, false, sym}
-use Rattle.urb_names.specs.Cyclic.{are_rising}
 use Rattle.urb_pending.specs.PendingSet.{first_name}
-use Rattle.urb_stubborn.specs.Walking.{behind, due_pairs, is_within}
+use Rattle.urb_stubborn.specs.internal.Walking.{behind, due_pairs, is_within}
 use Rattle.urb_stubborn.proofs.Behind.{Pairs}
 use Rattle.urb_stubborn.proofs.Between.{rising_kept, within_over}
 use Rattle.urb_stubborn.proofs.resend.Resend.next_within.Goals as goal

@@ -1,13 +1,12 @@
-use Rattle.std.proofs.Common.{◌≡◌, ◌∙◌, ◌<◌, ◌++◌, Some, None, sym, ap, subst, arith, [], Bool}
+use Rattle.std.proofs.Common.{◌≡◌, ◌∙◌, ◌++◌, Some, sym, ap, subst, arith, [], Bool}
 use Rattle.std.proofs.Common.{false, filter, not}
 use Rattle.std.specs.Prelude.{option_map}
-use Rattle.urb_names.specs.Naming.{Label, Content}
 use Rattle.urb_names.specs.Acknowledged.{acked}
 use Rattle.urb_names.specs.Carried.{others, packets_to}
 use Rattle.urb_names.specs.Pairs.{message_of}
 use Rattle.urb_pending.specs.PendingSet.{first_name}
 use Rattle.urb_stubborn.specs.Resending.{Resending}
-use Rattle.urb_stubborn.specs.Walking.{between, due_pairs}
+use Rattle.urb_stubborn.specs.internal.Walking.{between, due_pairs}
 use Rattle.urb_stubborn.proofs.Behind.{Pairs}
 use Rattle.urb_stubborn.proofs.Round.{Walks, all_walked, begun, no_name, one_further, sends}
 use Rattle.urb_stubborn.proofs.Round.{some_behind, some_message, turn_over}

@@ -1,5 +1,4 @@
-use Rattle.std.proofs.Common.{◌≡◌, ℕ}
-use Rattle.urb_stubborn.specs.Walking.{between, due_pairs}
+use Rattle.urb_stubborn.specs.internal.Walking.{between, due_pairs}
 use Rattle.urb_stubborn.proofs.Round.{Walks}
 use Rattle.urb_stubborn.proofs.resend.Resend.send.Given as goal
 

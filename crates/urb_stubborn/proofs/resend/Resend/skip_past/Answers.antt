@@ -1,4 +1,4 @@
-use Rattle.std.proofs.Common.{◌≡◌, ◌∙◌, false, sym, ap, rules, subst}
+use Rattle.std.proofs.Common.{◌≡◌, ◌∙◌, false, sym, ap}
 use Rattle.urb_names.specs.Carried.{is_due}
 use Rattle.urb_stubborn.specs.Resending.{Resending}
 use Rattle.urb_stubborn.proofs.Settle.{passed_itself}

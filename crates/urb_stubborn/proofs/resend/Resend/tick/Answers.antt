@@ -1,7 +1,7 @@
-use Rattle.std.proofs.Common.{◌≡◌, ◌∙◌, ◌≤◌, sym, ap, arith, rules, [], length}
+use Rattle.std.proofs.Common.{◌≡◌, ◌∙◌, ◌≤◌, ap, arith, rules, length}
 use Rattle.urb_names.specs.declared.limits.TheConstants.{MAX_NODES}
-use Rattle.urb_stubborn.specs.Resending.{Resending, tick_packets, ticked}
-use Rattle.urb_stubborn.specs.Walking.{IsTick}
+use Rattle.urb_stubborn.specs.Resending.{Resending}
+use Rattle.urb_stubborn.specs.internal.Walking.{IsTick}
 use Rattle.urb_stubborn.proofs.Alone.{tick_alone}
 use Rattle.urb_stubborn.proofs.Round.{few_sent}
 use Rattle.urb_stubborn.proofs.resend.Resend.tick.Goals as goal

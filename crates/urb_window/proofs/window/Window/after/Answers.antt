@@ -1,9 +1,9 @@
 use Rattle.std.proofs.Common.{◌≡◌, ◌<◌, ◌≤◌, ◌+◌, ◌^◌, rules, arith, ap, sym, ◌∙◌, suc, nat_lt}
-use Rattle.std.proofs.Common.{length, get_or, find, Some, None, option_map}
+use Rattle.std.proofs.Common.{length, get_or, find, Some, option_map}
 use Rattle.std.specs.Prelude.{slice_get}
 use Rattle.std.specs.List.{prefix_len}
 use Rattle.std.proofs.lemmas.Option.{slice_get-get_or, slice_get_past}
-use Rattle.urb_window.specs.Row.{Row, pairs_of}
+use Rattle.urb_window.specs.Row.{pairs_of}
 use Rattle.urb_window.proofs.Counted.{above_over, after_behind, after_low, after_none, after_place}
 use Rattle.urb_window.proofs.Counted.{pairs_over}
 use Rattle.urb_window.proofs.window.Window.after.Goals as goal

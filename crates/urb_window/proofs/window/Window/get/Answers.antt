@@ -1,7 +1,8 @@
-use Rattle.std.proofs.Common.{◌≡◌, ◌<◌, ◌≤◌, ◌+◌, ◌-◌, rules, arith, ap, sym, ◌∙◌, true, false}
-use Rattle.std.proofs.Common.{nat_lt, length, get_or, Some, None}
+use Rattle.std.proofs.Common.{◌≡◌, ◌<◌, ◌≤◌, ◌+◌, ◌-◌, rules, ap, sym, ◌∙◌, true, false}
+use Rattle.std.proofs.Common.{nat_lt, length, get_or, Some}
 use Rattle.std.specs.List.{prefix_len}
-use Rattle.urb_window.specs.Row.{AreOver, IsRow, Row, holds_at, numbered, pairs_of}
+use Rattle.urb_window.specs.Row.{pairs_of}
+use Rattle.urb_window.specs.internal.Row.{holds_at, numbered}
 use Rattle.urb_window.proofs.Counted.{above_over, numbered_behind, numbered_low}
 use Rattle.urb_window.proofs.Halved.{holds_within, numbered_absent, numbered_found}
 use Rattle.urb_window.proofs.window.Window.get.Goals as goal

@@ -1,10 +1,10 @@
-use Rattle.std.proofs.Common.{◌≡◌, ◌<◌, ◌≤◌, ◌+◌, ◌-◌, ◌^◌, ◌++◌, ◌∷◌, nat_lt, rules, refl, arith}
-use Rattle.std.proofs.Common.{ap, sym, ◌∙◌, subst, length, get_or, slice_set, Some, None, true}
+use Rattle.std.proofs.Common.{◌≡◌, ◌<◌, ◌≤◌, ◌+◌, ◌-◌, ◌^◌, ◌++◌, nat_lt, rules, refl, arith}
+use Rattle.std.proofs.Common.{ap, sym, ◌∙◌, subst, length, get_or, slice_set, Some, true}
 use Rattle.std.specs.Prelude.{IsSome}
 use Rattle.std.specs.List.{prefix_len}
 use Rattle.std.proofs.lemmas.List.{length-set}
-use Rattle.urb_window.specs.Row.{AreOver, IsReplaced, IsRow, Row, counted_from, holds_at, numbered}
-use Rattle.urb_window.specs.Row.{pairs_of, renumbered}
+use Rattle.urb_window.specs.Row.{counted_from, pairs_of}
+use Rattle.urb_window.specs.internal.Row.{AreOver, holds_at, numbered, renumbered}
 use Rattle.urb_window.proofs.Counted.{above_over, numbered_behind, numbered_low}
 use Rattle.urb_window.proofs.Halved.{holds_within}
 use Rattle.urb_window.proofs.Renumbered.{IsFound, finds, over_renumbered, renumbered_behind}

@@ -1,4 +1,4 @@
-use Rattle.std.proofs.Common.{◌≡◌, ap, ◌∙◌, find, option_map}
+use Rattle.std.proofs.Common.{ap, ◌∙◌, find, option_map}
 use Rattle.urb_names.specs.Names.{name_lt}
 use Rattle.urb_window.specs.Rows.{entries_from}
 use Rattle.urb_window.proofs.windows.Windows.after.Goals as goal

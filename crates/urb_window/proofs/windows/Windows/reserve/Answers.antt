@@ -1,9 +1,10 @@
-use Rattle.std.proofs.Common.{◌≡◌, ◌<◌, ◌≤◌, ◌+◌, rules, refl, ap, sym, ◌∙◌, subst, slice_set}
+use Rattle.std.proofs.Common.{◌≡◌, ◌<◌, ◌≤◌, rules, refl, ap, sym, ◌∙◌, subst, slice_set}
 use Rattle.std.proofs.Common.{length, Some}
 use Rattle.std.specs.List.{AllByRecursion}
 use Rattle.std.proofs.lemmas.List.{set-get_or}
 use Rattle.urb_names.specs.declared.limits.TheConstants.{MAX_SENDERS}
-use Rattle.urb_window.specs.Row.{IsRow, Row, pairs_of}
+use Rattle.urb_window.specs.Row.{pairs_of}
+use Rattle.urb_window.specs.internal.Row.{IsRow}
 use Rattle.urb_window.specs.Rows.{entries_from}
 use Rattle.urb_window.proofs.Filed.{kept_filled, kept_reserved, same_here}
 use Rattle.urb_window.proofs.windows.Windows.reserve.Goals as goal

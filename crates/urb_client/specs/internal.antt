@@ -1,0 +1,3 @@
+pub mod ParsedResponses
+pub mod Sessions
+pub mod ReceivedResponses

@@ -1,0 +1,10 @@
+pub mod Places
+pub mod Moving
+pub mod Reaching
+pub mod Clustered
+pub mod Drafts
+pub mod Examples
+pub mod Scripts
+pub mod Reopening
+pub mod Recoveries
+pub mod RoundExamples

@@ -1,0 +1,81 @@
+-- Words of the worked examples: records, images and packets.
+use Rattle.std.specs.Prelude.{List, None, Option, Some, false, true, replicate, ℕ, ◌∷◌, [], ◌≡◌}
+use Rattle.std.specs.Prelude.{zero, suc, map}
+use Rattle.urb_group.specs.InMemory.{in_memory}
+use Rattle.urb_group.specs.World.{World, image_of, started}
+use Rattle.urb_group.specs.Scenes.{flags_of}
+use Rattle.urb_group.specs.internal.Scripts.{Accepts, Drafts, Line, Told, message, store, submit}
+use Rattle.urb_group.specs.internal.Scripts.{◌⇒◌}
+use Rattle.urb_names.specs.Carried.{Carried}
+use Rattle.urb_names.specs.Names.{name}
+use Rattle.urb_names.specs.Naming.{Content, Label, Limits}
+use Rattle.urb_names.specs.Nodes.{numbers_from}
+use Rattle.urb_names.specs.declared.refusal.Rule.{Rule}
+use Rattle.urb_node.specs.Part.{Node, State}
+use Rattle.urb_stable.specs.Entries.{Entry}
+use Rattle.urb_stable.specs.Fitting.{first_misfit}
+use Rattle.urb_stable.specs.Memory.{Memory}
+use Rattle.urb_stable.specs.declared.fitting.Misfit.{Misfit}
+use Rattle.urb_stable.specs.declared.record.Record.TheVariants.{Pend, PendCert}
+use Rattle.urb_stable.specs.declared.stable.Stable.{Ghosts}
+
+-- a record of a pair with no payload, whose message is that of client 7 with the name's number
+abbrev pub pending : ℕ → ℕ → Entry
+pending sender number = Pend (name sender number) (message 7 number "")
+
+-- the same, certified
+abbrev pub certified : ℕ → ℕ → Entry
+certified sender number = PendCert (name sender number) (message 7 number "")
+
+-- a group of n nodes; each node may broadcast as many messages as the cap
+abbrev pub limits : ℕ → ℕ → Limits
+limits n cap = record { n = n; cap = cap }
+
+-- the first misfit of images of n nodes under a cap, or None
+abbrev pub Judged : ℕ → ℕ → List (List Entry) → Option Misfit → Type 0
+Judged n cap images answer = first_misfit (limits n cap) (image_of images) ≡ answer
+
+-- the record of this node and name breaks the rule
+abbrev pub misfit : Rule → ℕ → ℕ → ℕ → Option Misfit
+misfit rule node sender number =
+    Some (record { rule = rule; node = node; name = name sender number })
+
+-- a node in this state that has stored these records, and has counted and broadcast nothing
+abbrev pub node_in : State → List Entry → Node
+node_in state records = record
+    { records = records; state = state; acks = []; heard = []; cursor = None; broadcast = [] }
+
+-- a world all of whose nodes are this one
+abbrev pub world_of : Node → World
+world_of node = record (started (limits 1 10)) { node = λ p. node }
+
+-- the ghost values of a store in memory, if a failure shut it
+abbrev pub shut_by_failures : Ghosts Memory (Unit {0})
+shut_by_failures = record (in_memory (Unit {0}))
+    { is_honest = λ s. s.doubtful ≡ false; is_shut = λ s. s.doubtful ≡ true }
+
+-- a message whose payload is `count` letters x
+abbrev pub filled : ℕ → ℕ → ℕ → Content
+filled client number count = record
+    { client = client; number = number; payload = replicate count 120 }
+
+-- a packet of version one from q to p
+abbrev pub carried : ℕ → ℕ → ℕ → ℕ → Content → Carried
+carried q p sender number m =
+    record { source = q; target = p; name = name sender number; message = m; flags = None }
+
+-- one of version two, with the flags of this number
+abbrev pub flagged : ℕ → ℕ → ℕ → ℕ → ℕ → Content → Carried
+flagged flags q p sender number m =
+    record (carried q p sender number m) { flags = Some (flags_of flags) }
+
+-- node 1 of two submits `count` messages, from this number on, and stores each
+abbrev pub stored_from : ℕ → ℕ → List (Line × Told)
+stored_from first zero = []
+stored_from first (suc count) =
+    submit 1 (message 7 first "a") ⇒ Drafts (name 1 first) first ∷ store 1 ⇒ Accepts
+    (name 1 first) 1 0 ∷ stored_from (suc first) count
+
+-- to node 2: `count` names of node 1, from this number on
+abbrev pub to_two : ℕ → ℕ → List (ℕ × Label)
+to_two first count = map (λ number. (2, name 1 number)) (numbers_from first count)

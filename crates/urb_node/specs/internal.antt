@@ -1,0 +1,6 @@
+pub mod Values
+pub mod Layers
+pub mod Outcomes
+pub mod Held
+pub mod Found
+pub mod ImageVerdicts

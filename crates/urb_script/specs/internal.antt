@@ -1,0 +1,6 @@
+pub mod Lines
+pub mod Hex
+pub mod Commands
+pub mod Texts
+pub mod Staged
+pub mod Scripts

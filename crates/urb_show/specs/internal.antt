@@ -1,0 +1,5 @@
+pub mod PreparedLists
+pub mod History
+pub mod Operations
+pub mod PublishingRule
+pub mod Examples

@@ -1,0 +1,56 @@
+-- The history of all additions, which exists only in proofs: the rule of its book, and what a step
+-- says.
+use Rattle.std.specs.Prelude.{List, MatchBool, [], length, true, ℕ, ◌++◌, ◌<◌, ◌==◌, ◌^◌, ◌∷◌}
+use Rattle.std.specs.Prelude.{◌≡◌, ◌≤◌, ◌⊎◌}
+use Rattle.logbook.specs.Pages.{Book, Cell, Named, Step, View}
+use Rattle.urb_show.specs.Lists.{Lists}
+use Rattle.urb_show.specs.declared.entry.Addition.{Addition}
+use Rattle.urb_show.specs.Additions.{lists_of}
+
+-- The first word of the book is the length of the history. The second word, which every book has,
+-- stays 0.
+pub record IsKept (cells : List Cell) (log : List Addition) : Type 0 where
+  pub words : cells ≡ (length log, true) ∷ (0, true) ∷ []
+
+-- the book's first word
+abbrev pub head_of : Book → Named
+head_of b = record { tracked = true; key = 0; book = b }
+
+-- The addition was appended to all additions that had been seen. Or the history was longer than
+-- that, and now the longer one is seen.
+abbrev pub Adds : Step Addition → View Addition ℕ → ℕ → View Addition ℕ → Type 0
+Adds s v found w = MatchBool (found == s.old) (w.0 ≡ v.0 ++ s.ask ∷ []) (length w.0 ≡ found)
+
+-- a prefix of the history of a book
+pub record MarkView : Type 0 where
+  pub book : Book
+  pub log : List Addition
+
+-- what is published: the lists, and the history behind them
+pub record Issue : Type 0 where
+  pub lists : Lists
+  pub mark : MarkView
+
+-- the lists of this history, in a house that has this book and opened with these lists
+abbrev pub issue_of : Book → Lists → List Addition → Issue
+issue_of book base log = record
+    { lists = lists_of base log; mark = record { book = book; log = log } }
+
+-- a history that can take no more additions
+abbrev pub IsFull : List Addition → Type 0
+IsFull log = 2 ^ 62 ≤ length log
+
+-- The longest history that the book was seen to have, and all additions of the publisher. Then
+-- those that its writer has, and those that are published.
+pub record PublisherView : Type 0 where
+  pub known : List Addition
+  pub all : List Addition
+  pub queued : List Addition
+  pub shown : List Addition
+
+-- Nothing was added. The history is full, or the book was seen to have an addition that isn't the
+-- publisher's.
+pub record AddsNothing (before after : PublisherView) : Type 0 where
+  pub kept : (after.all ≡ before.all) × (after.queued ≡ before.queued)
+      × (after.shown ≡ before.shown)
+  pub cause : IsFull before.all ⊎ (length before.all < length after.known)

@@ -1,0 +1,17 @@
+-- What an operation does to what is published.
+use Rattle.urb_show.specs.internal.History.{Issue}
+use Rattle.urb_show.specs.Lists.{add_at}
+use Rattle.urb_show.specs.declared.published_lists.Operation.{Operation}
+use Rattle.urb_show.specs.declared.published_lists.State.{State}
+
+-- what the two published copies have in common
+abbrev pub state_of : Issue → State
+state_of p = record { lists = p.lists; mark = p.mark }
+
+-- the entry is appended to its node's list, and the history is the operation's
+abbrev pub applied_to : State → Operation → State
+applied_to s op = record {
+  lists = add_at s.lists op.addition.place op.addition.entry;
+  mark =
+      op.mark;
+}

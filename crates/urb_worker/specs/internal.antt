@@ -1,0 +1,5 @@
+pub mod Stages
+pub mod Replies
+pub mod ServedStores
+pub mod Desks
+pub mod Arrivals
