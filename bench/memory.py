@@ -1,5 +1,5 @@
 #!/usr/bin/env python3
-"""memory.py PROGRAM.. [--scale S] [--starts] [--dir D]     what a message costs in memory, and what a start takes
+"""memory.py PROGRAM.. [--scale S] [--starts] [--count N] [--length L] [--dir D]     what a message costs in memory, and what a start takes
 
 Each PROGRAM is a built urbd; they take turns, so that two of them are compared in one run on one machine. Prints for groups of 1, 3
 and 7 nodes and payloads of several lengths how many bytes of resident memory a message takes. It counts what is resident twice, when
@@ -7,8 +7,8 @@ all logs show all messages and all caches are full, and divides the growth by th
 on 20,000 messages of 4,096 bytes, once after a kill and once after a stop. It prints how long a start takes, and what is resident
 before it, after it and at most meanwhile (VmHWM); in the end what is resident once as many messages more have come.
 
-S (1) scales the numbers of messages. With --starts the starts alone are measured. Files are made in a folder below D (the system's
-folder for such files), which is removed.
+S (1) scales the numbers of messages. With --starts the starts alone are measured; --count and --length change what they start on.
+Files are made in a folder below D (the system's folder for such files), which is removed.
 """
 import argparse
 import re
@@ -126,6 +126,8 @@ def main():
     words.add_argument("programs", nargs="+")
     words.add_argument("--scale", type=float, default=1.0)
     words.add_argument("--starts", action="store_true")
+    words.add_argument("--count", type=int, default=START[0])
+    words.add_argument("--length", type=int, default=START[1])
     words.add_argument("--dir")
     options = words.parse_args()
     programs = [str(Path(program).resolve()) for program in options.programs]
@@ -134,7 +136,7 @@ def main():
         if not options.starts:
             messages(programs, room, options.scale)
         for program in programs:
-            starts(program, room, int(START[0] * options.scale), START[1])
+            starts(program, room, int(options.count * options.scale), options.length)
     finally:
         shutil.rmtree(room, ignore_errors=True)
 
