@@ -1,4 +1,4 @@
--- The packet in which a node answers.
+-- The packet with which a node answers another node.
 use Rattle.std.specs.Prelude.{ℕ, Bool, true, Some}
 use Rattle.urb_names.specs.Naming.{Label, Content}
 use Rattle.urb_names.specs.Names.{name}

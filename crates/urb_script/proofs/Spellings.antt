@@ -61,7 +61,7 @@ test word xs ys e f = (bytes_eq-Decides xs ys).1 (sym e ∙ f)
 pub not_word : (result : Bool) (P : Type 0) → (IsTrue result ↔ P) → result ≡ false → P → ⊥
 not_word result P says fails p = let holds : result ≡ true = says.1 p in absurd (cc)
 
--- a consequence of what holds if nothing is found
+-- if P holds when nothing is found, and Q follows from P, then Q holds when nothing is found
 none_of : {T : Type 0} (result : Option T) (P Q : Type 0) → (P → Q) → IfNone result P
     → IfNone result Q
 none_of None P Q f p = f p

@@ -1,4 +1,4 @@
--- How the two parts of certified names are made: which names belong in which, and how they join.
+-- The two parts of a list of certified names: which names each part has, and what a new name changes.
 use Rattle.std.specs.Prelude.{◌≡◌, ℕ, ◌+◌, ◌-◌, ◌<◌, ◌||◌, ◌&&◌, ◌==◌, not, nat_le, Bool, true}
 use Rattle.std.specs.Prelude.{IsTrue, List, length, slice_index_or}
 use Rattle.urb_names.specs.declared.limits.TheConstants.{MAX_SENDERS}
@@ -22,7 +22,7 @@ pub record IsParts (low : List ℕ) (above : List Label) : Type 0 where
 abbrev pub is_left : ℕ → ℕ → Label → Bool
 is_left sender end y = not ((y.sender == sender) && nat_le y.seq end)
 
--- the two parts once they hold one more name
+-- the two parts after one more name was certified
 pub record IsJoined (low : List ℕ) (above : List Label) (x : Label) (new_low : List ℕ)
     (new_above : List Label) : Type 0 where
   pub parts : IsParts new_low new_above

@@ -25,7 +25,8 @@ command (line.Tick node) = Tick node
 command (line.Log node) = Log node
 command (line.Held name) = Held name
 
--- the command that brings a packet of what a node has stored: without flags, or with these
+-- the command that delivers a packet with a message that the source has stored; the packet has these
+-- flags, or none
 abbrev pub arrival : ℕ → ℕ → Label → Option Flags → Command
 arrival source node name None = Arrive source node name
 arrival source node name (Some flags) = ArriveFlagged source node name flags

@@ -1,8 +1,8 @@
--- The mask of a name, which some names lack.
+-- The mask that a list of entries has for a name.
 use Rattle.std.specs.Prelude.{ℕ, List, unwrap_or}
 use Rattle.urb_names.specs.Naming.{Label}
 use Rattle.urb_window.specs.Entries.{value_of}
 
--- the mask under a name; 0 if it has none
+-- the mask that the entries have for a name; 0 if they have none
 abbrev pub mask_of : List (Label × ℕ) → Label → ℕ
 mask_of entries x = unwrap_or (value_of entries x) 0

@@ -1,4 +1,4 @@
--- The row of one sender, which is empty if the sender has none.
+-- The row of one sender. It is empty if there is no row of that sender.
 use Rattle.std.specs.Prelude.{ℕ, ◌-◌, List, [], None, slice_index_or}
 use Rattle.urb_window.specs.Row.{Row}
 
