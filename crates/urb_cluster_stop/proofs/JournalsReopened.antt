@@ -85,7 +85,7 @@ pub honest-again : {S A : Type 0} (g : Ghosts S A) (before : List S) (images : L
     → AllByRecursion g.is_honest after
 honest-again g [] [] [] gave were clean = tt
 honest-again g (x ∷ before) (image ∷ images) (y ∷ after) gave were clean = (
-  gave.0.alive (were.0 (gave.0.clean clean.0)) clean.0,
+  gave.0.trust.alive (were.0 (gave.0.trust.clean clean.0)) clean.0,
   honest-again g before images after gave.1 were.1 clean.1,
 )
 honest-again g [] [] (y ∷ after) gave were clean = absurd gave

@@ -12,7 +12,7 @@ use Rattle.urb_names.specs.declared.refusal.Refusal.{Refusal}
 use Rattle.urb_names.specs.declared.refusal.Refusal.TheVariants as refusal
 use Rattle.urb_node.specs.Part.{Node}
 use Rattle.urb_stable.specs.Entries.{Entry}
-use Rattle.urb_stable.specs.Storing.{IsContents, is_bad_row, is_place, refusal_of}
+use Rattle.urb_stable.specs.Storing.{IsContents, is_bad_row, is_place, list_in, refusal_of}
 use Rattle.urb_stable.specs.declared.stable.Stable.{Ghosts}
 use Rattle.urb_stable.specs.declared.stable.StoreFault.{StoreFault}
 use Rattle.urb_stable.specs.declared.stable.StoreFault.TheVariants as fault
@@ -35,7 +35,7 @@ use Rattle.urb_daemon.specs.RunsAfterStop.{AreIntact, ContinuesTogether, EndsAft
 use Rattle.urb_daemon.specs.RunsAfterStop.{beside_stores}
 use Rattle.urb_daemon.specs.Runs.{EndsAs, EndsFrom, IsOfSockets}
 use Rattle.urb_daemon.specs.internal.Runs.{end_of}
-use Rattle.urb_daemon.specs.StoresAsked.{AllAnswer, AreRefusedTogether, OpensTogether, list_in}
+use Rattle.urb_daemon.specs.StoresAsked.{AllAnswer, AreRefusedTogether, OpensTogether}
 use Rattle.urb_daemon.specs.internal.StoresAsked.{RetrievesTogether}
 
 -- ---- each store was asked
@@ -77,16 +77,17 @@ still-holds :
     → Gives g before answer after → HoldsOf g node before → HoldsOf g node after
 still-holds g node before after (Ok image) gives holds = λ honest records c.
     let none =
-    subst (λ (o : Option Entry). IsContents (g.certain after) o records) gives.clear.1 c in
-    let same : records ≡ image = none ∙ (gives.given honest).0 in
-    holds (gives.honest honest) records
+    subst (λ (o : Option Entry). IsContents (g.certain after) o records) gives.settled.clear.1 c in
+    let same : records ≡ image = none ∙ (gives.retrieved honest).given.0 in
+    holds (gives.trust.honest honest) records
     (subst (λ rs. IsContents (g.certain before) (g.doubt before) rs) (sym same)
-    (gives.given honest).1)
+    (gives.retrieved honest).given.1)
 still-holds g node before after (Err fault) gives holds = λ honest records c.
     let kept =
-    subst (λ (o : Option Entry). IsContents (g.certain after) o records) gives.kept.1 c in
-    holds (gives.honest honest) records
-    (subst (λ certain. IsContents certain (g.doubt before) records) (gives.failed honest) kept)
+    subst (λ (o : Option Entry). IsContents (g.certain after) o records) gives.settled.kept.1 c in
+    holds (gives.trust.honest honest) records
+    (subst (λ certain. IsContents certain (g.doubt before) records)
+    (gives.retrieved honest).failed kept)
 
 -- this is so for all of them
 answer-held :
@@ -182,13 +183,14 @@ failed-so :
 failed-so g stores asked e one (inl honest) =
     let are = recursion_from_All g.is_honest asked honest in
     let now = all-at g.is_honest asked are one.place one.after one.is in
-    honest-fault e one.gives.faults.0 (one.gives.faults.1 now)
+    honest-fault e one.gives.allowed.faults.0 (one.gives.allowed.faults.1 now)
 failed-so g stores asked e one (inr known) =
     let are = recursion_from_All g.is_clean asked known.1 in
     let were = recursion_from_All (IsKnown g) stores known.0 in
     let now = all-at g.is_clean asked are one.place one.after one.is in
-    let was = all-at (IsKnown g) stores were one.place one.before one.was (one.gives.clean now) in
-    honest-fault e one.gives.faults.0 (one.gives.sound was now)
+    let was =
+    all-at (IsKnown g) stores were one.place one.before one.was (one.gives.trust.clean now) in
+    honest-fault e one.gives.allowed.faults.0 (one.gives.allowed.sound was now)
 
 refused-so :
     {S A : Type 0} (g : Ghosts S A) (stores : List S) (why : Refusal) (asked : List S)

@@ -7,7 +7,8 @@ use Rattle.urb_stable.specs.declared.stable.Stable.{Ghosts}
 use Rattle.urb_stable.specs.declared.stable.StoreFault.{StoreFault}
 use Rattle.urb_group.specs.Asked.{Gives}
 use Rattle.urb_group.specs.Reopening.{AllGive}
-use Rattle.urb_daemon.specs.StoresAsked.{AllAnswer, list_in}
+use Rattle.urb_daemon.specs.StoresAsked.{AllAnswer}
+use Rattle.urb_stable.specs.Storing.{list_in}
 
 -- each of these places was asked
 pub all_answered : {T S A : Type 0} (g : Ghosts S A) (store : T → S)

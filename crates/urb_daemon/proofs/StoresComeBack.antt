@@ -11,7 +11,8 @@ use Rattle.urb_group.specs.Shown.{GroupView}
 use Rattle.urb_worker.proofs.ServedStores.{unserved}
 use Rattle.urb_worker.specs.ServedStores.{AreServed}
 use Rattle.urb_daemon.specs.Runs.{ComeBack, MayAllBeAsked}
-use Rattle.urb_daemon.specs.StoresAsked.{AllAnswer, AreRefusedTogether, OpensTogether, list_in}
+use Rattle.urb_daemon.specs.StoresAsked.{AllAnswer, AreRefusedTogether, OpensTogether}
+use Rattle.urb_stable.specs.Storing.{list_in}
 
 -- stores that were not asked
 unasked : {S A : Type 0} (g : Ghosts S A) (stores : List S) → MayAllBeAsked g stores stores

@@ -4,18 +4,13 @@ use Rattle.urb_names.specs.Naming.{Limits}
 use Rattle.urb_names.specs.declared.refusal.Refusal.{Refusal}
 use Rattle.urb_names.specs.declared.refusal.Refusal.TheVariants as refusal
 use Rattle.urb_stable.specs.Entries.{Entry}
-use Rattle.urb_stable.specs.Storing.{refusal_of}
+use Rattle.urb_stable.specs.Storing.{list_in, refusal_of}
 use Rattle.urb_stable.specs.declared.stable.Stable.{Ghosts}
 use Rattle.urb_stable.specs.declared.stable.StoreFault.{StoreFault}
 use Rattle.urb_group.specs.Asked.{Gives}
 use Rattle.urb_group.specs.Reopening.{OpensGiven}
 use Rattle.urb_group.specs.Shown.{GroupView}
 use Rattle.urb_daemon.specs.Outcomes.{FailsFirst}
-
--- a store's answer, as a list of records or a fault
-abbrev pub list_in : {A : Type 0} → Result (Vec Entry A) StoreFault → Result (List Entry) StoreFault
-list_in (Ok records) = Ok records.items
-list_in (Err fault) = Err fault
 
 module _ {S A : Type 0} (g : Ghosts S A) where
   -- each store was asked and gave this answer, independently of the others

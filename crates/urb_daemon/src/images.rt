@@ -2,7 +2,8 @@
 
 ghost use Rattle.std.specs.Prelude.{◌≡◌, ◌≤◌, IfErr, IfOk, map, vec_capacity, vec_len};
 ghost use Rattle.urb_group.specs.Asked.{Gives};
-ghost use Rattle.urb_daemon.specs.StoresAsked.{AllAnswer, list_in};
+ghost use Rattle.urb_daemon.specs.StoresAsked.{AllAnswer};
+ghost use Rattle.urb_stable.specs.Storing.{list_in};
 ghost use Rattle.urb_daemon.specs.internal.StoresAsked.{RetrievesTogether};
 
 use crate::first_fault::{Outcomes, collect_opened};

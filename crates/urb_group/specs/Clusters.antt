@@ -6,6 +6,7 @@ use Rattle.urb_names.specs.Nodes.{is_node}
 use Rattle.urb_names.specs.Packets.{packet_of}
 use Rattle.urb_names.specs.declared.refusal.NoMemory.{NoMemory}
 use Rattle.urb_stable.specs.Entries.{Entry}
+use Rattle.urb_stable.specs.Keeping.{Keeps}
 use Rattle.urb_stable.specs.Memory.{Memory, after_failure, armed_with, without_memory}
 use Rattle.urb_stable.specs.Placed.{Placed}
 use Rattle.urb_stable.specs.Storing.{is_out_of_place, refusal_of}
@@ -15,7 +16,7 @@ use Rattle.urb_stable.specs.declared.stable.Stable.{Ghosts}
 use Rattle.urb_stable.specs.declared.stable.StoreFault.{StoreFault}
 use Rattle.urb_node.specs.Replies.{Drafted, Refused, Reply, Same, Sent, Stored, Up, WentDown}
 use Rattle.urb_node.specs.Steps.{is_down}
-use Rattle.urb_group.specs.Asked.{Gives, Keeps}
+use Rattle.urb_group.specs.Asked.{Gives}
 use Rattle.urb_group.specs.Calls.{IsRefused, Steps}
 use Rattle.urb_group.specs.Clustered.{Clustered, held_draft}
 use Rattle.urb_group.specs.Shown.{GroupView, Shows, view_of}

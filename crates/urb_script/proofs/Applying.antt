@@ -7,6 +7,7 @@ use Rattle.urb_names.specs.Nodes.{is_node}
 use Rattle.urb_names.specs.declared.refusal.Refusal.TheVariants as refusal
 use Rattle.std.specs.Prelude.{length, ◌+◌, IfOk, OnOk, slice_get, slice_index_or}
 use Rattle.urb_stable.specs.Entries.{Entry}
+use Rattle.urb_stable.specs.Keeping.{Keeps}
 use Rattle.urb_stable.specs.Memory.{Memory, armed_with, empty_memory}
 use Rattle.urb_stable.specs.Placed.{Placed}
 use Rattle.urb_stable.specs.Storing.{IsPlaced, is_out_of_place, is_place, refusal_of}
@@ -20,7 +21,7 @@ use Rattle.urb_group.specs.InMemory.{in_memory}
 use Rattle.urb_group.specs.Scenes.{Scene, flags_with, or_nothing}
 use Rattle.urb_group.specs.Step.{Arrive, Crash, Event, Submit, Tick}
 use Rattle.urb_group.specs.Step as event
-use Rattle.urb_group.specs.Asked.{Gives, Keeps}
+use Rattle.urb_group.specs.Asked.{Gives}
 use Rattle.urb_group.specs.Clustered.{Clustered, held_draft}
 use Rattle.urb_group.specs.Clusters.{Alone, Applies, Breaks, FailsHeld, RestartsBy, Returns}
 use Rattle.urb_group.specs.Clusters.{StoreMoves, StoresHeld, is_fallen, stored_as}
@@ -104,12 +105,13 @@ stored_by : (A : Type 0) (size : Limits) (old new : Clustered Memory) (scene : S
     → TakesTo size new scene (Stored p) (reply_text said)
 stored_by A size old new scene p draft said before after (Ok done) s e m k steps =
     as_asked size new scene (Stored p) (reply_text said) (λ text next is. is)
-    (took size old new scene p draft said before after s e m steps (k.stored tt) k.clear.1)
+    (took size old new scene p draft said before after s e m steps (k.appended tt).stored
+    k.doubted.clear.1)
 stored_by A size old new scene p draft said before after (Err why) s e m k steps =
-    failed_store size old new scene p draft said before after s e m steps (k.failed tt)
+    failed_store size old new scene p draft said before after s e m steps (k.appended tt).failed
     (left_doubt (is_out_of_place before.doubtful (length before.certain + 1) draft.pos)
     before draft why after k.placed k.same
-    (sure_before size old scene p draft before after new.stores s e m) k.doubt)
+    (sure_before size old scene p draft before after new.stores s e m) k.doubted.doubt)
 
 by_draft : (A : Type 0) (size : Limits) (old new : Clustered Memory) (scene : Scene) (p : ℕ)
     (draft : Option Placed) (said : Reply) → ShowsScene size old scene
@@ -214,7 +216,7 @@ asked_store A size old new scene p said before after (Ok image) s not down m k r
     let is = both (is_node scene.world.size.n p) (is_down (scene.world.node p).state) down in
     as_asked size new scene (Restart p) (reply_text said) (λ text next i. i)
     (read size old new scene p image said before after s is.0 is.1 m not r k.answers
-    (k.given tt).0 k.clear.1)
+    (k.retrieved tt).given.0 k.settled.clear.1)
 asked_store A size old new scene p said before after (Err why) s not down m k r =
     absurd (not (r.0 ∙ ap (λ (f : StoreFault). Refused (refusal_of f)) k.answers))
 

@@ -143,11 +143,12 @@ fits_none size images e = ap first_of_all e
 opened_held : (A : Type 0) (p : ℕ) (records : List Entry) (before after : Memory)
     → Gives (in_memory A) before (Ok records) after → IsHeldBy (opened_node p records) records after
 opened_held A p records before after k =
-    let certain : after.certain ≡ records = (k.given tt).0 in
+    let certain : after.certain ≡ records = (k.retrieved tt).given.0 in
     record {
-      holds = sym (ap (λ (d : Option Entry). with_doubt after.certain d) k.clear.1 ∙ certain);
+      holds =
+          sym (ap (λ (d : Option Entry). with_doubt after.certain d) k.settled.clear.1 ∙ certain);
       contents = refl;
-      certain = λ up. (certain, k.clear.1);
+      certain = λ up. (certain, k.settled.clear.1);
     }
 
 -- the line has this answer, and the opened scene is shown

@@ -5,6 +5,7 @@ pub mod Placed
 pub mod Doubted
 pub mod Storing
 pub mod Answering
+pub mod Keeping
 pub mod Memory
 pub mod Images
 pub mod Fitting

@@ -1,8 +1,7 @@
 //! Drafts: records that a node wants stored.
-ghost use Rattle.std.specs.Prelude.{◌≡◌, ◌⊎◌, ◌+◌, ◌<◌, ◌≤◌, ◌++◌, [], ◌∷◌, true, false, None};
-ghost use Rattle.std.specs.Prelude.{Some, Err, IsTrue, IfErr, OnOk, OnErr, MatchResult, length};
-ghost use Rattle.urb_stable.specs.Storing.{IsContents, is_out_of_place, is_place, IsPlaced};
+ghost use Rattle.std.specs.Prelude.{◌≡◌, ◌<◌, MatchResult};
 ghost use Rattle.urb_stable.specs.Answering.{answer_of};
+ghost use Rattle.urb_stable.specs.Keeping.{Keeps};
 
 use crate::{Doubt, Receipt, Record, Stable, StoreFault};
 use std::alloc::{Allocator, Global};
@@ -68,59 +67,8 @@ impl<A: Allocator> Draft<A> {
         // A receipt belongs to this draft, and a doubt to its node.
         ensures receipt { MatchResult result (λ receipt. receipt ≡ self)
             (λ doubt. doubt.node ≡ self.node) }
-
         // A doubt holds exactly the fault that the store answered.
-        ensures answers { S.stores store.old self.pos self.entry (answer_of result) }
-
-        // The fault is `Place` exactly if the store is out of place, and then nothing changes.
-        ensures placed { IsPlaced
-            (is_out_of_place (S.is_doubtful store.old) (S.place store.old) self.pos)
-            (S.place store.old) (answer_of result) }
-        ensures same { IsTrue
-            (is_out_of_place (S.is_doubtful store.old) (S.place store.old) self.pos)
-            → store.new ≡ store.old }
-
-        // The next position of an honest store is the one after its certain records.
-        ensures counted { S.is_honest store.old
-            → S.place store.old ≡ length (S.certain store.old) + 1 }
-
-        // The record is certain after a receipt. After any other doubt it may be there.
-        ensures stored { S.is_honest store.new
-            → OnOk (answer_of result)
-            (S.certain store.new ≡ S.certain store.old ++ self.entry ∷ []) }
-        ensures failed { S.is_honest store.new
-            → OnErr (answer_of result) (S.certain store.new ≡ S.certain store.old) }
-        ensures clear { OnOk (answer_of result)
-            ((S.is_doubtful store.new ≡ false) × (S.doubt store.new ≡ None)) }
-        ensures doubtful { IfErr (answer_of result)
-            (λ e. is_place e ≡ false → S.is_doubtful store.new ≡ true) }
-        ensures doubt { IfErr (answer_of result) (λ e. is_place e ≡ false
-            → (S.doubt store.new ≡ None) ⊎ (S.doubt store.new ≡ Some self.entry)) }
-
-        // A stop, even during this call, leaves what the storage may hold, or its certain records
-        // followed by this one.
-        ensures stop { S.is_honest store.old
-            → S.is_clean store.new
-            → S.leaves_only store.new (λ records.
-            IsContents (S.certain store.old) (S.doubt store.old) records
-            ⊎ (records ≡ S.certain store.old ++ self.entry ∷ [])) }
-        ensures rest { S.is_honest store.new
-            → S.leaves_only store.new (IsContents (S.certain store.new) (S.doubt store.new)) }
-
-        // `Device` comes only if the count of failures rose.
-        ensures device { answer_of result ≡ Err StoreFault.Device
-            → S.failures store.old < S.failures store.new }
-        ensures counts { S.failures store.old ≤ S.failures store.new }
-        ensures honest { S.is_honest store.new → S.is_honest store.old }
-        ensures alive { OnOk (answer_of result)
-            (S.is_honest store.old → S.is_clean store.new → S.is_honest store.new) }
-
-        // If the storage has ever returned something other than what was written, it never counts
-        // as clean again. A clean storage that was honest stays honest or is shut.
-        ensures clean { S.is_clean store.new → S.is_clean store.old }
-        ensures shut { S.is_honest store.old
-            → S.is_clean store.new
-            → S.is_honest store.new ⊎ S.is_shut store.new }
+        ensures keeps { Keeps S.Stable store.old self (answer_of result) store.new }
     {
         // For its clause about the next position of an honest store.
         let _next = store.next();

@@ -1,14 +1,12 @@
 //! A store in memory.
-ghost use Rattle.std.specs.Prelude.{◌≡◌, ◌⊎◌, ◌<◌, ◌≤◌, ◌+◌, ◌-◌, ◌^◌, List, [], ◌∷◌, ◌++◌, None};
-ghost use Rattle.std.specs.Prelude.{Some, Ok, Err, false, true, length, IsTrue, OnOk, OnErr, IfOk};
-ghost use Rattle.std.specs.Prelude.{IfErr, MatchResult};
-ghost use Rattle.std.specs.Option.{OnSome};
-ghost use Rattle.urb_stable.specs.Memory.{empty_memory, armed_with, without_memory, after_failure};
-ghost use Rattle.urb_stable.specs.Memory.{Retrieves, Stores};
-ghost use Rattle.urb_stable.specs.internal.Memory.{with_record, retrieved};
+ghost use Rattle.std.specs.Prelude.{◌≡◌, ◌+◌, List, [], ◌∷◌, ◌++◌, false, length, IsTrue, OnOk};
+ghost use Rattle.std.specs.Prelude.{OnErr, IfOk, IfErr};
+ghost use Rattle.urb_stable.specs.Memory.{empty_memory, armed_with, Retrieves, Stores};
+ghost use Rattle.urb_stable.specs.internal.Memory.{StoresInMemory, retrieved};
 ghost use Rattle.urb_stable.specs.Entries.{Entry};
-ghost use Rattle.urb_stable.specs.Storing.{IsContents, is_out_of_place, is_place, is_bad_row};
-ghost use Rattle.urb_stable.specs.Storing.{IsPlaced};
+ghost use Rattle.urb_stable.specs.Storing.{IsContents, IsContentsOr, is_out_of_place, is_place};
+ghost use Rattle.urb_stable.specs.Storing.{is_bad_row, IsPlaced, IsAppended, LeavesDoubt};
+ghost use Rattle.urb_stable.specs.Storing.{CountsFailures, list_in, IsRetrieved, SettlesDoubt};
 
 use crate::{Record, Stable, StoreFault};
 use std::alloc::{Allocator, Global};
@@ -152,43 +150,16 @@ impl<A: Allocator + Copy> Stable for MemStable<A> {
             (length self.old.certain + 1) result }
         ensures same { IsTrue (is_out_of_place self.old.doubtful (length self.old.certain + 1) pos)
             → self.new ≡ self.old }
-        ensures stored { OnOk result (self.new.certain ≡ self.old.certain ++ entry.now ∷ []) }
-        ensures failed { OnErr result (self.new.certain ≡ self.old.certain) }
-        ensures clear { OnOk result ((self.new.doubtful ≡ false) × (self.new.doubt ≡ None)) }
-        ensures doubtful { IfErr result (λ e. is_place e ≡ false → self.new.doubtful ≡ true) }
-        ensures doubt { IfErr result (λ e.
-            is_place e ≡ false → (self.new.doubt ≡ None) ⊎ (self.new.doubt ≡ Some entry.now)) }
+        ensures appended { IsAppended self.old.certain self.new.certain entry.now result }
+        ensures doubted { LeavesDoubt self.new.doubtful self.new.doubt entry.now result }
         ensures stop { (records : List Entry)
             → IsContents self.new.certain self.new.doubt records
-            → IsContents self.old.certain self.old.doubt records
-            ⊎ (records ≡ self.old.certain ++ entry.now ∷ []) }
-        ensures device { result ≡ Err StoreFault.Device → self.old.failures < self.new.failures }
-        ensures counts { self.old.failures ≤ self.new.failures }
+            → IsContentsOr entry.now self.old.certain self.old.doubt records }
+        ensures counts { CountsFailures self.old.failures self.new.failures result }
 
-        // The exact result and effect if the position is right (the result isn't `Place`): first
-        // without an armed failure, then with each of the two. If no further failure can be
-        // counted, an armed call returns `NoMemory`.
-        ensures unarmed { is_out_of_place self.old.doubtful (length self.old.certain + 1) pos
-            ≡ false
-            → self.old.armed ≡ None
-            → ((result ≡ Ok tt) × (self.new ≡ with_record entry.now self.old))
-            ⊎ ((result ≡ Err StoreFault.NoMemory) × (self.new ≡ without_memory self.old)) }
-        ensures keeps_nothing { is_out_of_place self.old.doubtful (length self.old.certain + 1) pos
-            ≡ false
-            → self.old.armed ≡ Some Failure.Old
-            → self.old.failures < 2 ^ 64 - 1
-            → (result ≡ Err StoreFault.Device) × (self.new ≡ after_failure None self.old) }
-        ensures keeps_it { is_out_of_place self.old.doubtful (length self.old.certain + 1) pos
-            ≡ false
-            → self.old.armed ≡ Some Failure.New
-            → self.old.failures < 2 ^ 64 - 1
-            → ((result ≡ Err StoreFault.Device)
-            × (self.new ≡ after_failure (Some entry.now) self.old))
-            ⊎ ((result ≡ Err StoreFault.NoMemory) × (self.new ≡ without_memory self.old)) }
-        ensures uncounted { is_out_of_place self.old.doubtful (length self.old.certain + 1) pos
-            ≡ false
-            → OnSome self.old.armed (2 ^ 64 - 1 ≤ self.old.failures
-            → (result ≡ Err StoreFault.NoMemory) × (self.new ≡ without_memory self.old)) }
+        // The exact result and effect if the position is right (the result isn't `Place`).
+        ensures exact { is_out_of_place self.old.doubtful (length self.old.certain + 1) pos ≡ false
+            → StoresInMemory self.old entry.now result self.new }
     {
         let next = self.next();
         if pos != next || self.doubtful || next == u32::MAX {
@@ -219,21 +190,17 @@ impl<A: Allocator + Copy> Stable for MemStable<A> {
 
     fn retrieve(&mut self, alloc: A) -> Result<Vec<Record<Message<A>>, A>, StoreFault>
         // The promises of every store.
-        ensures answers { MatchResult result (λ records. Retrieves self.old (Ok records.items))
-            (λ e. Retrieves self.old (Err e)) }
-        ensures given { IfOk result (λ records. (self.new.certain ≡ records.items)
-            × IsContents self.old.certain self.old.doubt records.items) }
-        ensures clear { OnOk result ((self.new.doubtful ≡ false) × (self.new.doubt ≡ None)) }
-        ensures failed { OnErr result (self.new.certain ≡ self.old.certain) }
-        ensures kept { OnErr result ((self.new.doubtful ≡ self.old.doubtful)
-            × (self.new.doubt ≡ self.old.doubt)
-            × (length self.new.certain + 1 ≡ length self.old.certain + 1)) }
+        ensures answers { Retrieves self.old (list_in result) }
+        ensures retrieved { IsRetrieved self.old.certain self.old.doubt self.new.certain
+            (list_in result) }
+        ensures settled { SettlesDoubt self.old.doubtful self.old.doubt
+            (length self.old.certain + 1) self.new.doubtful self.new.doubt
+            (length self.new.certain + 1) (list_in result) }
         ensures faults { IfErr result (λ e. (is_place e ≡ false) × (is_bad_row e ≡ false)) }
         ensures stop { (records : List Entry)
             → IsContents self.new.certain self.new.doubt records
             → IsContents self.old.certain self.old.doubt records }
-        ensures device { result ≡ Err StoreFault.Device → self.old.failures < self.new.failures }
-        ensures counts { self.old.failures ≤ self.new.failures }
+        ensures counts { CountsFailures self.old.failures self.new.failures (list_in result) }
 
         // It returns all records. A fault never comes from the device, and it leaves the store
         // unchanged.

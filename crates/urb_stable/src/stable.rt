@@ -1,11 +1,11 @@
 //! Stable storage: the contract of every store.
-ghost use Rattle.std.specs.Prelude.{◌≡◌, ◌⊎◌, ◌+◌, ◌<◌, ◌≤◌, List, [], ◌∷◌, ◌++◌, ℕ, Bool, true};
-ghost use Rattle.std.specs.Prelude.{false, Option, Some, None, Result, Ok, Err, length, IsTrue};
-ghost use Rattle.std.specs.Prelude.{IfOk, IfErr, MatchResult, OnOk, OnErr};
+ghost use Rattle.std.specs.Prelude.{◌≡◌, ◌+◌, List, ℕ, Bool, Option, Result, length, IsTrue};
 ghost use Rattle.urb_stable.specs.Entries.{Entry};
 ghost use Rattle.urb_stable.specs.declared.stable.StoreFault.{StoreFault as Fault};
-ghost use Rattle.urb_stable.specs.Storing.{refusal_of, IsContents, is_out_of_place, is_place};
-ghost use Rattle.urb_stable.specs.Storing.{is_bad_row, IsPlaced};
+ghost use Rattle.urb_stable.specs.Storing.{refusal_of, is_out_of_place, IsContents, IsContentsOr};
+ghost use Rattle.urb_stable.specs.Storing.{IsPlaced, IsAppended, LeavesDoubt, CountsFailures};
+ghost use Rattle.urb_stable.specs.Storing.{KeepsTrust, list_in, IsRetrieved, SettlesDoubt};
+ghost use Rattle.urb_stable.specs.Storing.{IsAllowedFault, StaysShut, LeavesNoMore};
 
 use crate::Record;
 use std::alloc::{AllocError, AllocFailed, Allocator};
@@ -132,44 +132,28 @@ pub trait Stable {
     fn store(&mut self, pos: u32, entry: &Record<Message<Self::Alloc>>) -> Result<(), StoreFault>
         // It answers as this storage does.
         ensures answers { stores self.old pos entry.now result }
-
         // The fault is `Place` exactly if the store is out of place, and then nothing changes.
         ensures placed { IsPlaced (is_out_of_place (is_doubtful self.old) (place self.old) pos)
             (place self.old) result }
         ensures same { IsTrue (is_out_of_place (is_doubtful self.old) (place self.old) pos)
             → self.new ≡ self.old }
-
         // The record is certain after `Ok`. After any other fault it may be there.
-        ensures stored { is_honest self.new
-            → OnOk result (certain self.new ≡ certain self.old ++ entry.now ∷ []) }
-        ensures failed { is_honest self.new → OnErr result (certain self.new ≡ certain self.old) }
-        ensures clear { OnOk result ((is_doubtful self.new ≡ false) × (doubt self.new ≡ None)) }
-        ensures doubtful { IfErr result (λ e. is_place e ≡ false → is_doubtful self.new ≡ true) }
-        ensures doubt { IfErr result (λ e.
-            is_place e ≡ false → (doubt self.new ≡ None) ⊎ (doubt self.new ≡ Some entry.now)) }
-
+        ensures appended { is_honest self.new
+            → IsAppended (certain self.old) (certain self.new) entry.now result }
+        ensures doubted { LeavesDoubt (is_doubtful self.new) (doubt self.new) entry.now result }
         // A stop, even during this call, leaves what the storage may hold, or its certain records
         // followed by this one.
         ensures stop { is_honest self.old
             → is_clean self.new
-            → leaves_only self.new (λ records.
-            IsContents (certain self.old) (doubt self.old) records
-            ⊎ (records ≡ certain self.old ++ entry.now ∷ [])) }
+            → leaves_only self.new (IsContentsOr entry.now (certain self.old) (doubt self.old)) }
         ensures rest { is_honest self.new
             → leaves_only self.new (IsContents (certain self.new) (doubt self.new)) }
-
         // `Device` comes only if the count of failures rose.
-        ensures device { result ≡ Err StoreFault.Device → failures self.old < failures self.new }
-        ensures counts { failures self.old ≤ failures self.new }
-        ensures honest { is_honest self.new → is_honest self.old }
-        ensures alive { OnOk result (is_honest self.old → is_clean self.new → is_honest self.new) }
-
+        ensures counts { CountsFailures (failures self.old) (failures self.new) result }
         // If the storage has ever returned something other than what was written, it never counts
         // as clean again. A clean storage that was honest stays honest or is shut.
-        ensures clean { is_clean self.new → is_clean self.old }
-        ensures shut { is_honest self.old
-            → is_clean self.new
-            → is_honest self.new ⊎ is_shut self.new };
+        ensures trust { KeepsTrust (is_clean self.old) (is_honest self.old) (is_clean self.new)
+            (is_honest self.new) (is_shut self.new) result };
 
     /// Returns all records, which are certain from then on. A failed retrieve changes nothing but
     /// the count of failures.
@@ -178,56 +162,33 @@ pub trait Stable {
         alloc: Self::Alloc,
     ) -> Result<Vec<Record<Message<Self::Alloc>>, Self::Alloc>, StoreFault>
         // It answers as this storage does.
-        ensures answers { MatchResult result (λ records. answers self.old (Ok records.items))
-            (λ e. answers self.old (Err e)) }
-
-        // It returns what the storage may hold, which is then certain.
-        ensures given { is_honest self.new
-            → IfOk result (λ records. (certain self.new ≡ records.items)
-            × IsContents (certain self.old) (doubt self.old) records.items) }
-        ensures clear { OnOk result ((is_doubtful self.new ≡ false) × (doubt self.new ≡ None)) }
-
-        // A fault leaves what was there. It is never `Place`, nor `BadRow` if the storage is
-        // honest.
-        ensures failed { is_honest self.new → OnErr result (certain self.new ≡ certain self.old) }
-        ensures kept { OnErr result ((is_doubtful self.new ≡ is_doubtful self.old)
-            × (doubt self.new ≡ doubt self.old)
-            × (place self.new ≡ place self.old)) }
-        ensures faults { IfErr result
-            (λ e. (is_place e ≡ false) × (is_honest self.new → is_bad_row e ≡ false)) }
-
-        // Nor is it `BadRow` if this failure, or an earlier one, has shut an honest storage.
-        ensures sound { is_honest self.old ⊎ is_shut self.old
-            → is_clean self.new
-            → IfErr result (λ e. is_bad_row e ≡ false) }
-
+        ensures answers { answers self.old (list_in result) }
+        // It returns what the storage may hold, which is then certain. A fault leaves what was
+        // there.
+        ensures retrieved { is_honest self.new
+            → IsRetrieved (certain self.old) (doubt self.old) (certain self.new) (list_in result) }
+        ensures settled { SettlesDoubt (is_doubtful self.old) (doubt self.old) (place self.old)
+            (is_doubtful self.new) (doubt self.new) (place self.new) (list_in result) }
+        // The fault is never `Place`, nor `BadRow` if the storage is honest. Nor is it `BadRow` if
+        // this failure, or an earlier one, has shut an honest storage.
+        ensures allowed { IsAllowedFault (is_honest self.old) (is_shut self.old) (is_clean self.new)
+            (is_honest self.new) (list_in result) }
         // A stop, even during this call, leaves what the storage may hold.
         ensures stop { is_honest self.old
             → is_clean self.new
             → leaves_only self.new (IsContents (certain self.old) (doubt self.old)) }
         ensures rest { is_honest self.new
             → leaves_only self.new (IsContents (certain self.new) (doubt self.new)) }
-
         // `Device` comes only if the count of failures rose.
-        ensures device { result ≡ Err StoreFault.Device → failures self.old < failures self.new }
-        ensures counts { failures self.old ≤ failures self.new }
-        ensures honest { is_honest self.new → is_honest self.old }
-        ensures alive { OnOk result (is_honest self.old → is_clean self.new → is_honest self.new) }
-
+        ensures counts { CountsFailures (failures self.old) (failures self.new) (list_in result) }
         // If the storage has ever returned something other than what was written, it never counts
         // as clean again. A clean storage that was honest stays honest or is shut.
-        ensures clean { is_clean self.new → is_clean self.old }
-        ensures shut { is_honest self.old
-            → is_clean self.new
-            → is_honest self.new ⊎ is_shut self.new }
-
+        ensures trust { KeepsTrust (is_clean self.old) (is_honest self.old) (is_clean self.new)
+            (is_honest self.new) (is_shut self.new) (list_in result) }
         // A shut storage returns nothing and stays shut. For any storage, a stop leaves no more
         // than it did before the call.
-        ensures refuses { is_shut self.old
-            → is_clean self.new
-            → OnOk result ⊥ × OnErr result (is_shut self.new) }
+        ensures refuses { StaysShut (is_shut self.old) (is_clean self.new) (is_shut self.new)
+            (list_in result) }
         ensures lasts { is_clean self.new
-            → (certain : List Entry) (doubtful : Option Entry)
-            → leaves_only self.old (IsContents certain doubtful)
-            → leaves_only self.new (IsContents certain doubtful) };
+            → LeavesNoMore (leaves_only self.old) (leaves_only self.new) };
 }

@@ -10,12 +10,13 @@ use Rattle.urb_group.proofs.stops.StockedClusters.{unread}
 use Rattle.urb_group.proofs.stops.StockedNodes.{Rises}
 use Rattle.urb_group.proofs.stops.StockedSteps.{Stays, leaves-stay, store-stays}
 use Rattle.urb_group.proofs.stops.StoppedCalls.{leaves-draft}
-use Rattle.urb_group.specs.Asked.{Gives, Keeps}
+use Rattle.urb_group.specs.Asked.{Gives}
 use Rattle.urb_group.specs.Stocked.{HoldsOf, IsLasting, IsStoreOf, LeavesOf}
 use Rattle.urb_group.specs.Stopping.{MayLeave}
 use Rattle.urb_node.specs.Part.{Down, Node, Ready, State}
 use Rattle.urb_node.specs.Steps.{doubt, is_down}
 use Rattle.urb_stable.specs.Entries.{Entry}
+use Rattle.urb_stable.specs.Keeping.{Keeps}
 use Rattle.urb_stable.specs.Placed.{Placed}
 use Rattle.urb_stable.specs.Storing.{IsContents}
 use Rattle.urb_stable.specs.declared.stable.Stable.{Ghosts}
@@ -50,7 +51,7 @@ module _ {S A : Type 0} (g : Ghosts S A) where
       }
     where
       was : LeavesOf g node before
-      was = h.left (gives.clean clean)
+      was = h.left (gives.trust.clean clean)
 
   pub stays : (old new : Node) (store : S) → Stays old new → IsLastingOf g old store
       → IsLastingOf g new store
@@ -72,7 +73,7 @@ module _ {S A : Type 0} (g : Ghosts S A) where
       → g.is_clean after → g.leaves_only after (IsContents node.records (Some draft.entry))
   left-of-draft node before after draft answer keeps h up clean =
       left-by-draft g node before after draft answer keeps h.0 up
-      (honest-up node before h.1 up (keeps.clean clean)) clean
+      (honest-up node before h.1 up (keeps.trust.clean clean)) clean
 
   pub keeps-took : (node new : Node) (before after : S) (draft : Placed)
       → Keeps g before draft (Ok tt) after → IsLastingOf g node before → is_down node.state ≡ false
@@ -81,7 +82,8 @@ module _ {S A : Type 0} (g : Ghosts S A) where
       let store = took g node new before after draft keeps h.0 up records ready in (
         store,
         lasting-honest g new after store
-            (λ clean. keeps.alive (honest-up node before h.1 up (keeps.clean clean)) clean),
+            (λ clean. keeps.trust.alive
+            (honest-up node before h.1 up (keeps.trust.clean clean)) clean),
       )
 
   -- the store took the draft of a node that went down meanwhile
@@ -92,18 +94,20 @@ module _ {S A : Type 0} (g : Ghosts S A) where
   keeps-late node fell before after draft keeps h up records down = (
     store,
     lasting-honest g fell after store
-        (λ clean. keeps.alive (honest-up node before h.1 up (keeps.clean clean)) clean),
+        (λ clean. keeps.trust.alive
+        (honest-up node before h.1 up (keeps.trust.clean clean)) clean),
   )
     where
       certain : g.is_honest after → g.certain after ≡ fell.records ++ draft.entry ∷ []
       certain honest =
-          keeps.stored honest ∙ ap (λ rs. rs ++ draft.entry ∷ [])
-          ((h.0.up (keeps.honest honest) up).0 ∙ sym records)
+          (keeps.appended honest).stored ∙ ap (λ rs. rs ++ draft.entry ∷ [])
+          ((h.0.up (keeps.trust.honest honest) up).0 ∙ sym records)
 
       holds : HoldsOf g fell after
       holds honest image c =
           subst (λ (s : State). IsContents fell.records (doubt s) image) (sym down)
-          (inr (subst (λ (o : Option Entry). IsContents (g.certain after) o image) keeps.clear.1 c
+          (inr (subst (λ (o : Option Entry). IsContents (g.certain after) o image)
+          keeps.doubted.clear.1 c
           ∙ certain honest))
 
       store : IsStoreOf g fell after
@@ -125,12 +129,12 @@ module _ {S A : Type 0} (g : Ghosts S A) where
       left = λ clean. leaves-draft g new after draft.entry (ap doubt down) (only clean);
       known =
           λ clean. ⊎_elim (λ honest. inl honest) (λ shut. inr (shut, ap is_down down))
-          (keeps.shut (was clean) clean);
+          (keeps.trust.shut (was clean) clean);
     },
   )
     where
       was : g.is_clean after → g.is_honest before
-      was clean = honest-up node before h.1 up (keeps.clean clean)
+      was clean = honest-up node before h.1 up (keeps.trust.clean clean)
 
       only : g.is_clean after → g.leaves_only after (IsContents new.records (Some draft.entry))
       only clean =
@@ -157,7 +161,7 @@ module _ {S A : Type 0} (g : Ghosts S A) where
       left = asked-still node before after (Err fault) gives h.1;
       known = λ clean.
           ⊎_elim (λ honest. ⊎_elim (λ still. inl still) (λ shut. inr (shut, down))
-          (gives.shut honest clean)) (λ shut. inr ((gives.refuses shut.0 clean).1, down))
-          (h.1.known (gives.clean clean));
+          (gives.trust.shut honest clean)) (λ shut. inr ((gives.refuses shut.0 clean).1, down))
+          (h.1.known (gives.trust.clean clean));
     },
   )

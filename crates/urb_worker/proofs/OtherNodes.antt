@@ -7,7 +7,6 @@ use Rattle.urb_group.proofs.shown.ShownWorldsAgree.{sound-kept}
 use Rattle.urb_group.proofs.steps.DraftsInSteps.{event_node}
 use Rattle.urb_group.proofs.stops.StockedSteps.{leaves-stay}
 use Rattle.urb_group.proofs.stops.StoppedWorlds.{survives}
-use Rattle.urb_group.specs.Asked.{Keeps}
 use Rattle.urb_group.specs.Calls.{ComesUp, Commits, GoesDown, Takes}
 use Rattle.urb_group.specs.Shown.{GroupView, IsSound, Shows, view_of}
 use Rattle.urb_group.specs.Step.{Arrive, Commit, Crash, Event, Fail, Restart, Submit, Tick}
@@ -30,6 +29,7 @@ use Rattle.urb_show.specs.declared.status.Status.{Status}
 use Rattle.urb_stable.specs.Answering.{answer_of}
 use Rattle.urb_stable.specs.Doubted.{Doubted}
 use Rattle.urb_stable.specs.Entries.{Entry}
+use Rattle.urb_stable.specs.Keeping.{Keeps}
 use Rattle.urb_stable.specs.Placed.{Placed}
 use Rattle.urb_stable.specs.Storing.{refusal_of}
 use Rattle.urb_stable.specs.declared.stable.Stable.{Ghosts}
@@ -297,7 +297,7 @@ module _ {S A : Type 0} (g : Ghosts S A) (before after : S) (j : Job) (again lef
         drafted = e;
         kept = f ∙ ap stage.Kept is;
         certain =
-            λ honest. keeps.stored honest;
+            λ honest. (keeps.appended honest).stored;
       }
   kept-in at t draft (Err doubt) e f is keeps
       (Ok d, fails, counts, said, is_status, is_told, is_count) = absurd (not-refused _ said)

@@ -10,7 +10,7 @@ use Rattle.urb_group.proofs.stops.StockedNodes.{commit-node, fail-node, restart-
 use Rattle.urb_group.proofs.stops.StockedSteps.{IsQuiet, quiet-stays}
 use Rattle.urb_group.proofs.stops.StoppedCalls.{leaves-draft}
 use Rattle.urb_group.proofs.calls.StoreAnswers.{refused-as}
-use Rattle.urb_group.specs.Asked.{Gives, Keeps}
+use Rattle.urb_group.specs.Asked.{Gives}
 use Rattle.urb_group.specs.Calls.{ComesUp, Commits, GoesDown, HoldsDraft, Steps, Takes}
 use Rattle.urb_group.specs.Shown.{GroupView, Shows, view_of}
 use Rattle.urb_group.specs.States.{state_of}
@@ -36,6 +36,7 @@ use Rattle.urb_show.specs.declared.status.Status.{Status}
 use Rattle.urb_stable.specs.Answering.{answer_of}
 use Rattle.urb_stable.specs.Doubted.{Doubted}
 use Rattle.urb_stable.specs.Entries.{Entry, name_of}
+use Rattle.urb_stable.specs.Keeping.{Keeps}
 use Rattle.urb_stable.specs.Placed.{Placed}
 use Rattle.urb_stable.specs.declared.stable.Stable.{Ghosts}
 use Rattle.urb_stable.specs.declared.stable.StoreFault.{StoreFault}

@@ -9,12 +9,13 @@ use Rattle.urb_names.specs.declared.refusal.Refusal.TheVariants as refusal
 use Rattle.urb_stable.specs.Answering.{answer_of}
 use Rattle.urb_stable.specs.Doubted.{Doubted}
 use Rattle.urb_stable.specs.Entries.{Entry}
+use Rattle.urb_stable.specs.Keeping.{Keeps}
 use Rattle.urb_stable.specs.Placed.{Placed}
 use Rattle.urb_stable.specs.Storing.{refusal_of}
 use Rattle.urb_stable.specs.declared.stable.Stable.{Ghosts}
 use Rattle.urb_stable.specs.declared.stable.StoreFault.{StoreFault}
 use Rattle.urb_node.specs.Replies.{Done}
-use Rattle.urb_group.specs.Asked.{Gives, Keeps}
+use Rattle.urb_group.specs.Asked.{Gives}
 use Rattle.urb_group.specs.Calls.{Answers, ComesUp, Commits, GoesDown, Takes, Ticks}
 use Rattle.urb_group.specs.Shown.{GroupView, IsSound, view_of}
 use Rattle.urb_group.specs.States.{state_of}

@@ -7,7 +7,6 @@ use Rattle.urb_group.proofs.stops.NodeStoreInvariant.{HoldsIn, holds-in, store-b
 use Rattle.urb_group.proofs.stops.FewRecords.{few-records}
 use Rattle.urb_group.proofs.stops.StockedClusters.{beside-stocked}
 use Rattle.urb_group.proofs.calls.StoreAnswers.{held-as}
-use Rattle.urb_group.specs.Asked.{Keeps}
 use Rattle.urb_group.specs.Clustered.{Clustered, held_draft}
 use Rattle.urb_group.specs.Clusters.{Applies, Breaks, FailsHeld, StoresHeld}
 use Rattle.urb_group.specs.InMemory.{in_memory}
@@ -21,6 +20,7 @@ use Rattle.urb_names.specs.Naming.{IsLimits}
 use Rattle.urb_node.specs.Part.{Node}
 use Rattle.urb_node.specs.Replies.{Reply}
 use Rattle.urb_node.specs.Steps.{is_down}
+use Rattle.urb_stable.specs.Keeping.{Keeps}
 use Rattle.urb_stable.specs.Memory.{Memory, armed_with}
 use Rattle.urb_stable.specs.Placed.{Placed}
 use Rattle.urb_stable.specs.Storing.{IsPlaced, is_out_of_place}

@@ -11,6 +11,7 @@ use Rattle.urb_node.specs.Part.{Down, Node, Ready, State, Storing}
 use Rattle.urb_node.specs.Replies.{Refused, Reply}
 use Rattle.urb_node.specs.Steps.{is_down}
 use Rattle.urb_stable.specs.Entries.{Entry}
+use Rattle.urb_stable.specs.Keeping.{Keeps}
 use Rattle.urb_stable.specs.Placed.{Placed}
 use Rattle.urb_stable.specs.declared.stable.Stable.{Ghosts}
 use Rattle.urb_stable.specs.declared.stable.StoreFault.{StoreFault}
@@ -20,7 +21,7 @@ use Rattle.urb_group.proofs.stops.StockedNodes.{Rises, commit-node, fail-node, r
 use Rattle.urb_group.proofs.stops.StockedNodes.{unfallen-stays}
 use Rattle.urb_group.proofs.stops.StockedSteps.{IsQuiet, Stays, quiet-stays}
 use Rattle.urb_group.proofs.calls.StoreAnswers.{IsHeldAs, held-as}
-use Rattle.urb_group.specs.Asked.{Gives, Keeps}
+use Rattle.urb_group.specs.Asked.{Gives}
 use Rattle.urb_group.specs.Calls.{Steps}
 use Rattle.urb_group.specs.Clustered.{Clustered, held_draft}
 use Rattle.urb_group.specs.Clusters.{Alone, Applies, AsksStore, Reacts, RestartsBy, Returns}

@@ -88,7 +88,7 @@ given-chosen g (s ∷ stores) (im ∷ images) (a ∷ asked) h honest zero store 
     subst (λ (t : _). g.is_honest t × IsContents (g.certain t) (g.doubt t) image) one
     (subst (λ (records : List Entry). g.is_honest s
     × IsContents (g.certain s) (g.doubt s) records) two
-    (h.0.honest honest.0, (h.0.given honest.0).1))
+    (h.0.trust.honest honest.0, (h.0.retrieved honest.0).given.1))
 given-chosen g (s ∷ stores) (im ∷ images) (a ∷ asked) h honest (suc i) store image e f =
     given-chosen g stores images asked h.1 honest.1 i store image e f
 given-chosen g _ _ _ h honest i store image e f = absurd h
@@ -102,14 +102,14 @@ given-store g p image before after gives =
     record {
       contents = holds;
       left = leaves-held g (opened_node p image) after holds gives.rest;
-      up = λ honest e. ((gives.given honest).0, gives.clear.1);
-      sure = λ e. gives.clear.0;
+      up = λ honest e. ((gives.retrieved honest).given.0, gives.settled.clear.1);
+      sure = λ e. gives.settled.clear.0;
     }
   where
     holds : HoldsOf g (opened_node p image) after
     holds honest records c =
-        subst (λ (o : Option Entry). IsContents (g.certain after) o records) gives.clear.1 c
-        ∙ (gives.given honest).0
+        subst (λ (o : Option Entry). IsContents (g.certain after) o records) gives.settled.clear.1 c
+        ∙ (gives.retrieved honest).given.0
 
 pub opens-stocked : {S A : Type 0} (g : Ghosts S A) (size : Limits) (stores : List S)
     (result : Result (Clustered S) (Vec S A × Refusal)) → OpensStores g size stores result
@@ -140,11 +140,12 @@ gave-stays g before after image gives =
     record {
       holds = λ node holds honest records c.
           (let same : records ≡ image =
-          subst (λ (o : Option Entry). IsContents (g.certain after) o records) gives.clear.1 c
-          ∙ (gives.given honest).0 in
-          holds (gives.honest honest) records
+          subst (λ (o : Option Entry). IsContents (g.certain after) o records)
+          gives.settled.clear.1 c
+          ∙ (gives.retrieved honest).given.0 in
+          holds (gives.trust.honest honest) records
           (subst (λ (rs : List Entry). IsContents (g.certain before) (g.doubt before) rs)
-          (sym same) (gives.given honest).1));
+          (sym same) (gives.retrieved honest).given.1));
       leaves = λ node holds rest. asked-left g node before after gives.stop holds;
     }
 
@@ -154,10 +155,10 @@ failed-stays : {S A : Type 0} (g : Ghosts S A) (before after : S) (fault : Store
 failed-stays g before after fault gives =
     record {
       holds = λ node holds honest records c.
-          holds (gives.honest honest) records
+          holds (gives.trust.honest honest) records
           (subst (λ (certain : List Entry). IsContents certain (g.doubt before) records)
-          (gives.failed honest) (subst (λ (o : Option Entry).
-          IsContents (g.certain after) o records) gives.kept.1 c));
+          (gives.retrieved honest).failed (subst (λ (o : Option Entry).
+          IsContents (g.certain after) o records) gives.settled.kept.1 c));
       leaves = λ node holds rest. asked-left g node before after gives.stop holds;
     }
 
@@ -359,8 +360,9 @@ module _ {S A : Type 0} (g : Ghosts S A) (old : GroupView) (w : World) (size : L
           subst (λ (xs : List S). AllByRecursion g.is_honest xs) f.1.are
           (recursion_from_All g.is_honest asked honest) in
           let told =
-          honest-fault f.0 f.1.failed.faults.0
-          (f.1.failed.faults.1 (every-behind g.is_honest f.1.gave f.1.later f.1.after was)) in
+          honest-fault f.0 f.1.failed.allowed.faults.0
+          (f.1.failed.allowed.faults.1
+          (every-behind g.is_honest f.1.gave f.1.later f.1.after was)) in
           subst (λ (r : Refusal). (r ≡ refusal.NoMemory) ⊎ (r ≡ refusal.Device)) (sym f.2) told
 
   -- a store that answered with this fault was honest, or shut
@@ -382,9 +384,9 @@ module _ {S A : Type 0} (g : Ghosts S A) (old : GroupView) (w : World) (size : L
           every-behind g.is_clean f.1.gave f.1.later f.1.after are in
           let was =
           every-behind (IsKnown g) f.1.earlier f.1.later f.1.before were
-          (f.1.failed.clean now) in
+          (f.1.failed.trust.clean now) in
           subst (λ (r : Refusal). (r ≡ refusal.NoMemory) ⊎ (r ≡ refusal.Device)) (sym f.2)
-          (honest-fault f.0 f.1.failed.faults.0 (f.1.failed.sound was now))
+          (honest-fault f.0 f.1.failed.allowed.faults.0 (f.1.failed.allowed.sound was now))
 
   -- a store that gave its list is honest
   all-honest : (images : List (List Entry)) (asked : List S) → AllGive g stores images asked

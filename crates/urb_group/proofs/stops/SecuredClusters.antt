@@ -9,6 +9,7 @@ use Rattle.urb_node.specs.Part.{Down, Node, Ready}
 use Rattle.urb_node.specs.Replies.{Reply}
 use Rattle.urb_node.specs.Steps.{doubt, is_down}
 use Rattle.urb_stable.specs.Entries.{Entry}
+use Rattle.urb_stable.specs.Keeping.{Keeps}
 use Rattle.urb_stable.specs.Placed.{Placed}
 use Rattle.urb_stable.specs.Storing.{IsContents}
 use Rattle.urb_stable.specs.declared.stable.Stable.{Ghosts}
@@ -20,7 +21,7 @@ use Rattle.urb_group.proofs.stops.StockedClusters.{left-by-draft, lost, rose, to
 use Rattle.urb_group.proofs.stops.StockedNodes.{Rises}
 use Rattle.urb_group.proofs.stops.StockedSteps.{Stays, leaves-stay, store-stays}
 use Rattle.urb_group.proofs.stops.StoppedCalls.{leaves-draft}
-use Rattle.urb_group.specs.Asked.{Gives, Keeps}
+use Rattle.urb_group.specs.Asked.{Gives}
 use Rattle.urb_group.specs.Clustered.{Clustered, held_draft}
 use Rattle.urb_group.specs.Clusters.{Applies, AsksStore, RestartsBy, StoreMoves, StoresDraft}
 use Rattle.urb_group.specs.Clusters.{StoresHeld, is_fallen}
@@ -82,8 +83,8 @@ lasting-known g node store h clean =
 pub read-honest : {S A : Type 0} (g : Ghosts S A) (before after : S) (image : List Entry)
     → Gives g before (Ok image) after → IsKnown g before → g.is_clean after → g.is_honest after
 read-honest g before after image gives known clean =
-    ⊎_elim (λ honest. gives.alive honest clean) (λ shut. absurd (gives.refuses shut clean).0)
-    (known (gives.clean clean))
+    ⊎_elim (λ honest. gives.trust.alive honest clean) (λ shut. absurd (gives.refuses shut clean).0)
+    (known (gives.trust.clean clean))
 
 -- a store that is honest if it is clean, lasts
 pub lasting-honest : {S A : Type 0} (g : Ghosts S A) (node : Node) (store : S)
@@ -105,7 +106,7 @@ asked-still g node before after answer gives h clean =
     }
   where
     was : LeavesOf g node before
-    was = h.left (gives.clean clean)
+    was = h.left (gives.trust.clean clean)
 
 lasting-stays : {S A : Type 0} (g : Ghosts S A) (old new : Node) (store : S) → Stays old new
     → IsLastingOf g old store → IsLastingOf g new store
@@ -126,7 +127,8 @@ lasting-took g node new before after draft keeps h up records ready =
     let store = took g node new before after draft keeps h.0 up records ready in (
       store,
       lasting-honest g new after store
-          (λ clean. keeps.alive (honest-up g node before h.1 up (keeps.clean clean)) clean),
+          (λ clean. keeps.trust.alive
+          (honest-up g node before h.1 up (keeps.trust.clean clean)) clean),
     )
 
 lasting-lost : {S A : Type 0} (g : Ghosts S A) (node new : Node) (before after : S) (draft : Placed)
@@ -139,12 +141,12 @@ lasting-lost g node new before after draft fault keeps h up records down = (
     left = λ clean. leaves-draft g new after draft.entry (ap doubt down) (only clean);
     known =
         λ clean. ⊎_elim (λ honest. inl honest) (λ shut. inr (shut, ap is_down down))
-        (keeps.shut (was clean) clean);
+        (keeps.trust.shut (was clean) clean);
   },
 )
   where
     was : g.is_clean after → g.is_honest before
-    was clean = honest-up g node before h.1 up (keeps.clean clean)
+    was clean = honest-up g node before h.1 up (keeps.trust.clean clean)
 
     only : g.is_clean after → g.leaves_only after (IsContents new.records (Some draft.entry))
     only clean =
@@ -171,8 +173,8 @@ lasting-unread g node before after fault gives down h = (
     left = asked-still g node before after (Err fault) gives h.1;
     known = λ clean.
         ⊎_elim (λ honest. ⊎_elim (λ still. inl still) (λ shut. inr (shut, down))
-        (gives.shut honest clean)) (λ shut. inr ((gives.refuses shut.0 clean).1, down))
-        (h.1.known (gives.clean clean));
+        (gives.trust.shut honest clean)) (λ shut. inr ((gives.refuses shut.0 clean).1, down))
+        (h.1.known (gives.trust.clean clean));
   },
 )
 
@@ -246,7 +248,7 @@ module _ {S A : Type 0} (g : Ghosts S A) (old new : Clustered S) (h : IsSecured 
           (left-by-draft g (h.stocked.world.node draft.node)
           stores.before stores.after draft stores.stored.answer keeps before.0 up
           (honest-up g (h.stocked.world.node draft.node) stores.before before.1 up
-          (keeps.clean clean)) clean)
+          (keeps.trust.clean clean)) clean)
 
   held-left : (p : ℕ) (reply : Reply) (d : Option Placed) → held_draft old.group p ≡ d
       → StoresHeld g old p d reply new → WouldLeave g h.stocked.world new.stores

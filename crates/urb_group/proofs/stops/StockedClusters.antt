@@ -7,6 +7,7 @@ use Rattle.urb_node.specs.Part.{Down, Node, Ready, State}
 use Rattle.urb_node.specs.Replies.{Reply}
 use Rattle.urb_node.specs.Steps.{doubt, is_down}
 use Rattle.urb_stable.specs.Entries.{Entry}
+use Rattle.urb_stable.specs.Keeping.{Keeps}
 use Rattle.urb_stable.specs.Placed.{Placed}
 use Rattle.urb_stable.specs.Storing.{IsContents, IsPlaced, is_out_of_place, is_place}
 use Rattle.urb_stable.specs.declared.stable.Stable.{Ghosts}
@@ -14,7 +15,7 @@ use Rattle.urb_stable.specs.declared.stable.StoreFault.{StoreFault}
 use Rattle.urb_group.proofs.stops.NodeStoreInvariant.{Beside, Lasts, applies-beside}
 use Rattle.urb_group.proofs.stops.StockedNodes.{Rises}
 use Rattle.urb_group.proofs.stops.StockedSteps.{store-stays}
-use Rattle.urb_group.specs.Asked.{Gives, Keeps}
+use Rattle.urb_group.specs.Asked.{Gives}
 use Rattle.urb_group.specs.Clustered.{Clustered}
 use Rattle.urb_group.specs.Clusters.{Applies}
 use Rattle.urb_group.specs.Stocked.{HoldsOf, IsStocked, IsStoreOf, LeavesOf}
@@ -68,19 +69,19 @@ took g node new before after draft keeps store up records ready =
     record {
       contents = holds;
       left = leaves-held g new after holds keeps.rest;
-      up = λ honest e. (certain honest, keeps.clear.1);
-      sure = λ e. keeps.clear.0;
+      up = λ honest e. (certain honest, keeps.doubted.clear.1);
+      sure = λ e. keeps.doubted.clear.0;
     }
   where
     certain : g.is_honest after → g.certain after ≡ new.records
     certain honest =
-        keeps.stored honest ∙ (ap (λ rs. rs ++ draft.entry ∷ [])
-        (store.up (keeps.honest honest) up).0 ∙ sym records)
+        (keeps.appended honest).stored ∙ (ap (λ rs. rs ++ draft.entry ∷ [])
+        (store.up (keeps.trust.honest honest) up).0 ∙ sym records)
 
     holds : HoldsOf g new after
     holds honest image c =
         subst (λ (s : State). IsContents new.records (doubt s) image) (sym ready)
-        (subst (λ (o : Option Entry). IsContents (g.certain after) o image) keeps.clear.1 c
+        (subst (λ (o : Option Entry). IsContents (g.certain after) o image) keeps.doubted.clear.1 c
         ∙ certain honest)
 
 -- The store's node went down while it held this record. The store has the node's records for
@@ -141,7 +142,7 @@ pub lost : {S A : Type 0} (g : Ghosts S A) (node new : Node) (before after : S) 
     → new.records ≡ node.records → new.state ≡ Down (Some draft.entry) → IsStoreOf g new after
 lost g node new before after draft fault keeps store up records down =
     fallen g node new after draft.entry
-    (λ honest. keeps.failed honest ∙ (store.up (keeps.honest honest) up).0)
+    (λ honest. (keeps.appended honest).failed ∙ (store.up (keeps.trust.honest honest) up).0)
     (in_doubt (is_place fault) refl) keeps.rest records down
   where
     answer : Result (Unit {0}) StoreFault
@@ -150,13 +151,14 @@ lost g node new before after draft fault keeps store up records down =
     -- if out of place, the store stayed; otherwise the record is in doubt, or lost
     in_doubt : (b : Bool) → is_place fault ≡ b → g.is_honest after
         → (g.doubt after ≡ None) ⊎ (g.doubt after ≡ Some draft.entry)
-    in_doubt false e honest = keeps.doubt e
+    in_doubt false e honest = keeps.doubted.doubt e
     in_doubt true e honest =
         at (is_out_of_place (g.is_doubtful before) (g.place before) draft.pos) refl
       where
         at : (b : Bool) → is_out_of_place (g.is_doubtful before) (g.place before) draft.pos ≡ b
             → (g.doubt after ≡ None) ⊎ (g.doubt after ≡ Some draft.entry)
-        at true out = inl (ap g.doubt (keeps.same out) ∙ (store.up (keeps.honest honest) up).1)
+        at true out =
+            inl (ap g.doubt (keeps.same out) ∙ (store.up (keeps.trust.honest honest) up).1)
         at false out =
             absurd (false≢true (sym (subst
             (λ (b : Bool). IsPlaced b (g.place before) answer) out keeps.placed).0 ∙ e))
@@ -171,18 +173,22 @@ rose g node new before after image gives rises store =
     record {
       contents = holds;
       left = leaves-held g new after holds gives.rest;
-      up = λ honest e. ((gives.given honest).0 ∙ (rises (may honest)).up e, gives.clear.1);
-      sure = λ e. gives.clear.0;
+      up =
+          λ honest e. (
+            (gives.retrieved honest).given.0 ∙ (rises (may honest)).up e,
+            gives.settled.clear.1,
+          );
+      sure = λ e. gives.settled.clear.0;
     }
   where
     may : g.is_honest after → MayLeave node image
-    may honest = store.contents (gives.honest honest) image (gives.given honest).1
+    may honest = store.contents (gives.trust.honest honest) image (gives.retrieved honest).given.1
 
     holds : HoldsOf g new after
     holds honest records c =
         let same : records ≡ image =
-        subst (λ (o : Option Entry). IsContents (g.certain after) o records) gives.clear.1 c
-        ∙ (gives.given honest).0 in
+        subst (λ (o : Option Entry). IsContents (g.certain after) o records) gives.settled.clear.1 c
+        ∙ (gives.retrieved honest).given.0 in
         subst (λ (rs : List Entry). MayLeave new rs) (sym same) (rises (may honest)).may
 
 -- a store that gave nothing
@@ -193,16 +199,18 @@ unread g node before after fault gives store =
       contents = holds;
       left = leaves-held g node after holds gives.rest;
       up =
-          λ honest e. (let was = store.up (gives.honest honest) e in
-          (gives.failed honest ∙ was.0, gives.kept.1 ∙ was.1));
-      sure = λ e. gives.kept.0 ∙ store.sure e;
+          λ honest e. (let was = store.up (gives.trust.honest honest) e in
+          ((gives.retrieved honest).failed ∙ was.0, gives.settled.kept.1 ∙ was.1));
+      sure = λ e. gives.settled.kept.0 ∙ store.sure e;
     }
   where
     holds : HoldsOf g node after
     holds honest records c =
-        store.contents (gives.honest honest) records
-        (subst (λ (rs : List Entry). IsContents rs (g.doubt before) records) (gives.failed honest)
-        (subst (λ (o : Option Entry). IsContents (g.certain after) o records) gives.kept.1 c))
+        store.contents (gives.trust.honest honest) records
+        (subst (λ (rs : List Entry). IsContents rs (g.doubt before) records)
+        (gives.retrieved honest).failed
+        (subst (λ (o : Option Entry). IsContents (g.certain after) o records)
+        gives.settled.kept.1 c))
 
 -- ---- a command
 

@@ -1,7 +1,7 @@
 use Rattle.std.proofs.Common.{rules, subst, ◌≡◌, length, slice_index_or}
 use Rattle.urb_group.specs.Asked.{Gives}
 use Rattle.urb_daemon.proofs.StoresAsked.{all_answered}
-use Rattle.urb_daemon.specs.StoresAsked.{list_in}
+use Rattle.urb_stable.specs.Storing.{list_in}
 use Rattle.urb_daemon.proofs.images.ask_all.Goals as goal
 
 pub returns : goal.returns

@@ -26,9 +26,9 @@ returns g c =
     (breaks-so (is_out_of_place armed.doubtful (length armed.certain + 1) c.pos.result)
     failure armed c.entry.result.now after c.store-answer.result
     c.store-answer.ensures.same
-    (λ out e below. c.store-answer.ensures.keeps_nothing out (is_armed ∙ ap Some e) below)
-    (λ out e below. c.store-answer.ensures.keeps_it out (is_armed ∙ ap Some e) below)
+    (λ out e below. (c.store-answer.ensures.exact out).keeps_nothing (is_armed ∙ ap Some e) below)
+    (λ out e below. (c.store-answer.ensures.exact out).keeps_it (is_armed ∙ ap Some e) below)
     (λ out above. subst (λ (o : Option Failure).
     OnSome o (2 ^ 64 - 1 ≤ armed.failures
     → (c.store-answer.result ≡ Err fault.NoMemory) × (after ≡ without_memory armed))) is_armed
-    (c.store-answer.ensures.uncounted out) above))))
+    (c.store-answer.ensures.exact out).uncounted above))))

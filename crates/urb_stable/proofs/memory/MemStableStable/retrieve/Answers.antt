@@ -5,8 +5,8 @@ use Rattle.urb_stable.specs.internal.Memory.{retrieved}
 use Rattle.urb_stable.proofs.Kept.{whole}
 use Rattle.urb_stable.proofs.memory.MemStableStable.retrieve.Goals as goal
 
-pub returns-clause-given : goal.returns-clause-given
-returns-clause-given g c =
+pub returns-clause-retrieved : goal.returns-clause-retrieved
+returns-clause-retrieved g c =
     let below : c.self.inside.certain ≤ length c.self.inside.records.items =
     omega (arith, c.self.invariant.below, c.self.inside.records.ok.0) in
     let one : length c.self.inside.records.items ≤ c.self.inside.certain + 1 =
@@ -15,10 +15,10 @@ returns-clause-given g c =
     let size : c.len.result ≡ length c.self.inside.records.items =
     c.len.ensures ∙ c.self.inside.records.ok.0 in
     let items = c.in_ok-records.ensures ∙ c.deref.ensures.value in
-    rw (items, size, ← c.self.view_is) (k.all, k.contents)
+    record { given = rw (items, size, ← c.self.view_is) (k.all, k.contents); failed = tt }
 
-pub returns-clause-clear : goal.returns-clause-clear
-returns-clause-clear g c =
+pub returns-clause-settled : goal.returns-clause-settled
+returns-clause-settled g c =
     let below : c.self.inside.certain ≤ length c.self.inside.records.items =
     omega (arith, c.self.invariant.below, c.self.inside.records.ok.0) in
     let one : length c.self.inside.records.items ≤ c.self.inside.certain + 1 =
@@ -27,7 +27,7 @@ returns-clause-clear g c =
     let size : c.len.result ≡ length c.self.inside.records.items =
     c.len.ensures ∙ c.self.inside.records.ok.0 in
     let items = c.in_ok-records.ensures ∙ c.deref.ensures.value in
-    (refl, rw size k.nothing)
+    record { clear = (refl, rw size k.nothing); kept = tt }
 
 pub returns-clause-stop : goal.returns-clause-stop
 returns-clause-stop g c =

@@ -17,8 +17,8 @@ returns-then-eq-2-clause-stop g c =
     c.keep.new.records.items settled items in
     λ records h. rw (← c.self.view_is) (doubtful_stop _ _ _ _ k records h)
 
-pub returns-then-eq-2-clause-keeps_it : goal.returns-then-eq-2-clause-keeps_it
-returns-then-eq-2-clause-keeps_it g c =
+pub returns-then-eq-2-clause-exact : goal.returns-then-eq-2-clause-exact
+returns-then-eq-2-clause-exact g c =
     let settled : c.self.inside.certain ≡ length c.self.inside.records.items =
     omega (arith, c.self.invariant.settled c.if-self.false, c.self.inside.records.ok.0) in
     let items : c.keep.new.records.items ≡ c.self.inside.records.items ++ c.args.entry.now ∷ [] =
@@ -26,19 +26,24 @@ returns-then-eq-2-clause-keeps_it g c =
     let k =
     kept c.self.inside.records.items c.args.entry.now c.self.inside.certain
     c.keep.new.records.items settled items in
-    λ p q below. inl (
-      refl,
-      (λ i.
-          record {
-            certain = k.front i;
-            doubt = k.here i;
-            doubtful = true;
-            failures =
-                c.self.inside.failures + 1;
-            armed = c.take-armed.ensures.after i;
-          })
-          ∙ ap (after_failure (Some c.args.entry.now)) c.self.view_is,
-    )
+    λ out. record {
+      unarmed = search rules;
+      keeps_nothing = search rules;
+      keeps_it = λ q below. inl (
+        refl,
+        (λ i.
+            record {
+              certain = k.front i;
+              doubt = k.here i;
+              doubtful = true;
+              failures =
+                  c.self.inside.failures + 1;
+              armed = c.take-armed.ensures.after i;
+            })
+            ∙ ap (after_failure (Some c.args.entry.now)) c.self.view_is,
+      );
+      uncounted = search rules;
+    }
 
 -- the record is kept for certain
 pub invariant_of-self-2 : goal.invariant_of-self-2
@@ -64,8 +69,8 @@ invariant_of-self-2 g c =
       count = omega (arith, size, c.keep.new.records.ok.0, next, c.if-next.false);
     }
 
-pub returns-clause-clear : goal.returns-clause-clear
-returns-clause-clear g c =
+pub returns-clause-doubted : goal.returns-clause-doubted
+returns-clause-doubted g c =
     let settled : c.self.inside.certain ≡ length c.self.inside.records.items =
     omega (arith, c.self.invariant.settled c.if-self.false, c.self.inside.records.ok.0) in
     let items : c.keep.new.records.items ≡ c.self.inside.records.items ++ c.args.entry.now ∷ [] =
@@ -73,7 +78,7 @@ returns-clause-clear g c =
     let k =
     kept c.self.inside.records.items c.args.entry.now c.self.inside.certain
     c.keep.new.records.items settled items in
-    (c.if-self.false, k.past)
+    record { clear = (c.if-self.false, k.past); doubtful = tt; doubt = tt }
 
 pub returns-clause-stop : goal.returns-clause-stop
 returns-clause-stop g c =
@@ -86,8 +91,8 @@ returns-clause-stop g c =
     c.keep.new.records.items settled items in
     λ records h. rw (← c.self.view_is) (certain_stop _ _ _ _ k records h)
 
-pub returns-clause-unarmed : goal.returns-clause-unarmed
-returns-clause-unarmed g c =
+pub returns-clause-exact : goal.returns-clause-exact
+returns-clause-exact g c =
     let settled : c.self.inside.certain ≡ length c.self.inside.records.items =
     omega (arith, c.self.invariant.settled c.if-self.false, c.self.inside.records.ok.0) in
     let items : c.keep.new.records.items ≡ c.self.inside.records.items ++ c.args.entry.now ∷ [] =
@@ -95,19 +100,24 @@ returns-clause-unarmed g c =
     let k =
     kept c.self.inside.records.items c.args.entry.now c.self.inside.certain
     c.keep.new.records.items settled items in
-    λ p q.
-    let armed =
-    c.take-armed.ensures.after ∙ sym q ∙ sym (ap (λ (m : Memory). m.armed) c.self.view_is) in
-    let doubt = k.past ∙ sym k.nothing in
-    inl (
-      refl,
-      (λ i. record {
-        certain = k.all i;
-        doubt = doubt i;
-        doubtful =
-            c.self.inside.doubtful;
-        failures = c.self.inside.failures;
-        armed = armed i;
-      })
-          ∙ ap (with_record c.args.entry.now) c.self.view_is,
-    )
+    λ p. record {
+      unarmed = λ q.
+          let armed =
+          c.take-armed.ensures.after ∙ sym q ∙ sym (ap (λ (m : Memory). m.armed) c.self.view_is) in
+          let doubt = k.past ∙ sym k.nothing in
+          inl (
+            refl,
+            (λ i. record {
+              certain = k.all i;
+              doubt = doubt i;
+              doubtful =
+                  c.self.inside.doubtful;
+              failures = c.self.inside.failures;
+              armed = armed i;
+            })
+                ∙ ap (with_record c.args.entry.now) c.self.view_is,
+          );
+      keeps_nothing = search rules;
+      keeps_it = search rules;
+      uncounted = search rules;
+    }
