@@ -38,6 +38,7 @@ use Rattle.urb_stable.specs.Doubted.{Doubted}
 use Rattle.urb_stable.specs.Entries.{Entry, name_of}
 use Rattle.urb_stable.specs.Keeping.{Keeps}
 use Rattle.urb_stable.specs.Placed.{Placed}
+use Rattle.urb_stable.specs.Storing.{list_in}
 use Rattle.urb_stable.specs.declared.stable.Stable.{Ghosts}
 use Rattle.urb_stable.specs.declared.stable.StoreFault.{StoreFault}
 use Rattle.urb_worker.proofs.LastingStores.{asked-still, gives-rose, gives-unread, keeps-late}
@@ -49,7 +50,7 @@ use Rattle.urb_worker.specs.Jobs.{node_of, runs_at}
 use Rattle.urb_worker.specs.Settlings.{NothingNew, OutOfMemory, Published, Settles}
 use Rattle.urb_worker.specs.Settlings as settlings
 use Rattle.urb_worker.specs.Stages.{image_stage, kept_stage, restart_stage, taken_stage}
-use Rattle.urb_worker.specs.Turns.{Begins, Ends, IsKeptOf, Stores, records_of}
+use Rattle.urb_worker.specs.Turns.{Begins, Ends, IsKeptOf, Stores}
 use Rattle.urb_worker.specs.WholeTurns.{HasWaited, IsStoreAt, LeavesAt, Waits}
 use Rattle.urb_worker.specs.declared.job.Job.{Job}
 use Rattle.urb_worker.specs.declared.job.Job.TheVariants as job
@@ -324,7 +325,7 @@ module _ {S A : Type 0} (g : Ghosts S A) (n : ℕ) where
     read : (r : Result (Vec Entry Global) StoreFault) → node_of j ≡ n → (w : World) → Shows left w
         → (down : (o : Option Entry) × ((w.node n).state ≡ part.Down o)) → is_node w.size.n n ≡ true
         → Store (w.node n) before
-        → Gives g before (records_of r) after → Ending (image_stage r)
+        → Gives g before (list_in r) after → Ending (image_stage r)
         → IsStoreAt g n last.group after
     read (Ok image) e w shows down there store gives
         (r, between, comes, counts, settles, is_said, is_status, is_count) =
@@ -583,7 +584,7 @@ module _ {S A : Type 0} (g : Ghosts S A) (n : ℕ) where
               world = h.world;
               shows = shows;
               left =
-                  asked-still g (h.world.node n) before after (records_of r) gives h.lasting;
+                  asked-still g (h.world.node n) before after (list_in r) gives h.lasting;
             }
         asked (Some state.Ready) stored = still stored.0
         asked (Some state.Storing) stored = still stored.0

@@ -11,7 +11,7 @@ use Rattle.urb_stable.specs.Doubted.{Doubted}
 use Rattle.urb_stable.specs.Entries.{Entry}
 use Rattle.urb_stable.specs.Keeping.{Keeps}
 use Rattle.urb_stable.specs.Placed.{Placed}
-use Rattle.urb_stable.specs.Storing.{refusal_of}
+use Rattle.urb_stable.specs.Storing.{list_in, refusal_of}
 use Rattle.urb_stable.specs.declared.stable.Stable.{Ghosts}
 use Rattle.urb_stable.specs.declared.stable.StoreFault.{StoreFault}
 use Rattle.urb_node.specs.Replies.{Done}
@@ -78,11 +78,6 @@ abbrev pub IsKeptOf : Placed → Result Placed Doubted → Type 0
 IsKeptOf draft result =
     MatchResult result (λ receipt. receipt ≡ draft) (λ doubt. doubt.node ≡ draft.node)
 
--- the result of retrieving, as its records
-abbrev pub records_of : Result (Vec Entry Global) StoreFault → Result (List Entry) StoreFault
-records_of (Ok image) = Ok image.items
-records_of (Err fault) = Err fault
-
 module _ {S A : Type 0} (g : Ghosts S A) where
   -- A draft is kept, or an image is retrieved. In all other stages the store is not asked.
   abbrev pub Stores : S → Stage → S → Stage → Type 0
@@ -90,7 +85,7 @@ module _ {S A : Type 0} (g : Ghosts S A) where
       (r : Result Placed Doubted) × IsKeptOf draft r × Keeps g before draft (answer_of r) after
       × (new ≡ kept_stage r)
   Stores before stage.Retrieving after new =
-      (r : Result (Vec Entry Global) StoreFault) × Gives g before (records_of r) after
+      (r : Result (Vec Entry Global) StoreFault) × Gives g before (list_in r) after
       × (new ≡ image_stage r)
   Stores before (stage.Kept receipt) after new = (after ≡ before) × (new ≡ stage.Kept receipt)
   Stores before (stage.Doubtful doubt) after new = (after ≡ before) × (new ≡ stage.Doubtful doubt)

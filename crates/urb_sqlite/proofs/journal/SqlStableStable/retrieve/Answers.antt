@@ -5,7 +5,7 @@ use Rattle.sqlite.specs.Held.{state}
 use Rattle.urb_sqlite.specs.OpenJournal.{OpenJournal, IsHonestJournal, IsShutJournal, LeavesOnly}
 use Rattle.urb_sqlite.specs.Reading.{records_of}
 use Rattle.urb_stable.specs.Storing.{is_bad_row}
-use Rattle.urb_sqlite.proofs.KeptRecords.{honest_before, not_bad, stops_at_select}
+use Rattle.urb_sqlite.proofs.KeptRecords.{honest_before, left, not_bad, stops_at_select}
 use Rattle.urb_sqlite.proofs.BothTables.{given_by_read}
 use Rattle.urb_sqlite.proofs.journal.SqlStableStable.retrieve.Goals as goal
 
@@ -31,13 +31,31 @@ returns-clause-stop g c =
     (λ db. g.met.S.Store.settled c.self.inside.conn.store db honest.is_open)
     c.read.ensures.live_before c.read.ensures.stop honest clean)
 
-pub returns-clause-given : goal.returns-clause-given
-returns-clause-given g c honest =
+pub returns-clause-retrieved : goal.returns-clause-retrieved
+returns-clause-retrieved g c honest =
     let new = state g.S.Store c.read.new.conn in
-    subst (λ (s : OpenJournal _). (records_of new.now ≡ c.in_ok-records.records.items)
-    × (c.in_ok-records.records.items ≡ records_of (state g.S.Store s.conn).now)) c.self.view_is
-    (given_by_read (state g.S.Store c.self.inside.conn) new c.in_ok-records.records.items honest
-    (c.in_ok-records.ensures.same honest.clean) (c.in_ok-records.ensures.found honest.clean))
+    record {
+      given =
+          subst (λ (s : OpenJournal _). (records_of new.now ≡ c.in_ok-records.records.items)
+          × (c.in_ok-records.records.items ≡ records_of (state g.S.Store s.conn).now))
+          c.self.view_is
+          (given_by_read (state g.S.Store c.self.inside.conn) new c.in_ok-records.records.items
+          honest (c.in_ok-records.ensures.same honest.clean)
+          (c.in_ok-records.ensures.found honest.clean));
+      failed = tt;
+    }
+
+pub returns-in_err-records-clause-retrieved : goal.returns-in_err-records-clause-retrieved
+returns-in_err-records-clause-retrieved g c honest =
+    let old = state g.S.Store c.self.inside.conn in
+    let new = state g.S.Store c.read.new.conn in
+    let p = err_from_is_err_and c.from_residual.result c.from_residual.ensures.1 in
+    let same =
+    subst (λ (s : OpenJournal _). records_of new.now ≡ records_of (state g.S.Store s.conn).now)
+    c.self.view_is
+    ((left old new c.self.inside.next c.self.invariant c.read.ensures.stop.clean
+    c.read.ensures.left).records honest) in
+    rw (p.1, p.2) (record { given = tt; failed = same })
 
 pub returns-in_err-records-clause-rest : goal.returns-in_err-records-clause-rest
 returns-in_err-records-clause-rest g c = c.read.ensures.rest c.self.inside.next c.self.invariant
@@ -45,19 +63,8 @@ returns-in_err-records-clause-rest g c = c.read.ensures.rest c.self.inside.next 
 pub returns-clause-rest : goal.returns-clause-rest
 returns-clause-rest g c = c.read.ensures.rest c.self.inside.next c.self.invariant
 
-pub returns-in_err-records-clause-faults : goal.returns-in_err-records-clause-faults
-returns-in_err-records-clause-faults g c =
-    let old = state g.S.Store c.self.inside.conn in
-    let new = state g.S.Store c.read.new.conn in
-    let p = err_from_is_err_and c.from_residual.result c.from_residual.ensures.1 in
-    rw (p.1, p.2) (
-      c.in_err-records.ensures.placed,
-      λ honest. not_bad old new c.self.inside.next c.in_err-records.field-0.0 c.self.invariant
-          c.read.ensures.stop.clean c.read.ensures.left c.in_err-records.ensures.sound honest,
-    )
-
-pub returns-in_err-records-clause-sound : goal.returns-in_err-records-clause-sound
-returns-in_err-records-clause-sound g c =
+pub returns-in_err-records-clause-allowed : goal.returns-in_err-records-clause-allowed
+returns-in_err-records-clause-allowed g c =
     let old = state g.S.Store c.self.inside.conn in
     let new = state g.S.Store c.read.new.conn in
     let p = err_from_is_err_and c.from_residual.result c.from_residual.ensures.1 in
@@ -69,4 +76,13 @@ returns-in_err-records-clause-sound g c =
     honest_before old new c.self.inside.next c.in_err-records.field-0.0 c.self.invariant
     c.in_err-records.ensures.sound honest clean)
     (λ shut. c.in_err-records.ensures.shut clean shut) known) in
-    λ known clean. rw (p.1, p.2) (told known clean)
+    record {
+      faults =
+          rw (p.1, p.2) (
+            c.in_err-records.ensures.placed,
+            λ honest. not_bad old new c.self.inside.next c.in_err-records.field-0.0
+                c.self.invariant c.read.ensures.stop.clean c.read.ensures.left
+                c.in_err-records.ensures.sound honest,
+          );
+      sound = λ known clean. rw (p.1, p.2) (told known clean);
+    }

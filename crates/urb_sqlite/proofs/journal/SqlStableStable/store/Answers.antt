@@ -1,4 +1,4 @@
-use Rattle.std.proofs.Common.{◌≡◌, ◌⊎◌, ◌+◌, inl, [], ◌∷◌, ◌++◌, sym, subst}
+use Rattle.std.proofs.Common.{rules, ◌≡◌, ◌⊎◌, ◌+◌, inl, [], ◌∷◌, ◌++◌, sym, subst}
 use Rattle.sqlite.specs.State.{HasCleanDisk}
 use Rattle.sqlite.specs.Held.{state}
 use Rattle.urb_sqlite.specs.OpenJournal.{IsSafeAtRest, OpenJournal, IsHonestJournal, LeavesOnly}
@@ -66,8 +66,15 @@ returns-in-Err-clause-rest g c =
     c.append.ensures.rest (subst (IsInStep (state g.S.Store c.self.inside.conn))
     (sym c.if-pos-self.false) c.self.invariant)
 
-pub returns-in-Err-clause-honest : goal.returns-in-Err-clause-honest
-returns-in-Err-clause-honest g c honest =
-    subst (λ (s : OpenJournal _). IsHonestJournal (state g.S.Store s.conn)) c.self.view_is
-    ((c.in-Err.ensures.err (subst (IsInStep (state g.S.Store c.self.inside.conn))
-    (sym c.if-pos-self.false) c.self.invariant)).honest honest)
+pub returns-in-Err-clause-trust : goal.returns-in-Err-clause-trust
+returns-in-Err-clause-trust g c =
+    record {
+      clean = search rules;
+      honest =
+          λ honest. subst (λ (s : OpenJournal _). IsHonestJournal (state g.S.Store s.conn))
+          c.self.view_is
+          ((c.in-Err.ensures.err (subst (IsInStep (state g.S.Store c.self.inside.conn))
+          (sym c.if-pos-self.false) c.self.invariant)).honest honest);
+      alive = tt;
+      shut = search rules;
+    }

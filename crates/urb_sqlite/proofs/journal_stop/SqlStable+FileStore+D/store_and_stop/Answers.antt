@@ -9,6 +9,7 @@ returns g c =
     IfOk-weaker c.stop_and_open.result _ _ (λ again reopened clean honest.
     found_after c.store-stored.result (file_state c.args.self.conn)
     (file_state c.store-stored.new.self.conn)
-    (file_state again.conn) c.args.entry.now stored.alive stored.stored stored.rest stored.stop
+    (file_state again.conn) c.args.entry.now stored.trust.alive
+    (λ honest. (stored.appended honest).stored) stored.rest stored.stop
     (reopened.kept clean) (reopened.found clean) (reopened.clean clean) honest)
     c.stop_and_open.ensures
