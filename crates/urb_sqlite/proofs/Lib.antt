@@ -13,6 +13,7 @@ pub mod BothTables
 pub mod OpenedTables
 pub mod OneTable
 pub mod TakenOver
+pub mod GivenBack
 pub mod CreateStatement
 pub mod JournalSchemas
 pub mod JournalStops

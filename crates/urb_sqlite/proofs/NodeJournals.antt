@@ -1,56 +1,86 @@
--- What the opening finds in a node's journal, and one more journal after others.
-use Rattle.std.proofs.Common.{Err, List, Ok, Result, Some, [], ap, inl, inr, length, slice_get}
-use Rattle.std.proofs.Common.{subst, suc, sym, zero, ℕ, ◌++◌, ◌∙◌, ◌∷◌, ◌≡◌}
-use Rattle.std.specs.Prelude.{IfOk}
+-- What an opening finds, depending on what the files held, and one more journal after others.
+use Rattle.std.proofs.Common.{List, Some, [], inl, inr, length, slice_get}
+use Rattle.std.proofs.Common.{subst, suc, zero, ℕ, ◌++◌, ◌∷◌, ◌≡◌}
 use Rattle.sqlite_trees.specs.Tree.{Trees}
 use Rattle.sqlite_wal.specs.Recovery.{Image}
 use Rattle.sqlite_pool.specs.Opening.{IsBlankFile}
 use Rattle.sqlite.specs.Files.{HoldsDatabase, IsNothing}
+use Rattle.sqlite.specs.Start.{FindsIn}
+use Rattle.sqlite.specs.State.{State, HasCleanDisk, IsLive, Opens}
 use Rattle.urb_stable.specs.Entries.{Entry}
-use Rattle.urb_sqlite.specs.Nodes.{IsFoundIn}
-use Rattle.urb_sqlite.specs.OpenJournal.{IsBare, IsBase, IsJournal, IsUnmade, base_of, database_of}
-use Rattle.urb_sqlite.specs.Rows.{StandsFor}
+use Rattle.urb_sqlite.specs.Journal.{journal_name, second_name, Lacks}
+use Rattle.urb_sqlite.specs.Nodes.{IsFoundIf, IsFoundIn}
+use Rattle.urb_sqlite.specs.OpenJournal.{IsHonestJournal, IsTakenOver}
+use Rattle.urb_sqlite.specs.Reading.{records_of}
+use Rattle.urb_sqlite.proofs.JournalSchemas.{empty_is_nothing, finds_bare, finds_base}
+use Rattle.urb_sqlite.proofs.JournalSchemas.{finds_journal, finds_nothing}
+use Rattle.urb_sqlite.proofs.KeptRecords.{earlier_clean}
+
+-- A database that was opened from files and then taken over.
+module _ (conn now : State) (image : Image) (opened : HasCleanDisk conn → Opens conn × IsLive conn)
+    (finds : HasCleanDisk conn → FindsIn image conn) (taken : IsTakenOver conn now) where
+  was : HasCleanDisk now → HasCleanDisk conn
+  was = earlier_clean conn now taken.stop.clean
+
+  without_tables : HasCleanDisk now → ((name : List ℕ) → Lacks conn.now.schema name)
+      → IsHonestJournal now × (records_of now.now ≡ [])
+  without_tables clean lacks = taken.fresh clean (lacks journal_name) (lacks second_name)
+
+  pub found_there : IsFoundIf (IsNothing image) image (HasCleanDisk now) (IsHonestJournal now)
+      (records_of now.now)
+  found_there = record {
+    stood = λ clean db holds journal.
+        let it = opened (was clean) in
+        finds_journal conn now db it.1 it.0 ((finds (was clean)).holds db holds) journal
+        (taken.found clean);
+    fresh = λ clean none.
+        let it = opened (was clean) in
+        without_tables clean (finds_nothing conn image it.1 it.0 (empty_is_nothing image none)
+        (finds (was clean)).reads);
+    unmade = λ clean none.
+        let it = opened (was clean) in
+        without_tables clean (finds_nothing conn image it.1 it.0 none (finds (was clean)).reads);
+    empty = λ clean db holds bare.
+        let it = opened (was clean) in
+        without_tables clean (finds_bare conn db it.1 it.0 ((finds (was clean)).holds db holds)
+        bare);
+    adopted = λ clean db holds base.
+        let it = opened (was clean) in
+        finds_base conn now db it.1 it.0 ((finds (was clean)).holds db holds) base
+        (taken.found clean);
+  }
+
+-- Files that hold no database get one, and the journal is new.
+pub found_new : (image : Image) (is_clean is_honest : Type 0) (records : List Entry)
+    → (is_clean → (db : Trees) → HoldsDatabase image db → ⊥)
+    → (is_clean → is_honest × (records ≡ [])) → IsFoundIn image is_clean is_honest records
+found_new image is_clean is_honest records none new = record {
+  stood = λ clean db holds journal. absurd (none clean db holds);
+  fresh = λ clean _. new clean;
+  unmade = λ clean _. new clean;
+  empty = λ clean db holds bare. absurd (none clean db holds);
+  adopted = λ clean db holds base. absurd (none clean db holds);
+}
 
 -- Files that hold no database, after those with the smaller page size were ruled out.
-pub unmade_there : {A E : Type 0} (opened : Result A E) (seen held : Image)
-    (is_clean are_clean is_new : A → Type 0) → seen ≡ held
-    → IfOk opened (λ j. is_clean j → are_clean j)
-    → IfOk opened (λ j. is_clean j → IsNothing seen → is_new j)
-    → ((j : A) → are_clean j → ¬ IsBlankFile 1024 held)
-    → IfOk opened (λ j. is_clean j → IsUnmade held → is_new j)
-unmade_there (Ok j) seen held is_clean are_clean is_new same clean nothing never =
-    λ now unmade. elim unmade [
-      | inl small ↦ absurd (never j (clean now) small)
-      | inr none ↦ nothing now (subst IsNothing (sym same) none)
-    ]
-unmade_there (Err e) seen held is_clean are_clean is_new same clean nothing never = tt
-
-pub found_in : {A E : Type 0} (opened : Result A E) (seen held : Image)
-    (is_clean is_honest : A → Type 0) (records : A → List Entry) → seen ≡ held
-    → IfOk opened (λ j. is_clean j → seen.db ≡ [] → is_honest j × (records j ≡ []))
-    → IfOk opened (λ j. is_clean j → (db : Trees) → HoldsDatabase seen db → (journal : IsJournal db)
-    → is_honest j × StandsFor (database_of journal) (records j))
-    → IfOk opened (λ j. is_clean j → IsUnmade seen → is_honest j × (records j ≡ []))
-    → IfOk opened (λ j. is_clean j → (db : Trees) → HoldsDatabase seen db → IsBare db
-    → is_honest j × (records j ≡ []))
-    → IfOk opened (λ j. is_clean j → (db : Trees) → HoldsDatabase seen db → (base : IsBase db)
-    → is_honest j × StandsFor (base_of base) (records j))
-    → IfOk opened (λ j. IsFoundIn held (is_clean j) (is_honest j) (records j))
-found_in (Ok j) seen held is_clean is_honest records same fresh found unmade empty adopted =
+pub found_in : (seen held : Image) (is_clean is_honest : Type 0) (records : List Entry)
+    → seen ≡ held → (is_clean → ¬ IsBlankFile 1024 held)
+    → IsFoundIf (IsNothing seen) seen is_clean is_honest records
+    → IsFoundIn held is_clean is_honest records
+found_in seen held is_clean is_honest records same never there =
+    let it : IsFoundIf (IsNothing held) held is_clean is_honest records =
+    subst (λ (image : Image). IsFoundIf (IsNothing image) image is_clean is_honest records)
+    same there in
     record {
-      stood =
-          λ clean db holds journal. found clean db
-          (subst (λ image. HoldsDatabase image db) (sym same) holds) journal;
-      fresh = λ clean none. fresh clean (ap (λ (image : Image). image.db) same ∙ none);
-      unmade = λ clean none. unmade clean (subst IsUnmade (sym same) none);
-      empty =
-          λ clean db holds bare. empty clean db
-          (subst (λ image. HoldsDatabase image db) (sym same) holds) bare;
-      adopted =
-          λ clean db holds base. adopted clean db
-          (subst (λ image. HoldsDatabase image db) (sym same) holds) base;
+      stood = it.stood;
+      fresh = it.fresh;
+      unmade = λ clean unmade. elim unmade [
+        | inl small ↦ absurd (never clean small)
+        | inr none ↦ it.unmade clean none
+      ];
+      empty = it.empty;
+      adopted = it.adopted;
     }
-found_in (Err e) seen held is_clean is_honest records same fresh found unmade empty adopted = tt
 
 found_behind : {S : Type 0} (P : ℕ → S → Type 0) (xs : List S) (x : S)
     → ((i : ℕ) (y : S) → slice_get xs i ≡ Some y → P i y) → P (length xs) x

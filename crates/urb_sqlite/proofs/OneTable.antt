@@ -1,19 +1,19 @@
 -- Opening one table: the outcomes of its CREATE and its SELECT, one after the other.
-use Rattle.std.proofs.Common.{◌≡◌, ◌⊎◌, inl, inr, ℕ, List, [], false, true, Ok, IsTrue}
+use Rattle.std.proofs.Common.{◌≡◌, ◌⊎◌, inl, inr, ℕ, List, [], false, Ok}
 use Rattle.std.proofs.Common.{refl, sym, ap, subst, ◌∙◌}
 use Rattle.sqlite.specs.Effect.{Database}
 use Rattle.sqlite.specs.Order.{Row}
-use Rattle.sqlite.specs.State.{State, IsUnchanged, IsRolledBack, KeepsCommit}
+use Rattle.sqlite.specs.State.{State, HasCleanDisk, IsUnchanged, IsRolledBack, KeepsCommit}
 use Rattle.urb_stable.specs.Entries.{Entry}
 use Rattle.urb_stable.specs.Storing.{is_bad_row}
 use Rattle.urb_stable.specs.declared.stable.StoreFault.{StoreFault}
 use Rattle.urb_stable.specs.declared.stable.StoreFault.TheVariants.{NoMemory, Device, BadRow}
 use Rattle.urb_sqlite.specs.declared.sql.Part.{Part}
-use Rattle.urb_sqlite.specs.Journal.{limit_of, tree_of, Lacks, HasTable}
+use Rattle.urb_sqlite.specs.Journal.{limit_of, tree_of, HasTable}
 use Rattle.urb_sqlite.specs.internal.Journal.{name_of}
 use Rattle.urb_sqlite.specs.OpenJournal.{AddsTable}
-use Rattle.urb_sqlite.specs.internal.OpenJournal.{IsMade, MakesAtMost, CommitsAtMost}
-use Rattle.urb_sqlite.specs.internal.PartOpening.{IsPartOpened, IsPartRefused, IsRead}
+use Rattle.urb_sqlite.specs.internal.OpenJournal.{IsMade, CommitsAtMost}
+use Rattle.urb_sqlite.specs.internal.PartOpening.{IsPrepared, IsPartOpened, IsPartRefused, IsRead}
 use Rattle.urb_sqlite.specs.Reading.{read_from}
 use Rattle.urb_sqlite.specs.Rows.{table_rows, IsInOrder, IsFirstBad}
 use Rattle.urb_sqlite.specs.Shape.{has_table}
@@ -33,27 +33,19 @@ made_then old mid new name made same = record {
   adds = subst (λ (d : Database). AddsTable old.now d name) (sym same.0.now_is) made.adds;
 }
 
--- what the CREATE has done if it succeeded
-pub record IsPrepared (old mid : State) (part : Part) : Type 0 where
-  pub table : has_table (name_of part) mid.now.schema ≡ true
-  pub most : MakesAtMost old mid (name_of part)
-  pub made : Lacks old.now.schema (name_of part) → IsMade old mid (name_of part)
-  pub found : HasTable old.now.schema (name_of part) → IsUnchanged old mid
-  pub autocommit : mid.in_transaction ≡ false
-  pub settled : IsTrue mid.is_open → mid.now ≡ mid.committed
-
-module _ (part : Part) (old mid new : State) (first : ℕ) (one : IsPrepared old mid part) where
+module _ (part : Part) (old mid new : State) (first : ℕ) (one : IsPrepared old mid part)
+    (clean : HasCleanDisk mid) where
   pub opened : (next : ℕ) → IsUnchanged mid new
       → (HasTable mid.now.schema (name_of part) → IsRead mid.now part first next)
       → IsPartOpened old new part first next
   opened next same read = record {
     table = ap (λ (d : Database). has_table (name_of part) d.schema) same.0.now_is ∙ one.table;
-    most = elim one.most [
+    most = elim (one.most clean) [
       | inl before ↦ inl (unchanged_then old mid new before same)
       | inr made ↦ inr (made_then old mid new (name_of part) made same)
     ];
-    made = λ lacks. made_then old mid new (name_of part) (one.made lacks) same;
-    found = λ has. unchanged_then old mid new (one.found has) same;
+    made = λ lacks. made_then old mid new (name_of part) (one.made clean lacks) same;
+    found = λ has. unchanged_then old mid new (one.found clean has) same;
     read = λ has. subst (λ (d : Database). IsRead d part first next) (sym same.0.now_is)
         (read (subst (λ (d : Database). HasTable d.schema (name_of part)) same.0.now_is has));
     autocommit = same.0.mode ∙ one.autocommit;
@@ -75,7 +67,7 @@ module _ (part : Part) (old mid new : State) (first : ℕ) (one : IsPrepared old
   unread e how bad sound =
       let keeps : KeepsCommit mid new = keeps_if_left mid new how in
       record {
-        commit = elim one.most [
+        commit = elim (one.most clean) [
           | inl same ↦ inl (keeps_then old mid new (keeps_if_left old mid (inl same)) keeps)
           | inr made ↦ inr (λ is_open.
               let is : new.committed ≡ mid.now =
@@ -85,16 +77,17 @@ module _ (part : Part) (old mid new : State) (first : ℕ) (one : IsPrepared old
                     (sym is) made.adds,
               ))
         ];
-        found = λ has. keeps_then old mid new (keeps_if_left old mid (inl (one.found has))) keeps;
+        found = λ has.
+            keeps_then old mid new (keeps_if_left old mid (inl (one.found clean has))) keeps;
         bad = λ place is has.
-            let same = (one.found has).0.now_is in
+            let same = (one.found clean has).0.now_is in
             subst (λ (d : Database). (rows : List Row)
             × IsInOrder (tree_of d.schema (name_of part)) d.trees rows
             × IsFirstBad (limit_of part) first rows place) same
             (bad (subst (λ (d : Database). HasTable d.schema (name_of part)) (sym same) has)
             place is);
         rowless = λ lacks.
-            let made = one.made lacks in
+            let made = one.made clean lacks in
             sound made.adds.has [] (ap (read_from (limit_of part) first)
             (rows_none old.now mid.now (name_of part) made.adds)
             ∙ none_read (limit_of part) first);

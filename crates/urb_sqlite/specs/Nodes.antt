@@ -25,17 +25,22 @@ held_by a b c d e f g _ = image_at g
 -- files held a journal, it has that journal's records. It has no record if the database file was
 -- empty, or if a first start was stopped before there was a database. It has none either if the
 -- database lists nothing. If the database had only other tables, or only one table of a journal,
--- the rows are the records.
-pub record IsFoundIn (image : Image) (is_clean is_honest : Type 0)
+-- the rows are the records. `is_unmade` says that a first start was stopped before there was a
+-- database. Openings differ in what they recognise as that.
+pub record IsFoundIf (is_unmade : Type 0) (image : Image) (is_clean is_honest : Type 0)
     (records : List Entry) : Type 0 where
   pub stood : is_clean → (db : Trees) → HoldsDatabase image db → (journal : IsJournal db)
       → is_honest × StandsFor (database_of journal) records
   pub fresh : is_clean → image.db ≡ [] → is_honest × (records ≡ [])
-  pub unmade : is_clean → IsUnmade image → is_honest × (records ≡ [])
+  pub unmade : is_clean → is_unmade → is_honest × (records ≡ [])
   pub empty : is_clean → (db : Trees) → HoldsDatabase image db → IsBare db
       → is_honest × (records ≡ [])
   pub adopted : is_clean → (db : Trees) → HoldsDatabase image db → (base : IsBase db)
       → is_honest × StandsFor (base_of base) records
+
+-- What the opening of a pair of files finds. It makes a database in all files that are `IsUnmade`.
+abbrev pub IsFoundIn : Image → Type 0 → Type 0 → List Entry → Type 0
+IsFoundIn image = IsFoundIf (IsUnmade image) image
 
 module _ {S A : Type 0} (g : Ghosts S A) where
   -- The journals, one after the other, are those of nodes 1, 2, 3, .. Each was found in what its

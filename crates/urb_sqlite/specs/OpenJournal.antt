@@ -1,12 +1,13 @@
 -- What contracts see of an open journal.
-use Rattle.std.specs.Prelude.{◌≡◌, ℕ, ◌+◌, Bool, false, List, [], ◌++◌, IsTrue, refl, ◌⊎◌}
+use Rattle.std.specs.Prelude.{◌≡◌, ℕ, ◌+◌, Bool, true, false, List, [], ◌++◌, IsTrue, refl, ◌⊎◌}
 use Rattle.std.specs.Coded.{Coded, code_by, coded×, coded_ℕ, coded_bool}
 use Rattle.sqlite.specs.Held.{Held, held_code}
 use Rattle.std.specs.List.{AllByRecursion}
-use Rattle.sqlite.specs.State.{State, HasCleanDisk, KeepsCommit, CommitsBy}
+use Rattle.sqlite.specs.State.{State, HasCleanDisk, KeepsCommit, CommitsBy, Survives}
 use Rattle.sqlite.specs.Table.{Table}
-use Rattle.urb_stable.specs.Storing.{is_bad_row}
+use Rattle.urb_stable.specs.Storing.{is_place, is_bad_row}
 use Rattle.urb_stable.specs.declared.stable.StoreFault.{StoreFault}
+use Rattle.urb_stable.specs.declared.stable.StoreFault.TheVariants.{BadRow}
 use Rattle.sqlite.specs.Tree.{Trees}
 use Rattle.sqlite_trees.specs.Objects.{catalog_tree}
 use Rattle.sqlite_wal.specs.Recovery.{Image}
@@ -17,9 +18,10 @@ use Rattle.sqlite_catalog.specs.Listing.{IsSound}
 use Rattle.urb_stable.specs.Entries.{Entry}
 use Rattle.sqlite.specs.Schema.{Schema}
 use Rattle.urb_sqlite.specs.Journal.{create_text, journal_name, second_name, tree_of, HasTable}
-use Rattle.urb_sqlite.specs.Journal.{HasBoth, HasJournal, IsAdoptable}
-use Rattle.urb_sqlite.specs.Rows.{StandsFor}
+use Rattle.urb_sqlite.specs.Journal.{HasBoth, HasJournal, IsAdoptable, Lacks}
+use Rattle.urb_sqlite.specs.Rows.{StandsFor, IsFirstBadOf}
 use Rattle.urb_sqlite.specs.Reading.{records_of}
+use Rattle.urb_sqlite.specs.Shape.{has_table}
 
 -- The connection, the next position, whether a store has failed since the last retrieve, and how
 -- often the device has failed.
@@ -141,3 +143,36 @@ pub record KeepsRows (old new : State) (e : StoreFault) : Type 0 where
 abbrev pub SparesRows : State → State → Type 0
 SparesRows old new =
     KeepsCommit old new ⊎ (IsTrue new.is_open → IsTrue old.is_open × IsLonger old.now new.committed)
+
+-- A database was opened as a journal: `old` is the database before, and `new` after. Its rows are
+-- the records. A stop inside the opening leaves what was there, or this with new tables.
+pub record IsTakenOver (old new : State) : Type 0 where
+  -- Both names belong to the journal's tables, and not to other tables or to views.
+  pub first : HasCleanDisk new → has_table journal_name new.now.schema ≡ true
+  pub second : HasCleanDisk new → has_table second_name new.now.schema ≡ true
+  -- If neither table was there, the journal has no record, whatever other tables there are.
+  pub fresh : HasCleanDisk new → Lacks old.now.schema journal_name
+      → Lacks old.now.schema second_name → IsHonestJournal new × (records_of new.now ≡ [])
+  -- If each table was one of records or absent, its rows are the records. Either table may exist
+  -- without the other.
+  pub found : HasCleanDisk new → IsAdoptable old.now.schema
+      → IsHonestJournal new × StandsFor old.now (records_of new.now)
+  -- A stop inside the opening leaves what was there before, or what a CREATE commits.
+  pub stop : Survives old new (CommitsEither old)
+
+-- A database was refused as a journal, with this fault: `old` is the database before, and `new`
+-- after. It keeps its rows, and may have new tables. If the fault names a bad row, that is the first
+-- one.
+pub record IsGivenBack (old new : State) (e : StoreFault) : Type 0 where
+  -- `BadRow` names the first row over both tables that is no record. No refusal is `Place`.
+  pub bad : HasCleanDisk new → IsAdoptable old.now.schema → (place : ℕ) → e ≡ BadRow place
+      → IsFirstBadOf old.now place
+  pub rowless : HasCleanDisk new → Lacks old.now.schema journal_name
+      → Lacks old.now.schema second_name → is_bad_row e ≡ false
+  pub placed : is_place e ≡ false
+  -- A journal that is refused keeps its rows.
+  pub kept : HasCleanDisk new → HasJournal old.now.schema → KeepsRows old new e
+  -- So does any database that is refused. At most it gets new tables, after its others.
+  pub spared : HasCleanDisk new → SparesRows old new
+  -- A stop inside the opening leaves what was there before, or what a CREATE commits.
+  pub stop : Survives old new (CommitsEither old)

@@ -1,19 +1,17 @@
 //! Counts the records of a table. An opening needs only their number, so none of them stays in
 //! memory.
 
-ghost use Rattle.std.specs.Prelude.{◌≡◌, ◌⊎◌, ◌<◌, ◌≤◌, ◌+◌, ℕ, List, [], length, false, IfOk};
+ghost use Rattle.std.specs.Prelude.{◌≡◌, ◌<◌, ◌≤◌, ◌+◌, ℕ, List, [], length, IfOk};
 ghost use Rattle.std.specs.Prelude.{IfErr, OnOk, OnErr, Ok, Err};
-ghost use Rattle.sqlite.specs.State.{HasCleanDisk, IsLive, IsUnchanged, IsRolledBack, Shown};
-ghost use Rattle.sqlite.specs.State.{Begins, Survives};
+ghost use Rattle.sqlite.specs.State.{HasCleanDisk, IsUnchanged, Shown, Begins, Survives};
 ghost use Rattle.sqlite.specs.Held.{state};
 ghost use Rattle.urb_names.specs.declared.limits.TheConstants.{MAX_PAYLOAD};
 ghost use Rattle.urb_stable.specs.Entries.{Entry};
-ghost use Rattle.urb_stable.specs.Storing.{is_place, is_bad_row};
-ghost use Rattle.urb_sqlite.specs.Journal.{limit_of, tree_of, HasTable};
+ghost use Rattle.urb_sqlite.specs.Journal.{HasTable};
 ghost use Rattle.urb_sqlite.specs.internal.Journal.{select_of, name_of};
-ghost use Rattle.urb_sqlite.specs.internal.PartOpening.{IsRead};
+ghost use Rattle.urb_sqlite.specs.internal.OpenJournal.{RollsBackAtMost};
+ghost use Rattle.urb_sqlite.specs.internal.PartOpening.{IsRead, ReadsPart};
 ghost use Rattle.urb_sqlite.specs.Reading.{read_from};
-ghost use Rattle.urb_sqlite.specs.Rows.{table_rows, IsInOrder, IsFirstBad};
 
 use crate::records::{fault_of, limit_of};
 use crate::rows::{ReadFault, record_at};
@@ -45,14 +43,10 @@ fn count_rows<S: Alter>(
         → e ≡ ReadFault.BadRow place
         → (rows : _)
         × Begins (select_of part) [] (state S.Store conn.old) rows
-        × (read_from limit first rows ≡ Err place)) }
-    ensures unchanged { HasCleanDisk (state S.Store conn.new)
-        → IfErr result (λ e. (place : ℕ)
-        → e ≡ ReadFault.BadRow place
-        → IsUnchanged (state S.Store conn.old) (state S.Store conn.new)) }
+        × (read_from limit first rows ≡ Err place)
+        × IsUnchanged (state S.Store conn.old) (state S.Store conn.new)) }
     ensures left { HasCleanDisk (state S.Store conn.new)
-        → OnErr result (IsUnchanged (state S.Store conn.old) (state S.Store conn.new)
-        ⊎ IsRolledBack (state S.Store conn.old) (state S.Store conn.new)) }
+        → OnErr result (RollsBackAtMost (state S.Store conn.old) (state S.Store conn.new)) }
     ensures stop { Survives (state S.Store conn.old) (state S.Store conn.new) (λ _. ⊥) }
 {
     let mut place = first;
@@ -80,31 +74,10 @@ pub fn count_part<S: Alter>(
     first: u32,
 ) -> Result<u32, StoreFault>
     requires { first ≤ 4294967295 }
-    ensures same { HasCleanDisk (state S.Store conn.new)
-        → OnOk result (IsUnchanged (state S.Store conn.old) (state S.Store conn.new)) }
-    ensures left { HasCleanDisk (state S.Store conn.new)
-        → IsUnchanged (state S.Store conn.old) (state S.Store conn.new)
-        ⊎ IsRolledBack (state S.Store conn.old) (state S.Store conn.new) }
+    ensures reads { ReadsPart (state S.Store conn.old) (state S.Store conn.new) part first result }
     ensures found { HasCleanDisk (state S.Store conn.new)
         → HasTable (state S.Store conn.old).now.schema (name_of part)
         → IfOk result (λ next. IsRead (state S.Store conn.old).now part first next) }
-    ensures sound { HasCleanDisk (state S.Store conn.new)
-        → HasTable (state S.Store conn.old).now.schema (name_of part)
-        → (records : List Entry)
-        → read_from (limit_of part) first (table_rows (state S.Store conn.old).now (name_of part))
-        ≡ Ok records
-        → IfErr result (λ e. is_bad_row e ≡ false) }
-    ensures bad { HasCleanDisk (state S.Store conn.new)
-        → HasTable (state S.Store conn.old).now.schema (name_of part)
-        → IfErr result (λ e. (place : ℕ)
-        → e ≡ StoreFault.BadRow place
-        → (rows : _)
-        × IsInOrder (tree_of (state S.Store conn.old).now.schema (name_of part))
-        (state S.Store conn.old).now.trees rows
-        × IsFirstBad (limit_of part) first rows place) }
-    ensures stop { Survives (state S.Store conn.old) (state S.Store conn.new) (λ _. ⊥) }
-    ensures live { IsLive (state S.Store conn.new) }
-    ensures placed { IfErr result (λ e. is_place e ≡ false) }
     ensures calm { OnOk result (failures.new ≡ failures.old) }
 {
     let _before = conn.schema();

@@ -1,17 +1,12 @@
 //! A journal as stable storage.
 
-ghost use Rattle.std.specs.Prelude.{ℕ, ◌≡◌, ◌<◌, ◌+◌, [], None, Some, true, false, IfOk, IfErr};
-ghost use Rattle.std.specs.Prelude.{IsErrAnd, IsTrue, Ok, Err};
-ghost use Rattle.sqlite.specs.State.{HasCleanDisk, Survives};
+ghost use Rattle.std.specs.Prelude.{◌≡◌, ◌<◌, ◌+◌, None, Some, false, IfOk, IfErr, IsErrAnd};
+ghost use Rattle.std.specs.Prelude.{IsTrue, Ok, Err};
+ghost use Rattle.sqlite.specs.State.{HasCleanDisk};
 ghost use Rattle.sqlite.specs.Held.{state};
-ghost use Rattle.urb_stable.specs.Storing.{is_place, is_bad_row};
-ghost use Rattle.urb_sqlite.specs.Journal.{journal_name, second_name, Lacks, HasJournal};
-ghost use Rattle.urb_sqlite.specs.Journal.{IsAdoptable};
-ghost use Rattle.urb_sqlite.specs.Rows.{IsFirstBadOf, StandsFor};
 ghost use Rattle.urb_sqlite.specs.Reading.{records_of};
-ghost use Rattle.urb_sqlite.specs.Shape.{has_table};
-ghost use Rattle.urb_sqlite.specs.OpenJournal.{OpenJournal, IsHonestJournal, KeepsRows, SparesRows};
-ghost use Rattle.urb_sqlite.specs.OpenJournal.{CommitsEither, IsSafeAtRest, LeavesOnly};
+ghost use Rattle.urb_sqlite.specs.OpenJournal.{OpenJournal, IsHonestJournal, IsTakenOver};
+ghost use Rattle.urb_sqlite.specs.OpenJournal.{IsGivenBack, IsSafeAtRest, LeavesOnly};
 ghost use Rattle.urb_sqlite.specs.internal.OpenJournal.{IsInStep};
 
 use crate::{MessagePool, records};
@@ -82,50 +77,16 @@ impl<S: Alter> SqlStable<S> {
         // If a transaction is open, this does nothing.
         ensures busy { IsTrue (state S.Store conn).in_transaction
             → IsErrAnd result (λ e. (e.0 ≡ conn) × (e.1 ≡ StoreFault.Device)) }
-        // Both names belong to the journal's tables then, and not to other tables or to views.
-        ensures table { IfOk result (λ s. HasCleanDisk (state S.Store s.conn)
-            → has_table journal_name (state S.Store s.conn).now.schema ≡ true) }
-        ensures second { IfOk result (λ s. HasCleanDisk (state S.Store s.conn)
-            → has_table second_name (state S.Store s.conn).now.schema ≡ true) }
+        // What the journal holds, depending on what the database held.
+        ensures taken { IfOk result
+            (λ s. IsTakenOver (state S.Store conn) (state S.Store s.conn)) }
         // No record is doubtful, and no failure is counted.
         ensures new { IfOk result (λ s. (s.doubtful ≡ false) × (s.failures ≡ 0)) }
-        // If neither table was there, the journal has no record, whatever other tables there are.
-        ensures fresh { IfOk result (λ s. HasCleanDisk (state S.Store s.conn)
-            → Lacks (state S.Store conn).now.schema journal_name
-            → Lacks (state S.Store conn).now.schema second_name
-            → IsHonestJournal (state S.Store s.conn)
-            × (records_of (state S.Store s.conn).now ≡ [])) }
-        // If each table was one of records or absent, its rows are the records. Either table may
-        // exist without the other.
-        ensures found { IfOk result (λ s. HasCleanDisk (state S.Store s.conn)
-            → IsAdoptable (state S.Store conn).now.schema
-            → IsHonestJournal (state S.Store s.conn)
-            × StandsFor (state S.Store conn).now (records_of (state S.Store s.conn).now)) }
-        // `BadRow` names the first row over both tables that is no record. No refusal is `Place`.
-        ensures bad { IfErr result (λ e. HasCleanDisk (state S.Store e.0)
-            → IsAdoptable (state S.Store conn).now.schema
-            → (place : ℕ)
-            → e.1 ≡ StoreFault.BadRow place
-            → IsFirstBadOf (state S.Store conn).now place) }
-        ensures rowless { IfErr result (λ e. HasCleanDisk (state S.Store e.0)
-            → Lacks (state S.Store conn).now.schema journal_name
-            → Lacks (state S.Store conn).now.schema second_name
-            → is_bad_row e.1 ≡ false) }
-        ensures placed { IfErr result (λ e. is_place e.1 ≡ false) }
-        // A journal that is refused keeps its rows.
-        ensures kept { IfErr result (λ e. HasCleanDisk (state S.Store e.0)
-            → HasJournal (state S.Store conn).now.schema
-            → KeepsRows (state S.Store conn) (state S.Store e.0) e.1) }
-        // So does any database that is refused. At most it gets new tables, after its others.
-        ensures spared { IfErr result (λ e. HasCleanDisk (state S.Store e.0)
-            → SparesRows (state S.Store conn) (state S.Store e.0)) }
-        // A stop inside this call leaves what was there before, or what a CREATE commits. A stop
-        // after it leaves the records.
-        ensures stop { IfOk result (λ s. Survives (state S.Store conn) (state S.Store s.conn)
-            (CommitsEither (state S.Store conn))) }
-        ensures stop_refused { IfErr result (λ e. Survives (state S.Store conn) (state S.Store e.0)
-            (CommitsEither (state S.Store conn))) }
+        // A stop after this call leaves the records.
         ensures rest { IfOk result (λ s. IsSafeAtRest (state S.Store s.conn)) }
+        // A refusal loses no row, and a bad row that it names is the first one.
+        ensures refused { IfErr result
+            (λ e. IsGivenBack (state S.Store conn) (state S.Store e.0) e.1) }
     {
         let mut failures = 0;
         match records::take_over(alloc, &mut conn, &mut failures) {

@@ -2,16 +2,14 @@
 
 ghost use Rattle.std.specs.Prelude.{◌≡◌, ◌⊎◌, [], false, IfOk, IfErr, IsTrue};
 ghost use Rattle.sqlite.specs.State.{HasCleanDisk};
-ghost use Rattle.sqlite.specs.Files.{file_state, image_of, HoldsDatabase, IsNothing};
+ghost use Rattle.sqlite.specs.Files.{file_state, image_of, IsNothing};
 ghost use Rattle.sqlite.specs.WalFiles.{image_at};
 ghost use Rattle.sqlite_wal.specs.Reads.{AreClean};
 ghost use Rattle.urb_stable.specs.Storing.{is_place};
 ghost use Rattle.urb_sqlite.specs.internal.Blame.{blamed};
-ghost use Rattle.urb_sqlite.specs.Journal.{journal_name, second_name, IsAdoptable, Lacks};
-ghost use Rattle.urb_sqlite.specs.Rows.{StandsFor};
 ghost use Rattle.urb_sqlite.specs.Reading.{records_of};
-ghost use Rattle.urb_sqlite.specs.OpenJournal.{IsBare, IsBase, IsHonestJournal, IsJournal};
-ghost use Rattle.urb_sqlite.specs.OpenJournal.{IsSafeAtRest, IsUnmade, base_of, database_of};
+ghost use Rattle.urb_sqlite.specs.OpenJournal.{IsHonestJournal, IsSafeAtRest, IsTakenOver};
+ghost use Rattle.urb_sqlite.specs.Nodes.{IsFoundIf, IsFoundIn};
 
 use crate::{SqlStable, new_file, records};
 use sqlite::{Connection, Error, File, FileFrom, FileStore, Files, Options, Start, Unknown};
@@ -39,16 +37,8 @@ impl<D: Disk + Drop> SqlStable<FileStore<D>> {
         ensures fault { IfErr result (λ e. is_place e ≡ false) }
         ensures new { IfOk result (λ s. (s.doubtful ≡ false) × (s.failures ≡ 0)) }
         ensures rest { IfOk result (λ s. IsSafeAtRest (file_state s.conn)) }
-        ensures clean { IfOk result
-            (λ s. HasCleanDisk (file_state s.conn) → HasCleanDisk (file_state conn)) }
-        ensures fresh { IfOk result (λ s. HasCleanDisk (file_state s.conn)
-            → Lacks (file_state conn).now.schema journal_name
-            → Lacks (file_state conn).now.schema second_name
-            → IsHonestJournal (file_state s.conn) × (records_of (file_state s.conn).now ≡ [])) }
-        ensures found { IfOk result (λ s. HasCleanDisk (file_state s.conn)
-            → IsAdoptable (file_state conn).now.schema
-            → IsHonestJournal (file_state s.conn)
-            × StandsFor (file_state conn).now (records_of (file_state s.conn).now)) }
+        ensures taken { IfOk result
+            (λ s. IsTakenOver (file_state conn) (file_state s.conn)) }
     {
         match SqlStable::adopt(alloc, conn) {
             Ok(journal) => Ok(journal),
@@ -85,35 +75,10 @@ impl<S: Start> SqlStable<FileStore<FileFrom<S>>> {
         ensures fault { IfErr result (λ e. is_place e ≡ false) }
         ensures new { IfOk result (λ s. (s.doubtful ≡ false) × (s.failures ≡ 0)) }
         ensures rest { IfOk result (λ s. IsSafeAtRest (file_state s.conn)) }
-        // If there was no file, or an empty one, the journal has no record.
-        ensures fresh { IfOk result (λ s. HasCleanDisk (file_state s.conn)
-            → S.Start.db ≡ []
-            → IsHonestJournal (file_state s.conn) × (records_of (file_state s.conn).now ≡ [])) }
-        // If the files hold a database with the journal, its rows are records, and these are found.
-        ensures found { IfOk result (λ s. HasCleanDisk (file_state s.conn)
-            → (db : _)
-            → HoldsDatabase (image_at S.Start) db
-            → (journal : IsJournal db)
-            → IsHonestJournal (file_state s.conn)
-            × StandsFor (database_of journal) (records_of (file_state s.conn).now)) }
-        // If a first start was stopped before it made a table, the files hold no database, or one
-        // that lists nothing. Then the journal has no record.
-        ensures unmade { IfOk result (λ s. HasCleanDisk (file_state s.conn)
-            → IsNothing (image_at S.Start)
-            → IsHonestJournal (file_state s.conn) × (records_of (file_state s.conn).now ≡ [])) }
-        ensures empty { IfOk result (λ s. HasCleanDisk (file_state s.conn)
-            → (db : _)
-            → HoldsDatabase (image_at S.Start) db
-            → IsBare db
-            → IsHonestJournal (file_state s.conn) × (records_of (file_state s.conn).now ≡ [])) }
-        // The files may hold a database with only other tables, or with just one table of a
-        // journal. Then its rows are the records.
-        ensures adopted { IfOk result (λ s. HasCleanDisk (file_state s.conn)
-            → (db : _)
-            → HoldsDatabase (image_at S.Start) db
-            → (base : IsBase db)
-            → IsHonestJournal (file_state s.conn)
-            × StandsFor (base_of base) (records_of (file_state s.conn).now)) }
+        // What the journal holds, depending on what the files held.
+        ensures found { IfOk result (λ s. IsFoundIf (IsNothing (image_at S.Start))
+            (image_at S.Start) (HasCleanDisk (file_state s.conn))
+            (IsHonestJournal (file_state s.conn)) (records_of (file_state s.conn).now)) }
     {
         match Connection::open_from(rt, path, false, start) {
             Ok(conn) => SqlStable::adopt_files(rt.alloc(), conn),
@@ -138,35 +103,10 @@ impl<D: Disk + Drop> SqlStable<FileStore<D>> {
         // If the journal's disk is clean, the files were clean when it was opened.
         ensures clean { IfOk result
             (λ s. HasCleanDisk (file_state s.conn) → AreClean D.Disk files.log files.db) }
-        // If the database file is empty, the journal has no record.
-        ensures fresh { IfOk result (λ s. HasCleanDisk (file_state s.conn)
-            → (image_of D.Disk files).db ≡ []
-            → IsHonestJournal (file_state s.conn) × (records_of (file_state s.conn).now ≡ [])) }
-        // If the files hold a database with the journal, its rows are records, and these are found.
-        ensures found { IfOk result (λ s. HasCleanDisk (file_state s.conn)
-            → (db : _)
-            → HoldsDatabase (image_of D.Disk files) db
-            → (journal : IsJournal db)
-            → IsHonestJournal (file_state s.conn)
-            × StandsFor (database_of journal) (records_of (file_state s.conn).now)) }
-        // If a first start was stopped before it made a table, the files hold no database, or one
-        // that lists nothing. Then the journal has no record.
-        ensures unmade { IfOk result (λ s. HasCleanDisk (file_state s.conn)
-            → IsUnmade (image_of D.Disk files)
-            → IsHonestJournal (file_state s.conn) × (records_of (file_state s.conn).now ≡ [])) }
-        ensures empty { IfOk result (λ s. HasCleanDisk (file_state s.conn)
-            → (db : _)
-            → HoldsDatabase (image_of D.Disk files) db
-            → IsBare db
-            → IsHonestJournal (file_state s.conn) × (records_of (file_state s.conn).now ≡ [])) }
-        // The files may hold a database with only other tables, or with just one table of a
-        // journal. Then its rows are the records.
-        ensures adopted { IfOk result (λ s. HasCleanDisk (file_state s.conn)
-            → (db : _)
-            → HoldsDatabase (image_of D.Disk files) db
-            → (base : IsBase db)
-            → IsHonestJournal (file_state s.conn)
-            × StandsFor (base_of base) (records_of (file_state s.conn).now)) }
+        // What the journal holds, depending on what the files held.
+        ensures found { IfOk result (λ s. IsFoundIn (image_of D.Disk files)
+            (HasCleanDisk (file_state s.conn)) (IsHonestJournal (file_state s.conn))
+            (records_of (file_state s.conn).now)) }
     {
         let mut files = files;
         match new_file::is_blank(alloc, &mut files) {
@@ -217,35 +157,10 @@ impl<D: Disk + Drop> SqlStable<FileStore<D>> {
         // If the journal's disk is clean, the files were clean when it was opened.
         ensures clean { IfOk result
             (λ s. HasCleanDisk (file_state s.conn) → AreClean D.Disk files.log files.db) }
-        // If the database file is empty, the journal has no record.
-        ensures fresh { IfOk result (λ s. HasCleanDisk (file_state s.conn)
-            → (image_of D.Disk files).db ≡ []
-            → IsHonestJournal (file_state s.conn) × (records_of (file_state s.conn).now ≡ [])) }
-        // If the files hold a database with the journal, its rows are records, and these are found.
-        ensures found { IfOk result (λ s. HasCleanDisk (file_state s.conn)
-            → (db : _)
-            → HoldsDatabase (image_of D.Disk files) db
-            → (journal : IsJournal db)
-            → IsHonestJournal (file_state s.conn)
-            × StandsFor (database_of journal) (records_of (file_state s.conn).now)) }
-        // If a first start was stopped before it made a table, the files hold no database, or one
-        // that lists nothing. Then the journal has no record.
-        ensures unmade { IfOk result (λ s. HasCleanDisk (file_state s.conn)
-            → IsNothing (image_of D.Disk files)
-            → IsHonestJournal (file_state s.conn) × (records_of (file_state s.conn).now ≡ [])) }
-        ensures empty { IfOk result (λ s. HasCleanDisk (file_state s.conn)
-            → (db : _)
-            → HoldsDatabase (image_of D.Disk files) db
-            → IsBare db
-            → IsHonestJournal (file_state s.conn) × (records_of (file_state s.conn).now ≡ [])) }
-        // The files may hold a database with only other tables, or with just one table of a
-        // journal. Then its rows are the records.
-        ensures adopted { IfOk result (λ s. HasCleanDisk (file_state s.conn)
-            → (db : _)
-            → HoldsDatabase (image_of D.Disk files) db
-            → (base : IsBase db)
-            → IsHonestJournal (file_state s.conn)
-            × StandsFor (base_of base) (records_of (file_state s.conn).now)) }
+        // What the journal holds, depending on what the files held.
+        ensures found { IfOk result (λ s. IsFoundIf (IsNothing (image_of D.Disk files))
+            (image_of D.Disk files) (HasCleanDisk (file_state s.conn))
+            (IsHonestJournal (file_state s.conn)) (records_of (file_state s.conn).now)) }
     {
         match Connection::open_files(alloc, files, options) {
             Ok(conn) => SqlStable::adopt_files(alloc, conn),

@@ -1,30 +1,28 @@
 //! The calls of a journal: what each statement does to its records.
 
-ghost use Rattle.std.specs.Prelude.{ℕ, List, ◌≡◌, ◌⊎◌, ◌<◌, ◌≤◌, ◌∷◌, ◌++◌, [], ◌+◌, length, true};
+ghost use Rattle.std.specs.Prelude.{ℕ, ◌≡◌, ◌⊎◌, ◌<◌, ◌≤◌, ◌∷◌, ◌++◌, [], ◌+◌, length, true};
 ghost use Rattle.std.specs.Prelude.{false, IfOk, IfErr, OnOk, OnErr, IsTrue, Ok, Err};
 ghost use Rattle.sqlite.specs.State.{HasCleanDisk, IsLive, IsUnchanged, KeepsCommit};
 ghost use Rattle.sqlite.specs.State.{Survives, CommitsBy};
 ghost use Rattle.sqlite.specs.Held.{state};
 ghost use Rattle.urb_stable.specs.Storing.{is_place};
 ghost use Rattle.urb_sqlite.specs.internal.Blame.{is_memory, blamed};
-ghost use Rattle.urb_stable.specs.Entries.{Entry};
 ghost use Rattle.urb_names.specs.declared.limits.TheConstants.{MAX_PAYLOAD};
 ghost use Rattle.urb_sqlite.specs.Journal as journal;
 ghost use Rattle.urb_sqlite.specs.internal.Journal as texts;
-ghost use Rattle.urb_sqlite.specs.Journal.{journal_name, second_name, limit_of, tree_of, Lacks};
-ghost use Rattle.urb_sqlite.specs.Journal.{HasTable, HasBoth, HasJournal, IsAdoptable};
+ghost use Rattle.urb_sqlite.specs.Journal.{second_name, limit_of, Lacks, HasTable, HasBoth};
 ghost use Rattle.urb_sqlite.specs.internal.Journal.{create_of, name_of};
-ghost use Rattle.urb_sqlite.specs.declared.sql.Part.TheVariants.{First, Second};
-ghost use Rattle.urb_sqlite.specs.Rows.{table_rows, IsInOrder, IsFirstBad, IsFirstBadOf, StandsFor};
+ghost use Rattle.urb_sqlite.specs.declared.sql.Part.TheVariants.{First};
+ghost use Rattle.urb_sqlite.specs.Rows.{table_rows, StandsFor};
 ghost use Rattle.urb_sqlite.specs.Reading.{read_from, records_of};
 ghost use Rattle.urb_sqlite.specs.Shape.{has_table};
-ghost use Rattle.urb_sqlite.specs.OpenJournal.{IsHonestJournal, IsShutJournal, KeepsRows};
-ghost use Rattle.urb_sqlite.specs.OpenJournal.{CommitsEither, SparesRows, IsSafeAtRest, LeavesOnly};
-ghost use Rattle.urb_sqlite.specs.internal.OpenJournal.{IsInStep, IsMade, MakesAtMost};
-ghost use Rattle.urb_sqlite.specs.internal.OpenJournal.{CommitsAtMost, IsAppended, IsLeft};
-ghost use Rattle.urb_sqlite.specs.internal.OpenJournal.{RollsBackAtMost, StaysSafe, FindsNoBadRow};
-ghost use Rattle.urb_sqlite.specs.internal.OpenJournal.{TakesRecords};
-ghost use Rattle.urb_sqlite.specs.internal.PartOpening.{IsPartOpened, IsPartRefused};
+ghost use Rattle.urb_sqlite.specs.OpenJournal.{IsHonestJournal, IsShutJournal, IsSafeAtRest};
+ghost use Rattle.urb_sqlite.specs.OpenJournal.{LeavesOnly, IsTakenOver, IsGivenBack};
+ghost use Rattle.urb_sqlite.specs.internal.OpenJournal.{IsInStep, CommitsAtMost, IsAppended};
+ghost use Rattle.urb_sqlite.specs.internal.OpenJournal.{IsLeft, RollsBackAtMost, StaysSafe};
+ghost use Rattle.urb_sqlite.specs.internal.OpenJournal.{FindsNoBadRow, TakesRecords};
+ghost use Rattle.urb_sqlite.specs.internal.PartOpening.{ReadsPart, IsPrepared, IsPartOpened};
+ghost use Rattle.urb_sqlite.specs.internal.PartOpening.{IsPartRefused};
 
 use crate::counting::count_part;
 use crate::rows::ReadFault;
@@ -134,10 +132,7 @@ fn read_part<S: Alter>(
 ) -> Result<Vec<Record>, StoreFault>
     requires { first ≤ 4294967295 }
     ensures short { IfOk result (λ records. first + length records.items ≤ 4294967295) }
-    ensures same { HasCleanDisk (state S.Store conn.new)
-        → OnOk result (IsUnchanged (state S.Store conn.old) (state S.Store conn.new)) }
-    ensures left { HasCleanDisk (state S.Store conn.new)
-        → RollsBackAtMost (state S.Store conn.old) (state S.Store conn.new) }
+    ensures reads { ReadsPart (state S.Store conn.old) (state S.Store conn.new) part first result }
     ensures unchanged { HasCleanDisk (state S.Store conn.new)
         → IfErr result (λ e. (place : ℕ)
         → e ≡ StoreFault.BadRow place
@@ -147,24 +142,7 @@ fn read_part<S: Alter>(
         → IfOk result (λ records.
         read_from (limit_of part) first (table_rows (state S.Store conn.old).now (name_of part))
         ≡ Ok records.items) }
-    ensures sound { HasCleanDisk (state S.Store conn.new)
-        → HasTable (state S.Store conn.old).now.schema (name_of part)
-        → (records : List Entry)
-        → read_from (limit_of part) first (table_rows (state S.Store conn.old).now (name_of part))
-        ≡ Ok records
-        → FindsNoBadRow result }
-    ensures bad { HasCleanDisk (state S.Store conn.new)
-        → HasTable (state S.Store conn.old).now.schema (name_of part)
-        → IfErr result (λ e. (place : ℕ)
-        → e ≡ StoreFault.BadRow place
-        → (rows : _)
-        × IsInOrder (tree_of (state S.Store conn.old).now.schema (name_of part))
-        (state S.Store conn.old).now.trees rows
-        × IsFirstBad (limit_of part) first rows place) }
-    ensures stop { Survives (state S.Store conn.old) (state S.Store conn.new) (λ _. ⊥) }
     ensures live_before { IsLive (state S.Store conn.old) }
-    ensures live { IsLive (state S.Store conn.new) }
-    ensures placed { IfErr result (λ e. is_place e ≡ false) }
     ensures device { result ≡ Err StoreFault.Device → failures.old < failures.new }
     ensures counts { failures.old ≤ failures.new }
     ensures calm { OnOk result (failures.new ≡ failures.old) }
@@ -260,23 +238,11 @@ pub fn prepare<S: Alter>(
 ) -> Result<(), StoreFault>
     ensures busy { IsTrue (state S.Store conn.old).in_transaction
         → (conn.new ≡ conn.old) × (result ≡ Err StoreFault.Device) }
-    ensures auto { OnOk result ((state S.Store conn.new).in_transaction ≡ false) }
-    ensures table { OnOk result
-        (has_table (name_of part) (state S.Store conn.new).now.schema ≡ true) }
-    ensures settled { OnOk result (IsTrue (state S.Store conn.new).is_open
-        → (state S.Store conn.new).now ≡ (state S.Store conn.new).committed) }
-    ensures made { HasCleanDisk (state S.Store conn.new)
-        → Lacks (state S.Store conn.old).now.schema (name_of part)
-        → OnOk result (IsMade (state S.Store conn.old) (state S.Store conn.new) (name_of part)) }
-    ensures found { HasCleanDisk (state S.Store conn.new)
-        → HasTable (state S.Store conn.old).now.schema (name_of part)
-        → OnOk result (IsUnchanged (state S.Store conn.old) (state S.Store conn.new)) }
+    ensures prepared { OnOk result
+        (IsPrepared (state S.Store conn.old) (state S.Store conn.new) part) }
     ensures kept { HasCleanDisk (state S.Store conn.new)
         → HasTable (state S.Store conn.old).now.schema (name_of part)
         → KeepsCommit (state S.Store conn.old) (state S.Store conn.new) }
-    ensures most { HasCleanDisk (state S.Store conn.new)
-        → OnOk result
-        (MakesAtMost (state S.Store conn.old) (state S.Store conn.new) (name_of part)) }
     ensures err { HasCleanDisk (state S.Store conn.new)
         → OnErr result
         (CommitsAtMost (state S.Store conn.old) (state S.Store conn.new) (name_of part)) }
@@ -339,37 +305,10 @@ pub fn take_over<S: Alter>(
 ) -> Result<u32, StoreFault>
     ensures busy { IsTrue (state S.Store conn.old).in_transaction
         → (conn.new ≡ conn.old) × (result ≡ Err StoreFault.Device) }
-    ensures first { OnOk result (HasCleanDisk (state S.Store conn.new)
-        → has_table (name_of First) (state S.Store conn.new).now.schema ≡ true) }
-    ensures second { OnOk result (HasCleanDisk (state S.Store conn.new)
-        → has_table (name_of Second) (state S.Store conn.new).now.schema ≡ true) }
+    ensures taken { OnOk result (IsTakenOver (state S.Store conn.old) (state S.Store conn.new)) }
     ensures kept { IfOk result (λ next. IsInStep (state S.Store conn.new) next) }
-    ensures fresh { HasCleanDisk (state S.Store conn.new)
-        → Lacks (state S.Store conn.old).now.schema journal_name
-        → Lacks (state S.Store conn.old).now.schema second_name
-        → OnOk result (IsHonestJournal (state S.Store conn.new)
-        × (records_of (state S.Store conn.new).now ≡ [])) }
-    ensures found { HasCleanDisk (state S.Store conn.new)
-        → IsAdoptable (state S.Store conn.old).now.schema
-        → OnOk result (IsHonestJournal (state S.Store conn.new)
-        × StandsFor (state S.Store conn.old).now (records_of (state S.Store conn.new).now)) }
-    ensures bad { HasCleanDisk (state S.Store conn.new)
-        → IsAdoptable (state S.Store conn.old).now.schema
-        → IfErr result (λ e. (place : ℕ)
-        → e ≡ StoreFault.BadRow place
-        → IsFirstBadOf (state S.Store conn.old).now place) }
-    ensures rowless { HasCleanDisk (state S.Store conn.new)
-        → Lacks (state S.Store conn.old).now.schema journal_name
-        → Lacks (state S.Store conn.old).now.schema second_name
-        → FindsNoBadRow result }
-    ensures placed { IfErr result (λ e. is_place e ≡ false) }
-    ensures refused { HasCleanDisk (state S.Store conn.new)
-        → HasJournal (state S.Store conn.old).now.schema
-        → IfErr result (λ e. KeepsRows (state S.Store conn.old) (state S.Store conn.new) e) }
-    ensures spared { HasCleanDisk (state S.Store conn.new)
-        → OnErr result (SparesRows (state S.Store conn.old) (state S.Store conn.new)) }
-    ensures stop { Survives (state S.Store conn.old) (state S.Store conn.new)
-        (CommitsEither (state S.Store conn.old)) }
+    ensures refused { IfErr result (λ e. IsGivenBack (state S.Store conn.old)
+        (state S.Store conn.new) e) }
     ensures live { OnOk result (IsLive (state S.Store conn.new)) }
     ensures calm { OnOk result (failures.new ≡ failures.old) }
 {

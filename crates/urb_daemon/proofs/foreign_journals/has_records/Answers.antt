@@ -15,9 +15,10 @@ returns-clause-tells c = record {
       (sym c.in_ok-copy_to_memory.ensures.bytes)
       (subst (λ db. HoldsDatabase (record { log = c.args.log.now; db = db }) trees)
       (sym c.in_ok-copy_to_memory-2.ensures.bytes) holds) in
-      let it = c.in_ok-journal.ensures.found refl trees held journal in
+      let it = c.in_ok-journal.ensures.found.stood refl trees held journal in
       (_, it.1, some _ _ (c.next.ensures.counted it.0));
   fresh = λ none.
-      let it = c.in_ok-journal.ensures.fresh refl (c.in_ok-copy_to_memory-2.ensures.bytes ∙ none) in
+      let found = c.in_ok-journal.ensures.found in
+      let it = found.fresh refl (c.in_ok-copy_to_memory-2.ensures.bytes ∙ none) in
       some _ _ (c.next.ensures.counted it.0) ∙ ap (λ records. nat_lt 0 (length records)) it.1;
 }

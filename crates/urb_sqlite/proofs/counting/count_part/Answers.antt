@@ -1,5 +1,6 @@
-use Rattle.std.proofs.Common.{◌≤◌, inl, arith}
+use Rattle.std.proofs.Common.{◌≤◌, inl, arith, rules}
 use Rattle.sqlite.specs.Held.{state}
+use Rattle.sqlite.specs.State.{HasCleanDisk, IsUnchanged}
 use Rattle.urb_sqlite.specs.declared.sql.Part.{Part}
 use Rattle.urb_sqlite.specs.declared.sql.Part.TheVariants.{First, Second}
 use Rattle.urb_names.specs.declared.limits.TheConstants.{MAX_PAYLOAD}
@@ -12,17 +13,22 @@ low : (part : Part) → limit_of part ≤ MAX_PAYLOAD
 low First = omega arith
 low Second = omega arith
 
-pub returns-in-Ok-clause-same : goal.returns-in-Ok-clause-same
-returns-in-Ok-clause-same g c clean =
-    let it = c.in-Ok.ensures.counted clean in
-    unchanged_by_select c.args.part (state g.S.Store c.args.conn.now)
-    (state g.S.Store c.count_rows-counted.new.conn) it.0 it.1
-
-pub returns-in-Ok-clause-left : goal.returns-in-Ok-clause-left
-returns-in-Ok-clause-left g c clean =
-    let it = c.in-Ok.ensures.counted clean in
-    inl (unchanged_by_select c.args.part (state g.S.Store c.args.conn.now)
-    (state g.S.Store c.count_rows-counted.new.conn) it.0 it.1)
+pub returns-in-Ok-clause-reads : goal.returns-in-Ok-clause-reads
+returns-in-Ok-clause-reads g c =
+    let old = state g.S.Store c.args.conn.now in
+    let new = state g.S.Store c.count_rows-counted.new.conn in
+    let same : HasCleanDisk new → IsUnchanged old new =
+    λ clean. (let it = c.in-Ok.ensures.counted clean in
+    unchanged_by_select c.args.part old new it.0 it.1) in
+    record {
+      same = same;
+      left = λ clean. inl (same clean);
+      sound = λ clean has records all. tt;
+      bad = λ clean has. tt;
+      placed = tt;
+      stop = c.count_rows-counted.ensures.stop;
+      live = search rules;
+    }
 
 pub returns-in-Ok-clause-found : goal.returns-in-Ok-clause-found
 returns-in-Ok-clause-found g c clean has =
@@ -35,20 +41,23 @@ returns-in-Ok-clause-found g c clean has =
       place = it.4;
     }
 
-pub returns-in-Err-clause-sound : goal.returns-in-Err-clause-sound
-returns-in-Err-clause-sound g c clean has records all =
-    no_bad_row c.fault_of.result (λ place is.
-    let fault = c.fault_of.ensures.row place is in
-    let it = c.in-Err.ensures.bad clean place fault in
-    no_records c.args.part (state g.S.Store c.args.conn.now)
-    (state g.S.Store c.count_rows-counted.new.conn) has c.args.first it.0 place it.1
-    (c.in-Err.ensures.unchanged clean place fault) (rw c.limit_of.ensures.is at it.2) records all)
-
-pub returns-in-Err-clause-bad : goal.returns-in-Err-clause-bad
-returns-in-Err-clause-bad g c clean has place is =
-    let fault = c.fault_of.ensures.row place is in
-    let it = c.in-Err.ensures.bad clean place fault in
-    bad_in_table c.args.part (state g.S.Store c.args.conn.now)
-    (state g.S.Store c.count_rows-counted.new.conn) has c.args.first it.0 place it.1
-    (c.in-Err.ensures.unchanged clean place fault) (rw c.limit_of.ensures.is at it.2)
-    (low c.args.part) c.requires
+pub returns-in-Err-clause-reads : goal.returns-in-Err-clause-reads
+returns-in-Err-clause-reads g c =
+    let old = state g.S.Store c.args.conn.now in
+    let new = state g.S.Store c.count_rows-counted.new.conn in
+    record {
+      same = λ clean. tt;
+      left = c.in-Err.ensures.left;
+      sound = λ clean has records all.
+          no_bad_row c.fault_of.result (λ place is.
+          let it = c.in-Err.ensures.bad clean place (c.fault_of.ensures.row place is) in
+          no_records c.args.part old new has c.args.first it.0 place it.1 it.3
+          (rw c.limit_of.ensures.is at it.2) records all);
+      bad = λ clean has place is.
+          let it = c.in-Err.ensures.bad clean place (c.fault_of.ensures.row place is) in
+          bad_in_table c.args.part old new has c.args.first it.0 place it.1 it.3
+          (rw c.limit_of.ensures.is at it.2) (low c.args.part) c.requires;
+      placed = c.fault_of.ensures.placed;
+      stop = c.count_rows-counted.ensures.stop;
+      live = search rules;
+    }

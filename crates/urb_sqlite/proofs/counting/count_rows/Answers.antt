@@ -1,14 +1,14 @@
 use Rattle.std.proofs.Common.{◌≡◌, ◌+◌, [], ◌∷◌, ◌++◌, List, length, length-append, Ok, Err, Some}
 use Rattle.std.proofs.Common.{refl, sym, ap, ◌∙◌, arith, rules, option_copied}
 use Rattle.sqlite.specs.Order.{Row}
-use Rattle.sqlite.specs.State.{HasCleanDisk, Shown}
+use Rattle.sqlite.specs.State.{HasCleanDisk, IsUnchanged, Shown}
 use Rattle.sqlite.specs.Held.{state}
 use Rattle.urb_stable.specs.Entries.{Entry}
 use Rattle.urb_sqlite.specs.internal.Journal.{select_of}
 use Rattle.urb_sqlite.specs.Reading.{read_from, record_at}
 use Rattle.urb_sqlite.specs.declared.rows.ReadFault.TheVariants.{BadRow}
 use Rattle.urb_sqlite.proofs.SpelledRows.{found_in}
-use Rattle.urb_sqlite.proofs.BothTables.{survives_both, earlier}
+use Rattle.urb_sqlite.proofs.BothTables.{survives_both, earlier, unchanged_then}
 use Rattle.urb_sqlite.proofs.CursorReads.{start_stops, reads_none, refused_stops, refused_left}
 use Rattle.urb_sqlite.proofs.CursorReads.{reads_on, meets_bad, reads_all, on_err}
 use Rattle.urb_sqlite.proofs.counting.count_rows.Goals as goal
@@ -79,7 +79,10 @@ returns-in-None-clause-bad g c clean place is =
     meets_bad g.S.Store c.args.part c.args.limit c.args.first old mid now so_far.0 so_far.2 _ on
     (c.in_ok-advance.ensures.same late) c.rows.place c.in-Some.row.now some so_far.1 none in
     let same : c.rows.place ≡ place = let n : BadRow c.rows.place ≡ BadRow place = is in cc in
-    (met.rows, met.begins, met.read ∙ ap Err same)
+    let still : IsUnchanged old (state g.S.Store now) =
+    unchanged_then old (state g.S.Store mid) (state g.S.Store now) so_far.2.same
+    (c.in_ok-advance.ensures.same late) in
+    (met.rows, met.begins, met.read ∙ ap Err same, search rules)
 
 pub overflow_add-place : goal.overflow_add-place
 overflow_add-place g c =

@@ -11,17 +11,29 @@ use Rattle.urb_sqlite.proofs.CreateStatement.{creates, creates_at_most, creates_
 use Rattle.urb_sqlite.proofs.CreateStatement.{creates_nothing}
 use Rattle.urb_sqlite.proofs.records.prepare.Goals as goal
 
-pub returns-in-Ok-clause-made : goal.returns-in-Ok-clause-made
-returns-in-Ok-clause-made g c clean lacks =
-    creates (create_of c.args.part) (name_of c.args.part) (create_parsed c.args.part)
-    (state g.S.Store c.args.conn.now) (state g.S.Store c.create.new.conn) c.in-Ok.field-0 lacks
-    (c.is_ready.ensures.table (search rules)) (c.in-Ok.ensures.runs clean)
-
-pub returns-in-Ok-clause-found : goal.returns-in-Ok-clause-found
-returns-in-Ok-clause-found g c clean has =
-    creates_nothing (create_of c.args.part) (name_of c.args.part) (create_parsed c.args.part)
-    (state g.S.Store c.args.conn.now) (state g.S.Store c.create.new.conn) c.in-Ok.field-0 has
-    (c.in-Ok.ensures.runs clean)
+pub returns-in-Ok-clause-prepared : goal.returns-in-Ok-clause-prepared
+returns-in-Ok-clause-prepared g c =
+    let old = state g.S.Store c.args.conn.now in
+    let new = state g.S.Store c.create.new.conn in
+    let create = create_of c.args.part in
+    let name = name_of c.args.part in
+    let parsed = create_parsed c.args.part in
+    let count = c.in-Ok.field-0 in
+    let table = c.is_ready.ensures.table (search rules) in
+    record {
+      table = table;
+      autocommit = c.is_ready.ensures.auto (search rules);
+      settled = c.is_ready.ensures.settled (search rules);
+      most = λ clean.
+          elim (creates_at_most create name parsed old new count (c.in-Ok.ensures.runs clean)) [
+            | inl same ↦ inl same
+            | inr made ↦ inr made.0
+          ];
+      made = λ clean lacks.
+          creates create name parsed old new count lacks table (c.in-Ok.ensures.runs clean);
+      found = λ clean has.
+          creates_nothing create name parsed old new count has (c.in-Ok.ensures.runs clean);
+    }
 
 pub returns-in-Ok-clause-kept : goal.returns-in-Ok-clause-kept
 returns-in-Ok-clause-kept g c clean has =
@@ -29,15 +41,6 @@ returns-in-Ok-clause-kept g c clean has =
     let new = state g.S.Store c.create.new.conn in
     keeps_if_left old new (inl (creates_nothing (create_of c.args.part) (name_of c.args.part)
     (create_parsed c.args.part) old new c.in-Ok.field-0 has (c.in-Ok.ensures.runs clean)))
-
-pub returns-in-Ok-clause-most : goal.returns-in-Ok-clause-most
-returns-in-Ok-clause-most g c clean =
-    elim (creates_at_most (create_of c.args.part) (name_of c.args.part) (create_parsed c.args.part)
-    (state g.S.Store c.args.conn.now) (state g.S.Store c.create.new.conn) c.in-Ok.field-0
-    (c.in-Ok.ensures.runs clean)) [
-      | inl same ↦ inl same
-      | inr made ↦ inr made.0
-    ]
 
 pub returns-in-Ok-clause-apart : goal.returns-in-Ok-clause-apart
 returns-in-Ok-clause-apart g c clean first lacks =

@@ -27,7 +27,7 @@ returns g c =
     found_again c.into_file_connection.result c.into_store.result _
     (file_state again.conn) fell.0 fell.1 c.into_store.ensures.numbered
     c.into_store.ensures.sound
-    c.into_store.ensures.quiet.outcomes (both.1 clean) (λ left. left ≡ records)
+    c.into_store.ensures.quiet.outcomes (both.1.stood clean) (λ left. left ≡ records)
     (subst (λ (conn : Held _). LeavesOnly (file_state conn) (λ left. left ≡ records))
     (sym c.into_file_connection.ensures) leaves) in (
       honest_again (file_state again.conn) clean (∥∥₁_map got (λ x. x.0)),
@@ -46,7 +46,7 @@ returns g c =
     found_again c.into_file_connection.result c.into_store.result _
     (file_state again.conn) fell.0 fell.1 c.into_store.ensures.numbered
     c.into_store.ensures.sound
-    c.into_store.ensures.quiet.outcomes (both.1 clean)
+    c.into_store.ensures.quiet.outcomes (both.1.stood clean)
     (λ left. (left ≡ records) ⊎ (left ≡ records ++ r ∷ []))
     (subst (λ (conn : Held _). LeavesOnly (file_state conn)
     (λ left. (left ≡ records) ⊎ (left ≡ records ++ r ∷ [])))
