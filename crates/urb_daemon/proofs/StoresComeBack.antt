@@ -11,7 +11,7 @@ use Rattle.urb_group.specs.Shown.{GroupView}
 use Rattle.urb_worker.proofs.ServedStores.{unserved}
 use Rattle.urb_worker.specs.ServedStores.{AreServed}
 use Rattle.urb_daemon.specs.Runs.{ComeBack, MayAllBeAsked}
-use Rattle.urb_daemon.specs.StoresAsked.{AllAnswer, AreRefusedTogether, OpensTogether}
+use Rattle.urb_folder.specs.StoresAsked.{AllAnswer, AreRefusedTogether, OpensTogether}
 use Rattle.urb_stable.specs.Storing.{list_in}
 
 -- stores that were not asked

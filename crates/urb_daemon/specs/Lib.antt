@@ -1,6 +1,4 @@
-pub mod RunsAfterStop
-pub mod OpenedJournals
-pub mod Outcomes
+pub mod OpeningFaults
 pub mod Runs
-pub mod StoresAsked
+pub mod RunsAfterStop
 pub mod internal

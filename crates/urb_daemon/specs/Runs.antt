@@ -12,7 +12,7 @@ use Rattle.urb_cli.specs.Statuses.{fault_of_refusal}
 use Rattle.urb_cli.specs.declared.faults.Fault.{Fault}
 use Rattle.urb_cli.specs.declared.faults.Fault.TheVariants as fault
 use Rattle.urb_cli.specs.declared.command_line.options.ServeOptions.{ServeOptions}
-use Rattle.urb_daemon.specs.StoresAsked.{OpensTogether}
+use Rattle.urb_folder.specs.StoresAsked.{OpensTogether}
 
 -- the limits of the group in these settings
 abbrev pub limits_of : ServeOptions → Limits

@@ -1,44 +1,20 @@
--- A group is opened over stores that are asked in parallel. This file says how it goes on from the
--- world before the stop, and how a run over these stores ends.
+-- How a run ends if its group was opened over stores that a stop had left.
 use Rattle.std.specs.Prelude.{Bool, Err, List, Ok, Result, ℕ, ◌≡◌, ◌⊎◌}
 use Rattle.std.specs.List.{All}
 use Rattle.urb_names.specs.Naming.{Limits}
 use Rattle.urb_names.specs.declared.refusal.Refusal.{Refusal}
-use Rattle.urb_names.specs.declared.refusal.Refusal.TheVariants as refusal
 use Rattle.urb_stable.specs.declared.stable.Stable.{Ghosts}
-use Rattle.urb_group.specs.Clustered.{Clustered}
-use Rattle.urb_group.specs.Reopening.{ContinuesFrom, HasStopped}
+use Rattle.urb_group.specs.Reopening.{ContinuesFrom}
 use Rattle.urb_group.specs.Shown.{GroupView}
-use Rattle.urb_group.specs.Stocked.{IsKnown}
 use Rattle.urb_group.specs.World.{World}
 use Rattle.urb_worker.specs.ServedStores.{AreServed}
 use Rattle.urb_cli.specs.Statuses.{fault_of_refusal}
 use Rattle.urb_cli.specs.declared.faults.Fault.{Fault}
+use Rattle.urb_folder.specs.GroupsAfterStop.{ContinuesTogether}
+use Rattle.urb_folder.specs.StoresAsked.{OpensTogether}
 use Rattle.urb_daemon.specs.Runs.{EndsAs}
-use Rattle.urb_daemon.specs.StoresAsked.{OpensTogether}
-
--- a group with the stores of its nodes, in order of node
-abbrev pub beside_stores : {S : Type 0} → GroupView → List S → Clustered S
-beside_stores group stores = record { group = group; stores = stores }
 
 module _ {S A : Type 0} (g : Ghosts S A) where
-  -- Each store is honest now. Or each store was honest, or shut by a failure, and its storage has
-  -- returned what was written.
-  abbrev pub AreIntact : List S → List S → Type 0
-  AreIntact passed asked = All g.is_honest asked ⊎ (All (IsKnown g) passed × All g.is_clean asked)
-
-  -- This is `Continues` of `urb_group`, for stores asked in parallel. Over honest stores the group
-  -- goes on from the world before the stop, unless memory is refused or a device fails. This holds
-  -- also if that failure, or an earlier one, has shut a store. After a refusal the stores still
-  -- hold what the stop may have left.
-  abbrev pub ContinuesTogether :
-      GroupView → World → Limits → List S → Result GroupView Refusal → List S → Type 0
-  ContinuesTogether old w size passed (Ok group) asked =
-      All g.is_honest asked → ContinuesFrom g w passed group
-  ContinuesTogether old w size passed (Err why) asked =
-      HasStopped g old w size asked
-      × (AreIntact passed asked → (why ≡ refusal.NoMemory) ⊎ (why ≡ refusal.Device))
-
   -- The group could not be opened over what a stop had left, and the run ends with that refusal.
   -- The stores still hold what the stop had left.
   pub record EndsStopped
@@ -46,7 +22,7 @@ module _ {S A : Type 0} (g : Ghosts S A) where
       (lasts : List S)
       : Type 0 where
     pub why : Refusal
-    pub stays : ContinuesTogether old w size passed (Err why) lasts
+    pub stays : ContinuesTogether g old w size passed (Err why) lasts
     pub ends : end ≡ Err (fault_of_refusal why)
 
   -- The group was opened, and over honest stores it goes on from the world before the stop. The

@@ -10,8 +10,6 @@ ghost use Rattle.urb_daemon.specs.Runs.{ComeBack, EndsFrom, limits_of};
 ghost use Rattle.urb_daemon.specs.internal.Runs.{end_of};
 
 use crate::console::Console;
-use crate::group::open_group;
-use crate::journal::Journal;
 use crate::reports::Reports;
 use crate::sockets::{Network, open_network};
 use sqlite_disk::Disk;
@@ -24,6 +22,7 @@ use std::sync::ledger::Blank;
 use std::thread::Threads;
 use std::time::Clock;
 use urb_cli::{Fault, ServeOptions, report_fault};
+use urb_folder::{Journal, open_group};
 use urb_group::{Group, Stable};
 use urb_show::House;
 use urb_worker::{GroupSetting, Watch, run_group};

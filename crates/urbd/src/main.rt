@@ -4,7 +4,8 @@
 use std::marker::Brand;
 use std::process::ExitCode;
 use urb_cli::{Line, parse_line, read_words, report_fault, run_errand};
-use urb_daemon::{Console, Streams, close_journals, open_journals, report_end, run_journals};
+use urb_daemon::{Console, Streams, fault_of_folder, report_end, run_journals};
+use urb_folder::{close_journals, open_journals};
 
 fn main(rt: HostRuntime) -> ExitCode {
     let _streams = Streams::take(&rt);
@@ -17,12 +18,13 @@ fn main(rt: HostRuntime) -> ExitCode {
         Ok(Line::Errand(errand)) => return ExitCode::from(run_errand(&rt, errand)),
         Err(status) => return ExitCode::from(status),
     };
-    let journals = match open_journals::<Brand, HostRuntime>(&rt, &rt, serving) {
+    let (dir, nodes) = (serving.dir, serving.nodes);
+    let journals = match open_journals::<Brand, HostRuntime>(&rt, &rt, dir, nodes) {
         Ok(journals) => journals,
-        Err(fault) => return ExitCode::from(report_fault(&rt, fault)),
+        Err(why) => return ExitCode::from(report_fault(&rt, fault_of_folder(why))),
     };
     let mut console = Console::new(&rt, rt.reader());
     let (journals, ended) = run_journals(&rt, rt.alloc(), serving, journals, &mut console);
-    close_journals(&rt, serving, journals);
+    close_journals(&rt, dir, journals);
     ExitCode::from(report_end(&rt, ended))
 }

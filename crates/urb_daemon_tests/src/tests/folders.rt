@@ -5,17 +5,11 @@ use std::fs;
 use std::marker::Brand;
 use std::rt::HostRuntime;
 use std::test::Fail;
-use urb_cli::ServeOptions;
-use urb_daemon::{close_journals, open_journals};
+use urb_folder::{close_journals, open_journals};
 
 const FOLDER: &str = "urbd_folder";
 
 const AWAY: &str = "urbd_folder_away";
-
-// A group of two nodes whose journals are in the folder.
-fn two_nodes() -> Option<ServeOptions<'static>> {
-    ServeOptions::new(2, 10, FOLDER, 21_310, 1_000)
-}
 
 // Whether the folder has both nodes' journals, and logs beside both, or beside neither, as asked.
 fn has_journals(rt: &HostRuntime, has_logs: bool) -> bool {
@@ -33,13 +27,12 @@ fn is_cleared(rt: &HostRuntime) -> bool {
 
 #[test]
 fn of_each_closed_journal_one_file_is_left(rt: HostRuntime) -> Result<(), Fail> {
-    let serving = two_nodes().ok_or("a group")?;
     assert!(rt; is_cleared(&rt));
-    let Ok(journals) = open_journals::<Brand, HostRuntime>(&rt, &rt, serving) else {
+    let Ok(journals) = open_journals::<Brand, HostRuntime>(&rt, &rt, FOLDER, 2) else {
         return Err("journals")?;
     };
     let were_open = has_journals(&rt, true);
-    close_journals(&rt, serving, journals);
+    close_journals(&rt, FOLDER, journals);
     assert!(rt; were_open && has_journals(&rt, false));
     fs::remove_dir_all(&rt, FOLDER)?;
     Ok(())
@@ -47,19 +40,18 @@ fn of_each_closed_journal_one_file_is_left(rt: HostRuntime) -> Result<(), Fail> 
 
 #[test]
 fn the_logs_of_journals_in_their_place_stay(rt: HostRuntime) -> Result<(), Fail> {
-    let serving = two_nodes().ok_or("a group")?;
     let _ = fs::remove_dir_all(&rt, AWAY);
     assert!(rt; is_cleared(&rt));
-    let Ok(moved) = open_journals::<Brand, HostRuntime>(&rt, &rt, serving) else {
+    let Ok(moved) = open_journals::<Brand, HostRuntime>(&rt, &rt, FOLDER, 2) else {
         return Err("journals")?;
     };
     let is_moved = fs::rename(&rt, FOLDER, AWAY).is_ok() && is_cleared(&rt);
-    let Ok(others) = open_journals::<Brand, HostRuntime>(&rt, &rt, serving) else {
+    let Ok(others) = open_journals::<Brand, HostRuntime>(&rt, &rt, FOLDER, 2) else {
         return Err("others")?;
     };
-    close_journals(&rt, serving, moved);
+    close_journals(&rt, FOLDER, moved);
     let stay = has_journals(&rt, true);
-    close_journals(&rt, serving, others);
+    close_journals(&rt, FOLDER, others);
     assert!(rt; is_moved && stay && has_journals(&rt, false));
     fs::remove_dir_all(&rt, FOLDER)?;
     fs::remove_dir_all(&rt, AWAY)?;

@@ -9,7 +9,7 @@ use std::rt::HostRuntime;
 use std::test::Fail;
 use std::thread::Threads;
 use urb_cli::Fault;
-use urb_daemon::collect_opened;
+use urb_folder::collect_opened;
 use urb_stable::StoreFault;
 
 // How many things were opened, or were returned, and the fault.

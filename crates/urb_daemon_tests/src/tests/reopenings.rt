@@ -5,7 +5,7 @@ ghost use Rattle.std.specs.Prelude.{◌≡◌};
 use std::alloc::Global;
 use std::test::Fail;
 use std::thread::Threads;
-use urb_daemon::open_group;
+use urb_folder::open_group;
 use urb_group::{Answer, Config, Group, MemStable, Record, Stable, State, Taken};
 use urb_names::{ClientId, Message, Name, NodeId};
 

@@ -10,7 +10,8 @@ use std::thread::Threads;
 use std::time::{Clock, Duration};
 use std::{fs, io, thread};
 use urb_cli::{Fault, ServeOptions};
-use urb_daemon::{Console, Host, close_journals, open_journals, run_journals};
+use urb_daemon::{Console, Host, fault_of_folder, run_journals};
+use urb_folder::{close_journals, open_journals};
 use urb_terminal::Terminal;
 
 /// How a group leaves its journals at its end. They are closed, so that only one file is left of
@@ -186,7 +187,11 @@ fn visit_at<R>(
 where
     R: Host + Net<Listener = TcpListener, Stream = TcpStream>,
 {
-    let journals = open_journals::<Brand, R>(threads, rt, serving)?;
+    let (dir, nodes) = (serving.dir, serving.nodes);
+    let journals = match open_journals::<Brand, R>(threads, rt, dir, nodes) {
+        Ok(journals) => journals,
+        Err(why) => return Err(fault_of_folder(why)),
+    };
     let seen = RefCell::new(None);
     let terminal = Terminal::new(rt.alloc(), &[], b"", true);
     let clients = Clients {
@@ -200,7 +205,7 @@ where
     let (journals, ended) = run_journals(threads, rt.alloc(), serving, journals, &mut console);
     drop(console);
     match leave {
-        Leave::Closed => close_journals(rt, serving, journals),
+        Leave::Closed => close_journals(rt, dir, journals),
         Leave::Dropped => drop(journals),
     }
     ended?;
@@ -241,12 +246,12 @@ pub fn open_and_leave<R: Threads + Sync>(
     nodes: u8,
     leave: Leave,
 ) -> Result<(), Fault> {
-    let Some(serving) = ServeOptions::new(nodes, 100, folder, 22_510, 50) else {
-        return Err(Fault::BadReply);
+    let journals = match open_journals::<Brand, R>(threads, rt, folder, nodes) {
+        Ok(journals) => journals,
+        Err(why) => return Err(fault_of_folder(why)),
     };
-    let journals = open_journals::<Brand, R>(threads, rt, serving)?;
     match leave {
-        Leave::Closed => close_journals(rt, serving, journals),
+        Leave::Closed => close_journals(rt, folder, journals),
         Leave::Dropped => drop(journals),
     }
     Ok(())

@@ -1,6 +1,6 @@
 use denote.Param.Send.{sendable}
 use Rattle.std.proofs.Crossing.{crosses}
-use Rattle.urb_daemon.proofs.SendableFiles.{host_send, unnamed_send}
+use Rattle.urb_folder.proofs.SendableFiles.{host_send, unnamed_send}
 use Rattle.urbd.proofs.main.Goals as goal
 
 pub run_journals-journals-requires-send-D : goal.run_journals-journals-requires-send-D

@@ -5,7 +5,7 @@ use Rattle.urb_daemon.proofs.RunsAfterStop.{refused-after-stop, served-after-sto
 use Rattle.urb_daemon.proofs.StoresComeBack.{come_back, come_back_at_once}
 use Rattle.urb_daemon.specs.Runs.{limits_of}
 use Rattle.urb_daemon.specs.internal.Runs.{end_of}
-use Rattle.urb_daemon.specs.StoresAsked.{OpensTogether}
+use Rattle.urb_folder.specs.StoresAsked.{OpensTogether}
 use Rattle.urb_daemon.proofs.run.run_stores.Goals as goal
 
 pub returns-in-Ok-open_network-clause-order : goal.returns-in-Ok-open_network-clause-order

@@ -1,0 +1,13 @@
+-- What the program reports if the folder of a group can't be opened.
+use Rattle.urb_stable.specs.Storing.{refusal_of}
+use Rattle.urb_cli.specs.Statuses.{fault_of_refusal}
+use Rattle.urb_cli.specs.declared.faults.Fault.{Fault}
+use Rattle.urb_cli.specs.declared.faults.Fault.TheVariants.{Refused}
+use Rattle.urb_folder.specs.declared.folder_fault.FolderFault.{FolderFault}
+use Rattle.urb_folder.specs.declared.folder_fault.FolderFault.TheVariants.{ForeignRecords, Store}
+
+-- The fault of a journal is reported as its refusal. Records of a node that the group doesn't have
+-- are reported as the refusal 14, with detail 0.
+abbrev pub fault_of_folder : FolderFault → Fault
+fault_of_folder (Store fault) = fault_of_refusal (refusal_of fault)
+fault_of_folder ForeignRecords = Refused 14 0

@@ -1,0 +1,6 @@
+mod EmptiedLists
+mod GroupsAfterStop
+mod PlacesInOrder
+mod RecordCounts
+pub mod SendableFiles
+mod StoresAsked

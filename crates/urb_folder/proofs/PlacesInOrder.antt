@@ -1,0 +1,44 @@
+-- Places that are opened in their order.
+use Rattle.std.proofs.Common.{List, Ok, Result, Some, [], arith, inl, inr, length, refl}
+use Rattle.std.proofs.Common.{slice_get, slice_index_or, slice_set, subst, suc, sym, zero, ℕ, ◌++◌, ◌+◌, ◌<◌, ◌∷◌}
+use Rattle.std.proofs.Common.{◌≡◌}
+use Rattle.std.proofs.lemmas.List.{length-append}
+use Rattle.urb_folder.specs.internal.OpenedPlaces.{AreOpened}
+use Rattle.urb_stable.proofs.Indexed.{read_more}
+
+-- what is after a place stays there when that place is set
+pub unset : {X : Type 0} (xs : List X) (i at : ℕ) (y it : X) → i < at
+    → slice_get (slice_set xs i y) at ≡ Some it → slice_get xs at ≡ Some it
+unset [] i at y it less there = there
+unset (x ∷ xs) i zero y it less there = absurd (omega (arith, less))
+unset (x ∷ xs) zero (suc at) y it less there = there
+unset (x ∷ xs) (suc i) (suc at) y it less there = unset xs i at y it (omega (arith, less)) there
+
+-- the place after those that are open was opened too
+pub one_more : {J E : Type 0} (opens : ℕ → Result J E → Type 0) (all : List J) (it : J) (place : ℕ)
+    → AreOpened opens place all → opens place (Ok it) → AreOpened opens (place + 1) (all ++ it ∷ [])
+one_more opens all it place opened next = record {
+  whole = let a = opened.whole in omega (arith, length-append all (it ∷ []));
+  each = λ at more there. elim (read_more all it more at there) [
+    | inl before ↦ opened.each at more before
+    | inr last ↦ subst (λ n. opens n (Ok more))
+        (let a = opened.whole in omega (arith, last.0))
+        (subst (λ o. opens place (Ok o)) (sym last.1) next)
+  ];
+}
+
+-- no place is open yet
+pub none_yet : {J E : Type 0} (opens : ℕ → Result J E → Type 0) (all : List J)
+    → length all ≡ 0 → AreOpened opens 0 all
+none_yet opens [] none =
+    record { whole = refl; each = λ at more there. absurd (let e = there in cc) }
+none_yet opens (x ∷ all) none = absurd (let e = none in cc)
+
+-- If a list has this value at a place, the place is within the list. Reading the place with any
+-- default gives this value.
+pub read_there : {X : Type 0} (xs : List X) (i : ℕ) (d it : X) → slice_get xs i ≡ Some it
+    → (i < length xs) × (slice_index_or xs i d ≡ it)
+read_there [] i d it e = absurd (let f = e in cc)
+read_there (x ∷ xs) zero d it e = (omega (arith), let f = e in cc)
+read_there (x ∷ xs) (suc i) d it e =
+    let rest = read_there xs i d it e in (omega (arith, rest.0), rest.1)

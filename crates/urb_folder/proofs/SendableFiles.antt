@@ -1,0 +1,43 @@
+-- What may go to a thread: the kinds of file, and a journal in such a file.
+use denote.RattleType.{RattleType}
+use denote.Param.Send.{IsSend, sendable}
+use Rattle.std.proofs.Common.{List, Option, Result}
+use Rattle.std.proofs.Crossing.{crosses}
+use Rattle.urb_folder.proofs.journal.Journal.TheSendSync.{the_field_send}
+use Rattle.std.specs.contracts.option.Option as option
+use Rattle.std.specs.contracts.result.Result as result
+use Rattle.sqlite_disk.specs.declared.Disk as disk
+use Rattle.sqlite_disk.specs.declared.start.Start.{Ghosts}
+use Rattle.sqlite_std_file.specs.contracts.host.Host as Host
+use Rattle.urb_stable.specs.contracts.stable.StoreFault as Fault
+use Rattle.urb_stable.specs.declared.stable.StoreFault.{StoreFault}
+use Rattle.urb_sqlite.specs.contracts.node_file.NodeFile as NodeFile
+use Rattle.urb_sqlite.specs.contracts.node_file.Unnamed as Unnamed
+use Rattle.urb_folder.specs.contracts.journal.Journal as Row
+use Rattle.urb_folder.specs.declared.journal.Journal.{Journal}
+
+pub host_send : IsSend Host.the_field.row
+host_send = search (crosses, sendable) depth 100 fits 100000
+
+pub unnamed_send : IsSend Unnamed.the_field.row
+unnamed_send = search (crosses, sendable) depth 100 fits 100000
+
+-- a node's file, if the names of its contents may
+pub node_file_send : (K A B C D E F G : RattleType) (a : Ghosts A.Denot) (b : Ghosts B.Denot)
+    (c : Ghosts C.Denot) (d : Ghosts D.Denot) (e : Ghosts E.Denot) (f : Ghosts F.Denot)
+    (g : Ghosts G.Denot) → IsSend A → IsSend B → IsSend C → IsSend D → IsSend E → IsSend F
+    → IsSend G → IsSend (NodeFile.the_row K A B C D E F G a b c d e f g)
+node_file_send K A B C D E F G a b c d e f g sa sb sc sd se sf sg =
+    let h = host_send in search (crosses, sendable) depth 200 fits 1000000
+
+-- a journal, if its file may
+pub journal_send : (D : RattleType) (g : disk.Ghosts D.Denot) → IsSend D
+    → IsSend (Row.the_row D g)
+journal_send D g s = search (the_field_send, crosses, sendable) depth 100 fits 100000
+
+-- what was found at a place, if the file may
+pub found_send : {D : RattleType} → IsSend D → {g : disk.Ghosts D.Denot}
+    → List (Option (Result (Journal D.Denot g) StoreFault))
+    → IsSend (option.the_row (result.the_row (Row.the_row D g) Fault.the_row))
+found_send {D} s {g} found =
+    let j = journal_send D g s in search (crosses, sendable) depth 200 fits 1000000

@@ -1,0 +1,5 @@
+pub mod GroupsAfterStop
+pub mod OpenedJournals
+pub mod Outcomes
+pub mod StoresAsked
+pub mod internal

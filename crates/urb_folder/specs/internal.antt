@@ -1,0 +1,4 @@
+pub mod ForeignJournals
+pub mod OpenedJournals
+pub mod OpenedPlaces
+pub mod StoresAsked
