@@ -5,7 +5,7 @@ use Rattle.std.proofs.Common.{length-take, take_at, drop_at, inl, inr}
 use Rattle.std.specs.List.{flat_map}
 use Rattle.std.proofs.lemmas.Bool.{cases_lt}
 use Rattle.std.proofs.lemmas.List.{append-nil, length-take-le, nil_from_length, take-append-drop}
-use Rattle.std.proofs.lemmas.List.{take-take, take_more}
+use Rattle.std.proofs.lemmas.List.{take-take, take_all, take_more}
 use Rattle.std.proofs.lemmas.List.Concat.{flat_map-append, flat_map-cons}
 use Rattle.urb_names.specs.Naming.{Label, Content}
 use Rattle.urb_client.specs.declared.format.TheConstants.{LONGEST_FRAME, LISTING_HEAD, ENTRY_HEAD}
@@ -70,6 +70,18 @@ no_more entries i used more is next over count fits = elim (cases_lt i count) [
   ))
   | inr le ↦ le
 ]
+
+-- if there is room for all entries, the longest prefix is all of them
+pub fits_whole : (entries : List (Label × Content)) (count bytes : ℕ) → count ≤ length entries
+    → length (listing_body (take count entries)) ≡ bytes
+    → ((k : ℕ) → k ≤ length entries → length (listing_body (take k entries)) ≤ LONGEST_FRAME
+    → k ≤ count)
+    → length (listing_body entries) ≤ LONGEST_FRAME → bytes ≡ length (listing_body entries)
+fits_whole entries count bytes within is longest room =
+    let all : take (length entries) entries ≡ entries =
+    take_all (length entries) entries (omega arith) in
+    let whole = longest (length entries) (omega arith) (omega (arith, ap size all, room)) in
+    omega (arith, is, ap size (take_all count entries whole))
 
 -- the longest prefix is a page's list
 pub lists_page : (page : List (Label × Content)) (count : ℕ) → count ≤ length page

@@ -11,7 +11,7 @@ use crate::format::{
     ENTRY_HEAD, LONGEST_FRAME, MOST_ENTRIES, SAY_ACCEPTED, SAY_DONE, SAY_ENTRIES, SAY_REFUSED,
     SAY_STATUS,
 };
-use crate::pages::count_fitting;
+use crate::pages::measure_fitting;
 use byteorder::{BigEndian, ByteOrder};
 use std::alloc::{Allocator, Global};
 use std::marker::Model;
@@ -124,9 +124,9 @@ impl<A: Allocator> Response<A> {
         requires { vec_len page ≤ MOST_ENTRIES }
         ensures { IsOkAnd result (λ response. SaysPage page.items (said_by response)) }
     {
-        let count = count_fitting(&page);
+        let fitting = measure_fitting(&page);
         let mut entries = page;
-        entries.truncate(count);
+        entries.truncate(fitting.count);
         Ok(Response::Entries(Entries::of(entries)))
     }
 
@@ -170,52 +170,70 @@ impl<A: Allocator> Response<A> {
     }
 }
 
-/// Returns the whole frame of a response. Each response has one, by its `recall`.
+/// Returns the whole frame of a response. Each response has one, by its `recall`. It asks for
+/// memory once, for the whole frame.
 pub fn encode_response<A: Allocator + Copy>(
     alloc: A,
     response: &Response<A>,
 ) -> Result<Vec<u8, A>, NoMemory>
     ensures { IfOk result (λ v. v.items ≡ encoding (said_by response.now)) }
 {
-    let body = build_body(alloc, response)?;
     response.recall();
+    let body_len = count_body(response);
     let mut len = [0; 2];
-    BigEndian::write_u16(&mut len, body.len() as u16);
-    let mut frame = Vec::with_capacity(alloc, 2 + body.len())?;
+    BigEndian::write_u16(&mut len, body_len as u16);
+    let mut frame = Vec::with_capacity(alloc, 2 + body_len)?;
     frame.extend_from_slice(&len)?;
-    frame.extend_from_slice(body.as_slice())?;
+    push_body(&mut frame, response)?;
     Ok(frame)
 }
 
-fn build_body<A: Allocator>(alloc: A, response: &Response<A>) -> Result<Vec<u8, A>, NoMemory>
-    ensures { IfOk result (λ v. v.items ≡ response_body (said_by response.now)) }
+// Returns how many bytes the body of a response has.
+fn count_body<A: Allocator>(response: &Response<A>) -> usize
+    ensures { result ≡ length (response_body (said_by response.now)) }
 {
-    let mut body = Vec::new(alloc);
+    match response {
+        Response::Accepted(_) => 5,
+        Response::Entries(entries) => measure_fitting(entries.as_slice()).bytes,
+        Response::Status { .. } => 10,
+        Response::Done => 1,
+        Response::Refused { .. } => 6,
+    }
+}
+
+// Appends the body of a response.
+fn push_body<A: Allocator, B: Allocator>(
+    frame: &mut Vec<u8, A>,
+    response: &Response<B>,
+) -> Result<(), NoMemory>
+    ensures { OnOk result
+        (frame.new.items ≡ frame.old.items ++ response_body (said_by response.now)) }
+{
     match response {
         Response::Accepted(seq) => {
             let mut head = [SAY_ACCEPTED, 0, 0, 0, 0];
             BigEndian::write_u32(&mut head[1..], *seq);
-            body.extend_from_slice(&head)?;
+            frame.extend_from_slice(&head)?;
         }
         Response::Entries(entries) => {
             let entries = entries.as_slice();
-            body.extend_from_slice(&[SAY_ENTRIES, entries.len() as u8])?;
-            push_entries(&mut body, entries)?;
+            frame.extend_from_slice(&[SAY_ENTRIES, entries.len() as u8])?;
+            push_entries(frame, entries)?;
         }
         Response::Status { state, own, logged } => {
             let mut head = [SAY_STATUS, state.byte(), 0, 0, 0, 0, 0, 0, 0, 0];
             BigEndian::write_u32(&mut head[2..], *own);
             BigEndian::write_u32(&mut head[6..], *logged);
-            body.extend_from_slice(&head)?;
+            frame.extend_from_slice(&head)?;
         }
-        Response::Done => body.push(SAY_DONE)?,
+        Response::Done => frame.push(SAY_DONE)?,
         Response::Refused { number, detail } => {
             let mut head = [SAY_REFUSED, *number, 0, 0, 0, 0];
             BigEndian::write_u32(&mut head[2..], *detail);
-            body.extend_from_slice(&head)?;
+            frame.extend_from_slice(&head)?;
         }
     }
-    Ok(body)
+    Ok(())
 }
 
 fn push_entries<A: Allocator, B: Allocator>(

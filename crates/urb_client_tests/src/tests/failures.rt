@@ -220,6 +220,25 @@ fn page_growth(alloc: Global, number: u64) -> RunResult {
 // An ENTRIES response with one entry.
 const PAGE: &[u8] = b"\x00\x11\x82\x01\x01\x00\x00\x00\x01\x00\x07\x00\x00\x00\x01\x00\x02hi";
 
+// Returns how often the frame of this page takes memory.
+fn growths_of_frame(alloc: Global) -> Option<u64> {
+    let heap = Refusing::new(alloc, 0);
+    let [_, _, bytes @ ..] = PAGE else {
+        return None;
+    };
+    let Ok(Some(response)) = parse_response(&heap, bytes) else {
+        return None;
+    };
+    let before = heap.growths();
+    encode_response(&heap, &response).ok()?;
+    heap.growths().checked_sub(before)
+}
+
+#[test]
+fn a_frame_takes_memory_once(rt: HostRuntime) {
+    assert_eq!(rt; growths_of_frame(rt.alloc()), Some(1));
+}
+
 // Returns the result of receiving a response, with this read failing.
 fn response_read(alloc: Global, number: u64) -> RunResult {
     let mut reader = FailingReader::new(PAGE, 3, number);

@@ -2,7 +2,7 @@ use Rattle.std.proofs.Common.{◌≡◌, ◌+◌, ◌<◌, ℕ, length, take, re
 use Rattle.std.proofs.lemmas.List.{nil_from_length}
 use Rattle.urb_client.specs.declared.format.TheConstants.{ENTRY_HEAD, LONGEST_FRAME}
 use Rattle.urb_client.proofs.PageLists.{size, size-more, no_more}
-use Rattle.urb_client.proofs.pages.count_fitting.Goals as goal
+use Rattle.urb_client.proofs.pages.measure_fitting.Goals as goal
 
 pub loop-message-init : goal.loop-message-init
 loop-message-init g c = record { count = refl; used = refl; room = omega arith }
@@ -25,11 +25,15 @@ pub returns-then-used-size-gt-LONGEST_FRAME-clause-within :
 returns-then-used-size-gt-LONGEST_FRAME-clause-within g c =
     omega (arith, c.loop-message.invariant.count, c.loop-message-test.true)
 
+pub returns-then-used-size-gt-LONGEST_FRAME-clause-bytes :
+    goal.returns-then-used-size-gt-LONGEST_FRAME-clause-bytes
+returns-then-used-size-gt-LONGEST_FRAME-clause-bytes g c =
+    let same = ap (λ (k : ℕ). size (take k c.args.entries.now)) c.loop-message.invariant.count in
+    omega (arith, same, c.loop-message.invariant.used)
+
 pub returns-then-used-size-gt-LONGEST_FRAME-clause-fits :
     goal.returns-then-used-size-gt-LONGEST_FRAME-clause-fits
-returns-then-used-size-gt-LONGEST_FRAME-clause-fits g c =
-    let same = ap (λ (k : ℕ). size (take k c.args.entries.now)) c.loop-message.invariant.count in
-    omega (arith, same, c.loop-message.invariant.used, c.loop-message.invariant.room)
+returns-then-used-size-gt-LONGEST_FRAME-clause-fits g c = c.loop-message.invariant.room
 
 pub returns-then-used-size-gt-LONGEST_FRAME-clause-longest :
     goal.returns-then-used-size-gt-LONGEST_FRAME-clause-longest
@@ -68,10 +72,13 @@ pub returns-clause-within : goal.returns-clause-within
 returns-clause-within g c =
     omega (arith, c.loop-message.invariant.count, c.loop-message.auto.message-index-end)
 
-pub returns-clause-fits : goal.returns-clause-fits
-returns-clause-fits g c =
+pub returns-clause-bytes : goal.returns-clause-bytes
+returns-clause-bytes g c =
     let same = ap (λ (k : ℕ). size (take k c.args.entries.now)) c.loop-message.invariant.count in
-    omega (arith, same, c.loop-message.invariant.used, c.loop-message.invariant.room)
+    omega (arith, same, c.loop-message.invariant.used)
+
+pub returns-clause-fits : goal.returns-clause-fits
+returns-clause-fits g c = c.loop-message.invariant.room
 
 pub returns-clause-longest : goal.returns-clause-longest
 returns-clause-longest g c =

@@ -1,7 +1,7 @@
 use Rattle.std.proofs.Common.{◌≡◌, ◌≤◌, ◌+◌, take}
 use Rattle.urb_client.specs.declared.format.TheConstants.{LISTING_HEAD, LONGEST_FRAME}
 use Rattle.urb_client.proofs.PageLists.{size}
-use Rattle.urb_client.proofs.pages.count_fitting.Given as goal
+use Rattle.urb_client.proofs.pages.measure_fitting.Given as goal
 
 -- how many entries there are so far, and how many bytes they take, for which there is room
 abbrev pub invariant-loop-message : goal.invariant-loop-message
