@@ -26,7 +26,7 @@ held_by a b c d e f g _ = image_at g
 -- empty, or if a first start was stopped before there was a database. It has none either if the
 -- database lists nothing. If the database had only other tables, or only one table of a journal,
 -- the rows are the records. `is_unmade` says that a first start was stopped before there was a
--- database. Openings differ in what they recognise as that.
+-- database. Each opening has its own test for that.
 pub record IsFoundIf (is_unmade : Type 0) (image : Image) (is_clean is_honest : Type 0)
     (records : List Entry) : Type 0 where
   pub stood : is_clean → (db : Trees) → HoldsDatabase image db → (journal : IsJournal db)

@@ -314,8 +314,8 @@ module _ (among : ℕ → Bool) (w : World) (events : List Event)
       (subst (λ (list : List Act). IsRoundAmong among list (after w events))
       (sym rest.acts) round)
 
--- To prove a statement from any two rounds, it is enough to prove it from two rounds in which every
--- event proceeds.
+-- If a statement holds after any two rounds whose events all proceed, it holds after any two
+-- rounds.
 both : (among : ℕ → Bool) (w : World) (first second : List Event)
     → IsRoundAmong among (acts_of w first) (after w first)
     → IsRoundAmong among (acts_of (after w first) second) (after (after w first) second)

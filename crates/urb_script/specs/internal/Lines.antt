@@ -6,7 +6,7 @@ use Rattle.urb_script.specs.declared.input.LineRead.{LineRead}
 use Rattle.urb_script.specs.declared.input.LineRead.TheVariants.{End, Whole, Long}
 use Rattle.urb_script.specs.Lines.{lines_of, words_of}
 
--- the words in the rest of a line; there are none if nothing is left
+-- the words in the rest of a line; the empty list if nothing is left
 abbrev pub words_left : Option (Bor (List ℕ)) → List (List ℕ)
 words_left None = []
 words_left (Some rest) = words_of rest.now
