@@ -2,10 +2,11 @@
 //!
 //! ```text
 //! let _streams = Streams::take(&rt);                     // before anything else is opened
-//! let journals = open_journals::<Brand, HostRuntime>(&rt, &rt, serving.dir, serving.nodes)?;
+//! let (dir, nodes) = (serving.dir, serving.nodes);
+//! let journals = open_journals::<NodeFile<Brand>, HostRuntime>(&rt, &rt, dir, nodes)?;
 //! let mut console = Console::new(&rt, rt.reader());
 //! let (journals, ended) = run_journals(&rt, rt.alloc(), serving, journals, &mut console);
-//! close_journals(&rt, serving.dir, journals);
+//! close_journals(&rt, dir, journals);
 //! let status = report_end(&rt, ended);
 //! ```
 //!

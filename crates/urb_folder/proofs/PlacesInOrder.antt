@@ -1,7 +1,7 @@
 -- Places that are opened in their order.
-use Rattle.std.proofs.Common.{List, Ok, Result, Some, [], arith, inl, inr, length, refl}
-use Rattle.std.proofs.Common.{slice_get, slice_index_or, slice_set, subst, suc, sym, zero, ℕ, ◌++◌, ◌+◌, ◌<◌, ◌∷◌}
-use Rattle.std.proofs.Common.{◌≡◌}
+use Rattle.std.proofs.Common.{Err, IfErr, IfOk, List, MatchResult, Ok, Result, Some, [], arith, inl}
+use Rattle.std.proofs.Common.{inr, length, refl, slice_get, slice_index_or, slice_set, subst, suc}
+use Rattle.std.proofs.Common.{sym, zero, ℕ, ◌++◌, ◌+◌, ◌<◌, ◌∷◌, ◌≡◌, ◌≤◌}
 use Rattle.std.proofs.lemmas.List.{length-append}
 use Rattle.urb_folder.specs.internal.OpenedPlaces.{AreOpened}
 use Rattle.urb_stable.proofs.Indexed.{read_more}
@@ -42,3 +42,33 @@ read_there [] i d it e = absurd (let f = e in cc)
 read_there (x ∷ xs) zero d it e = (omega (arith), let f = e in cc)
 read_there (x ∷ xs) (suc i) d it e =
     let rest = read_there xs i d it e in (omega (arith, rest.0), rest.1)
+
+-- an empty list has no place
+pub none_there : {X : Type 0} (xs : List X) (i : ℕ) (it : X) → length xs ≡ 0
+    → slice_get xs i ≡ Some it → ⊥
+none_there [] i it none there = let e = there in cc
+none_there (x ∷ xs) i it none there = let e = none in cc
+
+-- what is known of both outcomes
+pub outcome_of : {J E : Type 0} (P Q : J → Type 0) (R : E → Type 0) (outcome : Result J E)
+    → IfOk outcome P → IfOk outcome Q → IfErr outcome R → MatchResult outcome (λ j. P j × Q j) R
+outcome_of P Q R (Ok it) p q r = (p, q)
+outcome_of P Q R (Err fault) p q r = r
+
+-- The arithmetic of a loop over places. These lemmas are over plain variables, because `omega` looks
+-- at all that is in reach.
+pub has_room : (held place count room : ℕ) → held ≡ place → place < count → count ≤ room
+    → held < room
+has_room held place count room same less fits = omega (arith, same, less, fits)
+
+pub ended : (place count : ℕ) → count ≤ place → place ≤ count → place ≡ count
+ended place count behind within = omega (arith, behind, within)
+
+pub itself : (place : ℕ) → place ≤ place
+itself place = omega (arith)
+
+pub earlier : (place at : ℕ) → place + 1 ≤ at → place ≤ at
+earlier place at behind = omega (arith, behind)
+
+pub before : (place at : ℕ) → place + 1 ≤ at → place < at
+before place at behind = omega (arith, behind)

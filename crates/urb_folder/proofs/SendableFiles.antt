@@ -7,11 +7,9 @@ use Rattle.urb_folder.proofs.journal.Journal.TheSendSync.{the_field_send}
 use Rattle.std.specs.contracts.option.Option as option
 use Rattle.std.specs.contracts.result.Result as result
 use Rattle.sqlite_disk.specs.declared.Disk as disk
-use Rattle.sqlite_disk.specs.declared.start.Start.{Ghosts}
 use Rattle.sqlite_std_file.specs.contracts.host.Host as Host
 use Rattle.urb_stable.specs.contracts.stable.StoreFault as Fault
 use Rattle.urb_stable.specs.declared.stable.StoreFault.{StoreFault}
-use Rattle.urb_sqlite.specs.contracts.node_file.NodeFile as NodeFile
 use Rattle.urb_sqlite.specs.contracts.node_file.Unnamed as Unnamed
 use Rattle.urb_folder.specs.contracts.journal.Journal as Row
 use Rattle.urb_folder.specs.declared.journal.Journal.{Journal}
@@ -21,14 +19,6 @@ host_send = search (crosses, sendable) depth 100 fits 100000
 
 pub unnamed_send : IsSend Unnamed.the_field.row
 unnamed_send = search (crosses, sendable) depth 100 fits 100000
-
--- a node's file, if the names of its contents may
-pub node_file_send : (K A B C D E F G : RattleType) (a : Ghosts A.Denot) (b : Ghosts B.Denot)
-    (c : Ghosts C.Denot) (d : Ghosts D.Denot) (e : Ghosts E.Denot) (f : Ghosts F.Denot)
-    (g : Ghosts G.Denot) → IsSend A → IsSend B → IsSend C → IsSend D → IsSend E → IsSend F
-    → IsSend G → IsSend (NodeFile.the_row K A B C D E F G a b c d e f g)
-node_file_send K A B C D E F G a b c d e f g sa sb sc sd se sf sg =
-    let h = host_send in search (crosses, sendable) depth 200 fits 1000000
 
 -- a journal, if its file may
 pub journal_send : (D : RattleType) (g : disk.Ghosts D.Denot) → IsSend D

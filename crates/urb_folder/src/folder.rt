@@ -1,33 +1,34 @@
 //! The folder of a group's journals: opens all of them, and closes them.
 
 ghost use Rattle.std.specs.Prelude.{◌≡◌, IfErr, IfOk, vec_len};
-ghost use Rattle.urb_sqlite.specs.Nodes.{AreFoundIn, held_by};
+ghost use Rattle.urb_sqlite.specs.Nodes.{AreFoundIn};
 ghost use Rattle.urb_folder.specs.OpenedJournals.{AreOfNodes, IsOfOpening};
 
 use crate::folder_fault::FolderFault;
 use crate::foreign_journals::check_foreign_journals;
-use crate::node_journal::{FileJournal, Folder};
+use crate::journal::Journal;
+use crate::node_journal::Folder;
 use crate::parallel::{close_all, open_all};
+use sqlite_disk::Disk;
 use std::rt::HostRuntime;
 use std::sync::Arc;
 use std::thread::Threads;
-use urb_sqlite::{Contents, MessagePool};
+use urb_sqlite::{MessagePool, NodeDisk};
 use urb_stable::Stable;
 
 // Opens the journals of all nodes of a group, as `open_journals` does, in a folder without records
 // of nodes that the group doesn't have. The journals share their messages with one pool, until each
 // has been asked for its records once. If memory for the pool is refused, they do without it.
-fn open_in_folder<K: Contents + Send + Sync, R: Threads + Sync>(
+fn open_in_folder<D: NodeDisk + Send, R: Threads + Sync>(
     threads: &R,
     rt: &HostRuntime,
     dir: &str,
     nodes: u8,
-) -> Result<Vec<FileJournal<K>>, FolderFault>
+) -> Result<Vec<Journal<D>>, FolderFault>
     ensures count { IfOk result (λ journals. vec_len journals ≡ nodes) }
     ensures nodes { IfOk result (λ journals. AreOfNodes (λ j. j.node) journals.items) }
-    ensures found { IfOk result (λ journals. AreFoundIn ⟦<FileJournal<K> as Stable>⟧
-        (held_by K.First.Start K.Second.Start K.Third.Start K.Fourth.Start K.Fifth.Start
-        K.Sixth.Start K.Seventh.Start) journals.items) }
+    ensures found { IfOk result
+        (λ journals. AreFoundIn ⟦<Journal<D> as Stable>⟧ D.NodeDisk.held journals.items) }
     ensures fault { IfErr result IsOfOpening }
 {
     let pool = Arc::new(rt.alloc(), MessagePool::new(rt.alloc())).ok();
@@ -36,7 +37,7 @@ fn open_in_folder<K: Contents + Send + Sync, R: Threads + Sync>(
         dir,
         pool: &pool,
     };
-    match open_all::<K, R>(threads, rt.alloc(), folder, usize::from(nodes)) {
+    match open_all::<D, R>(threads, rt.alloc(), folder, usize::from(nodes)) {
         Ok(journals) => Ok(journals),
         Err(fault) => Err(FolderFault::Store(fault)),
     }
@@ -48,28 +49,27 @@ fn open_in_folder<K: Contents + Send + Sync, R: Threads + Sync>(
 /// refused. Then no journal is made for a node after it, and those that were opened are closed. If
 /// the folder has records of a node that this group doesn't have, that is the fault, and no file is
 /// changed. `threads` and `rt` are the same runtime: one is used for threads, the other for files.
-/// `K` names what the files held, and no code can read it.
-pub fn open_journals<K: Contents + Send + Sync, R: Threads + Sync>(
+/// `D` names what the files held: `NodeFile<K>` is such a type for each `K`.
+pub fn open_journals<D: NodeDisk + Send, R: Threads + Sync>(
     threads: &R,
     rt: &HostRuntime,
     dir: &str,
     nodes: u8,
-) -> Result<Vec<FileJournal<K>>, FolderFault>
+) -> Result<Vec<Journal<D>>, FolderFault>
     // There is one for each node.
     ensures count { IfOk result (λ journals. vec_len journals ≡ nodes) }
     // Each belongs to the node at its place.
     ensures nodes { IfOk result (λ journals. AreOfNodes (λ j. j.node) journals.items) }
     // A journal that was in its node's files is found with its records. If the database file was
     // empty, the journal has no record.
-    ensures found { IfOk result (λ journals. AreFoundIn ⟦<FileJournal<K> as Stable>⟧
-        (held_by K.First.Start K.Second.Start K.Third.Start K.Fourth.Start K.Fifth.Start
-        K.Sixth.Start K.Seventh.Start) journals.items) }
+    ensures found { IfOk result
+        (λ journals. AreFoundIn ⟦<Journal<D> as Stable>⟧ D.NodeDisk.held journals.items) }
     // A fault is one of opening a journal, or it says that there are records of a node that the
     // group doesn't have.
     ensures fault { IfErr result IsOfOpening }
 {
     match check_foreign_journals(rt, dir, nodes) {
-        None => open_in_folder::<K, R>(threads, rt, dir, nodes),
+        None => open_in_folder::<D, R>(threads, rt, dir, nodes),
         Some(fault) => Err(fault),
     }
 }
@@ -77,7 +77,7 @@ pub fn open_journals<K: Contents + Send + Sync, R: Threads + Sync>(
 /// Closes the journals that `open_journals` opened, so that only one file is left of each. A
 /// journal that can't be closed has lost nothing, and neither has one whose name leads to another
 /// file by now. The next opening reads what is in the log.
-pub fn close_journals<K: Contents>(rt: &HostRuntime, dir: &str, journals: Vec<FileJournal<K>>) {
+pub fn close_journals<D: Disk + Drop>(rt: &HostRuntime, dir: &str, journals: Vec<Journal<D>>) {
     let folder = Folder {
         rt,
         dir,

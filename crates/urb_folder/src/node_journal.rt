@@ -2,11 +2,12 @@
 
 ghost use Rattle.std.specs.Prelude.{◌≡◌, suc, false, length, IfErr, IfOk, IfSome};
 ghost use Rattle.urb_stable.specs.Storing.{is_place};
-ghost use Rattle.urb_sqlite.specs.Nodes.{IsFoundIn, held_by};
+ghost use Rattle.urb_sqlite.specs.Nodes.{IsFoundIn};
 ghost use Rattle.urb_folder.specs.internal.OpenedJournals.{OpensIn};
 ghost use Rattle.urb_folder.specs.internal.OpenedPlaces.{AreOpened};
 
 use crate::journal::{FileId, Journal};
+use sqlite::FileStore;
 use sqlite_disk::Disk;
 use std::fs;
 use std::fs::Metadata;
@@ -14,14 +15,11 @@ use std::os::unix::fs::MetadataExt;
 use std::rt::HostRuntime;
 use std::sync::Arc;
 use urb_names::NodeId;
-use urb_sqlite::{Contents, MessagePool, NodeFile, NodeJournal, close_node_in, open_node_in};
+use urb_sqlite::{MessagePool, NodeDisk, SqlStable, close_node_in, open_node_in};
 use urb_stable::{Stable, StoreFault};
 
-/// A node's journal in its folder. `K` names what the files of all nodes held.
-pub type FileJournal<K> = Journal<NodeFile<K>>;
-
 /// The result of looking for a journal: nothing, or the outcome of opening the one that is there.
-pub(crate) type Found<K> = Option<Result<FileJournal<K>, StoreFault>>;
+pub(crate) type Found<D> = Option<Result<Journal<D>, StoreFault>>;
 
 /// A folder with the journals of a group. That of node P is `node-P.db`, and its place is P - 1. If
 /// there is a pool, the journals that are opened share their messages with it.
@@ -56,7 +54,10 @@ fn file_of(rt: &HostRuntime, dir: &str, node: NodeId) -> Option<FileId> {
 }
 
 // The same journal. If there is a pool, it shares its messages with it.
-fn sharing<K: Contents>(journal: NodeJournal<K>, pool: &Option<Arc<MessagePool>>) -> NodeJournal<K>
+fn sharing<D: Disk + Drop>(
+    journal: SqlStable<FileStore<D>>,
+    pool: &Option<Arc<MessagePool>>,
+) -> SqlStable<FileStore<D>>
     ensures { result ≡ journal }
 {
     let Some(pool) = pool else {
@@ -70,27 +71,25 @@ fn sharing<K: Contents>(journal: NodeJournal<K>, pool: &Option<Arc<MessagePool>>
     journal
 }
 
-// Opens the journal of the node at this place. `K` names the contents of all files.
-pub(crate) fn open_at<K: Contents>(
+// Opens the journal of the node at this place.
+pub(crate) fn open_at<D: NodeDisk>(
     rt: &HostRuntime,
     dir: &str,
     pool: &Option<Arc<MessagePool>>,
     place: usize,
-) -> Result<FileJournal<K>, StoreFault>
+) -> Result<Journal<D>, StoreFault>
     ensures fault { IfErr result (λ fault. is_place fault ≡ false) }
     ensures node { IfOk result (λ j. j.node ≡ suc place) }
     // A journal that was in this node's files is found with its records. If the database file was
     // empty, the journal has no record.
-    ensures found { IfOk result (λ j. IsFoundIn
-        (held_by K.First.Start K.Second.Start K.Third.Start K.Fourth.Start K.Fifth.Start
-        K.Sixth.Start K.Seventh.Start (suc place))
-        (⟦<FileJournal<K> as Stable>⟧.is_clean j) (⟦<FileJournal<K> as Stable>⟧.is_honest j)
-        (⟦<FileJournal<K> as Stable>⟧.certain j)) }
+    ensures found { IfOk result (λ j. IsFoundIn (D.NodeDisk.held (suc place))
+        (⟦<Journal<D> as Stable>⟧.is_clean j) (⟦<Journal<D> as Stable>⟧.is_honest j)
+        (⟦<Journal<D> as Stable>⟧.certain j)) }
 {
     let Some(node) = node_at(place) else {
         return Err(StoreFault::Device);
     };
-    let journal = sharing::<K>(open_node_in::<K>(rt, dir, node)?, pool);
+    let journal = sharing::<D>(open_node_in::<D>(rt, dir, node)?, pool);
     match file_of(rt, dir, node) {
         Some(file) => Ok(Journal {
             node,
@@ -108,33 +107,29 @@ pub(crate) fn length_at(folder: &Folder<'_>, place: usize) -> Option<usize> {
 }
 
 /// Opens the journal of the node at this place if it exists. It makes nothing.
-pub(crate) fn find_at<K: Contents>(folder: &Folder<'_>, place: usize) -> Found<K>
-    ensures { IfSome result (OpensIn ⟦<NodeFile<K> as Disk>⟧ (held_by K.First.Start K.Second.Start
-        K.Third.Start K.Fourth.Start K.Fifth.Start K.Sixth.Start K.Seventh.Start) place) }
+pub(crate) fn find_at<D: NodeDisk>(folder: &Folder<'_>, place: usize) -> Found<D>
+    ensures { IfSome result (OpensIn D.Disk D.NodeDisk.held place) }
 {
     let _file = file_of(folder.rt, folder.dir, node_at(place)?)?;
-    Some(open_at::<K>(folder.rt, folder.dir, folder.pool, place))
+    Some(open_at::<D>(folder.rt, folder.dir, folder.pool, place))
 }
 
 /// Makes the missing journal at the place after the given ones. All of these have to be open,
 /// because nothing is made after a place that was refused.
-pub(crate) fn make_next<K: Contents>(
+pub(crate) fn make_next<D: NodeDisk>(
     folder: &Folder<'_>,
-    earlier: &[FileJournal<K>],
-) -> Result<FileJournal<K>, StoreFault>
-    requires { AreOpened (OpensIn ⟦<NodeFile<K> as Disk>⟧ (held_by K.First.Start K.Second.Start
-        K.Third.Start K.Fourth.Start K.Fifth.Start K.Sixth.Start K.Seventh.Start)) (length
-        earlier.now) earlier.now }
-    ensures { OpensIn ⟦<NodeFile<K> as Disk>⟧ (held_by K.First.Start K.Second.Start K.Third.Start
-        K.Fourth.Start K.Fifth.Start K.Sixth.Start K.Seventh.Start) (length earlier.now) result }
+    earlier: &[Journal<D>],
+) -> Result<Journal<D>, StoreFault>
+    requires { AreOpened (OpensIn D.Disk D.NodeDisk.held) (length earlier.now) earlier.now }
+    ensures { OpensIn D.Disk D.NodeDisk.held (length earlier.now) result }
 {
-    open_at::<K>(folder.rt, folder.dir, folder.pool, earlier.len())
+    open_at::<D>(folder.rt, folder.dir, folder.pool, earlier.len())
 }
 
 /// Closes a journal by its name, so only if the name still leads to the journal's file. Otherwise
 /// the log beside the file of that name belongs to another journal. A journal that is dropped loses
 /// nothing.
-pub(crate) fn close_journal<K: Contents>(folder: &Folder<'_>, journal: FileJournal<K>) {
+pub(crate) fn close_journal<D: Disk + Drop>(folder: &Folder<'_>, journal: Journal<D>) {
     let (node, file, journal) = journal.into_parts();
     if file_of(folder.rt, folder.dir, node) == Some(file) {
         let _ = close_node_in(folder.rt, folder.dir, node, journal);

@@ -4,18 +4,16 @@
 ghost use Rattle.std.specs.Prelude.{◌≡◌, ◌⊎◌, ◌<◌, ◌≤◌, ◌/◌, IfErr, IfOk, IfSome, MatchOption};
 ghost use Rattle.std.specs.Prelude.{length, vec_capacity, vec_len};
 ghost use Rattle.urb_stable.specs.declared.stable.StoreFault.{StoreFault as Fault};
-ghost use Rattle.urb_sqlite.specs.Nodes.{held_by};
 ghost use Rattle.urb_folder.specs.internal.OpenedJournals.{OpensIn};
 ghost use Rattle.urb_folder.specs.internal.OpenedPlaces.{AreFound, AreOpened, FailsAtFirst};
 
-use crate::node_journal::{
-    FileJournal, Folder, Found, close_journal, find_at, length_at, make_next,
-};
+use crate::journal::Journal;
+use crate::node_journal::{Folder, Found, close_journal, find_at, length_at, make_next};
 use sqlite_disk::Disk;
 use std::alloc::Global;
 use std::thread;
 use std::thread::Threads;
-use urb_sqlite::{Contents, NodeFile};
+use urb_sqlite::NodeDisk;
 use urb_stable::StoreFault;
 
 /// How many bytes several database files may have in all if they are opened at the same time. An
@@ -60,10 +58,12 @@ fn count_threads(folder: &Folder<'_>, count: usize) -> usize
 }
 
 // A list with nothing found yet at each of `count` places, or `None` if memory was refused.
-fn prepare_places<K: Contents>(alloc: Global, count: usize) -> Option<Vec<Found<K>>>
+fn prepare_places<D: Disk + Drop>(alloc: Global, count: usize) -> Option<Vec<Found<D>>>
     ensures { IfSome result (λ found. vec_len found ≡ count) }
 {
-    let mut found = Vec::with_capacity(alloc, count).ok()?;
+    let Ok(mut found) = Vec::with_capacity(alloc, count) else {
+        return None;
+    };
     for _ in 0..count {
         found.push_reserved(None);
     }
@@ -72,42 +72,35 @@ fn prepare_places<K: Contents>(alloc: Global, count: usize) -> Option<Vec<Found<
 
 // Looks at each place. It looks at several at the same time if their files are short enough and if
 // threads can be made.
-fn find_each<K: Contents + Send + Sync, R: Threads + Sync>(
+fn find_each<D: NodeDisk + Send, R: Threads + Sync>(
     rt: &R,
     folder: Folder<'_>,
-    found: &mut [Found<K>],
+    found: &mut [Found<D>],
 )
     ensures count { length found.new ≡ length found.old }
-    ensures each { AreFound (OpensIn ⟦<NodeFile<K> as Disk>⟧ (held_by K.First.Start K.Second.Start
-        K.Third.Start K.Fourth.Start K.Fifth.Start K.Sixth.Start K.Seventh.Start)) found.new }
+    ensures each { AreFound (OpensIn D.Disk D.NodeDisk.held) found.new }
 {
     let count = found.len();
     if count == 0 {
         return;
     }
-    let find_one = move |place: usize, it: &mut Found<K>|
-        ensures { IfSome it.exit.now (OpensIn _ (held_by K.First.Start K.Second.Start K.Third.Start
-            K.Fourth.Start K.Fifth.Start K.Sixth.Start K.Seventh.Start) place) }
+    let find_one = move |place: usize, it: &mut Found<D>|
+        ensures { IfSome it.exit.now (OpensIn _ D.NodeDisk.held place) }
     {
-        *it = find_at::<K>(&folder, place);
+        *it = find_at::<D>(&folder, place);
     };
     thread::for_each_mut(rt, found, count_threads(&folder, count), &find_one);
 }
 
 // Opens the place after these. It takes what was found there, or makes it if nothing was found.
-fn open_next<K: Contents>(
+fn open_next<D: NodeDisk>(
     folder: &Folder<'_>,
-    found: Found<K>,
-    earlier: &[FileJournal<K>],
-) -> Result<FileJournal<K>, StoreFault>
-    requires earlier { AreOpened (OpensIn ⟦<NodeFile<K> as Disk>⟧ (held_by K.First.Start
-        K.Second.Start K.Third.Start K.Fourth.Start K.Fifth.Start K.Sixth.Start K.Seventh.Start))
-        (length earlier.now) earlier.now }
-    requires found { IfSome found (OpensIn ⟦<NodeFile<K> as Disk>⟧ (held_by K.First.Start
-        K.Second.Start K.Third.Start K.Fourth.Start K.Fifth.Start K.Sixth.Start K.Seventh.Start)
-        (length earlier.now)) }
-    ensures { OpensIn ⟦<NodeFile<K> as Disk>⟧ (held_by K.First.Start K.Second.Start K.Third.Start
-        K.Fourth.Start K.Fifth.Start K.Sixth.Start K.Seventh.Start) (length earlier.now) result }
+    found: Found<D>,
+    earlier: &[Journal<D>],
+) -> Result<Journal<D>, StoreFault>
+    requires earlier { AreOpened (OpensIn D.Disk D.NodeDisk.held) (length earlier.now) earlier.now }
+    requires found { IfSome found (OpensIn D.Disk D.NodeDisk.held (length earlier.now)) }
+    ensures { OpensIn D.Disk D.NodeDisk.held (length earlier.now) result }
 {
     match found {
         Some(outcome) => outcome,
@@ -117,19 +110,16 @@ fn open_next<K: Contents>(
 
 // Opens all places in their order, up to the first fault, and returns that fault. What was found
 // after it stays in `found`.
-fn open_in_order<K: Contents>(
+fn open_in_order<D: NodeDisk>(
     folder: &Folder<'_>,
-    found: &mut [Found<K>],
-    all: &mut Vec<FileJournal<K>>,
+    found: &mut [Found<D>],
+    all: &mut Vec<Journal<D>>,
 ) -> Option<StoreFault>
-    requires found { AreFound (OpensIn ⟦<NodeFile<K> as Disk>⟧ (held_by K.First.Start K.Second.Start
-        K.Third.Start K.Fourth.Start K.Fifth.Start K.Sixth.Start K.Seventh.Start)) found.old }
+    requires found { AreFound (OpensIn D.Disk D.NodeDisk.held) found.old }
     requires room { (vec_len all.old ≡ 0) × (length found.old ≤ vec_capacity all.old) }
-    ensures { MatchOption result (AreOpened (OpensIn ⟦<NodeFile<K> as Disk>⟧ (held_by K.First.Start
-        K.Second.Start K.Third.Start K.Fourth.Start K.Fifth.Start K.Sixth.Start K.Seventh.Start))
-        (length found.old) all.new.items) (FailsAtFirst (OpensIn ⟦<NodeFile<K> as Disk>⟧ (held_by
-        K.First.Start K.Second.Start K.Third.Start K.Fourth.Start K.Fifth.Start K.Sixth.Start
-        K.Seventh.Start)) (length found.old)) }
+    ensures { MatchOption result
+        (AreOpened (OpensIn D.Disk D.NodeDisk.held) (length found.old) all.new.items)
+        (FailsAtFirst (OpensIn D.Disk D.NodeDisk.held) (length found.old)) }
 {
     for place in 0..found.len() {
         let it = found[place].take();
@@ -142,7 +132,7 @@ fn open_in_order<K: Contents>(
 }
 
 // Closes everything that was found.
-fn close_found<K: Contents>(folder: &Folder<'_>, found: Vec<Found<K>>) {
+fn close_found<D: Disk + Drop>(folder: &Folder<'_>, found: Vec<Found<D>>) {
     for it in found {
         if let Some(Ok(it)) = it {
             close_journal(folder, it);
@@ -154,18 +144,16 @@ fn close_found<K: Contents>(folder: &Folder<'_>, found: Vec<Found<K>>) {
 /// files are long, and then the missing ones, in order. The fault is that of the first place that is
 /// refused, or that memory for the list was refused. After a fault, nothing was made after that
 /// place, and everything that was opened is closed.
-pub(crate) fn open_all<K: Contents + Send + Sync, R: Threads + Sync>(
+pub(crate) fn open_all<D: NodeDisk + Send, R: Threads + Sync>(
     rt: &R,
     alloc: Global,
     folder: Folder<'_>,
     count: usize,
-) -> Result<Vec<FileJournal<K>>, StoreFault>
-    ensures all { IfOk result (λ all. AreOpened (OpensIn ⟦<NodeFile<K> as Disk>⟧ (held_by
-        K.First.Start K.Second.Start K.Third.Start K.Fourth.Start K.Fifth.Start K.Sixth.Start
-        K.Seventh.Start)) count all.items) }
-    ensures fault { IfErr result (λ fault. FailsAtFirst (OpensIn ⟦<NodeFile<K> as Disk>⟧ (held_by
-        K.First.Start K.Second.Start K.Third.Start K.Fourth.Start K.Fifth.Start K.Sixth.Start
-        K.Seventh.Start)) count fault ⊎ (fault ≡ Fault.NoMemory)) }
+) -> Result<Vec<Journal<D>>, StoreFault>
+    ensures all { IfOk result
+        (λ all. AreOpened (OpensIn D.Disk D.NodeDisk.held) count all.items) }
+    ensures fault { IfErr result (λ fault.
+        FailsAtFirst (OpensIn D.Disk D.NodeDisk.held) count fault ⊎ (fault ≡ Fault.NoMemory)) }
 {
     let Ok(mut all) = Vec::with_capacity(alloc, count) else {
         return Err(StoreFault::NoMemory);
@@ -185,7 +173,7 @@ pub(crate) fn open_all<K: Contents + Send + Sync, R: Threads + Sync>(
 }
 
 /// Closes everything that `open_all` opened.
-pub(crate) fn close_all<K: Contents>(folder: &Folder<'_>, all: Vec<FileJournal<K>>) {
+pub(crate) fn close_all<D: Disk + Drop>(folder: &Folder<'_>, all: Vec<Journal<D>>) {
     for it in all {
         close_journal(folder, it);
     }

@@ -1,12 +1,13 @@
 -- What an opening finds, depending on what the files held, and one more journal after others.
-use Rattle.std.proofs.Common.{List, Some, [], inl, inr, length, slice_get}
-use Rattle.std.proofs.Common.{subst, suc, zero, ℕ, ◌++◌, ◌∷◌, ◌≡◌}
+use Rattle.std.proofs.Common.{IsSome, List, None, Option, Some, SomeIff, [], arith, inl, inr, length}
+use Rattle.std.proofs.Common.{refl, slice_get, subst, suc, zero, ℕ, ◌++◌, ◌+◌, ◌<◌, ◌∷◌, ◌≡◌, ◌≤◌}
 use Rattle.sqlite_trees.specs.Tree.{Trees}
 use Rattle.sqlite_wal.specs.Recovery.{Image}
 use Rattle.sqlite_pool.specs.Opening.{IsBlankFile}
 use Rattle.sqlite.specs.Files.{HoldsDatabase, IsNothing}
 use Rattle.sqlite.specs.Start.{FindsIn}
 use Rattle.sqlite.specs.State.{State, HasCleanDisk, IsLive, Opens}
+use Rattle.urb_names.specs.declared.limits.TheConstants.{MAX_NODES}
 use Rattle.urb_stable.specs.Entries.{Entry}
 use Rattle.urb_sqlite.specs.Journal.{journal_name, second_name, Lacks}
 use Rattle.urb_sqlite.specs.Nodes.{IsFoundIf, IsFoundIn}
@@ -105,3 +106,14 @@ one_more before after next clean honest records held node grown counted earlier 
     before next earlier
     (subst (λ n. IsFoundIn (held n) (clean next) (honest next) (records next)) counted last)
     i y (subst (λ xs. slice_get xs i ≡ Some y) grown got)
+
+-- after some of a group's nodes there is a next one
+pub next_node : (node : Option ℕ) (at n : ℕ)
+    → SomeIff node ((0 < at + 1) × (at + 1 ≤ MAX_NODES)) (at + 1) → at < n → n ≤ MAX_NODES
+    → IsSome node
+next_node None at n is less most = absurd (is (omega (arith), omega (arith, less, most)))
+next_node (Some node) at n is less most = refl
+
+-- a loop over `end` places that has ended has made as many
+pub made_all : (count at end n : ℕ) → count ≡ at → end ≤ at → at ≤ end → end ≡ n → count ≡ n
+made_all count at end n made ended within same = omega (arith, made, ended, within, same)

@@ -3,7 +3,7 @@
 //! It is a `Stable` of `urb_stable`.
 //!
 //! ```text
-//! let journal = open_node::<K>(rt, path, node)?;        // makes absent tables, and reads all rows
+//! let journal = open_node::<D>(rt, path, node)?;        // makes absent tables, and reads all rows
 //! let receipt = draft.keep(&mut journal)?;              // one INSERT, one commit, one sync
 //! close_node(rt, path, journal)?;                       // one file is left
 //! ```
@@ -31,7 +31,7 @@ mod table_shape;
 pub use journal::SqlStable;
 pub use journal_close::Copied;
 pub use message_pool::MessagePool;
-pub use node_file::{Contents, NodeFile, Unnamed};
+pub use node_file::{Contents, NodeDisk, NodeFile, Unnamed};
 pub use node_journals::{
     NodeJournal, close_node, close_node_in, close_nodes, open_node, open_node_in, open_nodes,
 };

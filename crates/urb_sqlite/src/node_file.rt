@@ -1,13 +1,39 @@
 //! The files of a group's nodes as one type, although they held different bytes. Each variant names
 //! what one node's files held.
 
-ghost use Rattle.std.specs.Prelude.{◌+◌, ◌<◌, true, [], refl};
+ghost use Rattle.std.specs.Prelude.{◌≡◌, ◌+◌, ◌<◌, ℕ, true, false, [], refl, IfErr, IfOk, IsTrue};
 ghost use Rattle.std.proofs.Common.{inl};
+ghost use Rattle.sqlite.specs.Files.{image_of};
+ghost use Rattle.sqlite_wal.specs.Files.{image_at};
+ghost use Rattle.sqlite_wal.specs.Recovery.{Image};
+ghost use Rattle.urb_stable.specs.Storing.{is_place};
+ghost use Rattle.urb_sqlite.specs.Nodes.{held_by};
 
-use sqlite::{FileFrom, Start};
+use sqlite::{FileFrom, Files, Start};
 use sqlite_disk::{Disk, Tally};
+use sqlite_std_file::OpenError;
 use std::io;
+use std::io::ErrorKind;
 use std::marker::Brand;
+use std::rt::HostRuntime;
+use urb_names::{MAX_NODES, NodeId};
+use urb_stable::StoreFault;
+
+/// The files of a group's nodes, as one type. What is proved for all `D: NodeDisk` is proved for
+/// all contents of the files, because `NodeFile<K>` is such a type for each `K: Contents`.
+pub trait NodeDisk: Disk + Drop {
+    /// What the log and the database file of each node held when they were opened, by the node's
+    /// number. Under one type the files of a node are opened once.
+    ghost held: { ℕ → Image };
+
+    /// Opens the log and the database file of a node at this path, and makes them if they are
+    /// missing. `NoMemory`: memory was refused. `Device`: they can't be opened.
+    fn open_files(rt: &HostRuntime, path: &str, node: NodeId) -> Result<Files<Self>, StoreFault>
+        ensures fault { IfErr result (λ e. is_place e ≡ false) }
+        ensures usable { IfOk result (λ files. IsTrue (Self.Disk.is_usable files.log)
+            × IsTrue (Self.Disk.is_usable files.db)) }
+        ensures held { IfOk result (λ files. image_of Self.Disk files ≡ held node) };
+}
 
 /// What the files of each node's journal held when they were opened. No code can read it. What is
 /// proved for `K: Contents` is proved for all contents, and so also for what the files really held.
@@ -270,5 +296,59 @@ impl<K: Contents> Disk for NodeFile<K> {
 
     fn sync(&mut self) -> io::Result<()> {
         on_file!(self, file => file.sync())
+    }
+}
+
+/// Opens the files at this path. `S` stands for what they hold.
+fn open_files_at<S: Start + Default>(
+    rt: &HostRuntime,
+    path: &str,
+) -> Result<Files<FileFrom<S>>, StoreFault>
+    ensures fault { IfErr result (λ e. is_place e ≡ false) }
+    ensures usable { IfOk result (λ files. IsTrue (⟦<FileFrom<S> as Disk>⟧.is_usable files.log)
+        × IsTrue (⟦<FileFrom<S> as Disk>⟧.is_usable files.db)) }
+    ensures held { IfOk result
+        (λ files. image_of ⟦<FileFrom<S> as Disk>⟧ files ≡ image_at S.Start) }
+{
+    match sqlite_std_file::open(rt, path, S::default()) {
+        Ok(files) => Ok(files),
+        Err(OpenError::OutOfMemory) => Err(StoreFault::NoMemory),
+        Err(OpenError::Io(error)) if error.kind() == ErrorKind::OutOfMemory => {
+            Err(StoreFault::NoMemory)
+        }
+        Err(_) => Err(StoreFault::Device),
+    }
+}
+
+// `Contents` has a type for each of seven nodes.
+const _: () = prove!(MAX_NODES <= 7);
+
+/// Opens the files at this path as those of the node with this variant.
+macro_rules! open_as {
+    ($variant:ident, $rt:expr, $path:expr) => {
+        match open_files_at::<K::$variant>($rt, $path) {
+            Ok(files) => Ok(Files {
+                log: NodeFile::$variant(files.log),
+                db: NodeFile::$variant(files.db),
+            }),
+            Err(fault) => Err(fault),
+        }
+    };
+}
+
+impl<K: Contents> NodeDisk for NodeFile<K> {
+    ghost held = { held_by K.First.Start K.Second.Start K.Third.Start K.Fourth.Start K.Fifth.Start
+        K.Sixth.Start K.Seventh.Start };
+
+    fn open_files(rt: &HostRuntime, path: &str, node: NodeId) -> Result<Files<Self>, StoreFault> {
+        match node.number() {
+            1 => open_as!(First, rt, path),
+            2 => open_as!(Second, rt, path),
+            3 => open_as!(Third, rt, path),
+            4 => open_as!(Fourth, rt, path),
+            5 => open_as!(Fifth, rt, path),
+            6 => open_as!(Sixth, rt, path),
+            _ => open_as!(Seventh, rt, path),
+        }
     }
 }

@@ -1,92 +1,27 @@
 //! The journals of a group's nodes in one list. Each is found with what its files held.
 
 ghost use Rattle.std.specs.Prelude.{◌≡◌, ◌⊎◌, length, false, IfOk, IfErr, IsTrue};
-ghost use Rattle.sqlite.specs.Files.{image_of};
-ghost use Rattle.sqlite_wal.specs.Files.{image_at};
 ghost use Rattle.sqlite_wal.specs.Format.{be32};
 ghost use Rattle.sqlite_wal.specs.PageSize.{size_in_file};
 ghost use Rattle.sqlite_wal.specs.Reads.{AreClean, OnlyReads};
 ghost use Rattle.sqlite_wal.specs.Recovery.{IsIgnored};
 ghost use Rattle.urb_stable.specs.Storing.{is_place};
-ghost use Rattle.urb_sqlite.specs.Nodes.{held_by, AreFoundIn, IsFoundIn};
+ghost use Rattle.urb_sqlite.specs.Nodes.{AreFoundIn, IsFoundIn};
 ghost use Rattle.urb_sqlite.specs.internal.Nodes.{AreLogPages};
 
 use crate::journal_close::close_and_remove_log;
-use crate::{Contents, NodeFile, SqlStable};
-use sqlite::{FileFrom, FileStore, Files, Options, Start};
+use crate::{NodeDisk, SqlStable};
+use sqlite::{FileStore, Files, Options};
 use sqlite_disk::Disk;
-use sqlite_std_file::OpenError;
 use sqlite_wal::probe_page_size;
 use std::hash::{BuildHasher, RandomState};
-use std::io::ErrorKind;
 use std::rt::HostRuntime;
-use urb_names::{Config, MAX_NODES, NodeId};
+use urb_names::{Config, NodeId};
 use urb_stable::{Stable, StoreFault};
 
 /// The journal of a node with any number. The journals of all nodes have this one type, so they can
 /// be in one list.
-pub type NodeJournal<K> = SqlStable<FileStore<NodeFile<K>>>;
-
-/// Opens the files at this path. `S` stands for what they hold.
-fn open_files_at<S: Start + Default>(
-    rt: &HostRuntime,
-    path: &str,
-) -> Result<Files<FileFrom<S>>, StoreFault>
-    ensures fault { IfErr result (λ e. is_place e ≡ false) }
-    ensures usable { IfOk result (λ files. IsTrue (⟦<FileFrom<S> as Disk>⟧.is_usable files.log)
-        × IsTrue (⟦<FileFrom<S> as Disk>⟧.is_usable files.db)) }
-    ensures held { IfOk result
-        (λ files. image_of ⟦<FileFrom<S> as Disk>⟧ files ≡ image_at S.Start) }
-{
-    match sqlite_std_file::open(rt, path, S::default()) {
-        Ok(files) => Ok(files),
-        Err(OpenError::OutOfMemory) => Err(StoreFault::NoMemory),
-        Err(OpenError::Io(error)) if error.kind() == ErrorKind::OutOfMemory => {
-            Err(StoreFault::NoMemory)
-        }
-        Err(_) => Err(StoreFault::Device),
-    }
-}
-
-// `Contents` has a type for each of seven nodes.
-const _: () = prove!(MAX_NODES <= 7);
-
-/// Opens the files at this path as those of the node with this variant.
-macro_rules! open_as {
-    ($variant:ident, $rt:expr, $path:expr) => {
-        match open_files_at::<K::$variant>($rt, $path) {
-            Ok(files) => Ok(Files {
-                log: NodeFile::$variant(files.log),
-                db: NodeFile::$variant(files.db),
-            }),
-            Err(fault) => Err(fault),
-        }
-    };
-}
-
-/// Opens the files at this path, which belong to this node.
-fn open_node_files<K: Contents>(
-    rt: &HostRuntime,
-    path: &str,
-    node: NodeId,
-) -> Result<Files<NodeFile<K>>, StoreFault>
-    ensures fault { IfErr result (λ e. is_place e ≡ false) }
-    ensures usable { IfOk result (λ files. IsTrue (⟦<NodeFile<K> as Disk>⟧.is_usable files.log)
-        × IsTrue (⟦<NodeFile<K> as Disk>⟧.is_usable files.db)) }
-    ensures held { IfOk result (λ files. image_of ⟦<NodeFile<K> as Disk>⟧ files
-        ≡ held_by K.First.Start K.Second.Start K.Third.Start K.Fourth.Start K.Fifth.Start
-        K.Sixth.Start K.Seventh.Start node) }
-{
-    match node.number() {
-        1 => open_as!(First, rt, path),
-        2 => open_as!(Second, rt, path),
-        3 => open_as!(Third, rt, path),
-        4 => open_as!(Fourth, rt, path),
-        5 => open_as!(Fifth, rt, path),
-        6 => open_as!(Sixth, rt, path),
-        _ => open_as!(Seventh, rt, path),
-    }
-}
+pub type NodeJournal<D> = SqlStable<FileStore<D>>;
 
 /// A node's log is copied into its database file when the log's pages have this number of bytes.
 /// That is 16,000 pages of a new journal, and 4,000 of an old one, whose pages have 4,096 bytes. A
@@ -122,21 +57,19 @@ fn log_pages<D: Disk>(files: &mut Files<D>) -> Result<usize, StoreFault>
     }
 }
 
-/// Opens the journal of a node at this path, as `SqlStable::open` does. `K` stands for what the
-/// node's files hold. It is for a program that opens one journal for each node, and continues with
-/// what it stored before.
-pub fn open_node<K: Contents>(
+/// Opens the journal of a node at this path, as `SqlStable::open` does. It is for a program that
+/// opens one journal for each node, and continues with what it stored before.
+pub fn open_node<D: NodeDisk>(
     rt: &HostRuntime,
     path: &str,
     node: NodeId,
-) -> Result<NodeJournal<K>, StoreFault>
+) -> Result<NodeJournal<D>, StoreFault>
     ensures fault { IfErr result (λ e. is_place e ≡ false) }
     // A journal that was in the node's files is found with its records. If the database file was
     // empty, the journal has none.
-    ensures found { IfOk result (λ j. IsFoundIn
-        (held_by K.First.Start K.Second.Start K.Third.Start K.Fourth.Start K.Fifth.Start
-        K.Sixth.Start K.Seventh.Start node) (⟦<NodeJournal<K> as Stable>⟧.is_clean j)
-        (⟦<NodeJournal<K> as Stable>⟧.is_honest j) (⟦<NodeJournal<K> as Stable>⟧.certain j)) }
+    ensures found { IfOk result (λ j. IsFoundIn (D.NodeDisk.held node)
+        (⟦<NodeJournal<D> as Stable>⟧.is_clean j) (⟦<NodeJournal<D> as Stable>⟧.is_honest j)
+        (⟦<NodeJournal<D> as Stable>⟧.certain j)) }
 {
     // SQLite doesn't take these as names of files.
     if path == ":memory:" || path.starts_with("file:") {
@@ -146,7 +79,7 @@ pub fn open_node<K: Contents>(
         return Err(StoreFault::Device);
     };
     let mut options = Options::new(random.hash_one(&0u8));
-    let mut files = open_node_files::<K>(rt, path, node)?;
+    let mut files = D::open_files(rt, path, node)?;
     options.checkpoint_frames = log_pages(&mut files)?;
     SqlStable::open_files(rt.alloc(), files, options)
 }
@@ -164,16 +97,15 @@ fn prefix_of(directory: &str) -> &'static str {
 /// Opens the journal of one node in this directory, `node-P.db`, as `open_node` does. It is for a
 /// program that opens the journals of its nodes in parallel. `open_nodes` opens them one after the
 /// other.
-pub fn open_node_in<K: Contents>(
+pub fn open_node_in<D: NodeDisk>(
     rt: &HostRuntime,
     directory: &str,
     node: NodeId,
-) -> Result<NodeJournal<K>, StoreFault>
+) -> Result<NodeJournal<D>, StoreFault>
     ensures fault { IfErr result (λ e. is_place e ≡ false) }
-    ensures found { IfOk result (λ j. IsFoundIn
-        (held_by K.First.Start K.Second.Start K.Third.Start K.Fourth.Start K.Fifth.Start
-        K.Sixth.Start K.Seventh.Start node) (⟦<NodeJournal<K> as Stable>⟧.is_clean j)
-        (⟦<NodeJournal<K> as Stable>⟧.is_honest j) (⟦<NodeJournal<K> as Stable>⟧.certain j)) }
+    ensures found { IfOk result (λ j. IsFoundIn (D.NodeDisk.held node)
+        (⟦<NodeJournal<D> as Stable>⟧.is_clean j) (⟦<NodeJournal<D> as Stable>⟧.is_honest j)
+        (⟦<NodeJournal<D> as Stable>⟧.certain j)) }
 {
     let prefix = prefix_of(directory);
     let path = format!(in rt.alloc(); "{prefix}{directory}/node-{}.db", node.number())?;
@@ -183,19 +115,18 @@ pub fn open_node_in<K: Contents>(
 /// Opens the journals of all nodes of a group, `node-1.db`, `node-2.db` and so on, in this
 /// directory, which has to exist. It is for a program's start. The first fault ends it and is
 /// returned with its node. Then the journals that were open are closed.
-pub fn open_nodes<K: Contents>(
+pub fn open_nodes<D: NodeDisk>(
     rt: &HostRuntime,
     directory: &str,
     config: Config,
-) -> Result<Vec<NodeJournal<K>>, (NodeId, StoreFault)>
+) -> Result<Vec<NodeJournal<D>>, (NodeId, StoreFault)>
     ensures fault { IfErr result (λ e. is_place e.1 ≡ false) }
     // There is one for each node, in order.
     ensures count { IfOk result (λ journals. length journals.items ≡ config.n) }
     // A journal that was in a node's files is found with its records. If the database file was
     // empty, the journal has none.
-    ensures found { IfOk result (λ journals. AreFoundIn ⟦<NodeJournal<K> as Stable>⟧
-        (held_by K.First.Start K.Second.Start K.Third.Start K.Fourth.Start K.Fifth.Start
-        K.Sixth.Start K.Seventh.Start) journals.items) }
+    ensures found { IfOk result (λ journals. AreFoundIn ⟦<NodeJournal<D> as Stable>⟧
+        D.NodeDisk.held journals.items) }
 {
     let n = config.n();
     let Ok(mut journals) = Vec::with_capacity(rt.alloc(), usize::from(n)) else {
@@ -216,10 +147,10 @@ pub fn open_nodes<K: Contents>(
 
 /// Closes the journal that was opened at this path, as `SqlStable::close_at` does. It is for a
 /// program that ends.
-pub fn close_node<K: Contents>(
+pub fn close_node<D: Disk + Drop>(
     rt: &HostRuntime,
     path: &str,
-    journal: NodeJournal<K>,
+    journal: NodeJournal<D>,
 ) -> Result<(), StoreFault>
     ensures { IfErr result (λ e. (e ≡ StoreFault.NoMemory) ⊎ (e ≡ StoreFault.Device)) }
 {
@@ -227,11 +158,11 @@ pub fn close_node<K: Contents>(
 }
 
 /// Closes the journal of a node in this directory.
-fn close_in<K: Contents>(
+fn close_in<D: Disk + Drop>(
     rt: &HostRuntime,
     directory: &str,
     number: usize,
-    journal: NodeJournal<K>,
+    journal: NodeJournal<D>,
 ) -> Result<(), StoreFault>
     ensures { IfErr result (λ e. (e ≡ StoreFault.NoMemory) ⊎ (e ≡ StoreFault.Device)) }
 {
@@ -242,11 +173,11 @@ fn close_in<K: Contents>(
 
 /// Closes the journal of one node that `open_node_in` opened in this directory, as `close_node`
 /// does. It is for a program that opened some journals but not all.
-pub fn close_node_in<K: Contents>(
+pub fn close_node_in<D: Disk + Drop>(
     rt: &HostRuntime,
     directory: &str,
     node: NodeId,
-    journal: NodeJournal<K>,
+    journal: NodeJournal<D>,
 ) -> Result<(), StoreFault>
     ensures { IfErr result (λ e. (e ≡ StoreFault.NoMemory) ⊎ (e ≡ StoreFault.Device)) }
 {
@@ -270,10 +201,10 @@ fn keep_first_fault(
 /// each. It is for a program that ends. If a journal can't be closed, both of its files are left,
 /// and no record is lost. The others are closed nevertheless. Returns the fault of the first node
 /// that has one.
-pub fn close_nodes<K: Contents>(
+pub fn close_nodes<D: Disk + Drop>(
     rt: &HostRuntime,
     directory: &str,
-    journals: Vec<NodeJournal<K>>,
+    journals: Vec<NodeJournal<D>>,
 ) -> Result<(), StoreFault>
     ensures { IfErr result (λ e. (e ≡ StoreFault.NoMemory) ⊎ (e ≡ StoreFault.Device)) }
 {

@@ -5,7 +5,7 @@ use std::marker::Brand;
 use std::process::ExitCode;
 use urb_cli::{Line, parse_line, read_words, report_fault, run_errand};
 use urb_daemon::{Console, Streams, fault_of_folder, report_end, run_journals};
-use urb_folder::{close_journals, open_journals};
+use urb_folder::{NodeFile, close_journals, open_journals};
 
 fn main(rt: HostRuntime) -> ExitCode {
     let _streams = Streams::take(&rt);
@@ -19,7 +19,7 @@ fn main(rt: HostRuntime) -> ExitCode {
         Err(status) => return ExitCode::from(status),
     };
     let (dir, nodes) = (serving.dir, serving.nodes);
-    let journals = match open_journals::<Brand, HostRuntime>(&rt, &rt, dir, nodes) {
+    let journals = match open_journals::<NodeFile<Brand>, HostRuntime>(&rt, &rt, dir, nodes) {
         Ok(journals) => journals,
         Err(why) => return ExitCode::from(report_fault(&rt, fault_of_folder(why))),
     };

@@ -5,7 +5,8 @@ use std::fs;
 use std::marker::Brand;
 use std::rt::HostRuntime;
 use std::test::Fail;
-use urb_folder::{close_journals, open_journals};
+use std::thread::Threads;
+use urb_folder::{FolderFault, Journal, NodeFile, close_journals, open_journals};
 
 const FOLDER: &str = "urbd_folder";
 
@@ -25,10 +26,18 @@ fn is_cleared(rt: &HostRuntime) -> bool {
     fs::create_dir(rt, FOLDER).is_ok()
 }
 
+// Opens the journals of two nodes in the folder.
+fn open_two<R: Threads + Sync>(
+    threads: &R,
+    rt: &HostRuntime,
+) -> Result<Vec<Journal<NodeFile<Brand>>>, FolderFault> {
+    open_journals::<NodeFile<Brand>, R>(threads, rt, FOLDER, 2)
+}
+
 #[test]
 fn of_each_closed_journal_one_file_is_left(rt: HostRuntime) -> Result<(), Fail> {
     assert!(rt; is_cleared(&rt));
-    let Ok(journals) = open_journals::<Brand, HostRuntime>(&rt, &rt, FOLDER, 2) else {
+    let Ok(journals) = open_two(&rt, &rt) else {
         return Err("journals")?;
     };
     let were_open = has_journals(&rt, true);
@@ -42,11 +51,11 @@ fn of_each_closed_journal_one_file_is_left(rt: HostRuntime) -> Result<(), Fail> 
 fn the_logs_of_journals_in_their_place_stay(rt: HostRuntime) -> Result<(), Fail> {
     let _ = fs::remove_dir_all(&rt, AWAY);
     assert!(rt; is_cleared(&rt));
-    let Ok(moved) = open_journals::<Brand, HostRuntime>(&rt, &rt, FOLDER, 2) else {
+    let Ok(moved) = open_two(&rt, &rt) else {
         return Err("journals")?;
     };
     let is_moved = fs::rename(&rt, FOLDER, AWAY).is_ok() && is_cleared(&rt);
-    let Ok(others) = open_journals::<Brand, HostRuntime>(&rt, &rt, FOLDER, 2) else {
+    let Ok(others) = open_two(&rt, &rt) else {
         return Err("others")?;
     };
     close_journals(&rt, FOLDER, moved);

@@ -11,7 +11,7 @@ use std::time::{Clock, Duration};
 use std::{fs, io, thread};
 use urb_cli::{Fault, ServeOptions};
 use urb_daemon::{Console, Host, fault_of_folder, run_journals};
-use urb_folder::{close_journals, open_journals};
+use urb_folder::{NodeFile, close_journals, open_journals};
 use urb_terminal::Terminal;
 
 /// How a group leaves its journals at its end. They are closed, so that only one file is left of
@@ -188,7 +188,7 @@ where
     R: Host + Net<Listener = TcpListener, Stream = TcpStream>,
 {
     let (dir, nodes) = (serving.dir, serving.nodes);
-    let journals = match open_journals::<Brand, R>(threads, rt, dir, nodes) {
+    let journals = match open_journals::<NodeFile<Brand>, R>(threads, rt, dir, nodes) {
         Ok(journals) => journals,
         Err(why) => return Err(fault_of_folder(why)),
     };
@@ -246,7 +246,7 @@ pub fn open_and_leave<R: Threads + Sync>(
     nodes: u8,
     leave: Leave,
 ) -> Result<(), Fault> {
-    let journals = match open_journals::<Brand, R>(threads, rt, folder, nodes) {
+    let journals = match open_journals::<NodeFile<Brand>, R>(threads, rt, folder, nodes) {
         Ok(journals) => journals,
         Err(why) => return Err(fault_of_folder(why)),
     };

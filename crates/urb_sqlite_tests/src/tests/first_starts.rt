@@ -11,7 +11,7 @@ use std::marker::Brand;
 use std::rt::HostRuntime;
 use std::test::Fail;
 use urb_names::NodeId;
-use urb_sqlite::{close_node, open_node};
+use urb_sqlite::{NodeFile, close_node, open_node};
 use urb_stable::StoreFault;
 
 const FOLDER: &str = "urb_sqlite_first";
@@ -214,7 +214,7 @@ const MORE: Kept = (Form::Certificate, 9, Load::Of(b""));
 // Whether node 1's journal opens at this position, and can be closed. If records are given, it has
 // these, and takes one more.
 fn is_opened(rt: &HostRuntime, kept: Option<&[Kept]>, next: u32) -> bool {
-    let Ok(journal) = open_node::<Brand>(rt, FILE, NodeId::new(1).unwrap()) else {
+    let Ok(journal) = open_node::<NodeFile<Brand>>(rt, FILE, NodeId::new(1).unwrap()) else {
         return false;
     };
     let mut place = Place::with(rt.alloc(), journal);
@@ -289,7 +289,7 @@ static BAD: [(&'static str, u32); 3] = [
 
 // Whether the journal is refused because of this row.
 fn is_refused(rt: &HostRuntime, place: u32) -> bool {
-    match open_node::<Brand>(rt, FILE, NodeId::new(1).unwrap()) {
+    match open_node::<NodeFile<Brand>>(rt, FILE, NodeId::new(1).unwrap()) {
         Ok(journal) => {
             drop(journal);
             false

@@ -1,15 +1,14 @@
 use Rattle.std.proofs.Common.{subst, suc, sym, ◌≡◌}
 use Rattle.sqlite.specs.Files.{file_state}
 use Rattle.sqlite.specs.State.{HasCleanDisk}
-use Rattle.urb_sqlite.specs.Nodes.{IsFoundIn, held_by}
+use Rattle.urb_sqlite.specs.Nodes.{IsFoundIn}
 use Rattle.urb_sqlite.specs.OpenJournal.{IsHonestJournal}
 use Rattle.urb_sqlite.specs.Reading.{records_of}
 use Rattle.urb_folder.proofs.node_journal.open_at.Goals as goal
 
 pub returns-in-Some-file_of-clause-found : goal.returns-in-Some-file_of-clause-found
 returns-in-Some-file_of-clause-found g c =
-    let held = held_by g.K.First.Start g.K.Second.Start g.K.Third.Start g.K.Fourth.Start
-    g.K.Fifth.Start g.K.Sixth.Start g.K.Seventh.Start in
+    let held = g.D.NodeDisk.held in
     let node : c.in-Some.node ≡ suc c.args.place = c.in-Some.ensures in
     subst (λ n. IsFoundIn (held n) (HasCleanDisk (file_state c.sharing-journal.result.conn))
     (IsHonestJournal (file_state c.sharing-journal.result.conn))

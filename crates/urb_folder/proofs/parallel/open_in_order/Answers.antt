@@ -1,10 +1,10 @@
-use Rattle.std.proofs.Common.{IfSome, Ok, Some, arith, rules, length, slice_get, subst, sym}
-use Rattle.std.proofs.Common.{◌+◌, ◌<◌, ◌≡◌}
+use Rattle.std.proofs.Common.{IfSome, Ok, Some, rules, length, slice_get, subst, sym, vec_capacity}
+use Rattle.std.proofs.Common.{vec_len, ◌+◌, ◌<◌, ◌∙◌, ◌≡◌, ◌≤◌}
 use Rattle.std.proofs.lemmas.Option.{slice_get_read}
-use Rattle.urb_sqlite.specs.Nodes.{held_by}
 use Rattle.urb_folder.specs.internal.OpenedJournals.{OpensIn}
 use Rattle.urb_folder.specs.internal.OpenedPlaces.{AreOpened}
-use Rattle.urb_folder.proofs.PlacesInOrder.{none_yet, one_more, unset}
+use Rattle.urb_folder.proofs.PlacesInOrder.{before, earlier, ended, has_room, itself, none_yet}
+use Rattle.urb_folder.proofs.PlacesInOrder.{one_more, unset}
 use Rattle.urb_folder.proofs.parallel.open_in_order.Goals as goal
 
 pub loop-place-init : goal.loop-place-init
@@ -16,31 +16,37 @@ loop-place-init g c = (
 )
 
 pub open_next-requires-clause-earlier : goal.open_next-requires-clause-earlier
-open_next-requires-clause-earlier g c κs within =
-    let held = held_by g.K.First.Start g.K.Second.Start g.K.Third.Start g.K.Fourth.Start
-    g.K.Fifth.Start g.K.Sixth.Start g.K.Seventh.Start in
+open_next-requires-clause-earlier g c =
+    let held = g.D.NodeDisk.held in
     subst (λ them. AreOpened (OpensIn _ held) (length them) them) (sym c.as_slice.ensures.value)
     (subst (λ n. AreOpened (OpensIn _ held) n c.loop-place.all.items)
     (sym c.loop-place.invariant.0.whole) c.loop-place.invariant.0)
 
 pub open_next-requires-clause-found : goal.open_next-requires-clause-found
-open_next-requires-clause-found g c κs within =
-    let held = held_by g.K.First.Start g.K.Second.Start g.K.Third.Start g.K.Fourth.Start
-    g.K.Fifth.Start g.K.Sixth.Start g.K.Seventh.Start in
+open_next-requires-clause-found g c =
+    let held = g.D.NodeDisk.held in
+    let same : c.take-it.result ≡ c.index-found-place.result =
+    c.take-it.ensures.value ∙ sym c.index-found-place.is in
     let there : slice_get c.loop-place.found c.loop-place.place ≡ Some c.take-it.result =
-    slice_get_read c.loop-place.found (length c.args.found.now) c.loop-place.place c.take-it.result
-    (search rules) c.loop-place-test.true (search rules) in
-    let place : c.loop-place.place ≡ length c.as_slice.result.now = search rules in
+    subst (λ it. slice_get c.loop-place.found c.loop-place.place ≡ Some it) (sym same)
+    (slice_get_read c.loop-place.found (length c.args.found.now) c.loop-place.place
+    c.index-found-place.result (sym c.loop-place.auto.found) c.loop-place-test.true
+    c.index-found-place.is) in
+    let place : c.loop-place.place ≡ length c.as_slice.result.now =
+    sym (subst (λ them. length them ≡ c.loop-place.place) (sym c.as_slice.ensures.value)
+    c.loop-place.invariant.0.whole) in
     subst (λ n. IfSome c.take-it.result (OpensIn _ held n)) place
-    (c.loop-place.invariant.1 c.loop-place.place c.take-it.result (omega (arith)) there)
+    (c.loop-place.invariant.1 c.loop-place.place c.take-it.result (itself c.loop-place.place) there)
 
 pub push_reserved-requires : goal.push_reserved-requires
-push_reserved-requires g c = search rules
+push_reserved-requires g c =
+    has_room (vec_len c.loop-place.all) c.loop-place.place (length c.args.found.now)
+    (vec_capacity c.loop-place.all) (c.loop-place.all.ok.0 ∙ c.loop-place.invariant.0.whole)
+    c.loop-place-test.true c.loop-place.invariant.3
 
 pub returns-in-Err : goal.returns-in-Err
 returns-in-Err g c =
-    let held = held_by g.K.First.Start g.K.Second.Start g.K.Third.Start g.K.Fourth.Start
-    g.K.Fifth.Start g.K.Sixth.Start g.K.Seventh.Start in
+    let held = g.D.NodeDisk.held in
     record {
       earlier = c.loop-place.all.items;
       opened =
@@ -54,25 +60,27 @@ returns-in-Err g c =
 
 pub loop-place-preserved : goal.loop-place-preserved
 loop-place-preserved g c =
-    let held = held_by g.K.First.Start g.K.Second.Start g.K.Third.Start g.K.Fourth.Start
-    g.K.Fifth.Start g.K.Sixth.Start g.K.Seventh.Start in
-    let place : length c.as_slice.result.now ≡ c.loop-place.place = search rules in
+    let held = g.D.NodeDisk.held in
+    let place : length c.as_slice.result.now ≡ c.loop-place.place =
+    subst (λ them. length them ≡ c.loop-place.place) (sym c.as_slice.ensures.value)
+    c.loop-place.invariant.0.whole in
     let next = subst (λ n. OpensIn _ held n (Ok c.in-Ok.it)) place c.in-Ok.ensures in (
       subst (λ them. AreOpened (OpensIn _ held)
           (c.loop-place.place + 1) them) (sym c.push_reserved.ensures.items)
           (one_more _ c.loop-place.all.items c.in-Ok.it c.loop-place.place
           c.loop-place.invariant.0 next),
-      λ at it behind there. c.loop-place.invariant.1 at it (omega (arith, behind))
+      λ at it behind there. c.loop-place.invariant.1 at it (earlier c.loop-place.place at behind)
           (unset c.loop-place.found c.loop-place.place at c.take-it.new.self it
-          (omega (arith, behind)) there),
+          (before c.loop-place.place at behind) there),
       search rules,
-      search rules,
+      subst (λ n. length c.args.found.now ≤ n) (sym c.push_reserved.ensures.capacity)
+          c.loop-place.invariant.3,
     )
 
 pub returns : goal.returns
 returns g c =
-    let held = held_by g.K.First.Start g.K.Second.Start g.K.Third.Start g.K.Fourth.Start
-    g.K.Fifth.Start g.K.Sixth.Start g.K.Seventh.Start in
+    let held = g.D.NodeDisk.held in
     let place : c.loop-place.place ≡ length c.args.found.now =
-    omega (arith, c.loop-place-test.false, c.loop-place.auto.place-end) in
+    ended c.loop-place.place (length c.args.found.now) c.loop-place-test.false
+    c.loop-place.auto.place-end in
     subst (λ n. AreOpened (OpensIn _ held) n c.loop-place.all.items) place c.loop-place.invariant.0

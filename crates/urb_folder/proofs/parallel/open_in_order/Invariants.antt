@@ -1,5 +1,4 @@
 use Rattle.std.proofs.Common.{IfSome, Some, length, slice_get, vec_capacity, ℕ, ◌≡◌, ◌≤◌}
-use Rattle.urb_sqlite.specs.Nodes.{held_by}
 use Rattle.urb_folder.specs.internal.OpenedJournals.{OpensIn}
 use Rattle.urb_folder.specs.internal.OpenedPlaces.{AreOpened}
 use Rattle.urb_folder.proofs.parallel.open_in_order.Given as goal
@@ -8,8 +7,7 @@ use Rattle.urb_folder.proofs.parallel.open_in_order.Given as goal
 -- all
 abbrev pub invariant-loop-place : goal.invariant-loop-place
 invariant-loop-place g l =
-    let held = held_by g.K.First.Start g.K.Second.Start g.K.Third.Start g.K.Fourth.Start
-    g.K.Fifth.Start g.K.Sixth.Start g.K.Seventh.Start in
+    let held = g.D.NodeDisk.held in
     AreOpened (OpensIn _ held) l.place l.all.items
     × ((at : ℕ) (it : _) → l.place ≤ at → slice_get l.found at ≡ Some it
     → IfSome it (OpensIn _ held at))

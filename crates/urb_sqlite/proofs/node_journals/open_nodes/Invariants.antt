@@ -1,7 +1,7 @@
 use Rattle.std.proofs.Common.{Some, slice_get, suc, vec_capacity, vec_len, ℕ, ◌≡◌, ◌≤◌}
 use Rattle.sqlite.specs.State.{HasCleanDisk}
 use Rattle.sqlite.specs.Files.{file_state}
-use Rattle.urb_sqlite.specs.Nodes.{held_by, IsFoundIn}
+use Rattle.urb_sqlite.specs.Nodes.{IsFoundIn}
 use Rattle.urb_sqlite.specs.OpenJournal.{IsHonestJournal}
 use Rattle.urb_sqlite.specs.Reading.{records_of}
 use Rattle.urb_sqlite.proofs.node_journals.open_nodes.Given as goal
@@ -12,8 +12,7 @@ invariant-loop-at g l = record {
   count : vec_len l.journals ≡ l.at;
   room : l.n ≤ vec_capacity l.journals;
   found : (i : ℕ) (journal : _) → slice_get l.journals.items i ≡ Some journal
-      → IsFoundIn (held_by g.K.First.Start g.K.Second.Start g.K.Third.Start g.K.Fourth.Start
-      g.K.Fifth.Start g.K.Sixth.Start g.K.Seventh.Start (suc i))
+      → IsFoundIn (g.D.NodeDisk.held (suc i))
       (HasCleanDisk (file_state journal.conn)) (IsHonestJournal (file_state journal.conn))
       (records_of (file_state journal.conn).now);
 }

@@ -1,7 +1,7 @@
 use Rattle.std.proofs.Common.{Bool, List, ap₂, cond, ℕ}
 use Rattle.sqlite_disk.specs.Events.{Event, replay}
 use Rattle.sqlite_wal.specs.Recovery.{Image}
-use Rattle.urb_sqlite.proofs.node_journals.open_files_at.Goals as goal
+use Rattle.urb_sqlite.proofs.node_file.open_files_at.Goals as goal
 
 abbrev image : List ℕ → List ℕ → Image
 image log db = record { log = log; db = db }
