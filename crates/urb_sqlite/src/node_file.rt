@@ -299,7 +299,7 @@ impl<K: Contents> Disk for NodeFile<K> {
     }
 }
 
-/// Opens the files at this path. `S` stands for what they hold.
+/// Opens the files at this path. `S` names what they hold.
 fn open_files_at<S: Start + Default>(
     rt: &HostRuntime,
     path: &str,
