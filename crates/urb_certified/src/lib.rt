@@ -15,7 +15,5 @@
 mod certified;
 mod parts;
 mod row;
-#[cfg(test)]
-mod tests;
 
 pub use certified::Certified;

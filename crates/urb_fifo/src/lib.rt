@@ -13,7 +13,5 @@
 #![tactic(auto)]
 
 mod fifo;
-#[cfg(test)]
-mod tests;
 
 pub use fifo::Fifo;

@@ -64,9 +64,6 @@ has_room held place count room same less fits = omega (arith, same, less, fits)
 pub ended : (place count : ℕ) → count ≤ place → place ≤ count → place ≡ count
 ended place count behind within = omega (arith, behind, within)
 
-pub itself : (place : ℕ) → place ≤ place
-itself place = omega (arith)
-
 pub earlier : (place at : ℕ) → place + 1 ≤ at → place ≤ at
 earlier place at behind = omega (arith, behind)
 

@@ -14,7 +14,5 @@
 #![tactic(auto)]
 
 mod acks;
-#[cfg(test)]
-mod tests;
 
 pub use acks::{Acks, Noted};

@@ -1,12 +1,12 @@
 //! The files of a group's nodes as one type, although they held different bytes. Each variant names
 //! what one node's files held.
 
-ghost use Rattle.std.specs.Prelude.{◌≡◌, ◌+◌, ◌<◌, ℕ, true, false, [], refl, IfErr, IfOk, IsTrue};
+ghost use Rattle.std.specs.Prelude.{◌≡◌, ◌⊎◌, ◌+◌, ◌<◌, ℕ, true, false, [], refl};
+ghost use Rattle.std.specs.Prelude.{IfErr, IfOk, IsTrue};
 ghost use Rattle.std.proofs.Common.{inl};
 ghost use Rattle.sqlite.specs.Files.{image_of};
 ghost use Rattle.sqlite_wal.specs.Files.{image_at};
 ghost use Rattle.sqlite_wal.specs.Recovery.{Image};
-ghost use Rattle.urb_stable.specs.Storing.{is_place};
 ghost use Rattle.urb_sqlite.specs.Nodes.{held_by};
 
 use sqlite::{FileFrom, Files, Start};
@@ -29,7 +29,7 @@ pub trait NodeDisk: Disk + Drop {
     /// Opens the log and the database file of a node at this path, and makes them if they are
     /// missing. `NoMemory`: memory was refused. `Device`: they can't be opened.
     fn open_files(rt: &HostRuntime, path: &str, node: NodeId) -> Result<Files<Self>, StoreFault>
-        ensures fault { IfErr result (λ e. is_place e ≡ false) }
+        ensures fault { IfErr result (λ e. (e ≡ StoreFault.NoMemory) ⊎ (e ≡ StoreFault.Device)) }
         ensures usable { IfOk result (λ files. IsTrue (Self.Disk.is_usable files.log)
             × IsTrue (Self.Disk.is_usable files.db)) }
         ensures held { IfOk result (λ files. image_of Self.Disk files ≡ held node) };
@@ -304,7 +304,7 @@ fn open_files_at<S: Start + Default>(
     rt: &HostRuntime,
     path: &str,
 ) -> Result<Files<FileFrom<S>>, StoreFault>
-    ensures fault { IfErr result (λ e. is_place e ≡ false) }
+    ensures fault { IfErr result (λ e. (e ≡ StoreFault.NoMemory) ⊎ (e ≡ StoreFault.Device)) }
     ensures usable { IfOk result (λ files. IsTrue (⟦<FileFrom<S> as Disk>⟧.is_usable files.log)
         × IsTrue (⟦<FileFrom<S> as Disk>⟧.is_usable files.db)) }
     ensures held { IfOk result

@@ -24,8 +24,6 @@
 mod due;
 mod outbox;
 mod resend;
-#[cfg(test)]
-mod tests;
 
 pub use outbox::{OUTBOX_MAX, Outbox};
 pub use resend::Resend;

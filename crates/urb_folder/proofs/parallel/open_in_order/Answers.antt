@@ -1,9 +1,9 @@
-use Rattle.std.proofs.Common.{IfSome, Ok, Some, rules, length, slice_get, subst, sym, vec_capacity}
-use Rattle.std.proofs.Common.{vec_len, ◌+◌, ◌<◌, ◌∙◌, ◌≡◌, ◌≤◌}
+use Rattle.std.proofs.Common.{IfSome, Ok, Some, le_refl, rules, length, slice_get, subst, sym}
+use Rattle.std.proofs.Common.{vec_capacity, vec_len, ◌+◌, ◌<◌, ◌∙◌, ◌≡◌, ◌≤◌}
 use Rattle.std.proofs.lemmas.Option.{slice_get_read}
 use Rattle.urb_folder.specs.internal.OpenedJournals.{OpensIn}
 use Rattle.urb_folder.specs.internal.OpenedPlaces.{AreOpened}
-use Rattle.urb_folder.proofs.PlacesInOrder.{before, earlier, ended, has_room, itself, none_yet}
+use Rattle.urb_folder.proofs.PlacesInOrder.{before, earlier, ended, has_room, none_yet}
 use Rattle.urb_folder.proofs.PlacesInOrder.{one_more, unset}
 use Rattle.urb_folder.proofs.parallel.open_in_order.Goals as goal
 
@@ -36,7 +36,7 @@ open_next-requires-clause-found g c =
     sym (subst (λ them. length them ≡ c.loop-place.place) (sym c.as_slice.ensures.value)
     c.loop-place.invariant.0.whole) in
     subst (λ n. IfSome c.take-it.result (OpensIn _ held n)) place
-    (c.loop-place.invariant.1 c.loop-place.place c.take-it.result (itself c.loop-place.place) there)
+    (c.loop-place.invariant.1 c.loop-place.place c.take-it.result (le_refl c.loop-place.place) there)
 
 pub push_reserved-requires : goal.push_reserved-requires
 push_reserved-requires g c =

@@ -2,8 +2,8 @@
 
 ghost use Rattle.std.specs.Prelude.{◌≡◌, ◌<◌, ◌≤◌, IfSome};
 
-use super::*;
 use std::alloc::{Allocator, Global};
+use urb_fifo::Fifo;
 use urb_names::{Config, Name, NoMemory, NodeId};
 use urb_refusing::Refusing;
 

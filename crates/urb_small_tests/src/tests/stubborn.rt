@@ -8,13 +8,13 @@ mod packets;
 mod steps;
 mod ticks;
 
-use super::*;
 use std::alloc::{Allocator, Global};
 use steps::{Sent, Step, is_refused_in};
 use urb_certified::Certified;
 use urb_names::{ClientId, Config, Message, Name, NodeId};
 use urb_pending::Pending;
 use urb_refusing::Refusing;
+use urb_stubborn::{Outbox, Resend};
 
 const CAP: u32 = 40;
 

@@ -1,8 +1,8 @@
 //! Counting to a majority, refused allocations, and calls with space reserved for them.
 
-use super::*;
 use std::alloc::Allocator;
 use std::test::Fail;
+use urb_majority::{Acks, Noted};
 use urb_names::{Config, Name, NoMemory, NodeId};
 use urb_refusing::Refusing;
 

@@ -2,9 +2,9 @@
 
 ghost use Rattle.std.specs.Prelude.{◌≤◌, ◌<◌};
 
-use super::*;
 use std::alloc::Allocator;
 use std::test::Fail;
+use urb_certified::Certified;
 use urb_names::{Name, NoMemory, NodeId};
 use urb_refusing::Refusing;
 

@@ -1,5 +1,5 @@
 use Rattle.std.proofs.Common.{◌≡◌}
-use Rattle.urb_fifo.proofs.tests.is_refused_in.Given as goal
+use Rattle.urb_small_tests.proofs.tests.fifo.is_refused_in.Given as goal
 
 -- the configuration stays
 abbrev pub invariant-loop-step : goal.invariant-loop-step

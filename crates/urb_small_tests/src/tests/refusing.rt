@@ -1,10 +1,10 @@
 //! Tests of the allocator's count, which no contract can name because it is in a cell; and of the
 //! reader and the writer.
 
-use super::*;
 use std::alloc::{AllocError, Global};
 use std::io::{Read, Write};
 use std::test::Fail;
+use urb_refusing::{FailingReader, FailingWriter, Refusing};
 
 /// Requests one growth from the allocator.
 fn grows(heap: &Refusing<Global>) -> Result<(), AllocError> {

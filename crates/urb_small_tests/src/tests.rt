@@ -1,0 +1,7 @@
+//! A module for each crate.
+
+mod certified;
+mod fifo;
+mod majority;
+mod refusing;
+mod stubborn;
