@@ -62,7 +62,9 @@ def loads(load, daemon, kind, seconds, payload, client, messages=0):
     for node in range(1, NODES + 1):
         words = [load.path, kind, daemon.port(node), CLIENTS, seconds, payload, client + 100 * node]
         words += [messages // NODES + 1] if messages else []
-        processes.append(subprocess.Popen([str(word) for word in words], stdout=subprocess.PIPE, text=True))
+        processes.append(
+            subprocess.Popen([str(word) for word in words], stdout=subprocess.PIPE, text=True)
+        )
     return processes
 
 
@@ -100,9 +102,12 @@ def bursts(daemon_of, load, room, tick=1000):
         share = -(-(messages // NODES + 1) // CLIENTS)
         accepted += NODES * CLIENTS * share
         late, shown = shown_after(daemon, accepted)
-        print(f"burst of {NODES * CLIENTS * share} messages of {payload} bytes, twelve clients, ticks of {tick} ms: accepted in {took:.1f} s,"
-              f" {drops(daemon) - before} datagrams dropped, all logs show all {late:.2f} s after the last ACCEPTED"
-              f"{'' if shown >= accepted else f' (NO: {shown} of {accepted})'}", flush=True)
+        print(
+            f"burst of {NODES * CLIENTS * share} messages of {payload} bytes, twelve clients, ticks of {tick} ms: accepted in {took:.1f} s,"
+            f" {drops(daemon) - before} datagrams dropped, all logs show all {late:.2f} s after the last ACCEPTED"
+            f"{'' if shown >= accepted else f' (NO: {shown} of {accepted})'}",
+            flush=True,
+        )
     print(f"  memory then {daemon.memory():.0f} MB", flush=True)
     daemon.stop()
     shutil.rmtree(folder)
@@ -132,9 +137,12 @@ def kill(daemon_of, load, room, tick):
     for it in askers:
         it.close()
     whole = min(before) >= accepted and min(before) == max(before)
-    print(f"killed under twelve clients after {KILLED:.0f} s, {accepted} messages accepted, ticks of {tick} ms: open again after {again.opening:.2f} s"
-          f" with logs of {min(first)} to {max(first)}; all logs show all {changed - begin:.2f} s after that"
-          f"{'' if whole else f' (NO: {before})'}", flush=True)
+    print(
+        f"killed under twelve clients after {KILLED:.0f} s, {accepted} messages accepted, ticks of {tick} ms: open again after {again.opening:.2f} s"
+        f" with logs of {min(first)} to {max(first)}; all logs show all {changed - begin:.2f} s after that"
+        f"{'' if whole else f' (NO: {before})'}",
+        flush=True,
+    )
     again.stop()
     shutil.rmtree(folder)
 
@@ -145,8 +153,14 @@ def lag(daemon_of, load, room, tick, what):
     daemon = daemon_of(folder, tick)
     before = drops(daemon)
     askers = ask_all(daemon)
-    words = [(load.path, "submit", daemon.port(node), 1, LOADED, 100, 1000 * node) for node in range(1, NODES + 1)]
-    clients = [subprocess.Popen([str(word) for word in it], stdout=subprocess.PIPE, text=True) for it in words]
+    words = [
+        (load.path, "submit", daemon.port(node), 1, LOADED, 100, 1000 * node)
+        for node in range(1, NODES + 1)
+    ]
+    clients = [
+        subprocess.Popen([str(word) for word in it], stdout=subprocess.PIPE, text=True)
+        for it in words
+    ]
     loops = []
     if what == "busy":
         loops = [subprocess.Popen([sys.executable, "-c", "while True: pass"]) for _ in range(BUSY)]
@@ -173,9 +187,16 @@ def lag(daemon_of, load, room, tick, what):
         it.close()
     daemon.stop()
     shutil.rmtree(folder)
-    name = f"beside {BUSY} busy loops" if what == "busy" else f"stopped for {PAUSE * 1000:.0f} ms in the third second"
-    print(f"three clients of 100 bytes for {LOADED} s, {name}, ticks of {tick} ms: {sent} messages, {dropped} datagrams dropped; worst lag of a log"
-          f" {max(map(max, rows))}; lag of each log, second by second: {' '.join('/'.join(map(str, row)) for row in rows)}", flush=True)
+    name = (
+        f"beside {BUSY} busy loops"
+        if what == "busy"
+        else f"stopped for {PAUSE * 1000:.0f} ms in the third second"
+    )
+    print(
+        f"three clients of 100 bytes for {LOADED} s, {name}, ticks of {tick} ms: {sent} messages, {dropped} datagrams dropped; worst lag of a log"
+        f" {max(map(max, rows))}; lag of each log, second by second: {' '.join('/'.join(map(str, row)) for row in rows)}",
+        flush=True,
+    )
 
 
 def ticks(daemon_of, load, room, tick, seconds):
@@ -193,8 +214,11 @@ def ticks(daemon_of, load, room, tick, seconds):
     found = list(answers(loads(load, daemon, "submit", seconds, 100, 2000)))
     accepted = sum(words[0] for words in found)
     each = 1e6 * (daemon.busy() - before) / (accepted * seconds)
-    print(f"ticks of {tick} ms: at rest {rest:.2f} % of one processor; under twelve clients {accepted:.0f} accepted a second, 99th percentile"
-          f" {max(words[2] for words in found):.0f} us, {each:.0f} us of a processor each, {drops(daemon) - lost} datagrams dropped", flush=True)
+    print(
+        f"ticks of {tick} ms: at rest {rest:.2f} % of one processor; under twelve clients {accepted:.0f} accepted a second, 99th percentile"
+        f" {max(words[2] for words in found):.0f} us, {each:.0f} us of a processor each, {drops(daemon) - lost} datagrams dropped",
+        flush=True,
+    )
     daemon.stop()
     shutil.rmtree(folder)
 

@@ -42,7 +42,9 @@ class Counts:
     def rise(self):
         """How much each counter has risen since the last call, by what a buffer has beside the payload."""
         before, self.before = self.before, self.now()
-        return {more: now - was for more, (was, now) in enumerate(zip(before, self.before)) if was < now}
+        return {
+            more: now - was for more, (was, now) in enumerate(zip(before, self.before)) if was < now
+        }
 
 
 def read_log(port, count):
@@ -66,7 +68,9 @@ def tell(step, messages, rise):
 
 
 def main():
-    words = argparse.ArgumentParser(description=__doc__, formatter_class=argparse.RawDescriptionHelpFormatter)
+    words = argparse.ArgumentParser(
+        description=__doc__, formatter_class=argparse.RawDescriptionHelpFormatter
+    )
     words.add_argument("program")
     words.add_argument("--messages", type=int, default=200)
     words.add_argument("--dir")

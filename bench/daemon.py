@@ -80,7 +80,19 @@ class Daemon:
 
     def __init__(self, program, folder, nodes, tick=200):
         self.base = BASE[nodes]
-        words = ["serve", "--nodes", nodes, "--cap", 1000000, "--dir", folder, "--base-port", self.base, "--tick-ms", tick]
+        words = [
+            "serve",
+            "--nodes",
+            nodes,
+            "--cap",
+            1000000,
+            "--dir",
+            folder,
+            "--base-port",
+            self.base,
+            "--tick-ms",
+            tick,
+        ]
         begin = time.perf_counter()
         self.process = subprocess.Popen(
             [program, *map(str, words)], stdin=subprocess.PIPE, stdout=subprocess.PIPE, text=True
@@ -112,8 +124,23 @@ class Daemon:
 
 class Redis:
     def __init__(self, folder):
-        words = ["--port", REDIS, "--bind", "127.0.0.1", "--appendonly", "yes", "--appendfsync", "always", "--save", "", "--dir", folder]
-        self.process = subprocess.Popen(["redis-server", *map(str, words)], stdout=subprocess.DEVNULL)
+        words = [
+            "--port",
+            REDIS,
+            "--bind",
+            "127.0.0.1",
+            "--appendonly",
+            "yes",
+            "--appendfsync",
+            "always",
+            "--save",
+            "",
+            "--dir",
+            folder,
+        ]
+        self.process = subprocess.Popen(
+            ["redis-server", *map(str, words)], stdout=subprocess.DEVNULL
+        )
         listens(REDIS)
 
     def stop(self):
@@ -135,14 +162,24 @@ class Etcd:
             words = ["--name", name, "--data-dir", f"{folder}/{name}", "--initial-cluster", cluster]
             words += ["--listen-client-urls", own, "--advertise-client-urls", own]
             words += ["--listen-peer-urls", peer, "--initial-advertise-peer-urls", peer]
-            self.members.append(subprocess.Popen(["etcd", *words], stdout=subprocess.DEVNULL, stderr=subprocess.DEVNULL))
+            self.members.append(
+                subprocess.Popen(
+                    ["etcd", *words], stdout=subprocess.DEVNULL, stderr=subprocess.DEVNULL
+                )
+            )
         for k in range(3):
             listens(ETCD + 10 * k)
         time.sleep(3)
         self.ends = ",".join(f"127.0.0.1:{ETCD + 10 * k}" for k in range(3))
 
     def put(self, clients, seconds):
-        return answer(subprocess.Popen([self.bench, str(clients), str(seconds), self.ends], stdout=subprocess.PIPE, text=True))
+        return answer(
+            subprocess.Popen(
+                [self.bench, str(clients), str(seconds), self.ends],
+                stdout=subprocess.PIPE,
+                text=True,
+            )
+        )
 
     def stop(self):
         for member in self.members:
@@ -157,7 +194,9 @@ def built_etcd_load(room):
         return None
     path = room / "etcd-load"
     surroundings = {**os.environ, "GOPATH": "/usr/share/gocode", "GO111MODULE": "off"}
-    made = subprocess.run(["go", "build", "-o", path, "."], cwd=HERE / "etcd", env=surroundings, capture_output=True)
+    made = subprocess.run(
+        ["go", "build", "-o", path, "."], cwd=HERE / "etcd", env=surroundings, capture_output=True
+    )
     return None if made.returncode else str(path)
 
 
@@ -171,7 +210,11 @@ class Floor:
     def run(self, room, *words):
         """Submits a second, median and 99th percentile in microseconds, 0."""
         folder = Path(tempfile.mkdtemp(dir=room))
-        figures = answer(subprocess.Popen([self.path, *map(str, words)], cwd=folder, stdout=subprocess.PIPE, text=True))
+        figures = answer(
+            subprocess.Popen(
+                [self.path, *map(str, words)], cwd=folder, stdout=subprocess.PIPE, text=True
+            )
+        )
         shutil.rmtree(folder)
         return figures
 
@@ -196,9 +239,15 @@ def journals(folder, seconds):
     connections = []
     for number in range(JOURNALS):
         it = sqlite3.connect(folder / f"plain-{number}.db", isolation_level=None)
-        for line in ("PRAGMA journal_mode=WAL", "PRAGMA synchronous=FULL", "PRAGMA locking_mode=EXCLUSIVE"):
+        for line in (
+            "PRAGMA journal_mode=WAL",
+            "PRAGMA synchronous=FULL",
+            "PRAGMA locking_mode=EXCLUSIVE",
+        ):
             it.execute(line)
-        it.execute("CREATE TABLE journal(pos INTEGER PRIMARY KEY, kind INTEGER NOT NULL, payload BLOB NOT NULL) STRICT")
+        it.execute(
+            "CREATE TABLE journal(pos INTEGER PRIMARY KEY, kind INTEGER NOT NULL, payload BLOB NOT NULL) STRICT"
+        )
         connections.append(it)
     done, begin = 0, time.perf_counter()
     while time.perf_counter() - begin < seconds:
@@ -231,7 +280,9 @@ class Table:
         ratio = mine / beside
         met = ratio >= goal if turned else ratio <= goal
         sign = "at least" if turned else "at most"
-        print(f"{text:58} {mine:10.1f} {beside:10.1f} {unit:4} {ratio:6.2f}  {sign} {goal:.1f}: {'yes' if met else 'no'}")
+        print(
+            f"{text:58} {mine:10.1f} {beside:10.1f} {unit:4} {ratio:6.2f}  {sign} {goal:.1f}: {'yes' if met else 'no'}"
+        )
 
 
 def measure_daemon(table, load, program, room, nodes, seconds):
@@ -249,7 +300,10 @@ def measure_daemon(table, load, program, room, nodes, seconds):
         reads, _, _, _ = load.run("read", daemon.port(1), 4, seconds)
         table.add("read", reads)
         table.add("reader p99 alone", load.run("read", daemon.port(1), 1, seconds)[2])
-        writers = [load.start("submit", daemon.port(node), clients, seconds, 3000) for node, clients in ((1, 3), (2, 4), (3, 4))]
+        writers = [
+            load.start("submit", daemon.port(node), clients, seconds, 3000)
+            for node, clients in ((1, 3), (2, 4), (3, 4))
+        ]
         table.add("reader p99 beside", load.run("read", daemon.port(1), 1, seconds)[2])
         for it in writers:
             answer(it)
@@ -329,7 +383,9 @@ def history(program, room, messages, length):
     submit_all(daemon.port(1), messages, length)
     accepted = time.perf_counter() - begin
     end = time.monotonic() + 600
-    while (shown := min(log_length(daemon.port(node)) for node in (1, 2, 3))) < messages and time.monotonic() < end:
+    while (
+        shown := min(log_length(daemon.port(node)) for node in (1, 2, 3))
+    ) < messages and time.monotonic() < end:
         time.sleep(0.2)
     took = time.perf_counter() - begin
     memory = daemon.memory()
@@ -344,38 +400,104 @@ def history(program, room, messages, length):
     opening = again.opening
     again.stop()
     shutil.rmtree(folder)
-    print(f"{messages} messages of {length} bytes on three nodes: {accepted:.1f} s until they are accepted, {took:.1f} s until all logs have"
-          f" {shown}, {memory:.0f} MB of memory, at rest {rest:.2f} % of one processor, {size:.0f} MB of files; killed, and open again after"
-          f" {opening:.2f} s")
+    print(
+        f"{messages} messages of {length} bytes on three nodes: {accepted:.1f} s until they are accepted, {took:.1f} s until all logs have"
+        f" {shown}, {memory:.0f} MB of memory, at rest {rest:.2f} % of one processor, {size:.0f} MB of files; killed, and open again after"
+        f" {opening:.2f} s"
+    )
 
 
 def show(table, rounds):
-    print(f"{'medians of ' + str(rounds) + ' rounds':58} {'urbd':>10} {'beside':>10} {'':4} {'ratio':>6}")
+    print(
+        f"{'medians of ' + str(rounds) + ' rounds':58} {'urbd':>10} {'beside':>10} {'':4} {'ratio':>6}"
+    )
     table.line("accepted, one client, one node; redis XADD", "submit 1", "xadd", "us", 1.0)
     table.line("accepted, one client, three nodes; redis XADD", "submit 3", "xadd", "us", 1.0)
     table.line("accepted, one client, one node; one fdatasync", "submit 1", "fdatasync", "us", 2.0)
-    table.line("accepted, one client, three nodes; one fdatasync", "submit 3", "fdatasync", "us", 2.0)
+    table.line(
+        "accepted, one client, three nodes; one fdatasync", "submit 3", "fdatasync", "us", 2.0
+    )
     table.line("shown at three nodes; etcd's put, median", "visible p50", "put p50", "us", 0.5)
-    table.line("shown at three nodes; etcd's put, 99th percentile", "visible p99", "put p99", "us", 0.5)
-    table.line("reads of 8 entries, four clients; redis XRANGE", "read", "xrange", "/s", 1.0, turned=True)
-    table.line("a reader's 99th percentile beside writers; without", "reader p99 beside", "reader p99 alone", "us", 1.3)
-    table.line("accepted, twelve clients; what three journals store", "twelve", "journals", "/s", 0.8, turned=True)
-    table.line("records stored meanwhile; records of three journals", "twelve records", "journals records", "/s", 0.8, turned=True)
+    table.line(
+        "shown at three nodes; etcd's put, 99th percentile", "visible p99", "put p99", "us", 0.5
+    )
+    table.line(
+        "reads of 8 entries, four clients; redis XRANGE", "read", "xrange", "/s", 1.0, turned=True
+    )
+    table.line(
+        "a reader's 99th percentile beside writers; without",
+        "reader p99 beside",
+        "reader p99 alone",
+        "us",
+        1.3,
+    )
+    table.line(
+        "accepted, twelve clients; what three journals store",
+        "twelve",
+        "journals",
+        "/s",
+        0.8,
+        turned=True,
+    )
+    table.line(
+        "records stored meanwhile; records of three journals",
+        "twelve records",
+        "journals records",
+        "/s",
+        0.8,
+        turned=True,
+    )
     table.line("accepted, one client, one node; the floor", "submit 1", "floor 1", "us", 1.0)
     table.line("accepted, one client, three nodes; the floor", "submit 3", "floor 3", "us", 1.0)
-    table.line("shown at three nodes; the floor, median", "visible p50", "floor visible p50", "us", 1.0)
-    table.line("shown at three nodes; the floor, 99th percentile", "visible p99", "floor visible p99", "us", 1.0)
-    table.line("accepted, twelve clients, three nodes; the floor", "twelve", "floor twelve", "/s", 1.0, turned=True)
+    table.line(
+        "shown at three nodes; the floor, median", "visible p50", "floor visible p50", "us", 1.0
+    )
+    table.line(
+        "shown at three nodes; the floor, 99th percentile",
+        "visible p99",
+        "floor visible p99",
+        "us",
+        1.0,
+    )
+    table.line(
+        "accepted, twelve clients, three nodes; the floor",
+        "twelve",
+        "floor twelve",
+        "/s",
+        1.0,
+        turned=True,
+    )
     table.line("the floor, one node; redis XADD", "floor 1", "xadd", "us", 1.0)
     table.line("the floor, three nodes; redis XADD", "floor 3", "xadd", "us", 1.0)
-    table.line("the floor, shown at three nodes; etcd's put, median", "floor visible p50", "put p50", "us", 0.5)
-    table.line("the floor, twelve clients; what three journals store", "floor twelve", "journals", "/s", 0.8, turned=True)
-    table.line("the floor, a reader's 99th percentile beside writers", "floor reader beside", "floor reader alone", "us", 1.3)
+    table.line(
+        "the floor, shown at three nodes; etcd's put, median",
+        "floor visible p50",
+        "put p50",
+        "us",
+        0.5,
+    )
+    table.line(
+        "the floor, twelve clients; what three journals store",
+        "floor twelve",
+        "journals",
+        "/s",
+        0.8,
+        turned=True,
+    )
+    table.line(
+        "the floor, a reader's 99th percentile beside writers",
+        "floor reader beside",
+        "floor reader alone",
+        "us",
+        1.3,
+    )
     print(f"{'at rest: of one processor':58} {table.of('at rest'):10.2f} %")
 
 
 def main():
-    words = argparse.ArgumentParser(description=__doc__, formatter_class=argparse.RawDescriptionHelpFormatter)
+    words = argparse.ArgumentParser(
+        description=__doc__, formatter_class=argparse.RawDescriptionHelpFormatter
+    )
     words.add_argument("program")
     words.add_argument("--rounds", type=int, default=5)
     words.add_argument("--seconds", type=float, default=2.0)
@@ -403,7 +525,9 @@ def main():
         if options.messages:
             history(program, room, options.messages, 100)
         if options.bursts:
-            bursts.measure(lambda folder, tick: Daemon(program, folder, 3, tick), load, room, options.seconds)
+            bursts.measure(
+                lambda folder, tick: Daemon(program, folder, 3, tick), load, room, options.seconds
+            )
     finally:
         shutil.rmtree(room, ignore_errors=True)
 

@@ -1,9 +1,9 @@
 #!/usr/bin/env python3
 """gate.py [PROCESSORS]     what `rt ci` costs: processor minutes by crate, alone, with its tests, and with its edits
 
-Runs the gate at the top of a clean clone, on PROCESSORS alone if they are given (as taskset takes them: 0,1), and looks at its
-checks every two seconds, so that a figure may lack two seconds a check. Prints what the gate prints, and then the table and the
-minutes by the clock; so too where it is interrupted, of what was seen. Nothing else of the toolchain may run meanwhile. Linux.
+Runs the gate at the top of a clean clone, on PROCESSORS alone if they are given (as taskset takes them: 0,1). It looks at the
+checks every two seconds, so a figure may lack two seconds a check. Prints what the gate prints, and then the table and the
+minutes by the clock. If it is interrupted, it prints what it has seen. Nothing else of the toolchain may run meanwhile. Linux.
 """
 import os
 import signal
@@ -19,7 +19,10 @@ KINDS = ("alone", "tests", "edits")
 def check_of(gate, process, top):
     """The crate that a process of the gate checks, the kind of check, and its processor seconds; None if it is no check."""
     try:
-        if os.getsid(int(process.name)) != gate or os.readlink(process / "exe").rsplit("/", 1)[-1] != "rattle":
+        if (
+            os.getsid(int(process.name)) != gate
+            or os.readlink(process / "exe").rsplit("/", 1)[-1] != "rattle"
+        ):
             return None
         words = (process / "cmdline").read_bytes().decode(errors="replace").split("\0")
         folder = os.readlink(process / "cwd")
@@ -60,9 +63,18 @@ def main(words):
         row[kind] += seconds / 60
     print(f"{'processor minutes':22}" + "".join(f"{kind:>8}" for kind in KINDS))
     for crate in sorted(table):
-        print(f"{crate:22}" + "".join(f"{table[crate][kind]:8.1f}" if table[crate][kind] else f"{'':8}" for kind in KINDS))
+        print(
+            f"{crate:22}"
+            + "".join(
+                f"{table[crate][kind]:8.1f}" if table[crate][kind] else f"{'':8}" for kind in KINDS
+            )
+        )
     sums = {kind: sum(row[kind] for row in table.values()) for kind in KINDS}
-    print(f"{'together':22}" + "".join(f"{sums[kind]:8.1f}" for kind in KINDS) + f"{sum(sums.values()):8.1f}")
+    print(
+        f"{'together':22}"
+        + "".join(f"{sums[kind]:8.1f}" for kind in KINDS)
+        + f"{sum(sums.values()):8.1f}"
+    )
     print(f"{minutes:.0f} minutes by the clock")
     return gate.returncode
 

@@ -122,7 +122,9 @@ def messages(programs, room, scale):
 
 
 def main():
-    words = argparse.ArgumentParser(description=__doc__, formatter_class=argparse.RawDescriptionHelpFormatter)
+    words = argparse.ArgumentParser(
+        description=__doc__, formatter_class=argparse.RawDescriptionHelpFormatter
+    )
     words.add_argument("programs", nargs="+")
     words.add_argument("--scale", type=float, default=1.0)
     words.add_argument("--starts", action="store_true")

@@ -25,13 +25,17 @@ def filled(load, program, folder, base):
     folder.mkdir()
     daemon.BASE[NODES] = base
     group = daemon.Daemon(program, folder, NODES, tick=1000)
-    for writer in [load.start("submit", group.port(node), 4, 0.5, 1000 * node) for node in range(1, NODES + 1)]:
+    for writer in [
+        load.start("submit", group.port(node), 4, 0.5, 1000 * node) for node in range(1, NODES + 1)
+    ]:
         daemon.answer(writer)
     return group
 
 
 def main():
-    words = argparse.ArgumentParser(description=__doc__, formatter_class=argparse.RawDescriptionHelpFormatter)
+    words = argparse.ArgumentParser(
+        description=__doc__, formatter_class=argparse.RawDescriptionHelpFormatter
+    )
     words.add_argument("programs", nargs="+", metavar="PROGRAM")
     words.add_argument("--turns", type=int, default=45)
     words.add_argument("--seconds", type=float, default=0.4)
@@ -55,7 +59,9 @@ def main():
     first = statistics.median(found[0])
     for program, reads in zip(options.programs, found):
         low, middle, high = statistics.quantiles(reads, n=4)
-        print(f"{program}: {middle:,.0f} reads a second ({low:,.0f} to {high:,.0f}), {middle / first:.3f} of the first")
+        print(
+            f"{program}: {middle:,.0f} reads a second ({low:,.0f} to {high:,.0f}), {middle / first:.3f} of the first"
+        )
 
 
 if __name__ == "__main__":

@@ -1,12 +1,12 @@
 #!/usr/bin/env python3
 """replay.py PROGRAM [MESSAGES ..]     what scripts cost as they grow (default 1000 2000 4000 8000 messages)
 
-PROGRAM is the built urbd. Each script is one run of `urbd replay` on three nodes, eight or nine lines a message: it is submitted
-and stored at its sender, arrives and is stored at both others, and comes back to the sender. The table has, for each size: the
-seconds of the whole run, the microseconds a line, the greatest memory, and how many seconds longer the run is with a crash and a
-restart of one node, with a reopening of the whole group, with a hundred ticks, and with a log shown, behind the same script.
-Beside it stands what three nodes of etcd's raft in memory take for as many proposals of 16 bytes, where Debian's packages golang-go
-and golang-etcd-server-dev are installed.
+PROGRAM is the built urbd. Each script is one run of `urbd replay` on three nodes, eight or nine lines a message. The message is
+submitted and stored at its sender, arrives and is stored at both others, and comes back to the sender. The table has, for each size,
+the seconds of the whole run, the microseconds a line and the greatest memory. It also says how many seconds more
+these take at the end: a crash and a restart of one node, a reopening of the group, a hundred ticks, and a log shown. Beside it stands what
+three nodes of etcd's raft in memory take for as many proposals of 16 bytes. That needs Debian's packages golang-go and
+golang-etcd-server-dev.
 """
 import itertools
 import os
@@ -62,7 +62,9 @@ def answered(lines, answers):
     for count, (line, answer) in enumerate(itertools.zip_longest(lines, answers), 1):
         if line is None or answer is None:
             sys.exit(f"line {count}: {line} was answered by {answer}")
-        if answer.split()[0] in ("refused", "bad") or (answer.startswith("down") and not line.startswith("crash")):
+        if answer.split()[0] in ("refused", "bad") or (
+            answer.startswith("down") and not line.startswith("crash")
+        ):
             sys.exit(f"{line} was answered by {answer}")
     return count
 
@@ -73,13 +75,17 @@ def built_raft(room):
         return None
     path = Path(room) / "raft"
     surroundings = {**os.environ, "GOPATH": "/usr/share/gocode", "GO111MODULE": "off"}
-    made = subprocess.run(["go", "build", "-o", path, "."], cwd=HERE / "raft", env=surroundings, capture_output=True)
+    made = subprocess.run(
+        ["go", "build", "-o", path, "."], cwd=HERE / "raft", env=surroundings, capture_output=True
+    )
     return None if made.returncode else path
 
 
 def raft_seconds(raft, messages):
     """The seconds for this number of proposals, each applied at all nodes before the next."""
-    answer = subprocess.run([raft, str(messages)], check=True, capture_output=True, text=True).stdout
+    answer = subprocess.run(
+        [raft, str(messages)], check=True, capture_output=True, text=True
+    ).stdout
     return float(answer.split()[0])
 
 
@@ -98,8 +104,11 @@ def measure(program, raft, sizes):
             _, longer, _ = run(program, messages, end)
             more.append(longer - seconds)
         beside = f"{1e6 * raft_seconds(raft, messages) / messages:7.2f}" if raft else f"{'none':>7}"
-        print(f"{messages:9} {lines:9} {seconds:9.2f} {1e6 * seconds / lines:9.2f} {memory / 1024:7.1f}"
-              f" {more[0]:8.2f} {more[1]:8.2f} {more[2]:9.2f} {more[3]:6.2f} {1e6 * seconds / messages:11.2f} {beside}", flush=True)
+        print(
+            f"{messages:9} {lines:9} {seconds:9.2f} {1e6 * seconds / lines:9.2f} {memory / 1024:7.1f}"
+            f" {more[0]:8.2f} {more[1]:8.2f} {more[2]:9.2f} {more[3]:6.2f} {1e6 * seconds / messages:11.2f} {beside}",
+            flush=True,
+        )
 
 
 if __name__ == "__main__":

@@ -1,5 +1,5 @@
 #!/usr/bin/env python3
-"""Copies the journals of a running group under load by contrib/backup.py, and starts the program on each copy.
+"""Copies the journals of a running group under load by `urbdctl backup`, and starts the program on each copy.
 
 usage: backups.py PROGRAM [--copies C] [--base-port B]
 Each copy opens; what was accepted before it began is accepted again under its name, and its logs begin with what was read before.
@@ -13,7 +13,7 @@ import tempfile
 import threading
 import time
 
-from here import TOP
+from paths import URBDCTL
 from running import Daemon, Gone
 
 NODES = (1, 2, 3)
@@ -28,7 +28,12 @@ class Load(threading.Thread):
 
     def __init__(self, daemon, node):
         super().__init__(daemon=True)
-        self.session, self.node, self.accepted, self.done = daemon.session(node), node, [], threading.Event()
+        self.session, self.node, self.accepted, self.done = (
+            daemon.session(node),
+            node,
+            [],
+            threading.Event(),
+        )
         self.start()
 
     def run(self):
@@ -68,7 +73,9 @@ def opens(program, base, copy, accepted, logs):
 
 
 def main():
-    words = argparse.ArgumentParser(description=__doc__, formatter_class=argparse.RawDescriptionHelpFormatter)
+    words = argparse.ArgumentParser(
+        description=__doc__, formatter_class=argparse.RawDescriptionHelpFormatter
+    )
     words.add_argument("program")
     words.add_argument("--copies", type=int, default=5)
     words.add_argument("--base-port", type=int, default=24500)
@@ -83,12 +90,22 @@ def main():
             time.sleep(1)
             logs, accepted = logs_of(daemon), {load.node: len(load.accepted) for load in loads}
             copy = os.path.join(room, f"copy-{turn}")
-            run = subprocess.run([sys.executable, TOP / "contrib" / "backup.py", str(options.base_port), copy], stdout=subprocess.PIPE, stderr=subprocess.STDOUT, text=True)
+            run = subprocess.run(
+                [URBDCTL, "backup", "--base-port", str(options.base_port), "--to", copy],
+                stdout=subprocess.PIPE,
+                stderr=subprocess.STDOUT,
+                text=True,
+            )
             assert run.returncode == 0 and run.stdout.endswith("the copy opens\n"), run.stdout
-            print(f"{run.stdout.splitlines()[0]}; {sum(accepted.values())} accepted before it", flush=True)
+            print(
+                f"{run.stdout.splitlines()[0]}; {sum(accepted.values())} accepted before it",
+                flush=True,
+            )
             opens(program, options.base_port + 30, copy, accepted, logs)
             time.sleep(0.2)
-            assert all(len(load.accepted) > accepted[load.node] for load in loads), "the group goes on"
+            assert all(
+                len(load.accepted) > accepted[load.node] for load in loads
+            ), "the group goes on"
         for load in loads:
             load.done.set()
         for load in loads:

@@ -1,5 +1,5 @@
 #!/usr/bin/env python3
-"""Copies a log by contrib/bridge.py into redis and into etcd, while the bridge, the target and the source are killed at random.
+"""Copies a log by `urbdctl bridge` into redis and into etcd, while the bridge, the target and the source are killed at random.
 
 usage: bridging.py [PROGRAM] [--seconds S] [--base-port B]
 In the end the target has each entry once, under its place, with its bytes. A folder that was begun anew stops the bridge. Without
@@ -18,10 +18,11 @@ import tempfile
 import threading
 import time
 
-from here import TOP
-from bridge import Etcd, Redis
-from client import Node, until
-from made_up import Group
+from paths import URBDCTL
+from urbdctl.to_etcd import Etcd
+from urbdctl.to_redis import Redis
+from urbd import Node, repeat
+from simulation import Group
 from running import Daemon
 
 STARTED = []  # bridges, all of which end with this script
@@ -47,11 +48,25 @@ class RedisServer:
         self.start()
 
     def words(self):
-        plain = ["redis-server", "--port", self.port, "--bind", "127.0.0.1", "--dir", self.folder, "--save", ""]
+        plain = [
+            "redis-server",
+            "--port",
+            self.port,
+            "--bind",
+            "127.0.0.1",
+            "--dir",
+            self.folder,
+            "--save",
+            "",
+        ]
         return plain + ["--appendonly", "yes", "--appendfsync", "always"]
 
     def start(self):
-        self.process = subprocess.Popen([str(word) for word in self.words()], stdout=subprocess.DEVNULL, stderr=subprocess.DEVNULL)
+        self.process = subprocess.Popen(
+            [str(word) for word in self.words()],
+            stdout=subprocess.DEVNULL,
+            stderr=subprocess.DEVNULL,
+        )
         listens(self.port)
 
     def kill(self):
@@ -59,14 +74,17 @@ class RedisServer:
         self.process.wait()
 
     def count(self):
-        return int(self.reader.ask("XLEN", "log"))
+        return int(self.reader.ask(("XLEN", "log"))[0])
 
     def held(self):
         """All entries, by their places."""
         found = {}
-        for id, fields in self.reader.ask("XRANGE", "log", "-", "+"):
+        for id, fields in self.reader.ask(("XRANGE", "log", "-", "+"))[0]:
             it = dict(zip(fields[::2], fields[1::2]))
-            found[int(id[2:])] = (*(int(it[name]) for name in (b"sender", b"seq", b"client", b"number")), it[b"payload"])
+            found[int(id[2:])] = (
+                *(int(it[name]) for name in (b"sender", b"seq", b"client", b"number")),
+                it[b"payload"],
+            )
         return found
 
 
@@ -79,8 +97,25 @@ class EtcdServer(RedisServer):
 
     def words(self):
         own, peers = f"http://127.0.0.1:{self.port}", f"http://127.0.0.1:{self.port + 1}"
-        plain = ["etcd", "--name", "one", "--data-dir", os.path.join(self.folder, "etcd"), "--initial-cluster", f"one={peers}"]
-        return plain + ["--listen-client-urls", own, "--advertise-client-urls", own, "--listen-peer-urls", peers, "--initial-advertise-peer-urls", peers]
+        plain = [
+            "etcd",
+            "--name",
+            "one",
+            "--data-dir",
+            os.path.join(self.folder, "etcd"),
+            "--initial-cluster",
+            f"one={peers}",
+        ]
+        return plain + [
+            "--listen-client-urls",
+            own,
+            "--advertise-client-urls",
+            own,
+            "--listen-peer-urls",
+            peers,
+            "--initial-advertise-peer-urls",
+            peers,
+        ]
 
     def entries(self, **more):
         begin, end = (base64.b64encode(it).decode() for it in (b"log/entry/", b"log/entry0"))
@@ -94,7 +129,13 @@ class EtcdServer(RedisServer):
         for pair in self.entries(limit=100000).get("kvs", []):
             it = json.loads(base64.b64decode(pair["value"]))
             place = int(base64.b64decode(pair["key"]).rpartition(b"/")[2])
-            found[place] = (it["sender"], it["seq"], it["client"], it["number"], base64.b64decode(it["payload"]))
+            found[place] = (
+                it["sender"],
+                it["seq"],
+                it["client"],
+                it["number"],
+                base64.b64decode(it["payload"]),
+            )
         return found
 
 
@@ -152,21 +193,37 @@ class Load(threading.Thread):
     def run(self):
         while not self.done.is_set():
             self.count += 1
-            number, payload = self.count, os.urandom(random.choice((0, 1, 30, 300, 300, 3000, 16384 if self.count % 40 == 0 else 10)))
-            until(lambda: self.node.submit(7, number, payload))
+            number, payload = self.count, os.urandom(
+                random.choice((0, 1, 30, 300, 300, 3000, 16384 if self.count % 40 == 0 else 10))
+            )
+            repeat(lambda: self.node.submit(7, number, payload))
             time.sleep(0.002)
 
 
 def start_bridge(server, port):
-    words = [sys.executable, TOP / "contrib" / "bridge.py", port, server.name, f"127.0.0.1:{server.port}", "log"]
-    bridge = subprocess.Popen([str(word) for word in words], stdout=subprocess.DEVNULL, stderr=subprocess.PIPE)
+    words = [
+        URBDCTL,
+        "bridge",
+        "--base-port",
+        port - 11,
+        server.name,
+        f"127.0.0.1:{server.port}",
+        "log",
+    ]
+    bridge = subprocess.Popen(
+        [str(word) for word in words], stdout=subprocess.DEVNULL, stderr=subprocess.PIPE
+    )
     STARTED.append(bridge)
     return bridge
 
 
 def disturb(server, source, port, seconds):
     """Kills one of the three at a time, at random; now and then two bridges run. Returns the bridge that runs in the end."""
-    kills, bridges, end = {"bridge": 0, server.name: 0, "source": 0}, [start_bridge(server, port)], time.monotonic() + seconds
+    kills, bridges, end = (
+        {"bridge": 0, server.name: 0, "source": 0},
+        [start_bridge(server, port)],
+        time.monotonic() + seconds,
+    )
     while time.monotonic() < end:
         time.sleep(random.uniform(0.05, 0.8))
         what = random.choice(list(kills))
@@ -196,7 +253,7 @@ def all_is_there(server, port, count):
     while len(list(node.log())) < count or server.count() < count:
         assert time.monotonic() < end, (count, server.count())
         time.sleep(0.1)
-    log = {place: tuple(entry) for place, entry in enumerate(node.log(), 1)}
+    log = {place: tuple(vars(entry).values()) for place, entry in enumerate(node.log(), 1)}
     held = server.held()
     assert list(held) == list(range(1, count + 1)), "a place is missing, or more than once"
     assert held == log, [place for place in log if held[place] != log[place]][:3]
@@ -204,7 +261,7 @@ def all_is_there(server, port, count):
 
 def stops_at_another_folder(server, source, bridge, port):
     source.begin_anew()
-    until(lambda: Node(port).submit(7, 1, b"another beginning"))
+    repeat(lambda: Node(port).submit(7, 1, b"another beginning"))
     error = bridge.communicate(timeout=PATIENCE)[1]
     assert bridge.returncode == 1 and b"the log's" in error, error
     again = start_bridge(server, port)
@@ -223,36 +280,47 @@ def try_target(kind, program, seconds, base):
         load.join(PATIENCE)
         all_is_there(server, base + 11, load.count)
         if kind is RedisServer:
-            server.reader.ask("XTRIM", "log", "MAXLEN", "0")
-            until(lambda: Node(base + 11).submit(7, load.count + 1, b"behind a trimmed stream"))
+            server.reader.ask(("XTRIM", "log", "MAXLEN", "0"))
+            repeat(lambda: Node(base + 11).submit(7, load.count + 1, b"behind a trimmed stream"))
             end = time.monotonic() + PATIENCE
             while server.count() != 1:
                 assert time.monotonic() < end
                 time.sleep(0.1)
             assert list(server.held()) == [load.count + 1]
         stops_at_another_folder(server, source, bridge, base + 11)
-        print(f"{kind.name}: {load.count} entries, each once and in order; killed: {kills}; a folder begun anew stops the bridge", flush=True)
+        print(
+            f"{kind.name}: {load.count} entries, each once and in order; killed: {kills}; a folder begun anew stops the bridge",
+            flush=True,
+        )
     finally:
         for bridge in STARTED:
             bridge.kill()
             bridge.wait()
         source.close()
         if server:
-            server.reader.close()
+            getattr(server.reader, "close", bool)()
             server.kill()
         shutil.rmtree(room, ignore_errors=True)
 
 
 def main():
-    parser = argparse.ArgumentParser(description=__doc__, formatter_class=argparse.RawDescriptionHelpFormatter)
+    parser = argparse.ArgumentParser(
+        description=__doc__, formatter_class=argparse.RawDescriptionHelpFormatter
+    )
     parser.add_argument("program", nargs="?")
     parser.add_argument("--seconds", type=float, default=20.0)
     parser.add_argument("--base-port", type=int, default=24200)
     words = parser.parse_args()
-    kinds = [kind for kind in (RedisServer, EtcdServer) if shutil.which({"redis": "redis-server"}.get(kind.name, kind.name))]
+    kinds = [
+        kind
+        for kind in (RedisServer, EtcdServer)
+        if shutil.which({"redis": "redis-server"}.get(kind.name, kind.name))
+    ]
     for kind in kinds:
         try_target(kind, words.program, words.seconds, words.base_port)
-    print(f"bridging.py: all went well over {', '.join(kind.name for kind in kinds) or 'nothing: neither redis-server nor etcd is here'}")
+    print(
+        f"bridging.py: all went well over {', '.join(kind.name for kind in kinds) or 'nothing: neither redis-server nor etcd is here'}"
+    )
 
 
 if __name__ == "__main__":

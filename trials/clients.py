@@ -16,8 +16,8 @@ import tempfile
 import threading
 import time
 
-from here import TOP
-from client import Follower, Node
+from paths import TOP
+from urbd import Follower, Node
 from running import Daemon
 
 NODES = (1, 2, 3)
@@ -32,7 +32,9 @@ class Client:
         self.start()
 
     def start(self):
-        self.process = subprocess.Popen(self.words, stdin=subprocess.PIPE, stdout=subprocess.PIPE, stderr=subprocess.PIPE)
+        self.process = subprocess.Popen(
+            self.words, stdin=subprocess.PIPE, stdout=subprocess.PIPE, stderr=subprocess.PIPE
+        )
         self.thread = threading.Thread(target=self.run, args=(self.process,), daemon=True)
         self.thread.start()
 
@@ -56,7 +58,18 @@ class Publishing(Client):
     def __init__(self, command, base, node, folder):
         self.node, self.done, self.given, self.told = node, threading.Event(), 0, 0
         file = os.path.join(folder, f"publisher-{node}")
-        super().__init__([*command, base + 10 + node, "publish", 100 + node, file], file)
+        super().__init__(
+            [
+                *command("publish"),
+                "--port",
+                base + 10 + node,
+                "--client",
+                100 + node,
+                "--file",
+                file,
+            ],
+            file,
+        )
 
     def run(self, process):
         """Gives it one new line after the other, a few more than have been accepted."""
@@ -90,7 +103,16 @@ class Following(Client):
 
     def start(self):
         random.shuffle(self.ports)
-        self.words = [str(word) for word in (*self.command, ",".join(self.ports), "follow", self.file)]
+        self.words = [
+            str(word)
+            for word in (
+                *self.command("follow"),
+                "--port",
+                ",".join(self.ports),
+                "--file",
+                self.file,
+            )
+        ]
         super().start()
 
     def run(self, process):
@@ -123,7 +145,13 @@ class Followers(threading.Thread):
 
 
 def disturb(daemon, program, folder, base, clients, seconds):
-    kills, end = {"publisher": 0, "follower": 0, "program": 0, "node": 0, "submits": 0}, time.monotonic() + seconds
+    kills, end = {
+        "publisher": 0,
+        "follower": 0,
+        "program": 0,
+        "node": 0,
+        "submits": 0,
+    }, time.monotonic() + seconds
     while time.monotonic() < end:
         time.sleep(random.uniform(0.05, 0.5))
         what = random.choice(list(kills))
@@ -137,11 +165,27 @@ def disturb(daemon, program, folder, base, clients, seconds):
             time.sleep(random.uniform(0, 0.2))
             node.restart()
         elif what == "submits":
-            words = [program, "submit", "--port", base + 11, "--client", 9, "--number", kills[what], "beside followers"]
+            words = [
+                program,
+                "submit",
+                "--port",
+                base + 11,
+                "--client",
+                9,
+                "--number",
+                kills[what],
+                "beside followers",
+            ]
             run = subprocess.run([str(word) for word in words], stdout=subprocess.PIPE, timeout=20)
             assert run.returncode == 0 and run.stdout.startswith(b"accepted"), run
         else:
-            it = random.choice([it for it in clients if isinstance(it, Publishing if what == "publisher" else Following)])
+            it = random.choice(
+                [
+                    it
+                    for it in clients
+                    if isinstance(it, Publishing if what == "publisher" else Following)
+                ]
+            )
             it.kill()
             it.start()
     return daemon, kills
@@ -151,11 +195,17 @@ def all_read(nodes, followers):
     """Waits until each log and each follower has all messages. Returns the logs."""
     end = time.monotonic() + PATIENCE
     while True:
-        whole = sum(node.status().sent for node in nodes)
+        whole = sum(node.status().accepted for node in nodes)
         logs = [list(node.log()) for node in nodes]
-        if all(len(log) == whole for log in logs) and all(len(it.found) == whole for it in followers):
+        if all(len(log) == whole for log in logs) and all(
+            len(it.found) == whole for it in followers
+        ):
             return logs
-        assert time.monotonic() < end, (whole, [len(log) for log in logs], [len(it.found) for it in followers])
+        assert time.monotonic() < end, (
+            whole,
+            [len(log) for log in logs],
+            [len(it.found) for it in followers],
+        )
         time.sleep(0.2)
 
 
@@ -171,7 +221,9 @@ def try_clients(language, command, program, base, seconds):
     clients, daemon = [], Daemon(program, len(NODES), folder, base, 20)
     try:
         beside = Followers(base)
-        clients += [Publishing(command, base, node, room) for node in NODES] + [Following(command, base, number, room) for number in (1, 2)]
+        clients += [Publishing(command, base, node, room) for node in NODES] + [
+            Following(command, base, number, room) for number in (1, 2)
+        ]
         publishers, followers = clients[:3], clients[3:]
         daemon, kills = disturb(daemon, program, folder, base, clients, seconds)
         nodes = [Node(base + 10 + node, 10) for node in NODES]
@@ -186,17 +238,27 @@ def try_clients(language, command, program, base, seconds):
         beside.join(PATIENCE)
         for node, log in zip(NODES, logs):
             for publisher in publishers:
-                own = [entry.payload for entry in log if (entry.sender, entry.client) == (publisher.node, 100 + publisher.node)]
+                own = [
+                    entry.payload
+                    for entry in log
+                    if (entry.sender, entry.client) == (publisher.node, 100 + publisher.node)
+                ]
                 numbers = [int(payload.split()[0]) for payload in own]
                 assert own == [b"%d of %d" % (number, publisher.node) for number in numbers]
                 assert numbers == sorted(set(numbers)), "a line was accepted twice, or late"
                 assert publisher.told <= len(own), "a line that was accepted is missing"
-        shown = {f"{it.sender}.{it.seq}": [str(it.client), str(it.number), it.payload.hex() or "-"] for it in logs[0]}
+        shown = {
+            f"{it.sender}.{it.seq}": [str(it.client), str(it.number), it.payload.hex() or "-"]
+            for it in logs[0]
+        }
         for follower in followers:
             assert follower.found == shown and not follower.wrong, follower.wrong
             in_order(follower.found)
         repeated = sum(it.repeated for it in followers)
-        print(f"{language}: {len(shown)} messages, each once and in order, {repeated} lines printed again; killed: {kills}", flush=True)
+        print(
+            f"{language}: {len(shown)} messages, each once and in order, {repeated} lines printed again; killed: {kills}",
+            flush=True,
+        )
     finally:
         for it in clients:
             if it.process.poll() is None:
@@ -207,17 +269,35 @@ def try_clients(language, command, program, base, seconds):
 
 
 def main():
-    words = argparse.ArgumentParser(description=__doc__, formatter_class=argparse.RawDescriptionHelpFormatter)
+    words = argparse.ArgumentParser(
+        description=__doc__, formatter_class=argparse.RawDescriptionHelpFormatter
+    )
     words.add_argument("program")
     words.add_argument("--seconds", type=float, default=20.0)
     words.add_argument("--base-port", type=int, default=24300)
     options = words.parse_args()
     program = os.path.abspath(options.program)
-    try_clients("Python", [sys.executable, TOP / "examples" / "client.py"], program, options.base_port, options.seconds)
+    try_clients(
+        "Python",
+        lambda word: [sys.executable, TOP / "examples" / f"{word}.py"],
+        program,
+        options.base_port,
+        options.seconds,
+    )
     if shutil.which("go"):
         with tempfile.TemporaryDirectory() as folder:
-            subprocess.run(["go", "build", "-o", folder, "./urbclient"], cwd=TOP / "examples" / "go", check=True)
-            try_clients("Go", [os.path.join(folder, "urbclient")], program, options.base_port, options.seconds)
+            subprocess.run(
+                ["go", "build", "-o", folder, "./cmd/urbclient"],
+                cwd=TOP / "clients" / "go",
+                check=True,
+            )
+            try_clients(
+                "Go",
+                lambda word: [os.path.join(folder, "urbclient"), word],
+                program,
+                options.base_port,
+                options.seconds,
+            )
     print("clients.py: all went well")
 
 

@@ -34,7 +34,16 @@ Record = namedtuple("Record", "kind sender seq client number payload")
 MESSAGES = {(1, seq): (7, seq, b"%d of node 1 " % seq * seq) for seq in range(1, 21)}
 MESSAGES.update({(1, 21): (7, 21, b""), (1, 22): (7, 22, b"x" * OLD_LONGEST)})
 MESSAGES.update({(2, seq): (8, seq, b"%d of node 2" % seq) for seq in range(1, 4)})
-LENGTHS = (0, 1, OLD_LONGEST, OLD_LONGEST + 1, LONGEST, LONGEST, LONGEST, LONGEST)  # of the payloads of new messages
+LENGTHS = (
+    0,
+    1,
+    OLD_LONGEST,
+    OLD_LONGEST + 1,
+    LONGEST,
+    LONGEST,
+    LONGEST,
+    LONGEST,
+)  # of the payloads of new messages
 
 
 def record(kind, name):
@@ -81,8 +90,14 @@ def make(folder):
     """The files of an older program. Node 2's file has another table before the journal, which makes no difference."""
     os.mkdir(folder)
     for node in NODES:
-        rows = [("INSERT INTO journal VALUES(?, ?, ?, ?, ?, ?, ?)", (pos, *it)) for pos, it in enumerate(old_records(node), 1)]
-        more = [("CREATE TABLE notes(text TEXT)", ()), ("INSERT INTO notes VALUES('a table of somebody else')", ())]
+        rows = [
+            ("INSERT INTO journal VALUES(?, ?, ?, ?, ?, ?, ?)", (pos, *it))
+            for pos, it in enumerate(old_records(node), 1)
+        ]
+        more = [
+            ("CREATE TABLE notes(text TEXT)", ()),
+            ("INSERT INTO notes VALUES('a table of somebody else')", ()),
+        ]
         changed(path_of(folder, node), *(more if node == 2 else []), (CREATE, ()), *rows)
 
 
@@ -95,7 +110,9 @@ def rows_of(folder, node, table):
 
 def tables_of(folder, node):
     connection = sqlite3.connect(path_of(folder, node))
-    tables = {name for name, in connection.execute("SELECT name FROM sqlite_schema WHERE type = 'table'")}
+    tables = {
+        name for name, in connection.execute("SELECT name FROM sqlite_schema WHERE type = 'table'")
+    }
     connection.close()
     return tables
 
@@ -134,7 +151,10 @@ def same_again(daemon, messages):
         for (sender, seq), (client, number, payload) in messages.items():
             if sender == node:
                 assert session.submit(client, number, payload) == (seq, None), (sender, seq)
-                assert session.submit(client, number, b"another") == (None, (CONFLICT, 0)), (sender, seq)
+                assert session.submit(client, number, b"another") == (None, (CONFLICT, 0)), (
+                    sender,
+                    seq,
+                )
         session.close()
 
 
@@ -154,10 +174,15 @@ def rows_go_on(folder, old, messages):
         assert tables_of(folder, node) - {"notes"} == {"journal", "journal2"}, node
         assert rows_of(folder, node, "journal") == old[node], node
         rows = rows_of(folder, node, "journal2")
-        assert [row[0] for row in rows] == list(range(len(old[node]) + 1, len(old[node]) + 1 + len(rows))), node
+        assert [row[0] for row in rows] == list(
+            range(len(old[node]) + 1, len(old[node]) + 1 + len(rows))
+        ), node
         stored = {row[2:4]: row[4:] for row in old[node] + rows if row[1] != CERT}
         assert stored == messages, node
-    print(f"new rows: {[len(rows_of(folder, node, 'journal2')) for node in NODES]}, old ones as they were", flush=True)
+    print(
+        f"new rows: {[len(rows_of(folder, node, 'journal2')) for node in NODES]}, old ones as they were",
+        flush=True,
+    )
 
 
 def opens_old_files(program, folder, base):
@@ -168,14 +193,23 @@ def opens_old_files(program, folder, base):
     logs = all_shown(daemon, len(MESSAGES), said)
     same_again(daemon, MESSAGES)
     assert logs_of(daemon) == logs, "a repeat is no new message"
-    print(f"old files open with logs of {[len(log) for log in said.values()]}, then {[len(log) for log in logs.values()]}", flush=True)
+    print(
+        f"old files open with logs of {[len(log) for log in said.values()]}, then {[len(log) for log in logs.values()]}",
+        flush=True,
+    )
     session = daemon.session(1)
     assert session.submit(7, 23, bytes(LONGEST + 1)) == (None, (TOO_LONG, 0))
     session.close()
-    new = {(1, 22 + count): (7, 22 + count, b"n" * length) for count, length in enumerate(LENGTHS, 1)}
+    new = {
+        (1, 22 + count): (7, 22 + count, b"n" * length) for count, length in enumerate(LENGTHS, 1)
+    }
     same_again(daemon, new)
     logs = all_shown(daemon, len(MESSAGES) + len(new), logs)
-    assert pages(daemon, 3, len(MESSAGES) + 5) == [3, 1, 0], "three of the longest payloads fit a response"
+    assert pages(daemon, 3, len(MESSAGES) + 5) == [
+        3,
+        1,
+        0,
+    ], "three of the longest payloads fit a response"
     daemon.stop()
     messages = {**MESSAGES, **new}
     rows_go_on(folder, old, messages)
@@ -195,7 +229,9 @@ def opens_old_files(program, folder, base):
 def refused(program, folder, base, text):
     process = start(program, len(NODES), folder, base)
     output, errors = process.communicate(timeout=30)
-    assert (process.returncode, output, errors) == (1, b"", b"urbd: " + text + b"\n"), (process.returncode, output, errors)
+    assert (process.returncode, output) == (1, b"") and errors.startswith(
+        b"urbd: " + text + b": "
+    ), (process.returncode, output, errors)
     print(f"{folder.rsplit('/', 1)[1]}: {errors.decode().strip()}", flush=True)
 
 
@@ -219,7 +255,13 @@ def refuses_bad_rows(program, folder, base):
     """For a bad row of an old file, the fault names its place, and the file stays. With the good file the group opens."""
     for name, node, statement, values, place in (
         ("kind", 1, "UPDATE journal SET kind = 4 WHERE pos = 2", (), b"2"),
-        ("payload", 2, "UPDATE journal SET payload = ? WHERE pos = 22", (b"x" * (OLD_LONGEST + 1),), b"22"),
+        (
+            "payload",
+            2,
+            "UPDATE journal SET payload = ? WHERE pos = 22",
+            (b"x" * (OLD_LONGEST + 1),),
+            b"22",
+        ),
         ("place", 3, "UPDATE journal SET pos = 6 WHERE pos = 5", (), b"5"),
     ):
         room = os.path.join(folder, name)
@@ -246,10 +288,26 @@ def refuses_what_does_not_fit(program, whole, base):
     longer = "UPDATE {} SET payload = zeroblob({}) WHERE pos = {}".format
     for name, statements, text in (
         ("too-long-for-the-first", [longer("journal", OLD_LONGEST + 1, 1)], b"17 1"),
-        ("too-long-for-the-second", [longer("journal2", LONGEST + 1, end + 1)], b"17 %d" % (end + 1)),
-        ("a-gap-between-the-tables", ["UPDATE journal2 SET pos = pos + 1000"], b"17 %d" % (end + 1)),
-        ("an-older-program-went-on", [f"INSERT INTO journal VALUES({end + 1}, 1, 1, 23, 7, 23, x'')"], b"17 %d" % (end + 2)),
-        ("another-table-of-the-name", ["DROP TABLE journal2", "CREATE TABLE journal2(x INTEGER)"], b"15 0"),
+        (
+            "too-long-for-the-second",
+            [longer("journal2", LONGEST + 1, end + 1)],
+            b"17 %d" % (end + 1),
+        ),
+        (
+            "a-gap-between-the-tables",
+            ["UPDATE journal2 SET pos = pos + 1000"],
+            b"17 %d" % (end + 1),
+        ),
+        (
+            "an-older-program-went-on",
+            [f"INSERT INTO journal VALUES({end + 1}, 1, 1, 23, 7, 23, x'')"],
+            b"17 %d" % (end + 2),
+        ),
+        (
+            "another-table-of-the-name",
+            ["DROP TABLE journal2", "CREATE TABLE journal2(x INTEGER)"],
+            b"15 0",
+        ),
         ("without-the-second-table", ["DROP TABLE journal2"], b"14 0"),
     ):
         room = f"{whole}-{name}"
@@ -260,7 +318,9 @@ def refuses_what_does_not_fit(program, whole, base):
         assert rows_of(room, 1, "journal") == first, name
     daemon = Daemon(program, len(NODES), whole, base)
     logs = logs_of(daemon)
-    assert all(len(log) == len(MESSAGES) + len(LENGTHS) + 1 for log in logs.values()), [len(log) for log in logs.values()]
+    assert all(len(log) == len(MESSAGES) + len(LENGTHS) + 1 for log in logs.values()), [
+        len(log) for log in logs.values()
+    ]
     daemon.stop()
 
 
@@ -275,7 +335,9 @@ def opens_what_a_stop_leaves(program, folder, base):
 
 
 def main():
-    words = argparse.ArgumentParser(description=__doc__, formatter_class=argparse.RawDescriptionHelpFormatter)
+    words = argparse.ArgumentParser(
+        description=__doc__, formatter_class=argparse.RawDescriptionHelpFormatter
+    )
     words.add_argument("program")
     words.add_argument("--base-port", type=int, default=29000)
     options = words.parse_args()

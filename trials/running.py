@@ -69,8 +69,22 @@ class Session:
 
 
 def start(program, nodes, folder, base, millis=20):
-    words = ["serve", "--nodes", str(nodes), "--cap", "1000000", "--dir", folder, "--base-port", str(base), "--tick-ms", str(millis)]
-    return subprocess.Popen([program] + words, stdin=subprocess.PIPE, stdout=subprocess.PIPE, stderr=subprocess.PIPE)
+    words = [
+        "serve",
+        "--nodes",
+        str(nodes),
+        "--cap",
+        "1000000",
+        "--dir",
+        folder,
+        "--base-port",
+        str(base),
+        "--tick-ms",
+        str(millis),
+    ]
+    return subprocess.Popen(
+        [program] + words, stdin=subprocess.PIPE, stdout=subprocess.PIPE, stderr=subprocess.PIPE
+    )
 
 
 class Daemon:

@@ -16,8 +16,8 @@ import tempfile
 import time
 from pathlib import Path
 
-from here import TOP
-from client import Node, until
+from paths import TOP
+from urbd import Node, repeat
 
 UNIT, RUN = TOP / "contrib" / "urbd.service", TOP / "contrib" / "urbd-run"
 KEY = re.compile(r"([A-Za-z]+)=(.*)")
@@ -26,7 +26,11 @@ PATIENCE = 60  # seconds for a step
 
 def settings():
     """The unit's lines by their names. A name that occurs twice would lose a line, and no name does."""
-    lines = [KEY.fullmatch(line) for line in UNIT.read_text().splitlines() if line and line[0] not in "#["]
+    lines = [
+        KEY.fullmatch(line)
+        for line in UNIT.read_text().splitlines()
+        if line and line[0] not in "#["
+    ]
     assert all(lines) and len({line[1] for line in lines}) == len(lines)
     return {line[1]: line[2] for line in lines}
 
@@ -35,13 +39,21 @@ class Service:
     """The unit's process as systemd starts it: a session of its own, an input that has ended, both outputs in one place."""
 
     def __init__(self, words):
-        self.process = subprocess.Popen(words, stdin=subprocess.DEVNULL, stdout=subprocess.PIPE, stderr=subprocess.STDOUT, start_new_session=True)
+        self.process = subprocess.Popen(
+            words,
+            stdin=subprocess.DEVNULL,
+            stdout=subprocess.PIPE,
+            stderr=subprocess.STDOUT,
+            start_new_session=True,
+        )
         self.first = self.process.stdout.readline()
         assert self.first.startswith(b"open "), self.first
 
     def program(self):
         """The program's own number: the process that urbd-run has started."""
-        found = subprocess.run(["ps", "-o", "pid=", "--ppid", str(self.process.pid)], stdout=subprocess.PIPE).stdout.split()
+        found = subprocess.run(
+            ["ps", "-o", "pid=", "--ppid", str(self.process.pid)], stdout=subprocess.PIPE
+        ).stdout.split()
         assert len(found) == 1, found
         return int(found[0])
 
@@ -64,15 +76,33 @@ def closed(outcome):
 def verified(unit):
     if shutil.which("systemd-analyze") is None:
         return "systemd-analyze isn't there"
-    run = subprocess.run(["systemd-analyze", "verify", "--man=no", unit], stdout=subprocess.PIPE, stderr=subprocess.STDOUT, text=True)
-    told = [line for line in run.stdout.splitlines() if os.path.basename(unit) in line]  # not what it says of other units
+    run = subprocess.run(
+        ["systemd-analyze", "verify", "--man=no", unit],
+        stdout=subprocess.PIPE,
+        stderr=subprocess.STDOUT,
+        text=True,
+    )
+    told = [
+        line for line in run.stdout.splitlines() if os.path.basename(unit) in line
+    ]  # not what it says of other units
     assert run.returncode == 0 and not told, run.stdout
-    security = subprocess.run(["systemd-analyze", "security", "--offline=yes", "--no-pager", unit], stdout=subprocess.PIPE, stderr=subprocess.PIPE, text=True)
-    return security.stdout.strip().splitlines()[-1].strip("→ ") if security.stdout.strip() else "security isn't judged by this version"
+    security = subprocess.run(
+        ["systemd-analyze", "security", "--offline=yes", "--no-pager", unit],
+        stdout=subprocess.PIPE,
+        stderr=subprocess.PIPE,
+        text=True,
+    )
+    return (
+        security.stdout.strip().splitlines()[-1].strip("→ ")
+        if security.stdout.strip()
+        else "security isn't judged by this version"
+    )
 
 
 def main():
-    parser = argparse.ArgumentParser(description=__doc__, formatter_class=argparse.RawDescriptionHelpFormatter)
+    parser = argparse.ArgumentParser(
+        description=__doc__, formatter_class=argparse.RawDescriptionHelpFormatter
+    )
     parser.add_argument("program", nargs="?")
     parser.add_argument("--base-port", type=int, default=24100)
     options = parser.parse_args()
@@ -89,12 +119,23 @@ def attend(program, room, base):
     folder = os.path.join(room, "lib")
     os.mkdir(folder)
     os.symlink(RUN, os.path.join(room, "urbd-run"))
-    os.symlink(os.path.abspath(program) if program else TOP / "trials" / "stub", os.path.join(room, "urbd"))
-    text = unit["ExecStart"].replace("/opt/urbd", room).replace("/var/lib/urbd", folder).replace("7400", str(base))
+    os.symlink(
+        os.path.abspath(program) if program else TOP / "trials" / "stub", os.path.join(room, "urbd")
+    )
+    text = (
+        unit["ExecStart"]
+        .replace("/opt/urbd", room)
+        .replace("/var/lib/urbd", folder)
+        .replace("7400", str(base))
+    )
     copied = os.path.join(room, "urbd.service")
     Path(copied).write_text(UNIT.read_text().replace("/opt/urbd", room))
     print(f"the unit is valid; {verified(copied)}", flush=True)
-    assert (unit["KillMode"], unit["Restart"], unit["RestartPreventExitStatus"]) == ("mixed", "on-failure", "3")
+    assert (unit["KillMode"], unit["Restart"], unit["RestartPreventExitStatus"]) == (
+        "mixed",
+        "on-failure",
+        "3",
+    )
     words = shlex.split(text)
     node, sent = Node(base + 11), []
 
@@ -103,7 +144,9 @@ def attend(program, room, base):
         if program:
             for number in (len(sent), len(sent) + 1):
                 if number:
-                    assert until(lambda: node.submit(7, number, b"%d" % number), PATIENCE) == number
+                    assert (
+                        repeat(lambda: node.submit(7, number, b"%d" % number), PATIENCE) == number
+                    )
             sent.append(len(sent) + 1)
 
     service = Service(words)
@@ -121,7 +164,10 @@ def attend(program, room, base):
     service.process.kill()
     said = service.process.stdout.read()  # the program has it open until it ends
     assert re.fullmatch(rb"closed \d+\n", said), said
-    print("the program is killed: a failure, and the next start has all; urbd-run is killed: the stop is orderly", flush=True)
+    print(
+        "the program is killed: a failure, and the next start has all; urbd-run is killed: the stop is orderly",
+        flush=True,
+    )
     if program:
         held(Service(words), node, accept)
         service = Service(words)
@@ -155,9 +201,21 @@ def held(service, node, accept):
 
 def refused(words, folder):
     """A start that is refused ends with the program's status and text."""
-    run = subprocess.run([folder + "-no" if word == folder else word for word in words], stdin=subprocess.DEVNULL, stdout=subprocess.PIPE, stderr=subprocess.PIPE)
-    assert (run.returncode, run.stdout) == (1, b"") and run.stderr.startswith(b"urbd: refused 15"), run
-    run = subprocess.run(words[:2] + ["serve", "--nodes", "9"], stdin=subprocess.DEVNULL, stdout=subprocess.PIPE, stderr=subprocess.PIPE)
+    run = subprocess.run(
+        [folder + "-no" if word == folder else word for word in words],
+        stdin=subprocess.DEVNULL,
+        stdout=subprocess.PIPE,
+        stderr=subprocess.PIPE,
+    )
+    assert (run.returncode, run.stdout) == (1, b"") and run.stderr.startswith(
+        b"urbd: refused 15"
+    ), run
+    run = subprocess.run(
+        words[:2] + ["serve", "--nodes", "9"],
+        stdin=subprocess.DEVNULL,
+        stdout=subprocess.PIPE,
+        stderr=subprocess.PIPE,
+    )
     assert run.returncode == 3, run
     print("a start that is refused ends with its status", flush=True)
 
@@ -173,13 +231,19 @@ def from_a_terminal(words):
 def at_any_moment(words):
     """A signal at any moment of a start ends everything, and leaves no program running."""
     for turn in range(30):
-        process = subprocess.Popen(words, stdin=subprocess.DEVNULL, stdout=subprocess.PIPE, start_new_session=True)
+        process = subprocess.Popen(
+            words, stdin=subprocess.DEVNULL, stdout=subprocess.PIPE, start_new_session=True
+        )
         time.sleep(0.001 * turn)
         process.terminate()
         said = process.stdout.read()  # it comes to its end when the program has ended too
         status = process.wait(PATIENCE)
         # Some ticks may come before the stop, so the number of events may be above 0.
-        assert status in (0, -signal.SIGTERM) and re.fullmatch(rb"(open 1\nclosed \d+\n)?", said), (turn, status, said)
+        assert status in (0, -signal.SIGTERM) and re.fullmatch(rb"(open 1\nclosed \d+\n)?", said), (
+            turn,
+            status,
+            said,
+        )
     print("a signal at any moment of a start leaves nothing behind", flush=True)
 
 

@@ -1,5 +1,5 @@
 -- The command line of the program, in the terms of its parser.
-use Rattle.std.specs.Prelude.{◌≡◌, ◌⊎◌, ℕ, ℤ, pos, List, [], true, codes, Some}
+use Rattle.std.specs.Prelude.{◌≡◌, ◌⊎◌, ℕ, ℤ, pos, List, [], true, false, codes, Some}
 use Rattle.urb_names.specs.declared.limits.TheConstants.{MAX_CAP, MAX_NODES}
 use Rattle.urb_client.specs.declared.format.TheConstants.{MOST_ENTRIES}
 use Rattle.urb_cli.specs.declared.limits.TheConstants.{MIN_BASE_PORT, MAX_BASE_PORT}
@@ -11,6 +11,7 @@ use Rattle.clap.specs.declared.builder.value_parser.ValueParser.{ValueParser}
 use Rattle.clap.specs.declared.builder.value_parser.ValueParser.TheVariants as vp
 use Rattle.clap.specs.declared.error.kind.ErrorKind.{ErrorKind}
 use Rattle.clap.specs.declared.error.kind.ErrorKind.TheVariants.{OutOfMemory, DisplayHelp}
+use Rattle.clap.specs.declared.error.kind.ErrorKind.TheVariants.{DisplayVersion}
 
 -- a required word at its place
 abbrev pub place_rule : Text → Rule
@@ -27,6 +28,10 @@ text_rule name = option_rule name vp.NonEmptyString
 -- a required option with a number from low to high
 abbrev pub number_rule : Text → ℤ → ℤ → Rule
 number_rule name low high = option_rule name (vp.Signed low high)
+
+-- an option that may be left out, with a number from low to high
+abbrev pub choice_rule : Text → ℤ → ℤ → Rule
+choice_rule name low high = record (number_rule name low high) { required = false }
 
 -- `replay` takes no words of its own
 abbrev pub replay_app : App
@@ -60,10 +65,18 @@ read_app =
     (number_rule (codes "from") (pos 1) (pos 4294967295)))
     (number_rule (codes "max") (pos 1) (pos MOST_ENTRIES))
 
--- the program needs one of its subcommands
+-- `status` takes a port, or the base of a group's ports and the number of its nodes
+abbrev pub status_app : App
+status_app =
+    with_rule (with_rule (with_rule (new_app (codes "status"))
+    (choice_rule (codes "port") (pos 1) (pos 65535)))
+    (choice_rule (codes "base-port") (pos MIN_BASE_PORT) (pos MAX_BASE_PORT)))
+    (choice_rule (codes "nodes") (pos 1) (pos MAX_NODES))
+
+-- the program has a version, and needs one of its subcommands
 abbrev pub bare_app : App
 bare_app = record {
-  top = record (new_app (codes "urbd")).top { subcommand_required = true };
+  top = record (new_app (codes "urbd")).top { has_version = true; subcommand_required = true };
   subs =
       [];
 }
@@ -71,25 +84,28 @@ bare_app = record {
 -- the program with its subcommands
 abbrev pub urbd_app : App
 urbd_app =
-    with_subcommand (with_subcommand (with_subcommand (with_subcommand bare_app
-    replay_app.top) serve_app.top) submit_app.top) read_app.top
+    with_subcommand (with_subcommand (with_subcommand (with_subcommand (with_subcommand bare_app
+    replay_app.top) serve_app.top) submit_app.top) read_app.top) status_app.top
 
 -- the faults that the parser finds first in these words: no fault if they are a command line of the
 -- program
 abbrev pub faults_of : List Text → Kinds
 faults_of words = fault_of urbd_app words
 
--- 0 for help that was asked for, 1 if memory was refused, 3 for every other command line that the
--- parser refuses
+-- 0 for help or the version that was asked for, 1 if memory was refused, 3 for every other command
+-- line that the parser refuses
 abbrev pub parser_status : ErrorKind → ℕ
 parser_status OutOfMemory = 1
 parser_status DisplayHelp = 0
+parser_status DisplayVersion = 0
 parser_status _ = 3
 
--- the status that a refused command line ends with: that of its kind, or 1 for help that could not
--- be written
+-- the status that a refused command line ends with: that of its kind, or 1 for help or a version
+-- that could not be written
 abbrev pub IsToldBy : ErrorKind → ℕ → Type 0
-IsToldBy kind status = (status ≡ parser_status kind) ⊎ ((kind ≡ DisplayHelp) × (status ≡ 1))
+IsToldBy kind status =
+    (status ≡ parser_status kind)
+    ⊎ (((kind ≡ DisplayHelp) ⊎ (kind ≡ DisplayVersion)) × (status ≡ 1))
 
 -- the status is that of one of these kinds, or of refused memory
 abbrev pub HasStatus : Kinds → ℕ → Type 0

@@ -1,3 +1,4 @@
+pub mod Advice
 pub mod ClientOutput
 pub mod CommandLine
 pub mod OptionRanges

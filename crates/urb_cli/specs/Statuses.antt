@@ -5,6 +5,8 @@ use Rattle.urb_names.specs.declared.refusal.Refusal.{Refusal}
 use Rattle.urb_names.specs.declared.refusal.Refusal.TheVariants as refusal
 use Rattle.urb_cli.specs.declared.faults.Fault.{Fault}
 use Rattle.urb_cli.specs.declared.faults.Fault.TheVariants as fault
+use Rattle.urb_cli.specs.declared.client.call_fault.CallFault.{CallFault}
+use Rattle.urb_cli.specs.declared.client.call_fault.CallFault.TheVariants as call
 use Rattle.urb_cli.specs.declared.command_line.task.Errand.{Errand}
 use Rattle.urb_cli.specs.declared.command_line.task.Errand.TheVariants as errand
 use Rattle.urb_client.specs.declared.response_receiver.ResponseFault.{ResponseFault}
@@ -33,6 +35,7 @@ abbrev pub IsErrandsEnd : Errand → ℕ → Type 0
 IsErrandsEnd errand.Replay status = IsScriptsEnd status
 IsErrandsEnd (errand.Submit submitting) status = IsClientsEnd status
 IsErrandsEnd (errand.Read reading) status = IsClientsEnd status
+IsErrandsEnd (errand.Status asking) status = IsClientsEnd status
 
 -- the program's fault for a fault of a run
 abbrev pub fault_of_run : RunFault → Fault
@@ -50,3 +53,9 @@ fault_of_response response.NoResponse = fault.BadReply
 abbrev pub fault_of_refusal : Refusal → Fault
 fault_of_refusal refusal.NoMemory = fault.NoMemory
 fault_of_refusal r = fault.Refused (number_of r) (detail_of r)
+
+-- the program's fault if a call of a node has no answer
+abbrev pub fault_of_call : CallFault → Fault
+fault_of_call call.NobodyListens = fault.Network
+fault_of_call call.NotConnected = fault.Network
+fault_of_call (call.Broken fault) = fault

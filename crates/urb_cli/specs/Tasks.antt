@@ -1,5 +1,6 @@
 -- What a command line asks for.
-use Rattle.std.specs.Prelude.{ℕ, Bool, ◌&&◌, nat_lt, nat_le, List, length, Option, Some}
+use Rattle.std.specs.Prelude.{◌≡◌, ◌⊎◌, ◌+◌, ℕ, Bool, ◌&&◌, nat_lt, nat_le, List, [], length}
+use Rattle.std.specs.Prelude.{Option, Some}
 use Rattle.std.specs.Prelude.{None, option_and_then, if◌then◌else◌, codes}
 use Rattle.std.specs.List.{list_all}
 use Rattle.std.specs.Char.{digit_value}
@@ -8,25 +9,29 @@ use Rattle.std.specs.Str.Parse.{digits_value, without_leading_plus}
 use Rattle.urb_names.specs.declared.limits.TheConstants.{MAX_CAP, MAX_NODES}
 use Rattle.urb_client.specs.declared.format.TheConstants.{MOST_ENTRIES}
 use Rattle.urb_cli.specs.declared.limits.TheConstants.{MIN_BASE_PORT, MAX_BASE_PORT}
-use Rattle.urb_cli.specs.declared.limits.TheConstants.{MAX_TICK_MILLIS}
-use Rattle.clap.specs.Words.{Row, Text, first_of, one_of}
+use Rattle.urb_cli.specs.declared.limits.TheConstants.{MAX_TICK_MILLIS, CLIENT_PORT_OFFSET}
+use Rattle.clap.specs.Words.{Row, Text, first_of, one_of, subcommand_of}
+use Rattle.urb_cli.specs.CommandLine.{urbd_app, faults_of, HasStatus}
 use Rattle.urb_cli.specs.declared.command_line.options.ServeOptions.{ServeOptions}
 use Rattle.urb_cli.specs.declared.command_line.task.SubmitOptions.{SubmitOptions}
 use Rattle.urb_cli.specs.declared.command_line.task.ReadOptions.{ReadOptions}
+use Rattle.urb_cli.specs.declared.command_line.task.StatusOptions.{StatusOptions}
 use Rattle.urb_cli.specs.declared.command_line.task.Errand.{Errand}
 use Rattle.urb_cli.specs.declared.command_line.task.Errand.TheVariants as errand
 use Rattle.urb_cli.specs.declared.command_line.task.Line.{Line}
 use Rattle.urb_cli.specs.declared.command_line.task.Line.TheVariants as line
 
--- What the program has to do: run a script; run a group; submit a text; or read entries. A group
--- has its nodes, cap, folder, base of the ports, and pause between resends. A text is submitted at
--- a port, as a client, under a number. Entries are read at a port, from a place on, up to a number
--- of them.
+-- What the program has to do: run a script; run a group; submit a text; read entries; or show the
+-- state of nodes. A group has its nodes, cap, folder, base of the ports, and pause between resends.
+-- A text is submitted at a port, as a client, under a number. Entries are read at a port, from a
+-- place on, up to a number of them. The states are those of the nodes at a port and at the ports
+-- after it, a number of them in all.
 pub data Task : Type 0 where
   Replay : Task
   Serve : ℕ → ℕ → Text → ℕ → ℕ → Task
   Submit : ℕ → ℕ → ℕ → Text → Task
   Read : ℕ → ℕ → ℕ → Task
+  Status : ℕ → ℕ → Task
 
 -- the task of a group to run
 abbrev pub task_of_serving : ServeOptions → Task
@@ -40,11 +45,16 @@ task_of_submitting s = Submit s.port s.client s.number s.text.now
 abbrev pub task_of_reading : ReadOptions → Task
 task_of_reading r = Read r.port r.from r.max
 
+-- the task of nodes to ask for their state
+abbrev pub task_of_asking : StatusOptions → Task
+task_of_asking s = Status s.port s.count
+
 -- the task of an errand
 abbrev pub task_of_errand : Errand → Task
 task_of_errand errand.Replay = Replay
 task_of_errand (errand.Submit s) = task_of_submitting s
 task_of_errand (errand.Read r) = task_of_reading r
+task_of_errand (errand.Status s) = task_of_asking s
 
 -- the task of a command line
 abbrev pub task_of : Line → Task
@@ -100,6 +110,20 @@ read_task rows = do
   max ← number_of (codes "max") 1 MOST_ENTRIES rows
   Some (Read port from max)
 
+-- The nodes to ask: the one at the port, or all of a group. With a port there is neither a base nor
+-- a number of nodes, and a group needs both.
+abbrev pub asked_nodes : Option ℕ → Option ℕ → Option ℕ → Option Task
+asked_nodes (Some port) None None = Some (Status port 1)
+asked_nodes None (Some base) (Some nodes) = Some (Status (base + CLIENT_PORT_OFFSET + 1) nodes)
+asked_nodes _ _ _ = None
+
+-- nodes to ask for their state, from the options
+unfoldable pub status_task : List Row → Option Task
+status_task rows =
+    asked_nodes (number_of (codes "port") 1 65535 rows)
+    (number_of (codes "base-port") MIN_BASE_PORT MAX_BASE_PORT rows)
+    (number_of (codes "nodes") 1 MAX_NODES rows)
+
 -- the task of a subcommand, from what was found for it
 abbrev pub task_named : Option (Text × List Row) → Option Task
 task_named None = None
@@ -108,4 +132,14 @@ task_named (Some (name, rows)) =
     else if bytes_eq name (codes "serve") then serve_task rows
     else if bytes_eq name (codes "submit") then submit_task rows
     else if bytes_eq name (codes "read") then read_task rows
+    else if bytes_eq name (codes "status") then status_task rows
     else None
+
+-- the parser finds no fault in these words, but the options that they have don't fit together
+abbrev pub IsUnfit : List Text → Type 0
+IsUnfit words = (faults_of words ≡ []) × (task_named (subcommand_of urbd_app words) ≡ None)
+
+-- The status that a refused command line ends with: that of its first fault, or of refused memory.
+-- It is 3 if the options don't fit together.
+abbrev pub IsRefused : List Text → ℕ → Type 0
+IsRefused words status = HasStatus (faults_of words) status ⊎ (IsUnfit words × (status ≡ 3))

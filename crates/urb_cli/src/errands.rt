@@ -4,6 +4,7 @@ ghost use Rattle.std.specs.Prelude.{◌≡◌};
 ghost use Rattle.urb_cli.specs.Statuses.{IsErrandsEnd, status_of};
 
 use crate::client::run::{run_read, run_submit};
+use crate::client::status::run_status;
 use crate::command_line::task::Errand;
 use crate::faults::{Fault, report_fault};
 use crate::script::replay;
@@ -25,8 +26,9 @@ pub fn report_script_end<R: Eprint>(rt: &R, outcome: Result<Ended, RunFault>) ->
     }
 }
 
-/// Does an errand, and returns the program's status. For a script it is that of `finish`. For a
-/// client's command it is 0, or 4 if a node refused it, or 1 after a fault.
+/// Does an errand, and returns the program's status. For a script it is that of
+/// `report_script_end`. For a client's command it is 0, or 4 if a node refused it, or 1 after a
+/// fault.
 pub fn run_errand<R>(rt: &R, errand: Errand<'_>) -> u8
 where
     R: AllocGlobal + Print + Eprint + Input + Net<Listener = TcpListener, Stream = TcpStream>,
@@ -36,5 +38,6 @@ where
         Errand::Replay => report_script_end(rt, replay(rt)),
         Errand::Submit(submitting) => run_submit(rt, submitting),
         Errand::Read(reading) => run_read(rt, reading),
+        Errand::Status(asking) => run_status(rt, asking),
     }
 }

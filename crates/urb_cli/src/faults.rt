@@ -101,7 +101,7 @@ impl From<Refusal> for Fault {
 }
 
 /// The status of a fault.
-const FAULT: u8 = 1;
+pub(crate) const FAULT: u8 = 1;
 
 /// Reports a fault on standard error, and returns its status.
 pub fn report_fault<R: Eprint>(rt: &R, fault: Fault) -> u8

@@ -13,7 +13,7 @@
 //! }
 //! ```
 //!
-//! What the program's `submit` and `read` show is a stated function of the response
+//! What the program's `submit`, `read` and `status` show is a stated function of the response
 //! (`specs/ClientOutput.antt`). No call opens a file, and no call starts a thread.
 #![tactic(auto)]
 
@@ -23,13 +23,17 @@ mod errands;
 mod faults;
 mod limits;
 mod script;
+mod version;
 
+pub use client::call_fault::{CallFault, report_call_fault};
 pub use client::printed::Printed;
 pub use client::run::{read_at, read_over, show, submit_at, submit_over};
+pub use client::status::{status_at, status_over};
 pub use command_line::options::ServeOptions;
 pub use command_line::parse::{parse_line, read_words};
-pub use command_line::task::{Errand, Line, ReadOptions, SubmitOptions};
+pub use command_line::task::{Errand, Line, ReadOptions, StatusOptions, SubmitOptions};
 pub use errands::{report_script_end, run_errand};
 pub use faults::{Fault, report_fault};
 pub use limits::{CLIENT_PORT_OFFSET, MAX_BASE_PORT, MAX_TICK_MILLIS, MIN_BASE_PORT};
 pub use script::replay;
+pub use version::VERSION;

@@ -7,12 +7,13 @@ use Rattle.std.specs.Prelude.{nat_lt, ◌==◌, slice_index, IfOk}
 use Rattle.std.proofs.lemmas.Bool.{eqb-true, ltb-false}
 use Rattle.std.proofs.lemmas.Bool.Decides.{nat_tests}
 use Rattle.std.proofs.lemmas.List.{nil_from_length, drop-drop, length-drop}
+use Rattle.std.proofs.Common.{append-nil}
 use Rattle.urb_client.specs.declared.format.TheConstants.{MOST_ENTRIES}
 use Rattle.byteorder.specs.Endian.{big_number, big_bytes}
 use Rattle.urb_names.specs.declared.refusal.Refusal.{Refusal}
-use Rattle.urb_client.specs.Requests.{Asked, Submit, Read, Status, Crash, Restart, IsAsked}
+use Rattle.urb_client.specs.Requests.{Asked, Submit, Read, Status, Crash, Restart, Wait, IsAsked}
 use Rattle.urb_client.specs.Requests.{IsSubmit, Gives, submit_fields, read_fields, no_fields}
-use Rattle.urb_client.specs.Requests.{request_of, request_body}
+use Rattle.urb_client.specs.Requests.{request_of, request_body, wait_fields}
 use Rattle.urb_client.proofs.ResponseParts.{IsBytes, IsBytes-rest, IsBytes-drop, by_test, two, four}
 
 -- fields that are long enough, with a client that isn't 0, are a submit
@@ -91,6 +92,43 @@ read_takes fields asked fits e =
       bytes = ap (λ (r : List ℕ). 2 ∷ r) all;
     })
 
+wait_takes : (fields : List ℕ) (asked : Asked) → IsBytes fields → wait_fields fields ≡ Ok asked
+    → Spells fields 6 asked
+wait_takes fields asked fits e =
+    let len = held (length fields == 7) 3 _ asked e in
+    let place = passed (big_number 4 fields == 0) 4 _ asked len.1 in
+    let some = passed (slice_index fields 4 == 0) 4 _ asked place.1 in
+    let few = passed (nat_lt MOST_ENTRIES (slice_index fields 4)) 4 _ asked some.1 in
+    let made : Asked =
+    Wait (big_number 4 fields) (slice_index fields 4) (big_number 2 (drop 5 fields)) in
+    let same : made ≡ asked = cc (few.1) in
+    let seven : length fields ≡ 7 = eqb-true _ _ len.0 in
+    let nothing : drop 2 (drop 5 fields) ≡ [] =
+    nil_from_length (drop 2 (drop 5 fields))
+    (omega (arith, seven, length-drop 5 fields, length-drop 2 (drop 5 fields))) in
+    let time : big_bytes 2 (big_number 2 (drop 5 fields)) ≡ drop 5 fields =
+    sym (append-nil (big_bytes 2 (big_number 2 (drop 5 fields))))
+    ∙ ap (λ (r : List ℕ). big_bytes 2 (big_number 2 (drop 5 fields)) ++ r) (sym nothing)
+    ∙ two.back (drop 5 fields) (omega (arith, seven, length-drop 5 fields))
+    (IsBytes-drop 5 fields fits) in
+    let last : drop 4 fields ≡ slice_index fields 4 ∷ big_bytes 2 (big_number 2 (drop 5 fields)) =
+    drop-cons fields 4 0 (omega (arith, seven))
+    ∙ ap (λ (r : List ℕ). slice_index fields 4 ∷ r) (sym time) in
+    let all : fields ≡ big_bytes 4 (big_number 4 fields)
+    ++ slice_index fields 4 ∷ big_bytes 2 (big_number 2 (drop 5 fields)) =
+    sym (four.back fields (omega (arith, seven)) fits)
+    ∙ ap (λ (r : List ℕ). big_bytes 4 (big_number 4 fields) ++ r) last in
+    subst (Spells fields 6) same (record {
+      is = (
+        not_zero _ place.0,
+        four.below fields fits,
+        not_zero _ some.0,
+        ltb-false _ _ few.0,
+        two.below (drop 5 fields) (IsBytes-drop 5 fields fits),
+      );
+      bytes = ap (λ (r : List ℕ). 6 ∷ r) all;
+    })
+
 alone_takes : (opcode : ℕ) (alone : Asked) (fields : List ℕ) (asked : Asked) → IsAsked alone
     → opcode ∷ [] ≡ request_body alone → no_fields alone fields ≡ Ok asked
     → Spells fields opcode asked
@@ -119,7 +157,9 @@ asked_takes (opcode ∷ fields) asked fits e =
     (λ same h. from 4 same (alone_takes 4 Crash fields asked tt refl h))
     (λ e. by_test (opcode == 5) _ _ (Ok asked) P e
     (λ same h. from 5 same (alone_takes 5 Restart fields asked tt refl h))
-    (λ e. absurd cc)))))
+    (λ e. by_test (opcode == 6) _ _ (Ok asked) P e
+    (λ same h. from 6 same (wait_takes fields asked rest h))
+    (λ e. absurd cc))))))
 
 pub is_found : {A : Type 0} (view : A → Asked) (bytes : List ℕ) (read : Result A Refusal)
     → IsBytes bytes → Gives view read (request_of bytes)

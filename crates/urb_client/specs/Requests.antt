@@ -10,6 +10,7 @@ use Rattle.urb_client.specs.declared.format.TheConstants.{ASK_SUBMIT, ASK_READ, 
 use Rattle.urb_client.specs.declared.format.TheConstants.{ASK_CRASH, ASK_RESTART, UNKNOWN_OPCODE}
 use Rattle.urb_client.specs.declared.format.TheConstants.{WRONG_LENGTH, BAD_VALUE, SUBMIT_HEAD}
 use Rattle.urb_client.specs.declared.format.TheConstants.{READ_FIELDS, MOST_ENTRIES}
+use Rattle.urb_client.specs.declared.format.TheConstants.{ASK_WAIT, WAIT_FIELDS}
 use Rattle.urb_names.specs.declared.limits.TheConstants.{MAX_PAYLOAD}
 
 -- What a client asks, as contracts see it. It may ask to broadcast a payload under its number. It
@@ -21,6 +22,7 @@ pub data Asked : Type 0 where
   Status : Asked
   Crash : Asked
   Restart : Asked
+  Wait : ℕ → ℕ → ℕ → Asked
 
 -- what a request asks
 abbrev pub asked_by : {A : Type 0} → Request A → Asked
@@ -29,6 +31,7 @@ asked_by (code.Read place max) = Read place max
 asked_by code.Status = Status
 asked_by code.Crash = Crash
 asked_by code.Restart = Restart
+asked_by (code.Wait place max millis) = Wait place max millis
 
 -- a request's values: a client and a place from 1, and one to MOST_ENTRIES entries
 abbrev pub IsAsked : Asked → Type 0
@@ -37,6 +40,8 @@ IsAsked (Read place max) = (0 < place) × (place < 2 ^ 32) × (0 < max) × (max 
 IsAsked Status = Unit {0}
 IsAsked Crash = Unit {0}
 IsAsked Restart = Unit {0}
+IsAsked (Wait place max millis) =
+    (0 < place) × (place < 2 ^ 32) × (0 < max) × (max ≤ MOST_ENTRIES) × (millis < 2 ^ 16)
 
 -- its payload, if it has one, is within the limit of a message
 abbrev pub IsShort : Asked → Type 0
@@ -45,6 +50,7 @@ IsShort (Read place max) = Unit {0}
 IsShort Status = Unit {0}
 IsShort Crash = Unit {0}
 IsShort Restart = Unit {0}
+IsShort (Wait place max millis) = Unit {0}
 
 -- the only encoding of a request, after its length: the opcode, and the fields in order
 abbrev pub request_body : Asked → List ℕ
@@ -54,6 +60,8 @@ request_body (Read place max) = ASK_READ ∷ (big_bytes 4 place ++ max ∷ [])
 request_body Status = ASK_STATUS ∷ []
 request_body Crash = ASK_CRASH ∷ []
 request_body Restart = ASK_RESTART ∷ []
+request_body (Wait place max millis) =
+    ASK_WAIT ∷ (big_bytes 4 place ++ max ∷ big_bytes 2 millis)
 
 -- after the opcode of a submit: a client, a number, and the rest as the payload
 abbrev pub submit_fields : List ℕ → Result Asked ℕ
@@ -72,6 +80,16 @@ read_fields fields =
     else Ok (Read (big_number 4 fields) (slice_index fields 4)))
     else Err WRONG_LENGTH
 
+-- after the opcode of a wait: a place, the greatest number of entries, and milliseconds
+abbrev pub wait_fields : List ℕ → Result Asked ℕ
+wait_fields fields =
+    if length fields == WAIT_FIELDS then
+    (if big_number 4 fields == 0 then Err BAD_VALUE
+    else if slice_index fields 4 == 0 then Err BAD_VALUE
+    else if nat_lt MOST_ENTRIES (slice_index fields 4) then Err BAD_VALUE
+    else Ok (Wait (big_number 4 fields) (slice_index fields 4) (big_number 2 (drop 5 fields))))
+    else Err WRONG_LENGTH
+
 -- after an opcode without fields: nothing
 abbrev pub no_fields : Asked → List ℕ → Result Asked ℕ
 no_fields asked fields = if length fields == 0 then Ok asked else Err WRONG_LENGTH
@@ -85,6 +103,7 @@ request_of (opcode ∷ fields) =
     else if opcode == ASK_STATUS then no_fields Status fields
     else if opcode == ASK_CRASH then no_fields Crash fields
     else if opcode == ASK_RESTART then no_fields Restart fields
+    else if opcode == ASK_WAIT then wait_fields fields
     else Err UNKNOWN_OPCODE
 
 -- the request is a submit, the only request that takes memory

@@ -48,6 +48,12 @@ pub const ASK_CRASH: u8 = 4;
 /// The opcode of a restart.
 pub const ASK_RESTART: u8 = 5;
 
+/// The opcode of a wait: a read that waits for an entry.
+pub const ASK_WAIT: u8 = 6;
+
+/// The number of bytes of a wait after its opcode: a place, a greatest count, milliseconds.
+pub const WAIT_FIELDS: usize = 7;
+
 /// The opcode of an acceptance.
 pub const SAY_ACCEPTED: u8 = 0x81;
 

@@ -3,12 +3,13 @@
 ghost use Rattle.std.specs.Prelude.{◌≡◌, ◌<◌, [], ◌∷◌, IfOk, Ok};
 ghost use Rattle.urb_client.specs.Requests.{Asked, Gives, IsAsked, IsShort, request_of, asked_by};
 ghost use Rattle.urb_client.specs.Requests.{submit_fields, read_fields, no_fields, request_body};
+ghost use Rattle.urb_client.specs.Requests.{wait_fields};
 ghost use Rattle.urb_client.specs.Responses.{frame};
 ghost use Rattle.urb_client.specs.Sessions.{Begins, Asks};
 
 use crate::format::{
-    ASK_CRASH, ASK_READ, ASK_RESTART, ASK_STATUS, ASK_SUBMIT, BAD_VALUE, MOST_ENTRIES, READ_FIELDS,
-    SUBMIT_HEAD, UNKNOWN_OPCODE, WRONG_LENGTH,
+    ASK_CRASH, ASK_READ, ASK_RESTART, ASK_STATUS, ASK_SUBMIT, ASK_WAIT, BAD_VALUE, MOST_ENTRIES,
+    READ_FIELDS, SUBMIT_HEAD, UNKNOWN_OPCODE, WAIT_FIELDS, WRONG_LENGTH,
 };
 use byteorder::{BigEndian, ByteOrder};
 use std::alloc::{Allocator, Global};
@@ -29,6 +30,13 @@ pub enum Request<A: Allocator = Global> {
     Read {
         place: u32,
         max: u8,
+    },
+    /// Show the same as a `Read`. If the log has no entry there yet, wait for one, at most `millis`
+    /// milliseconds.
+    Wait {
+        place: u32,
+        max: u8,
+        millis: u16,
     },
     /// Show the node's state.
     Status,
@@ -68,6 +76,7 @@ fn parse_by_opcode<A: Allocator + Copy>(alloc: A, bytes: &[u8]) -> Result<Reques
         [ASK_STATUS, fields @ ..] => require_no_fields(Request::Status, fields),
         [ASK_CRASH, fields @ ..] => require_no_fields(Request::Crash, fields),
         [ASK_RESTART, fields @ ..] => require_no_fields(Request::Restart, fields),
+        [ASK_WAIT, fields @ ..] => wait_of(fields),
         _ => Err(Refusal::Frame(UNKNOWN_OPCODE)),
     }
 }
@@ -106,6 +115,25 @@ fn read_of<A: Allocator>(fields: &[u8]) -> Result<Request<A>, Refusal>
         return Err(Refusal::Frame(BAD_VALUE));
     }
     Ok(Request::Read { place, max })
+}
+
+fn wait_of<A: Allocator>(fields: &[u8]) -> Result<Request<A>, Refusal>
+    ensures { Gives asked_by result (wait_fields fields.now) }
+{
+    if fields.len() != WAIT_FIELDS {
+        return Err(Refusal::Frame(WRONG_LENGTH));
+    }
+    let place = BigEndian::read_u32(fields);
+    if place == 0 {
+        return Err(Refusal::Frame(BAD_VALUE));
+    }
+    let max = fields[4];
+    if max == 0 || max as usize > MOST_ENTRIES {
+        return Err(Refusal::Frame(BAD_VALUE));
+    }
+    let (_, time) = fields.split_at(5);
+    let millis = BigEndian::read_u16(time);
+    Ok(Request::Wait { place, max, millis })
 }
 
 fn require_no_fields<A: Allocator>(
@@ -155,6 +183,12 @@ fn build_frame<A: Allocator>(alloc: A, request: &Request<A>) -> Result<Vec<u8, A
         Request::Read { place, max } => {
             let mut head = [0, 1 + READ_FIELDS as u8, ASK_READ, 0, 0, 0, 0, *max];
             BigEndian::write_u32(&mut head[3..], *place);
+            frame.extend_from_slice(&head)?;
+        }
+        Request::Wait { place, max, millis } => {
+            let mut head = [0, 1 + WAIT_FIELDS as u8, ASK_WAIT, 0, 0, 0, 0, *max, 0, 0];
+            BigEndian::write_u32(&mut head[3..], *place);
+            BigEndian::write_u16(&mut head[8..], *millis);
             frame.extend_from_slice(&head)?;
         }
         Request::Status => frame.extend_from_slice(&[0, 1, ASK_STATUS])?,

@@ -130,12 +130,13 @@ fn an_input_that_ends_inside_a_frame_is_refused(rt: HostRuntime) {
 }
 
 /// Frames with a fault, and the fault's code.
-const FAULTS: [(&[u8], u8); 18] = [
+const FAULTS: [(&[u8], u8); 19] = [
     (b"\x00\x00", 1),
     (b"\x40\xd9", 1),
     (b"\xff\xff\x03", 1),
     (b"\x00\x01\x00", 2),
-    (b"\x00\x01\x06", 2),
+    (b"\x00\x01\x06", 3),
+    (b"\x00\x01\x07", 2),
     (b"\x00\x02\x09\x09", 2),
     (b"\x00\x06\x01\x00\x00\x00\x00\x00", 3),
     (b"\x00\x05\x02\x00\x00\x00\x00", 3),

@@ -8,38 +8,38 @@ use Rattle.urb_group.specs.Reopening.{HasStopped}
 use Rattle.urb_group.specs.Shown.{GroupView}
 use Rattle.urb_group.specs.World.{World}
 use Rattle.urb_worker.specs.ServedStores.{AreServed}
-use Rattle.urb_cli.specs.Statuses.{fault_of_refusal}
-use Rattle.urb_cli.specs.declared.faults.Fault.{Fault}
+use Rattle.urb_daemon.specs.declared.serve_fault.ServeFault.{ServeFault}
+use Rattle.urb_daemon.specs.declared.serve_fault.ServeFault.TheVariants.{Network, Unopened}
+use Rattle.urb_daemon.specs.declared.network_fault.NetworkFault.{NetworkFault}
 use Rattle.urb_folder.specs.GroupsAfterStop.{ContinuesTogether}
 use Rattle.urb_folder.specs.StoresAsked.{OpensTogether}
 use Rattle.urb_daemon.specs.RunsAfterStop.{EndsAfterStop}
-use Rattle.urb_daemon.specs.Runs.{EndsAs, EndsFrom, IsOfSockets}
+use Rattle.urb_daemon.specs.Runs.{EndsAs, EndsFrom}
 use Rattle.urb_daemon.specs.internal.Runs.{end_of}
 
 -- ---- how a run ends
 
 -- the end of a run whose group ran, judged by the count of its events
 pub ends-by-events :
-    (events : Option ℕ) (told : Bool) (end : Result ℕ Fault)
+    (events : Option ℕ) (told : Bool) (end : Result ℕ ServeFault)
     → end ≡ end_of events told → EndsAs told end
 ends-by-events events told end is = subst (λ e. EndsAs told e) (sym is) (go events told)
   where
     go : (events : Option ℕ) (told : Bool) → EndsAs told (end_of events told)
     go (Some events) true = refl
     go (Some events) false = refl
-    go None told = inr refl
+    go None told = tt
 
 -- the end of a run that got no network
 pub ends-without-network :
-    (why : Fault) (told : Bool) → IsOfSockets why → EndsAs told (Err why)
-ends-without-network why told (inl is) = subst (λ w. EndsAs told (Err w)) (sym is) (inl refl)
-ends-without-network why told (inr is) = subst (λ w. EndsAs told (Err w)) (sym is) (inr refl)
+    (why : NetworkFault) (told : Bool) → EndsAs told (Err (Network why))
+ends-without-network why told = tt
 
 -- the end of a run of a group that was opened from these stores
 pub ends-opened :
     {S A : Type 0} (g : Ghosts S A) (size own : Limits) (stores : List S)
     (result : Result GroupView Refusal) (group : GroupView) (asked lasts : List S) (told : Bool)
-    (end : Result ℕ Fault)
+    (end : Result ℕ ServeFault)
     → size ≡ own → result ≡ Ok group → OpensTogether g size stores result asked
     → AreServed g asked lasts → EndsAs told end → EndsFrom g own stores told end lasts
 ends-opened g size own stores result group asked lasts told end same is opens served ends =
@@ -57,7 +57,7 @@ ends-opened g size own stores result group asked lasts told end same is opens se
 pub served-after-stop :
     {S A : Type 0} (g : Ghosts S A) (size own : Limits) (stores : List S)
     (result : Result GroupView Refusal) (group : GroupView) (asked lasts : List S) (told : Bool)
-    (end : Result ℕ Fault)
+    (end : Result ℕ ServeFault)
     → size ≡ own → result ≡ Ok group → OpensTogether g size stores result asked
     → ((old : GroupView) (w : World) → HasStopped g old w size stores
     → ContinuesTogether g old w size stores result asked)
@@ -80,11 +80,11 @@ served-after-stop g size own stores result group asked lasts told end same is op
 pub refused-after-stop :
     {S A : Type 0} (g : Ghosts S A) (size own : Limits) (stores : List S)
     (result : Result GroupView Refusal) (why : Refusal) (asked : List S) (told : Bool)
-    (end : Result ℕ Fault)
+    (end : Result ℕ ServeFault)
     → size ≡ own → result ≡ Err why
     → ((old : GroupView) (w : World) → HasStopped g old w size stores
     → ContinuesTogether g old w size stores result asked)
-    → end ≡ Err (fault_of_refusal why)
+    → end ≡ Err (Unopened why)
     → (old : GroupView) (w : World) → HasStopped g old w own stores
     → EndsAfterStop g old w own stores told end asked
 refused-after-stop g size own stores result why asked told end same is goes_on ends old w stopped =

@@ -2,12 +2,13 @@
 use Rattle.urb_stable.specs.Storing.{refusal_of}
 use Rattle.urb_cli.specs.Statuses.{fault_of_refusal}
 use Rattle.urb_cli.specs.declared.faults.Fault.{Fault}
-use Rattle.urb_cli.specs.declared.faults.Fault.TheVariants.{Refused}
+use Rattle.urb_cli.specs.declared.faults.Fault.TheVariants as fault
 use Rattle.urb_folder.specs.declared.folder_fault.FolderFault.{FolderFault}
-use Rattle.urb_folder.specs.declared.folder_fault.FolderFault.TheVariants.{ForeignRecords, Store}
+use Rattle.urb_folder.specs.declared.folder_fault.FolderFault.TheVariants.{ForeignRecords, Journal, NoMemory}
 
 -- The fault of a journal is reported as its refusal. Records of a node that the group doesn't have
 -- are reported as the refusal 14, with detail 0.
 abbrev pub fault_of_folder : FolderFault → Fault
-fault_of_folder (Store fault) = fault_of_refusal (refusal_of fault)
-fault_of_folder ForeignRecords = Refused 14 0
+fault_of_folder NoMemory = fault.NoMemory
+fault_of_folder (Journal number why) = fault_of_refusal (refusal_of why)
+fault_of_folder (ForeignRecords number) = fault.Refused 14 0

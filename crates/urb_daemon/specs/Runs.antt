@@ -8,26 +8,24 @@ use Rattle.urb_stable.specs.declared.stable.StoreFault.{StoreFault}
 use Rattle.urb_group.specs.Asked.{Gives}
 use Rattle.urb_group.specs.Shown.{GroupView}
 use Rattle.urb_worker.specs.ServedStores.{AreServed}
-use Rattle.urb_cli.specs.Statuses.{fault_of_refusal}
-use Rattle.urb_cli.specs.declared.faults.Fault.{Fault}
-use Rattle.urb_cli.specs.declared.faults.Fault.TheVariants as fault
 use Rattle.urb_cli.specs.declared.command_line.options.ServeOptions.{ServeOptions}
+use Rattle.urb_daemon.specs.declared.serve_fault.ServeFault.{ServeFault}
+use Rattle.urb_daemon.specs.declared.serve_fault.ServeFault.TheVariants.{Network, NoMemory, Unopened}
+use Rattle.urb_daemon.specs.declared.serve_fault.ServeFault.TheVariants.{Untold}
 use Rattle.urb_folder.specs.StoresAsked.{OpensTogether}
 
 -- the limits of the group in these settings
 abbrev pub limits_of : ServeOptions → Limits
 limits_of serving = record { n = serving.nodes; cap = serving.cap }
 
--- the faults of opening sockets: a port isn't available, or memory was refused
-abbrev pub IsOfSockets : Fault → Type 0
-IsOfSockets why = (why ≡ fault.Network) ⊎ (why ≡ fault.NoMemory)
-
 -- How a run ends if its group was opened. It came to its end, and its opening was reported. Or the
 -- opening could not be reported. Or sockets, memory or a thread were refused.
-abbrev pub EndsAs : Bool → Result ℕ Fault → Type 0
+abbrev pub EndsAs : Bool → Result ℕ ServeFault → Type 0
 EndsAs told (Ok events) = told ≡ true
-EndsAs told (Err fault.Write) = told ≡ false
-EndsAs told (Err why) = IsOfSockets why
+EndsAs told (Err Untold) = told ≡ false
+EndsAs told (Err (Unopened why)) = ⊥
+EndsAs told (Err (Network why)) = Unit {0}
+EndsAs told (Err NoMemory) = Unit {0}
 
 module _ {S A : Type 0} (g : Ghosts S A) where
   -- a store was asked for its records, or was left as it was
@@ -50,14 +48,14 @@ module _ {S A : Type 0} (g : Ghosts S A) where
     pub then : AreServed g asked lasts
 
   -- the group could not be opened from these stores, and the run ends with that refusal
-  pub record EndsUnopened (size : Limits) (stores : List S) (end : Result ℕ Fault)
+  pub record EndsUnopened (size : Limits) (stores : List S) (end : Result ℕ ServeFault)
       (lasts : List S) : Type 0 where
     pub why : Refusal
     pub opens : OpensTogether g size stores (Err why) lasts
-    pub ends : end ≡ Err (fault_of_refusal why)
+    pub ends : end ≡ Err (Unopened why)
 
   -- the group was opened from these stores, and they served it until the run ended
-  pub record EndsOpened (size : Limits) (stores : List S) (told : Bool) (end : Result ℕ Fault)
+  pub record EndsOpened (size : Limits) (stores : List S) (told : Bool) (end : Result ℕ ServeFault)
       (lasts : List S) : Type 0 where
     pub group : GroupView
     pub asked : List S
@@ -67,6 +65,6 @@ module _ {S A : Type 0} (g : Ghosts S A) where
 
   -- how a run over these stores ends, and the stores after it, depending on whether its opening was
   -- reported
-  abbrev pub EndsFrom : Limits → List S → Bool → Result ℕ Fault → List S → Type 0
+  abbrev pub EndsFrom : Limits → List S → Bool → Result ℕ ServeFault → List S → Type 0
   EndsFrom size stores told end lasts =
       EndsUnopened size stores end lasts ⊎ EndsOpened size stores told end lasts

@@ -8,8 +8,8 @@ use Rattle.urb_group.specs.Reopening.{ContinuesFrom}
 use Rattle.urb_group.specs.Shown.{GroupView}
 use Rattle.urb_group.specs.World.{World}
 use Rattle.urb_worker.specs.ServedStores.{AreServed}
-use Rattle.urb_cli.specs.Statuses.{fault_of_refusal}
-use Rattle.urb_cli.specs.declared.faults.Fault.{Fault}
+use Rattle.urb_daemon.specs.declared.serve_fault.ServeFault.{ServeFault}
+use Rattle.urb_daemon.specs.declared.serve_fault.ServeFault.TheVariants.{Unopened}
 use Rattle.urb_folder.specs.GroupsAfterStop.{ContinuesTogether}
 use Rattle.urb_folder.specs.StoresAsked.{OpensTogether}
 use Rattle.urb_daemon.specs.Runs.{EndsAs}
@@ -18,17 +18,17 @@ module _ {S A : Type 0} (g : Ghosts S A) where
   -- The group could not be opened over what a stop had left, and the run ends with that refusal.
   -- The stores still hold what the stop had left.
   pub record EndsStopped
-      (old : GroupView) (w : World) (size : Limits) (passed : List S) (end : Result ℕ Fault)
+      (old : GroupView) (w : World) (size : Limits) (passed : List S) (end : Result ℕ ServeFault)
       (lasts : List S)
       : Type 0 where
     pub why : Refusal
     pub stays : ContinuesTogether g old w size passed (Err why) lasts
-    pub ends : end ≡ Err (fault_of_refusal why)
+    pub ends : end ≡ Err (Unopened why)
 
   -- The group was opened, and over honest stores it goes on from the world before the stop. The
   -- stores served it until the run ended.
   pub record EndsContinued
-      (w : World) (size : Limits) (passed : List S) (told : Bool) (end : Result ℕ Fault)
+      (w : World) (size : Limits) (passed : List S) (told : Bool) (end : Result ℕ ServeFault)
       (lasts : List S)
       : Type 0 where
     pub group : GroupView
@@ -41,6 +41,6 @@ module _ {S A : Type 0} (g : Ghosts S A) where
   -- how a run over what a stop of this world had left ends, depending on whether its opening was
   -- reported
   abbrev pub EndsAfterStop :
-      GroupView → World → Limits → List S → Bool → Result ℕ Fault → List S → Type 0
+      GroupView → World → Limits → List S → Bool → Result ℕ ServeFault → List S → Type 0
   EndsAfterStop old w size passed told end lasts =
       EndsStopped old w size passed end lasts ⊎ EndsContinued w size passed told end lasts

@@ -1,40 +1,49 @@
-//! What operators read about a running group, on standard error.
+//! What operators read about a running group.
 
 use urb_names::{NodeId, Refusal};
-use urb_worker::{Change, Reporter};
+use urb_worker::{Change, MOST_CONNECTIONS, Reporter};
 
-/// Reports on standard error each node that goes down or comes back, each in a line of its own. A
-/// line that can't be written is lost.
+/// Reports each node that goes down or comes back, in a line of its own. A line that can't be
+/// written is lost. A worker calls it, so the output should be one that never waits.
 #[derive(Drop)]
-pub struct Reports<'a, R: Eprint> {
-    rt: &'a R,
+pub struct Reports<'a, E: Eprint> {
+    errors: &'a E,
 }
 
-impl<'a, R: Eprint> Reports<'a, R> {
-    /// Reports to this runtime's standard error.
-    pub fn new(rt: &'a R) -> Reports<'a, R> {
-        Reports { rt }
+impl<'a, E: Eprint> Reports<'a, E> {
+    /// Reports to this output: an `ErrorOutput`, in the daemon.
+    pub fn new(errors: &'a E) -> Reports<'a, E> {
+        Reports { errors }
     }
 
     // Reports that a node's store failed.
     fn tell_failure(&self, node: NodeId, refusal: Refusal) {
         let (node, number) = (node.number(), refusal.number());
-        let _ = eprintln!(self.rt; "urbd: node {node} is down: {refusal} ({number})");
+        let _ = eprintln!(self.errors; "urbd: node {node} is down: {refusal} ({number})");
     }
 }
 
-impl<'a, R: Eprint> Reporter for Reports<'a, R> {
+impl<'a, E: Eprint> Reporter for Reports<'a, E> {
     fn report(&self, change: Change) {
         match change {
             Change::Failed(node, refusal) => self.tell_failure(node, refusal),
             Change::Crashed(node) => {
                 let node = node.number();
-                let _ = eprintln!(self.rt; "urbd: node {node} is down: asked to crash");
+                let _ = eprintln!(self.errors; "urbd: node {node} is down: asked to crash");
             }
             Change::CameBack(node) => {
                 let node = node.number();
-                let _ = eprintln!(self.rt; "urbd: node {node} is back");
+                let _ = eprintln!(self.errors; "urbd: node {node} is back");
             }
+        }
+    }
+
+    /// Reports it only if there are too few descriptors for `MOST_CONNECTIONS`.
+    fn report_connections(&self, each: usize) {
+        if each < MOST_CONNECTIONS {
+            let _ = eprintln!(self.errors;
+                "urbd: few descriptors: each node serves {each} connections"
+            );
         }
     }
 }

@@ -10,7 +10,7 @@ ghost use Rattle.urb_daemon.specs.Runs.{ComeBack, EndsFrom, limits_of};
 ghost use Rattle.urb_daemon.specs.internal.Runs.{end_of};
 
 use crate::console::Console;
-use crate::reports::Reports;
+use crate::serve_fault::{ServeFault, report_serve_fault};
 use crate::sockets::{Network, open_network};
 use sqlite_disk::Disk;
 use std::alloc::Global;
@@ -25,23 +25,24 @@ use urb_cli::{Fault, ServeOptions, report_fault};
 use urb_folder::{Journal, open_group};
 use urb_group::{Group, Stable};
 use urb_show::House;
-use urb_worker::{GroupSetting, Watch, run_group};
+use urb_worker::{ClientLimits, GroupSetting, Reporter, Watch, run_group};
 
-/// What the daemon needs of the runtime: threads, waiting, the clock and standard error. Functions
-/// that use sockets ask for `Net` as well, because they have to name the types of its sockets.
-pub trait Host: Threads + Wait + Clock + Eprint + Sync {}
+/// What the daemon needs of the runtime: threads, waiting and the clock. Functions that use sockets
+/// ask for `Net` as well, because they have to name the types of its sockets.
+pub trait Host: Threads + Wait + Clock + Sync {}
 
-impl<R: Threads + Wait + Clock + Eprint + Sync> Host for R {}
+impl<R: Threads + Wait + Clock + Sync> Host for R {}
 
-/// Runs a group over its stores until the watch ends. It reports on standard error each node that
-/// goes down or comes back. It returns the stores, and the count of the group's events. There is no
-/// count if memory or a thread was refused.
-pub fn run_group_at<S: Stable<Alloc = Global> + Send + Drop, R, W: Watch>(
+/// Runs a group over its stores until the watch ends. It reports each node that goes down or comes
+/// back. It returns the stores, and the count of the group's events. There is no count if memory or
+/// a thread was refused.
+pub fn run_group_at<S: Stable<Alloc = Global> + Send + Drop, R, H: Reporter + Sync, W: Watch>(
     rt: &R,
     alloc: Global,
     group: Group,
     network: &Network,
     stores: Vec<S>,
+    reporter: &H,
     watch: &mut W,
 ) -> (Vec<S>, Option<u64>)
 where
@@ -56,40 +57,47 @@ where
     let Ok(opened) = House::open(group) else {
         unreachable!()
     };
-    let reports = Reports::new(rt);
     let setting = GroupSetting {
         rt,
         alloc,
         link: &network.link,
         stations: network.stations.as_slice(),
         tick_millis: network.every,
-        reporter: &reports,
+        reporter,
+        limits: ClientLimits::standard(network.connections),
     };
-    run_group::<Brand, Brand, S, Reports<'_, R>, R, W>(&setting, opened, blank, stores, watch)
+    run_group::<Brand, Brand, S, H, R, W>(&setting, opened, blank, stores, watch)
 }
 
 // How a run has ended, judged by the count of its events, if it has one, and by whether its opening
 // was reported.
-fn judge_end(events: Option<u64>, is_told: bool) -> Result<u64, Fault>
+fn judge_end(events: Option<u64>, is_told: bool) -> Result<u64, ServeFault>
     ensures { result ≡ end_of events is_told }
 {
     match events {
         Some(events) if is_told => Ok(events),
-        Some(_) => Err(Fault::Write),
-        None => Err(Fault::NoMemory),
+        Some(_) => Err(ServeFault::Untold),
+        None => Err(ServeFault::NoMemory),
     }
 }
 
 /// Opens a group over its stores and its network, and runs it until standard input ends. The
 /// console prints `open N` once everything is open. The result is the count of the group's events,
 /// or the fault. In either case the stores are returned, so nothing that was accepted is lost.
-pub fn run_stores<S: Stable<Alloc = Global> + Send + Drop, R, P: Print, I: Read + Drop>(
+pub fn run_stores<
+    S: Stable<Alloc = Global> + Send + Drop,
+    R,
+    H: Reporter + Sync,
+    P: Print,
+    I: Read + Drop,
+>(
     rt: &R,
     alloc: Global,
     serving: ServeOptions<'_>,
     stores: Vec<S>,
+    reporter: &H,
     console: &mut Console<'_, P, I>,
-) -> (Vec<S>, Result<u64, Fault>)
+) -> (Vec<S>, Result<u64, ServeFault>)
 where
     R: Host + Net<Listener = TcpListener, Stream = TcpStream>,
     requires { vec_len stores ≡ serving.nodes }
@@ -100,8 +108,8 @@ where
     // there was.
     ensures ends { EndsFrom S.Stable (limits_of serving.entry) stores.items console.new.is_told
         result.1 result.0.items }
-    // If the stores hold what a stop of a group with these limits left, the group goes on from the
-    // world before the stop.
+    // If the stores hold what a stop of a group of as many nodes, or fewer, left, the group goes on
+    // from the world before the stop. The cap may be another one.
     ensures goes_on { (old : GroupView) (w : World)
         → HasStopped S.Stable old w (limits_of serving.entry) stores.items
         → EndsAfterStop S.Stable old w (limits_of serving.entry) stores.items
@@ -110,26 +118,30 @@ where
     let (stores, opened) = open_group(rt, alloc, serving.config(), stores);
     let group = match opened {
         Ok(group) => group,
-        Err(refusal) => return (stores, Err(Fault::from(refusal))),
+        Err(refusal) => return (stores, Err(ServeFault::Unopened(refusal))),
     };
     match open_network(rt, alloc, serving) {
         Ok(network) => {
-            let (stores, events) = run_group_at(rt, alloc, group, &network, stores, console);
+            reporter.report_connections(network.connections);
+            let (stores, events) = run_group_at(
+                rt, alloc, group, &network, stores, reporter, console,
+            );
             (stores, judge_end(events, console.is_told()))
         }
-        Err(fault) => (stores, Err(fault)),
+        Err(fault) => (stores, Err(ServeFault::Network(fault))),
     }
 }
 
 /// Runs a group over its nodes' journals, in files of any kind, as `run_stores` does. That a
 /// journal may go to a thread is proved here, from the one fact that its file may.
-pub fn run_journals<D: Disk + Send + Drop, R, P: Print, I: Read + Drop>(
+pub fn run_journals<D: Disk + Send + Drop, R, H: Reporter + Sync, P: Print, I: Read + Drop>(
     rt: &R,
     alloc: Global,
     serving: ServeOptions<'_>,
     journals: Vec<Journal<D>>,
+    reporter: &H,
     console: &mut Console<'_, P, I>,
-) -> (Vec<Journal<D>>, Result<u64, Fault>)
+) -> (Vec<Journal<D>>, Result<u64, ServeFault>)
 where
     R: Host + Net<Listener = TcpListener, Stream = TcpStream>,
     requires { vec_len journals ≡ serving.nodes }
@@ -140,29 +152,33 @@ where
     // there was.
     ensures ends { EndsFrom ⟦<Journal<D> as Stable>⟧ (limits_of serving.entry) journals.items
         console.new.is_told result.1 result.0.items }
-    // If the stores hold what a stop of a group with these limits left, the group goes on from the
-    // world before the stop.
+    // If the stores hold what a stop of a group of as many nodes, or fewer, left, the group goes on
+    // from the world before the stop. The cap may be another one.
     ensures goes_on { (old : GroupView) (w : World)
         → HasStopped ⟦<Journal<D> as Stable>⟧ old w (limits_of serving.entry) journals.items
         → EndsAfterStop ⟦<Journal<D> as Stable>⟧ old w (limits_of serving.entry) journals.items
         console.new.is_told result.1 result.0.items }
 {
-    run_stores(rt, alloc, serving, journals, console)
+    run_stores(rt, alloc, serving, journals, reporter, console)
 }
 
 /// Reports how a run has ended, and returns the program's status. It prints `closed E` with the
-/// count of events and returns 0, or it prints the fault and returns 1. If `closed E` can't be
-/// printed, it reports `write failed` and returns 1, although the group has stopped in order and
-/// nothing is lost.
-pub fn report_end<R: Print + Eprint>(rt: &R, ended: Result<u64, Fault>) -> u8
+/// count of events on the terminal and returns 0, or it writes the fault to the errors' output and
+/// returns 1. If `closed E` can't be printed, it reports `write failed` and returns 1, although the
+/// group has stopped in order and nothing is lost.
+pub fn report_end<P: Print, E: Eprint>(
+    terminal: &P,
+    errors: &E,
+    ended: Result<u64, ServeFault>,
+) -> u8
     ensures low { result ≤ 1 }
     ensures fault { IfErr ended (λ why. result ≡ 1) }
 {
     match ended {
-        Ok(events) => match println!(rt; "closed {events}") {
+        Ok(events) => match println!(terminal; "closed {events}") {
             Ok(()) => 0,
-            Err(_) => report_fault(rt, Fault::Write),
+            Err(_) => report_fault(errors, Fault::Write),
         },
-        Err(fault) => report_fault(rt, fault),
+        Err(why) => report_serve_fault(errors, why),
     }
 }

@@ -1,5 +1,5 @@
 //! Tests of `urb_daemon`. They are a crate of their own, so that what they call is proved only
-//! once. They use only what every user may call.
+//! once. They use nothing but public functions.
 #![tactic(auto)]
 
 #[cfg(test)]

@@ -2,12 +2,16 @@
 
 mod consoles;
 mod errands;
+mod error_outputs;
+mod faults;
 mod folders;
 mod groups;
 mod openings;
+mod other_limits;
 mod reopenings;
 mod reports;
 mod restarts;
 mod runs;
 mod starts;
+mod strangers;
 mod visits;

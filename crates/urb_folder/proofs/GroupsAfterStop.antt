@@ -246,11 +246,11 @@ goes-on-together g size stores (Err why) asked (inl h) count old w stopped = (
   record {
     sound = stopped.sound;
     counted = stopped.counted;
-    size = stopped.size;
+    nodes = stopped.nodes;
     shows = stopped.shows;
     holds = refused-held g w stores why asked.items h stopped.holds;
   },
-  refused-so g stores why asked.items h,
+  λ may. refused-so g stores why asked.items h,
 )
 
 pub leaves-together :

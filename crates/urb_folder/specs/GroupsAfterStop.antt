@@ -9,6 +9,7 @@ use Rattle.urb_stable.specs.declared.stable.Stable.{Ghosts}
 use Rattle.urb_group.specs.Clustered.{Clustered}
 use Rattle.urb_group.specs.Reopening.{ContinuesFrom, HasStopped}
 use Rattle.urb_group.specs.Shown.{GroupView}
+use Rattle.urb_group.specs.StartLimits.{MayStartWith}
 use Rattle.urb_group.specs.Stocked.{IsKnown}
 use Rattle.urb_group.specs.World.{World}
 
@@ -22,14 +23,16 @@ module _ {S A : Type 0} (g : Ghosts S A) where
   abbrev pub AreIntact : List S → List S → Type 0
   AreIntact passed asked = All g.is_honest asked ⊎ (All (IsKnown g) passed × All g.is_clean asked)
 
-  -- This is `Continues` of `urb_group`, for stores asked in parallel. Over honest stores the group
-  -- goes on from the world before the stop, unless memory is refused or a device fails. This holds
-  -- also if that failure, or an earlier one, has shut a store. After a refusal the stores still
-  -- hold what the stop may have left.
+  -- This is `Continues` of `urb_group`, for stores asked in parallel. Over honest stores a group
+  -- that is opened goes on from the world before the stop. It is opened if the group may start with
+  -- these limits, unless memory is refused or a device fails. This holds also if that failure, or
+  -- an earlier one, has shut a store. After a refusal the stores still hold what the stop may have
+  -- left.
   abbrev pub ContinuesTogether :
       GroupView → World → Limits → List S → Result GroupView Refusal → List S → Type 0
   ContinuesTogether old w size passed (Ok group) asked =
       All g.is_honest asked → ContinuesFrom g w passed group
   ContinuesTogether old w size passed (Err why) asked =
       HasStopped g old w size asked
-      × (AreIntact passed asked → (why ≡ refusal.NoMemory) ⊎ (why ≡ refusal.Device))
+      × (MayStartWith size w → AreIntact passed asked
+      → (why ≡ refusal.NoMemory) ⊎ (why ≡ refusal.Device))

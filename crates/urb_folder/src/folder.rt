@@ -29,7 +29,7 @@ fn open_in_folder<D: NodeDisk + Send, R: Threads + Sync>(
     ensures nodes { IfOk result (λ journals. AreOfNodes (λ j. j.node) journals.items) }
     ensures found { IfOk result
         (λ journals. AreFoundIn ⟦<Journal<D> as Stable>⟧ D.NodeDisk.held journals.items) }
-    ensures fault { IfErr result IsOfOpening }
+    ensures fault { IfErr result (IsOfOpening nodes) }
 {
     let pool = Arc::new(rt.alloc(), MessagePool::new(rt.alloc())).ok();
     let folder = Folder {
@@ -39,7 +39,7 @@ fn open_in_folder<D: NodeDisk + Send, R: Threads + Sync>(
     };
     match open_all::<D, R>(threads, rt.alloc(), folder, usize::from(nodes)) {
         Ok(journals) => Ok(journals),
-        Err(fault) => Err(FolderFault::Store(fault)),
+        Err(fault) => Err(fault),
     }
 }
 
@@ -64,9 +64,9 @@ pub fn open_journals<D: NodeDisk + Send, R: Threads + Sync>(
     // empty, the journal has no record.
     ensures found { IfOk result
         (λ journals. AreFoundIn ⟦<Journal<D> as Stable>⟧ D.NodeDisk.held journals.items) }
-    // A fault is one of opening a journal, or it says that there are records of a node that the
-    // group doesn't have.
-    ensures fault { IfErr result IsOfOpening }
+    // A fault names a node of the group, or a node that the group doesn't have and whose records
+    // are there.
+    ensures fault { IfErr result (IsOfOpening nodes) }
 {
     match check_foreign_journals(rt, dir, nodes) {
         None => open_in_folder::<D, R>(threads, rt, dir, nodes),

@@ -5,8 +5,10 @@ use urb_stable::StoreFault;
 /// Why the journals of a group's folder can't be opened.
 #[derive(Clone, Copy, Debug, PartialEq, Eq)]
 pub enum FolderFault {
-    /// A journal can't be opened, or memory was refused.
-    Store(StoreFault),
-    /// The folder has records of a node that the group doesn't have.
-    ForeignRecords,
+    /// Memory for the list of journals was refused.
+    NoMemory,
+    /// The journal of the node with this number can't be opened.
+    Journal(usize, StoreFault),
+    /// The folder has records of the node with this number, which the group doesn't have.
+    ForeignRecords(usize),
 }

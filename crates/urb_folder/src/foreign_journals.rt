@@ -78,7 +78,7 @@ fn has_foreign_records(rt: &HostRuntime, dir: &str, node: NodeId) -> Result<bool
 /// journal of such a node that can't be read (`NoMemory` or `Device`). No file is changed, and none
 /// is made.
 pub fn check_foreign_journals(rt: &HostRuntime, dir: &str, nodes: u8) -> Option<FolderFault>
-    ensures { IfSome result IsOfOpening }
+    ensures { IfSome result (IsOfOpening nodes) }
 {
     for number in 1..=u8::MAX {
         let node = NodeId::new(number)?;
@@ -86,8 +86,10 @@ pub fn check_foreign_journals(rt: &HostRuntime, dir: &str, nodes: u8) -> Option<
             match has_foreign_records(rt, dir, node) {
                 Ok(false) => {}
                 // A group may not ignore a row that is no record, either.
-                Ok(true) | Err(StoreFault::BadRow(_)) => return Some(FolderFault::ForeignRecords),
-                Err(fault) => return Some(FolderFault::Store(fault)),
+                Ok(true) | Err(StoreFault::BadRow(_)) => {
+                    return Some(FolderFault::ForeignRecords(usize::from(number)));
+                }
+                Err(fault) => return Some(FolderFault::Journal(usize::from(number), fault)),
             }
         }
     }

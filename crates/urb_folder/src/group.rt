@@ -18,12 +18,13 @@ use urb_names::Refusal;
 
 /// Opens the group that the stores' records describe. The stores are in the order of their nodes,
 /// are asked in parallel, and are returned in that order. Call it when the process starts. If the
-/// stores hold what a stop of such a group left, the new group goes on from there, as with
-/// `Cluster::open` of `urb_group`. This is recovery (sections 2.2 and 3.7 of the textbook). A draft
-/// that was held is lost, or stored.
+/// stores hold what a stop of a group left, the new group goes on from there, as with
+/// `Cluster::open` of `urb_group`. The cap may be another one than before, and there may be more
+/// nodes. This is recovery (sections 2.2 and 3.7 of the textbook). A draft that was held is lost,
+/// or stored.
 ///
 /// `Device`, `BadRow`: the fault of the first store, in order, that failed. `Inconsistent`: what
-/// the stores hold doesn't fit together. `NoMemory`: call it again.
+/// the stores hold doesn't fit together, or not under these limits. `NoMemory`: call it again.
 pub fn open_group<S: Stable<Alloc = Global> + Send + Drop, R: Threads + Sync>(
     rt: &R,
     alloc: Global,
@@ -32,9 +33,10 @@ pub fn open_group<S: Stable<Alloc = Global> + Send + Drop, R: Threads + Sync>(
 ) -> (Vec<S>, Result<Group, Refusal>)
     requires { vec_len stores ≡ config.n }
     ensures opens { OpensTogether S.Stable config stores.items result.1 result.0.items }
-    // After a stop, the group goes on from the world before the stop. Every node is ready, and each
-    // log begins with the node's log from before. A message that was stored before is accepted
-    // again under its name. Only memory or a device can make the opening fail.
+    // After a stop, the group goes on from the world before the stop, also with another cap or with
+    // more nodes. Every node is ready, and each log begins with the node's log from before. A
+    // message that was stored before is accepted again under its name. If the group may start with
+    // these limits, only memory or a device can make the opening fail.
     ensures goes_on { (old : GroupView) (w : World)
         → HasStopped S.Stable old w config stores.items
         → ContinuesTogether S.Stable old w config stores.items result.1 result.0.items }

@@ -1,4 +1,4 @@
-//! A node's journal with the name of its node and of its file.
+//! A node's journal with its node's number, and with the device and number of its file.
 
 ghost use Rattle.std.specs.Prelude.{◌≡◌};
 

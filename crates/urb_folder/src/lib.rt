@@ -25,6 +25,7 @@ mod group;
 mod images;
 mod journal;
 mod node_journal;
+mod obstacle;
 mod parallel;
 
 pub use first_fault::{Outcomes, collect_opened};
@@ -32,4 +33,5 @@ pub use folder::{close_journals, open_journals};
 pub use folder_fault::FolderFault;
 pub use group::open_group;
 pub use journal::{FileId, Journal};
+pub use obstacle::{Obstacle, find_obstacle};
 pub use urb_sqlite::{NodeDisk, NodeFile};

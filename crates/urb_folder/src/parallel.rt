@@ -3,10 +3,10 @@
 
 ghost use Rattle.std.specs.Prelude.{◌≡◌, ◌⊎◌, ◌<◌, ◌≤◌, ◌/◌, IfErr, IfOk, IfSome, MatchOption};
 ghost use Rattle.std.specs.Prelude.{length, vec_capacity, vec_len};
-ghost use Rattle.urb_stable.specs.declared.stable.StoreFault.{StoreFault as Fault};
-ghost use Rattle.urb_folder.specs.internal.OpenedJournals.{OpensIn};
-ghost use Rattle.urb_folder.specs.internal.OpenedPlaces.{AreFound, AreOpened, FailsAtFirst};
+ghost use Rattle.urb_folder.specs.internal.OpenedJournals.{FailsAtNode, OpensIn};
+ghost use Rattle.urb_folder.specs.internal.OpenedPlaces.{AreFound, AreOpened, FailsAfter};
 
+use crate::folder_fault::FolderFault;
 use crate::journal::Journal;
 use crate::node_journal::{Folder, Found, close_journal, find_at, length_at, make_next};
 use sqlite_disk::Disk;
@@ -119,7 +119,7 @@ fn open_in_order<D: NodeDisk>(
     requires room { (vec_len all.old ≡ 0) × (length found.old ≤ vec_capacity all.old) }
     ensures { MatchOption result
         (AreOpened (OpensIn D.Disk D.NodeDisk.held) (length found.old) all.new.items)
-        (FailsAtFirst (OpensIn D.Disk D.NodeDisk.held) (length found.old)) }
+        (FailsAfter (OpensIn D.Disk D.NodeDisk.held) (length found.old) all.new.items) }
 {
     for place in 0..found.len() {
         let it = found[place].take();
@@ -141,33 +141,33 @@ fn close_found<D: Disk + Drop>(folder: &Folder<'_>, found: Vec<Found<D>>) {
 }
 
 /// Opens the journals at the first `count` places: first those that exist, in parallel unless their
-/// files are long, and then the missing ones, in order. The fault is that of the first place that is
-/// refused, or that memory for the list was refused. After a fault, nothing was made after that
+/// files are long, and then the missing ones, in order. The fault names the first node whose place is
+/// refused, or says that memory for the list was refused. After a fault, nothing was made after that
 /// place, and everything that was opened is closed.
 pub(crate) fn open_all<D: NodeDisk + Send, R: Threads + Sync>(
     rt: &R,
     alloc: Global,
     folder: Folder<'_>,
     count: usize,
-) -> Result<Vec<Journal<D>>, StoreFault>
+) -> Result<Vec<Journal<D>>, FolderFault>
     ensures all { IfOk result
         (λ all. AreOpened (OpensIn D.Disk D.NodeDisk.held) count all.items) }
-    ensures fault { IfErr result (λ fault.
-        FailsAtFirst (OpensIn D.Disk D.NodeDisk.held) count fault ⊎ (fault ≡ Fault.NoMemory)) }
+    ensures fault { IfErr result (FailsAtNode D.Disk D.NodeDisk.held count) }
 {
     let Ok(mut all) = Vec::with_capacity(alloc, count) else {
-        return Err(StoreFault::NoMemory);
+        return Err(FolderFault::NoMemory);
     };
     let Some(mut found) = prepare_places(alloc, count) else {
-        return Err(StoreFault::NoMemory);
+        return Err(FolderFault::NoMemory);
     };
     find_each(rt, folder, found.as_mut_slice());
     match open_in_order(&folder, found.as_mut_slice(), &mut all) {
         None => Ok(all),
         Some(fault) => {
+            let number = all.len() + 1;
             close_all(&folder, all);
             close_found(&folder, found);
-            Err(fault)
+            Err(FolderFault::Journal(number, fault))
         }
     }
 }

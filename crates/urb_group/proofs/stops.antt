@@ -4,6 +4,7 @@
 -- (Reopened) and `survives` (StoppedWorlds). This folder uses the folders steps, ticks, safety,
 -- shown, recovery, moves and calls.
 pub mod StoppedWorlds
+pub mod StartLimits
 pub mod StockedSteps
 pub mod StockedNodes
 pub mod NodeStoreInvariant

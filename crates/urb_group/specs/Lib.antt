@@ -6,6 +6,7 @@ pub mod Answering
 pub mod Growing
 pub mod Accepting
 pub mod Stopping
+pub mod StartLimits
 pub mod Recovering
 pub mod Recovered
 pub mod Invariant

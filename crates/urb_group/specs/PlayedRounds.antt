@@ -1,6 +1,7 @@
 -- Rounds of a running cluster: what its commands count as, by the replies that `play` returns.
 use Rattle.std.specs.Prelude.{List}
-use Rattle.urb_group.specs.Rounds.{Act, IsRoundAmong, acts_by, arrival_by, disturbance, tick_by}
+use Rattle.urb_group.specs.Rounds.{Act, IsBusyRoundAmong, IsRoundAmong, acts_by, arrival_by}
+use Rattle.urb_group.specs.Rounds.{disturbance, tick_by}
 use Rattle.urb_group.specs.World.{World}
 use Rattle.urb_group.specs.declared.command.Command.{Command}
 use Rattle.urb_group.specs.declared.command.Command.TheVariants as command
@@ -21,3 +22,8 @@ act_of_command (command.Restart p) reply = disturbance reply
 abbrev pub IsPlayedRound : {A : Type 0} → List (Command A) → List Reply → World → Type 0
 IsPlayedRound commands replies end =
     IsRoundAmong (is_node end.size.n) (acts_by act_of_command commands replies) end
+
+-- the same for a busy round
+abbrev pub IsPlayedBusyRound : {A : Type 0} → List (Command A) → List Reply → World → Type 0
+IsPlayedBusyRound commands replies end =
+    IsBusyRoundAmong (is_node end.size.n) (acts_by act_of_command commands replies) end

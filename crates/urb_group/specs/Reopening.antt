@@ -1,5 +1,5 @@
 -- A cluster that is opened over stores with records, and how it goes on from the earlier cluster.
-use Rattle.std.specs.Prelude.{Err, List, Ok, Result, Vec, [], length, ℕ, ◌++◌, ◌∷◌, ◌≡◌, ◌⊎◌}
+use Rattle.std.specs.Prelude.{Err, List, Ok, Result, Vec, [], length, ℕ, ◌++◌, ◌∷◌, ◌≡◌, ◌≤◌, ◌⊎◌}
 use Rattle.std.specs.List.{All}
 use Rattle.urb_names.specs.Naming.{Limits}
 use Rattle.urb_names.specs.declared.refusal.Refusal.{Refusal}
@@ -14,7 +14,8 @@ use Rattle.urb_group.specs.Calls.{Opens}
 use Rattle.urb_group.specs.Clustered.{Clustered}
 use Rattle.urb_group.specs.Shown.{GroupView, IsSound, Shows, view_of}
 use Rattle.urb_group.specs.Stocked.{AllHold, AreChosen, IsKnown}
-use Rattle.urb_group.specs.Stopping.{GoesOnIn}
+use Rattle.urb_group.specs.StartLimits.{MayStartWith}
+use Rattle.urb_group.specs.Stopping.{GoesOnUnder}
 use Rattle.urb_group.specs.World.{World, image_of, opened}
 
 -- the stores of the opened cluster, or the stores that are returned
@@ -70,14 +71,15 @@ module _ {S A : Type 0} (g : Ghosts S A) where
   OpensStores size stores (Ok cluster) = OpensFrom size stores (Ok cluster.group) cluster.stores
   OpensStores size stores (Err e) = OpensFrom size stores (Err e.1) e.0.items
 
-  -- A process stopped whose group, with these limits, showed this world. The stores that are passed
-  -- now may be any that hold what a stop may leave of its nodes. Each holds its node's records, or
-  -- these with the held or the doubtful record.
+  -- A process stopped whose group showed this world. It had at most as many nodes as these limits.
+  -- The stores that are passed now may be any that hold what a stop may leave of its nodes. Each
+  -- holds its node's records, or these with the held or the doubtful record. So the store of a new
+  -- node holds none.
   pub record HasStopped (old : GroupView) (w : World) (limits : Limits)
       (passed : List S) : Type 0 where
     pub sound : IsSound old
-    pub counted : length old.nodes ≡ limits.n
-    pub size : old.size ≡ limits
+    pub counted : length old.nodes ≡ old.size.n
+    pub nodes : old.size.n ≤ limits.n
     pub shows : Shows old w
     pub holds : AllHold g w passed
 
@@ -87,18 +89,20 @@ module _ {S A : Type 0} (g : Ghosts S A) where
   pub record ContinuesFrom (w : World) (passed : List S) (new : GroupView) : Type 0 where
     pub images : List (List Entry)
     pub chosen : AreChosen g passed images
-    pub goes_on : GoesOnIn w (image_of images)
-    pub opens : Shows new (opened w.size (image_of images))
+    pub goes_on : GoesOnUnder new.size w (image_of images)
+    pub opens : Shows new (opened new.size (image_of images))
     pub ready : (p : ℕ) → (view_of new p).state ≡ Ready
 
-  -- Over honest stores the cluster goes on, unless memory is refused or a device fails. This holds
-  -- also if that failure, or an earlier one, has shut a store. After a refusal the stores still
-  -- hold what the stop may have left, so the opening may be tried again.
+  -- Over honest stores a cluster that is opened goes on. It is opened if the group may start with
+  -- these limits, unless memory is refused or a device fails. This holds also if that failure, or
+  -- an earlier one, has shut a store. After a refusal the stores still hold what the stop may have
+  -- left, so the opening may be tried again.
   abbrev pub Continues : GroupView → World → Limits → List S
       → Result (Clustered S) (Vec S A × Refusal) → Type 0
   Continues old w limits passed (Ok new) =
       All g.is_honest new.stores → ContinuesFrom w passed new.group
   Continues old w limits passed (Err e) =
       HasStopped old w limits e.0.items
-      × (All g.is_honest e.0.items ⊎ (All (IsKnown g) passed × All g.is_clean e.0.items)
+      × (MayStartWith limits w
+      → All g.is_honest e.0.items ⊎ (All (IsKnown g) passed × All g.is_clean e.0.items)
       → (e.1 ≡ refusal.NoMemory) ⊎ (e.1 ≡ refusal.Device))

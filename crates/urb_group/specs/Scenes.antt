@@ -1,5 +1,4 @@
 -- A group's world together with the storage of its nodes, as scripts and reopenings use it.
-use Prim.Native.String.{String}
 use Rattle.std.specs.Prelude.{List, None, Option, Some, [], if◌then◌else◌, length, nat_lt, ℕ, ◌++◌}
 use Rattle.std.specs.Prelude.{◌==◌, ◌||◌, ◌∷◌}
 use Rattle.urb_group.specs.Step.{Commit, Event}

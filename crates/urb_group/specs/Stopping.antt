@@ -3,7 +3,7 @@ use Rattle.std.specs.Prelude.{IsTrue, List, ℕ, ◌≡◌}
 use Rattle.urb_group.specs.Step.{Submit, step}
 use Rattle.urb_group.specs.World.{World, opened, stored}
 use Rattle.urb_names.specs.Beginnings.{Begins}
-use Rattle.urb_names.specs.Naming.{Content, Label}
+use Rattle.urb_names.specs.Naming.{Content, Label, Limits}
 use Rattle.urb_names.specs.Nodes.{is_node}
 use Rattle.urb_names.specs.Pairs.{has_pair}
 use Rattle.urb_node.specs.Part.{Node}
@@ -20,18 +20,26 @@ use Rattle.urb_stable.specs.Storing.{IsContents}
 abbrev pub MayLeave : Node → List Entry → Type 0
 MayLeave node image = IsContents node.records (doubt node.state) image
 
--- These images of the nodes open a group that goes on from this world. They fit together. Each log
--- begins with the node's log in that world, its names with their messages. If a node had stored a
--- message of its own, a submit of it is accepted under its name.
-pub record GoesOnIn (w : World) (images : ℕ → List Entry) : Type 0 where
-  pub fits : Fits w.size images
+-- These images of the nodes open a group with these limits that goes on from this world. They fit
+-- together. Each log begins with the node's log in that world, its names with their messages. If a
+-- node had stored a message of its own, a submit of it is accepted under its name.
+pub record GoesOnUnder (size : Limits) (w : World) (images : ℕ → List Entry) : Type 0 where
+  pub fits : Fits size images
   pub delivered : (p : ℕ) → Begins (log (stored w p)) (log (images p))
   pub entries : (p : ℕ) → Begins (entries (stored w p)) (entries (images p))
   pub again : (p : ℕ) (x : Label) (m : Content) → IsTrue (is_node w.size.n p) → x.sender ≡ p
       → IsTrue (has_pair (pend (stored w p)) x m)
-      → (step (opened w.size images) (Submit p m)).0 ≡ Same (Accepted x)
+      → (step (opened size images) (Submit p m)).0 ≡ Same (Accepted x)
+
+-- these images open such a group with the same limits
+abbrev pub GoesOnIn : World → (ℕ → List Entry) → Type 0
+GoesOnIn w images = GoesOnUnder w.size w images
+
+-- this is so of whatever a stop leaves of the nodes
+abbrev pub AlwaysLeaves : World → ((ℕ → List Entry) → Type 0) → Type 0
+AlwaysLeaves w Are =
+    (images : ℕ → List Entry) → ((p : ℕ) → MayLeave (w.node p) (images p)) → Are images
 
 -- whatever a stop leaves of each node, the group that opens from it goes on from this world
 abbrev pub SurvivesStop : World → Type 0
-SurvivesStop w =
-    (images : ℕ → List Entry) → ((p : ℕ) → MayLeave (w.node p) (images p)) → GoesOnIn w images
+SurvivesStop w = AlwaysLeaves w (GoesOnIn w)

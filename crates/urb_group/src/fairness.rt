@@ -15,15 +15,17 @@ ghost use Rattle.urb_names.specs.Pairs.{has_pair};
 ghost use Rattle.urb_group.specs.Recovered.{AllDelivered, IsNotStranded};
 ghost use Rattle.urb_group.specs.Recovering.{after};
 ghost use Rattle.urb_group.specs.Resends.{IsDueAmong, cursor_next, resent_over, turn_of};
-ghost use Rattle.urb_group.specs.Rounds.{Act, AllUp, AnswersArrive, AreUp, HaveDeliveredHeld};
-ghost use Rattle.urb_group.specs.Rounds.{IsRound, IsRoundAmong, IsUndisturbed, NoneDue};
+ghost use Rattle.urb_group.specs.Rounds.{Act, AllUp, AnswersArrive, AreUp, HasDeliveredHeld};
+ghost use Rattle.urb_group.specs.Rounds.{HaveDeliveredHeld, IsBusyRound, IsBusyRoundAmong, IsRound};
+ghost use Rattle.urb_group.specs.Rounds.{IsRoundAmong, IsUndisturbed, NoneDue, ReadyHaveDelivered};
 ghost use Rattle.urb_group.specs.Rounds.{TickAtLeast, TicksAreSilent, acts_of, taken, ticks_of};
 ghost use Rattle.urb_group.specs.Step.{Event, IsReached};
-ghost use Rattle.urb_group.specs.PlayedRounds.{IsPlayedRound};
+ghost use Rattle.urb_group.specs.PlayedRounds.{IsPlayedBusyRound, IsPlayedRound};
 ghost use Rattle.urb_group.specs.Plays.{Runs};
 ghost use Rattle.urb_group.specs.Shown.{GroupView};
 ghost use Rattle.urb_group.specs.World.{World, stored};
 ghost use Rattle.urb_group.specs.declared.command.Command.{Command};
+ghost use Rattle.urb_node.specs.Part.{Ready};
 ghost use Rattle.urb_node.specs.Replies.{Reply};
 ghost use Rattle.urb_stable.specs.Records.{pend};
 
@@ -59,6 +61,58 @@ pub fn two_played_rounds_deliver<A: Allocator>()
         → AllDelivered two.after }
 {}
 
+/// Two busy rounds deliver what was stored before them, whatever clients submit meanwhile. After the
+/// second round, each node that is ready has delivered all that each sender's storage had taken
+/// before the first. (A node is ready when it holds no record that isn't stored, as it does after
+/// each receipt.)
+pub fn two_busy_rounds_deliver()
+    ensures { (w : World) (first second : List Event)
+        → IsReached w
+        → IsNotStranded w
+        → AllUp w
+        → IsBusyRound w first
+        → IsBusyRound (after w first) second
+        → ReadyHaveDelivered w (after (after w first) second) }
+{}
+
+/// Two busy rounds that are played deliver: the same law for two lists of commands that were
+/// played, each with the replies that came back.
+pub fn two_played_busy_rounds_deliver<A: Allocator>()
+    ensures { (w : World) (first second : List (Command A)) (told answered : List Reply)
+        (between behind : GroupView)
+        → (one : Runs w first told between)
+        → (two : Runs one.after second answered behind)
+        → IsReached w
+        → IsNotStranded w
+        → AllUp w
+        → IsPlayedBusyRound first told one.after
+        → IsPlayedBusyRound second answered two.after
+        → ReadyHaveDelivered w two.after }
+{}
+
+/// Every round is a busy round. So busy rounds exist from every world of a run (`rounds_exist`).
+pub fn every_round_is_a_busy_round()
+    ensures { (among : ℕ → Bool) (acts : List Act) (end : World)
+        → IsRoundAmong among acts end
+        → IsBusyRoundAmong among acts end }
+{}
+
+/// A majority delivers what it held before two busy rounds, while other nodes are down and clients
+/// submit to those that are up. Each of these nodes has done so once it is ready.
+pub fn a_busy_majority_delivers_what_it_held()
+    ensures { (among : ℕ → Bool) (w : World) (first second : List Event)
+        → IsReached w
+        → IsNotStranded w
+        → majority_passes w.size.n among ≡ true
+        → AreUp among w
+        → IsBusyRoundAmong among (acts_of w first) (after w first)
+        → IsBusyRoundAmong among (acts_of (after w first) second) (after (after w first) second)
+        → (q : ℕ)
+        → among q ≡ true
+        → ((after (after w first) second).node q).state ≡ Ready
+        → HasDeliveredHeld among w (after (after w first) second) q }
+{}
+
 /// While some nodes are down, a majority of nodes that are up delivers what it holds. This takes
 /// two rounds among these nodes. Then, for each sender, each of them has delivered at least the
 /// longest prefix of messages that were each stored by one of them. No other node can know what
@@ -75,9 +129,12 @@ pub fn a_majority_delivers_what_it_holds()
 {}
 
 /// Rounds exist. From every world of a run, whatever was lost and whichever nodes are down, some
-/// list of events is a round. So the conditions of the laws of rounds can be met.
+/// list of events is a round, and its answers arrive too. So the conditions of the laws of rounds
+/// can be met, that of the third round of `ticks_end` included.
 pub fn rounds_exist()
-    ensures { (w : World) → IsReached w → (events : List Event) × IsRound w events }
+    ensures { (w : World)
+        → IsReached w
+        → (events : List Event) × IsRound w events × AnswersArrive (acts_of w events) }
 {}
 
 /// Says how many ticks are enough. Let each node tick at least `count` times. If `NAMES_PER_TICK`

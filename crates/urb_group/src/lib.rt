@@ -17,7 +17,8 @@
 //!
 //! Each call is one step of every world that the group shows (`specs/Step.antt`), or is refused and
 //! changes nothing. `play` carries the headline theorem. `laws` has the theorems over all runs.
-//! `recovering` says that no state is a dead end, and `fairness` that rounds deliver in any order.
+//! `starts` says with which limits a stopped group may start again. `recovering` says that no state
+//! is a dead end, and `fairness` that rounds deliver in any order.
 //! No call here waits, sends, or reads a clock.
 #![tactic(auto)]
 
@@ -39,6 +40,7 @@ pub mod recovering;
 mod reopening;
 mod reply;
 mod shared_payloads;
+pub mod starts;
 mod state;
 mod stores;
 mod taken;

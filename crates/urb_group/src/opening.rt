@@ -46,7 +46,8 @@ impl<A: Allocator + Copy> Group<A> {
     /// messages under one name share one payload from then on, unless memory for that is refused.
     ///
     /// `Inconsistent`: the images don't fit together. Some are not of this group, or a storage has
-    /// lost a record or made one up. The refusal names the first record that breaks a fitting rule.
+    /// lost a record or made one up. Or the cap is too small, or there are too many nodes (see
+    /// `starts`). The refusal names the first record that breaks a fitting rule.
     /// `NoMemory`: ask again.
     pub fn open(
         alloc: A,

@@ -46,15 +46,17 @@ fn open_group<S: Stable>(
 }
 
 impl<S: Stable> Cluster<S> {
-    /// Opens a cluster over stores that hold what a cluster of these limits stored. The whole
-    /// process may have stopped at any moment, also inside a store. This is the recovery of all
-    /// processes (sections 2.2 and 3.7 of the textbook). Each store is asked for its records, that
-    /// of node 1 first. The records are certain from then on, and the nodes come up with them.
-    /// Drafts that were held are lost.
+    /// Opens a cluster over stores that hold what a cluster stored. The whole process may have
+    /// stopped at any moment, also inside a store. This is the recovery of all processes (sections
+    /// 2.2 and 3.7 of the textbook). Each store is asked for its records, that of node 1 first. The
+    /// records are certain from then on, and the nodes come up with them. Drafts that were held are
+    /// lost. The limits may differ from those before the stop. A greater cap always serves; more
+    /// nodes serve if more than half of them hold each certified message. The stores of new nodes
+    /// are empty.
     ///
     /// A refusal returns all stores. `Device`, `BadRow`: a store failed, and the stores after it
-    /// were not asked. `Inconsistent`: the stores' records don't fit together, as for
-    /// `Group::open`. `NoMemory`: ask again.
+    /// were not asked. `Inconsistent`: the stores' records don't fit together, or not under these
+    /// limits, as for `Group::open`. `NoMemory`: ask again.
     pub fn open(
         alloc: S::Alloc,
         config: Config,
@@ -62,6 +64,8 @@ impl<S: Stable> Cluster<S> {
     ) -> Result<Cluster<S>, (Vec<S, S::Alloc>, Refusal)>
         requires counted { length stores.items ≡ config.n }
         ensures opened { OpensStores S.Stable config stores.items result }
+        // Also with another cap, and with more nodes, what is opened goes on from the world before the
+        // stop. If the group may start with these limits, only memory or a device can refuse it.
         ensures goes_on { (old : GroupView) (w : World)
             → HasStopped S.Stable old w config stores.items
             → Continues S.Stable old w config stores.items result }

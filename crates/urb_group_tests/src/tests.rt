@@ -6,6 +6,7 @@ mod clusters;
 mod growths;
 mod images;
 mod plays;
+mod starts;
 mod stops;
 
 use urb_group::{ClientId, Config, Name, NodeId};

@@ -45,9 +45,9 @@ impl NodeId {
     }
 
     /// Does nothing at run time; it brings the value's invariant into the proof: the number is from
-    /// 1 to 7.
+    /// 1 to `MAX_NODES`.
     pub fn recall(self)
-        ensures { (0 < self) × (self ≤ 7) }
+        ensures { (0 < self) × (self ≤ MAX_NODES) }
     {
         let _number = self.number;
     }

@@ -1,7 +1,7 @@
 -- A cluster whose stores are in memory, opened again.
 use Rattle.std.proofs.Common.{◌≡◌, ◌⊎◌, inl, inr, ⊎_elim, ltb-true, nat_lt, ◌&&◌, ℕ, zero, suc, ◌-◌}
 use Rattle.std.proofs.Common.{◌<◌, ◌≤◌, Bool, true, false, List, [], ◌∷◌, ◌++◌, length, Option}
-use Rattle.std.proofs.Common.{Some, None, Ok, Err, refl, sym, ap, ◌∙◌, subst, arith}
+use Rattle.std.proofs.Common.{Some, None, Ok, Err, refl, sym, ap, ◌∙◌, subst, arith, le_refl}
 use Rattle.std.proofs.lemmas.Bool.{cases_lt, false≢true}
 use Rattle.std.specs.Prelude.{slice_get, slice_index_or}
 use Rattle.urb_names.specs.Naming.{Limits}
@@ -21,7 +21,8 @@ use Rattle.urb_group.specs.InMemory.{in_memory}
 use Rattle.urb_group.specs.Reopening.{AllGive, OpensFrom, OpensGiven}
 use Rattle.urb_group.specs.Scenes.{Scene}
 use Rattle.urb_group.specs.Shown.{Shows}
-use Rattle.urb_group.specs.World.{image_of, opened}
+use Rattle.urb_group.specs.StartLimits.{MayStartWith}
+use Rattle.urb_group.specs.World.{World, image_of, opened}
 use Rattle.urb_script.specs.Commands.{Reopen}
 use Rattle.urb_script.specs.internal.Commands.{command}
 use Rattle.urb_script.specs.declared.commands.CommandLine.{CommandLine}
@@ -213,3 +214,15 @@ refused_for_memory size old asked why (inr g) (inr e) =
 pub other_command : (l : CommandLine) → (l ≡ line.Reopen → ⊥) → command l ≡ Reopen → ⊥
 other_command line.Reopen not e = absurd (not refl)
 other_command l not e = absurd (cc)
+
+-- ---- with the same limits
+
+-- a group may start again with its own limits
+pub may-start-again : (size : Limits) (w : World) → size ≡ w.size → MayStartWith size w
+may-start-again size w same =
+    subst (λ (limits : Limits). MayStartWith limits w) (sym same)
+    (record {
+      nodes = le_refl w.size.n;
+      cap = inl (le_refl w.size.cap);
+      majorities = inl refl;
+    })

@@ -6,7 +6,7 @@ use mathlib.Core.List.{IsPrefix}
 use Rattle.urb_show.specs.declared.entry.Entry.{Entry}
 use Rattle.urb_show.specs.declared.entry.Addition.{Addition}
 use Rattle.urb_show.specs.Lists.{Agree, Begins, Lists, OneBeginsAll, add_at}
-use Rattle.urb_show.specs.Readers.{ReaderView, Takes}
+use Rattle.urb_show.specs.Readers.{Learns, ReaderView, Takes}
 use Rattle.urb_show.specs.Additions.{lists_of}
 use Rattle.urb_show.proofs.Prefixes.{prefix_self, prefix_trans}
 
@@ -67,4 +67,18 @@ takes base seen told now before is p q agree = record {
       subst (λ (k : ReaderView). Begins k.told (lists_of base now)) is
       (begins_later base told now q);
   kept = ap (λ (k : ReaderView). k.told) is;
+}
+
+-- A reader that learnt what a position has seen, and what it has learnt, takes lists that begin
+-- with both.
+pub takes_through : (seen told : Lists) (first second third last : ReaderView)
+    → Learns seen first second → Learns told second third → Takes third last
+    → Takes (record { seen = seen; told = told }) (record { seen = last.seen; told = told })
+takes_through seen told first second third last one two three = record {
+  agree = three.agree;
+  seen =
+      begins_trans seen second.told last.seen one.told
+      (begins_trans second.told third.told last.seen two.earlier three.told);
+  told = begins_trans told third.told last.seen two.told three.told;
+  kept = refl;
 }

@@ -75,6 +75,12 @@ impl<K: HouseName> Told<K> {
     {
         Told { token }
     }
+
+    pub(crate) fn token(&self) -> &HistoryToken<K>
+        ensures { self.now ≡ lists_of K.base result.now }
+    {
+        &self.token
+    }
 }
 
 impl<K: HouseName, A: Allocator> LogReader<K, A> {
@@ -155,6 +161,15 @@ impl<K: HouseName, A: Allocator> LogReader<K, A> {
         ensures { result ≡ self.now.seen }
     {
         Told::new(self.seen.copy())
+    }
+
+    /// The histories of the lists that this reader saw last, and of the longest that it learnt.
+    pub(crate) fn tokens(&self) -> (HistoryToken<K>, HistoryToken<K>)
+        ensures seen { self.now.seen ≡ lists_of K.base result.0 }
+        ensures told { self.now.told ≡ lists_of K.base result.1 }
+        ensures agree { Agree (lists_of K.base result.0) }
+    {
+        (self.seen.copy(), self.told.copy())
     }
 
     /// Makes this reader read no less than this from now on.

@@ -4,7 +4,7 @@ use Rattle.std.proofs.Common.{inl, inr, refl, subst, sym, true, ℕ, ◌∙◌, 
 use Rattle.std.proofs.lemmas.Bool.{false≢true}
 use Rattle.std.specs.declared.alloc.Global.{Global}
 use Rattle.urb_client.specs.Requests.{Asked, Crash as IsCrash, Read, Restart as IsRestart}
-use Rattle.urb_client.specs.Requests.{Status as IsStatus, Submit}
+use Rattle.urb_client.specs.Requests.{Status as IsStatus, Submit, Wait}
 use Rattle.urb_client.specs.Responses.{Refused as IsRefused, Said}
 use Rattle.urb_group.proofs.moves.AcceptedSubmits.{accepted-stored, committed-stored}
 use Rattle.urb_group.proofs.shown.ShownWorldsAgree.{sound-kept, sound-step}
@@ -185,6 +185,7 @@ refused_tells p (Read place max) number detail = tt
 refused_tells p IsStatus number detail = tt
 refused_tells p IsCrash number detail = tt
 refused_tells p IsRestart number detail = tt
+refused_tells p (Wait place max millis) number detail = tt
 
 tells_as : (p : ℕ) (asked : Asked) (said answered : Reply Global) (status state : Option Status)
     → said ≡ answered → status ≡ state → Tells p asked (told_of answered state)

@@ -6,7 +6,7 @@ use Rattle.urb_names.specs.Names.{name}
 use Rattle.urb_names.specs.Naming.{Content, Label}
 use Rattle.urb_names.specs.Refusing.{detail_of, number_of}
 use Rattle.urb_client.specs.Requests.{Asked, Crash as IsCrash, Read, Restart as IsRestart}
-use Rattle.urb_client.specs.Requests.{Status as IsStatus, Submit}
+use Rattle.urb_client.specs.Requests.{Status as IsStatus, Submit, Wait}
 use Rattle.urb_client.specs.Pages.{SaysPage}
 use Rattle.urb_client.specs.Responses.{Accepted, Done as IsDone, Refused, Said, Status as HasStatus}
 use Rattle.urb_client.specs.declared.response.NodeState.{NodeState}
@@ -151,16 +151,22 @@ Tells p IsCrash IsDone = HasCrashed p
 Tells p IsRestart IsDone = HasRestarted p
 Tells p asked said = ⊥
 
--- A desk answers a read by its reader alone, and all other requests by its node's worker.
+-- A desk answers a read and a wait by the published lists alone, and all other requests by its
+-- node's worker. A wait is answered as a read at a later moment: no other answer is possible, and
+-- without an entry there the page is empty.
 abbrev pub AnswersAt : DeskView → Asked → Said → DeskView → Type 0
 AnswersAt before (Read place max) said after =
+    (after.node ≡ before.node) × Reads before place max said after
+AnswersAt before (Wait place max millis) said after =
     (after.node ≡ before.node) × Reads before place max said after
 AnswersAt before asked said after =
     (after.node ≡ before.node) × Works before asked said after × Tells before.node asked said
 
 -- What refused memory leaves of a desk: it has asked its worker nothing, and knows what it knew. In
--- a read it may have taken the lists already.
+-- a read or a wait it may have taken the lists already.
 abbrev pub RefusedAt : DeskView → Asked → DeskView → Type 0
 RefusedAt before (Read place max) after =
+    (after.node ≡ before.node) × ((after.known ≡ before.known) ⊎ Takes before.known after.known)
+RefusedAt before (Wait place max millis) after =
     (after.node ≡ before.node) × ((after.known ≡ before.known) ⊎ Takes before.known after.known)
 RefusedAt before asked after = after ≡ before

@@ -23,6 +23,10 @@ pub enum Change {
 /// on their threads, after the turn that changed the node and before its answer.
 pub trait Reporter {
     fn report(&self, change: Change);
+
+    /// Reports how many connections of clients each node serves at a time, once before the group
+    /// runs. A reporter that doesn't care does nothing.
+    fn report_connections(&self, _each: usize) {}
 }
 
 /// A reporter that does nothing.

@@ -1,66 +1,105 @@
 //! The desk of a running node: it passes requests to the node's worker, and does reads itself.
 
-ghost use Rattle.std.specs.Prelude.{◌≡◌, ◌⊎◌, ◌≤◌, ◌↔◌, IfOk, IsTrue, OnErr, length};
+ghost use Rattle.std.specs.Prelude.{◌≡◌, ◌⊎◌, ◌≤◌, ◌↔◌, IfOk, IsTrue, MatchOption, OnErr, length};
 ghost use Rattle.urb_client.specs.declared.format.TheConstants.{MOST_ENTRIES};
 ghost use Rattle.urb_client.specs.Requests.{asked_by};
 ghost use Rattle.urb_client.specs.Responses.{said_by};
 ghost use Rattle.urb_show.specs.Readers.{Takes};
-ghost use Rattle.urb_worker.specs.Desks.{IsJobOf, LearnsTold, Reads, Tells, Works, told_of};
+ghost use Rattle.urb_worker.specs.Desks.{IsJobOf, LearnsTold, Reads, Tells, Works, gone, told_of};
 ghost use Rattle.urb_worker.specs.internal.Desks.{IsWork};
 ghost use Rattle.urb_worker.specs.Settlings.{told_in};
 
 use crate::responses::{down_response, response_to_read, response_to_turn};
-use crate::{Finished, Job, Ticket};
+use crate::{Bell, Finished, Job, ReaderPool, Stop, Ticket, TicketPlaces};
 use crossbeam_channel::{SendError, Sender};
 use std::alloc::Global;
 use std::marker::Model;
 use std::sync::Wait;
+use std::time::{Clock, Duration, Instant};
 use urb_client::{Desk, Request, Response};
 use urb_names::{NoMemory, NodeId};
-use urb_show::{HouseName, LogReader, ReadFault, Told};
+use urb_show::{HouseName, ReadFault, ReadPosition, Told};
 
-/// Answers the requests of clients at one node. A desk has a reader of its own, which learns what
-/// the worker published. So a client that got a response about a message can read the message. One
-/// desk serves one session after another.
+/// What the sessions of one node share.
 #[derive(Drop)]
-pub struct NodeDesk<'a, K: HouseName, R: Wait> {
+pub struct NodeService<'a, K: HouseName> {
+    /// The queue of the node's worker.
+    pub queue: &'a Sender<Ticket<K>>,
+    /// The places for tickets of sessions in this queue.
+    pub places: &'a TicketPlaces,
+    /// The readers that sessions borrow.
+    pub readers: &'a ReaderPool<K>,
+    /// The bell that rings when the node's log has grown.
+    pub bell: &'a Bell,
+    /// The stop that ends all waits of clients.
+    pub stop: &'a Stop,
+}
+
+impl<'a, K: HouseName> NodeService<'a, K> {
+    // The same, for another desk.
+    fn copy(&self) -> NodeService<'a, K> {
+        NodeService {
+            queue: self.queue,
+            places: self.places,
+            readers: self.readers,
+            bell: self.bell,
+            stop: self.stop,
+        }
+    }
+}
+
+/// Answers the requests of a client at one node. A desk keeps the position of what its session has
+/// seen and learnt, and borrows a reader for each read. It learns what the worker published. So a
+/// client that got a response about a message can read the message. Each session has a desk of its
+/// own.
+#[derive(Drop)]
+pub struct NodeDesk<'a, K: HouseName, R: Wait + Clock> {
     rt: &'a R,
     alloc: Global,
     node: NodeId,
-    queue: &'a Sender<Ticket<K>>,
-    reader: LogReader<K>,
+    service: NodeService<'a, K>,
+    position: ReadPosition<K>,
 }
 
-impl<'a, K: HouseName, R: Wait> Model for NodeDesk<'a, K, R> {
+impl<'a, K: HouseName, R: Wait + Clock> Model for NodeDesk<'a, K, R> {
     ghost use Rattle.std.specs.Prelude.{◌≤◌, length};
     ghost use Rattle.urb_worker.specs.Desks.{DeskView};
 
     ghost Value = { DeskView };
 
-    ghost view = { λ d. record { node = d.node; known = d.reader } };
+    ghost view = { λ d. record { node = d.node; known = d.position } };
 
     ghost invariant = { λ d. d.node ≤ length K.base };
 }
 
-impl<'a, K: HouseName, R: Wait> NodeDesk<'a, K, R> {
-    /// The desk of a node. Its worker is at the other end of `queue`, the worker's queue.
+impl<'a, K: HouseName, R: Wait + Clock> NodeDesk<'a, K, R> {
+    /// The desk of a node, for a session that begins at this position. The node's worker is at the
+    /// other end of the service's queue.
     pub fn new(
         rt: &'a R,
         alloc: Global,
         node: NodeId,
-        queue: &'a Sender<Ticket<K>>,
-        reader: LogReader<K>,
+        service: NodeService<'a, K>,
+        position: ReadPosition<K>,
     ) -> NodeDesk<'a, K, R>
         requires { node ≤ length K.base }
-        ensures { result ≡ record { node = node; known = reader } }
+        ensures { result ≡ record { node = node; known = position } }
     {
         NodeDesk {
             rt,
             alloc,
             node,
-            queue,
-            reader,
+            service,
+            position,
         }
+    }
+
+    /// A desk of the same node, for another session that begins at the same position.
+    pub fn copy(&self) -> NodeDesk<'a, K, R>
+        ensures { result ≡ self.now }
+    {
+        let (rt, alloc, position) = (self.rt, self.alloc, self.position.copy());
+        NodeDesk::new(rt, alloc, self.node, self.service.copy(), position)
     }
 
     // The job at the desk's node that does what a request asks.
@@ -70,7 +109,7 @@ impl<'a, K: HouseName, R: Wait> NodeDesk<'a, K, R> {
     {
         let node = self.node;
         match request {
-            Request::Read { .. } => unreachable!(),
+            Request::Read { .. } | Request::Wait { .. } => unreachable!(),
             Request::Submit {
                 client,
                 number,
@@ -87,18 +126,22 @@ impl<'a, K: HouseName, R: Wait> NodeDesk<'a, K, R> {
         }
     }
 
-    // Sends a job to the worker, and returns the result. `None` if the worker has ended.
+    // Sends a job to the worker, and returns the result. `None` if the worker has ended. Before
+    // that it waits for a place for the ticket.
     fn ask_worker(&self, job: Job) -> Result<Option<Finished<K>>, NoMemory> {
         let (to, from) = crossbeam_channel::bounded(self.alloc, 1)?;
         let ticket = Ticket {
             job,
             answer: Some(to),
         };
-        match self.queue.send(self.rt, ticket) {
+        self.service.places.take(self.rt);
+        let came = match self.service.queue.send(self.rt, ticket) {
             Ok(()) => Ok(from.recv(self.rt).ok()),
             Err(SendError::Disconnected(_)) => Ok(None),
             Err(SendError::OutOfMemory(_)) => Err(NoMemory),
-        }
+        };
+        self.service.places.give_back(self.rt);
+        came
     }
 
     // Learns what a turn published, if anything.
@@ -107,7 +150,7 @@ impl<'a, K: HouseName, R: Wait> NodeDesk<'a, K, R> {
         ensures learnt { LearnsTold lists self.old.known self.new.known }
     {
         match lists {
-            Some(lists) => self.reader.learn(lists),
+            Some(lists) => self.position.learn(lists),
             None => {}
         }
     }
@@ -123,21 +166,34 @@ impl<'a, K: HouseName, R: Wait> NodeDesk<'a, K, R> {
         response_to_turn(&reply, status)
     }
 
+    // The response for a turn, after the reader has learnt what it published. It is the refusal
+    // `Down` only if the turn is of another job.
+    fn respond_if_asked(&mut self, request: &Request, finished: Finished<K>) -> Response
+        ensures node { self.new.node ≡ self.old.node }
+        ensures works { Works self.old (asked_by request.now) (said_by result) self.new }
+        ensures told { IsJobOf self.old.node (asked_by request.now) finished.job
+            → said_by result ≡ told_of finished.reply finished.status }
+    {
+        if is_turn_of(self.node, request, &finished) {
+            self.respond_to_turn(finished)
+        } else {
+            down_response()
+        }
+    }
+
     // Turns the worker's result into the client's response, after the reader has learnt what was
     // published. If there is no result, or the result is of another job, the response is the
     // refusal `Down`.
     fn respond(&mut self, request: &Request, came: Option<Finished<K>>) -> Response
         ensures node { self.new.node ≡ self.old.node }
         ensures works { Works self.old (asked_by request.now) (said_by result) self.new }
+        // It is the refusal `Down` only if no turn came, or that of another job.
+        ensures told { MatchOption came (said_by result ≡ gone)
+            (λ finished. IsJobOf self.old.node (asked_by request.now) finished.job
+            → said_by result ≡ told_of finished.reply finished.status) }
     {
         match came {
-            Some(finished) => {
-                if is_job_of(self.node, request, finished.job()) {
-                    self.respond_to_turn(finished)
-                } else {
-                    down_response()
-                }
-            }
+            Some(finished) => self.respond_if_asked(request, finished),
             None => down_response(),
         }
     }
@@ -163,15 +219,63 @@ impl<'a, K: HouseName, R: Wait> NodeDesk<'a, K, R> {
         ensures refused { OnErr result ((self.new.node ≡ self.old.node)
             × ((self.new.known ≡ self.old.known) ⊎ Takes self.old.known self.new.known)) }
     {
-        match self.reader.read(self.alloc, self.node, place, max) {
+        let (rt, alloc, node, readers) = (self.rt, self.alloc, self.node, self.service.readers);
+        match readers.read(rt, alloc, &mut self.position, node, place, max) {
             Ok(page) => response_to_read(self.alloc, page.entries),
             Err(ReadFault::NoMemory) => Err(NoMemory),
             Err(ReadFault::Gone) => Ok(down_response()),
         }
     }
+
+    // Whether the node's log has an entry at this place.
+    fn has_entry(&self, place: u32) -> bool {
+        self.service
+            .readers
+            .has_entry(self.rt, self.alloc, self.node, place)
+    }
+
+    // Waits until the node's log has an entry at this place, for at most `millis` milliseconds, or
+    // until the stop is set. It holds no lock and no reader while it sleeps. A wake-up without such
+    // an entry doesn't end the wait. If the clock can't be read, it doesn't wait.
+    fn await_entry(&self, place: u32, millis: u16) {
+        if self.has_entry(place) {
+            return;
+        }
+        let Ok(began) = Instant::now(self.rt) else {
+            return;
+        };
+        let most = Duration::from_millis(u64::from(millis));
+        let bell = self.service.bell;
+        bell.begin_waiting();
+        for _ in self.rt.forever() {
+            let passed = bell.passed();
+            if self.has_entry(place) || self.service.stop.is_set() {
+                break;
+            }
+            let waited = began.elapsed(self.rt).unwrap_or(most);
+            match most.checked_sub(waited) {
+                Some(rest) if !rest.is_zero() => bell.sleep(self.rt, passed, rest),
+                _ => break,
+            }
+        }
+        bell.end_waiting();
+    }
+
+    // Reads the node's published list once it has an entry at this place, or at the end of the
+    // time.
+    fn wait(&mut self, place: u32, max: u8, millis: u16) -> Result<Response, NoMemory>
+        requires { (1 ≤ place) × (max ≤ MOST_ENTRIES) }
+        ensures answered { IfOk result (λ response. (self.new.node ≡ self.old.node)
+            × Reads self.old place max (said_by response) self.new) }
+        ensures refused { OnErr result ((self.new.node ≡ self.old.node)
+            × ((self.new.known ≡ self.old.known) ⊎ Takes self.old.known self.new.known)) }
+    {
+        self.await_entry(place, millis);
+        self.read(place, max)
+    }
 }
 
-impl<'a, K: HouseName, R: Wait> Desk for NodeDesk<'a, K, R> {
+impl<'a, K: HouseName, R: Wait + Clock> Desk for NodeDesk<'a, K, R> {
     type Alloc = Global;
 
     ghost use Rattle.urb_worker.specs.Desks.{AnswersAt, RefusedAt};
@@ -183,12 +287,21 @@ impl<'a, K: HouseName, R: Wait> Desk for NodeDesk<'a, K, R> {
     fn answer(&mut self, request: &Request) -> Result<Response, NoMemory> {
         match request {
             Request::Read { place, max } => self.read(*place, *max),
+            Request::Wait { place, max, millis } => self.wait(*place, *max, *millis),
             Request::Submit { .. } => self.work(request),
             Request::Status => self.work(request),
             Request::Crash => self.work(request),
             Request::Restart => self.work(request),
         }
     }
+}
+
+// Whether a turn did what a request asks at a node.
+fn is_turn_of<K: HouseName>(node: NodeId, request: &Request, finished: &Finished<K>) -> bool
+    ensures each { IsJobOf node (asked_by request.now) finished.now.job → IsTrue result }
+    ensures only { IsTrue result → IsJobOf node (asked_by request.now) finished.now.job }
+{
+    is_job_of(node, request, finished.job())
 }
 
 // Whether a job is what a request asks at a node.

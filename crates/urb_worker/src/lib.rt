@@ -15,13 +15,17 @@
 //! let (queue, jobs) = crossbeam_channel::bounded(alloc, 64)?;     // for each node
 //! // on threads of their own:
 //! let setting = WorkerSetting::new(rt, alloc, &hub, &link, &OpenGate, &Silent);
-//! let tally = serve_from(&setting, node, &mut store, jobs, tally);  // until the queues are dropped
+//! let (tally, _) = serve_from(&setting, node, &mut store, &jobs, tally);  // to the end
 //! receive(rt, alloc, &stop, node, &station, &queue);              // a node's datagrams
 //! timer(rt, &stop, 100, &queues);                                 // a tick at each node each 100 ms
-//! let mut desk = NodeDesk::new(rt, alloc, node, &queue, reader);  // for sessions of clients
+//! let desk = NodeDesk::new(rt, alloc, node, service, position);    // for a client's session
 //! // at the end: set the stop, wake the receivers, drop the queues, join all
 //! let house = hub.close(tallies);
 //! ```
+//!
+//! A `NodeService` is what the sessions of a node share: the queue of its worker, the readers that
+//! they borrow, the bell that wakes those that wait for an entry. A session has a `ReadPosition`
+//! and a thread of its own.
 //!
 //! A queue is the sending end of a worker's channel. `run_group` does all of this for a group that
 //! was opened: it starts the threads, and ends them when its `Watch` returns. Workers run in an
@@ -34,10 +38,16 @@
 //! middle of a read, and these wait for nobody.
 #![tactic(auto)]
 
+mod acceptor;
 mod backlog;
+mod bell;
 mod change;
+mod client_desk;
+mod client_input;
+mod connections;
 mod counting;
 mod desk;
+mod frame_progress;
 mod hub;
 mod in_flight;
 mod job;
@@ -45,6 +55,7 @@ pub mod laws;
 mod links;
 mod listeners;
 mod polling;
+mod reader_pool;
 mod receiver;
 mod responses;
 mod settling;
@@ -52,6 +63,8 @@ mod spares;
 mod stations;
 mod stop;
 mod tick_timer;
+mod ticket_places;
+mod tickets;
 mod turn;
 mod turn_stages;
 mod worker_group;
@@ -59,20 +72,26 @@ mod worker_loop;
 mod worker_threads;
 
 pub use backlog::{BACKLOG, Backlog, KEEPING};
+pub use bell::{Bell, pass_rings};
 pub use change::{Change, Reporter, Silent, change_of};
+pub use client_desk::ClientDesk;
+pub use connections::{ClientLimits, LEAST_CONNECTIONS, MOST_CONNECTIONS};
 pub use counting::tally::{HubName, Tally};
-pub use desk::NodeDesk;
+pub use desk::{NodeDesk, NodeService};
 pub use hub::{Gate, Hub, OpenGate};
 pub use in_flight::{CARRYING, InFlight, MOST_IN_FLIGHT};
 pub use job::Job;
 pub use links::{Link, MemoryLink, PacedLink, UdpLink};
 pub use listeners::Watch;
+pub use reader_pool::ReaderPool;
 pub use receiver::receive;
 pub use settling::{Settling, Unsettled};
 pub use spares::{SPARES, Spares};
-pub use stations::{SESSIONS, Station};
-pub use stop::Stop;
+pub use stations::Station;
+pub use stop::{Stop, StopSeen};
 pub use tick_timer::timer;
+pub use ticket_places::{SESSION_TICKETS, TicketPlaces};
+pub use tickets::Closed;
 pub use turn::{Finished, Turn};
 pub use worker_group::{GroupSetting, run_group};
 pub use worker_loop::{Ticket, WorkerSetting, serve, serve_from};

@@ -18,6 +18,10 @@ pub trait Link {
     /// Takes back the buffer of a datagram that its node has handled, so that a later datagram can
     /// use it. A link that keeps no buffers drops it.
     fn take_back(&self, _node: NodeId, _buffer: Vec<u8>) {}
+
+    /// Says that entries of a node's log were published, after the worker has answered for them. A
+    /// link without a bell does nothing.
+    fn ring(&self, _node: NodeId) {}
 }
 
 /// Sends packets over UDP on this machine's loopback, each packet as one datagram.
@@ -75,6 +79,12 @@ impl<'a, N: Link, R: Clock> Link for PacedLink<'a, N, R> {
     fn take_back(&self, node: NodeId, buffer: Vec<u8>) {
         if let Some(station) = self.stations.get(usize::from(node.number()) - 1) {
             station.spares.put(buffer);
+        }
+    }
+
+    fn ring(&self, node: NodeId) {
+        if let Some(station) = self.stations.get(usize::from(node.number()) - 1) {
+            station.bell.ring();
         }
     }
 }

@@ -1,10 +1,14 @@
 //! The listeners of a group that runs: receivers, sessions of clients, and the timer.
 
 ghost use Rattle.urb_names.specs.declared.limits.TheConstants.{MAX_NODES};
-ghost use Rattle.std.specs.Prelude.{◌≡◌, ◌<◌, ◌≤◌, length, vec_len};
+ghost use Rattle.std.specs.Prelude.{◌≡◌, ◌<◌, ◌≤◌, IfOk, IfSome, length, vec_len};
 
-use crate::stations::{SESSIONS, Station, rest};
-use crate::{GroupSetting, NodeDesk, Reporter, Stop, Ticket, receive, timer};
+use crate::acceptor::{Acceptor, Refusals, accept_clients};
+use crate::connections::Connections;
+use crate::{
+    ClientLimits, GroupSetting, NodeDesk, NodeService, ReaderPool, Reporter, Station, Stop,
+    StopSeen, Ticket, TicketPlaces, pass_rings, receive, timer,
+};
 use crossbeam_channel::Sender;
 use std::alloc::Global;
 use std::net::{Net, TcpListener, TcpStream};
@@ -12,141 +16,153 @@ use std::sync::Wait;
 use std::thread;
 use std::thread::{Scope, Threads};
 use std::time::Clock;
-use urb_client::{BufferedAnswers, session};
-use urb_names::NodeId;
-use urb_show::{HouseName, LogReader};
+use urb_names::{NoMemory, NodeId};
+use urb_show::{HouseName, LogReader, ReadPosition};
 
 /// The group calls `watch` when it runs, and stops when `watch` returns.
 pub trait Watch {
     fn watch(&mut self, stations: &[Station]);
 }
 
-// Runs one client's session. The answers to requests that came together are sent together.
-fn serve_client<K: HouseName, R: Wait>(
-    alloc: Global,
-    stream: &TcpStream,
-    desk: &mut NodeDesk<'_, K, R>,
-) {
-    let Ok(answers) = BufferedAnswers::new(alloc, stream) else {
-        return;
-    };
-    let Ok(mut reader) = answers.reader(alloc, stream) else {
-        return;
-    };
-    let _ = session(alloc, &mut reader, &mut answers.writer(), desk);
-    let _ = answers.send_all();
-}
-
-// Serves a node's clients one after the other, until the stop is set. It checks the stop before
-// each further wait, since a stop wakes only the threads that wait at that moment.
-fn accept_clients<K: HouseName, R: Wait + Clock>(
-    rt: &R,
-    alloc: Global,
-    stop: &Stop,
-    listener: &TcpListener,
-    desk: NodeDesk<'_, K, R>,
-) {
-    let mut desk = desk;
-    for _ in rt.forever() {
-        match listener.accept() {
-            Ok((stream, _)) if !stop.is_set() => {
-                let _ = stream.set_nodelay(true);
-                serve_client(alloc, &stream, &mut desk);
-            }
-            Ok(_) => {}
-            Err(_) => rest(rt),
-        }
-        if stop.is_set() {
-            break;
-        }
-    }
-}
-
 // Hands the datagrams of the node with this number to its worker, until the stop is set. It takes
 // the number because a closure that owns nothing can't hold the node itself, whose type has an
 // invariant.
-fn receive_datagrams<K: HouseName, R: Wait + Clock>(
+fn receive_datagrams<'s, K: HouseName, R: Wait + Clock>(
     rt: &R,
     alloc: Global,
-    stop: &Stop,
+    stop: &'s Stop,
     number: u8,
     station: &Station,
     queue: &Sender<Ticket<K>>,
-) {
-    if let Some(node) = NodeId::new(number) {
-        receive(rt, alloc, stop, node, station, queue);
+) -> Option<StopSeen<'s>> {
+    let node = NodeId::new(number)?;
+    Some(receive(rt, alloc, stop, node, station, queue))
+}
+
+/// What the sessions of a group need: the readers that they share, the position that each begins
+/// at, and for each node its connections and the places for its tickets. All of this is allocated
+/// before a thread starts.
+#[derive(Drop)]
+pub(crate) struct SessionRoom<K: HouseName> {
+    readers: ReaderPool<K>,
+    start: ReadPosition<K>,
+    refusals: Refusals,
+    nodes: Vec<(Connections, TicketPlaces)>,
+}
+
+impl<K: HouseName> SessionRoom<K> {
+    // The room for the sessions of `count` nodes, each with these limits. `None` if there are no
+    // readers.
+    fn new(
+        alloc: Global,
+        readers: Vec<LogReader<K>>,
+        count: usize,
+        limits: ClientLimits,
+    ) -> Result<Option<SessionRoom<K>>, NoMemory>
+        ensures { IfOk result (λ made. IfSome made (λ room. vec_len room.nodes ≡ count)) }
+    {
+        let Some(first) = readers.first() else {
+            return Ok(None);
+        };
+        let start = ReadPosition::at(first);
+        let refusals = Refusals::new(alloc)?;
+        let mut nodes = Vec::with_capacity(alloc, count)?;
+        for _i in 0..count {
+            nodes.push_reserved((Connections::new(alloc, limits)?, TicketPlaces::new()));
+        }
+        Ok(Some(SessionRoom {
+            readers: ReaderPool::new(alloc, readers)?,
+            start,
+            refusals,
+            nodes,
+        }))
     }
 }
 
 // A node, with what its listeners use.
 #[derive(Drop)]
-struct NodeListener<'a, K: HouseName, R: Wait> {
+struct NodeListener<'a, K: HouseName, R: Wait + Clock> {
     rt: &'a R,
     alloc: Global,
     stop: &'a Stop,
-    node: NodeId,
     station: &'a Station,
     queue: &'a Sender<Ticket<K>>,
+    connections: &'a Connections,
+    refusals: &'a Refusals,
+    desk: NodeDesk<'a, K, R>,
 }
 
-// Starts the threads that take a node's datagrams and serve its clients. Returns whether it could.
+// Starts the threads that take a node's datagrams, pass on its bell's rings and accept its clients.
+// Returns whether it could.
 fn start_node_threads<'s, E, K: HouseName + Send + Sync, R: Wait + Clock + Sync>(
-    scope: &Scope<'s, E>,
+    scope: &'s Scope<'s, E>,
     listener: NodeListener<'s, K, R>,
-    readers: &mut Vec<LogReader<K>>,
-) -> bool
-    requires { listener.node ≤ length K.base }
-{
+    number: u8,
+) -> bool {
     let NodeListener {
         rt,
         alloc,
         stop,
-        node,
         station,
         queue,
+        connections,
+        refusals,
+        desk,
     } = listener;
-    let number = node.number();
     let receiver = move || receive_datagrams(rt, alloc, stop, number, station, queue);
     if scope.spawn(receiver).is_err() {
         return false;
     }
-    for _ in 0..SESSIONS {
-        let Some(reader) = readers.pop() else {
-            return false;
-        };
-        let desk = NodeDesk::new(rt, alloc, node, queue, reader);
-        let acceptor = move || accept_clients(rt, alloc, stop, &station.tcp, desk);
-        if scope.spawn(acceptor).is_err() {
-            return false;
-        }
+    let ringer = move || pass_rings(rt, stop, &station.bell);
+    if scope.spawn(ringer).is_err() {
+        return false;
     }
-    true
+    let acceptor = Acceptor {
+        alloc,
+        stop,
+        station,
+        connections,
+        refusals,
+    };
+    scope
+        .spawn(move || accept_clients(scope, rt, acceptor, desk))
+        .is_ok()
 }
 
 // Starts the threads of all nodes and the timer. Returns whether it could.
 fn start_threads<'s, E, K: HouseName + Send + Sync, H: Reporter, R: Wait + Clock + Sync>(
-    scope: &Scope<'s, E>,
+    scope: &'s Scope<'s, E>,
     setting: &GroupSetting<'s, H, R>,
+    room: &'s SessionRoom<K>,
     stop: &'s Stop,
     queues: &'s [Sender<Ticket<K>>],
-    readers: Vec<LogReader<K>>,
 ) -> bool
     requires nodes { (length setting.now.stations.now ≤ length K.base)
         × (length K.base ≤ MAX_NODES) }
-    requires queues { length queues.now ≡ length setting.now.stations.now }
+    requires room { (vec_len room.now.nodes ≡ length setting.now.stations.now)
+        × (length queues.now ≡ length setting.now.stations.now) }
 {
     let (rt, stations, tick_millis) = (setting.rt, setting.stations, setting.tick_millis);
-    let mut readers = readers;
     for place in 0..stations.len() {
+        let node = NodeId::new(place as u8 + 1).unwrap();
+        let service = NodeService {
+            queue: &queues[place],
+            places: &room.nodes[place].1,
+            readers: &room.readers,
+            bell: &stations[place].bell,
+            stop,
+        };
         let listener = NodeListener {
             rt,
             alloc: setting.alloc,
             stop,
-            node: NodeId::new(place as u8 + 1).unwrap(),
             station: &stations[place],
             queue: &queues[place],
+            connections: &room.nodes[place].0,
+            refusals: &room.refusals,
+            desk: NodeDesk::new(rt, setting.alloc, node, service, room.start.copy()),
         };
-        if !start_node_threads(scope, listener, &mut readers) {
+        if !start_node_threads(scope, listener, node.number()) {
             return false;
         }
     }
@@ -155,8 +171,56 @@ fn start_threads<'s, E, K: HouseName + Send + Sync, H: Reporter, R: Wait + Clock
         .is_ok()
 }
 
-/// What the listeners of a group begin with: the queues of its nodes' workers, and a reader for
-/// each session.
+// Ends the waits of all threads, once the stop is set: those for datagrams, clients and entries.
+fn end_waits<K: HouseName, H: Reporter, R>(setting: &GroupSetting<'_, H, R>, room: &SessionRoom<K>)
+where
+    R: Wait + Net<Listener = TcpListener, Stream = TcpStream>,
+{
+    for (connections, _) in &room.nodes {
+        connections.end_inputs(setting.rt);
+    }
+    for station in setting.stations {
+        station.wake(setting.rt);
+    }
+}
+
+// Runs the threads of all nodes until the watch ends, and then stops them.
+fn run_threads<'a, K: HouseName + Send + Sync, H: Reporter + Sync, R, W: Watch>(
+    setting: &GroupSetting<'a, H, R>,
+    room: &'a SessionRoom<K>,
+    stop: &'a Stop,
+    queues: &'a [Sender<Ticket<K>>],
+    watch: &mut W,
+) -> bool
+where
+    R: Threads + Wait + Clock + Sync + Net<Listener = TcpListener, Stream = TcpStream>,
+    requires nodes { (length setting.now.stations.now ≤ length K.base)
+        × (length K.base ≤ MAX_NODES) }
+    requires room { (vec_len room.now.nodes ≡ length setting.now.stations.now)
+        × (length queues.now ≡ length setting.now.stations.now) }
+{
+    thread::scope(
+        thread::scope_env(),
+        setting.rt,
+        move |scope| -> bool
+            requires { (length setting.now.stations.now ≤ length K.base)
+                × (length K.base ≤ MAX_NODES)
+                × (vec_len room.now.nodes ≡ length setting.now.stations.now)
+                × (length queues.now ≡ length setting.now.stations.now) }
+        {
+            let started = start_threads(scope, setting, room, stop, queues);
+            if started {
+                watch.watch(setting.stations);
+            }
+            stop.set();
+            end_waits(setting, room);
+            started
+        },
+    )
+}
+
+/// What the listeners of a group begin with: the queues of its nodes' workers, and the readers that
+/// sessions share.
 #[derive(Drop)]
 pub(crate) struct ListenerInput<K: HouseName> {
     pub(crate) queues: Vec<Sender<Ticket<K>>>,
@@ -164,8 +228,8 @@ pub(crate) struct ListenerInput<K: HouseName> {
 }
 
 /// Takes datagrams and clients at the stations, and sends ticks, until the watch ends. Then it
-/// stops the threads that it started, and waits for them. A session that has begun ends when its
-/// client ends it. Returns false if a thread could not be made.
+/// stops the threads that it started, and waits for them. Sessions end too: each answers what it
+/// has read, and reads no more. Returns false if memory or a thread was refused.
 pub(crate) fn run_listeners<K: HouseName + Send + Sync, H: Reporter + Sync, R, W: Watch>(
     setting: &GroupSetting<'_, H, R>,
     input: ListenerInput<K>,
@@ -178,26 +242,10 @@ where
     requires queues { vec_len input.queues ≡ length setting.now.stations.now }
 {
     let ListenerInput { queues, readers } = input;
+    let (alloc, stations) = (setting.alloc, setting.stations);
+    let Ok(Some(room)) = SessionRoom::new(alloc, readers, stations.len(), setting.limits) else {
+        return false;
+    };
     let stop = Stop::new();
-    let stop = &stop;
-    let queues = queues.as_slice();
-    thread::scope(
-        thread::scope_env(),
-        setting.rt,
-        move |scope| -> bool
-            requires { (length setting.now.stations.now ≤ length K.base)
-                × (length K.base ≤ MAX_NODES)
-                × (length queues.now ≡ length setting.now.stations.now) }
-        {
-            let started = start_threads(scope, setting, stop, queues, readers);
-            if started {
-                watch.watch(setting.stations);
-            }
-            stop.set();
-            for station in setting.stations {
-                station.wake(setting.rt);
-            }
-            started
-        },
-    )
+    run_threads(setting, &room, &stop, queues.as_slice(), watch)
 }

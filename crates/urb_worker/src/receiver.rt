@@ -8,7 +8,7 @@ ghost use Rattle.std.specs.Prelude.{◌≡◌, ◌⊎◌, ◌++◌, [], ◌∷�
 ghost use Rattle.urb_worker.specs.internal.Arrivals.{IsArrival, IsOfFirst};
 
 use crate::stations::rest;
-use crate::{Backlog, Job, Spares, Station, Stop, Ticket};
+use crate::{Backlog, Job, Spares, Station, Stop, StopSeen, Ticket};
 use crossbeam_channel::{SendTimeoutError, Sender, TrySendError};
 use std::alloc::Global;
 use std::io::ErrorKind;
@@ -191,14 +191,14 @@ fn hand_on<K: HouseName, R: Wait>(
 /// millisecond. Once the backlog is full, datagrams stay in the socket. Datagrams that still wait
 /// when the stop is set are dropped. A datagram is lost if memory for it is refused. After an error
 /// of the socket, the receiver rests for 10 milliseconds and goes on.
-pub fn receive<K: HouseName, R: Wait + Clock>(
+pub fn receive<'s, K: HouseName, R: Wait + Clock>(
     rt: &R,
     alloc: Global,
-    stop: &Stop,
+    stop: &'s Stop,
     node: NodeId,
     station: &Station,
     queue: &Sender<Ticket<K>>,
-) {
+) -> StopSeen<'s> {
     let receiver = NodeReceiver {
         rt,
         alloc,
@@ -210,8 +210,9 @@ pub fn receive<K: HouseName, R: Wait + Clock>(
     let mut room = [0u8; ROOM];
     for _ in rt.forever() {
         let received = station.udp.recv_from(&mut room);
-        if stop.is_set() {
-            break;
+        if let Some(seen) = stop.seen() {
+            station.in_flight.give_up();
+            return seen;
         }
         let refused = match received {
             Ok((count, _)) => {
@@ -233,9 +234,10 @@ pub fn receive<K: HouseName, R: Wait + Clock>(
         if refused.is_some() || station.in_flight.is_crowded() {
             catch_up(&receiver, &mut room, refused);
         }
-        if stop.is_set() {
-            break;
+        if let Some(seen) = stop.seen() {
+            station.in_flight.give_up();
+            return seen;
         }
     }
-    station.in_flight.give_up();
+    unreachable!()
 }

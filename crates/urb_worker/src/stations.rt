@@ -1,13 +1,9 @@
 //! The sockets of a group's nodes, on this machine's loopback.
 
-use crate::{InFlight, Spares};
+use crate::{Bell, InFlight, Spares};
 use std::net::{Ipv4Addr, Net, SocketAddr, TcpListener, TcpStream, UdpSocket};
 use std::time::{Clock, Duration};
 use std::{io, thread};
-use urb_show::READERS;
-
-/// How many sessions of clients a node has at a time. Each session reads with a reader of its own.
-pub const SESSIONS: usize = READERS;
 
 // How long a thread rests after an error of its socket, in milliseconds. While the cause stays,
 // each try would fail at once.
@@ -19,7 +15,7 @@ const PATIENCE: u64 = 200;
 
 /// A node's two sockets at 127.0.0.1, with their ports: packets come to the first, and clients to
 /// the second. The station also counts what is in flight to the first socket, and keeps buffers for
-/// what comes there.
+/// what comes there. Its bell rings when the node's log has grown.
 #[derive(Drop)]
 pub struct Station {
     pub udp: UdpSocket,
@@ -28,6 +24,7 @@ pub struct Station {
     pub tcp_port: u16,
     pub in_flight: InFlight,
     pub spares: Spares,
+    pub bell: Bell,
 }
 
 impl Station {
@@ -49,17 +46,17 @@ impl Station {
             tcp_port,
             in_flight: InFlight::new(),
             spares: Spares::new(),
+            bell: Bell::new(),
         })
     }
 
-    /// Wakes what waits at the sockets: an empty datagram wakes the receiver, and a connection
-    /// wakes each thread that takes sessions.
+    /// Wakes what waits at the station: an empty datagram wakes the receiver, a connection wakes
+    /// the listener, and the bell wakes its ringer and the sessions that wait for entries.
     pub fn wake<R: Net<Listener = TcpListener, Stream = TcpStream>>(&self, rt: &R) {
         let _ = self.udp.send_to(&[], (Ipv4Addr::LOCALHOST, self.udp_port));
         let at = SocketAddr::from((Ipv4Addr::LOCALHOST, self.tcp_port));
-        for _ in 0..SESSIONS {
-            let _ = TcpStream::connect_timeout(rt, &at, Duration::from_millis(PATIENCE));
-        }
+        let _ = TcpStream::connect_timeout(rt, &at, Duration::from_millis(PATIENCE));
+        self.bell.ring_for_all();
     }
 }
 

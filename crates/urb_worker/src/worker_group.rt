@@ -9,14 +9,14 @@ ghost use Rattle.urb_show.specs.Lists.{lists_in};
 ghost use Rattle.urb_worker.specs.Counting.{count_after};
 ghost use Rattle.urb_worker.specs.ServedStores.{AreServed};
 ghost use Rattle.urb_worker.specs.internal.ServedStores.{each, numbers_from};
-ghost use Rattle.urb_worker.specs.declared.stations.TheConstants.{SESSIONS};
+ghost use Rattle.urb_show.specs.declared.opened_group.TheConstants.{READERS};
 
 use crate::listeners::{ListenerInput, run_listeners};
 use crate::polling::Polling;
 use crate::worker_threads::{Worker, WorkerInput, join_workers, start_workers};
 use crate::{
-    Hub, HubName, Link, OpenGate, PacedLink, Reporter, Station, Tally, Ticket, UdpLink, Watch,
-    WorkerSetting,
+    ClientLimits, Hub, HubName, Link, OpenGate, PacedLink, Reporter, SESSION_TICKETS, Station,
+    Tally, Ticket, UdpLink, Watch, WorkerSetting,
 };
 use crossbeam_channel::{Receiver, Sender};
 use std::alloc::{AllocError, Global};
@@ -32,6 +32,9 @@ use urb_stable::Stable;
 
 // The number of tickets that a worker's channel has room for.
 const ROOM: usize = 64;
+
+// At most half of the room is for sessions. The rest is for packets and ticks.
+const _: () = prove!(2 * SESSION_TICKETS as usize <= ROOM);
 
 /// What a group of `count` nodes needs besides its house. These are a channel for each worker, and
 /// lists with room for the workers' inputs and for what they leave. All of this is allocated before
@@ -134,7 +137,7 @@ fn open_hub<K: HouseName, L: HubName, R: Wait>(
     requires parts { (blank.parts ≡ L.parts) × (L.parts ≡ opened.group.size.n) }
     requires start { L.start ≡ 0 }
     ensures tallies { IfSome result (λ it. vec_len it.1 ≡ L.parts) }
-    ensures readers { IfSome result (λ it. length it.2.items ≡ SESSIONS * L.parts) }
+    ensures readers { IfSome result (λ it. length it.2.items ≡ READERS * L.parts) }
     ensures nodes { IfSome result (λ it. (L.parts ≡ length K.base) × (L.parts ≤ MAX_NODES)) }
 {
     let (house, readers) = match opened.parts::<K, R>(rt, alloc) {
@@ -168,6 +171,8 @@ pub struct GroupSetting<'a, H: Reporter, R> {
     pub tick_millis: u32,
     /// Reports each node that goes down or comes back.
     pub reporter: &'a H,
+    /// How many clients a node serves at a time, and how long they may take.
+    pub limits: ClientLimits,
 }
 
 // The inputs of a group's workers, and room for the workers and for what they leave.
@@ -298,8 +303,8 @@ fn close_hub<K: HouseName, L: HubName, R: Wait>(
 /// station. The stores are those of the nodes 1, 2, ... They are returned, with the count of
 /// events.
 ///
-/// At the end it waits for sessions that have begun. There is no count if memory or a thread was
-/// refused. Then nothing runs any more, and the watch was not called.
+/// At the end it ends the sessions of clients, and waits for them. There is no count if memory or a
+/// thread was refused. Then nothing runs any more, and the watch was not called.
 #[tactic(auto, using(crate::proofs::ServedStores::unserved))]
 pub fn run_group<
     K: HouseName + Send + Sync,

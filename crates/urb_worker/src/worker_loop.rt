@@ -1,17 +1,19 @@
 //! A node's worker: its tickets, one after the other.
 
-ghost use Rattle.std.specs.Prelude.{◌≡◌, ◌≤◌, [], MatchOption};
+ghost use Rattle.std.specs.Prelude.{◌≡◌, [], MatchOption};
 ghost use Rattle.urb_node.specs.Replies.{packets_in};
 ghost use Rattle.urb_group.specs.Commands.{reply_of};
 ghost use Rattle.urb_worker.specs.internal.Replies.{tells_record};
 ghost use Rattle.urb_worker.specs.ServedStores.{IsLeftOf};
 
 use crate::polling::Polling;
-use crate::{Finished, Gate, Hub, HubName, Job, Link, Reporter, Silent, Tally, change_of};
-use crossbeam_channel::{Receiver, Sender, TryRecvError};
+use crate::tickets::{Closed, next_ticket};
+use crate::{
+    Finished, Gate, Hub, HubName, Job, Link, Reporter, Settling, Silent, Tally, change_of,
+};
+use crossbeam_channel::{Receiver, Sender};
 use std::alloc::Global;
 use std::sync::Wait;
-use std::thread;
 use urb_group::{Answer, Outbox, Reply};
 use urb_names::{NodeId, encode_into};
 use urb_show::HouseName;
@@ -65,28 +67,6 @@ fn packets_in(reply: &Reply) -> Option<&Outbox>
     }
 }
 
-// A worker's next ticket. `None` once its channel has closed. A client often sends its next request
-// as soon as it is answered, other nodes soon answer a record, and waking a thread is slow. So a
-// worker polls its channel for a while before it sleeps, and yields to other threads between two
-// polls. Polls that it doesn't need for one ticket are left for the next.
-fn next_ticket<K: HouseName, R: Wait>(
-    rt: &R,
-    jobs: &Receiver<Ticket<K>>,
-    polls: &mut u32,
-) -> Option<Ticket<K>>
-    ensures { polls.new ≤ polls.old }
-{
-    while 0 < *polls {
-        *polls -= 1;
-        match jobs.try_recv(rt) {
-            Ok(ticket) => return Some(ticket),
-            Err(TryRecvError::Disconnected) => return None,
-            Err(TryRecvError::Empty) => thread::yield_now(),
-        }
-    }
-    jobs.recv(rt).ok()
-}
-
 // Whether a record was stored.
 fn is_record_stored(reply: &Reply) -> bool
     ensures { result ≡ tells_record (reply_of reply.now) }
@@ -137,7 +117,8 @@ impl<'a, K: HouseName, L: HubName, N: Link, G: Gate, H: Reporter, R: Wait> Worke
 }
 
 /// Does the jobs of one node, until its channel closes. For each ticket it does the job, sends the
-/// packets, and answers. It holds nothing while it sends and answers. An answer that can't be sent
+/// packets, answers, and rings the node's bell if it has published entries. It holds nothing while
+/// it sends, answers and rings. An answer that can't be sent
 /// is lost.
 pub fn serve<K: HouseName, L: HubName, S: Stable<Alloc = Global> + Drop, N: Link, G: Gate, R: Wait>(
     rt: &R,
@@ -153,7 +134,8 @@ pub fn serve<K: HouseName, L: HubName, S: Stable<Alloc = Global> + Drop, N: Link
     let mut store = store;
     let reporter = Silent;
     let setting = WorkerSetting::new(rt, alloc, hub, link, gate, &reporter);
-    serve_from(&setting, node, &mut store, jobs, tally)
+    let (tally, _) = serve_from(&setting, node, &mut store, &jobs, tally);
+    tally
 }
 
 /// Does the same with a borrowed store, for a caller that closes the store afterwards. It also
@@ -161,6 +143,7 @@ pub fn serve<K: HouseName, L: HubName, S: Stable<Alloc = Global> + Drop, N: Link
 /// stored, as the setting says.
 #[tactic(auto, using(crate::proofs::ServedStores::not_yet, crate::proofs::TurnSteps::one_job))]
 pub fn serve_from<
+    'q,
     K: HouseName,
     L: HubName,
     S: Stable<Alloc = Global>,
@@ -172,9 +155,9 @@ pub fn serve_from<
     setting: &WorkerSetting<'_, K, L, N, G, H, R>,
     node: NodeId,
     store: &mut S,
-    jobs: Receiver<Ticket<K>>,
+    jobs: &'q Receiver<Ticket<K>>,
     tally: Tally<L>,
-) -> Tally<L>
+) -> (Tally<L>, Closed<'q>)
     ensures { IsLeftOf S.Stable store.old store.new }
 {
     let (rt, alloc, hub) = (setting.rt, setting.alloc, setting.hub);
@@ -182,8 +165,9 @@ pub fn serve_from<
     let mut left = 0;
     let mut buffer = Vec::new(alloc);
     for _ in rt.forever() {
-        let Some(Ticket { job, answer }) = next_ticket(rt, &jobs, &mut left) else {
-            break;
+        let Ticket { job, answer } = match next_ticket(rt, jobs, &mut left) {
+            Ok(ticket) => ticket,
+            Err(closed) => return (tally, closed),
         };
         let (finished, counted) = hub.work(rt, alloc, node, job, store, setting.gate, tally);
         tally = counted;
@@ -196,7 +180,11 @@ pub fn serve_from<
         if let Some(packets) = packets_in(finished.reply()) {
             send_packets(setting.link, packets, &mut buffer);
         }
+        let has_published = matches!(finished.settling(), Settling::Told(_));
         give_answer(rt, setting.link, node, answer, finished);
+        if has_published {
+            setting.link.ring(node);
+        }
     }
-    tally
+    unreachable!()
 }

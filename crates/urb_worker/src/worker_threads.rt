@@ -66,7 +66,7 @@ where
         jobs,
         tally,
     } = input;
-    let tally = serve_from(setting, node, &mut store, jobs, tally);
+    let (tally, _) = serve_from(setting, node, &mut store, &jobs, tally);
     (store, tally)
 }
 

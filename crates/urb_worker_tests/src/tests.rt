@@ -5,13 +5,16 @@
 ghost use Rattle.std.specs.Prelude.{◌≡◌, ◌*◌, IfSome, length, vec_len};
 ghost use Rattle.urb_show.specs.Lists.{lists_in};
 
+use crossbeam_channel::Sender;
 use std::alloc::Global;
 use std::sync::Wait;
 use std::sync::ledger::Blank;
 use urb_group::Group;
 use urb_names::{ClientId, Config, NodeId, Payload};
-use urb_show::{House, HouseName, LogReader, Opened};
-use urb_worker::{Hub, HubName, Job, Tally};
+use urb_show::{House, HouseName, LogReader, Opened, ReadPosition};
+use urb_worker::{
+    Bell, Hub, HubName, Job, NodeService, ReaderPool, Stop, Tally, Ticket, TicketPlaces,
+};
 
 mod bursts;
 mod desks;
@@ -22,7 +25,9 @@ mod groups;
 mod hearing;
 mod limits;
 mod pacing;
+mod places;
 mod receivers;
+mod refusals;
 mod reports;
 mod sevens;
 mod shorts;
@@ -70,6 +75,46 @@ fn open_hub<K: HouseName, L: HubName, R: Wait>(
             drop(house.close(rt));
             None
         }
+    }
+}
+
+// What the desks of one node's tests share, besides the queue: a pool of one reader.
+#[derive(Drop)]
+struct Hall<K: HouseName> {
+    places: TicketPlaces,
+    readers: ReaderPool<K>,
+    bell: Bell,
+    stop: Stop,
+}
+
+// A hall with this reader, and the position at which sessions there begin.
+fn open_hall<K: HouseName>(
+    alloc: Global,
+    reader: LogReader<K>,
+) -> Option<(Hall<K>, ReadPosition<K>)> {
+    let position = ReadPosition::at(&reader);
+    let mut readers = Vec::new(alloc);
+    readers.push(reader).ok()?;
+    let hall = Hall {
+        places: TicketPlaces::new(),
+        readers: ReaderPool::new(alloc, readers).ok()?,
+        bell: Bell::new(),
+        stop: Stop::new(),
+    };
+    Some((hall, position))
+}
+
+// What the desks at this queue share.
+fn service_of<'a, K: HouseName>(
+    queue: &'a Sender<Ticket<K>>,
+    hall: &'a Hall<K>,
+) -> NodeService<'a, K> {
+    NodeService {
+        queue,
+        places: &hall.places,
+        readers: &hall.readers,
+        bell: &hall.bell,
+        stop: &hall.stop,
     }
 }
 

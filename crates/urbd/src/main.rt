@@ -3,8 +3,10 @@
 
 use std::marker::Brand;
 use std::process::ExitCode;
-use urb_cli::{Line, parse_line, read_words, report_fault, run_errand};
-use urb_daemon::{Console, Streams, fault_of_folder, report_end, run_journals};
+use urb_cli::{Fault, Line, parse_line, read_words, report_fault, run_errand};
+use urb_daemon::{
+    Console, ErrorOutput, Reports, Streams, report_end, report_folder_fault, run_journals,
+};
 use urb_folder::{NodeFile, close_journals, open_journals};
 
 fn main(rt: HostRuntime) -> ExitCode {
@@ -18,13 +20,27 @@ fn main(rt: HostRuntime) -> ExitCode {
         Ok(Line::Errand(errand)) => return ExitCode::from(run_errand(&rt, errand)),
         Err(status) => return ExitCode::from(status),
     };
-    let (dir, nodes) = (serving.dir, serving.nodes);
-    let journals = match open_journals::<NodeFile<Brand>, HostRuntime>(&rt, &rt, dir, nodes) {
-        Ok(journals) => journals,
-        Err(why) => return ExitCode::from(report_fault(&rt, fault_of_folder(why))),
+    let Ok(errors) = ErrorOutput::start(rt, rt.alloc(), rt) else {
+        return ExitCode::from(report_fault(&rt, Fault::NoMemory));
     };
-    let mut console = Console::new(&rt, rt.reader());
-    let (journals, ended) = run_journals(&rt, rt.alloc(), serving, journals, &mut console);
-    close_journals(&rt, dir, journals);
-    ExitCode::from(report_end(&rt, ended))
+    let (dir, nodes) = (serving.dir, serving.nodes);
+    let status = match open_journals::<NodeFile<Brand>, HostRuntime>(&rt, &rt, dir, nodes) {
+        Ok(journals) => {
+            let (reports, alloc) = (Reports::new(&errors), rt.alloc());
+            let mut console = Console::new(&rt, rt.reader());
+            let (journals, ended) = run_journals(
+                &rt,
+                alloc,
+                serving,
+                journals,
+                &reports,
+                &mut console,
+            );
+            close_journals(&rt, dir, journals);
+            report_end(&rt, &errors, ended)
+        }
+        Err(why) => report_folder_fault(&rt, &rt, &errors, serving, why),
+    };
+    errors.finish();
+    ExitCode::from(status)
 }

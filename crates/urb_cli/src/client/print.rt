@@ -13,7 +13,7 @@ use urb_client::Response;
 use urb_names::{Message, Name, NoMemory};
 
 /// The status if a node refused the request.
-const REFUSED: u8 = 4;
+pub(crate) const REFUSED: u8 = 4;
 
 // Writes a payload: its digits, or a hyphen if it is empty.
 fn push_payload(alloc: Global, text: &mut Vec<u8>, payload: &[u8]) -> Result<(), NoMemory>

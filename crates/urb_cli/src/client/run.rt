@@ -1,53 +1,26 @@
-//! The commands of a client: one request to a node on this machine, and what its response shows.
+//! The commands `submit` and `read`: one request to a node on this machine, and what its response
+//! shows.
 
-ghost use Rattle.std.specs.Prelude.{◌≡◌, ◌⊎◌, ◌<◌, ◌≤◌, Err, IfOk, IfErr, IfSome, OnOk, length};
-ghost use Rattle.std.specs.Io.KnownBytes.{Appends, Consumes};
+ghost use Rattle.std.specs.Prelude.{◌≡◌, ◌⊎◌, ◌<◌, ◌≤◌, Err, IfOk, IfErr, IfSome, length};
+ghost use Rattle.std.specs.Io.KnownBytes.{Appends};
 ghost use Rattle.urb_client.specs.Requests.{IsAsked, IsShort, Read as AskRead, Submit as AskSubmit};
 ghost use Rattle.urb_client.specs.Requests.{asked_by, request_body};
-ghost use Rattle.urb_client.specs.Responses.{encoding, frame, said_by};
-ghost use Rattle.urb_client.specs.ReceivedResponses.{HasNoResponse};
+ghost use Rattle.urb_client.specs.Responses.{frame};
 ghost use Rattle.urb_cli.specs.ClientOutput.{IsShown, ShowsAs, ShowsNothing, read_shown};
 ghost use Rattle.urb_cli.specs.ClientOutput.{refused_shown, shown_by, submit_shown};
 ghost use Rattle.urb_cli.specs.Statuses.{IsClientsEnd};
 
+use crate::client::call_fault::{CallFault, report_call_fault};
+use crate::client::calls::{connect, exchange};
 use crate::client::print::{render_read_response, render_refusal, render_submit_response};
 use crate::client::printed::Printed;
 use crate::command_line::task::{ReadOptions, SubmitOptions};
 use crate::faults::{Fault, report_fault};
 use std::alloc::Global;
 use std::io::{Read, Write};
-use std::net::{Ipv4Addr, Net, TcpListener, TcpStream};
-use urb_client::{Request, Response, encode_request, read_response};
+use std::net::{Net, TcpListener, TcpStream};
+use urb_client::Request;
 use urb_names::{ClientId, MAX_PAYLOAD, Payload, Refusal};
-
-// Sends the bytes of a request.
-fn send<W: Write>(writer: &mut W, frame: &[u8]) -> Result<(), Fault>
-    ensures ok { OnOk result (Appends (W.contents writer.old) (W.contents writer.new) frame.now) }
-    ensures err { IfErr result (λ fault. fault ≡ Fault.Write) }
-{
-    writer.write_all(frame).map_err(|_| Fault::Write)?;
-    writer.flush().map_err(|_| Fault::Write)
-}
-
-// Sends a request over a connection, and reads its response.
-fn exchange<R: Read, W: Write>(
-    alloc: Global,
-    reader: &mut R,
-    writer: &mut W,
-    request: &Request,
-) -> Result<Response, Fault>
-    requires values { IsAsked (asked_by request.now) }
-    requires short { IsShort (asked_by request.now) }
-    ensures sent { IfOk result (λ response. Appends (W.contents writer.old) (W.contents writer.new)
-        (frame (request_body (asked_by request.now)))) }
-    ensures read { IfOk result (λ response.
-        Consumes (R.remaining reader.old) (R.remaining reader.new) (encoding (said_by response))) }
-    ensures bad { result ≡ Err Fault.BadReply → IfSome (R.remaining reader.old) HasNoResponse }
-{
-    let frame = encode_request(alloc, request)?;
-    send(writer, frame.as_slice())?;
-    Ok(read_response(alloc, reader)?)
-}
 
 // The request of a submit.
 fn make_submit_request(alloc: Global, submitting: SubmitOptions<'_>) -> Result<Request, Fault>
@@ -129,21 +102,12 @@ pub fn read_over<R: Read, W: Write>(
     }
 }
 
-// Connects to a port of this machine.
-fn connect<R: Net<Listener = TcpListener, Stream = TcpStream>>(
-    rt: &R,
-    port: u16,
-) -> Result<TcpStream, Fault> {
-    TcpStream::connect(rt, (Ipv4Addr::LOCALHOST, port)).map_err(|_| Fault::Network)
-}
-
-/// Submits a message at its port. A text that is too long isn't sent. `Network`: no node listens
-/// there.
+/// Submits a message at its port. A text that is too long isn't sent.
 pub fn submit_at<R: Net<Listener = TcpListener, Stream = TcpStream>>(
     rt: &R,
     alloc: Global,
     submitting: SubmitOptions<'_>,
-) -> Result<Printed, Fault>
+) -> Result<Printed, CallFault>
     // What is shown is what a response to a submit says.
     ensures response { IfOk result (λ shown. IsShown submit_shown (shown_by shown)) }
     // If the text is too long, this is the refusal.
@@ -155,24 +119,25 @@ pub fn submit_at<R: Net<Listener = TcpListener, Stream = TcpStream>>(
         return Ok(render_refusal(alloc, refusal.number(), refusal.detail())?);
     }
     let stream = connect(rt, submitting.port)?;
-    submit_over(alloc, &mut &stream, &mut &stream, submitting)
+    Ok(submit_over(alloc, &mut &stream, &mut &stream, submitting)?)
 }
 
-/// Reads entries at their port. `Network`: no node listens there.
+/// Reads entries at their port.
 pub fn read_at<R: Net<Listener = TcpListener, Stream = TcpStream>>(
     rt: &R,
     alloc: Global,
     reading: ReadOptions,
-) -> Result<Printed, Fault>
+) -> Result<Printed, CallFault>
     // What is shown is what a response to a read says.
     ensures { IfOk result (λ shown. IsShown read_shown (shown_by shown)) }
 {
     let stream = connect(rt, reading.port)?;
-    read_over(alloc, &mut &stream, &mut &stream, reading)
+    Ok(read_over(alloc, &mut &stream, &mut &stream, reading)?)
 }
 
-/// Writes what is shown to standard output, or reports the fault. Returns the status.
-pub fn show<R: Print + Eprint>(rt: &R, outcome: Result<Printed, Fault>) -> u8
+/// Writes what is shown of the node at this port to standard output, or reports the fault. Returns
+/// the status.
+pub fn show<R: Print + Eprint>(rt: &R, port: u16, outcome: Result<Printed, CallFault>) -> u8
     ensures shown { IfOk outcome (λ shown. (result ≡ shown.status) ⊎ (result ≡ 1)) }
     ensures fault { IfErr outcome (λ fault. result ≡ 1) }
 {
@@ -181,7 +146,7 @@ pub fn show<R: Print + Eprint>(rt: &R, outcome: Result<Printed, Fault>) -> u8
             Ok(()) => shown.status,
             Err(_) => report_fault(rt, Fault::Write),
         },
-        Err(fault) => report_fault(rt, fault),
+        Err(fault) => report_call_fault(rt, port, fault),
     }
 }
 
@@ -194,7 +159,7 @@ where
     // A text that is too long is never accepted.
     ensures long { MAX_PAYLOAD < length submitting.entry.text.now → (result ≡ 1) ⊎ (result ≡ 4) }
 {
-    show(rt, submit_at(rt, rt.alloc(), submitting))
+    show(rt, submitting.port, submit_at(rt, rt.alloc(), submitting))
 }
 
 /// Does `urbd read`, and returns the program's status. It is 0 if entries were shown, even if the
@@ -204,5 +169,5 @@ where
     R: AllocGlobal + Print + Eprint + Net<Listener = TcpListener, Stream = TcpStream>,
     ensures { IsClientsEnd result }
 {
-    show(rt, read_at(rt, rt.alloc(), reading))
+    show(rt, reading.port, read_at(rt, rt.alloc(), reading))
 }

@@ -3,15 +3,24 @@
 ghost use Rattle.std.specs.Prelude.{◌≡◌, IfOk, false};
 ghost use Rattle.clap.specs.Words.{app_of, rule_of};
 ghost use Rattle.clap.specs.declared.builder.command.Command.TheViews.{out-Command};
-ghost use Rattle.urb_cli.specs.CommandLine.{number_rule, text_rule, place_rule};
-ghost use Rattle.urb_cli.specs.CommandLine.{serve_app, submit_app, read_app, urbd_app};
+ghost use Rattle.urb_cli.specs.CommandLine.{bare_app, replay_app};
+ghost use Rattle.urb_cli.specs.CommandLine.{choice_rule, number_rule, text_rule, place_rule};
+ghost use Rattle.urb_cli.specs.CommandLine.{serve_app, submit_app, read_app, status_app, urbd_app};
 
 use crate::limits::{MAX_BASE_PORT, MAX_TICK_MILLIS, MIN_BASE_PORT};
+use crate::version::VERSION;
 use clap::builder::ValueParser;
 use clap::{Arg, ArgAction, Command};
 use std::alloc::{AllocError, Global};
 use urb_client::MOST_ENTRIES;
 use urb_names::{MAX_CAP, MAX_NODES};
+
+// The texts of options that several commands have.
+const PORT_HELP: &str = "The node's port for clients, 1 to 65535";
+
+const NODES_HELP: &str = "How many nodes, 1 to 7";
+
+const CLIENT_HELP: &str = "The client, 1 to 65535";
 
 // A required option whose value is a number from `low` to `high`.
 fn number_option<'a>(alloc: Global, name: &'a str, help: &'a str, low: i64, high: i64) -> Arg<'a>
@@ -24,6 +33,14 @@ fn number_option<'a>(alloc: Global, name: &'a str, help: &'a str, low: i64, high
         .required(true)
         .action(ArgAction::Set)
         .value_parser(ValueParser::signed(low, high))
+}
+
+// An option that may be left out, whose value is a number from `low` to `high`.
+fn optional_number<'a>(alloc: Global, name: &'a str, help: &'a str, low: i64, high: i64) -> Arg<'a>
+    ensures rule { rule_of result ≡ choice_rule name.entry.now low high }
+    ensures own { result.global ≡ false }
+{
+    number_option(alloc, name, help, low, high).required(false)
 }
 
 // A required option whose value is any text except an empty one.
@@ -56,26 +73,29 @@ fn serve_command<'a>(alloc: Global) -> Result<Command<'a>, AllocError>
 {
     Command::new(alloc, "serve")
         .about("Runs a group of nodes until standard input ends")
-        .arg(number_option(alloc, "nodes", "How many nodes", 1, MAX_NODES as i64))?
+        .after_help(
+            "Example: urbd serve --nodes 3 --cap 1000000 --dir journals --base-port 7400 --tick-ms 20",
+        )
+        .arg(number_option(alloc, "nodes", NODES_HELP, 1, MAX_NODES as i64))?
         .arg(number_option(
             alloc,
             "cap",
-            "How many messages each node may broadcast",
+            "How many messages each node may broadcast, 1 to 1000000",
             1,
             MAX_CAP as i64,
         ))?
-        .arg(text_option(alloc, "dir", "The folder of the journals"))?
+        .arg(text_option(alloc, "dir", "The folder of the journals, which must exist"))?
         .arg(number_option(
             alloc,
             "base-port",
-            "The nodes' ports lie above it",
+            "The nodes' ports lie above it, 1024 to 65000",
             MIN_BASE_PORT as i64,
             MAX_BASE_PORT as i64,
         ))?
         .arg(number_option(
             alloc,
             "tick-ms",
-            "Milliseconds between resends",
+            "Milliseconds between resends, 1 to 60000",
             1,
             MAX_TICK_MILLIS as i64,
         ))
@@ -87,16 +107,17 @@ fn submit_command<'a>(alloc: Global) -> Result<Command<'a>, AllocError>
 {
     Command::new(alloc, "submit")
         .about("Sends one message to a node")
-        .arg(number_option(alloc, "port", "The node's port for clients", 1, 65_535))?
-        .arg(number_option(alloc, "client", "The client", 1, 65_535))?
+        .after_help("Example: urbd submit --port 7411 --client 7 --number 1 hello")
+        .arg(number_option(alloc, "port", PORT_HELP, 1, 65_535))?
+        .arg(number_option(alloc, "client", CLIENT_HELP, 1, 65_535))?
         .arg(number_option(
             alloc,
             "number",
-            "Which of the client's messages it is",
+            "Which of the client's messages it is, from 1; a node refuses 0",
             0,
             4_294_967_295,
         ))?
-        .arg(text_word(alloc, "TEXT", "The message"))
+        .arg(text_word(alloc, "TEXT", "The message, at most 16384 bytes"))
 }
 
 fn read_command<'a>(alloc: Global) -> Result<Command<'a>, AllocError>
@@ -105,27 +126,69 @@ fn read_command<'a>(alloc: Global) -> Result<Command<'a>, AllocError>
 {
     Command::new(alloc, "read")
         .about("Shows entries of a node's log")
-        .arg(number_option(alloc, "port", "The node's port for clients", 1, 65_535))?
-        .arg(number_option(alloc, "from", "The first place, from 1", 1, 4_294_967_295))?
+        .after_help("Example: urbd read --port 7411 --from 1 --max 8")
+        .arg(number_option(alloc, "port", PORT_HELP, 1, 65_535))?
+        .arg(number_option(
+            alloc,
+            "from",
+            "The first place of the log, from 1",
+            1,
+            4_294_967_295,
+        ))?
         .arg(number_option(
             alloc,
             "max",
-            "How many entries at most",
+            "How many entries at most, 1 to 8",
             1,
             MOST_ENTRIES as i64,
         ))
+}
+
+fn status_command<'a>(alloc: Global) -> Result<Command<'a>, AllocError>
+    ensures { IfOk result
+        (λ made. (app_of made ≡ status_app) × ((out-Command made).has_globals ≡ false)) }
+{
+    let (low, high) = (MIN_BASE_PORT as i64, MAX_BASE_PORT as i64);
+    Command::new(alloc, "status")
+        .about("Shows the state of a node, or of all nodes of a group")
+        .after_help("Example: urbd status --base-port 7400 --nodes 3")
+        .arg(optional_number(alloc, "port", PORT_HELP, 1, 65_535))?
+        .arg(optional_number(
+            alloc,
+            "base-port",
+            "The group's base port, 1024 to 65000",
+            low,
+            high,
+        ))?
+        .arg(optional_number(alloc, "nodes", NODES_HELP, 1, MAX_NODES as i64))
+}
+
+fn replay_command<'a>(alloc: Global) -> Command<'a>
+    ensures { (app_of result ≡ replay_app) × ((out-Command result).has_globals ≡ false) }
+{
+    Command::new(alloc, "replay")
+        .about("Runs a script from standard input")
+        .after_help("Example: urbd replay < three-nodes.script")
+}
+
+// The program without its subcommands.
+fn bare_command<'a>(alloc: Global) -> Command<'a>
+    ensures { (app_of result ≡ bare_app) × ((out-Command result).has_globals ≡ false) }
+{
+    Command::new(alloc, "urbd")
+        .about("Logged uniform FIFO broadcast")
+        .version(VERSION)
+        .subcommand_required(true)
 }
 
 /// The command line that the program accepts.
 pub(crate) fn make_command_line<'a>(alloc: Global) -> Result<Command<'a>, AllocError>
     ensures { IfOk result (λ made. app_of made ≡ urbd_app) }
 {
-    let replay = Command::new(alloc, "replay").about("Runs a script from standard input");
-    Command::new(alloc, "urbd")
-        .about("Logged uniform FIFO broadcast")
-        .subcommand_required(true)
-        .subcommand(replay)?
+    bare_command(alloc)
+        .subcommand(replay_command(alloc))?
         .subcommand(serve_command(alloc)?)?
         .subcommand(submit_command(alloc)?)?
-        .subcommand(read_command(alloc)?)
+        .subcommand(read_command(alloc)?)?
+        .subcommand(status_command(alloc)?)
 }

@@ -2,8 +2,8 @@
 
 ghost use Rattle.std.specs.Prelude.{◌≡◌, ◌⊎◌, [], Some, map, IfOk, IfErr, OnOk};
 ghost use Rattle.clap.specs.Words.{kind_of, subcommand_of};
-ghost use Rattle.urb_cli.specs.CommandLine.{urbd_app, faults_of, IsToldBy, HasStatus};
-ghost use Rattle.urb_cli.specs.Tasks.{task_named, task_of};
+ghost use Rattle.urb_cli.specs.CommandLine.{urbd_app, faults_of, IsToldBy};
+ghost use Rattle.urb_cli.specs.Tasks.{IsRefused, task_named, task_of};
 
 use crate::command_line::grammar::make_command_line;
 use crate::command_line::task::Line;
@@ -25,7 +25,7 @@ fn report_parser_error<R: Print + Eprint>(rt: &R, error: &Error) -> u8
 {
     match error.kind() {
         ErrorKind::OutOfMemory => report_fault(rt, Fault::NoMemory),
-        ErrorKind::DisplayHelp => match error.print(rt) {
+        ErrorKind::DisplayHelp | ErrorKind::DisplayVersion => match error.print(rt) {
             Ok(()) => 0,
             Err(_) => report_fault(rt, Fault::Write),
         },
@@ -36,12 +36,31 @@ fn report_parser_error<R: Print + Eprint>(rt: &R, error: &Error) -> u8
     }
 }
 
+// What a line lacks that the parser accepts, and that asks for nothing.
+const UNFIT: &str = "give --port, or give --base-port and --nodes";
+
+// What is said of a word that isn't UTF-8.
+const NOT_TEXT: &str = "invalid UTF-8 was detected in one or more arguments";
+
+// Prints a mistake in the parser's form, and returns the status.
+fn report_mistake<R: Print + Eprint>(rt: &R, alloc: Global, message: &str) -> u8
+    ensures { (result ≡ 1) ⊎ (result ≡ 3) }
+{
+    let Ok(mut command) = make_command_line(alloc) else {
+        return report_fault(rt, Fault::NoMemory);
+    };
+    match command.error(ErrorKind::ValueValidation, message) {
+        Ok(error) => report_parser_error(rt, &error),
+        Err(_) => report_fault(rt, Fault::NoMemory),
+    }
+}
+
 /// Reads a command line. Its first word is the program's name. If the line isn't the program's,
-/// this prints the parser's text and returns the status. Help that was asked for goes to standard
-/// output, with status 0. A mistake goes to standard error, with status 3.
+/// this prints the parser's text and returns the status. Help or the version that was asked for
+/// goes to standard output, with status 0. A mistake goes to standard error, with status 3.
 ///
-/// Three faults are reported with status 1: memory is refused (`no memory`), help can't be written
-/// (`write failed`), or what the parser found can't be read (`read failed`).
+/// Two faults are reported with status 1: memory is refused (`no memory`), or help can't be written
+/// (`write failed`).
 pub fn parse_line<'a, S: AsStr, R: Print + Eprint>(
     rt: &R,
     alloc: Global,
@@ -53,8 +72,9 @@ pub fn parse_line<'a, S: AsStr, R: Print + Eprint>(
     // ranges.
     ensures asked { IfOk result (λ line.
         task_named (subcommand_of urbd_app (map S.text words.entry.now)) ≡ Some (task_of line)) }
-    // The status of a refused line is that of its first fault, or of refused memory.
-    ensures refused { IfErr result (HasStatus (faults_of (map S.text words.entry.now))) }
+    // The status of a refused line is that of its first fault, or of refused memory. If its options
+    // don't fit together, it is 3.
+    ensures refused { IfErr result (IsRefused (map S.text words.entry.now)) }
 {
     let Ok(command) = make_command_line(alloc) else {
         return Err(report_fault(rt, Fault::NoMemory));
@@ -62,23 +82,9 @@ pub fn parse_line<'a, S: AsStr, R: Print + Eprint>(
     match command.try_get_matches_from(words) {
         Ok(matches) => match read_matches(&matches) {
             Some(line) => Ok(line),
-            None => Err(report_fault(rt, Fault::Read)),
+            None => Err(report_mistake(rt, alloc, UNFIT)),
         },
         Err(error) => Err(report_parser_error(rt, &error)),
-    }
-}
-
-// Prints, in the parser's form, that a word of the command line isn't UTF-8. Returns the status.
-fn report_not_text<R: Print + Eprint>(rt: &R, alloc: Global) -> u8
-    ensures { (result ≡ 1) ⊎ (result ≡ 3) }
-{
-    let Ok(mut command) = make_command_line(alloc) else {
-        return report_fault(rt, Fault::NoMemory);
-    };
-    let message = "invalid UTF-8 was detected in one or more arguments";
-    match command.error(ErrorKind::ValueValidation, message) {
-        Ok(error) => report_parser_error(rt, &error),
-        Err(_) => report_fault(rt, Fault::NoMemory),
     }
 }
 
@@ -92,7 +98,7 @@ pub fn read_words<R: Env + AllocGlobal + Print + Eprint>(rt: &R) -> Result<Vec<S
         Err(error) => {
             return Err(match error.kind() {
                 io::ErrorKind::OutOfMemory => report_fault(rt, Fault::NoMemory),
-                io::ErrorKind::InvalidData => report_not_text(rt, rt.alloc()),
+                io::ErrorKind::InvalidData => report_mistake(rt, rt.alloc(), NOT_TEXT),
                 _ => report_fault(rt, Fault::Read),
             });
         }

@@ -1,6 +1,6 @@
 //! What a command line asks for.
 
-ghost use Rattle.std.specs.Prelude.{◌<◌, ◌≤◌};
+ghost use Rattle.std.specs.Prelude.{◌<◌, ◌≤◌, ◌+◌};
 ghost use Rattle.urb_client.specs.declared.format.TheConstants.{MOST_ENTRIES};
 
 use crate::command_line::options::ServeOptions;
@@ -32,6 +32,16 @@ pub struct ReadOptions {
     ghost within: { (0 < port) × (0 < from) × (0 < max) × (max ≤ MOST_ENTRIES) },
 }
 
+/// Nodes to ask for their state: the first one's port for clients, and how many ports from it on.
+#[derive(Clone, Copy, Debug)]
+pub struct StatusOptions {
+    /// The first node's port for clients, from 1.
+    pub port: u16,
+    /// How many nodes. Their ports follow each other, and are below 65,536.
+    pub count: u8,
+    ghost within: { (0 < port) × (port + count ≤ 65536) },
+}
+
 /// Something that the program does by itself, once.
 #[derive(Clone, Copy, Debug)]
 pub enum Errand<'a> {
@@ -41,6 +51,8 @@ pub enum Errand<'a> {
     Submit(SubmitOptions<'a>),
     /// Show entries of a node's log.
     Read(ReadOptions),
+    /// Show the state of nodes.
+    Status(StatusOptions),
 }
 
 /// What the program should do.

@@ -2,14 +2,17 @@
 
 ghost use Rattle.std.specs.Prelude.{◌≡◌, ◌≤◌, ◌&&◌, nat_le, IfSome, Some, None, option_map};
 ghost use Rattle.std.specs.Prelude.{option_and_then, if◌then◌else◌};
+ghost use Rattle.urb_names.specs.declared.limits.TheConstants.{MAX_NODES};
+ghost use Rattle.urb_cli.specs.declared.limits.TheConstants.{MIN_BASE_PORT, MAX_BASE_PORT};
 ghost use Rattle.clap.specs.Words.{first_of, found_of, rows_of, subcommand_rows_of};
+ghost use Rattle.urb_cli.specs.Tasks.{asked_nodes};
 ghost use Rattle.urb_cli.specs.Tasks.{Serve, number_of, serve_task, submit_task, read_task};
 ghost use Rattle.urb_cli.specs.Tasks.{task_named, task_of, task_of_serving, task_of_submitting};
-ghost use Rattle.urb_cli.specs.Tasks.{task_of_reading};
+ghost use Rattle.urb_cli.specs.Tasks.{task_of_reading, task_of_asking, status_task};
 
 use crate::command_line::options::ServeOptions;
-use crate::command_line::task::{Errand, Line, ReadOptions, SubmitOptions};
-use crate::limits::{MAX_BASE_PORT, MAX_TICK_MILLIS, MIN_BASE_PORT};
+use crate::command_line::task::{Errand, Line, ReadOptions, StatusOptions, SubmitOptions};
+use crate::limits::{CLIENT_PORT_OFFSET, MAX_BASE_PORT, MAX_TICK_MILLIS, MIN_BASE_PORT};
 use clap::ArgMatches;
 use urb_client::MOST_ENTRIES;
 use urb_names::{MAX_CAP, MAX_NODES};
@@ -88,6 +91,42 @@ fn read_read_options(found: &ArgMatches<'_>) -> Option<ReadOptions>
     })
 }
 
+// The nodes to ask: the one at the port, or all of a group. `None` if the options name neither, or
+// both.
+fn asked_nodes(port: Option<u32>, base: Option<u32>, nodes: Option<u32>) -> Option<StatusOptions>
+    requires port { IfSome port (λ n. (1 ≤ n) × (n ≤ 65535)) }
+    requires base { IfSome base (λ n. (MIN_BASE_PORT ≤ n) × (n ≤ MAX_BASE_PORT)) }
+    requires nodes { IfSome nodes (λ n. (1 ≤ n) × (n ≤ MAX_NODES)) }
+    ensures { option_map task_of_asking result ≡ asked_nodes port base nodes }
+{
+    match (port, base, nodes) {
+        (Some(port), None, None) => Some(StatusOptions {
+            port: port as u16,
+            count: 1,
+        }),
+        (None, Some(base), Some(nodes)) => Some(StatusOptions {
+            port: base as u16 + CLIENT_PORT_OFFSET + 1,
+            count: nodes as u8,
+        }),
+        _ => None,
+    }
+}
+
+#[tactic(auto, unfolding(crate::specs::Tasks::status_task))]
+fn read_status_options(found: &ArgMatches<'_>) -> Option<StatusOptions>
+    ensures { option_map task_of_asking result ≡ status_task (rows_of (found_of found.now)) }
+{
+    let port = number(found, "port", 1, 65_535);
+    let base = number(
+        found,
+        "base-port",
+        MIN_BASE_PORT as u32,
+        MAX_BASE_PORT as u32,
+    );
+    let nodes = number(found, "nodes", 1, MAX_NODES as u32);
+    asked_nodes(port, base, nodes)
+}
+
 fn read_subcommand<'a>(name: &str, found: &ArgMatches<'a>) -> Option<Line<'a>>
     ensures { option_map task_of result
         ≡ task_named (Some (name.now, rows_of (found_of found.now))) }
@@ -97,12 +136,13 @@ fn read_subcommand<'a>(name: &str, found: &ArgMatches<'a>) -> Option<Line<'a>>
         "serve" => Some(Line::Serve(read_serve_options(found)?)),
         "submit" => Some(Line::Errand(Errand::Submit(read_submit_options(found)?))),
         "read" => Some(Line::Errand(Errand::Read(read_read_options(found)?))),
+        "status" => Some(Line::Errand(Errand::Status(read_status_options(found)?))),
         _ => None,
     }
 }
 
-/// What the program should do. `None` if a required option is missing, or is no number in its
-/// range.
+/// What the program should do. `None` if the options don't fit together, or if a required one is
+/// missing or is no number in its range.
 pub(crate) fn read_matches<'a>(matches: &ArgMatches<'a>) -> Option<Line<'a>>
     ensures { option_map task_of result ≡ task_named (subcommand_rows_of matches.now) }
 {

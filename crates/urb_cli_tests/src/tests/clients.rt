@@ -9,7 +9,8 @@ use std::test::Fail;
 use std::thread;
 use std::thread::Threads;
 use urb_cli::{
-    Fault, Printed, ReadOptions, SubmitOptions, read_at, read_over, show, submit_at, submit_over,
+    CallFault, Fault, Printed, ReadOptions, SubmitOptions, read_at, read_over, show, status_at,
+    status_over, submit_at, submit_over,
 };
 use urb_names::MAX_PAYLOAD;
 use urb_terminal::Terminal;
@@ -39,7 +40,7 @@ fn page(port: u16) -> ReadOptions
 }
 
 /// What is shown, with its status, or the fault.
-fn told(outcome: &Result<Printed, Fault>) -> Result<(&[u8], u8), Fault> {
+fn told<E: Copy>(outcome: &Result<Printed, E>) -> Result<(&[u8], u8), E> {
     match outcome {
         Ok(shown) => Ok((shown.text.as_slice(), shown.status)),
         Err(fault) => Err(*fault),
@@ -139,14 +140,90 @@ fn what_is_shown_goes_to_standard_output(rt: HostRuntime) -> Result<(), Fail> {
     ] {
         let terminal = Terminal::new(rt.alloc(), &[], b"", open);
         let text = Vec::from_slice(rt.alloc(), b"refused 5 0\n")?;
-        let told = show(&terminal, Ok(Printed { text, status: 4 }));
+        let told = show(&terminal, 7411, Ok(Printed { text, status: 4 }));
         let shown = terminal.into_shown(told);
         assert!(rt; shown.is(status, output, errors, errors));
     }
-    let terminal = Terminal::new(rt.alloc(), &[], b"", true);
-    let told = show(&terminal, Err(Fault::BadReply));
-    let shown = terminal.into_shown(told);
-    assert!(rt; shown.is(1, b"", b"urbd: bad reply\n", b"urbd: bad reply\n"));
+    Ok(())
+}
+
+#[test]
+fn a_fault_says_what_is_wrong(rt: HostRuntime) -> Result<(), Fail> {
+    for (fault, line) in [
+        (
+            CallFault::NobodyListens,
+            b"urbd: network failed: nobody listens at 127.0.0.1:7411\n".as_slice(),
+        ),
+        (
+            CallFault::NotConnected,
+            b"urbd: network failed: the system made no connection to 127.0.0.1:7411\n",
+        ),
+        (
+            CallFault::Broken(Fault::Read),
+            b"urbd: read failed: the connection broke, or no answer came from 127.0.0.1:7411\n",
+        ),
+        (
+            CallFault::Broken(Fault::Write),
+            b"urbd: write failed: the request was not sent whole to 127.0.0.1:7411\n",
+        ),
+        (
+            CallFault::Broken(Fault::BadReply),
+            b"urbd: bad reply: no whole response came from 127.0.0.1:7411\n",
+        ),
+        (
+            CallFault::Broken(Fault::NoMemory),
+            b"urbd: no memory: the call ended early, of 127.0.0.1:7411\n",
+        ),
+    ] {
+        let terminal = Terminal::new(rt.alloc(), &[], b"", true);
+        let told = show(&terminal, 7411, Err(fault));
+        let shown = terminal.into_shown(told);
+        assert!(rt; shown.is(1, b"", line, line));
+    }
+    Ok(())
+}
+
+#[test]
+fn a_state_is_shown_in_a_line(rt: HostRuntime) -> Result<(), Fail> {
+    for (sent, text, status) in [
+        (
+            b"\x00\x0a\x83\x01\x00\x00\x00\x0c\x00\x00\x00\x24".as_slice(),
+            b"7411 ready accepted 12 shown 36\n".as_slice(),
+            0,
+        ),
+        (
+            b"\x00\x0a\x83\x00\x00\x00\x00\x00\x00\x00\x00\x00",
+            b"7411 down accepted 0 shown 0\n",
+            0,
+        ),
+        (
+            b"\x00\x0a\x83\x02\xff\xff\xff\xff\x00\x00\x00\x01",
+            b"7411 storing accepted 4294967295 shown 1\n",
+            0,
+        ),
+        (
+            b"\x00\x06\xee\x13\x00\x00\x00\x02",
+            b"7411 refused 19 2: the node does not know this request\n",
+            4,
+        ),
+        (
+            b"\x00\x06\xee\x07\x00\x00\x00\x03",
+            b"7411 refused 7 3: the next number is 3\n",
+            4,
+        ),
+    ] {
+        let mut reader = sent;
+        let mut written = Vec::new(rt.alloc());
+        let outcome = status_over(rt.alloc(), &mut reader, &mut written, 7411);
+        assert_eq!(rt; told(&outcome), Ok((text, status)));
+        assert_eq!(rt; written.as_slice(), b"\x00\x01\x03".as_slice());
+    }
+    for sent in [b"".as_slice(), b"\x00\x01\x84", ACCEPTED, ENTRIES] {
+        let mut reader = sent;
+        let mut written = Vec::new(rt.alloc());
+        let outcome = status_over(rt.alloc(), &mut reader, &mut written, 7411);
+        assert_eq!(rt; told(&outcome), Err(Fault::BadReply));
+    }
     Ok(())
 }
 
@@ -178,7 +255,7 @@ fn submit_beside<R>(
     listener: &TcpListener,
     answer: &[u8],
     submitting: SubmitOptions<'_>,
-) -> (Option<Vec<u8>>, Result<Printed, Fault>)
+) -> (Option<Vec<u8>>, Result<Printed, CallFault>)
 where
     R: Threads + Net<Listener = TcpListener, Stream = TcpStream> + Sync,
 {
@@ -196,7 +273,7 @@ fn read_beside<R>(
     listener: &TcpListener,
     answer: &[u8],
     reading: ReadOptions,
-) -> (Option<Vec<u8>>, Result<Printed, Fault>)
+) -> (Option<Vec<u8>>, Result<Printed, CallFault>)
 where
     R: Threads + Net<Listener = TcpListener, Stream = TcpStream> + Sync,
 {
@@ -226,7 +303,7 @@ fn a_submit_goes_over_a_socket(rt: HostRuntime) -> Result<(), Fail> {
     }
     for answer in [b"".as_slice(), b"\x00\x05\x81\x00", ENTRIES] {
         let (_, outcome) = submit_beside(&rt, rt.alloc(), &listener, answer, submitting);
-        assert_eq!(rt; told(&outcome), Err(Fault::BadReply));
+        assert_eq!(rt; told(&outcome), Err(CallFault::Broken(Fault::BadReply)));
     }
     // A text over 16,384 bytes isn't sent.
     let long = Vec::from_elem(rt.alloc(), b'x', MAX_PAYLOAD + 1)?;
@@ -254,10 +331,12 @@ fn a_read_goes_over_a_socket(rt: HostRuntime) -> Result<(), Fail> {
     let asked = b"\x00\x06\x02\x00\x00\x00\x01\x08".as_slice();
     assert_eq!(rt; seen.ok_or("a request")?.as_slice(), asked);
     let (_, outcome) = read_beside(&rt, rt.alloc(), &listener, ACCEPTED, page(port));
-    assert_eq!(rt; told(&outcome), Err(Fault::BadReply));
+    assert_eq!(rt; told(&outcome), Err(CallFault::Broken(Fault::BadReply)));
     // If no node listens, that is reported.
     drop(listener);
     let outcome = read_at(&rt, rt.alloc(), page(port));
-    assert_eq!(rt; told(&outcome), Err(Fault::Network));
+    assert_eq!(rt; told(&outcome), Err(CallFault::NobodyListens));
+    let outcome = status_at(&rt, rt.alloc(), port);
+    assert_eq!(rt; told(&outcome), Err(CallFault::NobodyListens));
     Ok(())
 }

@@ -3,7 +3,7 @@
 use super::{WANTS_A_NETWORK, shown_by};
 use std::alloc::Global;
 use std::test::Fail;
-use urb_cli::{Errand, Line, parse_line};
+use urb_cli::{Errand, Line, VERSION, parse_line};
 use urb_terminal::Terminal;
 
 #[test]
@@ -14,7 +14,8 @@ fn mistakes_are_told_on_standard_error(rt: HostRuntime) -> Result<(), Fail> {
         &[b"urbd", b""],
         &[b"urbd", b"Replay"],
         &[b"urbd", b"play"],
-        &[b"urbd", b"--version"],
+        &[b"urbd", b"--versions"],
+        &[b"urbd", b"read", b"--version"],
         &[b"urbd", b"-x"],
         &[b"urbd", b"replay", b"more"],
         &[b"urbd", b"replay", b"--cap", b"1"],
@@ -24,6 +25,10 @@ fn mistakes_are_told_on_standard_error(rt: HostRuntime) -> Result<(), Fail> {
         &[b"urbd", b"submit", b"hi"],
         &[b"urbd", b"read", b"replay"],
         &[b"urbd", b"submit", b"-x"],
+        &[b"urbd", b"status"],
+        &[b"urbd", b"status", b"--nodes", b"3"],
+        &[b"urbd", b"status", b"--base-port", b"7400"],
+        &[b"urbd", b"status", b"--port", b"7411", b"--nodes", b"3"],
     ] {
         let shown = shown_by(rt.alloc(), words, b"group 1 1\n", true);
         assert!(rt;
@@ -68,6 +73,20 @@ fn help_goes_to_standard_output(rt: HostRuntime) -> Result<(), Fail> {
     Ok(())
 }
 
+#[test]
+fn the_version_goes_to_standard_output(rt: HostRuntime) -> Result<(), Fail> {
+    let text = format!(in rt.alloc(); "urbd {VERSION}\n")?;
+    for word in [b"--version".as_slice(), b"-V"] {
+        let shown = shown_by(rt.alloc(), &[b"urbd", word], b"", true);
+        assert!(rt; shown.is(0, text.as_bytes(), b"", b""));
+        let shown = shown_by(rt.alloc(), &[b"urbd", word], b"", false);
+        assert!(rt; shown.is(1, b"", b"urbd: write failed\n", b"urbd: write failed\n"));
+    }
+    let begins = b"urbd 0.2.0\npackets: ".as_slice();
+    assert!(rt; text.as_bytes().starts_with(begins));
+    Ok(())
+}
+
 /// A whole command line for each command that has options.
 const SERVE: [&[u8]; 12] = [
     b"urbd",
@@ -98,6 +117,17 @@ const SUBMIT: [&[u8]; 9] = [
 
 const READ: [&[u8]; 8] = [
     b"urbd", b"read", b"--port", b"20011", b"--from", b"1", b"--max", b"8",
+];
+
+const STATUS: [&[u8]; 4] = [b"urbd", b"status", b"--port", b"20011"];
+
+const GROUP_STATUS: [&[u8]; 6] = [
+    b"urbd",
+    b"status",
+    b"--base-port",
+    b"20000",
+    b"--nodes",
+    b"3",
 ];
 
 /// The status of these words, and whether the terminal showed the matching output. For a mistake
@@ -165,6 +195,8 @@ fn each_option_stands_once(rt: HostRuntime) -> Result<(), Fail> {
         (SERVE.as_slice(), [2usize, 4, 6, 8, 10].as_slice()),
         (&SUBMIT, &[2, 4, 6]),
         (&READ, &[2, 4, 6]),
+        (&STATUS, &[2]),
+        (&GROUP_STATUS, &[2, 4]),
     ] {
         assert_eq!(rt; status_of(rt.alloc(), words), Some(WANTS_A_NETWORK));
         for at in options {
@@ -202,6 +234,9 @@ fn each_number_has_its_range(rt: HostRuntime) -> Result<(), Fail> {
         (&READ, 3, [b"1", b"65535"], [b"0", b"65536"]),
         (&READ, 5, [b"1", b"4294967295"], [b"0", b"4294967296"]),
         (&READ, 7, [b"1", b"8"], [b"0", b"9"]),
+        (&STATUS, 3, [b"1", b"65535"], [b"0", b"65536"]),
+        (&GROUP_STATUS, 3, [b"1024", b"65000"], [b"1023", b"65001"]),
+        (&GROUP_STATUS, 5, [b"1", b"7"], [b"0", b"8"]),
     ] {
         for new in &taken {
             let other = replace_word(rt.alloc(), words, at, *new)?;
@@ -270,6 +305,19 @@ fn a_line_has_its_values(rt: HostRuntime) -> Result<(), Fail> {
             assert_eq!(rt; (reading.port, reading.from, reading.max), (12, 3, 4));
         }
         _ => return Err("entries to read")?,
+    }
+    for (words, port, count) in [
+        (["--port", "12"].as_slice(), 12, 1),
+        (&["--base-port", "65000", "--nodes", "7"], 65_011, 7),
+    ] {
+        let mut line = Vec::from_slice(rt.alloc(), &["urbd", "status"])?;
+        line.extend_from_slice(words)?;
+        match parse_line(&terminal, rt.alloc(), line.as_slice()) {
+            Ok(Line::Errand(Errand::Status(asking))) => {
+                assert_eq!(rt; (asking.port, asking.count), (port, count));
+            }
+            _ => return Err("nodes to ask")?,
+        }
     }
     let shown = terminal.into_shown(0);
     assert!(rt; shown.output.is_empty() && shown.errors.is_empty());

@@ -37,18 +37,24 @@ fn is_frame_of_submit(alloc: Global, frame: &[u8]) -> bool {
 fn requests_are_encoded(rt: HostRuntime) {
     let alloc = rt.alloc();
     let read = Request::Read { place: 1, max: 8 };
+    let wait = Request::Wait {
+        place: 258,
+        max: 8,
+        millis: 772,
+    };
     let encoded = [
         is_frame_of_submit(alloc, b"\x00\x09\x01\x00\x07\x00\x00\x00\x01hi"),
         is_frame_of(alloc, read, b"\x00\x06\x02\x00\x00\x00\x01\x08"),
         is_frame_of(alloc, Request::Status, b"\x00\x01\x03"),
         is_frame_of(alloc, Request::Crash, b"\x00\x01\x04"),
         is_frame_of(alloc, Request::Restart, b"\x00\x01\x05"),
+        is_frame_of(alloc, wait, b"\x00\x08\x06\x00\x00\x01\x02\x08\x03\x04"),
     ];
-    assert_eq!(rt; encoded, [true; 5]);
+    assert_eq!(rt; encoded, [true; 6]);
 }
 
 /// Requests without their length, and what they ask; `None` if there is no request.
-const REQUESTS: [(&[u8], Option<Asked<'_>>); 6] = [
+const REQUESTS: [(&[u8], Option<Asked<'_>>); 8] = [
     (
         b"\x01\x00\x07\x00\x00\x00\x01hi",
         Some(Asked::Submit(7, 1, b"hi")),
@@ -57,6 +63,11 @@ const REQUESTS: [(&[u8], Option<Asked<'_>>); 6] = [
     (b"\x03", Some(Asked::Status)),
     (b"\x04", Some(Asked::Crash)),
     (b"\x05", Some(Asked::Restart)),
+    (
+        b"\x06\x00\x00\x01\x02\x08\x03\x04",
+        Some(Asked::Wait(258, 8, 772)),
+    ),
+    (b"\x07", None),
     (b"", None),
 ];
 

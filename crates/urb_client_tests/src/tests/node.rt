@@ -94,7 +94,9 @@ impl<A: Allocator + Copy> Desk for OneNode<A> {
                 number,
                 payload,
             } => self.submit(*client, *number, payload.as_slice()),
-            Request::Read { place, max } => self.read(*place, *max),
+            Request::Read { place, max } | Request::Wait { place, max, .. } => self.read(
+                *place, *max,
+            ),
             Request::Status => {
                 let logged = u32::try_from(self.log.len()).unwrap_or(u32::MAX);
                 Ok(Response::Status {

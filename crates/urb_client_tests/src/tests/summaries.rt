@@ -9,6 +9,7 @@ use urb_names::Refusal;
 pub(super) enum Asked<'a> {
     Submit(u16, u32, &'a [u8]),
     Read(u32, u8),
+    Wait(u32, u8, u16),
     Status,
     Crash,
     Restart,
@@ -23,6 +24,7 @@ pub(super) fn asked_by<A: Allocator>(request: &Request<A>) -> Asked<'_> {
             payload,
         } => Asked::Submit(client.number(), *number, payload.as_slice()),
         Request::Read { place, max } => Asked::Read(*place, *max),
+        Request::Wait { place, max, millis } => Asked::Wait(*place, *max, *millis),
         Request::Status => Asked::Status,
         Request::Crash => Asked::Crash,
         Request::Restart => Asked::Restart,

@@ -11,7 +11,7 @@ use std::net::{Ipv4Addr, Net, SocketAddr, TcpListener, TcpStream};
 use std::test::Fail;
 use urb_cli::{Errand, ReadOptions, SubmitOptions, run_errand};
 use urb_terminal::{Shown, Terminal};
-use urb_worker::{Station, Watch};
+use urb_worker::{Silent, Station, Watch};
 
 /// A terminal for these tests, together with the network of the runtime.
 #[derive(Drop)]
@@ -127,7 +127,7 @@ fn read(port: u16, from: u32) -> Errand<'static>
 
 const WRITE_FAILED: &[u8] = b"urbd: write failed\n";
 
-const NETWORK_FAILED: &[u8] = b"urbd: network failed\n";
+const NETWORK_FAILED: &[u8] = b"urbd: network failed: nobody listens at 127.0.0.1:";
 
 // Whether errands at the port of a new node, one after the other, show and end as expected.
 fn show_its_answers<N: Net<Listener = TcpListener, Stream = TcpStream>>(
@@ -187,7 +187,7 @@ fn a_submit_and_a_read_show_what_a_node_answers(rt: HostRuntime) -> Result<(), F
         alloc: rt.alloc(),
         show_its_answers: false,
     };
-    let events = events_of(&rt, rt.alloc(), 1, 20, &mut errands);
+    let events = events_of(&rt, rt.alloc(), 1, 20, &Silent, &mut errands);
     assert!(rt; errands.show_its_answers);
     assert!(rt; events.is_some());
     Ok(())
@@ -203,7 +203,7 @@ fn where_nobody_listens_that_is_told(rt: HostRuntime) -> Result<(), Fail> {
     drop(listener);
     for errand in [submit(port, 1, "jo"), read(port, 1)] {
         let shown = shown_of(&rt, rt.alloc(), errand, b"", true);
-        assert!(rt; is_all(&shown, 1, b"", NETWORK_FAILED));
+        assert!(rt; shown.is(1, b"", NETWORK_FAILED, b"\n"));
     }
     Ok(())
 }

@@ -9,10 +9,10 @@ use std::net::{Ipv4Addr, Net, TcpListener, TcpStream, UdpSocket};
 use std::test::Fail;
 use std::thread;
 use std::time::{Clock, Duration};
-use urb_cli::{Fault, ServeOptions};
-use urb_daemon::{Host, Network, open_link, open_network, run_group_at};
+use urb_cli::ServeOptions;
+use urb_daemon::{Host, Network, NetworkFault, Port, open_link, open_network, run_group_at};
 use urb_group::{Config, Group, MemStable};
-use urb_worker::{Station, Watch};
+use urb_worker::{LEAST_CONNECTIONS, Reporter, Silent, Station, Watch};
 
 // What a client sends to a group of one node. It is a submit, a read that shows it, a status, and a
 // submit whose number isn't the next. Then come an unknown opcode, a read of the place 0, a read
@@ -39,7 +39,7 @@ const ANSWERED: &[u8] = b"\x00\x05\x81\x00\x00\x00\x01\
 const ENDED: &[u8] = b"\x00\x06\xee\x13\x00\x00\x00\x01";
 
 // Everything that a node answers to these bytes, until it ends the session.
-fn answers<R: Net<Listener = TcpListener, Stream = TcpStream>>(
+pub(super) fn answers<R: Net<Listener = TcpListener, Stream = TcpStream>>(
     rt: &R,
     alloc: Global,
     station: &Station,
@@ -80,11 +80,12 @@ fn stores(alloc: Global, nodes: u8) -> Option<Vec<MemStable>>
 
 // Runs a new group until the watch ends. Its nodes resend every `millis` milliseconds. Returns the
 // count of its events.
-pub(super) fn events_of<R, W: Watch>(
+pub(super) fn events_of<R, H: Reporter + Sync, W: Watch>(
     rt: &R,
     alloc: Global,
     nodes: u8,
     millis: u32,
+    reporter: &H,
     watch: &mut W,
 ) -> Option<u64>
 where
@@ -93,15 +94,16 @@ where
 {
     let config = Config::new(nodes, 100)?;
     let stations = stations(rt, alloc, nodes)?;
-    let link = open_link(rt, alloc, stations.as_slice()).ok()?;
+    let link = open_link(rt, alloc, 13, stations.as_slice()).ok()?;
     let network = Network {
         stations,
         link,
         every: millis,
+        connections: LEAST_CONNECTIONS,
     };
     let stores = stores(alloc, nodes)?;
     let group = Group::new(alloc, config).ok()?;
-    let (_, events) = run_group_at(rt, alloc, group, &network, stores, watch);
+    let (_, events) = run_group_at(rt, alloc, group, &network, stores, reporter, watch);
     events
 }
 
@@ -170,7 +172,7 @@ fn four_sessions_of_a_node_are_answered_at_once(rt: HostRuntime) -> Result<(), F
         alloc: rt.alloc(),
         are_answered: false,
     };
-    let events = events_of(&rt, rt.alloc(), 1, 20, &mut clients);
+    let events = events_of(&rt, rt.alloc(), 1, 20, &Silent, &mut clients);
     assert!(rt; clients.are_answered);
     assert!(rt; events.is_some());
     Ok(())
@@ -194,7 +196,8 @@ fn are_of_their_nodes<R: Net<Listener = TcpListener, Stream = TcpStream>>(
     let base = serving.base;
     let network = open_network(rt, alloc, serving).ok()?;
     let again = open_network(rt, alloc, serving);
-    let mut are = network.stations.len() == 7 && again.err() == Some(Fault::Network);
+    let mut are = network.stations.len() == 7
+        && again.err() == Some(NetworkFault::InUse(Port::Udp(base + 1)));
     for node in 1..8u16 {
         let station = network.stations.get(usize::from(node) - 1)?;
         are = are
@@ -222,7 +225,7 @@ fn a_session_over_tcp_is_answered(rt: HostRuntime) -> Result<(), Fail> {
         alloc: rt.alloc(),
         is_answered: false,
     };
-    let events = events_of(&rt, rt.alloc(), 1, 20, &mut client);
+    let events = events_of(&rt, rt.alloc(), 1, 20, &Silent, &mut client);
     assert!(rt; client.is_answered);
     assert!(rt; events.is_some());
     Ok(())
@@ -337,7 +340,7 @@ fn three_nodes_over_udp_agree(rt: HostRuntime) -> Result<(), Fail> {
         alloc: rt.alloc(),
         have_agreed: false,
     };
-    let events = events_of(&rt, rt.alloc(), 3, 20, &mut clients).ok_or("memory")?;
+    let events = events_of(&rt, rt.alloc(), 3, 20, &Silent, &mut clients).ok_or("memory")?;
     assert!(rt; clients.have_agreed);
     // Each of the thirty messages is at least two events at each node: an arrival or a submit, and
     // a store. At its own node it is two more.

@@ -6,10 +6,13 @@ use std::io::Read;
 use std::net::{Net, TcpListener, TcpStream};
 use std::test::Fail;
 use urb_cli::{Fault, ServeOptions, SubmitOptions, submit_at};
-use urb_daemon::{Console, Host, report_end, run_stores};
+use urb_daemon::{
+    Console, Host, NetworkFault, Port, ServeFault, fault_of_serve, report_end, run_stores,
+};
 use urb_group::{MemStable, Record, Stable, StoreFault};
-use urb_names::{ClientId, Message, Name, NodeId};
+use urb_names::{ClientId, Message, Name, NodeId, Refusal, Rule};
 use urb_terminal::Terminal;
+use urb_worker::Silent;
 
 /// A store in memory that answers `NoMemory` when it is asked for its records.
 #[derive(Drop)]
@@ -101,7 +104,7 @@ fn are_of(alloc: Global, stores: &mut [MemStable], numbers: &[u8]) -> bool {
 #[derive(Drop)]
 struct Ran<J: Drop> {
     stores: Vec<J>,
-    ended: Result<u64, Fault>,
+    ended: Result<u64, ServeFault>,
     shown: Vec<u8>,
 }
 
@@ -163,7 +166,7 @@ where
     };
     let terminal = Terminal::new(alloc, &[], b"", course.open);
     let mut console = Console::new(&terminal, Client { rt, alloc, port });
-    let (stores, ended) = run_stores(rt, alloc, serving, stores, &mut console);
+    let (stores, ended) = run_stores(rt, alloc, serving, stores, &Silent, &mut console);
     drop(console);
     Some(Ran {
         stores,
@@ -185,12 +188,20 @@ where
     let mut stores = stores;
     for base in [21_310, 24_870, 28_430, 31_090] {
         let ran = run_at(rt, alloc, stores, base, course)?;
-        if ran.ended != Err(Fault::Network) {
+        if !matches!(ran.ended, Err(ServeFault::Network(_))) {
             return Some(ran);
         }
         stores = ran.stores;
     }
     None
+}
+
+// The fault that the end of a run is told as, if it is one.
+fn fault_of_end(ended: Result<u64, ServeFault>) -> Option<Fault> {
+    match ended {
+        Ok(_) => None,
+        Err(why) => Some(fault_of_serve(why)),
+    }
 }
 
 #[test]
@@ -210,7 +221,7 @@ fn the_stores_of_a_run_come_back_in_their_order(rt: HostRuntime) -> Result<(), F
             submits: false,
         };
         let mut ran = run(&rt, alloc, stores, course).ok_or("memory")?;
-        assert_eq!(rt; ran.ended.err(), fault);
+        assert_eq!(rt; fault_of_end(ran.ended), fault);
         assert_eq!(rt; ran.shown.as_slice(), shown);
         assert!(rt; are_of(alloc, &mut ran.stores, numbers));
     }
@@ -230,7 +241,7 @@ fn a_run_to_which_memory_is_refused_tells_it(rt: HostRuntime) -> Result<(), Fail
         submits: false,
     };
     let ran = run(&rt, alloc, stores, course).ok_or("memory")?;
-    assert_eq!(rt; ran.ended, Err(Fault::NoMemory));
+    assert_eq!(rt; ran.ended, Err(ServeFault::Unopened(Refusal::NoMemory)));
     assert_eq!(rt; ran.stores.len(), 1);
     assert_eq!(rt; ran.shown.len(), 0);
     Ok(())
@@ -256,13 +267,71 @@ fn a_run_ends_with_the_count_of_its_events(rt: HostRuntime) -> Result<(), Fail> 
 
 #[test]
 fn an_end_is_told(rt: HostRuntime) -> Result<(), Fail> {
+    let (one, two) = (NodeId::new(1).unwrap(), NodeId::new(2).unwrap());
+    let misfit = Refusal::Inconsistent {
+        rule: Rule::C,
+        node: two,
+        name: Name {
+            sender: one,
+            seq: 7,
+        },
+    };
     for (ended, open, status, output, errors) in [
         (Ok(7), true, 0, b"closed 7\n".as_slice(), b"".as_slice()),
         (Ok(7), false, 1, b"", b"urbd: write failed\n"),
-        (Err(Fault::Network), true, 1, b"", b"urbd: network failed\n"),
+        (
+            Err(ServeFault::Network(NetworkFault::InUse(Port::Tcp(7411)))),
+            true,
+            1,
+            b"",
+            b"urbd: network failed: TCP port 7411 is in use\n",
+        ),
+        (
+            Err(ServeFault::Network(NetworkFault::NotAllowed(Port::Udp(1025)))),
+            true,
+            1,
+            b"",
+            b"urbd: network failed: the program may not use UDP port 1025\n",
+        ),
+        (
+            Err(ServeFault::Network(NetworkFault::NoSocket(29))),
+            true,
+            1,
+            b"",
+            b"urbd: network failed: the system gives no further socket; the group needs 29 \
+descriptors (ulimit -n)\n",
+        ),
+        (
+            Err(ServeFault::NoMemory),
+            true,
+            1,
+            b"",
+            b"urbd: no memory\n",
+        ),
+        (
+            Err(ServeFault::Untold),
+            false,
+            1,
+            b"",
+            b"urbd: write failed\n",
+        ),
+        (
+            Err(ServeFault::Unopened(Refusal::BadRow(3))),
+            true,
+            1,
+            b"",
+            b"urbd: refused 17 3: row 3 is no record\n",
+        ),
+        (
+            Err(ServeFault::Unopened(misfit)),
+            true,
+            1,
+            b"",
+            b"urbd: refused 14 0: rule c, node 2, name 1.7 (urbdctl verify says more)\n",
+        ),
     ] {
         let terminal = Terminal::new(rt.alloc(), &[], b"", open);
-        let told = report_end(&terminal, ended);
+        let told = report_end(&terminal, &terminal, ended);
         let shown = terminal.into_shown(told);
         assert_eq!(rt; shown.status, status);
         assert_eq!(rt; shown.output.as_slice(), output);

@@ -25,7 +25,7 @@ const MISFIT: Result<(), Fault> = Err(Fault::Refused(14, 0));
 
 // Runs SQL on the file at this path, which is made if it doesn't exist, and closes it. Says whether
 // that worked.
-fn is_changed(rt: &HostRuntime, path: &str, sql: &str) -> bool {
+pub(super) fn is_changed(rt: &HostRuntime, path: &str, sql: &str) -> bool {
     let Ok(mut conn) = Connection::open(rt, path) else {
         return false;
     };

@@ -10,9 +10,10 @@ use std::thread::Threads;
 use std::time::{Clock, Duration};
 use std::{fs, io, thread};
 use urb_cli::{Fault, ServeOptions};
-use urb_daemon::{Console, Host, fault_of_folder, run_journals};
+use urb_daemon::{Console, Host, fault_of_folder, fault_of_serve, run_journals};
 use urb_folder::{NodeFile, close_journals, open_journals};
 use urb_terminal::Terminal;
+use urb_worker::Silent;
 
 /// How a group leaves its journals at its end. They are closed, so that only one file is left of
 /// each; or they are dropped, as after a kill.
@@ -202,19 +203,59 @@ where
         seen: &seen,
     };
     let mut console = Console::new(&terminal, clients);
-    let (journals, ended) = run_journals(threads, rt.alloc(), serving, journals, &mut console);
+    let (journals, ended) = run_journals(
+        threads,
+        rt.alloc(),
+        serving,
+        journals,
+        &Silent,
+        &mut console,
+    );
     drop(console);
     match leave {
         Leave::Closed => close_journals(rt, dir, journals),
         Leave::Dropped => drop(journals),
     }
-    ended?;
-    seen.into_inner().ok_or(Fault::BadReply)
+    match ended {
+        Ok(_) => seen.into_inner().ok_or(Fault::BadReply),
+        Err(why) => Err(fault_of_serve(why)),
+    }
 }
 
-/// Runs a group of the given number of nodes over the folder. Each node has a client, which reads
-/// the log and submits its messages from 1 to the given number. Then it waits until the log shows
-/// those of all nodes.
+/// How many nodes a group has, and how many messages each of them may accept.
+#[derive(Clone, Copy)]
+pub struct Limits {
+    pub nodes: u8,
+    pub cap: u32,
+}
+
+/// Runs a group with these limits over the folder. Each node has a client, which reads the log and
+/// submits its messages from 1 to the given number. Then it waits until the log shows those of all
+/// nodes.
+pub fn visit_under<R>(
+    threads: &R,
+    rt: &HostRuntime,
+    folder: &str,
+    limits: Limits,
+    number: u8,
+    leave: Leave,
+) -> Result<Seen, Fault>
+where
+    R: Host + Net<Listener = TcpListener, Stream = TcpStream>,
+{
+    let mut seen = Err(Fault::Network);
+    for base in [22_510, 26_070, 27_330, 30_290] {
+        if seen.as_ref().err() == Some(&Fault::Network) {
+            seen = match ServeOptions::new(limits.nodes, limits.cap, folder, base, 50) {
+                Some(serving) => visit_at(threads, rt, serving, number, leave),
+                None => Err(Fault::BadReply),
+            };
+        }
+    }
+    seen
+}
+
+/// Does the same with a cap of 100.
 pub fn visit<R>(
     threads: &R,
     rt: &HostRuntime,
@@ -226,16 +267,8 @@ pub fn visit<R>(
 where
     R: Host + Net<Listener = TcpListener, Stream = TcpStream>,
 {
-    let mut seen = Err(Fault::Network);
-    for base in [22_510, 26_070, 27_330, 30_290] {
-        if seen.as_ref().err() == Some(&Fault::Network) {
-            seen = match ServeOptions::new(nodes, 100, folder, base, 50) {
-                Some(serving) => visit_at(threads, rt, serving, number, leave),
-                None => Err(Fault::BadReply),
-            };
-        }
-    }
-    seen
+    let limits = Limits { nodes, cap: 100 };
+    visit_under(threads, rt, folder, limits, number, leave)
 }
 
 /// Opens the journals of the given number of nodes in the folder, and leaves them in this way.

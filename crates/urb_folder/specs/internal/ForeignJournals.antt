@@ -1,15 +1,12 @@
 -- Journals of nodes that a group doesn't have: whether they hold records.
-use Rattle.std.specs.Prelude.{Bool, List, [], false, length, nat_lt, ℕ, ◌≡◌}
-use Rattle.sqlite.specs.Files.{HoldsDatabase}
+use Rattle.std.specs.Prelude.{Bool, List, length, nat_lt, ℕ, ◌≡◌}
 use Rattle.urb_stable.specs.Entries.{Entry}
-use Rattle.urb_sqlite.specs.Rows.{StandsFor}
-use Rattle.urb_sqlite.specs.OpenJournal.{IsJournal, database_of}
+use Rattle.urb_sqlite.specs.Nodes.{IsFoundIn}
 
--- The answer says whether a journal whose log and database file have these bytes has records. An
--- empty database file has no records.
-pub record TellsRecords (log db : List ℕ) (answer : Bool) : Type 0 where
-  pub stood : (trees : _) → HoldsDatabase (record { log = log; db = db }) trees
-      → (journal : IsJournal trees)
-      → (records : List Entry) × StandsFor (database_of journal) records
-      × (answer ≡ nat_lt 0 (length records))
-  pub fresh : db ≡ [] → answer ≡ false
+-- The answer says whether an opening finds records in files with these bytes. It does so in each
+-- case in which it is known what an opening finds.
+abbrev pub TellsRecords : (log db : List ℕ) → Bool → Type 0
+TellsRecords log db answer =
+    (records : List Entry)
+    × IsFoundIn (record { log = log; db = db }) (Unit {0}) (answer ≡ nat_lt 0 (length records))
+    records

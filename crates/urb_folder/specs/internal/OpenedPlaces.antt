@@ -14,9 +14,8 @@ module _ {J E : Type 0} (opens : ℕ → Result J E → Type 0) where
     pub whole : length all ≡ count
     pub each : (place : ℕ) (it : J) → slice_get all place ≡ Some it → opens place (Ok it)
 
-  -- the first places were opened, and the next one, which is also one of `count`, has this fault
-  pub record FailsAtFirst (count : ℕ) (fault : E) : Type 0 where
-    pub earlier : List J
+  -- these first places were opened, and the next one, which is also one of `count`, has this fault
+  pub record FailsAfter (count : ℕ) (earlier : List J) (fault : E) : Type 0 where
     pub opened : AreOpened (length earlier) earlier
     pub within : length earlier < count
     pub fails : opens (length earlier) (Err fault)

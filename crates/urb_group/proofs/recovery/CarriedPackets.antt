@@ -135,7 +135,7 @@ module _ (w : World) (calm : Calm w) (packet : Carried) (may : Carriable w packe
   abbrev outcome : Reply × Node
   outcome = arrives w.size q packet.source packet.name packet.message packet.flags (w.node q)
 
-  arrive-is : step w (Arrive q (Ok packet)) ≡ world_after w q outcome
+  pub arrive-is : step w (Arrive q (Ok packet)) ≡ world_after w q outcome
   unfolding step
   arrive-is =
       cond-true (is_for w q packet) _ _
@@ -241,7 +241,7 @@ module _ (w : World) (calm : Calm w) (packet : Carried) (may : Carriable w packe
             packet.source) (sym here) took.settles.told);
       }
 
-  carries-reaches : Reaches (λ u. Calm u × Onward w u × IsToldBy packet u) w (carries packet w)
+  pub carries-reaches : Reaches (λ u. Calm u × Onward w u × IsToldBy packet u) w (carries packet w)
   carries-reaches = record { goes = moves.goes; leads = (calm-after, onward, told) }
 
 -- ---- many packets

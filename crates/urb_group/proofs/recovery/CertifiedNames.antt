@@ -92,7 +92,7 @@ module _ (z : World) (sound : Sound z) (q s : ℕ) where
       )
 
   -- the sender knows the names of its messages
-  own-known : (j : ℕ) → j < length messages → knows (stored z s) (name s (suc j)) ≡ true
+  pub own-known : (j : ℕ) → j < length messages → knows (stored z s) (name s (suc j)) ≡ true
   own-known j l =
       let kept = sound.kept.nodes s in
       let found = get_some messages j l in

@@ -60,13 +60,13 @@ module _ (records : List Entry) (r : Entry) where
       (any_left _ (cert records) (cert (r ∷ [])) h)
 
   -- the record certifies the name
-  certified-last : (x : Label) → has_name (cert (r ∷ [])) x ≡ true
+  pub certified-last : (x : Label) → has_name (cert (r ∷ [])) x ≡ true
       → has_name (cert (records ++ r ∷ [])) x ≡ true
   certified-last x h =
       subst (λ (xs : List Label). has_name xs x ≡ true) (sym (cert-append records (r ∷ [])))
       (any_right _ (cert records) (cert (r ∷ [])) h)
 
-certifies-itself : (x : Label) → has_name (x ∷ []) x ≡ true
+pub certifies-itself : (x : Label) → has_name (x ∷ []) x ≡ true
 certifies-itself x = or_left (same_name x x) false (same_name-same x)
 
 known-joined : (ps : List (Label × Content)) (x : Label) (m : Content) → message_of ps x ≡ None
@@ -148,7 +148,7 @@ module _ (size : Limits) (q p : ℕ) (x : Label) (m : Content) (flags : Option F
   -- a pair is drafted: it and its source are counted when it is stored
   module _ (images : ℕ → List Entry) (node : Node) (new : message_of (pend node.records) x ≡ None)
       (kept : AcksKept images node.records node.acks) where
-    abbrev counted : List (Label × ℕ)
+    abbrev pub counted : List (Label × ℕ)
     counted = with_ack (with_ack node.acks x q) x p
 
     counted-stays : (y : Label) (z : ℕ) → acked node.acks y z ≡ true → acked counted y z ≡ true
@@ -168,7 +168,7 @@ module _ (size : Limits) (q p : ℕ) (x : Label) (m : Content) (flags : Option F
         → (acked node.acks y z ≡ true) ⊎ (x ≡ y)
     counted-only y z h = ⊎_elim (λ e. inl e) (λ e. inr e.0) (counted-cases y z h)
 
-    few : majority_passes size.n (λ z. (z == q) || (z == p)) ≡ false
+    pub few : majority_passes size.n (λ z. (z == q) || (z == p)) ≡ false
         → has_name (cert node.records) x ≡ false → majority_passes size.n (acked counted x) ≡ false
     few none e =
         false_from_ne_true _ (λ most.
@@ -183,7 +183,7 @@ module _ (size : Limits) (q p : ℕ) (x : Label) (m : Content) (flags : Option F
             unknown : (o : Content) → message_of (pend node.records) x ≡ Some o → ⊥
             unknown o f = let g : None ≡ Some o = sym new ∙ f in cc
 
-    pair_settles : (r : Entry) (heard : List (Label × ℕ)) (broadcast : List Content)
+    pub pair_settles : (r : Entry) (heard : List (Label × ℕ)) (broadcast : List Content)
         → pend (r ∷ []) ≡ (x, m) ∷ []
         → (has_name (cert (node.records ++ r ∷ [])) x ≡ false
         → majority_passes size.n (acked counted x) ≡ false)

@@ -1,17 +1,21 @@
 -- A group that is not stranded never becomes stranded: a node that is alone stores no pair without
 -- its certificate.
-use Rattle.std.proofs.Common.{List, Some, [], refl, subst, ℕ, ◌∷◌, ◌≡◌}
+use Rattle.std.proofs.Common.{List, Option, Some, [], arith, inl, inr, refl, subst, sym, ℕ, ◌<◌, ◌∷◌}
+use Rattle.std.proofs.Common.{◌≡◌, ◌≤◌}
 use Rattle.std.proofs.lemmas.Bool.{false≢true}
 use Rattle.urb_group.proofs.recovery.NodesComeBack.{Whole, whole-joined}
 use Rattle.urb_group.proofs.hearing.LiveWorlds.{WorldLive, reached-live, start-live, step-live}
 use Rattle.urb_group.proofs.hearing.LiveNodes.{IsWhole}
 use Rattle.urb_group.specs.Recovered.{IsNotStranded}
 use Rattle.urb_group.specs.Step.{Event, IsReached, Of_new, Run, run, step}
-use Rattle.urb_group.specs.World.{World, started, stored}
+use Rattle.urb_group.specs.Stopping.{AlwaysLeaves}
+use Rattle.urb_group.specs.World.{World, opened, started, stored}
 use Rattle.urb_names.specs.Naming.{Limits}
 use Rattle.urb_node.specs.Part.{Down, Node, State, Storing}
 use Rattle.urb_node.specs.Replies.{Reply}
 use Rattle.urb_node.specs.Steps.{doubt}
+use Rattle.urb_stable.proofs.Contents.{IsEither, contents-either}
+use Rattle.urb_stable.specs.Entries.{Entry}
 use Rattle.urb_group.proofs.steps.StepCases.{OutcomeCases, node_of, outcome-cases, step-nodes}
 use Rattle.urb_group.proofs.steps.ArriveCases.{arrive-cases}
 use Rattle.urb_group.proofs.steps.DraftsInSteps.{step-size}
@@ -77,3 +81,21 @@ new-free size events replies w ran =
     subst (λ (v : List Reply × World). IsNotStranded v.1) ran
     (run-free (started size) events (start-live (started size) (Of_new size))
     (λ one x m h. absurd (false≢true h)))
+
+-- ---- a stop
+
+-- whatever a stop leaves of a lone node, each pair in it has its certificate
+pub opens-free : (w : World) (size : Limits) → IsReached w → IsNotStranded w → 0 < w.size.n
+    → w.size.n ≤ size.n → AlwaysLeaves w (λ images. IsNotStranded (opened size images))
+opens-free w size reached free some more images left one =
+    whole (contents-either (stored w 1) (doubt (w.node 1).state) (images 1) (left 1))
+  where
+    alone : w.size.n ≡ 1
+    alone = omega (arith, some, more, one)
+
+    whole : IsEither (stored w 1) (doubt (w.node 1).state) (images 1) → Whole (images 1)
+    whole (inl e) = subst Whole (sym e) (free alone)
+    whole (inr e) =
+        subst Whole (sym e.2) (whole-joined (stored w 1) e.0
+        (subst (λ (o : Option Entry). IsWhole o) e.1 (((reached-live w reached).nodes 1).whole alone))
+        (free alone))

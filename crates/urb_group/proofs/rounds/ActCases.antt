@@ -1,19 +1,20 @@
--- The cases of what an event counts as in a round: nothing, a disturbance, an arrival, or a tick.
+-- The cases of what an event counts as in a round: nothing, a new message, a failure, an arrival, or
+-- a tick.
 use Rattle.std.proofs.Common.{Err, List, Ok, Result, [], refl, ℕ, ◌∷◌, ◌≡◌}
 use Rattle.urb_group.proofs.rounds.TicksAmongEvents.{resent_by}
 use Rattle.urb_group.specs.Delivering.{event_node}
-use Rattle.urb_group.specs.Rounds.{Act, Arrives, Disturbs, Ticks, act_of, disturbance}
+use Rattle.urb_group.specs.Rounds.{Act, Adds, Arrives, Breaks, Ticks, act_of, disturbance}
 use Rattle.urb_group.specs.Step.{Arrive, Event, Tick}
 use Rattle.urb_names.specs.Carried.{Carried}
 use Rattle.urb_names.specs.declared.refusal.PacketFault.{PacketFault}
 use Rattle.urb_node.specs.Replies.{Drafted, Reply, Same, Sent, WentDown}
 
--- a reply counts as a disturbance or as nothing
-pub disturbance-cases : (P : List Act → Type 0) (reply : Reply) → P [] → P (Disturbs ∷ [])
-    → P (disturbance reply)
-disturbance-cases P (Drafted x position) none disturbs = disturbs
-disturbance-cases P (WentDown q) none disturbs = disturbs
-disturbance-cases P reply none disturbs = none
+-- a reply counts as a new message, as a failure or as nothing
+pub disturbance-cases : (P : List Act → Type 0) (reply : Reply) → P [] → P (Adds ∷ [])
+    → P (Breaks ∷ []) → P (disturbance reply)
+disturbance-cases P (Drafted x position) none adds breaks = adds
+disturbance-cases P (WentDown q) none adds breaks = breaks
+disturbance-cases P reply none adds breaks = none
 
 module _ (P : List Act → Type 0) where
   arrival-cases : (q : ℕ) (packet : Carried) (reply : Reply) → P []
@@ -29,20 +30,26 @@ module _ (P : List Act → Type 0) where
   tick-cases q (Sent packets) none ticks = ticks packets refl
   tick-cases q reply none ticks = none refl
 
-  -- Only a tick resends packets. An arrival and a tick never disturb.
+  -- The event is no arrival and no tick, and resends nothing.
+  abbrev IsOther : Event → Reply → Type 0
+  IsOther event reply =
+      (resent_by event reply ≡ [])
+      × ((bytes : Result Carried PacketFault) → event ≡ Arrive (event_node event) bytes → ⊥)
+      × (event ≡ Tick (event_node event) → ⊥)
+
+  -- Only a tick resends packets. An arrival and a tick neither add nor break.
   pub act-cases : (event : Event) (reply : Reply) → (resent_by event reply ≡ [] → P [])
-      → (resent_by event reply ≡ []
-      → ((bytes : Result Carried PacketFault) → event ≡ Arrive (event_node event) bytes → ⊥)
-      → (event ≡ Tick (event_node event) → ⊥) → P (Disturbs ∷ []))
+      → (IsOther event reply → P (Adds ∷ [])) → (IsOther event reply → P (Breaks ∷ []))
       → ((packet : Carried) (answers : List Carried) → event ≡ Arrive (event_node event) (Ok packet)
       → resent_by event reply ≡ [] → P (Arrives packet answers ∷ []))
       → ((packets : List Carried) → event ≡ Tick (event_node event)
       → resent_by event reply ≡ packets → P (Ticks (event_node event) packets ∷ []))
       → P (act_of event reply)
-  act-cases (Arrive p (Err fault)) reply none disturbs arrives ticks = none refl
-  act-cases (Arrive p (Ok packet)) reply none disturbs arrives ticks =
+  act-cases (Arrive p (Err fault)) reply none adds breaks arrives ticks = none refl
+  act-cases (Arrive p (Ok packet)) reply none adds breaks arrives ticks =
       arrival-cases p packet reply (none refl) (λ answers. arrives packet answers refl refl)
-  act-cases (Tick p) reply none disturbs arrives ticks =
+  act-cases (Tick p) reply none adds breaks arrives ticks =
       tick-cases p reply none (λ packets e. ticks packets refl e)
-  act-cases event reply none disturbs arrives ticks =
-      disturbance-cases P reply (none refl) (disturbs refl (λ bytes e. cc) (λ e. cc))
+  act-cases event reply none adds breaks arrives ticks =
+      disturbance-cases P reply (none refl) (adds (refl, λ bytes e. cc, λ e. cc))
+      (breaks (refl, λ bytes e. cc, λ e. cc))

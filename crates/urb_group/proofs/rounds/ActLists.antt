@@ -1,12 +1,12 @@
--- Acts of lists of events, one list after another. Events that proceed don't disturb.
+-- Acts of lists of events, one list after another. Events that proceed quietly don't disturb.
 use Rattle.std.proofs.Common.{List, None, Some, [], ap, append_assoc, refl, subst, sym, ℕ, ◌&&◌}
 use Rattle.std.proofs.Common.{◌++◌, ◌==◌, ◌∙◌, ◌∷◌, ◌≡◌}
 use Rattle.std.proofs.lemmas.Bool.{cond_both}
 use Rattle.urb_group.proofs.recovery.EventPlans.{after-none}
-use Rattle.urb_group.proofs.rounds.Proceeding.{IsQuiet, Proceeds, acts-more, acts-none}
+use Rattle.urb_group.proofs.rounds.Proceeding.{IsQuiet, ProceedsQuietly, acts-more, acts-none}
 use Rattle.urb_group.specs.Recovered.{Goes, IsHarmless}
 use Rattle.urb_group.specs.Recovering.{after, packets_of}
-use Rattle.urb_group.specs.Rounds.{Act, Arrives, Disturbs, IsUndisturbed, Ticks as Ticking, act_of}
+use Rattle.urb_group.specs.Rounds.{Act, Adds, Arrives, Breaks, IsUndisturbed, Ticks as Ticking, act_of}
 use Rattle.urb_group.specs.Rounds.{acts_of, disturbance}
 use Rattle.urb_group.specs.Step.{Arrive, Commit, Crash, Event, Fail, Restart, Submit, Tick, at_node}
 use Rattle.urb_group.specs.Step.{run, step, world_after}
@@ -46,14 +46,15 @@ packets-append w (event ∷ xs) ys =
     ∙ sym (append_assoc (packets_in (step w event).0) (packets_of (step w event).1 xs)
     (packets_of (after (step w event).1 xs) ys))
 
--- ---- events that proceed don't disturb
+-- ---- events that proceed quietly don't disturb
 
 undisturbed-append : (ls bs : List Act) → IsUndisturbed ls → IsUndisturbed bs
     → IsUndisturbed (ls ++ bs)
 undisturbed-append [] bs h k = k
 undisturbed-append (Ticking p packets ∷ ls) bs h k = undisturbed-append ls bs h k
 undisturbed-append (Arrives packet answers ∷ ls) bs h k = undisturbed-append ls bs h k
-undisturbed-append (Disturbs ∷ ls) bs h k = h
+undisturbed-append (Adds ∷ ls) bs h k = absurd h
+undisturbed-append (Breaks ∷ ls) bs h k = absurd h
 
 abbrev Gentle : Reply × Node → Type 0
 Gentle outcome = IsUndisturbed (disturbance outcome.0)
@@ -86,18 +87,19 @@ quiet-calm : (w : World) (event : Event) → IsQuiet event
     → IsUndisturbed (act_of event (step w event).0)
 unfolding step
 quiet-calm w (Arrive p bytes) q =
-    act-cases IsUndisturbed (Arrive p bytes) _ (λ _. tt) (λ _ never _. absurd (never bytes refl))
+    act-cases IsUndisturbed (Arrive p bytes) _ (λ _. tt) (λ o. absurd (o.1 bytes refl))
+    (λ o. absurd (o.1 bytes refl))
     (λ _ _ _ _. tt) (λ _ _ _. tt)
 quiet-calm w (Tick p) q =
-    act-cases IsUndisturbed (Tick p) _ (λ _. tt) (λ _ _ never. absurd (never refl)) (λ _ _ _ _. tt)
-    (λ _ _ _. tt)
+    act-cases IsUndisturbed (Tick p) _ (λ _. tt) (λ o. absurd (o.2 refl)) (λ o. absurd (o.2 refl))
+    (λ _ _ _ _. tt) (λ _ _ _. tt)
 quiet-calm w (Commit p position entry) q =
     gentle-world w p _ (commit-gentle w.size.n p position entry (w.node p) (w.node p).state)
 quiet-calm w (Restart p image) q =
     gentle-world w p _ (restart-gentle p image (w.node p) (w.node p).state)
 quiet-calm w event q = absurd q
 
-pub proceeds-calm : (events : List Event) (w : World) → Proceeds w events
+pub proceeds-calm : (events : List Event) (w : World) → ProceedsQuietly w events
     → IsUndisturbed (acts_of w events)
 proceeds-calm [] w h = subst IsUndisturbed (sym (acts-none w)) tt
 proceeds-calm (event ∷ events) w h =
@@ -111,7 +113,7 @@ harmless-quiet w (Fail p) h = h
 harmless-quiet w (Crash p) h = h
 harmless-quiet w event h = tt
 
-pub goes-proceeds : (events : List Event) (w : World) → Goes w events → Proceeds w events
-goes-proceeds [] w h = tt
-goes-proceeds (event ∷ events) w h =
-    (harmless-quiet w event h.0, h.1, goes-proceeds events (step w event).1 h.2)
+pub goes-quietly : (events : List Event) (w : World) → Goes w events → ProceedsQuietly w events
+goes-quietly [] w h = tt
+goes-quietly (event ∷ events) w h =
+    (harmless-quiet w event h.0, h.1, goes-quietly events (step w event).1 h.2)

@@ -5,9 +5,10 @@ use Rattle.std.proofs.Common.{is_some, subst, sym, true, ℕ, ⊎_elim, ◌++◌
 use Rattle.std.proofs.lemmas.Bool.{cases_Bool, cond-false}
 use Rattle.urb_group.proofs.steps.DraftsInSteps.{event_node, step-elsewhere, step-size}
 use Rattle.urb_group.proofs.rounds.StaysCounted.{Arrived, arrive-done, at-node-done, commit-whole}
-use Rattle.urb_group.proofs.rounds.StaysCounted.{node-is, restart-not, took, whole, whole-knows}
+use Rattle.urb_group.proofs.rounds.StaysCounted.{node-is, restart-not, took}
+use Rattle.urb_group.proofs.rounds.WholeNodes.{whole, whole-knows}
 use Rattle.urb_group.proofs.recovery.WorldsGoOn.{Sound, known-sender, knows-pair, run-sound}
-use Rattle.urb_group.proofs.rounds.Proceeding.{IsQuiet, Proceeds}
+use Rattle.urb_group.proofs.rounds.Proceeding.{IsQuiet, ProceedsQuietly, quiet-no_failure}
 use Rattle.urb_group.proofs.recovery.CountedArrivals.{knows, only-joined, settled}
 use Rattle.urb_group.proofs.rounds.StayingUp.{step-hears, tick-node}
 use Rattle.urb_group.proofs.steps.ConfirmedPackets.{borne-pair}
@@ -145,7 +146,7 @@ module _ (Known : Label → Type 0) where
   step-names u n event h d = record {
     sound = run-sound u (event ∷ []) n.sound;
     up =
-        λ p is. (step-hears u event p h d (n.up p (back p is))).up;
+        λ p is. (step-hears u event p (quiet-no_failure event h) d (n.up p (back p is))).up;
     only =
         λ p is. only p (back p is);
   }
@@ -164,7 +165,7 @@ module _ (Known : Label → Type 0) where
           (λ f. n.only p is x (subst (λ (node : Node). knows (whole p node).records x ≡ true)
           (step-elsewhere u event p f) k)) (cases_Bool (p == event_node event))
 
-  pub run-names : (events : List Event) (u : World) → Names u → Proceeds u events
+  pub run-names : (events : List Event) (u : World) → Names u → ProceedsQuietly u events
       → Names (after u events)
   unfolding run
   run-names [] u n goes = n

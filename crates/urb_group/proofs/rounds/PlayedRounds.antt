@@ -1,15 +1,15 @@
 -- Commands count as what their events count as. So two rounds that are played deliver.
-use Rattle.std.proofs.Common.{List, [], ap, refl, subst, sym, ⊎_elim, ◌++◌, ◌∙◌, ◌∷◌}
+use Rattle.std.proofs.Common.{Bool, List, [], ap, refl, subst, sym, ℕ, ⊎_elim, ◌++◌, ◌∙◌, ◌∷◌}
 use Rattle.std.proofs.Common.{◌≡◌}
 use Rattle.urb_group.proofs.rounds.StaysCounted.{run-size}
-use Rattle.urb_group.proofs.rounds.FairRounds.{two-rounds}
+use Rattle.urb_group.proofs.rounds.FairRounds.{two-busy-rounds, two-rounds}
 use Rattle.urb_group.specs.Commands.{AreEvents, At_end, By_event, By_none, IsEventOf, IsUnread}
-use Rattle.urb_group.specs.PlayedRounds.{IsPlayedRound, act_of_command}
+use Rattle.urb_group.specs.PlayedRounds.{IsPlayedBusyRound, IsPlayedRound, act_of_command}
 use Rattle.urb_group.specs.Plays.{Runs}
 use Rattle.urb_group.specs.Recovered.{AllDelivered, IsNotStranded}
 use Rattle.urb_group.specs.Recovering.{after}
-use Rattle.urb_group.specs.Rounds.{Act, AllUp, IsRound, IsRoundAmong, act_of, acts_by, acts_of}
-use Rattle.urb_group.specs.Rounds.{disturbance}
+use Rattle.urb_group.specs.Rounds.{Act, AllUp, IsBusyRound, IsBusyRoundAmong, IsRound, IsRoundAmong}
+use Rattle.urb_group.specs.Rounds.{ReadyHaveDelivered, act_of, acts_by, acts_of, disturbance}
 use Rattle.urb_group.specs.Shown.{GroupView}
 use Rattle.urb_group.specs.Step.{Event, IsReached}
 use Rattle.urb_group.specs.World.{World}
@@ -52,10 +52,9 @@ module _ {A : Type 0} where
       ap (λ (first : List Act). first ++ acts_by act_of_command commands replies)
       (unread-act what reply unread) ∙ same-acts commands replies events seen are
 
-  -- the events of commands that are a round are one
+  -- the events of commands that were played
   module _ (w : World) (commands : List (Command A)) (replies : List Reply) (new : GroupView)
-      (runs : Runs w commands replies new)
-      (played : IsPlayedRound commands replies runs.after) where
+      (runs : Runs w commands replies new) where
     leads : after w runs.events ≡ runs.after
     leads = ap (λ (o : List Reply × World). o.1) runs.ran
 
@@ -67,26 +66,44 @@ module _ {A : Type 0} where
     same-size : runs.after.size ≡ w.size
     same-size = sym (ap (λ (v : World). v.size) leads) ∙ run-size runs.events w
 
-    round : IsRound w runs.events
-    round =
-        subst (λ (size : Limits). IsRoundAmong (is_node size.n) (acts_of w runs.events)
-        (after w runs.events)) same-size
-        (subst (λ (list : List Act). IsRoundAmong (is_node runs.after.size.n) list
-        (after w runs.events)) (sym same)
-        (subst (λ (v : World). IsRoundAmong (is_node runs.after.size.n)
-        (acts_by act_of_command commands replies) v) (sym leads) played))
+    -- what holds of the replies holds of the events
+    played : (P : (ℕ → Bool) → List Act → World → Type 0)
+        → P (is_node runs.after.size.n) (acts_by act_of_command commands replies) runs.after
+        → P (is_node w.size.n) (acts_of w runs.events) (after w runs.events)
+    played P h =
+        subst (λ (size : Limits). P (is_node size.n) (acts_of w runs.events) (after w runs.events))
+        same-size
+        (subst (λ (list : List Act). P (is_node runs.after.size.n) list (after w runs.events))
+        (sym same)
+        (subst (λ (v : World). P (is_node runs.after.size.n)
+        (acts_by act_of_command commands replies) v) (sym leads) h))
 
-  pub played-deliver : (w : World) (first second : List (Command A)) (told answers : List Reply)
-      (then last : GroupView) (one : Runs w first told then)
-      (two : Runs one.after second answers last)
-      → IsReached w → IsNotStranded w → AllUp w → IsPlayedRound first told one.after
-      → IsPlayedRound second answers two.after → AllDelivered two.after
-  played-deliver w first second told answers then last one two reached free up a b =
-      subst AllDelivered (ap (λ (v : World). after v two.events) at
-      ∙ leads one.after second answers last two b)
-      (two-rounds w one.events two.events reached free up (round w first told then one a)
-      (subst (λ (v : World). IsRound v two.events) (sym at)
-      (round one.after second answers last two b)))
+  -- two lists of commands that were played, one after the other
+  module _ (w : World) (first second : List (Command A)) (told answers : List Reply)
+      (then last : GroupView) (one : Runs w first told then) (two : Runs one.after second answers last)
     where
       at : after w one.events ≡ one.after
-      at = leads w first told then one a
+      at = leads w first told then one
+
+      ends : after (after w one.events) two.events ≡ two.after
+      ends =
+          ap (λ (v : World). after v two.events) at ∙ leads one.after second answers last two
+
+      pub played-deliver : IsReached w → IsNotStranded w → AllUp w → IsPlayedRound first told one.after
+          → IsPlayedRound second answers two.after → AllDelivered two.after
+      played-deliver reached free up a b =
+          subst AllDelivered ends
+          (two-rounds w one.events two.events reached free up
+          (played w first told then one IsRoundAmong a)
+          (subst (λ (v : World). IsRound v two.events) (sym at)
+          (played one.after second answers last two IsRoundAmong b)))
+
+      pub played-busy : IsReached w → IsNotStranded w → AllUp w
+          → IsPlayedBusyRound first told one.after → IsPlayedBusyRound second answers two.after
+          → ReadyHaveDelivered w two.after
+      played-busy reached free up a b =
+          subst (ReadyHaveDelivered w) ends
+          (two-busy-rounds w one.events two.events reached free up
+          (played w first told then one IsBusyRoundAmong a)
+          (subst (λ (v : World). IsBusyRound v two.events) (sym at)
+          (played one.after second answers last two IsBusyRoundAmong b)))

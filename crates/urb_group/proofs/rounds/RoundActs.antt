@@ -22,13 +22,13 @@ use Rattle.urb_group.specs.Delivering.{event_node}
 ticks-disturbance : (p : ℕ) (reply : Reply) (rest : List Act)
     → ticks_of p (disturbance reply ++ rest) ≡ ticks_of p rest
 ticks-disturbance p reply rest =
-    disturbance-cases (λ acts. ticks_of p (acts ++ rest) ≡ ticks_of p rest) reply refl refl
+    disturbance-cases (λ acts. ticks_of p (acts ++ rest) ≡ ticks_of p rest) reply refl refl refl
 
 ticks-arrival : (p q : ℕ) (bytes : Result Carried PacketFault) (reply : Reply) (rest : List Act)
     → ticks_of p (arrival_by bytes reply ++ rest) ≡ ticks_of p rest
 ticks-arrival p q bytes reply rest =
     act-cases (λ acts. ticks_of p (acts ++ rest) ≡ ticks_of p rest) (Arrive q bytes) reply
-    (λ _. refl) (λ _ _ _. refl) (λ _ _ _ _. refl) (λ packets e s. cc)
+    (λ _. refl) (λ _. refl) (λ _. refl) (λ _ _ _ _. refl) (λ packets e s. cc)
 
 -- this count, plus one if the event is a tick of p
 abbrev plus_tick : ℕ → Event → ℕ → ℕ
@@ -62,7 +62,7 @@ module _ (packet : Carried) where
   first-or-later w event rest d =
       act-cases (λ acts. DoesArrive packet (acts ++ rest)
       → (event ≡ Arrive packet.target (Ok packet)) ⊎ DoesArrive packet rest) event
-      (step w event).0 (λ _ k. inr k) (λ _ _ _ k. inr k)
+      (step w event).0 (λ _ k. inr k) (λ _ k. inr k) (λ _ k. inr k)
       (λ other answers e _ k. ⊎_elim
       (λ same. inl (arrives (e ∙ ap
       (λ (one : Carried). Arrive (event_node event) (Ok one)) same))) (λ later. inr later) k)
@@ -105,7 +105,7 @@ module _ (among : ℕ → Bool) where
   by-event event reply rest =
       act-cases (λ acts. TicksArrive among (acts ++ rest)
       → DoArrive among (resent_by event reply) rest × TicksArrive among rest) event reply
-      (λ e k. (none e, k)) (λ e _ _ k. (none e, k))
+      (λ e k. (none e, k)) (λ o k. (none o.0, k)) (λ o k. (none o.0, k))
       (λ _ _ _ e k. (none e, k)) (λ packets _ e k.
       (subst (λ (ps : List Carried). DoArrive among ps rest) (sym e) k.0, k.1))
     where

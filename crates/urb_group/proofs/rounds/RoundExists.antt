@@ -1,326 +1,87 @@
--- There is a round from every world of a run. All nodes come back. They tick, one after the other,
--- as often as there are messages. Then each packet arrives, and the record that it may draft is
--- stored.
-use Rattle.std.proofs.Common.{Bool, List, Ok, [], ap, append-nil, append_assoc, arith, eq-eqb}
-use Rattle.std.proofs.Common.{false, if◌then◌else◌, inl, inr, length, refl, subst, suc, sym, true}
-use Rattle.std.proofs.Common.{zero, ℕ, ⊎_elim, ◌&&◌, ◌+◌, ◌++◌, ◌==◌, ◌∙◌, ◌∷◌, ◌≡◌, ◌≤◌}
-use Rattle.std.proofs.lemmas.Bool.{cond-false, cond-true, cond_both}
+-- There is a round from every world of a run, also one whose answers arrive. All nodes come back. They
+-- tick, one after the other, as often as there are messages. Then each packet arrives, and the record
+-- that it may draft is stored. Then the answers arrive, and then the answers to these.
+use Rattle.std.proofs.Common.{Bool, List, [], ap, append-nil, arith, false, length, subst, sym, true}
+use Rattle.std.proofs.Common.{ℕ, ◌++◌, ◌∙◌, ◌∷◌, ◌≡◌, ◌≤◌}
 use Rattle.std.specs.List.{AllByRecursion}
-use Rattle.urb_group.proofs.rounds.ActLists.{acts-append, goes-proceeds, packets-append}
-use Rattle.urb_group.proofs.rounds.ActLists.{proceeds-calm}
-use Rattle.urb_group.proofs.steps.ArriveCases.{arrive-cases}
-use Rattle.urb_group.proofs.rounds.RoundActs.{ticks-counted}
-use Rattle.urb_group.proofs.recovery.NodesComeBack.{all-back}
-use Rattle.urb_group.proofs.recovery.CarriedPackets.{Carriable, IsToldBy, all-carried}
-use Rattle.urb_group.proofs.recovery.CarriedPackets.{carriable-stays}
-use Rattle.urb_group.proofs.rounds.StaysCounted.{arrive-done}
 use Rattle.urb_group.proofs.recovery.AllDelivered.{reached-sound}
-use Rattle.urb_group.proofs.recovery.PendingNames.{names-taken}
-use Rattle.urb_group.proofs.rounds.TicksAmongEvents.{is_tick_of, ticks_among}
+use Rattle.urb_group.proofs.recovery.CarriedPackets.{Carriable, IsToldBy, all-carried}
+use Rattle.urb_group.proofs.recovery.EventPlans.{Reaches, after-append, goes-append}
 use Rattle.urb_group.proofs.recovery.NodeLists.{in-nodes, nodes-in}
-use Rattle.urb_group.proofs.recovery.WorldsGoOn.{Calm, Onward, Sound, onward-further, onward-still}
-use Rattle.urb_group.proofs.recovery.EventPlans.{Reaches, after-append, after-none, goes-append}
-use Rattle.urb_group.proofs.recovery.EventPlans.{reaches-append, reaches-none, reaches-weaker}
-use Rattle.urb_group.proofs.rounds.Proceeding.{Proceeds, acts-more, acts-none, after-more}
-use Rattle.urb_group.proofs.recovery.OneRound.{calm-ticks, may-carry, onward-ticks, ticks}
+use Rattle.urb_group.proofs.recovery.NodesComeBack.{all-back}
+use Rattle.urb_group.proofs.recovery.PendingNames.{names-taken}
+use Rattle.urb_group.proofs.recovery.WorldsGoOn.{Calm, Onward, Sound, onward-further}
+use Rattle.urb_group.proofs.rounds.ActLists.{acts-append, goes-quietly, proceeds-calm}
+use Rattle.urb_group.proofs.rounds.AnsweredPackets.{Answer, all-answered, answers_in}
+use Rattle.urb_group.proofs.rounds.AnsweredPackets.{back-silent, ticks-silent}
+use Rattle.urb_group.proofs.rounds.Proceeding.{Proceeds}
+use Rattle.urb_group.proofs.rounds.RoundActs.{ticks-counted}
+use Rattle.urb_group.proofs.rounds.RoundParts.{all-are, all-do, all-tick, among-append}
+use Rattle.urb_group.proofs.rounds.RoundParts.{arrive-before, arrive-behind, back-no_tick}
+use Rattle.urb_group.proofs.rounds.RoundParts.{carries-no_tick, goes-proceeds, no_tick-then}
+use Rattle.urb_group.proofs.rounds.RoundParts.{often-enough, ticking, ticks-then}
 use Rattle.urb_group.proofs.ticks.Membership.{IsIn, all-in, in-all, in-left, in-right}
-use Rattle.urb_group.proofs.rounds.StayingUp.{tick-done}
-use Rattle.urb_group.proofs.recovery.SentByTicks.{tick_events}
-use Rattle.urb_group.specs.Recovered.{IsDone, IsNotStranded}
-use Rattle.urb_group.specs.Recovering.{Plan, after, all_back, carries, comes_back, each, packets_of}
-use Rattle.urb_group.specs.Recovering.{readied, receipt_of, stores}
-use Rattle.urb_group.specs.Rounds.{Act, Arrives, Disturbs, DoesArrive, IsRound, IsRoundAmong}
-use Rattle.urb_group.specs.Rounds.{Ticks as Ticking, TicksArrive, act_of, acts_of, arrival_by}
-use Rattle.urb_group.specs.Rounds.{taken, tick_by, ticks_of}
-use Rattle.urb_group.specs.Step.{Arrive, Event, IsReached, Tick, run, step, world_after}
+use Rattle.urb_group.specs.Recovered.{Goes, IsNotStranded}
+use Rattle.urb_group.specs.Recovering.{after, all_back, carries, each, packets_of}
+use Rattle.urb_group.specs.Rounds.{Act, Adds, AnswersArrive, Arrives, Breaks, DoesArrive, IsRound}
+use Rattle.urb_group.specs.Rounds.{IsRoundAmong, Ticks, TicksArrive, acts_of, taken, ticks_of}
+use Rattle.urb_group.specs.Step.{Event, IsReached}
 use Rattle.urb_group.specs.World.{World, stored}
-use Rattle.urb_names.proofs.SentPairs.{all_append}
-use Rattle.urb_names.specs.Carried.{Carried}
+use Rattle.urb_names.proofs.SentPairs.{all_weaker}
+use Rattle.urb_names.specs.Carried.{Carried, says_certified}
 use Rattle.urb_names.specs.Naming.{Limits}
 use Rattle.urb_names.specs.Nodes.{is_node, nodes}
-use Rattle.urb_node.specs.Part.{Down, Node, Ready, State, Storing}
-use Rattle.urb_node.specs.Replies.{Reply, packets_in}
-use Rattle.urb_node.specs.Steps.{resends}
+use Rattle.urb_node.proofs.AnswersEnd.{answers-certify, answers-hear, heard-silent}
+use Rattle.urb_node.specs.Part.{Node}
+use Rattle.urb_node.specs.Steps.{answers_of, says_heard}
 use Rattle.urb_stable.specs.Records.{pend}
-use Rattle.urb_group.proofs.rounds.ActCases.{act-cases}
 
--- ---- the ticks
+-- ---- answers that arrive
 
-abbrev ticking : ℕ → ℕ → Plan
-ticking count p w = tick_events p count
+-- acts whose answers arrive later, in front of acts whose answers arrive
+answers-then : (acts later : List Act)
+    → ((answer : Carried) → IsIn answer (answers_in acts) → DoesArrive answer later)
+    → AnswersArrive later → AnswersArrive (acts ++ later)
+answers-then [] later h rest = rest
+answers-then (Ticks p packets ∷ acts) later h rest = answers-then acts later h rest
+answers-then (Arrives packet answers ∷ acts) later h rest = (
+  all-in (λ answer. DoesArrive answer (acts ++ later)) answers
+      (λ answer i. arrive-behind answer acts later
+      (h answer (in-left answer answers (answers_in acts) i))),
+  answers-then acts later (λ answer i. h answer (in-right answer answers (answers_in acts) i)) rest,
+)
+answers-then (Adds ∷ acts) later h rest = answers-then acts later h rest
+answers-then (Breaks ∷ acts) later h rest = answers-then acts later h rest
 
--- after the ticks of these nodes each packet of theirs may be carried
-all-tick : (count : ℕ) (ps : List ℕ) (w : World) → Calm w
-    → AllByRecursion (λ p. is_node w.size.n p ≡ true) ps
-    → Reaches (λ v. Calm v × Onward w v
-    × AllByRecursion (Carriable v) (packets_of w (each (ticking count) ps w))) w
-    (each (ticking count) ps w)
-unfolding run
-all-tick count [] w calm h = reaches-none _ w (calm, onward-still w calm, tt)
-all-tick count (p ∷ ps) w calm h =
-    reaches-append (λ u. Unit {0}) _ w (tick_events p count) (each (ticking count) ps u)
-    (record { goes = (ticks w calm p h.0 count).goes; leads = tt })
-    (λ _. reaches-weaker _ _ u (each (ticking count) ps u)
-    (λ v r. (
-      r.0,
-      onward-further w u v onward r.1,
-      subst (AllByRecursion (Carriable v))
-          (sym (packets-append w (tick_events p count) (each (ticking count) ps u)))
-          (all_append (Carriable v) (packets_of w (tick_events p count))
-          (packets_of u (each (ticking count) ps u))
-          (all-in (Carriable v) (packets_of w (tick_events p count))
-          (λ packet i. carriable-stays packet u v r.1
-          (in-all (Carriable u) packet (packets_of w (tick_events p count))
-          (may-carry w calm p h.0 count) i))) r.2),
-    ))
-    (all-tick count ps u (calm-ticks w calm p h.0 count)
-    (subst (λ (size : Limits). AllByRecursion (λ i. is_node size.n i ≡ true) ps)
-    (sym onward.size) h.1)))
-  where
-    u : World
-    u = after w (tick_events p count)
+-- acts without answers
+none-then : (acts later : List Act) → answers_in acts ≡ [] → AnswersArrive later
+    → AnswersArrive (acts ++ later)
+none-then acts later none rest =
+    answers-then acts later (λ answer i. absurd (subst (IsIn answer) none i)) rest
 
-    onward : Onward w u
-    onward = onward-ticks w calm p h.0 count
+-- a packet that says that the certificate was heard is not answered
+heard-ends : (size : Limits) (packet : Carried) (node : Node) → says_heard packet.flags ≡ true
+    → AllByRecursion (λ answer. ⊥) (answers_of size packet node)
+heard-ends size packet node e =
+    subst (AllByRecursion (λ (answer : Carried). ⊥)) (sym (heard-silent size packet node e)) tt
 
--- only ticks
-abbrev AreTicks : List Event → Type 0
-AreTicks events = AllByRecursion (λ event. (p : ℕ) × (event ≡ Tick p)) events
+-- an answer to any packet says that its source has certified the name
+abbrev First : World → Carried → Type 0
+First =
+    Answer (λ packet. Unit {0}) (λ answer. says_certified answer.flags ≡ true)
+    (λ size packet node _. answers-certify size packet node)
 
-ticks-are : (p count : ℕ) → AreTicks (tick_events p count)
-ticks-are p zero = tt
-ticks-are p (suc count) = ((p, refl), ticks-are p count)
+-- an answer to such an answer says that the certificate was heard
+abbrev Second : World → Carried → Type 0
+Second =
+    Answer (λ packet. says_certified packet.flags ≡ true)
+    (λ answer. says_heard answer.flags ≡ true) answers-hear
 
-all-are : (count : ℕ) (ps : List ℕ) (w : World) → AreTicks (each (ticking count) ps w)
-all-are count [] w = tt
-all-are count (p ∷ ps) w =
-    all_append (λ event. (q : ℕ) × (event ≡ Tick q)) (tick_events p count)
-    (each (ticking count) ps (after w (tick_events p count))) (ticks-are p count)
-    (all-are count ps (after w (tick_events p count)))
+-- and there is none to that
+abbrev Third : World → Carried → Type 0
+Third = Answer (λ packet. says_heard packet.flags ≡ true) (λ answer. ⊥) heard-ends
 
--- how often a node ticks in lists that are joined
-among-append : (p : ℕ) (xs ys : List Event)
-    → ticks_among p (xs ++ ys) ≡ ticks_among p xs + ticks_among p ys
-among-append p [] ys = omega arith
-among-append p (event ∷ xs) ys =
-    cond_both (is_tick_of p event) (suc (ticks_among p xs)) (ticks_among p xs)
-    (λ (k : ℕ). (if is_tick_of p event then suc (ticks_among p (xs ++ ys)) else ticks_among p
-    (xs ++ ys)) ≡ k + ticks_among p ys)
-    (λ e. let c = cond-true (is_tick_of p event) (suc (ticks_among p (xs ++ ys)))
-    (ticks_among p (xs ++ ys)) e in let f = among-append p xs ys in omega (arith, c, f))
-    (λ e. cond-false (is_tick_of p event) (suc (ticks_among p (xs ++ ys)))
-    (ticks_among p (xs ++ ys)) e ∙ among-append p xs ys)
-
-among-ticks : (p count : ℕ) → ticks_among p (tick_events p count) ≡ count
-among-ticks p zero = refl
-among-ticks p (suc count) =
-    cond-true (p == p) (suc (ticks_among p (tick_events p count))) _ (eq-eqb p p refl)
-    ∙ ap suc (among-ticks p count)
-
-often-enough : (count p : ℕ) (ps : List ℕ) (w : World) → IsIn p ps
-    → count ≤ ticks_among p (each (ticking count) ps w)
-often-enough count p [] w h = absurd h
-often-enough count p (q ∷ ps) w h =
-    ⊎_elim (λ e. subst (λ (i : ℕ).
-    count ≤ ticks_among p (tick_events i count ++ each (ticking count) ps
-    (after w (tick_events i count)))) (sym e) first)
-    (λ k. let l = often-enough count p ps (after w (tick_events q count)) k in
-    omega (
-      arith,
-      l,
-      among-append p (tick_events q count)
-          (each (ticking count) ps (after w (tick_events q count))),
-    )) h
-  where
-    first : count ≤ ticks_among p
-        (tick_events p count ++ each (ticking count) ps (after w (tick_events p count)))
-    first =
-        omega (
-          arith,
-          among-append p (tick_events p count)
-              (each (ticking count) ps (after w (tick_events p count))),
-          among-ticks p count,
-        )
-
--- ---- what ticks send arrives
-
-arrive-behind : (packet : Carried) (ls bs : List Act) → DoesArrive packet bs
-    → DoesArrive packet (ls ++ bs)
-arrive-behind packet [] bs h = h
-arrive-behind packet (Ticking p packets ∷ ls) bs h = arrive-behind packet ls bs h
-arrive-behind packet (Arrives other answers ∷ ls) bs h = inr (arrive-behind packet ls bs h)
-arrive-behind packet (Disturbs ∷ ls) bs h = arrive-behind packet ls bs h
-
-arrive-before : (packet : Carried) (ls bs : List Act) → DoesArrive packet ls
-    → DoesArrive packet (ls ++ bs)
-arrive-before packet [] bs h = absurd h
-arrive-before packet (Ticking p packets ∷ ls) bs h = arrive-before packet ls bs h
-arrive-before packet (Arrives other answers ∷ ls) bs h =
-    ⊎_elim (λ e. inl e) (λ k. inr (arrive-before packet ls bs k)) h
-arrive-before packet (Disturbs ∷ ls) bs h = arrive-before packet ls bs h
-
-later-in : (w : World) (event : Event) (xs : List Event) (packet : Carried)
-    → IsIn packet (packets_of (step w event).1 xs) → IsIn packet (packets_of w (event ∷ xs))
-unfolding run
-later-in w event xs packet i =
-    in-right packet (packets_in (step w event).0) (packets_of (step w event).1 xs) i
-
-first-in : (w : World) (event : Event) (xs : List Event) (packet : Carried)
-    → IsIn packet (packets_in (step w event).0) → IsIn packet (packets_of w (event ∷ xs))
-unfolding run
-first-in w event xs packet i =
-    in-left packet (packets_in (step w event).0) (packets_of (step w event).1 xs) i
-
-module _ (among : ℕ → Bool) (bs : List Act) (none : TicksArrive among bs) where
-  -- ticks, all of whose packets arrive after them
-  ticks-then : (xs : List Event) (w : World) → AreTicks xs → Proceeds w xs
-      → ((packet : Carried) → IsIn packet (packets_of w xs) → DoesArrive packet bs)
-      → TicksArrive among (acts_of w xs ++ bs)
-  ticks-then [] w are goes h =
-      subst (λ (ls : List Act). TicksArrive among (ls ++ bs)) (sym (acts-none w)) none
-  ticks-then (event ∷ xs) w are goes h =
-      subst (λ (ls : List Act). TicksArrive among (ls ++ bs)) (sym (acts-more w event xs))
-      (subst (λ (e : Event). IsDone (step w e).0 → TicksArrive among (acts_of (step w e).1 xs ++ bs)
-      → ((packet : Carried) → IsIn packet (packets_in (step w e).0) → DoesArrive packet bs)
-      → TicksArrive among ((act_of e (step w e).0 ++ acts_of (step w e).1 xs) ++ bs))
-      (sym are.0.1) (first are.0.0) goes.1
-      (ticks-then xs (step w event).1 are.1 goes.2
-      (λ packet i. h packet (later-in w event xs packet i)))
-      (λ packet i. h packet (first-in w event xs packet i)))
-    where
-      first : (p : ℕ) → IsDone (step w (Tick p)).0
-          → TicksArrive among (acts_of (step w (Tick p)).1 xs ++ bs)
-          → ((packet : Carried) → IsIn packet (packets_in (step w (Tick p)).0)
-          → DoesArrive packet bs)
-          → TicksArrive among ((tick_by p (step w (Tick p)).0 ++ acts_of (step w (Tick p)).1 xs)
-          ++ bs)
-      first p done =
-          let next = (world_after w p (resends w.size.n p (w.node p))).1 in
-          let sent = packets_in (resends w.size.n p (w.node p)).0 in
-          subst (λ (o : Reply × World). TicksArrive among (acts_of o.1 xs ++ bs)
-          → ((packet : Carried) → IsIn packet (packets_in o.0) → DoesArrive packet bs)
-          → TicksArrive among ((tick_by p o.0 ++ acts_of o.1 xs) ++ bs))
-          (sym (tick-done w p done))
-          (λ rest all. (
-            all-in (λ (packet : Carried). (among packet.source && among packet.target) ≡ true
-                → DoesArrive packet (acts_of next xs ++ bs)) sent
-                (λ packet i _. arrive-behind packet (acts_of next xs) bs (all packet i)),
-            rest,
-          ))
-
--- ---- the arrivals
-
--- an arrival that isn't refused counts
-arrival-counts : (w : World) (packet : Carried)
-    → IsDone (step w (Arrive packet.target (Ok packet))).0
-    → DoesArrive packet (arrival_by (Ok packet) (step w (Arrive packet.target (Ok packet))).0)
-arrival-counts w packet done =
-    let is = (arrive-done w packet.target packet done).is in
-    subst (λ (o : Reply × World). DoesArrive packet (arrival_by (Ok packet) o.0)) (sym is)
-    (arrive-cases (λ (o : Reply × Node). DoesArrive packet (arrival_by (Ok packet) o.0))
-    w.size packet.target packet.source packet.name packet.message packet.flags
-    (w.node packet.target)
-    (λ cause. inl refl) (λ cause. inl refl) (λ acks heard cause. inl refl)
-    (λ acks heard told. inl refl))
-
-proceeds-first : (xs ys : List Event) (w : World) → Proceeds w (xs ++ ys) → Proceeds w xs
-proceeds-first [] ys w h = tt
-proceeds-first (event ∷ xs) ys w h = (h.0, h.1, proceeds-first xs ys (step w event).1 h.2)
-
-proceeds-rest : (xs ys : List Event) (w : World) → Proceeds w (xs ++ ys) → Proceeds (after w xs) ys
-proceeds-rest [] ys w h = subst (λ (v : World). Proceeds v ys) (sym (after-none w)) h
-proceeds-rest (event ∷ xs) ys w h =
-    subst (λ (v : World). Proceeds v ys) (sym (after-more w event xs))
-    (proceeds-rest xs ys (step w event).1 h.2)
-
--- each of the packets that are carried arrives
-all-do : (packets : List Carried) (w : World) (packet : Carried)
-    → Proceeds w (each carries packets w) → IsIn packet packets
-    → DoesArrive packet (acts_of w (each carries packets w))
-all-do [] w packet goes h = absurd h
-all-do (other ∷ packets) w packet goes h =
-    subst (DoesArrive packet) (sym (acts-append w (carries other w) rest))
-    (⊎_elim (λ e. arrive-before packet (acts_of w (carries other w)) (acts_of v rest)
-    (subst (λ (c : Carried). DoesArrive c (acts_of w (carries other w))) e own))
-    (λ k. arrive-behind packet (acts_of w (carries other w)) (acts_of v rest)
-    (all-do packets v packet (proceeds-rest (carries other w) rest w goes) k)) h)
-  where
-    v : World
-    v = after w (carries other w)
-
-    rest : List Event
-    rest = each carries packets v
-
-    receipt : List Event
-    receipt = stores other.target (after w (Arrive other.target (Ok other) ∷ []))
-
-    first : Proceeds w (Arrive other.target (Ok other) ∷ receipt)
-    first = proceeds-first (carries other w) rest w goes
-
-    own : DoesArrive other (acts_of w (Arrive other.target (Ok other) ∷ receipt))
-    own =
-        subst (DoesArrive other) (sym (acts-more w (Arrive other.target (Ok other)) receipt))
-        (arrive-before other (arrival_by (Ok other) (step w (Arrive other.target (Ok other))).0)
-        (acts_of (step w (Arrive other.target (Ok other))).1 receipt)
-        (arrival-counts w other first.1))
-
--- ---- lists without ticks
-
-abbrev IsNoTick : Event → Type 0
-IsNoTick (Tick q) = ⊥
-IsNoTick event = Unit {0}
-
-receipt-no_tick : (p : ℕ) (node : Node) (s : State) → AllByRecursion IsNoTick (receipt_of p node s)
-receipt-no_tick p node Ready = tt
-receipt-no_tick p node (Storing entry cause) = (tt, tt)
-receipt-no_tick p node (Down doubtful) = tt
-
-carries-no_tick : (packets : List Carried) (w : World)
-    → AllByRecursion IsNoTick (each carries packets w)
-carries-no_tick [] w = tt
-carries-no_tick (packet ∷ packets) w =
-    all_append IsNoTick (carries packet w) (each carries packets (after w (carries packet w)))
-    (tt, receipt-no_tick packet.target (u.node packet.target) (u.node packet.target).state)
-    (carries-no_tick packets (after w (carries packet w)))
-  where
-    u : World
-    u = after w (Arrive packet.target (Ok packet) ∷ [])
-
-readied-no_tick : (kept : Bool) (p : ℕ) (node : Node) (s : State)
-    → AllByRecursion IsNoTick (readied kept p node s)
-readied-no_tick kept p node Ready = tt
-readied-no_tick kept p node (Storing entry cause) = (tt, tt)
-readied-no_tick kept p node (Down doubtful) = (tt, tt)
-
-back-no_tick : (kept : ℕ → Bool) (ps : List ℕ) (w : World)
-    → AllByRecursion IsNoTick (each (comes_back kept) ps w)
-back-no_tick kept [] w = tt
-back-no_tick kept (p ∷ ps) w =
-    all_append IsNoTick (comes_back kept p w)
-    (each (comes_back kept) ps (after w (comes_back kept p w)))
-    (readied-no_tick (kept p) p (w.node p) (w.node p).state)
-    (back-no_tick kept ps (after w (comes_back kept p w)))
-
-module _ (among : ℕ → Bool) (bs : List Act) where
-  put-event : (event : Event) (reply : Reply) (ls : List Act) → IsNoTick event
-      → TicksArrive among ls → TicksArrive among (act_of event reply ++ ls)
-  put-event event reply ls n h =
-      act-cases (λ acts. TicksArrive among (acts ++ ls)) event reply (λ _. h) (λ _ _ _. h)
-      (λ _ _ _ _. h) (λ packets e _. absurd (subst IsNoTick e n))
-
-  -- events without ticks, in front of acts whose ticks arrive
-  no_tick-then : (xs : List Event) (w : World) → AllByRecursion IsNoTick xs → TicksArrive among bs
-      → TicksArrive among (acts_of w xs ++ bs)
-  no_tick-then [] w n h =
-      subst (λ (ls : List Act). TicksArrive among (ls ++ bs)) (sym (acts-none w)) h
-  no_tick-then (event ∷ xs) w n h =
-      subst (λ (ls : List Act). TicksArrive among (ls ++ bs)) (sym (acts-more w event xs))
-      (subst (TicksArrive among) (sym
-      (append_assoc (act_of event (step w event).0) (acts_of (step w event).1 xs) bs))
-      (put-event event (step w event).0 (acts_of (step w event).1 xs ++ bs) n.0
-      (no_tick-then xs (step w event).1 n.1 h)))
-
--- ---- a round
+-- ---- the round
 
 module _ (w : World) (sound : Sound w) where
   abbrev kept : ℕ → Bool
@@ -355,36 +116,122 @@ module _ (w : World) (sound : Sound w) where
       (all-in (λ p. is_node v.size.n p ≡ true) (nodes v.size.n) (λ p i. nodes-in v.size.n p i))
 
   -- the packets of the ticks arrive
-  abbrev lasts : List Event
-  lasts = each carries packets u
+  abbrev arrivals : List Event
+  arrivals = each carries packets u
+
+  abbrev a : World
+  a = after u arrivals
 
   carried : Reaches (λ z. Calm z × Onward u z
-      × AllByRecursion (λ packet. IsToldBy packet z) packets) u lasts
+      × AllByRecursion (λ packet. IsToldBy packet z) packets) u arrivals
   carried = all-carried packets u ticked.leads.0 ticked.leads.2
 
-  abbrev events : List Event
-  events = start ++ (firsts ++ lasts)
+  -- their answers arrive
+  abbrev first_answers : List Carried
+  first_answers = answers_in (acts_of u arrivals)
+
+  answered : AllByRecursion (First a) first_answers
+  answered =
+      all-answered (λ packet. Unit {0}) (λ answer. says_certified answer.flags ≡ true)
+      (λ size packet node _. answers-certify size packet node) packets u ticked.leads.0
+      ticked.leads.2 (all-in (λ packet. Unit {0}) packets (λ packet i. tt))
+
+  may-answer : AllByRecursion (Carriable a) first_answers
+  may-answer = all_weaker (First a) (Carriable a) first_answers (λ one h. h.0) answered
+
+  abbrev replies : List Event
+  replies = each carries first_answers a
+
+  abbrev b : World
+  b = after a replies
+
+  replied : Reaches (λ z. Calm z × Onward a z
+      × AllByRecursion (λ packet. IsToldBy packet z) first_answers) a replies
+  replied = all-carried first_answers a carried.leads.0 may-answer
+
+  -- the answers to these arrive, and nothing answers them
+  abbrev last_answers : List Carried
+  last_answers = answers_in (acts_of a replies)
+
+  heard : AllByRecursion (Second b) last_answers
+  heard =
+      all-answered (λ packet. says_certified packet.flags ≡ true)
+      (λ answer. says_heard answer.flags ≡ true) answers-hear first_answers a carried.leads.0
+      may-answer (all_weaker (First a) (λ packet. says_certified packet.flags ≡ true) first_answers
+      (λ one h. h.1) answered)
+
+  may-end : AllByRecursion (Carriable b) last_answers
+  may-end = all_weaker (Second b) (Carriable b) last_answers (λ one h. h.0) heard
+
+  abbrev lasts : List Event
+  lasts = each carries last_answers b
 
   abbrev end : World
-  end = after u lasts
+  end = after b lasts
+
+  ended : Reaches (λ z. Calm z × Onward b z
+      × AllByRecursion (λ packet. IsToldBy packet z) last_answers) b lasts
+  ended = all-carried last_answers b replied.leads.0 may-end
+
+  ends-silent : AllByRecursion (Third end) (answers_in (acts_of b lasts))
+  ends-silent =
+      all-answered (λ packet. says_heard packet.flags ≡ true) (λ answer. ⊥) heard-ends last_answers b
+      replied.leads.0 may-end (all_weaker (Second b) (λ packet. says_heard packet.flags ≡ true)
+      last_answers (λ one h. h.1) heard)
+
+  silent : (answer : Carried) → IsIn answer (answers_in (acts_of b lasts)) → ⊥
+  silent answer i = (in-all (Third end) answer (answers_in (acts_of b lasts)) ends-silent i).1
+
+  -- ---- all of it
+
+  abbrev after_ticks : List Event
+  after_ticks = arrivals ++ (replies ++ lasts)
+
+  abbrev events : List Event
+  events = start ++ (firsts ++ after_ticks)
 
   leads : after w events ≡ end
-  leads = after-append w start (firsts ++ lasts) ∙ after-append v firsts lasts
+  leads =
+      after-append w start (firsts ++ after_ticks)
+      ∙ (after-append v firsts after_ticks
+      ∙ (after-append u arrivals (replies ++ lasts) ∙ after-append a replies lasts))
+
+  all-goes : Goes w events
+  all-goes =
+      goes-append w start (firsts ++ after_ticks) back.goes
+      (goes-append v firsts after_ticks ticked.goes
+      (goes-append u arrivals (replies ++ lasts) carried.goes
+      (goes-append a replies lasts replied.goes ended.goes)))
 
   goes : Proceeds w events
-  goes =
-      goes-proceeds events w (goes-append w start (firsts ++ lasts) back.goes
-      (goes-append v firsts lasts ticked.goes carried.goes))
+  goes = goes-proceeds events w all-goes
+
+  -- what these events count as
+  abbrev later_acts : List Act
+  later_acts = acts_of a replies ++ acts_of b lasts
+
+  acts : acts_of w events ≡ acts_of w start ++ (acts_of v firsts ++ (acts_of u arrivals
+      ++ later_acts))
+  acts =
+      acts-append w start (firsts ++ after_ticks)
+      ∙ ap (λ (ls : List Act). acts_of w start ++ ls)
+      (acts-append v firsts after_ticks
+      ∙ ap (λ (ls : List Act). acts_of v firsts ++ ls)
+      (acts-append u arrivals (replies ++ lasts)
+      ∙ ap (λ (ls : List Act). acts_of u arrivals ++ ls) (acts-append a replies lasts)))
 
   onward : Onward v end
-  onward = onward-further v u end ticked.leads.1 carried.leads.1
+  onward =
+      onward-further v u end ticked.leads.1
+      (onward-further u a end carried.leads.1 (onward-further a b end replied.leads.1
+      ended.leads.1))
 
   same-size : end.size ≡ w.size
   same-size = onward.size ∙ back.leads.1
 
   few : (p : ℕ) → length (pend (stored end p)) ≤ count
   few p =
-      let ends = carried.leads.0.sound in
+      let ends = ended.leads.0.sound in
       names-taken v back.leads.0.sound end.size (stored end) p (stored end p)
       (ends.kept.nodes p).kept (λ x k. onward.only p x k)
 
@@ -398,39 +245,57 @@ module _ (w : World) (sound : Sound w) where
         arith,
         enough,
         ticks-counted p events w goes,
-        among-append p start (firsts ++ lasts),
-        among-append p firsts lasts,
+        among-append p start (firsts ++ after_ticks),
+        among-append p firsts after_ticks,
       )
 
   arrive : TicksArrive (is_node w.size.n) (acts_of w events)
   arrive =
-      subst (TicksArrive (is_node w.size.n))
-      (sym (acts-append w start (firsts ++ lasts)
-      ∙ ap (λ (ls : List Act). acts_of w start ++ ls) (acts-append v firsts lasts)))
-      (no_tick-then (is_node w.size.n) (acts_of v firsts ++ acts_of u lasts) start w
-      (back-no_tick kept (nodes w.size.n) w)
-      (ticks-then (is_node w.size.n) (acts_of u lasts) none firsts v
+      subst (TicksArrive (is_node w.size.n)) (sym acts)
+      (no_tick-then (is_node w.size.n) (acts_of v firsts ++ (acts_of u arrivals ++ later_acts))
+      start w (back-no_tick kept (nodes w.size.n) w)
+      (ticks-then (is_node w.size.n) (acts_of u arrivals ++ later_acts) none firsts v
       (all-are count (nodes v.size.n) v) (goes-proceeds firsts v ticked.goes)
-      (λ packet i. all-do packets u packet (goes-proceeds lasts u carried.goes) i)))
+      (λ packet i. arrive-before packet (acts_of u arrivals) later_acts
+      (all-do packets u packet (goes-proceeds arrivals u carried.goes) i))))
     where
-      none : TicksArrive (is_node w.size.n) (acts_of u lasts)
+      none : TicksArrive (is_node w.size.n) (acts_of u arrivals ++ later_acts)
       none =
-          subst (TicksArrive (is_node w.size.n)) (append-nil (acts_of u lasts))
-          (no_tick-then (is_node w.size.n) [] lasts u (carries-no_tick packets u) tt)
+          no_tick-then (is_node w.size.n) later_acts arrivals u (carries-no_tick packets u)
+          (no_tick-then (is_node w.size.n) (acts_of b lasts) replies a
+          (carries-no_tick first_answers a)
+          (subst (TicksArrive (is_node w.size.n)) (append-nil (acts_of b lasts))
+          (no_tick-then (is_node w.size.n) [] lasts b (carries-no_tick last_answers b) tt)))
 
   some-round : IsRound w events
   some-round =
       subst (λ (z : World). IsRoundAmong (is_node w.size.n) (acts_of w events) z) (sym leads)
       (record {
-        undisturbed = proceeds-calm events w goes;
+        undisturbed = proceeds-calm events w (goes-quietly events w all-goes);
         ticks =
             λ p is. let few_p = few p in let often_p = often p is in omega (arith, few_p, often_p);
         arrive = arrive;
         settled =
-            λ p is. carried.leads.0.ready p
+            λ p is. ended.leads.0.ready p
             (subst (λ (size : Limits). is_node size.n p ≡ true) (sym same-size) is);
       })
 
-pub round-exists : (w : World) → IsReached w → (events : List Event) × IsRound w events
+  answers-come : AnswersArrive (acts_of w events)
+  answers-come =
+      subst AnswersArrive (sym acts)
+      (none-then (acts_of w start) (acts_of v firsts ++ (acts_of u arrivals ++ later_acts))
+      (back-silent kept (nodes w.size.n) w)
+      (none-then (acts_of v firsts) (acts_of u arrivals ++ later_acts)
+      (ticks-silent firsts v (all-are count (nodes v.size.n) v))
+      (answers-then (acts_of u arrivals) later_acts
+      (λ answer i. arrive-before answer (acts_of a replies) (acts_of b lasts)
+      (all-do first_answers a answer (goes-proceeds replies a replied.goes) i))
+      (answers-then (acts_of a replies) (acts_of b lasts)
+      (λ answer i. all-do last_answers b answer (goes-proceeds lasts b ended.goes) i)
+      (subst AnswersArrive (append-nil (acts_of b lasts))
+      (answers-then (acts_of b lasts) [] (λ answer i. absurd (silent answer i)) tt))))))
+
+pub round-exists : (w : World) → IsReached w
+    → (events : List Event) × IsRound w events × AnswersArrive (acts_of w events)
 round-exists w reached =
-    (events w (reached-sound w reached), some-round w (reached-sound w reached))
+    let sound = reached-sound w reached in (events w sound, some-round w sound, answers-come w sound)

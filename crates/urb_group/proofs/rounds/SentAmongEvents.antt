@@ -7,7 +7,7 @@ use Rattle.std.proofs.lemmas.Bool.{cases_Bool, cond-false, cond-true, cond_both,
 use Rattle.std.specs.List.{AllByRecursion}
 use Rattle.urb_names.specs.declared.limits.TheConstants.{NAMES_PER_TICK}
 use Rattle.urb_group.proofs.steps.DraftsInSteps.{step-size}
-use Rattle.urb_group.proofs.rounds.StaysCounted.{run-further, step-further, whole}
+use Rattle.urb_group.proofs.rounds.StaysCounted.{run-further, step-further}
 use Rattle.urb_group.proofs.ticks.DueInTurn.{at-turn, due-passes, in-has, in-unfilter, turn-below}
 use Rattle.urb_group.proofs.ticks.DuePairs.{due-rises, has_pair-rising, in-due, length-rising}
 use Rattle.urb_group.proofs.ticks.DuePairs.{rises-records, rises-rising}
@@ -21,8 +21,9 @@ use Rattle.urb_group.proofs.rounds.Proceeding.{Proceeds, after-more}
 use Rattle.urb_group.proofs.recovery.CountedArrivals.{settled}
 use Rattle.urb_group.proofs.ticks.Membership.{IsIn, all-in}
 use Rattle.urb_group.proofs.ticks.Membership.{in-pairs}
-use Rattle.urb_group.proofs.rounds.StayingUp.{run-hears, step-stays, tick-done, tick-node, tick-of}
-use Rattle.urb_group.proofs.rounds.StayingUp.{tick-ready}
+use Rattle.urb_group.proofs.rounds.StayingUp.{run-hears, step-hears, step-stays, tick-done}
+use Rattle.urb_group.proofs.rounds.StayingUp.{tick-node, tick-of, tick-ready}
+use Rattle.urb_group.proofs.rounds.WholeNodes.{whole, whole-more, whole-ready}
 use Rattle.urb_group.specs.Recovered.{IsDone}
 use Rattle.urb_group.specs.Recovering.{after}
 use Rattle.urb_group.specs.Resends.{IsDueAmong, cursor_next}
@@ -256,16 +257,76 @@ dues-within all p (event ∷ events) w h =
           rest,
         )) (λ _. rest)
 
--- Node p is up, and has the pair pending or holds its record. It ticks often enough, and is ready
--- at the end. Then it has heard q's certificate by then, or what follows from sending holds.
+-- some pair is one at least
+some-pairs : (pairs : Pairs) (x : Label) (m : Content) → has_pair pairs x m ≡ true
+    → 1 ≤ length pairs
+some-pairs [] x m h = absurd (false≢true h)
+some-pairs (pair ∷ pairs) x m h = omega arith
+
+-- what p holds is stored after these events, if it ticks among them
+abbrev Stores : ℕ → Label → Content → List Event → World → Type 0
+Stores p x m events w =
+    Sound w → Proceeds w events → is_down (w.node p).state ≡ false
+    → has_pair (pend (whole p (w.node p)).records) x m ≡ true → 1 ≤ ticks_among p events
+    → has_pair (pend (stored (after w events) p)) x m ≡ true
+
+pub stored-then : (p : ℕ) (x : Label) (m : Content) (events : List Event) (w : World)
+    → Stores p x m events w
+stored-then p x m [] w sound goes up held l = absurd (omega (arith, l))
+stored-then p x m (event ∷ events) w sound goes up held l =
+    ⊎_elim ticked (λ t. other t (stored-then p x m events (step w event).1)) (cases_Bool
+    (is_tick_of p event))
+  where
+    ticked : is_tick_of p event ≡ true
+        → has_pair (pend (stored (after w (event ∷ events)) p)) x m ≡ true
+    ticked t =
+        pair-begins (stored w p) (stored (after w (event ∷ events)) p)
+        ((run-goes_on w (after w (event ∷ events)) (event ∷ events)
+        (run w (event ∷ events)).0 refl).records p) x m
+        (subst (λ (node : Node). has_pair (pend node.records) x m ≡ true)
+        (whole-ready p (w.node p) (tick-ready w p
+        (subst (λ (v : Event). IsDone (step w v).0) (tick-of p event t) goes.1))) held)
+
+    other : is_tick_of p event ≡ false → Stores p x m events (step w event).1
+        → has_pair (pend (stored (after w (event ∷ events)) p)) x m ≡ true
+    other t rest =
+        subst (λ (v : World). has_pair (pend (stored v p)) x m ≡ true)
+        (sym (after-more w event events))
+        (rest (subst Sound (after-one w event) (run-sound w (event ∷ []) sound)) goes.2
+        (step-hears w event p goes.0 goes.1 up).up
+        (pair-begins (whole p (w.node p)).records (whole p ((step w event).1.node p)).records
+        (step-further w sound event p goes.0 goes.1 up).records x m held)
+        (let same = cond-false (is_tick_of p event) (suc (ticks_among p events))
+        (ticks_among p events) t in omega (arith, l, same)))
+
+-- Node p ticks often enough to resend what it has pending at the end, with the record that it holds
+-- then.
+abbrev pub TicksEnough : ℕ → World → List Event → Type 0
+TicksEnough p w events =
+    length (pend (whole p ((after w events).node p)).records)
+    ≤ NAMES_PER_TICK * ticks_among p events
+
+-- so what it knew at first, or held, is stored at the end
+pub stored-at-end : (p : ℕ) (x : Label) (m : Content) (events : List Event) (w : World) → Sound w
+    → Proceeds w events → is_down (w.node p).state ≡ false
+    → has_pair (pend (whole p (w.node p)).records) x m ≡ true → TicksEnough p w events
+    → has_pair (pend (stored (after w events) p)) x m ≡ true
+stored-at-end p x m events w sound goes up held enough =
+    stored-then p x m events w sound goes up held
+    (let some =
+    some-pairs (pend (whole p ((after w events).node p)).records) x m
+    (pair-begins (whole p (w.node p)).records (whole p ((after w events).node p)).records
+    (run-further events w sound p goes up).records x m held) in omega (arith, some, enough))
+
+-- Node p is up, and has the pair pending or holds its record. It ticks often enough. Then it has
+-- heard q's certificate by the end, or what follows from sending holds.
 pub comes-about : (p q : ℕ) (x : Label) (m : Content) (Claim : World → List Event → Type 0)
     → Comes p q x m Claim → (w : World) (events : List Event) → Sound w → is_node w.size.n q ≡ true
     → (q == p) ≡ false → is_down (w.node p).state ≡ false
     → has_pair (pend (whole p (w.node p)).records) x m ≡ true → Proceeds w events
-    → ((after w events).node p).state ≡ Ready
-    → length (pend (stored (after w events) p)) ≤ NAMES_PER_TICK * ticks_among p events
+    → TicksEnough p w events
     → (acked ((after w events).node p).heard x q ≡ true) ⊎ Claim w events
-comes-about p q x m Claim comes w events was there other up held goes ready enough =
+comes-about p q x m Claim comes w events was there other up held goes enough =
     ⊎_elim (λ e. inl e) (λ e. inr (unheard e)) (cases_Bool (acked (z.node p).heard x q))
   where
     z : World
@@ -284,16 +345,14 @@ comes-about p q x m Claim comes w events was there other up held goes ready enou
     stands : has_pair all x m ≡ true
     stands =
         has_pair-rising (pend (stored z p)) x m
-        ∙ subst (λ (node : Node). has_pair (pend node.records) x m ≡ true)
-        (ap (settled p (z.node p)) ready)
-        (pair-begins (whole p (w.node p)).records (whole p (z.node p)).records
-        (run-further events w was p goes up).records x m held)
+        ∙ stored-at-end p x m events w was goes up held enough
 
     unheard : acked (z.node p).heard x q ≡ false → Claim w events
     unheard e =
         let is = in-pairs all x m stands in
         let turn = at-turn all rises x m is (w.node p).cursor in
         let below = turn-below all rises x m is (w.node p).cursor in
+        let more = whole-more p (z.node p) in
         meanwhile all rises p q x m other Claim comes events w
         (record {
           sound = was;
@@ -307,5 +366,6 @@ comes-about p q x m Claim comes w events was there other up held goes ready enou
           us = turn.us;
           vs = turn.vs;
           at = turn.at;
-          less = omega (arith, below, turn.count, enough, length-rising (pend (stored z p)));
+          less =
+              omega (arith, below, turn.count, enough, more, length-rising (pend (stored z p)));
         })

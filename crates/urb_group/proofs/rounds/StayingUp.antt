@@ -1,11 +1,11 @@
--- What a node that is up keeps through an event that is quiet and not refused. It stays up, and
+-- What a node that is up keeps through an event that is no failure and not refused. It stays up, and
 -- still has heard what it heard. Its cursor stays, except at its own ticks.
 use Rattle.std.proofs.Common.{List, [], None, Option, Some, ap, eq-eqb, eqb-true, false, is_none}
 use Rattle.std.proofs.Common.{not, refl, subst, sym, true, ℕ, ⊎_elim, ◌==◌, ◌||◌, ◌∙◌, ◌∷◌, ◌≡◌}
 use Rattle.std.proofs.lemmas.Bool.{cases_Bool, cond_both, false≢true}
 use Rattle.urb_group.proofs.steps.DraftsInSteps.{event_node, step-each}
 use Rattle.urb_group.proofs.rounds.TicksAmongEvents.{is_tick_of}
-use Rattle.urb_group.proofs.rounds.Proceeding.{IsQuiet, Proceeds}
+use Rattle.urb_group.proofs.rounds.Proceeding.{IsNoFailure, Proceeds}
 use Rattle.urb_group.specs.Recovered.{IsDone}
 use Rattle.urb_group.proofs.steps.OneNodeStep.{updated-at}
 use Rattle.urb_group.specs.Recovering.{after}
@@ -92,7 +92,7 @@ module _ (node : Node) (e : is_down node.state ≡ false) where
 -- ---- the world
 
 -- at the node that the event is of
-here-stays : (w : World) (event : Event) → IsQuiet event
+here-stays : (w : World) (event : Event) → IsNoFailure event
     → is_tick_of (event_node event) event ≡ false
     → is_down (w.node (event_node event)).state ≡ false
     → Stays (w.node (event_node event)) ((step w event).1.node (event_node event))
@@ -128,13 +128,13 @@ here-stays w event h t e =
                 heard =
                     λ y z k. record_more node e held cause y z k;
               };
-          down = λ f up. absurd (⊎_elim (λ g. subst IsQuiet g h) (λ g. subst IsQuiet g h) f);
+          down = λ f up. absurd (⊎_elim (λ g. subst IsNoFailure g h) (λ g. subst IsNoFailure g h) f);
           up = λ image doubtful f g. absurd (not-down doubtful g);
           joined = λ image r f g. absurd (not-down (Some r) g);
         }
 
 -- at any node that is up, if the event isn't its tick
-pub step-stays : (w : World) (event : Event) (p : ℕ) → IsQuiet event → is_tick_of p event ≡ false
+pub step-stays : (w : World) (event : Event) (p : ℕ) → IsNoFailure event → is_tick_of p event ≡ false
     → is_down (w.node p).state ≡ false → Stays (w.node p) ((step w event).1.node p)
 step-stays w event p h t e =
     step-each (λ q n. Stays (w.node q) n) w event p
@@ -179,7 +179,7 @@ pub record Hears (old new : Node) : Type 0 where
   pub up : is_down new.state ≡ false
   pub heard : (x : Label) (q : ℕ) → acked old.heard x q ≡ true → acked new.heard x q ≡ true
 
-pub step-hears : (w : World) (event : Event) (p : ℕ) → IsQuiet event → IsDone (step w event).0
+pub step-hears : (w : World) (event : Event) (p : ℕ) → IsNoFailure event → IsDone (step w event).0
     → is_down (w.node p).state ≡ false → Hears (w.node p) ((step w event).1.node p)
 step-hears w event p h done e = ⊎_elim ticking other (cases_Bool (is_tick_of p event))
   where

@@ -1,62 +1,33 @@
--- What a node has counted, through events that are quiet and not refused. The record that it holds
--- is taken as stored. A packet that arrives is counted.
-use Rattle.std.proofs.Common.{Err, List, Ok, Option, [], ap, eqb-true, false, is_some, refl, subst}
+-- What a node has counted, through events that are no failure and not refused. The record that it
+-- holds is taken as stored. A packet that arrives is counted.
+use Rattle.std.proofs.Common.{Err, List, Ok, Option, [], ap, eqb-true, false, refl, subst}
 use Rattle.std.proofs.Common.{sym, true, ℕ, ◌&&◌, ◌++◌, ◌==◌, ◌∙◌, ◌∷◌, ◌≡◌}
 use Rattle.std.proofs.lemmas.Bool.{and_parts, cond_both, false≢true}
 use Rattle.urb_group.proofs.steps.DraftsInSteps.{event_node, step-size, step-each}
-use Rattle.urb_group.proofs.steps.Growth.{begins-itself, begins-push, begins-trans, step-goes_on}
+use Rattle.urb_group.proofs.steps.Growth.{begins-itself, begins-trans, step-goes_on}
 use Rattle.urb_group.proofs.steps.OneNodeStep.{updated-at}
-use Rattle.urb_group.proofs.recovery.WorldsGoOn.{Sound, found-begins, run-sound}
+use Rattle.urb_group.proofs.recovery.WorldsGoOn.{Sound, run-sound}
 use Rattle.urb_group.proofs.recovery.CountedArrivals.{Counts, Took, arrives-settles, knows, settled}
 use Rattle.urb_group.proofs.rounds.StayingUp.{step-hears, tick-node}
-use Rattle.urb_group.proofs.rounds.TicksAmongEvents.{IsCountedAt}
-use Rattle.urb_group.proofs.rounds.Proceeding.{IsQuiet, Proceeds}
+use Rattle.urb_group.proofs.rounds.SubmitCounts.{submit-further}
+use Rattle.urb_group.proofs.rounds.WholeNodes.{Further, begins-whole, further-itself, further-trans}
+use Rattle.urb_group.proofs.rounds.WholeNodes.{knows-begins, whole}
+use Rattle.urb_group.proofs.rounds.Proceeding.{IsNoFailure, Proceeds}
 use Rattle.urb_group.specs.Recovered.{IsDone}
 use Rattle.urb_group.specs.Recovering.{after}
-use Rattle.urb_group.specs.Step.{Arrive, Commit, Event, Restart, Tick, at_node}
+use Rattle.urb_group.specs.Step.{Arrive, Commit, Event, Restart, Submit, Tick, at_node}
 use Rattle.urb_group.specs.Step.{is_for, packet_arrives, run, step, world_after}
 use Rattle.urb_group.specs.World.{World, stored, truthful}
-use Rattle.urb_names.proofs.FoundPairs.{some_found}
-use Rattle.urb_names.specs.Beginnings.{Begins}
 use Rattle.urb_names.specs.Carried.{Carried}
 use Rattle.urb_names.specs.Naming.{Label, Limits}
 use Rattle.urb_names.specs.Nodes.{is_node}
-use Rattle.urb_names.specs.Pairs.{message_of}
 use Rattle.urb_names.specs.declared.refusal.Refusal.TheVariants as refusal
 use Rattle.urb_node.specs.Part.{Down, Node, Ready, State, Storing}
 use Rattle.urb_node.specs.Replies.{Refused, Reply, Stored}
 use Rattle.urb_node.specs.Steps.{arrives, commits, done, is_down, keeps_record, next_position}
-use Rattle.urb_node.specs.Steps.{refuses, resends, restarts, same_record}
+use Rattle.urb_node.specs.Steps.{refuses, resends, restarts, same_record, submits}
 use Rattle.urb_stable.specs.Entries.{Entry}
-use Rattle.urb_stable.specs.Records.{pend}
 use Rattle.urb_group.proofs.steps.StepCases.{packet-cases}
-
--- the node, with the record that it holds stored
-abbrev pub whole : ℕ → Node → Node
-whole p node = settled p node node.state
-
--- what the old node has counted and knows, the new one has too
-pub record Further (n : ℕ) (old new : Node) : Type 0 where
-  pub counts : (x : Label) (z : ℕ) → Counts n old.records old.acks x z
-      → Counts n new.records new.acks x z
-  pub records : Begins old.records new.records
-
--- what is known stays so
-pub knows-begins : (xs ys : List Entry) → Begins xs ys → (x : Label) → knows xs x ≡ true
-    → knows ys x ≡ true
-knows-begins xs ys b x h =
-    let found = some_found (message_of (pend xs) x) h in
-    ap is_some (found-begins xs ys b x found.0 found.1)
-
-further-itself : (n : ℕ) (node : Node) → Further n node node
-further-itself n node = record { counts = λ x z h. h; records = begins-itself node.records }
-
-further-trans : (n : ℕ) (a b c : Node) → Further n a b → Further n b c → Further n a c
-further-trans n a b c f g = record {
-  counts = λ x z h. g.counts x z (f.counts x z h);
-  records =
-      begins-trans a.records b.records c.records f.records g.records;
-}
 
 -- ---- an arrival
 
@@ -92,11 +63,6 @@ arrive-done w p packet =
   where
     Told : Reply × World → Type 0
     Told o = IsDone o.0 → Arrived w p packet o
-
-begins-whole : (p : ℕ) (node : Node) (s : State) → Begins node.records (settled p node s).records
-begins-whole p node Ready = begins-itself node.records
-begins-whole p node (Storing entry cause) = begins-push node.records entry
-begins-whole p node (Down doubtful) = begins-itself node.records
 
 module _ (w : World) (sound : Sound w) (p : ℕ) (packet : Carried)
     (fine : IsDone (step w (Arrive p (Ok packet))).0) where
@@ -165,14 +131,20 @@ commit-done n p position entry node (Storing held cause) h =
     → (o.1 ≡ keeps_record p held cause node) × (o.1.state ≡ Ready)) (λ _ _. (refl, refl))
     (λ _ k. absurd k) h
 
+-- an outcome at p that is done, if there is such a node
+node-done : (w : World) (p : ℕ) (outcome : Reply × Node) (P : Node → Type 0)
+    → (is_node w.size.n p ≡ true → IsDone outcome.0 → P outcome.1)
+    → IsDone (at_node w p outcome).0 → P ((at_node w p outcome).1.node p)
+node-done w p outcome P h =
+    cond_both (is_node w.size.n p) (world_after w p outcome) (Refused refusal.BadNode, w)
+    (λ (o : Reply × World). IsDone o.0 → P (o.1.node p))
+    (λ is d. subst P (sym (updated-at w.node p outcome.1)) (h is d)) (λ _ d. absurd d)
+
 -- an outcome at p that is done
 pub at-node-done : (w : World) (p : ℕ) (outcome : Reply × Node) (P : Node → Type 0)
     → (IsDone outcome.0 → P outcome.1) → IsDone (at_node w p outcome).0
     → P ((at_node w p outcome).1.node p)
-at-node-done w p outcome P h =
-    cond_both (is_node w.size.n p) (world_after w p outcome) (Refused refusal.BadNode, w)
-    (λ (o : Reply × World). IsDone o.0 → P (o.1.node p))
-    (λ _ d. subst P (sym (updated-at w.node p outcome.1)) (h d)) (λ _ d. absurd d)
+at-node-done w p outcome P h d = node-done w p outcome P (λ _ k. h k) d
 
 commit-further : (n p position : ℕ) (entry : Entry) (node : Node)
     → IsDone (commits n p position entry node node.state).0
@@ -202,11 +174,15 @@ restart-not p image node (Down doubtful) e h = false≢true (sym e)
 
 -- ---- any event
 
-here-further : (w : World) → Sound w → (event : Event) → IsQuiet event → IsDone (step w event).0
+here-further : (w : World) → Sound w → (event : Event) → IsNoFailure event → IsDone (step w event).0
     → is_down (w.node (event_node event)).state ≡ false
     → Further w.size.n (whole (event_node event) (w.node (event_node event)))
     (whole (event_node event) ((step w event).1.node (event_node event)))
 unfolding step
+here-further w sound (Submit p m) h d up =
+    node-done w p (submits w.size p m (w.node p))
+    (λ (new : Node). Further w.size.n (whole p (w.node p)) (whole p new))
+    (λ is k. submit-further w.size (stored w) p m (w.node p) (sound.kept.nodes p) is k) d
 here-further w sound (Arrive p (Err fault)) h d up = absurd d
 here-further w sound (Arrive p (Ok packet)) h d up = arrive-further w sound p packet d
 here-further w sound (Tick p) h d up =
@@ -223,7 +199,7 @@ here-further w sound (Restart p image) h d up =
     (λ k. absurd (restart-not p image (w.node p) (w.node p).state up k)) d
 here-further w sound event h d up = absurd h
 
-pub step-further : (w : World) → Sound w → (event : Event) (p : ℕ) → IsQuiet event
+pub step-further : (w : World) → Sound w → (event : Event) (p : ℕ) → IsNoFailure event
     → IsDone (step w event).0 → is_down (w.node p).state ≡ false
     → Further w.size.n (whole p (w.node p)) (whole p ((step w event).1.node p))
 step-further w sound event p h d up =
@@ -253,11 +229,6 @@ commit-whole n p position entry node h =
     let at = commit-done n p position entry node node.state h in
     ap (settled p (commits n p position entry node node.state).1) at.1 ∙ at.0
 
-pub whole-knows : (p : ℕ) (node : Node) (s : State) (x : Label) → knows node.records x ≡ true
-    → knows (settled p node s).records x ≡ true
-whole-knows p node s x h =
-    knows-begins node.records (settled p node s).records (begins-whole p node s) x h
-
 -- ---- any world of a run
 
 pub run-size : (events : List Event) (w : World) → (after w events).size ≡ w.size
@@ -265,17 +236,17 @@ unfolding run
 run-size [] w = refl
 run-size (event ∷ events) w = run-size events (step w event).1 ∙ step-size w event
 
+-- Node p knows the name, with the record that it holds. It has certified it, or it has counted z for
+-- it, and all that it has counted are no majority yet.
+pub record IsCountedAt (w : World) (p : ℕ) (x : Label) (z : ℕ) : Type 0 where
+  pub known : knows (whole p (w.node p)).records x ≡ true
+  pub counts : Counts w.size.n (whole p (w.node p)).records (whole p (w.node p)).acks x z
+
 pub sound-counted : (w : World) (p : ℕ) (packet : Carried) (events : List Event) → Sound w
     → Proceeds w (Arrive p (Ok packet) ∷ events)
-    → ((after w (Arrive p (Ok packet) ∷ events)).node p).state ≡ Ready
     → IsCountedAt (after w (Arrive p (Ok packet) ∷ events)) p packet.name packet.source
 unfolding run
-sound-counted w p packet events sound goes ready =
-    record {
-      known = subst (λ (node : Node). knows node.records packet.name ≡ true) whole-end known;
-      counted = counts.counted;
-      few = counts.few;
-    }
+sound-counted w p packet events sound goes = record { known = known; counts = counts }
   where
     event : Event
     event = Arrive p (Ok packet)
@@ -294,22 +265,18 @@ sound-counted w p packet events sound goes ready =
         run-further events v (run-sound w (event ∷ []) sound) p goes.2
         (step-hears w event p goes.0 goes.1 was-up).up
 
-    whole-end : whole p (z.node p) ≡ z.node p
-    whole-end = ap (settled p (z.node p)) ready
-
     known : knows (whole p (z.node p)).records packet.name ≡ true
     known =
         knows-begins (whole p (v.node p)).records
         (whole p (z.node p)).records later.records packet.name
         (arrive-known w sound p packet goes.1)
 
-    counts : Counts z.size.n (z.node p).records (z.node p).acks packet.name packet.source
+    counts : Counts z.size.n (whole p (z.node p)).records (whole p (z.node p)).acks packet.name
+        packet.source
     counts =
-        subst (λ (size : Limits). Counts size.n (z.node p).records
-        (z.node p).acks packet.name packet.source) (sym (run-size events v))
-        (subst (λ (node : Node). Counts v.size.n node.records node.acks packet.name packet.source)
-        whole-end
+        subst (λ (size : Limits). Counts size.n (whole p (z.node p)).records
+        (whole p (z.node p)).acks packet.name packet.source) (sym (run-size events v))
         (later.counts packet.name packet.source
         (subst (λ (size : Limits). Counts size.n (whole p (v.node p)).records
         (whole p (v.node p)).acks packet.name packet.source) (sym (step-size w event))
-        (arrive-told w sound p packet goes.1))))
+        (arrive-told w sound p packet goes.1)))

@@ -1,18 +1,15 @@
 -- Words for lists of events in which a node ticks among other events.
-use Rattle.std.specs.Prelude.{Bool, List, [], false, if◌then◌else◌, is_some, suc, ℕ, ◌==◌, ◌∷◌}
+use Rattle.std.specs.Prelude.{Bool, List, [], false, if◌then◌else◌, suc, ℕ, ◌==◌, ◌∷◌}
 use Rattle.std.specs.Prelude.{◌≡◌, ◌⊎◌, true}
 use Rattle.std.specs.List.{AllByRecursion}
 use Rattle.urb_group.specs.Step.{Event, Tick, step}
 use Rattle.urb_group.specs.World.{World, stored}
-use Rattle.urb_names.specs.Acknowledged.{acked}
 use Rattle.urb_names.specs.Carried.{Carried, due_of}
 use Rattle.urb_names.specs.Cyclic.{rising}
-use Rattle.urb_names.specs.Names.{has_name}
 use Rattle.urb_names.specs.Naming.{Content, Label}
-use Rattle.urb_names.specs.Nodes.{majority_passes}
-use Rattle.urb_names.specs.Pairs.{has_pair, message_of}
+use Rattle.urb_names.specs.Pairs.{has_pair}
 use Rattle.urb_node.specs.Replies.{Reply, Sent}
-use Rattle.urb_stable.specs.Records.{cert, pend}
+use Rattle.urb_stable.specs.Records.{pend}
 
 -- whether the event is a tick of node p
 abbrev pub is_tick_of : ℕ → Event → Bool
@@ -36,14 +33,6 @@ dues_among p w (event ∷ events) =
 -- each of these pairs is one of all
 abbrev pub AreAmong : List (Label × Content) → List (Label × Content) → Type 0
 AreAmong all pairs = AllByRecursion (λ pair. has_pair all pair.0 pair.1 ≡ true) pairs
-
--- Node p knows the name. It has certified it, or it has counted z for it, and all that it has
--- counted are no majority yet.
-pub record IsCountedAt (w : World) (p : ℕ) (x : Label) (z : ℕ) : Type 0 where
-  pub known : is_some (message_of (pend (stored w p)) x) ≡ true
-  pub counted : has_name (cert (stored w p)) x ≡ false → acked (w.node p).acks x z ≡ true
-  pub few : has_name (cert (stored w p)) x ≡ false
-      → majority_passes w.size.n (acked (w.node p).acks x) ≡ false
 
 -- the event is one of these
 abbrev pub IsAmong : Event → List Event → Type 0

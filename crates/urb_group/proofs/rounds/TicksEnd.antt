@@ -13,20 +13,22 @@ use Rattle.urb_group.proofs.steps.DraftsInSteps.{event_node, step-size, step-eac
 use Rattle.urb_group.proofs.rounds.StaysCounted.{arrive-done, at-node-done, restart-not, run-size}
 use Rattle.urb_group.proofs.recovery.NodeLists.{packet_to, filtered-in, nodes-in}
 use Rattle.urb_group.proofs.rounds.SentAmongEvents.{Comes, Sends, comes-about}
-use Rattle.urb_group.proofs.rounds.TicksAmongEvents.{IsAmong, resent_in, resent_by}
+use Rattle.urb_group.proofs.rounds.TicksAmongEvents.{IsAmong, resent_by, resent_in, ticks_among}
 use Rattle.urb_group.proofs.ticks.DueInTurn.{in-has}
 use Rattle.urb_group.proofs.ticks.DuePairs.{has_pair-rising}
 use Rattle.urb_group.proofs.steps.OneNodeStep.{updated-at}
 use Rattle.urb_group.proofs.recovery.WorldsGoOn.{knows-pair, run-sound}
-use Rattle.urb_group.proofs.rounds.Proceeding.{IsQuiet, Proceeding, Proceeds, proceeding, acts-more}
-use Rattle.urb_group.proofs.rounds.Proceeding.{acts-none}
+use Rattle.urb_group.proofs.rounds.Proceeding.{IsQuiet, Proceeding, ProceedsQuietly, acts-more}
+use Rattle.urb_group.proofs.rounds.Proceeding.{acts-none, proceeding, quiet-no_failure}
+use Rattle.urb_group.proofs.rounds.Proceeding.{quietly-proceeds, undisturbed-unbroken}
+use Rattle.urb_group.proofs.rounds.WholeNodes.{whole, whole-ready}
 use Rattle.urb_group.proofs.recovery.CountedArrivals.{knows, settled}
 use Rattle.urb_group.proofs.ticks.Membership.{IsIn, in-all}
 use Rattle.urb_group.proofs.rounds.StayingUp.{run-hears, step-hears, tick-done, tick-node}
 use Rattle.urb_group.proofs.steps.ConfirmedPackets.{borne-pair}
 use Rattle.urb_group.specs.Recovered.{IsDone, IsNotStranded}
 use Rattle.urb_group.specs.Recovering.{after}
-use Rattle.urb_group.specs.Rounds.{Act, AnswersArrive, Arrives, Disturbs, AllUp, IsRound}
+use Rattle.urb_group.specs.Rounds.{Act, Adds, AllUp, AnswersArrive, Arrives, Breaks, IsRound}
 use Rattle.urb_group.specs.Rounds.{IsRoundAmong, IsUndisturbed, NoneDue, Ticks, TicksAreSilent}
 use Rattle.urb_group.specs.Rounds.{act_of, acts_of, arrival_by}
 use Rattle.urb_group.specs.Step.{Arrive, Commit, Event, IsReached, Restart, Tick, run, step}
@@ -207,14 +209,14 @@ module _ (w : World) (c : AllCertified w) where
       back : (p : ℕ) → is_node (step w event).1.size.n p ≡ true → is_node w.size.n p ≡ true
       back p is = subst (λ (size : Limits). is_node size.n p ≡ true) (step-size w event) is
 
-run-certified : (events : List Event) (w : World) → AllCertified w → Proceeds w events
+run-certified : (events : List Event) (w : World) → AllCertified w → ProceedsQuietly w events
     → AllCertified (after w events)
 unfolding run
 run-certified [] w c goes = c
 run-certified (event ∷ events) w c goes =
     run-certified events (step w event).1 (step-certified w c event goes.0 goes.1) goes.2
 
-run-rests : (events : List Event) (w : World) → AllCertified w → Proceeds w events → (p : ℕ)
+run-rests : (events : List Event) (w : World) → AllCertified w → ProceedsQuietly w events → (p : ℕ)
     → is_node w.size.n p ≡ true → stored (after w events) p ≡ stored w p
 unfolding run
 run-rests [] w c goes p is = refl
@@ -227,7 +229,7 @@ run-rests (event ∷ events) w c goes p is =
 
 -- a packet that arrives among these events, and reports a certificate: it is heard in the end
 hear-among : (events : List Event) (u : World) (packet : Carried) → AllCertified u
-    → Proceeds u events → is_node u.size.n packet.target ≡ true
+    → ProceedsQuietly u events → is_node u.size.n packet.target ≡ true
     → IsAmong (Arrive packet.target (Ok packet)) events
     → says_certified packet.flags ≡ true
     → acked ((after u events).node packet.target).heard packet.name packet.source ≡ true
@@ -235,10 +237,11 @@ unfolding run
 hear-among [] u packet c goes is h e = absurd h
 hear-among (event ∷ events) u packet c goes is h e =
     ⊎_elim
-    (λ same. subst (λ (v : Event). Proceeds u (v ∷ events)
+    (λ same. subst (λ (v : Event). ProceedsQuietly u (v ∷ events)
     → acked ((after u (v ∷ events)).node packet.target).heard packet.name packet.source ≡ true)
     (sym same)
-    (λ g. (run-hears (step u (Arrive packet.target (Ok packet))).1 events packet.target g.2
+    (λ g. (run-hears (step u (Arrive packet.target (Ok packet))).1 events packet.target
+    (quietly-proceeds events (step u (Arrive packet.target (Ok packet))).1 g.2)
     (up g)).heard packet.name packet.source
     ((arrive-answers u c packet.target packet is g.1).heard e)) goes)
     (λ later. hear-among events (step u event).1 packet
@@ -246,10 +249,10 @@ hear-among (event ∷ events) u packet c goes is h e =
     (subst (λ (size : Limits). is_node size.n packet.target ≡ true) (sym (step-size u event)) is)
     later e) h
   where
-    up : Proceeds u (Arrive packet.target (Ok packet) ∷ events)
+    up : ProceedsQuietly u (Arrive packet.target (Ok packet) ∷ events)
         → is_down ((step u (Arrive packet.target (Ok packet))).1.node packet.target).state ≡ false
     up g =
-        (step-hears u (Arrive packet.target (Ok packet)) packet.target g.0 g.1
+        (step-hears u (Arrive packet.target (Ok packet)) packet.target tt g.1
         (ap is_down (c.ready packet.target is))).up
 
 later-answers : (event : Event) (reply : Reply) (rest : List Act)
@@ -260,12 +263,13 @@ later-answers event reply rest h = skip (act_of event reply) rest h
     skip [] rest h = h
     skip (Ticks p packets ∷ ls) rest h = skip ls rest h
     skip (Arrives packet answers ∷ ls) rest h = skip ls rest h.1
-    skip (Disturbs ∷ ls) rest h = skip ls rest h
+    skip (Adds ∷ ls) rest h = skip ls rest h
+    skip (Breaks ∷ ls) rest h = skip ls rest h
 
 -- A packet arrives that doesn't say that a certificate was heard. Its answer arrives too, and so
 -- its source hears the certificate.
 answer-among : (events : List Event) (u : World) (packet : Carried) (certified : Bool)
-    → AllCertified u → Proceeds u events → is_node u.size.n packet.target ≡ true
+    → AllCertified u → ProceedsQuietly u events → is_node u.size.n packet.target ≡ true
     → is_node u.size.n packet.source ≡ true
     → packet.flags ≡ Some (record { certified = certified; heard = false })
     → IsAmong (Arrive packet.target (Ok packet)) events → AnswersArrive (acts_of u events)
@@ -274,7 +278,7 @@ unfolding run
 answer-among [] u packet certified c goes is from e h a = absurd h
 answer-among (event ∷ events) u packet certified c goes is from e h a =
     ⊎_elim
-    (λ same. subst (λ (v : Event). Proceeds u (v ∷ events)
+    (λ same. subst (λ (v : Event). ProceedsQuietly u (v ∷ events)
     → AnswersArrive (act_of v (step u v).0 ++ acts_of (step u v).1 events)
     → acked ((after u (v ∷ events)).node packet.source).heard packet.name packet.target
     ≡ true) (sym same)
@@ -287,7 +291,7 @@ answer-among (event ∷ events) u packet certified c goes is from e h a =
     (later-answers event (step u event).0 (acts_of (step u event).1 events)
     (subst AnswersArrive (acts-more u event events) a))) h
   where
-    arrives_here : Proceeds u (Arrive packet.target (Ok packet) ∷ events)
+    arrives_here : ProceedsQuietly u (Arrive packet.target (Ok packet) ∷ events)
         → AnswersArrive (act_of (Arrive packet.target (Ok packet))
         (step u (Arrive packet.target (Ok packet))).0 ++ acts_of
         (step u (Arrive packet.target (Ok packet))).1 events)
@@ -312,7 +316,7 @@ answer-among (event ∷ events) u packet certified c goes is from e h a =
         hear-among events v answer (step-certified u c (Arrive packet.target (Ok packet)) g.0 g.1)
         g.2 (subst (λ (size : Limits). is_node size.n packet.source ≡ true)
         (sym (step-size u (Arrive packet.target (Ok packet)))) from)
-        (does-arrive answer events v g.2 all.0.0) found.1
+        (does-arrive answer events v (quietly-proceeds events v g.2) all.0.0) found.1
 
 -- ---- the round
 
@@ -322,7 +326,7 @@ module _ (among : ℕ → Bool) (p q : ℕ) (x : Label) (m : Content) (from : am
   -- certificate in the end
   abbrev Claim : World → List Event → Type 0
   Claim w events =
-      AllCertified w → is_node w.size.n p ≡ true → Proceeds w events → AllArrive among w events
+      AllCertified w → is_node w.size.n p ≡ true → ProceedsQuietly w events → AllArrive among w events
       → AnswersArrive (acts_of w events) → acked ((after w events).node p).heard x q ≡ true
 
   sends : (w : World) (events : List Event) → Sends p q x m w events → Claim w (Tick p ∷ events)
@@ -360,22 +364,24 @@ AllHeard w =
     → (x : Label) (m : Content) → has_pair (pend (stored w p)) x m ≡ true
     → acked (w.node p).heard x q ≡ true
 
-round-heard : (w : World) (events : List Event) → AllCertified w → Proceeds w events
+round-heard : (w : World) (events : List Event) → AllCertified w → ProceedsQuietly w events
     → IsRoundAmong (is_node w.size.n) (acts_of w events) (after w events)
     → AnswersArrive (acts_of w events) → AllHeard (after w events)
 round-heard w events c goes round answers p q at to other x m held =
     ⊎_elim (λ e. e) (λ claim. claim c is goes
-    (all-arrive (is_node w.size.n) events w goes round.arrive) answers)
+    (all-arrive (is_node w.size.n) events w (quietly-proceeds events w goes) round.arrive) answers)
     (comes-about p q x m (Claim (is_node w.size.n) p q x m is there)
     (comes (is_node w.size.n) p q x m is there) w events c.sound there other
     (ap is_down (c.ready p is))
     (subst (λ (node : Node). has_pair (pend node.records) x m ≡ true)
-    (sym (ap (settled p (w.node p)) (c.ready p is)))
+    (sym (whole-ready p (w.node p) (c.ready p is)))
     (subst (λ (rs : List Entry). has_pair (pend rs) x m ≡ true)
     (run-rests events w c goes p is) held))
-    goes (round.settled p is) (subst
-    (λ (count : ℕ). length (pend (stored (after w events) p)) ≤ NAMES_PER_TICK * count)
-    (ticks-counted p events w goes) (round.ticks p is)))
+    (quietly-proceeds events w goes)
+    (subst (λ (node : Node). length (pend node.records) ≤ NAMES_PER_TICK * ticks_among p events)
+    (sym (whole-ready p ((after w events).node p) (round.settled p is)))
+    (subst (λ (count : ℕ). length (pend (stored (after w events) p)) ≤ NAMES_PER_TICK * count)
+    (ticks-counted p events w (quietly-proceeds events w goes)) (round.ticks p is))))
   where
     is : is_node w.size.n p ≡ true
     is = subst (λ (size : Limits). is_node size.n p ≡ true) (run-size events w) at
@@ -434,7 +440,7 @@ none-due w heard p is =
 step-heard : (w : World) (event : Event) → AllCertified w → IsQuiet event → IsDone (step w event).0
     → AllHeard w → AllHeard (step w event).1
 step-heard w event c q d heard p r at to other x m held =
-    (step-hears w event p q d (ap is_down (c.ready p is))).heard x r
+    (step-hears w event p (quiet-no_failure event q) d (ap is_down (c.ready p is))).heard x r
     (heard p r is (subst (λ (size : Limits). is_node size.n r ≡ true) (step-size w event) to)
     other x m (subst (λ (rs : List Entry). has_pair (pend rs) x m ≡ true)
     (step-rests w c event q d p is).records held))
@@ -442,7 +448,7 @@ step-heard w event c q d heard p r at to other x m held =
     is : is_node w.size.n p ≡ true
     is = subst (λ (size : Limits). is_node size.n p ≡ true) (step-size w event) at
 
-run-heard : (events : List Event) (w : World) → AllCertified w → Proceeds w events → AllHeard w
+run-heard : (events : List Event) (w : World) → AllCertified w → ProceedsQuietly w events → AllHeard w
     → AllHeard (after w events)
 unfolding run
 run-heard [] w c goes heard = heard
@@ -473,10 +479,10 @@ silent-tick w event heard d e =
 silent-more : (w : World) (event : Event) (rest : List Act) → AllHeard w → IsDone (step w event).0
     → TicksAreSilent rest → TicksAreSilent (act_of event (step w event).0 ++ rest)
 silent-more w event rest heard d h =
-    act-cases (λ acts. TicksAreSilent (acts ++ rest)) event (step w event).0 (λ _. h) (λ _ _ _. h)
-    (λ _ _ _ _. h) (λ packets e s. (sym s ∙ silent-tick w event heard d e, h))
+    act-cases (λ acts. TicksAreSilent (acts ++ rest)) event (step w event).0 (λ _. h) (λ _. h)
+    (λ _. h) (λ _ _ _ _. h) (λ packets e s. (sym s ∙ silent-tick w event heard d e, h))
 
-run-silent : (events : List Event) (w : World) → AllCertified w → Proceeds w events → AllHeard w
+run-silent : (events : List Event) (w : World) → AllCertified w → ProceedsQuietly w events → AllHeard w
     → TicksAreSilent (acts_of w events)
 run-silent [] w c goes heard = subst TicksAreSilent (sym (acts-none w)) tt
 run-silent (event ∷ events) w c goes heard =
@@ -495,8 +501,8 @@ pub three-rounds : (w : World) (first second third later : List Event) → IsRea
     → NoneDue (after (after (after (after w first) second) third) later)
     × TicksAreSilent (acts_of (after (after (after w first) second) third) later)
 three-rounds w first second third later reached free up one two three answers calm = (
-  none-due (after z later) (subst AllHeard l.leads (run-heard l.list z ends l.proceeds heard)),
-  subst TicksAreSilent l.acts (run-silent l.list z ends l.proceeds heard),
+  none-due (after z later) (subst AllHeard l.leads (run-heard l.list z ends (l.quietly calm) heard)),
+  subst TicksAreSilent l.acts (run-silent l.list z ends (l.quietly calm) heard),
 )
   where
     v : World
@@ -509,7 +515,10 @@ three-rounds w first second third later reached free up one two three answers ca
     z = after v third
 
     t : Proceeding v third
-    t = proceeding third v three.undisturbed
+    t = proceeding third v (undisturbed-unbroken (acts_of v third) three.undisturbed)
+
+    goes : ProceedsQuietly v t.list
+    goes = t.quietly three.undisturbed
 
     round : IsRoundAmong (is_node v.size.n) (acts_of v t.list) (after v t.list)
     round =
@@ -518,12 +527,12 @@ three-rounds w first second third later reached free up one two three answers ca
         (subst (λ (list : List Act). IsRoundAmong (is_node v.size.n) list z) (sym t.acts) three)
 
     ends : AllCertified z
-    ends = subst AllCertified t.leads (run-certified t.list v c t.proceeds)
+    ends = subst AllCertified t.leads (run-certified t.list v c goes)
 
     heard : AllHeard z
     heard =
-        subst AllHeard t.leads (round-heard v t.list c t.proceeds round
+        subst AllHeard t.leads (round-heard v t.list c goes round
         (subst AnswersArrive (sym t.acts) answers))
 
     l : Proceeding z later
-    l = proceeding later z calm
+    l = proceeding later z (undisturbed-unbroken (acts_of z later) calm)

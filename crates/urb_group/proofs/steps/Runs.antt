@@ -195,14 +195,19 @@ past_end [] i d h = refl
 past_end (x ∷ xs) zero d h = absurd (omega arith)
 past_end (x ∷ xs) (suc i) d h = past_end xs i d (omega arith)
 
+-- the image of a node keeps the rules if all images fit
+pub node-kept : (size : Limits) (images : ℕ → List Entry) → Fits size images → (p : ℕ) → 1 ≤ p
+    → p < suc size.n → Kept size images p [] (images p)
+node-kept size images fits p low high =
+    kept-behind size images p [] (images p)
+    (each_node (λ p. misfits_behind size images p [] (images p)) 1 size.n fits p low
+    (omega (arith, high)))
+
 pub fitting-kept : (size : Limits) (images : List (List Entry)) → length images ≡ size.n
     → Fits size (image_of images) → AllKept size (image_of images)
 fitting-kept size images e fits zero = tt
 fitting-kept size images e fits (suc i) =
-    ⊎_elim
-    (λ l. kept-behind size (image_of images) (suc i) [] (image_of images (suc i))
-    (each_node (λ p. misfits_behind size (image_of images) p [] (image_of images p))
-    1 size.n fits (suc i) (omega arith) (omega arith)))
+    ⊎_elim (λ l. node-kept size (image_of images) fits (suc i) (omega arith) (omega arith))
     (λ l. subst (λ (rs : List Entry). Kept size (image_of images) (suc i) [] rs)
     (sym (past_end images i [] (omega arith))) tt)
     (cases_lt i size.n)

@@ -1,9 +1,9 @@
 -- A cluster that is opened over stores is stocked. If its stores are honest, it goes on from the
 -- cluster that was stocked with them.
-use Rattle.std.proofs.Common.{Err, IfOk, List, Ok, Option, Result, Some, [], ap, append-nil, false}
+use Rattle.std.proofs.Common.{Err, IfOk, List, Ok, Option, Result, Some, [], ap, append-nil, arith, false}
 use Rattle.std.proofs.Common.{inl, inr}
 use Rattle.std.proofs.Common.{length, refl, subst, suc, sym, zero, ℕ, ⊎_elim, ◌++◌, ◌∙◌, ◌∷◌, ◌≡◌}
-use Rattle.std.proofs.Common.{◌⊎◌}
+use Rattle.std.proofs.Common.{◌≤◌, ◌⊎◌}
 use Rattle.std.specs.List.{All, AllByRecursion}
 use Rattle.std.specs.Prelude.{Vec, slice_get, slice_index_or}
 use Rattle.std.proofs.lemmas.Bool.{false≢true}
@@ -23,7 +23,11 @@ use Rattle.urb_group.proofs.moves.FittingImages.{misfit-unfit}
 use Rattle.urb_group.proofs.stops.NodeStoreInvariant.{one-store}
 use Rattle.urb_group.proofs.stops.SecuredClusters.{read-honest}
 use Rattle.urb_group.proofs.stops.StockedClusters.{asked-left, leaves-held}
-use Rattle.urb_group.proofs.stops.StockedPlays.{held-fits}
+use Rattle.urb_group.proofs.stops.StartLimits.{starts-on}
+use Rattle.urb_group.proofs.stops.StockedPlays.{chosen-left}
+use Rattle.urb_group.proofs.stops.StoppedWorlds.{goes-on-under}
+use Rattle.urb_group.proofs.steps.Runs.{fitting-kept}
+use Rattle.urb_group.proofs.shown.ShownWorldsAgree.{sound-kept}
 use Rattle.urb_group.specs.Asked.{Gives}
 use Rattle.urb_group.specs.Calls.{Opens}
 use Rattle.urb_group.specs.Clustered.{Clustered}
@@ -32,7 +36,9 @@ use Rattle.urb_group.specs.Reopening.{HasStopped, OpensFrom, OpensGiven, OpensSt
 use Rattle.urb_group.specs.Shown.{GroupView, Shows}
 use Rattle.urb_group.specs.Stocked.{AllHold, AreChosen, HoldsOf, IsKnown, IsStocked, IsStoreOf}
 use Rattle.urb_group.specs.Stocked.{LeavesOf, RestLeaves, StopLeaves}
-use Rattle.urb_group.specs.Stopping.{GoesOnIn}
+use Rattle.urb_group.specs.Stopping.{GoesOnUnder, MayLeave}
+use Rattle.urb_group.specs.StartLimits.{MayStartWith}
+use Rattle.urb_group.specs.Invariant.{IsKept}
 use Rattle.urb_group.specs.World.{World, opened}
 
 -- ---- stores that were asked one after the other
@@ -296,14 +302,21 @@ given-honest g _ _ _ h known clean = absurd h
 
 module _ {S A : Type 0} (g : Ghosts S A) (old : GroupView) (w : World) (size : Limits)
     (stores : List S) (stopped : HasStopped g old w size stores) where
-  same-size : w.size ≡ size
-  same-size = sym stopped.shows.size ∙ stopped.size
+  kept : IsKept w
+  kept = sound-kept old w stopped.sound stopped.shows
 
-  fits : length stores ≡ size.n → (images : List (List Entry)) → AreChosen g stores images
-      → GoesOnIn w (image_of images)
-  fits count =
-      held-fits g old w stores stopped.sound stopped.shows stopped.holds
-      (count ∙ sym stopped.counted)
+  same-size : old.size ≡ w.size
+  same-size = stopped.shows.size
+
+  more : w.size.n ≤ size.n
+  more = let same = ap (λ (l : Limits). l.n) same-size in omega (arith, same, stopped.nodes)
+
+  -- each list is what a stop may leave of its node
+  left : length stores ≡ size.n → (images : List (List Entry)) → AreChosen g stores images
+      → (p : ℕ) → MayLeave (w.node p) (image_of images p)
+  left count images =
+      chosen-left g old w stores images stopped.shows stopped.holds
+      (omega (arith, count, stopped.counted, stopped.nodes))
 
   chosen : (images : List (List Entry)) (asked : List S) → AllGive g stores images asked
       → All g.is_honest asked → AreChosen g stores images
@@ -320,26 +333,29 @@ module _ {S A : Type 0} (g : Ghosts S A) (old : GroupView) (w : World) (size : L
       → ContinuesFrom g w stores new.group
   goes-on-from count new h honest =
       let all = chosen h.images new.stores h.given honest in
+      let same : size ≡ new.group.size = sym h.opens.1.size in
       record {
         images = h.images;
         chosen = all;
-        goes_on = fits count h.images all;
+        goes_on =
+            subst (λ (l : Limits). GoesOnUnder l w (image_of h.images)) same
+            (goes-on-under w kept size more (image_of h.images) (left count h.images all)
+            (fitting-kept size h.images (all.one_each ∙ count) h.opens.0));
         opens =
-            subst (λ (l : Limits). Shows new.group (opened l (image_of h.images)))
-            (sym same-size) h.opens.1;
+            subst (λ (l : Limits). Shows new.group (opened l (image_of h.images))) same h.opens.1;
         ready = λ p. (h.opens.1.nodes p).state;
       }
 
-  -- lists that such stores gave fit together
+  -- lists that such stores gave fit together under limits that the group may start with
   not-inconsistent : length stores ≡ size.n → (asked : List S) (why : Refusal)
-      → OpensGiven g size stores asked (Err why) → All g.is_honest asked
+      → OpensGiven g size stores asked (Err why) → MayStartWith size w → All g.is_honest asked
       → (why ≡ refusal.NoMemory) ⊎ (why ≡ refusal.Device)
-  not-inconsistent count asked why h honest = at why h.opens
+  not-inconsistent count asked why h may honest = at why h.opens
     where
       fit : Fits size (image_of h.images)
       fit =
-          subst (λ (l : Limits). Fits l (image_of h.images)) same-size
-          (fits count h.images (chosen h.images asked h.given honest)).fits
+          (starts-on w kept size may (image_of h.images)
+          (left count h.images (chosen h.images asked h.given honest))).fits
 
       at : (r : Refusal) → Opens size h.images (Err r)
           → (r ≡ refusal.NoMemory) ⊎ (r ≡ refusal.Device)
@@ -404,14 +420,14 @@ module _ {S A : Type 0} (g : Ghosts S A) (old : GroupView) (w : World) (size : L
         record {
           sound = stopped.sound;
           counted = stopped.counted;
-          size = stopped.size;
+          nodes = stopped.nodes;
           shows =
               stopped.shows;
           holds = stay-held g w stores e.0.items stay stopped.holds;
         },
-        ⊎_elim (λ honest. ⊎_elim (λ k. refused-so e.0.items e.1 k honest)
-            (λ k. not-inconsistent count e.0.items e.1 k honest) h)
+        λ may. ⊎_elim (λ honest. ⊎_elim (λ k. refused-so e.0.items e.1 k honest)
+            (λ k. not-inconsistent count e.0.items e.1 k may honest) h)
             (λ known. ⊎_elim (λ k. refused-known e.0.items e.1 k known.0 known.1)
-            (λ k. not-inconsistent count e.0.items e.1 k
+            (λ k. not-inconsistent count e.0.items e.1 k may
             (all-honest k.images e.0.items k.given known.0 known.1)) h),
       )

@@ -122,9 +122,9 @@ no-place group w p shows none = at ((w.node p).records) refl
         absurd (omega (arith, count)))
 
 -- a choice for each store is a choice for each node
-chosen-left : {S A : Type 0} (g : Ghosts S A) (group : GroupView) (w : World) (stores : List S)
+pub chosen-left : {S A : Type 0} (g : Ghosts S A) (group : GroupView) (w : World) (stores : List S)
     (images : List (List Entry)) → Shows group w → AllHold g w stores
-    → length stores ≡ length group.nodes → AreChosen g stores images
+    → length group.nodes ≤ length stores → AreChosen g stores images
     → (p : ℕ) → MayLeave (w.node p) (image_of images p)
 chosen-left g group w stores images shows hold places chosen zero = no-place group w 0 shows refl
 chosen-left g group w stores images shows hold places chosen (suc i) =
@@ -153,7 +153,7 @@ pub held-fits : {S A : Type 0} (g : Ghosts S A) (group : GroupView) (w : World) 
     → (images : List (List Entry)) → AreChosen g stores images → GoesOnIn w (image_of images)
 held-fits g group w stores sound shows hold places images chosen =
     survives w (sound-kept group w sound shows) (image_of images)
-    (chosen-left g group w stores images shows hold places chosen)
+    (chosen-left g group w stores images shows hold (omega (arith, places)) chosen)
 
 pub stocked-fits : {S A : Type 0} (g : Ghosts S A) (cluster : Clustered S) → IsSound cluster.group
     → length cluster.stores ≡ length cluster.group.nodes → IsStocked g cluster

@@ -1,9 +1,10 @@
 -- What a stop leaves of a world that keeps the rules fits together, and opens a group that goes on
 -- from it.
 use Rattle.std.proofs.Common.{Bool, List, None, Some, [], ap, ap₂, bytes_eq, cond, eq-eqb, eqb-true}
-use Rattle.std.proofs.Common.{false, find, inl, inr, le-ltb, length, nat_lt, refl, slice_get, subst}
-use Rattle.std.proofs.Common.{suc, sym, true, ℕ, ◌++◌, ◌==◌, ◌∙◌, ◌∷◌, ◌≡◌, ◌≤◌}
-use Rattle.std.proofs.lemmas.Bool.{cond-false, cond-true}
+use Rattle.std.proofs.Common.{arith, false, find, inl, inr, le-ltb, length, lt-ltb, ltb-true, nat_lt}
+use Rattle.std.proofs.Common.{refl, slice_get, subst, suc, sym, true, ℕ, ◌++◌, ◌<◌, ◌==◌, ◌∙◌, ◌∷◌}
+use Rattle.std.proofs.Common.{◌≡◌, ◌≤◌}
+use Rattle.std.proofs.lemmas.Bool.{and_from, and_parts, cond-false, cond-true}
 use Rattle.std.proofs.lemmas.Slice.Eq.{bytes_eq-Decides}
 use Rattle.std.specs.List.{position_or_len}
 use Rattle.urb_group.proofs.safety.AgreeingLogs.{entries-begin}
@@ -13,7 +14,7 @@ use Rattle.urb_group.proofs.steps.Growth.{begins-itself, begins-push, log-begins
 use Rattle.urb_group.proofs.steps.Runs.{kept-fits}
 use Rattle.urb_group.specs.Invariant.{IsKept, MayJoin, NodesKept, StateKept}
 use Rattle.urb_group.specs.Step.{Submit, step}
-use Rattle.urb_group.specs.Stopping.{MayLeave, SurvivesStop}
+use Rattle.urb_group.specs.Stopping.{GoesOnUnder, MayLeave, SurvivesStop}
 use Rattle.urb_group.specs.World.{World, opened, stored, updated}
 use Rattle.urb_names.proofs.ClientNumbers.{Numbers}
 use Rattle.urb_names.proofs.FoundPairs.{has_pair-left}
@@ -138,21 +139,36 @@ left-begins node image (inl e) =
 left-begins node image (inr e) =
     subst (λ (rs : List Entry). Begins node.records rs) (sym e.2) (begins-push node.records e.0)
 
-pub survives : (w : World) → IsKept w → SurvivesStop w
-survives w kept images left =
+left-records : (w : World) (images : ℕ → List Entry)
+    → ((p : ℕ) → MayLeave (w.node p) (images p)) → (p : ℕ) → Begins (stored w p) (images p)
+left-records w images left p =
+    left-begins (w.node p) (images p)
+    (contents-either (stored w p) (doubt (w.node p).state) (images p) (left p))
+
+-- whatever a stop leaves goes on under limits whose rules it keeps, if no node is missing
+pub goes-on-under : (w : World) → IsKept w → (size : Limits) → w.size.n ≤ size.n
+    → (images : ℕ → List Entry) → ((p : ℕ) → MayLeave (w.node p) (images p))
+    → AllKept size images → GoesOnUnder size w images
+goes-on-under w kept size more images left all =
     record {
-      fits = kept-fits w.size images all;
+      fits = kept-fits size images all;
       delivered = λ p. log-begins (stored w p) (images p) (begins p);
       entries = λ p. entries-begin w (safe w kept.nodes) p (images p) (begins p);
       again =
-          λ p x m is e h. accepted-again w.size images all p x m is e ((kept.short p).stored x m h)
-          (pair-begins (stored w p) (images p) (begins p) x m h);
+          λ p x m is e h. accepted-again size images all p x m (still p is) e
+          ((kept.short p).stored x m h) (pair-begins (stored w p) (images p) (begins p) x m h);
     }
   where
-    all : AllKept w.size images
-    all = left-kept w kept.nodes images left
-
     begins : (p : ℕ) → Begins (stored w p) (images p)
-    begins p =
-        left-begins (w.node p) (images p)
-        (contents-either (stored w p) (doubt (w.node p).state) (images p) (left p))
+    begins = left-records w images left
+
+    still : (p : ℕ) → is_node w.size.n p ≡ true → is_node size.n p ≡ true
+    still p is =
+        let parts = and_parts (nat_lt 0 p) (nat_lt p (suc w.size.n)) is in
+        let low : p < suc w.size.n = ltb-true p (suc w.size.n) parts.1 in
+        and_from (nat_lt 0 p) (nat_lt p (suc size.n)) parts.0
+        (lt-ltb p (suc size.n) (omega (arith, low, more)))
+
+pub survives : (w : World) → IsKept w → SurvivesStop w
+survives w kept images left =
+    goes-on-under w kept w.size (omega arith) images left (left-kept w kept.nodes images left)

@@ -27,6 +27,15 @@ pending sender number = Pend (name sender number) (message 7 number "")
 abbrev pub certified : ℕ → ℕ → Entry
 certified sender number = PendCert (name sender number) (message 7 number "")
 
+-- two messages of node 1, certified
+abbrev pub two_of_one : List Entry
+two_of_one = certified 1 1 ∷ certified 1 2 ∷ []
+
+-- images of three nodes that have all certified one message, and of further nodes
+abbrev pub held_by_three : List (List Entry) → List (List Entry)
+held_by_three more =
+    (certified 1 1 ∷ []) ∷ (certified 1 1 ∷ []) ∷ (certified 1 1 ∷ []) ∷ more
+
 -- a group of n nodes; each node may broadcast as many messages as the cap
 abbrev pub limits : ℕ → ℕ → Limits
 limits n cap = record { n = n; cap = cap }

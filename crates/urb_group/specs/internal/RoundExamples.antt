@@ -5,11 +5,11 @@ use Rattle.std.specs.Prelude.{not, suc, true, ℕ, ◌&&◌, ◌*◌, ◌++◌, 
 use Rattle.std.specs.List.{list_all}
 use Rattle.urb_names.specs.declared.limits.TheConstants.{NAMES_PER_TICK}
 use Rattle.urb_group.specs.internal.Recoveries.{logs, scene_after}
-use Rattle.urb_group.specs.Recovering.{Plan, after, carries, each, packets_of}
-use Rattle.urb_group.specs.Rounds.{Act, Arrives, Disturbs, Ticks, acts_of, ticks_of}
-use Rattle.urb_group.specs.Scenes.{Scene}
+use Rattle.urb_group.specs.Recovering.{Plan, after, both, carries, each, packets_of, stores}
+use Rattle.urb_group.specs.Rounds.{Act, Adds, Arrives, Breaks, Ticks, acts_of, ticks_of}
+use Rattle.urb_group.specs.Scenes.{Scene, held_by}
 use Rattle.urb_group.specs.internal.Scripts.{message, new_group, store, submit}
-use Rattle.urb_group.specs.Step.{Arrive, Event, Tick}
+use Rattle.urb_group.specs.Step.{Arrive, Event, Submit, Tick}
 use Rattle.urb_group.specs.World.{World, stored}
 use Rattle.urb_names.specs.Carried.{Carried}
 use Rattle.urb_names.specs.Names.{same_message, same_name}
@@ -78,6 +78,16 @@ with_answers order w =
     ticks ++ packets in first ++ each carries (packets_of (after w ticks) packets)
     (after w first)
 
+-- p takes a message of client 7 and stores it
+abbrev pub takes : ℕ → ℕ → Plan
+takes p number = both (λ w. Submit p (message 7 number "") ∷ []) (stores p)
+
+-- a round of two nodes in use: each takes a message before the other ticks
+abbrev pub in_use : ℕ → Plan
+in_use number =
+    both (takes 2 number) (both (in_order (1 ∷ []) as_sent)
+    (both (takes 1 (suc number)) (in_order (2 ∷ []) as_sent)))
+
 -- nodes tick in this order, and their packets arrive, but no record is stored
 abbrev pub without_receipts : List ℕ → Plan
 without_receipts order w = let ticks = map Tick order in ticks ++ arrivals (packets_of w ticks)
@@ -107,7 +117,16 @@ abbrev pub is_undisturbed : List Act → Bool
 is_undisturbed [] = true
 is_undisturbed (Ticks p packets ∷ acts) = is_undisturbed acts
 is_undisturbed (Arrives packet answers ∷ acts) = is_undisturbed acts
-is_undisturbed (Disturbs ∷ acts) = false
+is_undisturbed (Adds ∷ acts) = false
+is_undisturbed (Breaks ∷ acts) = false
+
+-- whether nothing breaks
+abbrev pub is_unbroken : List Act → Bool
+is_unbroken [] = true
+is_unbroken (Ticks p packets ∷ acts) = is_unbroken acts
+is_unbroken (Arrives packet answers ∷ acts) = is_unbroken acts
+is_unbroken (Adds ∷ acts) = is_unbroken acts
+is_unbroken (Breaks ∷ acts) = false
 
 -- whether the packet arrives
 abbrev pub does_arrive : Carried → List Act → Bool
@@ -115,7 +134,8 @@ does_arrive packet [] = false
 does_arrive packet (Ticks p packets ∷ acts) = does_arrive packet acts
 does_arrive packet (Arrives other answers ∷ acts) =
     same_packet other packet || does_arrive packet acts
-does_arrive packet (Disturbs ∷ acts) = does_arrive packet acts
+does_arrive packet (Adds ∷ acts) = does_arrive packet acts
+does_arrive packet (Breaks ∷ acts) = does_arrive packet acts
 
 -- whether everything that ticks send arrives later
 abbrev pub ticks_arrive : List Act → Bool
@@ -123,7 +143,17 @@ ticks_arrive [] = true
 ticks_arrive (Ticks p packets ∷ acts) =
     list_all (λ packet. does_arrive packet acts) packets && ticks_arrive acts
 ticks_arrive (Arrives packet answers ∷ acts) = ticks_arrive acts
-ticks_arrive (Disturbs ∷ acts) = ticks_arrive acts
+ticks_arrive (Adds ∷ acts) = ticks_arrive acts
+ticks_arrive (Breaks ∷ acts) = ticks_arrive acts
+
+-- whether each answer to a packet arrives later
+abbrev pub answers_arrive : List Act → Bool
+answers_arrive [] = true
+answers_arrive (Ticks p packets ∷ acts) = answers_arrive acts
+answers_arrive (Arrives packet answers ∷ acts) =
+    list_all (λ answer. does_arrive answer acts) answers && answers_arrive acts
+answers_arrive (Adds ∷ acts) = answers_arrive acts
+answers_arrive (Breaks ∷ acts) = answers_arrive acts
 
 -- whether the node is ready
 abbrev pub is_ready : State → Bool
@@ -138,19 +168,21 @@ pub record Verdict : Type 0 where
   pub arrive : Bool
   pub settled : Bool
 
--- which of them these events meet in this world
-abbrev pub judged : World → List Event → Verdict
-judged w events =
-    let acts = acts_of w events in
-    let end = after w events in
+-- which of them these acts of n nodes meet, if they end in this world
+abbrev pub judged_acts : ℕ → List Act → World → Verdict
+judged_acts n acts end =
     record {
       undisturbed = is_undisturbed acts;
       ticks =
           list_all (λ p. nat_lt (length (pend (stored end p)))
-          (suc (NAMES_PER_TICK * ticks_of p acts))) (nodes w.size.n);
+          (suc (NAMES_PER_TICK * ticks_of p acts))) (nodes n);
       arrive = ticks_arrive acts;
-      settled = list_all (λ p. is_ready (end.node p).state) (nodes w.size.n);
+      settled = list_all (λ p. is_ready (end.node p).state) (nodes n);
     }
+
+-- which of them these events meet in this world
+abbrev pub judged : World → List Event → Verdict
+judged w events = judged_acts w.size.n (acts_of w events) (after w events)
 
 -- all of them are met: it is a round
 abbrev pub a_round : Verdict
@@ -186,3 +218,60 @@ RoundsCome scene first one second two delivered =
     let u = after w (first w) in
     (judged w (first w) ≡ one) × (judged u (second u) ≡ two)
     × (logs (after u (second u)) ≡ delivered)
+
+-- which of the things that a busy round asks for are met
+pub record BusyVerdict : Type 0 where
+  pub unbroken : Bool
+  pub ticks : Bool
+  pub arrive : Bool
+
+-- which of them these events meet in this world
+abbrev pub judged_busy : World → List Event → BusyVerdict
+judged_busy w events =
+    let acts = acts_of w events in
+    let end = after w events in
+    record {
+      unbroken = is_unbroken acts;
+      ticks =
+          list_all (λ p. nat_lt (length (pend (stored end p ++ held_by (end.node p).state)))
+          (suc (NAMES_PER_TICK * ticks_of p acts))) (nodes w.size.n);
+      arrive = ticks_arrive acts;
+    }
+
+-- all of them are met: it is a busy round
+abbrev pub a_busy_round : BusyVerdict
+a_busy_round = record { unbroken = true; ticks = true; arrive = true }
+
+-- all but one: something breaks
+abbrev pub broken : BusyVerdict
+broken = record a_busy_round { unbroken = false }
+
+-- all but one: some node ticks too seldom
+abbrev pub busy_ticks_too_seldom : BusyVerdict
+busy_ticks_too_seldom = record a_busy_round { ticks = false }
+
+-- all but one: a packet that a tick sends doesn't arrive
+abbrev pub busy_loses_a_packet : BusyVerdict
+busy_loses_a_packet = record a_busy_round { arrive = false }
+
+-- In this scene the two plans have these verdicts. After them these are the logs of all nodes, and
+-- these say whether each node is ready.
+abbrev pub BusyRoundsCome : Scene → Plan → BusyVerdict → Plan → BusyVerdict → List (List Label)
+    → List Bool → Type 0
+BusyRoundsCome scene first one second two delivered ready =
+    let w = scene.world in
+    let u = after w (first w) in
+    let v = after u (second u) in
+    (judged_busy w (first w) ≡ one) × (judged_busy u (second u) ≡ two) × (logs v ≡ delivered)
+    × (map (λ p. is_ready (v.node p).state) (nodes v.size.n) ≡ ready)
+
+-- The first two plans are rounds, and so is the third. These say whether its answers arrive, and
+-- which packets a tick of each node sends after it.
+abbrev pub TicksEndBy : Scene → Plan → Plan → Plan → Bool → List (ℕ × Label) → Type 0
+TicksEndBy scene first second third answered sends =
+    let w = scene.world in
+    let u = after w (first w) in
+    let v = after u (second u) in
+    (judged w (first w) ≡ a_round) × (judged u (second u) ≡ a_round)
+    × (judged v (third v) ≡ a_round) × (answers_arrive (acts_of v (third v)) ≡ answered)
+    × TicksSend scene (both first (both second third)) sends

@@ -14,6 +14,12 @@ pub fn dangers()
     ensures delivered_by_half { Safe
         (opened (limits 4 10) (image_of ((certified 1 1 ∷ []) ∷ (pending 1 1 ∷ []) ∷ [] ∷ [] ∷ [])))
         → ⊥ }
+    ensures delivered_by_three_of_six { Safe
+        (opened (limits 6 10) (image_of ((certified 1 1 ∷ []) ∷ (pending 1 1 ∷ [])
+        ∷ (pending 1 1 ∷ []) ∷ [] ∷ [] ∷ [] ∷ []))) → ⊥ }
+    ensures delivered_by_three_of_seven { Safe
+        (opened (limits 7 10) (image_of ((certified 1 1 ∷ []) ∷ (pending 1 1 ∷ [])
+        ∷ (pending 1 1 ∷ []) ∷ [] ∷ [] ∷ [] ∷ [] ∷ []))) → ⊥ }
     ensures delivered_and_never_broadcast { Safe
         (opened (limits 3 10) (image_of ([] ∷ (certified 1 1 ∷ []) ∷ (certified 1 1 ∷ []) ∷ [])))
         → ⊥ }

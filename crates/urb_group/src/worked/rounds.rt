@@ -2,27 +2,35 @@
 //!
 //! For each thing that a round asks for, the examples also have lists of events that lack only
 //! this, and don't deliver.
-ghost use Rattle.std.specs.Prelude.{[], ◌∷◌, ◌++◌, ◌≡◌, List, Ok, map};
+ghost use Rattle.std.specs.Prelude.{[], ◌∷◌, ◌++◌, ◌≡◌, List, Ok, false, map, true};
 ghost use Rattle.urb_names.specs.Names.{name, names};
 ghost use Rattle.urb_names.specs.Nodes.{numbers_from};
 ghost use Rattle.urb_group.specs.internal.Examples.{flagged, limits, pending};
 ghost use Rattle.urb_group.specs.internal.Recoveries.{opened_group, scene_after};
 ghost use Rattle.urb_group.specs.Recovering.{both, rounds, stores};
-ghost use Rattle.urb_group.specs.internal.RoundExamples.{RoundsCome, TicksSend, a_round, as_sent};
-ghost use Rattle.urb_group.specs.internal.RoundExamples.{broadcast_of_two, busy_at_first};
-ghost use Rattle.urb_group.specs.internal.RoundExamples.{disturbed, in_order, judged};
+ghost use Rattle.urb_group.specs.internal.RoundExamples.{BusyRoundsCome, RoundsCome, TicksEndBy};
+ghost use Rattle.urb_group.specs.internal.RoundExamples.{a_busy_round, a_round, answers_arrive};
+ghost use Rattle.urb_group.specs.internal.RoundExamples.{as_sent, broadcast_of_two, broken};
+ghost use Rattle.urb_group.specs.internal.RoundExamples.{busy_at_first, busy_loses_a_packet};
+ghost use Rattle.urb_group.specs.internal.RoundExamples.{busy_ticks_too_seldom, disturbed, in_order};
+ghost use Rattle.urb_group.specs.internal.RoundExamples.{in_use, judged, judged_busy};
 ghost use Rattle.urb_group.specs.internal.RoundExamples.{leaves_a_draft, loses_a_packet, none_of};
-ghost use Rattle.urb_group.specs.internal.RoundExamples.{old_packets, one_by_one, ticks_too_seldom};
+ghost use Rattle.urb_group.specs.internal.RoundExamples.{old_packets, one_by_one};
+ghost use Rattle.urb_group.specs.internal.RoundExamples.{ticks_too_seldom};
 ghost use Rattle.urb_group.specs.internal.RoundExamples.{two_of_three_nodes_broadcast};
 ghost use Rattle.urb_group.specs.internal.RoundExamples.{with_answers, without_receipts};
-ghost use Rattle.urb_group.specs.Rounds.{IsRound};
+ghost use Rattle.urb_group.specs.Rounds.{Act, AnswersArrive, IsBusyRound, IsRound};
 ghost use Rattle.urb_group.specs.internal.Scripts.{message, submit};
-ghost use Rattle.urb_group.specs.Step.{Arrive, Crash, Event, Restart, Tick};
+ghost use Rattle.urb_group.specs.Step.{Arrive, Crash, Event, Fail, Restart, Submit, Tick};
 ghost use Rattle.urb_group.specs.World.{stored, World};
 
-/// What the examples judge to be a round is one.
+/// What the examples judge to be a round is one, and a busy round is one. If they find that answers
+/// arrive, they do.
 pub fn what_is_judged_a_round_is_one()
-    ensures { (w : World) (events : List Event) → judged w events ≡ a_round → IsRound w events }
+    ensures round { (w : World) (events : List Event) → judged w events ≡ a_round → IsRound w events }
+    ensures busy { (w : World) (events : List Event) →
+        judged_busy w events ≡ a_busy_round → IsBusyRound w events }
+    ensures answers { (acts : List Act) → answers_arrive acts ≡ true → AnswersArrive acts }
 {}
 
 /// Nodes 1 and 3 of three have stored a message each, and what they sent is lost or late. Two
@@ -85,6 +93,43 @@ pub fn what_is_no_round()
         ([] ∷ (name 1 1 ∷ []) ∷ []) }
 {}
 
+/// Each of these lists lacks one thing that the law of busy rounds asks for. In the end some node
+/// that is ready hasn't delivered what was stored at first. In the last one the node isn't ready.
+pub fn what_is_no_busy_round()
+    ensures a_node_ticks_once_too_seldom { BusyRoundsCome
+        (opened_group (limits 2 20) (map (pending 1) (numbers_from 1 17) ∷ [] ∷ []))
+        (in_order (1 ∷ 2 ∷ []) as_sent) busy_ticks_too_seldom
+        (in_order (1 ∷ 1 ∷ 2 ∷ 2 ∷ []) as_sent) a_busy_round
+        (names 1 16 ∷ names 1 17 ∷ [])
+        (true ∷ true ∷ []) }
+    ensures a_packet_does_not_arrive { BusyRoundsCome (broadcast_of_two 1)
+        (in_order (1 ∷ 2 ∷ []) none_of) busy_loses_a_packet
+        (in_order (1 ∷ 2 ∷ []) as_sent) a_busy_round
+        ([] ∷ (name 1 1 ∷ []) ∷ [])
+        (true ∷ true ∷ []) }
+    ensures a_node_crashes { BusyRoundsCome (broadcast_of_two 1)
+        (in_order (1 ∷ 2 ∷ []) as_sent) a_busy_round
+        (both (without_receipts (1 ∷ 2 ∷ [])) (λ w. Crash 1 ∷ Restart 1 (stored w 1) ∷ [])) broken
+        ([] ∷ (name 1 1 ∷ []) ∷ [])
+        (true ∷ true ∷ []) }
+    ensures a_store_fails { BusyRoundsCome (broadcast_of_two 1)
+        (in_order (1 ∷ 2 ∷ []) as_sent) a_busy_round
+        (both (without_receipts (1 ∷ 2 ∷ [])) (λ w. Fail 1 ∷ Restart 1 (stored w 1) ∷ [])) broken
+        ([] ∷ (name 1 1 ∷ []) ∷ [])
+        (true ∷ true ∷ []) }
+    ensures a_node_is_not_ready { BusyRoundsCome (broadcast_of_two 1)
+        (in_order (1 ∷ 2 ∷ []) as_sent) a_busy_round
+        (without_receipts (1 ∷ 2 ∷ [])) a_busy_round
+        ([] ∷ (name 1 1 ∷ []) ∷ [])
+        (false ∷ true ∷ []) }
+    ensures the_group_is_stranded { BusyRoundsCome
+        (opened_group (limits 1 10) ((pending 1 1 ∷ []) ∷ []))
+        (λ w. Tick 1 ∷ []) a_busy_round
+        (λ w. Tick 1 ∷ []) a_busy_round
+        ([] ∷ [])
+        (true ∷ []) }
+{}
+
 /// What a round asks for is enough, but not always needed: here node 1 ticks too seldom, and all is
 /// delivered.
 pub fn what_is_not_needed()
@@ -94,13 +139,29 @@ pub fn what_is_not_needed()
         ((name 2 1 ∷ []) ∷ (name 2 1 ∷ []) ∷ []) }
 {}
 
+/// Two busy rounds deliver in a group of two that is in use. In both rounds, each node takes a
+/// message before the other one ticks. What node 1 had stored before is delivered at both nodes. Of
+/// what came later some is, and some isn't yet. At the end node 1 may hold one more message.
+pub fn rounds_in_use()
+    ensures both_are_ready { BusyRoundsCome (broadcast_of_two 1)
+        (in_use 1) a_busy_round
+        (in_use 2) a_busy_round
+        ((name 1 1 ∷ name 2 1 ∷ name 2 2 ∷ name 1 2 ∷ []) ∷ (name 1 1 ∷ name 1 2 ∷ name 2 1 ∷ []) ∷ [])
+        (true ∷ true ∷ []) }
+    ensures one_is_storing { BusyRoundsCome (broadcast_of_two 1)
+        (in_use 1) a_busy_round
+        (both (in_use 2) (λ w. Submit 1 (message 7 4 "") ∷ [])) a_busy_round
+        ((name 1 1 ∷ name 2 1 ∷ name 2 2 ∷ name 1 2 ∷ []) ∷ (name 1 1 ∷ name 1 2 ∷ name 2 1 ∷ []) ∷ [])
+        (false ∷ true ∷ []) }
+{}
+
 /// Ticks end: after a third round whose answers arrive, no node sends anything at a tick. If
 /// answers are lost, ticks go on.
 pub fn when_ticks_end()
-    ensures answers_arrive { TicksSend (broadcast_of_two 1)
-        (both (in_order (1 ∷ 2 ∷ []) as_sent) (both (in_order (1 ∷ 2 ∷ []) as_sent) (with_answers (1 ∷ 2 ∷ []))))
-        [] }
-    ensures answers_are_lost { TicksSend (broadcast_of_two 1)
-        (both (in_order (1 ∷ 2 ∷ []) as_sent) (both (in_order (1 ∷ 2 ∷ []) as_sent) (in_order (1 ∷ 2 ∷ []) as_sent)))
-        ((1, name 1 1) ∷ []) }
+    ensures answers_arrive { TicksEndBy (broadcast_of_two 1)
+        (in_order (1 ∷ 2 ∷ []) as_sent) (in_order (1 ∷ 2 ∷ []) as_sent)
+        (with_answers (1 ∷ 2 ∷ [])) true [] }
+    ensures answers_are_lost { TicksEndBy (broadcast_of_two 1)
+        (in_order (1 ∷ 2 ∷ []) as_sent) (in_order (1 ∷ 2 ∷ []) as_sent)
+        (in_order (1 ∷ 2 ∷ []) as_sent) false ((1, name 1 1) ∷ []) }
 {}

@@ -59,11 +59,16 @@ fn images(alloc: Global, forms: &[&[Form]]) -> Option<Vec<Vec<Record>>> {
     Some(images)
 }
 
-// Opens a group from these images, one for each node.
-fn open_images(alloc: Global, forms: &[&[Form]]) -> Option<Result<Group, Refusal>> {
+// Opens a group with this cap from these images, one for each node.
+fn open_under(alloc: Global, cap: u32, forms: &[&[Form]]) -> Option<Result<Group, Refusal>> {
     let images = images(alloc, forms)?;
-    let config = Config::new(u8::try_from(images.len()).ok()?, 10)?;
+    let config = Config::new(u8::try_from(images.len()).ok()?, cap)?;
     Some(Group::open(alloc, config, images))
+}
+
+// Does the same with a cap of 10.
+fn open_images(alloc: Global, forms: &[&[Form]]) -> Option<Result<Group, Refusal>> {
+    open_under(alloc, 10, forms)
 }
 
 // Returns the result in short.
@@ -124,6 +129,58 @@ const ROWS: [(&[&[Form]], Outcome); 8] = [
 fn images_open_where_they_fit_together(rt: HostRuntime) -> Result<(), Fail> {
     for (forms, wanted) in ROWS {
         assert_eq!(rt; open_and_judge(rt.alloc(), forms), Some(wanted));
+    }
+    Ok(())
+}
+
+/// What three nodes hold that have all certified a message, and what new nodes hold.
+const ALL: &[Form] = &[Form::PendCert(1)];
+
+const HELD: &[Form] = &[Form::Pend(1)];
+
+const NEW: &[Form] = &[];
+
+/// Caps and images of a group that starts with other limits, and the results of opening them.
+const OTHER_LIMITS: [(u32, &[&[Form]], Outcome); 10] = [
+    // Two messages fit under a cap of two or more.
+    (
+        1,
+        &[&[Form::PendCert(1), Form::PendCert(2)]],
+        Outcome::Misfit(Rule::A, 1, 2),
+    ),
+    (
+        2,
+        &[&[Form::PendCert(1), Form::PendCert(2)]],
+        Outcome::Open(2, None),
+    ),
+    (
+        1_000_000,
+        &[&[Form::PendCert(1), Form::PendCert(2)]],
+        Outcome::Open(2, None),
+    ),
+    // A smaller cap counts the messages of each sender alone.
+    (1, &[ALL, ALL, ALL], Outcome::Open(1, Some(1))),
+    // Three nodes are a majority of four and five, and not of six.
+    (10, &[ALL, ALL, ALL, NEW], Outcome::Open(1, Some(1))),
+    (10, &[ALL, ALL, ALL, NEW, NEW], Outcome::Open(1, Some(1))),
+    (
+        10,
+        &[ALL, ALL, ALL, NEW, NEW, NEW],
+        Outcome::Misfit(Rule::D, 1, 1),
+    ),
+    // Two nodes are no majority of four.
+    (10, &[ALL, HELD, NEW, NEW], Outcome::Misfit(Rule::D, 1, 1)),
+    // What isn't certified yet needs no majority.
+    (10, &[HELD, NEW, NEW, NEW], Outcome::Open(0, Some(0))),
+    // A lone node that grows.
+    (10, &[ALL, NEW], Outcome::Misfit(Rule::D, 1, 1)),
+];
+
+#[test]
+fn images_open_under_other_limits_with_room_and_majorities(rt: HostRuntime) -> Result<(), Fail> {
+    for (cap, forms, wanted) in OTHER_LIMITS {
+        let opened = open_under(rt.alloc(), cap, forms).ok_or("memory")?;
+        assert_eq!(rt; outcome_of(&opened), Some(wanted));
     }
     Ok(())
 }

@@ -8,7 +8,7 @@ use super::writer::{arrive, draft_in, keep, node, submit, three_stores};
 use std::alloc::Global;
 use std::sync::Wait;
 use urb_group::{ClientId, Failure, MemStable, Name, NodeId, Outbox, Refusal, Stable, State};
-use urb_show::{House, HouseName, LogReader, Opened, Status};
+use urb_show::{House, HouseName, LogReader, Opened, ReadPosition, Status};
 
 // Whether a submit is refused if its number isn't the next. The refusal is no event.
 fn is_refused<K: HouseName>(alloc: Global, house: &mut House<K>, node: NodeId) -> Option<bool> {
@@ -182,6 +182,26 @@ fn tells_another<K: HouseName>(
     Some(counts == (1, 1))
 }
 
+// Whether a session that borrows one reader and then another one reads the same, and one that only
+// learnt of it reads that too.
+fn reads_by_both<K: HouseName>(
+    alloc: Global,
+    reader: &mut LogReader<K>,
+    other: &mut LogReader<K>,
+) -> Option<bool>
+    requires { 3 ≤ length K.base }
+{
+    let mut session = ReadPosition::at(reader);
+    let mut second = session.copy();
+    let here = session.read(reader, alloc, node(2), 1, 8).ok()?;
+    let there = session.read(other, alloc, node(2), 1, 8).ok()?;
+    second.learn(reader.seen_token());
+    let learnt = second.read(other, alloc, node(2), 2, 8).ok()?;
+    session.agrees_with(&second);
+    let counts = (here.entries.len(), there.entries.len(), learnt.total);
+    Some(counts == (1, 1, 1) && learnt.entries.is_empty())
+}
+
 // What is delivered can be read once it is settled, and not before.
 fn settles<K: HouseName, R: Wait>(
     rt: &R,
@@ -215,12 +235,14 @@ fn calls<K: HouseName, R: Wait>(
     let settled = settles(rt, alloc, house, reader) == Some(true);
     let nothing = settles_nothing(rt, alloc, house, reader) == Some(true);
     let told = tells_another(alloc, reader, other) == Some(true);
+    let borrowed = reads_by_both(alloc, reader, other) == Some(true);
     first_false(&[
         (happened, "events"),
         (failed, "failures"),
         (settled, "settling"),
         (nothing, "settling where nothing is new"),
         (told, "what a reader saw is told"),
+        (borrowed, "a session borrows readers"),
     ])
 }
 

@@ -158,7 +158,7 @@ fn take_datagrams<K: HouseName, R: Wait + Clock>(
     line: &Sender<Ticket<K>>,
 ) {
     if let Some(node) = NodeId::new(number) {
-        receive(rt, alloc, stop, node, station, line);
+        let _ = receive(rt, alloc, stop, node, station, line);
     }
 }
 

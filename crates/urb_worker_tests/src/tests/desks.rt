@@ -3,7 +3,7 @@
 ghost use Rattle.std.specs.Prelude.{◌≡◌, ◌≤◌, length};
 ghost use Rattle.urb_show.specs.Lists.{lists_in};
 
-use super::{open_group, open_hub};
+use super::{open_group, open_hall, open_hub, service_of};
 use crossbeam_channel::Sender;
 use std::alloc::Global;
 use std::marker::Brand;
@@ -12,6 +12,7 @@ use std::sync::ledger::Blank;
 use std::test::Fail;
 use std::thread;
 use std::thread::Threads;
+use std::time::Clock;
 use urb_client::{Ended, session};
 use urb_group::MemStable;
 use urb_names::NodeId;
@@ -55,7 +56,7 @@ const ANSWERED: &[u8] = b"\x00\x05\x81\x00\x00\x00\x01\
 
 // A session of a client that sends this, at the desk of node 1. Returns whether it ended at a bad
 // length, and the desk's answers were exactly `answered`.
-fn is_answered<K: HouseName, R: Wait>(
+fn is_answered<K: HouseName, R: Wait + Clock>(
     rt: &R,
     alloc: Global,
     line: &Sender<Ticket<K>>,
@@ -66,7 +67,11 @@ fn is_answered<K: HouseName, R: Wait>(
     requires { 1 ≤ length K.base }
 {
     let node = NodeId::new(1).unwrap();
-    let mut desk = NodeDesk::new(rt, alloc, node, line, reader);
+    let Some((hall, position)) = open_hall(alloc, reader) else {
+        return false;
+    };
+    let service = service_of(line, &hall);
+    let mut desk = NodeDesk::new(rt, alloc, node, service, position);
     let mut input = sent;
     let mut output = Vec::new(alloc);
     let ended = session(alloc, &mut input, &mut output, &mut desk);
@@ -75,12 +80,11 @@ fn is_answered<K: HouseName, R: Wait>(
 
 // One worker, and a session at its node's desk. Then a session there after the worker has ended.
 // Returns whether both were answered as they should be, and the House's events.
-fn run_session<K: HouseName + Send + Sync, L: HubName + Send + Sync, R: Threads + Wait + Sync>(
-    rt: &R,
-    alloc: Global,
-    opened: Opened,
-    blank: Blank,
-) -> Option<(bool, bool, u64)>
+fn run_session<
+    K: HouseName + Send + Sync,
+    L: HubName + Send + Sync,
+    R: Threads + Wait + Clock + Sync,
+>(rt: &R, alloc: Global, opened: Opened, blank: Blank) -> Option<(bool, bool, u64)>
     requires names { (opened.book ≡ K.book) × (lists_in opened.group ≡ K.base) }
     requires name { blank.name ≡ L.name }
     requires parts { (blank.parts ≡ L.parts) × (L.parts ≡ 1) × (opened.group.size.n ≡ 1) }

@@ -16,7 +16,10 @@ use std::thread;
 use std::thread::Threads;
 use std::time::{Clock, Duration};
 use urb_stable::MemStable;
-use urb_worker::{GroupSetting, SESSIONS, Silent, Station, UdpLink, Watch, run_group};
+use urb_worker::{ClientLimits, GroupSetting, Silent, Station, UdpLink, Watch, run_group};
+
+// How many clients a node serves at a time.
+const CLIENTS: usize = 300;
 
 // A submit of client 7's first message, `x`, and then a bad length, which ends a session. Then the
 // answers: that the message was accepted, and the answer to the bad length.
@@ -36,6 +39,9 @@ const READ: &[u8] = b"\x00\x06\x02\x00\x00\x00\x01\x01\x00\x00";
 
 const SHOWN: &[u8] = b"\x00\x10\x82\x01\x01\x00\x00\x00\x01\x00\x07\x00\x00\x00\x01\x00\x01x\
 \x00\x06\xee\x13\x00\x00\x00\x01";
+
+// The refusal of a node that serves as many clients as it may.
+const BUSY: &[u8] = b"\x00\x06\xee\x04\x00\x00\x00\x00";
 
 // All that a node answers to these bytes, until it ends the session.
 pub(super) fn answers<R: Net<Listener = TcpListener, Stream = TcpStream>>(
@@ -97,7 +103,7 @@ fn break_off<R: Net<Listener = TcpListener, Stream = TcpStream>>(
 }
 
 // Breaks off five sessions in the middle of a request and five in the middle of an answer, one
-// after the other. Returns whether a node that takes four at a time still accepts a message.
+// after the other. Returns whether the node still accepts a message.
 fn outlives_who_breaks_off<R: Net<Listener = TcpListener, Stream = TcpStream>>(
     rt: &R,
     alloc: Global,
@@ -133,15 +139,30 @@ fn accepts_one<R: Net<Listener = TcpListener, Stream = TcpStream>>(
     Some(answers(rt, alloc, stations.first()?, SUBMIT)?.as_slice() == ACCEPTED)
 }
 
-// Whether a node serves as many clients at once as it has sessions, and reports its status to each
-// of them.
-fn serves_all_at_once<R: Net<Listener = TcpListener, Stream = TcpStream>>(
+// Whether a node accepts a message, after at most 10,000 tries, a millisecond apart.
+fn is_served_soon<R: Clock + Net<Listener = TcpListener, Stream = TcpStream>>(
     rt: &R,
     alloc: Global,
     station: &Station,
 ) -> Option<bool> {
-    let mut streams = Vec::with_capacity(alloc, SESSIONS).ok()?;
-    for _i in 0..SESSIONS {
+    for _ in 0..10_000u32 {
+        if answers(rt, alloc, station, SUBMIT)?.as_slice() == ACCEPTED {
+            return Some(true);
+        }
+        thread::sleep(rt, Duration::from_millis(1));
+    }
+    Some(false)
+}
+
+// Whether a node serves as many clients at once as it may, and reports its status to each of them.
+// One more client is told that the node is busy, and is served once another one has left.
+fn serves_all_at_once<R: Clock + Net<Listener = TcpListener, Stream = TcpStream>>(
+    rt: &R,
+    alloc: Global,
+    station: &Station,
+) -> Option<bool> {
+    let mut streams = Vec::with_capacity(alloc, CLIENTS).ok()?;
+    for _i in 0..CLIENTS {
         let mut stream = TcpStream::connect(rt, (Ipv4Addr::LOCALHOST, station.tcp_port)).ok()?;
         stream
             .set_read_timeout(Some(Duration::from_millis(10_000)))
@@ -150,7 +171,9 @@ fn serves_all_at_once<R: Net<Listener = TcpListener, Stream = TcpStream>>(
         stream.read_exact(&mut [0]).ok()?;
         streams.push(stream).ok()?;
     }
-    Some(streams.len() == SESSIONS)
+    let is_refused = answers(rt, alloc, station, b"")?.as_slice() == BUSY;
+    drop(streams.pop());
+    Some(is_refused && is_served_soon(rt, alloc, station)? && streams.len() + 1 == CLIENTS)
 }
 
 // Has a node's listener answer errors for a while, then wait again. Returns whether the node still
@@ -162,10 +185,8 @@ fn outlives_errors<R: Clock + Net<Listener = TcpListener, Stream = TcpStream>>(
 ) -> Option<bool> {
     let station = stations.first()?;
     station.tcp.set_nonblocking(true).ok()?;
-    // Each thread that waits takes one more connection, and has errors after it.
-    for _i in 0..SESSIONS {
-        break_off(rt, station, b"\x00\x01\x03", &mut [0])?;
-    }
+    // The listener takes one more connection, and has errors after it.
+    break_off(rt, station, b"\x00\x01\x03", &mut [0])?;
     thread::sleep(rt, Duration::from_millis(50));
     station.tcp.set_nonblocking(false).ok()?;
     serves_all_at_once(rt, alloc, station)
@@ -276,6 +297,7 @@ where
         stations,
         tick_millis: millis,
         reporter: &Silent,
+        limits: ClientLimits::standard(CLIENTS),
     };
     let (_, ended) = run_group::<Brand, Brand, MemStable, Silent, R, Client<'_, R>>(
         &setting,

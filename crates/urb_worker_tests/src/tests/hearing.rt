@@ -45,7 +45,8 @@ impl<'a, 'r, K: HouseName, L: HubName, R: Wait> Nodes<'a, 'r, K, L, R> {
         let setting = WorkerSetting::new(
             self.rt, self.alloc, self.hub, self.link, &gate, &reporter,
         );
-        serve_from(&setting, node, store, jobs, tally)
+        let (tally, _) = serve_from(&setting, node, store, &jobs, tally);
+        tally
     }
 
     // Brings each node what was sent to it, twenty times over, and counts the packets.

@@ -5,7 +5,7 @@
 ghost use Rattle.std.specs.Prelude.{◌≡◌, ◌≤◌, length};
 ghost use Rattle.urb_show.specs.Lists.{lists_in};
 
-use super::{open_group, open_hub};
+use super::{open_group, open_hall, open_hub, service_of};
 use crossbeam_channel::Sender;
 use std::alloc::Global;
 use std::marker::Brand;
@@ -14,6 +14,7 @@ use std::sync::ledger::Blank;
 use std::test::Fail;
 use std::thread;
 use std::thread::Threads;
+use std::time::Clock;
 use urb_client::{Desk, Request, Response};
 use urb_group::MemStable;
 use urb_names::{ClientId, Message, Name, NodeId, Payload};
@@ -109,7 +110,11 @@ fn is_entry_of(name: Name, message: &Message, seq: u32, row: Row) -> bool {
 }
 
 // Whether the desk shows a row's message at this place.
-fn is_shown<K: HouseName, R: Wait>(desk: &mut NodeDesk<'_, K, R>, seq: u32, row: Row) -> bool {
+fn is_shown<K: HouseName, R: Wait + Clock>(
+    desk: &mut NodeDesk<'_, K, R>,
+    seq: u32,
+    row: Row,
+) -> bool {
     if seq == 0 {
         return false;
     }
@@ -123,7 +128,7 @@ fn is_shown<K: HouseName, R: Wait>(desk: &mut NodeDesk<'_, K, R>, seq: u32, row:
 }
 
 // Whether a row's submit gets the row's response, and is shown if it is accepted.
-fn is_told<K: HouseName, R: Wait>(
+fn is_told<K: HouseName, R: Wait + Clock>(
     alloc: Global,
     desk: &mut NodeDesk<'_, K, R>,
     row: Row,
@@ -142,7 +147,7 @@ fn is_told<K: HouseName, R: Wait>(
 }
 
 // The first row that gets another response, counted from 1; 0 if there is no such row.
-fn first_wrong<K: HouseName, R: Wait>(
+fn first_wrong<K: HouseName, R: Wait + Clock>(
     rt: &R,
     alloc: Global,
     line: &Sender<Ticket<K>>,
@@ -151,7 +156,9 @@ fn first_wrong<K: HouseName, R: Wait>(
     requires { 1 ≤ length K.base }
 {
     let node = NodeId::new(1)?;
-    let mut desk = NodeDesk::new(rt, alloc, node, line, reader);
+    let (hall, position) = open_hall(alloc, reader)?;
+    let service = service_of(line, &hall);
+    let mut desk = NodeDesk::new(rt, alloc, node, service, position);
     let mut place: u8 = 0;
     for row in rows(alloc)? {
         place = place.saturating_add(1);
@@ -163,12 +170,11 @@ fn first_wrong<K: HouseName, R: Wait>(
 }
 
 // The same check with the worker of that node, and the House's events.
-fn run_limits<K: HouseName + Send + Sync, L: HubName + Send + Sync, R: Threads + Wait + Sync>(
-    rt: &R,
-    alloc: Global,
-    opened: Opened,
-    blank: Blank,
-) -> Option<(u8, u64)>
+fn run_limits<
+    K: HouseName + Send + Sync,
+    L: HubName + Send + Sync,
+    R: Threads + Wait + Clock + Sync,
+>(rt: &R, alloc: Global, opened: Opened, blank: Blank) -> Option<(u8, u64)>
     requires names { (opened.book ≡ K.book) × (lists_in opened.group ≡ K.base) }
     requires name { blank.name ≡ L.name }
     requires parts { (blank.parts ≡ L.parts) × (L.parts ≡ 1) × (opened.group.size.n ≡ 1) }

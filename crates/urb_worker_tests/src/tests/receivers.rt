@@ -153,7 +153,7 @@ fn run_receiver<R: Threads + Wait + Clock + Net<Listener = TcpListener, Stream =
     let (line, jobs) = crossbeam_channel::bounded(alloc, ROOM).ok()?;
     let stop = Stop::new();
     let (stop, stations, link, jobs) = (&stop, stations.as_slice(), &link, &jobs);
-    let ((), arrived) = thread::join(
+    let (_, arrived) = thread::join(
         rt,
         move || receive(rt, alloc, stop, node, station, &line),
         move || {

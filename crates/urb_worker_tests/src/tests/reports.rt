@@ -16,7 +16,9 @@ use std::thread::Threads;
 use std::time::{Clock, Duration};
 use urb_names::{NodeId, Refusal};
 use urb_stable::{Failure, MemStable};
-use urb_worker::{Change, GroupSetting, Reporter, Station, Watch, run_group};
+use urb_worker::{
+    Change, ClientLimits, GroupSetting, LEAST_CONNECTIONS, Reporter, Station, Watch, run_group,
+};
 
 // A submit, a status, a restart and a crash, each followed by a bad length, by which a session
 // ends.
@@ -192,6 +194,7 @@ where
         stations,
         tick_millis: 60_000,
         reporter: &heard,
+        limits: ClientLimits::standard(LEAST_CONNECTIONS),
     };
     let (_, ended) = run_group::<Brand, Brand, MemStable, Heard, R, Client<'_, R>>(
         &setting,

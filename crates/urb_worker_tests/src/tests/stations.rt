@@ -3,7 +3,7 @@
 use std::net::{Ipv4Addr, Net, TcpListener, TcpStream, UdpSocket};
 use std::test::Fail;
 use std::time::Duration;
-use urb_worker::{SESSIONS, Station};
+use urb_worker::Station;
 
 // Whether a station's ports are those of its sockets, and these listen only on 127.0.0.1. On
 // another address of this machine both ports are free.
@@ -22,16 +22,13 @@ fn is_at_loopback_alone<R: Net<Listener = TcpListener, Stream = TcpStream>>(
     )
 }
 
-// Whether a station has woken a receiver with an empty datagram, and each thread that takes
-// sessions with a connection.
+// Whether a station has woken a receiver with an empty datagram, and a listener with a connection.
 fn has_woken(station: &Station) -> Option<bool> {
     let patience = Some(Duration::from_millis(10_000));
     station.udp.set_read_timeout(patience).ok()?;
     let mut room = [0u8; 8];
     let (length, _from) = station.udp.recv_from(&mut room).ok()?;
-    for _i in 0..SESSIONS {
-        station.tcp.accept().ok()?;
-    }
+    station.tcp.accept().ok()?;
     Some(length == 0)
 }
 

@@ -4,7 +4,7 @@ ghost use Rattle.std.specs.Prelude.{◌≡◌, ◌≤◌, length};
 ghost use Rattle.urb_client.specs.Requests.{IsAsked, asked_by};
 ghost use Rattle.urb_show.specs.Lists.{lists_in};
 
-use super::open_group;
+use super::{open_group, open_hall, service_of};
 use crossbeam_channel::{Receiver, Sender};
 use std::alloc::Global;
 use std::marker::Brand;
@@ -12,6 +12,7 @@ use std::sync::Wait;
 use std::test::Fail;
 use std::thread;
 use std::thread::Threads;
+use std::time::Clock;
 use urb_client::{Desk, Request, Response};
 use urb_names::{ClientId, NodeId, Payload};
 use urb_show::{HouseName, LogReader, Opened};
@@ -77,7 +78,7 @@ fn serve_wrongly<K: HouseName, R: Wait>(
 }
 
 // Whether a request gets this refusal, without a detail.
-fn is_refused<K: HouseName, R: Wait>(
+fn is_refused<K: HouseName, R: Wait + Clock>(
     desk: &mut NodeDesk<'_, K, R>,
     request: &Request,
     refusal: u8,
@@ -91,7 +92,7 @@ fn is_refused<K: HouseName, R: Wait>(
 }
 
 // Whether a submit, a status, a crash and a restart each get this refusal.
-fn are_refused<K: HouseName, R: Wait>(
+fn are_refused<K: HouseName, R: Wait + Clock>(
     rt: &R,
     alloc: Global,
     line: &Sender<Ticket<K>>,
@@ -101,7 +102,9 @@ fn are_refused<K: HouseName, R: Wait>(
     requires { 1 ≤ length K.base }
 {
     let node = NodeId::new(1)?;
-    let mut desk = NodeDesk::new(rt, alloc, node, line, reader);
+    let (hall, position) = open_hall(alloc, reader)?;
+    let service = service_of(line, &hall);
+    let mut desk = NodeDesk::new(rt, alloc, node, service, position);
     let submit = Request::Submit {
         client: ClientId::new(7)?,
         number: 1,
@@ -116,7 +119,7 @@ fn are_refused<K: HouseName, R: Wait>(
 }
 
 // A desk whose worker has this fault. Returns whether it refuses all requests in this way.
-fn ask_desk<K: HouseName + Send + Sync, R: Threads + Wait + Sync>(
+fn ask_desk<K: HouseName + Send + Sync, R: Threads + Wait + Clock + Sync>(
     rt: &R,
     alloc: Global,
     opened: Opened,

@@ -87,7 +87,7 @@ fn ticks<R: Threads + Wait + Clock + Sync>(
     let stop = Stop::new();
     let (stop, lines, ends) = (&stop, lines.as_slice(), ends.as_slice());
     let began = Instant::now(rt).ok()?;
-    let ((), have_come) = thread::join(
+    let (_, have_come) = thread::join(
         rt,
         move || timer(rt, stop, millis, lines),
         move || {
@@ -107,7 +107,7 @@ fn ticks<R: Threads + Wait + Clock + Sync>(
 fn is_stopped<R: Threads + Wait + Clock + Sync>(rt: &R) -> bool {
     let stop = Stop::new();
     let stop = &stop;
-    let ((), was_set) = thread::join(
+    let (_, was_set) = thread::join(
         rt,
         move || timer::<Brand, R>(rt, stop, 600_000, &[]),
         move || {

@@ -1,7 +1,8 @@
-use Rattle.std.proofs.Common.{inl, suc, ◌∙◌}
+use Rattle.std.proofs.Common.{ap, arith, inl, suc, sym, ◌∙◌}
 use Rattle.std.proofs.lemmas.List.Elements.{All-from_recursion}
 use Rattle.std.proofs.lemmas.Result.{IfOk-weaker}
 use Rattle.sqlite.specs.Files.{file_state}
+use Rattle.urb_names.specs.Naming.{Limits}
 use Rattle.urb_sqlite.proofs.JournalStops.{both_ok}
 use Rattle.urb_cluster_stop.proofs.JournalsReopened.{all_genuine, all_hold, same_count}
 use Rattle.urb_cluster_stop.proofs.cluster_stop.stop_and_open_all.Goals as goal
@@ -19,8 +20,8 @@ returns-in-Ok-clause-goes_on g c =
       c.in-Ok.again.items,
       it.0 old w (record {
         sound = sound;
-        counted = counted;
-        size = size;
+        counted = counted ∙ sym (ap (λ (limits : Limits). limits.n) size);
+        nodes = let most = ap (λ (limits : Limits). limits.n) size in omega (arith, most);
         shows = shows;
         holds =
             all_hold c.args.journals.items c.in-Ok.again.items (λ j. file_state j.conn)

@@ -1,9 +1,10 @@
-use Rattle.std.proofs.Common.{Err, Ok, ap, inl, rules, subst, ◌≡◌}
+use Rattle.std.proofs.Common.{Err, Ok, inl, refl, rules, subst, ◌≡◌}
 use Rattle.urb_worker.proofs.ServedStores.{unserved}
 use Rattle.urb_daemon.proofs.RunsAfterStop.{ends-by-events, ends-opened, ends-without-network}
 use Rattle.urb_daemon.proofs.RunsAfterStop.{refused-after-stop, served-after-stop}
 use Rattle.urb_daemon.proofs.StoresComeBack.{come_back, come_back_at_once}
 use Rattle.urb_daemon.specs.Runs.{limits_of}
+use Rattle.urb_daemon.specs.declared.serve_fault.ServeFault.TheVariants.{Network, Unopened}
 use Rattle.urb_daemon.specs.internal.Runs.{end_of}
 use Rattle.urb_folder.specs.StoresAsked.{OpensTogether}
 use Rattle.urb_daemon.proofs.run.run_stores.Goals as goal
@@ -53,8 +54,8 @@ returns-in-Err-open_network-clause-ends g c =
     let same : c.config.result ≡ limits_of c.args.serving = search rules in
     ends-opened g.S.Stable c.config.result (limits_of c.args.serving) c.args.stores.items
     call.result.1 c.in-Ok.group call.result.0.items call.result.0.items c.args.console.now.is_told
-    (Err fault) same c.in-Ok.is call.ensures.opens (unserved g.S.Stable call.result.0.items)
-    (ends-without-network fault c.args.console.now.is_told c.in-Err-open_network.ensures.fault)
+    (Err (Network fault)) same c.in-Ok.is call.ensures.opens (unserved g.S.Stable call.result.0.items)
+    (ends-without-network fault c.args.console.now.is_told)
 
 pub returns-in-Err-clause-ends : goal.returns-in-Err-clause-ends
 returns-in-Err-clause-ends g c =
@@ -68,7 +69,7 @@ returns-in-Err-clause-ends g c =
       opens =
           subst (λ size. OpensTogether g.S.Stable size c.args.stores.items
           (Err c.in-Err.refusal) asked) same opens;
-      ends = ap Err c.from.ensures;
+      ends = refl;
     })
 
 pub returns-in-Ok-open_network-clause-goes_on : goal.returns-in-Ok-open_network-clause-goes_on
@@ -89,9 +90,9 @@ returns-in-Err-open_network-clause-goes_on g c =
     let same : c.config.result ≡ limits_of c.args.serving = search rules in
     served-after-stop g.S.Stable c.config.result (limits_of c.args.serving) c.args.stores.items
     call.result.1 c.in-Ok.group call.result.0.items call.result.0.items c.args.console.now.is_told
-    (Err fault) same c.in-Ok.is call.ensures.opens call.ensures.goes_on
+    (Err (Network fault)) same c.in-Ok.is call.ensures.opens call.ensures.goes_on
     (unserved g.S.Stable call.result.0.items)
-    (ends-without-network fault c.args.console.now.is_told c.in-Err-open_network.ensures.fault)
+    (ends-without-network fault c.args.console.now.is_told)
 
 pub returns-in-Err-clause-goes_on : goal.returns-in-Err-clause-goes_on
 returns-in-Err-clause-goes_on g c =
@@ -99,4 +100,4 @@ returns-in-Err-clause-goes_on g c =
     let same : c.config.result ≡ limits_of c.args.serving = search rules in
     refused-after-stop g.S.Stable c.config.result (limits_of c.args.serving) c.args.stores.items
     call.result.1 c.in-Err.refusal call.result.0.items c.args.console.now.is_told
-    (Err c.from.result) same c.in-Err.is call.ensures.goes_on (ap Err c.from.ensures)
+    (Err (Unopened c.in-Err.refusal)) same c.in-Err.is call.ensures.goes_on refl

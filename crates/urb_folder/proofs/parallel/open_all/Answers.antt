@@ -1,7 +1,7 @@
-use Rattle.std.proofs.Common.{Some, ap, inl, length, slice_get, subst, ◌∙◌, ◌≡◌}
+use Rattle.std.proofs.Common.{Some, ap, inl, arith, length, slice_get, subst, ◌∙◌, ◌≡◌}
 use Rattle.urb_group.proofs.stops.AskedStores.{written-back}
 use Rattle.urb_folder.specs.internal.OpenedJournals.{OpensIn}
-use Rattle.urb_folder.specs.internal.OpenedPlaces.{FailsAtFirst}
+use Rattle.urb_folder.specs.internal.OpenedPlaces.{FailsAfter}
 use Rattle.urb_folder.proofs.parallel.open_all.Goals as goal
 
 pub open_in_order-requires-clause-found : goal.open_in_order-requires-clause-found
@@ -21,6 +21,10 @@ returns-in-Some-open_in_order-clause-fault g c =
     c.in-Some.found.len c.in-Some.found.ok.0 c.as_mut_slice.ensures.value c.find_each.auto.found in
     let all : length c.as_mut_slice-2.result.now ≡ c.args.count =
     ap length (c.as_mut_slice-2.ensures.value ∙ back)
-    ∙ (c.find_each.ensures.count ∙ (c.as_mut_slice.ensures.len ∙ c.in-Some.ensures)) in
-    inl (subst (λ n. FailsAtFirst (OpensIn g.D.Disk g.D.NodeDisk.held) n c.in-Some-open_in_order.fault) all
-    c.in-Some-open_in_order.ensures)
+    ∙ (c.find_each.ensures.count ∙ (c.as_mut_slice.ensures.len ∙ c.in-Some.ensures)) in (
+      c.open_in_order.new.all.items,
+      omega (arith, c.len-number.ensures, c.open_in_order.new.all.ok.0),
+      subst (λ n. FailsAfter (OpensIn g.D.Disk
+          g.D.NodeDisk.held) n c.open_in_order.new.all.items c.in-Some-open_in_order.fault) all
+          c.in-Some-open_in_order.ensures,
+    )

@@ -48,7 +48,6 @@ pub returns-in-Err : goal.returns-in-Err
 returns-in-Err g c =
     let held = g.D.NodeDisk.held in
     record {
-      earlier = c.loop-place.all.items;
       opened =
           subst (λ n. AreOpened (OpensIn _ held) n c.loop-place.all.items)
           (sym c.loop-place.invariant.0.whole) c.loop-place.invariant.0;

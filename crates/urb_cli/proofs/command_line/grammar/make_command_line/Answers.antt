@@ -1,4 +1,3 @@
-use Rattle.std.proofs.Common.{rules}
 use Rattle.std.proofs.lemmas.Result.{IfOk-weaker}
 use Rattle.urb_cli.specs.CommandLine.{bare_app, replay_app}
 use Rattle.urb_cli.proofs.BuiltCommands.{adds_below}
@@ -7,11 +6,12 @@ use Rattle.urb_cli.proofs.command_line.grammar.make_command_line.Goals as goal
 pub returns : goal.returns
 returns c =
     let one =
-    adds_below _ _ _ bare_app replay_app c.in_ok-subcommand.ensures (search rules)
-    (search rules) in
+    adds_below _ _ _ bare_app replay_app c.in_ok-subcommand.ensures c.bare_command.ensures
+    c.replay_command.ensures in
     let two = adds_below _ _ _ _ _ c.in_ok-subcommand-2.ensures one c.in_ok-serve_command.ensures in
     let three =
     adds_below _ _ _ _ _ c.in_ok-subcommand-3.ensures two c.in_ok-submit_command.ensures in
-    IfOk-weaker c.subcommand-4.result _ _
-    (λ made added. (adds_below _ _ _ _ _ added three c.in_ok-read_command.ensures).0)
-    c.subcommand-4.ensures
+    let four = adds_below _ _ _ _ _ c.in_ok-subcommand-4.ensures three c.in_ok-read_command.ensures in
+    IfOk-weaker c.subcommand-5.result _ _
+    (λ made added. (adds_below _ _ _ _ _ added four c.in_ok-status_command.ensures).0)
+    c.subcommand-5.ensures

@@ -1,5 +1,6 @@
-use Rattle.std.proofs.Common.{ap, length, rules, subst, sym, ◌∙◌, ◌≡◌}
+use Rattle.std.proofs.Common.{ap, arith, length, rules, subst, sym, ◌∙◌, ◌≡◌}
 use Rattle.std.specs.List.{All}
+use Rattle.urb_names.specs.Naming.{Limits}
 use Rattle.urb_group.proofs.stops.SecuredOpenings.{secured-known}
 use Rattle.urb_group.specs.Reopening.{Continues, OpensStores, stores_in}
 use Rattle.urb_group.specs.Shown.{GroupView, IsSound}
@@ -33,9 +34,9 @@ returns-clause-goes_on g c =
     (record {
       sound = subst (λ group. IsSound group) (sym group) c.recall.ensures.sound;
       counted =
-          ap (λ (group : GroupView). length group.nodes) group
-          ∙ (c.recall.ensures.counted ∙ ap (λ limits. limits.n) same);
-      size = size;
+          subst (λ (group : GroupView). length group.nodes ≡ group.size.n) (sym group)
+          c.recall.ensures.counted;
+      nodes = let most = ap (λ (limits : Limits). limits.n) size in omega (arith, most);
       shows = stocked.shows;
       holds =
           subst (λ passed. AllHold g.S.Stable stocked.world passed) stores

@@ -1,12 +1,13 @@
 use Rattle.std.proofs.Common.{inl, refl}
-use Rattle.urb_script.proofs.Reopening.{opens_again, refused_for_memory}
+use Rattle.urb_script.proofs.Reopening.{may-start-again, opens_again, refused_for_memory}
 use Rattle.urb_script.proofs.stage.Stage.reopen.Goals as goal
 
 pub expect_no_memory-requires : goal.expect_no_memory-requires
 expect_no_memory-requires g c =
     refused_for_memory c.args.self.cluster.group.size c.args.self.cluster.stores _
     c.in-Err.refused.1 c.in-Err.ensures.opened
-    ((c.in-Err.ensures.goes_on c.requires.kept).1 (inl (λ i store within. tt)))
+    ((c.in-Err.ensures.goes_on c.requires.kept).1
+    (may-start-again _ _ c.requires.kept.shows.size) (inl (λ i store within. tt)))
 
 pub returns-clause-shown : goal.returns-clause-shown
 returns-clause-shown g c =

@@ -1,0 +1,3 @@
+module urbd.example/urbd
+
+go 1.19

@@ -1,0 +1,133 @@
+"""Folders with wrong files or files of nodes above N, and the answers that a start must give."""
+from __future__ import annotations
+
+import os
+
+from urbdctl.journals import CERT, PEND, PEND_CERT, path_of
+from urbdctl_tests.folder_makers import (
+    DELIVERED,
+    ONE,
+    THREE,
+    Case,
+    after,
+    images,
+    in_place_of,
+    kill_and_exchange,
+    spoil,
+    then,
+)
+
+FILE_CASES: list[Case] = [
+    Case(
+        "a file that is no database",
+        after(ONE, in_place_of(spoil)),
+        1,
+        10,
+        "refused 15 0",
+        "file is not a database",
+    ),
+    Case(
+        "a folder in the place of a journal",
+        after(ONE, in_place_of(lambda path, aside: os.mkdir(path))),
+        1,
+        10,
+        "refused 15 0",
+        "is no regular file",
+    ),
+    Case(
+        "a link to a journal",
+        after(ONE, in_place_of(lambda path, aside: os.symlink(aside, path))),
+        1,
+        10,
+        "open 1",
+        "a log of 1",
+    ),
+    Case(
+        "a link that leads nowhere",
+        after(ONE, in_place_of(lambda path, aside: os.symlink(path + "-no", path))),
+        1,
+        10,
+        "refused 15 0",
+        "leads nowhere",
+    ),
+    Case(
+        "a journal with a second name",
+        after(ONE, in_place_of(lambda path, aside: os.link(aside, path))),
+        1,
+        10,
+        "refused 15 0",
+        "has a second name",
+    ),
+    Case(
+        "fewer nodes than have records",
+        THREE,
+        2,
+        10,
+        "refused 14 0",
+        "node-3.db has records, of a group of more than 2 nodes",
+    ),
+    Case(
+        "one node of three",
+        images([(PEND_CERT, "1.1")], [(PEND_CERT, "1.1")], []),
+        1,
+        10,
+        "refused 14 0",
+        "node-2.db has records",
+    ),
+    Case(
+        "fewer nodes, where the others have no records",
+        images([(PEND, "1.1"), (CERT, "1.1")], [(PEND_CERT, "1.1")], []),
+        2,
+        10,
+        "open 2",
+        "a log of 1",
+    ),
+    Case(
+        "records above N in the log beside the file",
+        after(images([], *DELIVERED[1:]), kill_and_exchange),
+        2,
+        10,
+        "refused 14 0",
+        "node-3.db has records",
+    ),
+    Case(
+        "records above N go before a bad row",
+        then(THREE, "UPDATE journal2 SET kind = 9"),
+        2,
+        10,
+        "refused 14 0",
+        "node-3.db has records",
+    ),
+    Case(
+        "a bad row above N",
+        then(images([], [], [(PEND, "3.1")]), "UPDATE journal2 SET kind = 9", node=3),
+        2,
+        10,
+        "refused 14 0",
+        "node-3.db has records",
+    ),
+    Case(
+        "a file above N that is no database",
+        after(images([], []), lambda folder: spoil(path_of(folder, 3), "")),
+        2,
+        10,
+        "refused 15 0",
+        "file is not a database",
+    ),
+    Case(
+        "a folder in the place of a journal above N",
+        after(images([], []), lambda folder: os.mkdir(path_of(folder, 3))),
+        2,
+        10,
+        "refused 15 0",
+        "is no regular file",
+    ),
+    Case(
+        "a link above N that leads nowhere",
+        after(images([], []), lambda folder: os.symlink(path_of(folder, 4), path_of(folder, 3))),
+        2,
+        10,
+        "open 2",
+        "0 records",
+    ),
+]

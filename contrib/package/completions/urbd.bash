@@ -1,0 +1,22 @@
+# Completion of urbd for bash.
+_urbd() {
+    local word=${COMP_WORDS[COMP_CWORD]} last=${COMP_WORDS[COMP_CWORD - 1]} options
+    case $last in
+        --dir) mapfile -t COMPREPLY < <(compgen -d -- "$word"); return ;;
+        --nodes) mapfile -t COMPREPLY < <(compgen -W '1 2 3 4 5 6 7' -- "$word"); return ;;
+        --*) [[ $last == --version || $last == --help ]] || return ;;
+    esac
+    if ((COMP_CWORD == 1)); then
+        options='serve status submit read replay help --version --help'
+    else
+        case ${COMP_WORDS[1]} in
+            serve) options='--nodes --cap --dir --base-port --tick-ms --help' ;;
+            status) options='--port --base-port --nodes --help' ;;
+            submit) options='--port --client --number --help' ;;
+            read) options='--port --from --max --help' ;;
+            *) options='--help' ;;
+        esac
+    fi
+    mapfile -t COMPREPLY < <(compgen -W "$options" -- "$word")
+}
+complete -F _urbd urbd

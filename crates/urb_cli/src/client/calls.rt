@@ -1,0 +1,75 @@
+//! One call of a node on this machine: a connection, a request and its response.
+
+ghost use Rattle.std.specs.Prelude.{◌≡◌, Err, IfOk, IfErr, IfSome, OnOk};
+ghost use Rattle.std.specs.Io.KnownBytes.{Appends, Consumes};
+ghost use Rattle.urb_client.specs.Requests.{IsAsked, IsShort, asked_by, request_body};
+ghost use Rattle.urb_client.specs.Responses.{encoding, frame, said_by};
+ghost use Rattle.urb_client.specs.ReceivedResponses.{HasNoResponse};
+
+use crate::client::call_fault::CallFault;
+use crate::faults::Fault;
+use std::alloc::Global;
+use std::io::{ErrorKind, Read, Write};
+use std::net::{Ipv4Addr, Net, TcpListener, TcpStream};
+use std::time::Duration;
+use urb_client::{Request, Response, encode_request, read_response};
+
+// How long a patient connection waits for a node, in seconds.
+const PATIENCE: u64 = 10;
+
+/// Connects to a port of this machine.
+pub(crate) fn connect<R: Net<Listener = TcpListener, Stream = TcpStream>>(
+    rt: &R,
+    port: u16,
+) -> Result<TcpStream, CallFault> {
+    match TcpStream::connect(rt, (Ipv4Addr::LOCALHOST, port)) {
+        Ok(stream) => Ok(stream),
+        Err(error) => Err(match error.kind() {
+            ErrorKind::ConnectionRefused => CallFault::NobodyListens,
+            _ => CallFault::NotConnected,
+        }),
+    }
+}
+
+/// Connects to a port of this machine. A read or a write that waits longer than `PATIENCE` seconds
+/// fails.
+pub(crate) fn connect_patiently<R: Net<Listener = TcpListener, Stream = TcpStream>>(
+    rt: &R,
+    port: u16,
+) -> Result<TcpStream, CallFault> {
+    let stream = connect(rt, port)?;
+    let limit = Some(Duration::from_secs(PATIENCE));
+    if stream.set_read_timeout(limit).is_err() || stream.set_write_timeout(limit).is_err() {
+        return Err(CallFault::NotConnected);
+    }
+    Ok(stream)
+}
+
+// Sends the bytes of a request.
+fn send<W: Write>(writer: &mut W, frame: &[u8]) -> Result<(), Fault>
+    ensures ok { OnOk result (Appends (W.contents writer.old) (W.contents writer.new) frame.now) }
+    ensures err { IfErr result (λ fault. fault ≡ Fault.Write) }
+{
+    writer.write_all(frame).map_err(|_| Fault::Write)?;
+    writer.flush().map_err(|_| Fault::Write)
+}
+
+/// Sends a request over a connection, and reads its response.
+pub(crate) fn exchange<R: Read, W: Write>(
+    alloc: Global,
+    reader: &mut R,
+    writer: &mut W,
+    request: &Request,
+) -> Result<Response, Fault>
+    requires values { IsAsked (asked_by request.now) }
+    requires short { IsShort (asked_by request.now) }
+    ensures sent { IfOk result (λ response. Appends (W.contents writer.old) (W.contents writer.new)
+        (frame (request_body (asked_by request.now)))) }
+    ensures read { IfOk result (λ response.
+        Consumes (R.remaining reader.old) (R.remaining reader.new) (encoding (said_by response))) }
+    ensures bad { result ≡ Err Fault.BadReply → IfSome (R.remaining reader.old) HasNoResponse }
+{
+    let frame = encode_request(alloc, request)?;
+    send(writer, frame.as_slice())?;
+    Ok(read_response(alloc, reader)?)
+}

@@ -1,0 +1,12 @@
+use Rattle.std.proofs.Common.{length, ◌-◌, ◌≡◌}
+use Rattle.urb_feed.specs.Feeding.{greatest}
+use Rattle.urb_group.specs.Shown.{Shows}
+use Rattle.urb_group.specs.World.{World}
+use Rattle.urb_names.specs.Nodes.{numbers_from}
+use Rattle.urb_feed.proofs.feed.most_broadcast.Given as goal
+
+-- the greatest number of the nodes so far
+abbrev pub invariant-loop-number : goal.invariant-loop-number
+invariant-loop-number g l =
+    (w : World) → Shows l.group w
+    → l.most ≡ greatest (λ s. length (w.node s).broadcast) (numbers_from 1 (l.number - 1))

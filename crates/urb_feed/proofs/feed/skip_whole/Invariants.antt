@@ -1,0 +1,13 @@
+use Rattle.std.proofs.Common.{◌≤◌}
+use Rattle.urb_feed.specs.internal.Rows.{LacksNoneBelow}
+use Rattle.urb_group.specs.Shown.{Shows}
+use Rattle.urb_group.specs.World.{World}
+use Rattle.urb_feed.proofs.feed.skip_whole.Given as goal
+
+-- the node lacks no name of the senders so far
+abbrev pub invariant-loop-number : goal.invariant-loop-number
+invariant-loop-number g l = record {
+  low : l.after ≤ l.from;
+  high : l.from ≤ l.end;
+  none : (w : World) → Shows l.group w → LacksNoneBelow w l.target l.number l.after l.from;
+}

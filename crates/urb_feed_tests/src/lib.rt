@@ -1,0 +1,5 @@
+//! Tests of `urb_feed`.
+#![tactic(auto)]
+
+#[cfg(test)]
+mod tests;

@@ -1,9 +1,0 @@
-use Rattle.std.proofs.Common.{◌≤◌}
-use Rattle.urb_worker.proofs.worker_loop.next_ticket.Given as goal
-
--- the number of polls only falls
-abbrev pub invariant-loop-polls : goal.invariant-loop-polls
-invariant-loop-polls g l = l.polls ≤ l.fn.polls
-
-abbrev pub decreases-loop-polls : goal.decreases-loop-polls
-decreases-loop-polls g l = l.polls

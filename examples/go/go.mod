@@ -1,3 +1,0 @@
-module urbd.example/client
-
-go 1.19

@@ -1,0 +1,43 @@
+"""Runs one of the developers' tools at the top of the repository.
+
+    python3 -m tools check          compares the documents with the files
+    python3 -m tools definitions    copies the sentences of specs/ to docs/DEFINITIONS.md
+    python3 -m tools believed       says which definitions a reader has to believe
+    python3 -m tools wrong-bodies   tries the edits of crates/NAME/wrong-bodies
+    python3 -m tools weaken         makes wrong versions of definitions, and tries them
+    python3 -m tools lint           checks the Python code by mypy, black and flake8
+    python3 -m tools draw           draws a script's run, or compares the pictures of docs/pictures
+    python3 -m tools gate           the merge gate (.ci/run): all of this, the proofs and the trials
+
+Each says more by --help. ./prove is a tool of its own.
+"""
+from __future__ import annotations
+
+import sys
+from collections.abc import Callable, Sequence
+
+from tools import believed, check, definitions, draw, gate, lint, weaken, wrong_bodies
+
+TOOLS: dict[str, Callable[[Sequence[str]], int]] = {
+    "check": check.main,
+    "definitions": definitions.main,
+    "believed": believed.main,
+    "wrong-bodies": wrong_bodies.main,
+    "weaken": weaken.main,
+    "lint": lint.main,
+    "draw": draw.main,
+    "gate": gate.main,
+}
+
+
+def main(words: Sequence[str]) -> int:
+    """Runs the tool that the first word names, with the words after it. Gives its status."""
+    if not words or words[0] not in TOOLS:
+        is_asked = words[:1] in (["--help"], ["-h"])
+        print(__doc__, file=sys.stdout if is_asked else sys.stderr)
+        return 0 if is_asked else 2
+    return TOOLS[words[0]](words[1:])
+
+
+if __name__ == "__main__":
+    sys.exit(main(sys.argv[1:]))

@@ -1,0 +1,1 @@
+"""Unit tests of the tools: `python3 -m unittest discover -t . -s tools/tests`."""

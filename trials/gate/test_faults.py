@@ -1,0 +1,224 @@
+"""What the system refuses: room on the disk, standard streams, descriptors."""
+from __future__ import annotations
+
+import os
+import resource
+import signal
+import subprocess
+import unittest
+from collections.abc import Iterator
+from contextlib import contextmanager
+from dataclasses import replace
+from pathlib import Path
+
+from urbd.constants import Refusal
+from urbd.errors import RefusedError
+
+from trials.gate.cases import Case
+from trials.lib.messages import Sent, log_of, wait_for_logs
+from trials.lib.program import Daemon, NotOpen, Options, wait_until
+
+CLIENT = 7
+PAYLOAD = b"0123456789" * 100
+# The connections that a node serves at once, at least.
+SESSIONS = 4
+# What a node may answer while its disk is full.
+FULL_DISK = {Refusal.NO_MEMORY, Refusal.DOWN, Refusal.DEVICE}
+
+
+@contextmanager
+def small_disk(folder: Path, size: str) -> Iterator[bool]:
+    """Mounts a disk of this size at a folder. Gives whether it could."""
+    words = ["mount", "-t", "tmpfs", "-o", f"size={size}", "tmpfs", str(folder)]
+    try:
+        is_mounted = subprocess.run(words, capture_output=True).returncode == 0
+    except OSError:
+        is_mounted = False
+    try:
+        yield is_mounted
+    finally:
+        if is_mounted:
+            subprocess.run(["umount", str(folder)], check=True)
+
+
+class FullDisks(Case):
+    def fill(self, daemon: Daemon, sent: Sent) -> int:
+        """Submits until the node refuses. Gives the refusal."""
+        node = daemon.node(sent.node)
+        while True:
+            number = len(sent.seqs) + 1
+            try:
+                sent.seqs.append(node.submit(sent.client, number, PAYLOAD))
+                sent.payloads.append(PAYLOAD)
+            except RefusedError as refused:
+                return refused.number
+
+    def continues(self, daemon: Daemon, sent: Sent) -> None:
+        """The node is restarted, has what it accepted, and accepts what it refused."""
+        node = daemon.node(sent.node)
+        if node.status().is_down:
+            node.restart()
+        with daemon.connect(sent.node) as connection:
+            sent.repeat(connection, range(1, len(sent.seqs) + 1))
+            sent.submit_all(connection, [PAYLOAD])
+
+    def test_a_disk_that_is_full_and_has_room_again(self) -> None:
+        options = self.options(nodes=3)
+        with small_disk(options.folder, "1500k") as is_mounted:
+            if not is_mounted:
+                self.skipTest("no disk can be mounted here")
+            sent = [Sent(CLIENT, node) for node in (1, 2, 3)]
+            with self.program.serve(options) as daemon:
+                refusals = {self.fill(daemon, it) for it in sent}
+                self.assertLessEqual(refusals, FULL_DISK)
+                before = [log_of(daemon, node) for node in daemon.nodes]
+                remount = ["mount", "-o", "remount,size=64m", str(options.folder)]
+                subprocess.run(remount, check=True)
+                for it in sent:
+                    self.continues(daemon, it)
+                logs = wait_for_logs(daemon, sum(len(it.seqs) for it in sent))
+                for old, new in zip(before, logs):
+                    self.assertEqual(new[: len(old)], old)
+                daemon.kill()
+            with self.program.serve(options) as daemon:
+                for it in sent:
+                    self.continues(daemon, it)
+                daemon.stop()
+
+    def test_a_limit_on_the_size_of_files(self) -> None:
+        def limit_files() -> None:
+            signal.signal(signal.SIGXFSZ, signal.SIG_IGN)
+            resource.setrlimit(resource.RLIMIT_FSIZE, (300_000, 300_000))
+
+        options, sent = self.options(), Sent(CLIENT, 1)
+        with self.program.serve(options, before=limit_files) as daemon:
+            self.assertIn(self.fill(daemon, sent), FULL_DISK)
+            self.assertGreater(len(sent.seqs), 0, "something was accepted before")
+            entries = [sent.entry(number) for number in range(1, len(sent.seqs) + 1)]
+            self.assertEqual(log_of(daemon, 1), entries)
+            daemon.kill()
+        with self.program.serve(options) as daemon:
+            self.continues(daemon, sent)
+            daemon.stop()
+
+
+class Streams(Case):
+    def ends_without(self, *closed: int) -> subprocess.CompletedProcess[bytes]:
+        """Runs a group without these of its standard streams. Its input has ended otherwise."""
+
+        def close() -> None:
+            for descriptor in closed:
+                os.close(descriptor)
+
+        words = [str(self.program.path), *self.group.words()]
+        how = {"input": b"", "capture_output": True, "timeout": 60, "preexec_fn": close}
+        return subprocess.run(words, **how)  # type: ignore[call-overload, no-any-return]
+
+    def test_a_stream_that_is_closed_leaves_its_place_empty(self) -> None:
+        self.group = self.options()
+        told = b"open 1\nclosed "
+        cases: tuple[tuple[tuple[int, ...], int, bytes, bytes], ...] = (
+            ((), 0, told, b""),
+            ((0,), 0, told, b""),
+            ((2,), 0, told, b""),
+            ((0, 2), 0, told, b""),
+            ((1,), 1, b"", b"urbd: write failed"),
+            ((0, 1), 1, b"", b"urbd: write failed"),
+            ((0, 1, 2), 1, b"", b""),
+        )
+        for closed, status, output, error in cases:
+            with self.subTest(closed=closed):
+                run = self.ends_without(*closed)
+                self.ends(run, status, output, error)
+                # a journal in the place of a stream would have got what the program prints
+                for path in self.group.folder.iterdir():
+                    self.assertTrue(path.read_bytes().startswith((b"SQLite format 3\0", b"")), path)
+                    self.assertNotIn(b"open 1", path.read_bytes())
+
+    def test_an_output_that_nobody_reads(self) -> None:
+        options = self.options()
+        process = self.program.start(options)
+        assert process.stdin and process.stdout and process.stderr
+        process.stdout.close()
+        node = options.node(1, 1.0)
+        try:
+            process.wait(20)
+        except subprocess.TimeoutExpired:
+            # it is open all the same, as a shell's `urbd serve | true` would be
+            node.submit(CLIENT, 1, b"x")
+            process.stdin.close()
+            process.wait(20)
+        process.stderr.close()
+        self.assertIn(process.returncode, (0, 1))
+
+
+class Descriptors(Case):
+    def opens_with(self, options: Options, limit: int) -> bool:
+        """Whether a group opens under this limit. If so it serves and stops, else it says why."""
+
+        def set_limit() -> None:
+            resource.setrlimit(resource.RLIMIT_NOFILE, (limit, limit))
+
+        try:
+            daemon = self.program.serve(options, before=set_limit)
+        except NotOpen as fault:
+            self.assertEqual(fault.status, 1, fault)
+            self.assertTrue(fault.error.startswith(b"urbd: "), fault)
+            return False
+        with daemon:
+            for node in daemon.nodes:
+                held = [daemon.connect(node) for _ in range(SESSIONS)]
+                for connection in held:
+                    self.assertEqual(connection.status().state, "ready")
+                for connection in held:
+                    connection.close()
+            daemon.stop()
+        return True
+
+    def test_a_group_opens_and_serves_or_says_why_not(self) -> None:
+        for nodes, few, enough in ((1, 6, 64), (3, 16, 128), (7, 40, 256)):
+            with self.subTest(nodes=nodes):
+                options = self.options(f"group-{nodes}", nodes)
+                self.assertFalse(self.opens_with(options, few), f"{few} descriptors are too few")
+                self.assertTrue(self.opens_with(options, enough), f"{enough} are enough")
+                while enough - few > 1:
+                    middle = (few + enough) // 2
+                    if self.opens_with(options, middle):
+                        enough = middle
+                    else:
+                        few = middle
+                for more in (1, 2, 3):
+                    self.assertTrue(self.opens_with(options, enough + more))
+
+
+class Inputs(Case):
+    def test_a_group_stops_when_its_input_ends(self) -> None:
+        options = self.options(nodes=3)
+        with self.program.serve(options) as daemon:
+            held = daemon.connect(1)
+            assert daemon.process.stdin
+            daemon.process.stdin.close()
+            held.close()
+            wait_until(lambda: daemon.process.poll() is not None, "the program ends")
+            self.assertEqual(daemon.process.returncode, 0)
+
+    def test_signals_end_it_and_nothing_is_lost(self) -> None:
+        options, sent = self.options(), Sent(CLIENT, 1)
+        for number in (
+            signal.SIGTERM,
+            signal.SIGINT,
+            signal.SIGHUP,
+            signal.SIGQUIT,
+            signal.SIGKILL,
+        ):
+            with self.subTest(signal=number.name):
+                with self.program.serve(replace(options, tick_ms=5)) as daemon:
+                    with daemon.connect(1) as connection:
+                        sent.repeat(connection, range(1, len(sent.seqs) + 1))
+                        sent.submit_all(connection, [PAYLOAD] * 3)
+                    daemon.process.send_signal(number)
+                    self.assertEqual(daemon.process.wait(20), -number)
+
+
+if __name__ == "__main__":
+    unittest.main()

@@ -1,0 +1,1 @@
+"""Unit tests of what the trials share: they need no program."""
