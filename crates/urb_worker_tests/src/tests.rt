@@ -36,6 +36,7 @@ mod stations;
 mod strays;
 mod timers;
 mod turns;
+mod waits;
 
 // A new group with the given number of nodes, opened.
 fn open_group(alloc: Global, nodes: u8) -> Option<Opened>
