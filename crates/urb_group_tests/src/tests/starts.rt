@@ -62,13 +62,14 @@ type Told = (usize, Vec<u8>);
 fn fill_and_open(alloc: Global, cap: u32) -> Option<(Vec<u8>, Result<Told, Refusal>)> {
     let mut full = open_over(alloc, 1, 2, Vec::new(alloc))?.ok()?;
     let first = submit_all(&mut full, alloc, 3)?;
-    match open_over(alloc, 1, cap, full.into_stores())? {
-        Ok(mut cluster) => {
-            let log = cluster.group().log(one())?.len();
-            Some((first, Ok((log, submit_all(&mut cluster, alloc, 3)?))))
-        }
-        Err((_, refusal)) => Some((first, Err(refusal))),
+    let opened = open_over(alloc, 1, cap, full.into_stores())?;
+    if let Err((_, refusal)) = &opened {
+        return Some((first, Err(*refusal)));
     }
+    let mut cluster = opened.ok()?;
+    let log = cluster.group().log(one())?.len();
+    let answers = submit_all(&mut cluster, alloc, 3)?;
+    Some((first, Ok((log, answers))))
 }
 
 #[test]

@@ -80,7 +80,9 @@ fn count_entries<K: HouseName>(alloc: Global, reader: &mut LogReader<K>) -> Opti
 {
     let mut count = 0u32;
     for _ in 0..MANY {
-        let page = reader.read(alloc, node(1), count.checked_add(1)?, PAGE).ok()?;
+        let page = reader
+            .read(alloc, node(1), count.checked_add(1)?, PAGE)
+            .ok()?;
         if page.entries.is_empty() {
             return Some(count);
         }
@@ -104,8 +106,12 @@ pub fn publish_many<K: HouseName, R: Wait>(
     requires names { (opened.book ≡ K.book) × (lists_in opened.group ≡ K.base) }
     requires nodes { opened.group.size.n ≡ 1 }
 {
-    let Ok((mut house, mut readers)) = opened.parts::<K, R>(rt, alloc) else {
-        return Err("no memory");
+    let (mut house, mut readers) = match opened.parts::<K, R>(rt, alloc) {
+        Ok(parts) => parts,
+        Err((opened, _)) => {
+            drop(opened.close());
+            return Err("no memory");
+        }
     };
     house.recall();
     let mut reader = readers.pop().unwrap();
@@ -128,8 +134,12 @@ pub fn go_on<K: HouseName, R: Wait>(
     requires names { (opened.book ≡ K.book) × (lists_in opened.group ≡ K.base) }
     requires nodes { opened.group.size.n ≡ 1 }
 {
-    let Ok((mut house, mut readers)) = opened.parts::<K, R>(rt, alloc) else {
-        return Err("no memory");
+    let (mut house, mut readers) = match opened.parts::<K, R>(rt, alloc) {
+        Ok(parts) => parts,
+        Err((opened, _)) => {
+            drop(opened.close());
+            return Err("no memory");
+        }
     };
     house.recall();
     let mut reader = readers.pop().unwrap();
