@@ -25,13 +25,21 @@ from collections.abc import Iterator, Sequence
 from dataclasses import dataclass
 from pathlib import Path
 
-from tools.believed import Definition, Specs, exports_of, under_names
+from tools.believed import Definition, Specs, under_names
 from tools.functions import heads_of
 from tools.tree import Tree
 from tools.weakening import Rules, Version, changed_file
 
-# Where the prover reports what it didn't prove.
-FAULT = re.compile(r"^(?:\./)?((?:src|specs|proofs)/[\w/.-]+):(\d+):\d+: error", re.MULTILINE)
+# Where the prover reports what it didn't prove, and what it says of it. (Before its end it says the
+# same in lines that begin with `so far:`.)
+FAULT = re.compile(
+    r"^(?:\./)?((?:src|specs|proofs)/[\w/.-]+):(\d+):\d+: error(?:\[[\w-]+\])?:? ?(.*)$",
+    re.MULTILINE,
+)
+# The functions that it lists as not proved, but for those that only call such a function.
+UNPROVED = re.compile(r"^fn ([\w:]+): (?:not proved|no proof(?!: it calls))", re.MULTILINE)
+# What it says of a proof that names something that is no longer there.
+ABSENT = re.compile(r"is not in scope|that can be named from here|projects from a record")
 SECONDS = 1800  # that a check may take
 
 
@@ -72,20 +80,29 @@ def function_at(text: str, line: int) -> str:
 
 def refusers(tree: Tree, crate: str, said: str) -> Iterator[str]:
     """The examples, laws and public functions that the prover names as not proved."""
-    _, exported = exports_of(tree, crate)
-    for file, number in FAULT.findall(said):
+    public, broken = public_functions(tree, crate), set[str]()
+    for file, number, message in FAULT.findall(said):
         path = tree.crates / crate / file
         if file.startswith("src/") and path.exists():
             name = function_at(path.read_text(), int(number))
             heads = {head.name: head for head in heads_of(path.read_text())}
             if name in heads and heads[name].is_public:
-                kind = "example" if "worked" in file else "law" if "laws" in file else "clause"
-                yield f"{kind} `{name}` of {crate}"
+                yield f"{kind_of(file)} `{name}` of {crate}"
         elif file.startswith("proofs/"):
-            folders = file.split("/")[1:-1]
-            for name in folders:
-                if name in public_functions(tree, crate):
-                    yield f"clause `{name}` of {crate}"
+            names = public.intersection(file.split("/")[1:-1])
+            if ABSENT.search(message):
+                broken |= names
+            else:
+                yield from (f"{kind_of(file)} `{name}` of {crate}" for name in sorted(names))
+    for path_of_function in UNPROVED.findall(said):
+        owner, *_, name = path_of_function.split("::")
+        if owner == crate and name in public - broken:
+            yield f"{kind_of(path_of_function)} `{name}` of {crate}"
+
+
+def kind_of(place: str) -> str:
+    """What a function at this place is: a worked example, a law, or one with a public clause."""
+    return "example" if "worked" in place else "law" if "laws" in place else "clause"
 
 
 def public_functions(tree: Tree, crate: str) -> set[str]:
@@ -102,11 +119,14 @@ def verdict_of(tree: Tree, crate: str, said: str, status: int) -> Verdict | None
     found = list(dict.fromkeys(refusers(tree, crate, said)))
     if found:
         return Verdict("refused", "; ".join(found[:3]))
-    files = {file for file, _ in FAULT.findall(said)}
+    files = {file for file, _, _ in FAULT.findall(said)}
     if files and all(file.startswith("proofs/") for file in files):
         return Verdict("only by a private proof", ", ".join(sorted(files)[:3]))
     if files and all(file.startswith("specs/") for file in files):
         return Verdict("not tried", f"no definition: {', '.join(sorted(files)[:3])}")
+    unproved = [path.rpartition("::")[2] for path in UNPROVED.findall(said)]
+    if unproved:
+        return Verdict("only by a private function", ", ".join(sorted(set(unproved))[:3]))
     return Verdict("not tried", said.strip().splitlines()[-1][:80] if said.strip() else "no words")
 
 

@@ -65,11 +65,13 @@ def script(name: str, what: str, *words: str, needs: Sequence[str] = ()) -> Tria
 
 
 TRIALS = (
-    case("sizes", "many messages, long logs and long journals"),
-    case("groups", "every number of nodes; kills, crashes, ports"),
+    case("sizes", "many messages, long logs and long journals", is_of_gate=True),
+    case("groups", "every number of nodes; kills, crashes, ports", is_of_gate=True),
     case("commands", "each option at its ends, each status", is_of_gate=True),
     case("payloads", "payloads of every length", is_of_gate=True),
-    case("faults", "full disks, closed streams, few descriptors, signals"),
+    case("faults", "full disks, closed streams, few descriptors, signals", is_of_gate=True),
+    case("connections", "many connections, half frames, one client too many", is_of_gate=True),
+    case("waits", "what ends a WAIT, and what it answers", is_of_gate=True),
     long("kills", "kills under the load of twelve clients", "--kills", "3"),
     long("crashes", "nodes are crashed and restarted under load", "--seconds", "10"),
     long("failing_calls", "system calls that fail", needs=["strace"]),

@@ -169,6 +169,20 @@ class Judging(TreeTest):
             "src/lib.rt:9:1: error": ("not tried", "src/lib.rt:9:1: error"),
             "specs/World.antt:1:1: error": ("not tried", "no definition: specs/World.antt"),
             "killed": ("not tried", "killed"),
+            "fn urb_a::add: not proved": ("refused", "clause `add` of urb_a"),
+            "fn urb_a::worked::runs::add: no proof: expected answers": (
+                "refused",
+                "example `add` of urb_a",
+            ),
+            "fn urb_a::add: no proof: it calls `urb_a::private`": (
+                "not tried",
+                "fn urb_a::add: no proof: it calls `urb_a::private`",
+            ),
+            "fn urb_a::private: not proved": ("only by a private function", "private"),
+            "fn urb_b::add: not proved": ("only by a private function", "add"),
+            "./proofs/add/Answers.antt:2:3: error: `sent` is not in scope: add\n"
+            "fn urb_a::add: not proved": ("only by a private proof", "proofs/add/Answers.antt"),
+            "so far: src/lib.rt:4:5: error": ("not tried", "so far: src/lib.rt:4:5: error"),
         }
         for said, expected in cases.items():
             with self.subTest(said):

@@ -11,6 +11,7 @@ from trials.lib.program import Options, Program, free_base_port
 
 # The environment variable that names the program.
 PROGRAM = "URBD_PROGRAM"
+SHOWN = 300  # of a command line and of an output, in a message
 
 
 class Case(unittest.TestCase):
@@ -45,7 +46,7 @@ class Case(unittest.TestCase):
     ) -> None:
         """The command ended with this status. Each of its outputs begins with this text."""
         words = " ".join(map(str, run.args[1:]))
-        said = f"`{words}`: {run.stdout!r}, {run.stderr!r}"
+        said = f"`{words[:SHOWN]}`: {run.stdout[:SHOWN]!r}, {run.stderr[:SHOWN]!r}"
         self.assertEqual(run.returncode, status, said)
         self.assertTrue(run.stdout.startswith(output), f"expected {output!r} of {said}")
         self.assertTrue(run.stderr.startswith(error), f"expected {error!r} of {said}")

@@ -1,14 +1,17 @@
 """Each option at its ends, and each status."""
 from __future__ import annotations
 
+import socket
 import subprocess
 import unittest
+from concurrent.futures import ThreadPoolExecutor
 from dataclasses import replace
 
 from urbd.constants import MAX_CAP, MAX_NODES
 
 from trials.gate.cases import Case
 from trials.lib.program import (
+    LOCALHOST,
     PATIENCE,
     Options,
     all_ports,
@@ -158,8 +161,9 @@ class Asking(Case):
         run = self.program.run
         self.ends(run(*self.submit("one", client=1)), 0, b"accepted 1\n")
         self.ends(run(*self.submit("two", client=GREATEST_CLIENT)), 0, b"accepted 2\n")
-        self.ends(run(*self.submit("no", number=0)), REFUSED, b"refused 7 1\n")
-        self.ends(run(*self.submit("no", number=GREATEST_NUMBER)), REFUSED, b"refused 7 1\n")
+        for number in (0, GREATEST_NUMBER):
+            refused = run(*self.submit("no", number=number))
+            self.ends(refused, REFUSED, b"refused 7 1\n")
         self.ends(run(*self.read(**{"from": GREATEST_NUMBER})), 0)
         first, second = b"1.1 1 1 6f6e65\n", b"1.2 65535 1 74776f\n"
         self.assertEqual(run(*self.read(max=1)).stdout, first)
@@ -174,8 +178,12 @@ class Asking(Case):
             *(self.read(max=it) for it in (0, 9)),
             *(self.read(**{"from": it}) for it in (0, GREATEST_NUMBER + 1)),
             *(self.read(port=it) for it in (0, GREATEST_PORT + 1)),
+            *(["status", "--port", str(it)] for it in (0, GREATEST_PORT + 1)),
+            *(["status", "--nodes", "1", "--base-port", str(it)] for it in (1_023, 65_001)),
+            *(["status", "--base-port", "7400", "--nodes", str(it)] for it in (0, MAX_NODES + 1)),
             ["submit", "--port", str(self.port)],
             ["read"],
+            ["status"],
             ["no-such-command"],
             [],
         )
@@ -190,7 +198,44 @@ class Asking(Case):
         for port in (1, GREATEST_PORT):
             with self.subTest(port=port):
                 for words in (self.submit("x", port=port), self.read(port=port)):
-                    self.ends(self.program.run(*words), 1, b"", b"urbd: network failed")
+                    run = self.program.run(*words)
+                    self.ends(run, 1, b"", b"urbd: network failed: nobody listens at ")
+                run = self.program.run("status", "--port", port)
+                self.ends(run, 1, b"%d no answer\n" % port, b"urbd: network failed: ")
+
+    def test_a_server_of_another_kind(self) -> None:
+        cases = (
+            (b"HTTP/1.1 400 Bad Request\r\n\r\n", b"urbd: "),
+            (b"\0\1\x84", b"urbd: bad reply"),
+        )
+        for answer, error in cases:
+            with self.subTest(answer=answer), socket.create_server((LOCALHOST, 0)) as server:
+                port = server.getsockname()[1]
+                for words in (self.submit("x", port=port), self.read(port=port)):
+                    with ThreadPoolExecutor(1) as pool:
+                        run = pool.submit(self.program.run, *words)
+                        with server.accept()[0] as stream:
+                            stream.recv(1024)
+                            stream.sendall(answer)
+                            stream.shutdown(socket.SHUT_WR)
+                            self.ends(run.result(), 1, b"", error)
+
+    def test_the_status_of_a_node_and_of_a_group(self) -> None:
+        run = self.program.run
+        line = b"%d ready accepted %d shown %d\n"
+        self.ends(run("status", "--port", self.port), 0, line % (self.port, 0, 0))
+        run(*self.submit("hello"))
+        group = ("status", "--base-port", self.group.base_port, "--nodes", 1)
+        self.ends(run(*group), 0, line % (self.port, 1, 1))
+        self.group.node(1).crash()
+        down = run("status", "--port", self.port)
+        self.ends(down, 0, b"%d down accepted 1 shown 1\n" % self.port)
+        refused = run(*self.submit("hello", number=2))
+        self.ends(refused, REFUSED, b"refused 3 0\n")
+        # of nodes that the group doesn't have there is no answer
+        lacking = run("status", "--base-port", self.group.base_port, "--nodes", 2)
+        self.assertEqual(lacking.returncode, 1, lacking)
+        self.assertTrue(lacking.stdout.endswith(b"%d no answer\n" % (self.port + 1)), lacking)
 
     def test_a_text_that_begins_with_a_hyphen(self) -> None:
         submit = ["submit", "--port", self.port, "--client", 7, "--number"]
@@ -214,13 +259,21 @@ class Scripts(Case):
         for words in (
             ["--help"],
             ["help"],
-            *([it, "--help"] for it in ("serve", "submit", "read")),
+            *([it, "--help"] for it in ("serve", "submit", "read", "status", "replay")),
         ):
             with self.subTest(words=words):
                 run = self.program.run(*words)
                 self.ends(run, 0)
                 self.assertIn(b"Usage: ", run.stdout)
                 self.assertEqual(run.stderr, b"")
+
+    def test_the_version(self) -> None:
+        run = self.program.run("--version")
+        self.ends(run, 0, b"urbd ")
+        lines = run.stdout.decode().splitlines()
+        self.assertRegex(lines[0], r"^urbd \d+\.\d+\.\d+$")
+        self.assertEqual([it.split(":")[0] for it in lines[1:]], ["packets", "journals"])
+        self.assertEqual(run.stderr, b"")
 
 
 if __name__ == "__main__":

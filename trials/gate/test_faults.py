@@ -1,13 +1,14 @@
 """What the system refuses: room on the disk, standard streams, descriptors."""
 from __future__ import annotations
 
+import fcntl
 import os
 import resource
 import signal
 import subprocess
 import unittest
 from collections.abc import Iterator
-from contextlib import contextmanager
+from contextlib import contextmanager, suppress
 from dataclasses import replace
 from pathlib import Path
 
@@ -16,9 +17,12 @@ from urbd.errors import RefusedError
 
 from trials.gate.cases import Case
 from trials.lib.messages import Sent, log_of, wait_for_logs
-from trials.lib.program import Daemon, NotOpen, Options, wait_until
+from trials.lib.program import PATIENCE, Daemon, NotOpen, Options, wait_until
 
 CLIENT = 7
+PAGE = 4_096  # bytes, the least that a pipe has
+SET_PIPE_SIZE = 1031  # F_SETPIPE_SZ, which Python names from 3.10 on
+DOWNS = 300  # how often a node goes down and comes back: more lines than wait for a place
 PAYLOAD = b"0123456789" * 100
 # The connections that a node serves at once, at least.
 SESSIONS = 4
@@ -111,7 +115,7 @@ class Streams(Case):
                 os.close(descriptor)
 
         words = [str(self.program.path), *self.group.words()]
-        how = {"input": b"", "capture_output": True, "timeout": 60, "preexec_fn": close}
+        how = {"input": b"", "capture_output": True, "timeout": PATIENCE, "preexec_fn": close}
         return subprocess.run(words, **how)  # type: ignore[call-overload, no-any-return]
 
     def test_a_stream_that_is_closed_leaves_its_place_empty(self) -> None:
@@ -136,20 +140,52 @@ class Streams(Case):
                     self.assertNotIn(b"open 1", path.read_bytes())
 
     def test_an_output_that_nobody_reads(self) -> None:
-        options = self.options()
-        process = self.program.start(options)
-        assert process.stdin and process.stdout and process.stderr
-        process.stdout.close()
-        node = options.node(1, 1.0)
+        reads, writes = os.pipe()
+        os.close(reads)
+        words = [str(self.program.path), *self.options().words()]
+        process = subprocess.Popen(
+            words, stdin=subprocess.PIPE, stdout=writes, stderr=subprocess.PIPE
+        )
+        os.close(writes)
+        _, error = process.communicate(b"", PATIENCE)
+        self.assertEqual((process.returncode, error), (1, b"urbd: write failed\n"))
+
+
+class UnreadErrors(Case):
+    """A standard error that nobody reads, and that takes no more: a full pipe of one page."""
+
+    @contextmanager
+    def full_pipe(self) -> Iterator[int]:
+        """The end to write of a pipe that is full."""
+        reads, writes = os.pipe()
         try:
-            process.wait(20)
-        except subprocess.TimeoutExpired:
-            # it is open all the same, as a shell's `urbd serve | true` would be
-            node.submit(CLIENT, 1, b"x")
-            process.stdin.close()
-            process.wait(20)
-        process.stderr.close()
-        self.assertIn(process.returncode, (0, 1))
+            fcntl.fcntl(writes, SET_PIPE_SIZE, PAGE)
+            os.set_blocking(writes, False)
+            with suppress(BlockingIOError):
+                while True:
+                    os.write(writes, b"\n")
+            os.set_blocking(writes, True)
+            yield writes
+        finally:
+            os.close(reads)
+            os.close(writes)
+
+    def test_a_group_serves_and_stops(self) -> None:
+        with self.full_pipe() as writes:
+            with self.program.serve(self.options(), errors=writes) as daemon:
+                with daemon.connect(1) as connection:
+                    for _ in range(DOWNS):
+                        connection.crash()
+                        connection.restart()
+                    self.assertEqual(connection.submit(CLIENT, 1, b"served"), 1)
+                daemon.stop()
+
+    def test_a_start_that_is_refused_ends(self) -> None:
+        options = replace(self.options(), folder=self.room / "missing")
+        with self.full_pipe() as writes:
+            process = self.program.start(options, errors=writes)
+            said, _ = process.communicate(b"", PATIENCE)
+            self.assertEqual((process.returncode, said), (1, b""))
 
 
 class Descriptors(Case):
@@ -217,7 +253,7 @@ class Inputs(Case):
                         sent.repeat(connection, range(1, len(sent.seqs) + 1))
                         sent.submit_all(connection, [PAYLOAD] * 3)
                     daemon.process.send_signal(number)
-                    self.assertEqual(daemon.process.wait(20), -number)
+                    self.assertEqual(daemon.process.wait(PATIENCE), -number)
 
 
 if __name__ == "__main__":

@@ -1,0 +1,101 @@
+"""What the benchmarks of clients share: a running redis, processor time, and figures."""
+from __future__ import annotations
+
+import socket
+import statistics
+import subprocess
+import time
+from collections.abc import Iterator, Sequence
+from contextlib import contextmanager
+from pathlib import Path
+
+from trials.lib.program import LOCALHOST, PATIENCE, wait_until
+
+MOMENT = 0.2  # seconds
+
+
+def free_port() -> int:
+    """A TCP port that nobody has."""
+    with socket.create_server((LOCALHOST, 0)) as server:
+        return int(server.getsockname()[1])
+
+
+@contextmanager
+def running_redis(folder: Path) -> Iterator[tuple[int, int]]:
+    """A redis that syncs each message: the id of its process, and its port."""
+    port = free_port()
+    options = {
+        "port": port,
+        "bind": LOCALHOST,
+        "dir": folder,
+        "appendonly": "yes",
+        "appendfsync": "always",
+        "save": "",
+        "maxclients": 2_000,
+    }
+    words = [word for key, it in options.items() for word in (f"--{key}", str(it))]
+    process = subprocess.Popen(["redis-server", *words], stdout=subprocess.DEVNULL)
+
+    def is_open() -> bool:
+        try:
+            socket.create_connection((LOCALHOST, port), MOMENT).close()
+            return True
+        except OSError:
+            return False
+
+    try:
+        wait_until(is_open, "redis takes connections")
+        yield process.pid, port
+    finally:
+        process.kill()
+        process.wait(PATIENCE)
+
+
+def processor_seconds(process: int) -> float:
+    """The processor time that the threads of a process have had so far.
+
+    Threads that have ended don't count.
+    """
+    spent = 0
+    for path in Path(f"/proc/{process}/task").glob("*/schedstat"):
+        try:
+            spent += int(path.read_text().split()[0])
+        except OSError:
+            pass  # the thread has just ended
+    return spent / 1e9
+
+
+def share_of_processor(process: int, seconds: float) -> float:
+    """Which part of one processor a process uses in the next so many seconds."""
+    spent, begin = processor_seconds(process), time.monotonic()
+    time.sleep(seconds)
+    return (processor_seconds(process) - spent) / (time.monotonic() - begin)
+
+
+def resident(process: int) -> int:
+    """The resident memory of a process, in bytes."""
+    for line in Path(f"/proc/{process}/status").read_text().splitlines():
+        if line.startswith("VmRSS"):
+            return int(line.split()[1]) * 1024
+    raise AssertionError("the system gives no VmRSS")
+
+
+def percentile(figures: Sequence[float], part: int) -> float:
+    """The percentile of at least two figures."""
+    return statistics.quantiles(figures, n=100)[part - 1]
+
+
+def dropped_datagrams(ports: Sequence[int]) -> int:
+    """How many datagrams the system has dropped at these UDP ports."""
+    dropped = 0
+    for line in Path("/proc/net/udp").read_text().splitlines()[1:]:
+        words = line.split()
+        if int(words[1].split(":")[1], 16) in ports:
+            dropped += int(words[-1])
+    return dropped
+
+
+def load_of_machine() -> str:
+    """The system's average load over one and five minutes."""
+    one, five = Path("/proc/loadavg").read_text().split()[:2]
+    return f"{one} over one minute, {five} over five"
