@@ -17,11 +17,7 @@ from tools.tree import Tree
 # The folders of Python code that black and flake8 read; pyproject.toml names those of mypy.
 FOLDERS = (
     "tools",
-    "trials/__main__.py",
-    "trials/gate",
-    "trials/lib",
-    "trials/long",
-    "trials/unit",
+    "trials",
     "clients/python",
     "contrib/ctl",
 )

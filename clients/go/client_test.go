@@ -22,6 +22,8 @@ type madeUp struct {
 	entries  []Entry
 	troubles []any
 	down     bool
+	waits    bool // whether it knows WAIT
+	waited   int  // how many of them it was asked
 	cap      int
 	listener net.Listener
 	sessions chan struct{}
@@ -101,6 +103,18 @@ func (m *madeUp) one(body []byte) ([]byte, bool) {
 		}
 		count := uint32(len(m.entries))
 		answer = binary.BigEndian.AppendUint32(binary.BigEndian.AppendUint32([]byte{0x83, state}, count), count)
+	case 6:
+		m.waited++
+		if !m.waits {
+			return refused(RefusalFrame, unknownOpcode), true
+		}
+		place := int(binary.BigEndian.Uint32(body[1:]))
+		for end := time.Now().Add(time.Duration(binary.BigEndian.Uint16(body[6:])) * time.Millisecond); len(m.entries) < place && time.Now().Before(end); {
+			m.Unlock()
+			time.Sleep(time.Millisecond)
+			m.Lock()
+		}
+		answer = m.read(place, int(body[5]))
 	case 4, 5:
 		m.down = body[0] == 4
 		answer = []byte{0x84}

@@ -3,8 +3,14 @@ package urbd
 import (
 	"context"
 	"encoding/json"
+	"errors"
 	"fmt"
+	"time"
 )
+
+const longestWait = time.Second // of one WAIT
+
+var errNoWait = errors.New("the node doesn't know WAIT")
 
 // Place says how far one node's log was read: the next place, and a digest of the entry before it, "" at the beginning.
 type Place struct {
@@ -31,6 +37,7 @@ type Follower struct {
 	Position  Position
 	nodes     []*Node
 	at, pages int
+	noWait    map[*Node]bool // nodes that don't know WAIT
 }
 
 // NewFollower begins at a position, or at the beginning if it is empty.
@@ -38,7 +45,7 @@ func NewFollower(position Position, nodes ...*Node) *Follower {
 	if position.Seen == nil {
 		position = Position{map[string]uint32{}, map[string]Place{}}
 	}
-	return &Follower{position, nodes, 0, 1}
+	return &Follower{position, nodes, 0, 1, map[*Node]bool{}}
 }
 
 func (f *Follower) turn() { f.at, f.pages = (f.at+1)%len(f.nodes), 1 }
@@ -119,8 +126,27 @@ func (f *Follower) ask(ctx context.Context, node *Node, requests [][]byte) ([]En
 	return all, now.State == "down", nil
 }
 
-// Follow calls `take` with the entries of each poll that finds some, until it fails or the context ends. While there are none, the
-// pauses between polls grow. When `take` is called, the position is after these entries, so `take` may save both together.
+// await returns once the node that is read may have a new entry, or after a second. The next Poll
+// reads it. An error says that the node can't wait, or failed.
+func (f *Follower) await(ctx context.Context) error {
+	node := f.nodes[f.at]
+	if f.noWait[node] {
+		return errNoWait
+	}
+	place, ok := f.Position.Places[fmt.Sprint(node.Port)]
+	if !ok {
+		place.Next = 1
+	}
+	_, err := node.Wait(ctx, place.Next, 1, longestWait)
+	var refused Refused
+	if errors.As(err, &refused) && refused.UnknownRequest() {
+		f.noWait[node] = true
+	}
+	return err
+}
+
+// Follow calls `take` with the entries of each poll that finds some, until it fails or the context ends. While there are none, it
+// waits at the node; at a node that doesn't know WAIT, the pauses between polls grow. When `take` is called, the position is after these entries, so `take` may save both together.
 func (f *Follower) Follow(ctx context.Context, take func([]Entry, Position) error) error {
 	pause := leastPause
 	for {
@@ -133,6 +159,8 @@ func (f *Follower) Follow(ctx context.Context, take func([]Entry, Position) erro
 			if err := take(all, f.Position); err != nil {
 				return err
 			}
+		} else if f.await(ctx) == nil {
+			pause = leastPause
 		} else if err := sleep(ctx, &pause); err != nil {
 			return err
 		}

@@ -55,6 +55,11 @@ func (r Refused) Temporary() bool {
 	return bytes.IndexByte([]byte{RefusalNoMemory, RefusalDown, RefusalBusy, RefusalStale, RefusalDevice, RefusalPlace}, r.Number) >= 0
 }
 
+// UnknownRequest says whether the node doesn't know this kind of request: it is of an older version.
+func (r Refused) UnknownRequest() bool {
+	return r.Number == RefusalFrame && r.Detail == unknownOpcode
+}
+
 // Stopped says why a Publisher or a Follower doesn't continue: continuing could repeat, lose or mix messages.
 type Stopped struct{ Reason string }
 

@@ -13,6 +13,7 @@ import (
 const (
 	page       = MostEntries // entries of a READ
 	mostPages  = 16          // READs in one write
+	mostMillis = 65535       // of a WAIT
 	leastPause = time.Millisecond
 	mostPause  = 200 * time.Millisecond
 )
@@ -25,11 +26,16 @@ type Node struct {
 
 // Ask sends these requests in one write and returns their responses.
 func (n *Node) Ask(ctx context.Context, requests ...[]byte) ([][]byte, error) {
+	return n.askWithin(ctx, 0, requests...)
+}
+
+// askWithin does the same, with a limit that is longer by what the requests wait.
+func (n *Node) askWithin(ctx context.Context, wait time.Duration, requests ...[]byte) ([][]byte, error) {
 	limit := n.Timeout
 	if limit == 0 {
 		limit = 2 * time.Second
 	}
-	ctx, cancel := context.WithTimeout(ctx, limit)
+	ctx, cancel := context.WithTimeout(ctx, limit+wait)
 	defer cancel()
 	var dialer net.Dialer
 	connection, err := dialer.DialContext(ctx, "tcp", fmt.Sprintf("127.0.0.1:%d", n.Port))
@@ -111,6 +117,22 @@ func (n *Node) NextNumber(ctx context.Context, client uint16) (uint32, error) {
 // Read returns the entries from a place on, at most the given number (1 to 8), and fewer if a frame has no room for more.
 func (n *Node) Read(ctx context.Context, place uint32, most uint8) ([]Entry, error) {
 	responses, err := n.Ask(ctx, reading(place, most))
+	if err != nil {
+		return nil, err
+	}
+	return entries(responses[0])
+}
+
+// Wait returns the same as Read, and waits up to a time (65 seconds at most) until there is an
+// entry. A node of an older version refuses it: see Refused.UnknownRequest.
+func (n *Node) Wait(ctx context.Context, place uint32, most uint8, wait time.Duration) ([]Entry, error) {
+	millis := wait.Milliseconds()
+	if millis < 0 || millis > mostMillis {
+		return nil, fmt.Errorf("a wait of %v isn't 0 to %d ms", wait, mostMillis)
+	}
+	request := append(binary.BigEndian.AppendUint32([]byte{askWait}, place), most)
+	request = binary.BigEndian.AppendUint16(request, uint16(millis))
+	responses, err := n.askWithin(ctx, wait, request)
 	if err != nil {
 		return nil, err
 	}
