@@ -7,5 +7,5 @@ import sys
 from pathlib import Path
 
 TOP = Path(__file__).resolve().parent.parent
-# The client package is used as it stands in the tree, without an installation.
-sys.path.insert(0, str(TOP / "clients" / "python" / "src"))
+# The client package and the tool of operators are used as they stand in the tree.
+sys.path[:0] = [str(TOP / "clients" / "python" / "src"), str(TOP / "contrib" / "ctl")]

@@ -6,11 +6,10 @@
     python3 -m trials --list                  the names
 
 A trial of trials/gate is a file of test cases, and each case counts. One of trials/long puts load
-and faults on running groups; it counts as one, and can be run alone, for longer
-(`python3 -m trials.long.NAME --help`). So does a script of trials/ that tries a tool of contrib/ or
-a client (`trials/NAME.py --help`). If a trial needs something that isn't installed, it is left
-out, with a line. What fails says what was expected. Two trials run at a time, each at ports of its
-own. Python 3.9 or later, on Linux.
+and faults on running groups, or tries a tool of contrib/ or a client. It counts as one, and can be
+run alone, for longer (`python3 -m trials.long.NAME --help`). If a trial needs something that isn't
+installed, it is left out, with a line. What fails says what was expected. Two trials run at a time,
+each at ports of its own. Python 3.9 or later, on Linux.
 """
 from __future__ import annotations
 
@@ -59,11 +58,6 @@ def long(name: str, what: str, *words: str, needs: Sequence[str] = ()) -> Trial:
     return Trial(name, what, ["-m", f"trials.long.{name}", "PROGRAM", *words], needs)
 
 
-def script(name: str, what: str, *words: str, needs: Sequence[str] = ()) -> Trial:
-    """A script of trials/."""
-    return Trial(name, what, [f"trials/{name}.py", "PROGRAM", *words], needs)
-
-
 TRIALS = (
     case("sizes", "many messages, long logs and long journals"),
     case("groups", "every number of nodes; kills, crashes, ports"),
@@ -81,15 +75,15 @@ TRIALS = (
     ),
     long("hostile_clients", "ill-behaved clients and packets, refused starts"),
     long("moved_folders", "a folder that is moved away"),
-    script("old_files", "the journals of an older program", needs=["SQLite 3.37"]),
-    script("verdicts", "a check of journals and a start answer the same", needs=["SQLite 3.37"]),
-    script("service", "the service unit and urbd-run"),
-    script("full_pipe", "a standard error that nobody reads"),
-    script("looks", "what is told of a running group"),
-    script("backups", "copies of a running group under load", needs=["SQLite 3.37"]),
-    script("clients", "publishers and followers that are killed", "--seconds", "12"),
-    script("full_folders", "a full folder is taken to its end"),
-    script(
+    long("old_files", "the journals of an older program", needs=["SQLite 3.37"]),
+    long("verdicts", "a check of journals and a start answer the same", needs=["SQLite 3.37"]),
+    long("service", "the service unit and urbd-run"),
+    long("full_pipe", "a standard error that nobody reads"),
+    long("looks", "what is told of a running group"),
+    long("backups", "copies of a running group under load", needs=["SQLite 3.37"]),
+    long("clients", "publishers and followers that are killed", "--seconds", "12"),
+    long("full_folders", "a full folder is taken to its end"),
+    long(
         "bridging",
         "a log into redis and etcd, with kills",
         *("--seconds", "12"),

@@ -116,17 +116,18 @@ class Program:
         prefix: Sequence[str] = (),
         before: Optional[Callable[[], object]] = None,
         environment: Optional[Mapping[str, str]] = None,
+        errors: int = subprocess.PIPE,
     ) -> subprocess.Popen[bytes]:
         """Starts a group, and doesn't wait until it is open.
 
         The words of `prefix` come first (a tool that runs the program). `before` is called in the
-        new process, before the program.
+        new process, before the program. `errors` is the descriptor of its standard error.
         """
         return subprocess.Popen(
             [*prefix, str(self.path), *options.words()],
             stdin=subprocess.PIPE,
             stdout=subprocess.PIPE,
-            stderr=subprocess.PIPE,
+            stderr=errors,
             preexec_fn=before,
             env=None if environment is None else {**os.environ, **environment},
         )
@@ -137,9 +138,10 @@ class Program:
         prefix: Sequence[str] = (),
         before: Optional[Callable[[], object]] = None,
         environment: Optional[Mapping[str, str]] = None,
+        errors: int = subprocess.PIPE,
     ) -> Daemon:
         """Starts a group, and waits until it is open. `NotOpen` if it ends before."""
-        return Daemon(self.start(options, prefix, before, environment), options)
+        return Daemon(self.start(options, prefix, before, environment, errors), options)
 
 
 Group = TypeVar("Group", bound="Daemon")
@@ -154,7 +156,7 @@ class Daemon:
         line = process.stdout.readline()
         if not line:
             _, error = process.communicate(timeout=PATIENCE)
-            raise NotOpen(process.returncode, error)
+            raise NotOpen(process.returncode, error or b"")
         if line != b"open %d\n" % options.nodes:
             self.kill()
             raise AssertionError(f"it said {line!r}, and not 'open {options.nodes}'")

@@ -49,7 +49,7 @@ class SimulatedGroup:
     """What a folder holds: entries in one order, and what each node shows of them.
 
     `knows_wait` says whether its nodes know WAIT, and serve any number of connections. Each node's
-    port is free for it to choose unless `ports` says which."""
+    port is free for it to choose unless `ports` says which. `entries` is what it holds at first."""
 
     def __init__(
         self,
@@ -57,9 +57,10 @@ class SimulatedGroup:
         cap: int = MAX_CAP,
         ports: Optional[Sequence[int]] = None,
         knows_wait: bool = False,
+        entries: Optional[list[Entry]] = None,
     ) -> None:
         self.changed = threading.Condition()
-        self.entries: list[Entry] = []
+        self.entries: list[Entry] = [] if entries is None else entries
         self.cap, self.knows_wait = cap, knows_wait
         chosen = ports or [0] * nodes
         self.nodes = [SimulatedNode(self, node, chosen[node - 1]) for node in range(1, nodes + 1)]
