@@ -25,11 +25,16 @@ type Node struct {
 
 // Ask sends these requests in one write and returns their responses.
 func (n *Node) Ask(ctx context.Context, requests ...[]byte) ([][]byte, error) {
+	return n.ask(ctx, 0, requests...)
+}
+
+// ask is Ask, but its limit is longer by the time that the requests wait.
+func (n *Node) ask(ctx context.Context, waits time.Duration, requests ...[]byte) ([][]byte, error) {
 	limit := n.Timeout
 	if limit == 0 {
 		limit = 2 * time.Second
 	}
-	ctx, cancel := context.WithTimeout(ctx, limit)
+	ctx, cancel := context.WithTimeout(ctx, limit+waits)
 	defer cancel()
 	var dialer net.Dialer
 	connection, err := dialer.DialContext(ctx, "tcp", fmt.Sprintf("127.0.0.1:%d", n.Port))
@@ -111,6 +116,16 @@ func (n *Node) NextNumber(ctx context.Context, client uint16) (uint32, error) {
 // Read returns the entries from a place on, at most the given number (1 to 8), and fewer if a frame has no room for more.
 func (n *Node) Read(ctx context.Context, place uint32, most uint8) ([]Entry, error) {
 	responses, err := n.Ask(ctx, reading(place, most))
+	if err != nil {
+		return nil, err
+	}
+	return entries(responses[0])
+}
+
+// Wait is Read, but the node waits up to a limit (LongestWait at most) until it has an entry. An older node refuses it:
+// see Refused.UnknownRequest.
+func (n *Node) Wait(ctx context.Context, place uint32, most uint8, limit time.Duration) ([]Entry, error) {
+	responses, err := n.ask(ctx, bounded(limit), waiting(place, most, limit))
 	if err != nil {
 		return nil, err
 	}
