@@ -22,6 +22,7 @@ FOLDERS = (
     "trials/lib",
     "trials/long",
     "trials/unit",
+    "bench/gate.py",
     "bench/replay.py",
     "clients/python",
     "contrib/ctl",
