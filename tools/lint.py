@@ -17,7 +17,13 @@ from tools.tree import Tree
 # The folders of Python code that black and flake8 read; pyproject.toml names those of mypy.
 FOLDERS = (
     "tools",
-    "trials",
+    "trials/__main__.py",
+    "trials/gate",
+    "trials/lib",
+    "trials/long",
+    "trials/unit",
+    "bench/gate.py",
+    "bench/replay.py",
     "clients/python",
     "contrib/ctl",
 )

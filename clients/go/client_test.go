@@ -22,8 +22,8 @@ type madeUp struct {
 	entries  []Entry
 	troubles []any
 	down     bool
-	waits    bool // whether it knows WAIT
-	waited   int  // how many of them it was asked
+	isNew    bool   // it knows WAIT
+	asked    []byte // the opcodes of the requests
 	cap      int
 	listener net.Listener
 	sessions chan struct{}
@@ -60,11 +60,23 @@ func (m *madeUp) serve(connection net.Conn) {
 		if _, err := io.ReadFull(connection, body); err != nil {
 			return
 		}
+		m.wait(body)
 		answer, goesOn := m.one(body)
 		if !goesOn {
 			return
 		}
 		connection.Write(append(binary.BigEndian.AppendUint16(nil, uint16(len(answer))), answer...))
+	}
+}
+
+// wait takes the time of a WAIT, until there is an entry.
+func (m *madeUp) wait(body []byte) {
+	if body[0] != 6 {
+		return
+	}
+	end := time.Now().Add(time.Duration(binary.BigEndian.Uint16(body[6:])) * time.Millisecond)
+	for hasNone := true; hasNone && time.Now().Before(end); time.Sleep(time.Millisecond) {
+		m.set(func() { hasNone = m.isNew && len(m.entries) < int(binary.BigEndian.Uint32(body[1:])) })
 	}
 }
 
@@ -91,7 +103,13 @@ func (m *madeUp) one(body []byte) ([]byte, bool) {
 		}
 	}
 	var answer []byte
+	m.asked = append(m.asked, body[0])
 	switch body[0] {
+	case 6:
+		if !m.isNew {
+			return refused(19, 2), true
+		}
+		answer = m.read(int(binary.BigEndian.Uint32(body[1:])), int(body[5]))
 	case 1:
 		answer = m.submit(binary.BigEndian.Uint16(body[1:]), binary.BigEndian.Uint32(body[3:]), body[7:])
 	case 2:
@@ -450,4 +468,118 @@ func TestFollowEndsWithItsContextAndHandsPositionsOver(t *testing.T) {
 		return nil
 	})
 	same(t, err, context.Canceled)
+}
+
+func TestAWaitEndsWithAnEntryOrItsLimit(t *testing.T) {
+	m, node := start(t, 0, many(2, 1, "x")...)
+	_, err := node.Wait(within(t, 10*time.Second), 1, 8, time.Second)
+	var refused Refused
+	same(t, errors.As(err, &refused) && refused.UnknownRequest(), true)
+	m.set(func() { m.isNew = true })
+	got, err := node.Wait(within(t, 10*time.Second), 1, 1, LongestWait)
+	same(t, err, nil)
+	same(t, got, many(1, 1, "x"))
+	// the limit of a call doesn't end a wait that is longer
+	begin, limit := time.Now(), 2*node.Timeout
+	got, err = node.Wait(within(t, 10*time.Second), 3, 8, limit)
+	same(t, err, nil)
+	same(t, got, []Entry(nil))
+	same(t, time.Since(begin) >= limit, true)
+	go func() {
+		time.Sleep(50 * time.Millisecond)
+		m.set(func() { m.entries = many(3, 1, "x") })
+	}()
+	got, err = node.Wait(within(t, 10*time.Second), 3, 8, LongestWait)
+	same(t, err, nil)
+	same(t, got, many(3, 1, "x")[2:])
+	// neither less than nothing nor more than the greatest limit is sent
+	same(t, waiting(1, 8, -time.Second), []byte{6, 0, 0, 0, 1, 8, 0, 0})
+	same(t, waiting(1, 8, time.Hour), []byte{6, 0, 0, 0, 1, 8, 0xFF, 0xFF})
+}
+
+func count(all []byte, one byte) (found int) {
+	for _, it := range all {
+		if it == one {
+			found++
+		}
+	}
+	return found
+}
+
+// followed follows a node until it has this many entries, which come one after another.
+func followed(t *testing.T, m *madeUp, node *Node, all []Entry, position Position) []Entry {
+	t.Helper()
+	ctx, cancel := context.WithTimeout(context.Background(), 20*time.Second)
+	defer cancel()
+	begin := len(m.payloads())
+	go func() {
+		for it := begin; it < len(all); it++ {
+			time.Sleep(20 * time.Millisecond)
+			m.set(func() { m.entries = all[:it+1] })
+		}
+	}()
+	var got []Entry
+	err := NewFollower(position, node).Follow(ctx, func(entries []Entry, position Position) error {
+		if got = append(got, entries...); len(got) == len(all) {
+			cancel()
+		}
+		return nil
+	})
+	same(t, err, context.Canceled)
+	return got
+}
+
+func TestAFollowerWaitsAtANodeThatKnowsWait(t *testing.T) {
+	all := many(30, 1, "x")
+	m, node := start(t, 0, all[:20]...)
+	m.isNew = true
+	same(t, followed(t, m, node, all, Position{}), all)
+	m.set(func() { same(t, count(m.asked, 6) >= 5, true) })
+}
+
+func TestAFollowerPollsAtAnOlderNode(t *testing.T) {
+	all := many(30, 1, "x")
+	m, node := start(t, 0, all[:20]...)
+	same(t, followed(t, m, node, all, Position{}), all)
+	m.set(func() { same(t, count(m.asked, 6), 1) })
+}
+
+func TestAFolderBegunAnewStopsAFollowerThatWaits(t *testing.T) {
+	m, node := start(t, 0, many(9, 1, "x")...)
+	m.isNew = true
+	f := NewFollower(Position{}, node)
+	err := f.Follow(within(t, 20*time.Second), func(entries []Entry, position Position) error {
+		if position.Seen["1"] == 9 { // the next look is a WAIT
+			m.set(func() { m.entries, m.asked = many(20, 1, "another"), nil })
+		}
+		return nil
+	})
+	m.set(func() { same(t, m.asked, []byte{2, 6, 3}) })
+	same(t, err, Stopped{fmt.Sprintf("the log at port %d isn't the one that was read up to place 9", node.Port)})
+}
+
+func TestAFollowerThatWaitsLeavesANodeThatIsDownOrAway(t *testing.T) {
+	for _, leave := range []func(*madeUp){
+		func(m *madeUp) { m.set(func() { m.down = true }) },
+		func(m *madeUp) { m.listener.Close(); m.set(func() { m.troubles = []any{"close"} }) },
+	} {
+		all := many(9, 1, "x")
+		m, node := start(t, 0, all[:5]...)
+		m.isNew = true
+		_, other := start(t, 0, all...)
+		var got []Entry
+		ctx, cancel := context.WithTimeout(context.Background(), 20*time.Second)
+		err := NewFollower(Position{}, node, other).Follow(ctx, func(entries []Entry, _ Position) error {
+			switch got = append(got, entries...); len(got) {
+			case 5:
+				leave(m)
+			case len(all):
+				cancel()
+			}
+			return nil
+		})
+		cancel()
+		same(t, err, context.Canceled)
+		same(t, got, all)
+	}
 }

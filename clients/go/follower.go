@@ -10,8 +10,6 @@ import (
 
 const longestWait = time.Second // of one WAIT
 
-var errNoWait = errors.New("the node doesn't know WAIT")
-
 // Place says how far one node's log was read: the next place, and a digest of the entry before it, "" at the beginning.
 type Place struct {
 	Next   uint32
@@ -37,7 +35,7 @@ type Follower struct {
 	Position  Position
 	nodes     []*Node
 	at, pages int
-	noWait    map[*Node]bool // nodes that don't know WAIT
+	isOld     map[int]bool // by the node's port: it doesn't know WAIT
 }
 
 // NewFollower begins at a position, or at the beginning if it is empty.
@@ -45,7 +43,7 @@ func NewFollower(position Position, nodes ...*Node) *Follower {
 	if position.Seen == nil {
 		position = Position{map[string]uint32{}, map[string]Place{}}
 	}
-	return &Follower{position, nodes, 0, 1, map[*Node]bool{}}
+	return &Follower{position, nodes, 0, 1, map[int]bool{}}
 }
 
 func (f *Follower) turn() { f.at, f.pages = (f.at+1)%len(f.nodes), 1 }
@@ -53,28 +51,31 @@ func (f *Follower) turn() { f.at, f.pages = (f.at+1)%len(f.nodes), 1 }
 // Poll returns the entries that are new since the last poll; there may be none. A fault of the node is no error: the next poll
 // asks the next node. An error is Stopped, or the end of the context.
 func (f *Follower) Poll(ctx context.Context) ([]Entry, error) {
+	all, _, err := f.look(ctx, 0)
+	return all, err
+}
+
+// look is Poll, but by a WAIT up to this limit if it isn't 0. It also says whether the node has answered and is up.
+func (f *Follower) look(ctx context.Context, limit time.Duration) ([]Entry, bool, error) {
 	node := f.nodes[f.at]
 	port := fmt.Sprint(node.Port)
 	at, ok := f.Position.Places[port]
 	if !ok {
 		at.Next = 1
 	}
-	first := at.Next
-	if at.Digest != "" {
-		first--
+	all, isDown, err := f.ask(ctx, node, at, limit)
+	var refused Refused
+	if limit > 0 && errors.As(err, &refused) && refused.UnknownRequest() {
+		f.isOld[node.Port] = true
+		return nil, true, nil
 	}
-	var requests [][]byte
-	for it := 0; it < f.pages; it++ {
-		requests = append(requests, reading(first+uint32(page*it), page))
-	}
-	all, isDown, err := f.ask(ctx, node, append(requests, []byte{askStatus}))
 	if err != nil {
 		f.turn()
-		return nil, ctx.Err()
+		return nil, false, ctx.Err()
 	}
 	if at.Digest != "" {
 		if len(all) == 0 || all[0].Digest() != at.Digest {
-			return nil, Stopped{fmt.Sprintf("the log at port %s isn't the one that was read up to place %d", port, at.Next-1)}
+			return nil, false, Stopped{fmt.Sprintf("the log at port %s isn't the one that was read up to place %d", port, at.Next-1)}
 		}
 		all = all[1:]
 	}
@@ -83,7 +84,7 @@ func (f *Follower) Poll(ctx context.Context) ([]Entry, error) {
 		sender := fmt.Sprint(it.Sender)
 		last := f.Position.Seen[sender]
 		if it.Seq > last+1 {
-			return nil, Stopped{fmt.Sprintf("the log has %s.%d after %s.%d: it is another group's", sender, it.Seq, sender, last)}
+			return nil, false, Stopped{fmt.Sprintf("the log has %s.%d after %s.%d: it is another group's", sender, it.Seq, sender, last)}
 		}
 		if it.Seq == last+1 {
 			f.Position.Seen[sender] = it.Seq
@@ -94,13 +95,47 @@ func (f *Follower) Poll(ctx context.Context) ([]Entry, error) {
 		f.Position.Places[port] = Place{at.Next + uint32(len(all)), all[len(all)-1].Digest()}
 	} else if isDown {
 		f.turn()
+		return unseen, false, nil
 	}
-	return unseen, nil
+	return unseen, true, nil
 }
 
-// ask returns the entries of the pages up to the first page that isn't full: the pages after it don't follow on directly.
-func (f *Follower) ask(ctx context.Context, node *Node, requests [][]byte) ([]Entry, bool, error) {
-	responses, err := node.Ask(ctx, requests...)
+// ask returns the entries from the one before a place on, which shows whether the log is still the same, and whether the node
+// is down. It asks for pages, or waits up to this limit if it isn't 0.
+func (f *Follower) ask(ctx context.Context, node *Node, at Place, limit time.Duration) ([]Entry, bool, error) {
+	if limit > 0 {
+		return f.wait(ctx, node, at, limit)
+	}
+	first := at.Next
+	if at.Digest != "" {
+		first--
+	}
+	var requests [][]byte
+	for it := 0; it < f.pages; it++ {
+		requests = append(requests, reading(first+uint32(page*it), page))
+	}
+	return f.take(node.Ask(ctx, append(requests, []byte{askStatus})...))
+}
+
+// wait asks one node on one connection, where the log stays the same: for the entry before a place, by WAIT for those from it on,
+// and for the state.
+func (f *Follower) wait(ctx context.Context, node *Node, at Place, limit time.Duration) ([]Entry, bool, error) {
+	var before []Entry
+	requests := [][]byte{waiting(at.Next, page, limit), {askStatus}}
+	if at.Digest != "" {
+		requests = append([][]byte{reading(at.Next-1, 1)}, requests...)
+	}
+	responses, err := node.ask(ctx, bounded(limit), requests...)
+	if err == nil && at.Digest != "" {
+		before, err = entries(responses[0])
+		responses = responses[1:]
+	}
+	all, isDown, err := f.take(responses, err)
+	return append(before, all...), isDown, err
+}
+
+// take returns the entries of the pages up to the first page that isn't full: the pages after it don't follow on directly.
+func (f *Follower) take(responses [][]byte, err error) ([]Entry, bool, error) {
 	if err != nil {
 		return nil, false, err
 	}
@@ -126,41 +161,29 @@ func (f *Follower) ask(ctx context.Context, node *Node, requests [][]byte) ([]En
 	return all, now.State == "down", nil
 }
 
-// await returns once the node that is read may have a new entry, or after a second. The next Poll
-// reads it. An error says that the node can't wait, or failed.
-func (f *Follower) await(ctx context.Context) error {
-	node := f.nodes[f.at]
-	if f.noWait[node] {
-		return errNoWait
-	}
-	place, ok := f.Position.Places[fmt.Sprint(node.Port)]
-	if !ok {
-		place.Next = 1
-	}
-	_, err := node.Wait(ctx, place.Next, 1, longestWait)
-	var refused Refused
-	if errors.As(err, &refused) && refused.UnknownRequest() {
-		f.noWait[node] = true
-	}
-	return err
-}
-
-// Follow calls `take` with the entries of each poll that finds some, until it fails or the context ends. While there are none, it
-// waits at the node; at a node that doesn't know WAIT, the pauses between polls grow. When `take` is called, the position is after these entries, so `take` may save both together.
+// Follow calls `take` with the entries of each look that finds some, until it fails or the context ends. It waits for entries at a
+// node that knows WAIT. At another it polls, and while there are none, the pauses between polls grow. When `take` is called, the
+// position is after these entries, so `take` may save both together.
 func (f *Follower) Follow(ctx context.Context, take func([]Entry, Position) error) error {
-	pause := leastPause
+	pause, limit := leastPause, time.Duration(0)
 	for {
-		all, err := f.Poll(ctx)
+		all, isUp, err := f.look(ctx, limit)
 		if err != nil {
 			return err
 		}
-		if len(all) > 0 {
+		canWait := isUp && !f.isOld[f.nodes[f.at].Port]
+		if limit = 0; canWait && f.pages == 1 {
+			limit = longestWait
+		}
+		if len(all) > 0 || canWait {
 			pause = leastPause
+		}
+		if len(all) > 0 {
 			if err := take(all, f.Position); err != nil {
 				return err
 			}
-		} else if f.await(ctx) == nil {
-			pause = leastPause
+		} else if canWait {
+			continue
 		} else if err := sleep(ctx, &pause); err != nil {
 			return err
 		}

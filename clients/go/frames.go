@@ -8,7 +8,11 @@ import (
 	"errors"
 	"fmt"
 	"strings"
+	"time"
 )
+
+// LongestWait is the longest that a WAIT can take.
+const LongestWait = 65535 * time.Millisecond
 
 // Entry is one message of a log.
 type Entry struct {
@@ -55,7 +59,7 @@ func (r Refused) Temporary() bool {
 	return bytes.IndexByte([]byte{RefusalNoMemory, RefusalDown, RefusalBusy, RefusalStale, RefusalDevice, RefusalPlace}, r.Number) >= 0
 }
 
-// UnknownRequest says whether the node doesn't know this kind of request: it is of an older version.
+// UnknownRequest says whether the node doesn't know this kind of request: an older one refuses a WAIT so.
 func (r Refused) UnknownRequest() bool {
 	return r.Number == RefusalFrame && r.Detail == unknownOpcode
 }
@@ -77,6 +81,21 @@ func fields(response []byte, opcode byte) ([]byte, error) {
 
 func reading(place uint32, most uint8) []byte {
 	return append(binary.BigEndian.AppendUint32([]byte{askRead}, place), most)
+}
+
+// waiting is a WAIT up to this limit, or the longest one if that is shorter.
+func waiting(place uint32, most uint8, limit time.Duration) []byte {
+	request := append(binary.BigEndian.AppendUint32([]byte{askWait}, place), most)
+	return binary.BigEndian.AppendUint16(request, uint16(bounded(limit).Milliseconds()))
+}
+
+func bounded(limit time.Duration) time.Duration {
+	if limit < 0 {
+		return 0
+	} else if limit > LongestWait {
+		return LongestWait
+	}
+	return limit
 }
 
 func entries(response []byte) ([]Entry, error) {

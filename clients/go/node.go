@@ -26,16 +26,16 @@ type Node struct {
 
 // Ask sends these requests in one write and returns their responses.
 func (n *Node) Ask(ctx context.Context, requests ...[]byte) ([][]byte, error) {
-	return n.askWithin(ctx, 0, requests...)
+	return n.ask(ctx, 0, requests...)
 }
 
-// askWithin does the same, with a limit that is longer by what the requests wait.
-func (n *Node) askWithin(ctx context.Context, wait time.Duration, requests ...[]byte) ([][]byte, error) {
+// ask is Ask, but its limit is longer by the time that the requests wait.
+func (n *Node) ask(ctx context.Context, waits time.Duration, requests ...[]byte) ([][]byte, error) {
 	limit := n.Timeout
 	if limit == 0 {
 		limit = 2 * time.Second
 	}
-	ctx, cancel := context.WithTimeout(ctx, limit+wait)
+	ctx, cancel := context.WithTimeout(ctx, limit+waits)
 	defer cancel()
 	var dialer net.Dialer
 	connection, err := dialer.DialContext(ctx, "tcp", fmt.Sprintf("127.0.0.1:%d", n.Port))
@@ -123,16 +123,10 @@ func (n *Node) Read(ctx context.Context, place uint32, most uint8) ([]Entry, err
 	return entries(responses[0])
 }
 
-// Wait returns the same as Read, and waits up to a time (65 seconds at most) until there is an
-// entry. A node of an older version refuses it: see Refused.UnknownRequest.
-func (n *Node) Wait(ctx context.Context, place uint32, most uint8, wait time.Duration) ([]Entry, error) {
-	millis := wait.Milliseconds()
-	if millis < 0 || millis > mostMillis {
-		return nil, fmt.Errorf("a wait of %v isn't 0 to %d ms", wait, mostMillis)
-	}
-	request := append(binary.BigEndian.AppendUint32([]byte{askWait}, place), most)
-	request = binary.BigEndian.AppendUint16(request, uint16(millis))
-	responses, err := n.askWithin(ctx, wait, request)
+// Wait is Read, but the node waits up to a limit (LongestWait at most) until it has an entry. An older node refuses it:
+// see Refused.UnknownRequest.
+func (n *Node) Wait(ctx context.Context, place uint32, most uint8, limit time.Duration) ([]Entry, error) {
+	responses, err := n.ask(ctx, bounded(limit), waiting(place, most, limit))
 	if err != nil {
 		return nil, err
 	}

@@ -51,7 +51,7 @@ def changelog_of(version: str) -> str:
     """Debian's change log: the page CHANGELOG.md has the changes."""
     return (
         f"urbd ({version}) unstable; urgency=medium\n\n"
-        "  * See /usr/share/doc/urbd/CHANGELOG.md.\n\n"
+        "  * The page CHANGELOG.md of the sources has the changes.\n\n"
         f" -- The urbd developers <urbd@localhost>  {formatdate(localtime=False)}\n"
     )
 

@@ -47,7 +47,7 @@ class ANode(OfAsyncio):
 
 class APublisher(OfAsyncio):
     def publish_to(self) -> aio.Publisher:
-        publisher = aio.Publisher(self.port, 7, self.path, patience=0, timeout=0.3)
+        publisher = aio.Publisher(self.port, 7, self.path, patience=0, timeout=2)
         self.addCleanup(publisher.abandon)
         return publisher
 
