@@ -121,18 +121,6 @@ func (m *madeUp) one(body []byte) ([]byte, bool) {
 		}
 		count := uint32(len(m.entries))
 		answer = binary.BigEndian.AppendUint32(binary.BigEndian.AppendUint32([]byte{0x83, state}, count), count)
-	case 6:
-		m.waited++
-		if !m.waits {
-			return refused(RefusalFrame, unknownOpcode), true
-		}
-		place := int(binary.BigEndian.Uint32(body[1:]))
-		for end := time.Now().Add(time.Duration(binary.BigEndian.Uint16(body[6:])) * time.Millisecond); len(m.entries) < place && time.Now().Before(end); {
-			m.Unlock()
-			time.Sleep(time.Millisecond)
-			m.Lock()
-		}
-		answer = m.read(place, int(body[5]))
 	case 4, 5:
 		m.down = body[0] == 4
 		answer = []byte{0x84}

@@ -13,7 +13,6 @@ import (
 const (
 	page       = MostEntries // entries of a READ
 	mostPages  = 16          // READs in one write
-	mostMillis = 65535       // of a WAIT
 	leastPause = time.Millisecond
 	mostPause  = 200 * time.Millisecond
 )

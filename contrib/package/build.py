@@ -21,7 +21,7 @@ from pathlib import Path
 HERE = Path(__file__).resolve().parent
 TOP = HERE.parent.parent
 PROGRAM = TOP / "crates" / "urbd" / "out" / "urbd"
-# Each file or folder of the repository, and its place below the package's root.
+# where each file or folder of the repository goes, below the package's root
 PLACES = {
     "contrib/urbd-run": "usr/bin/urbd-run",
     "contrib/urbdctl": "usr/bin/urbdctl",
