@@ -3,3 +3,4 @@ pub mod Replies
 pub mod ServedStores
 pub mod Desks
 pub mod Arrivals
+pub mod IdleTimes

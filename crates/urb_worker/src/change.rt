@@ -24,8 +24,8 @@ pub enum Change {
 pub trait Reporter {
     fn report(&self, change: Change);
 
-    /// Reports how many connections of clients each node serves at a time, once before the group
-    /// runs. A reporter that doesn't care does nothing.
+    /// Reports how many connections of clients each node serves at a time, before the group runs, if
+    /// that is fewer than were asked for. A reporter that doesn't care does nothing.
     fn report_connections(&self, _each: usize) {}
 }
 

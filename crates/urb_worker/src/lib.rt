@@ -75,7 +75,9 @@ pub use backlog::{BACKLOG, Backlog, KEEPING};
 pub use bell::{Bell, pass_rings};
 pub use change::{Change, Reporter, Silent, change_of};
 pub use client_desk::ClientDesk;
-pub use connections::{ClientLimits, LEAST_CONNECTIONS, MOST_CONNECTIONS};
+pub use connections::{
+    ClientLimits, FRAME_MILLIS, IDLE_MILLIS, IDLE_MINUTES, LEAST_CONNECTIONS, MOST_CONNECTIONS,
+};
 pub use counting::tally::{HubName, Tally};
 pub use desk::{NodeDesk, NodeService};
 pub use hub::{Gate, Hub, OpenGate};
