@@ -3,5 +3,6 @@
 pub(crate) mod grammar;
 pub(crate) mod options;
 pub(crate) mod parse;
+pub(crate) mod service;
 pub(crate) mod task;
 pub(crate) mod values;

@@ -31,9 +31,13 @@ pub use client::run::{read_at, read_over, show, submit_at, submit_over};
 pub use client::status::{status_at, status_over};
 pub use command_line::options::ServeOptions;
 pub use command_line::parse::{parse_line, read_words};
+pub use command_line::service::ServiceOptions;
 pub use command_line::task::{Errand, Line, ReadOptions, StatusOptions, SubmitOptions};
 pub use errands::{report_script_end, run_errand};
 pub use faults::{Fault, report_fault};
-pub use limits::{CLIENT_PORT_OFFSET, MAX_BASE_PORT, MAX_TICK_MILLIS, MIN_BASE_PORT};
+pub use limits::{
+    CLIENT_PORT_OFFSET, MAX_BASE_PORT, MAX_CONNECTIONS, MAX_IDLE_MINUTES, MAX_TICK_MILLIS,
+    MIN_BASE_PORT, MIN_CONNECTIONS, STANDARD_IDLE_MINUTES,
+};
 pub use script::replay;
 pub use version::VERSION;

@@ -3,6 +3,7 @@
 mod clients;
 mod lines;
 mod scripts;
+mod serving;
 
 use std::alloc::Global;
 use urb_cli::{Errand, Line, parse_line, read_words, replay, report_script_end};
