@@ -10,13 +10,16 @@ use crate::journal::{FileId, Journal};
 use sqlite::FileStore;
 use sqlite_disk::Disk;
 use std::fs;
-use std::fs::Metadata;
-use std::os::unix::fs::MetadataExt;
+use std::fs::{Metadata, OpenOptions};
+use std::os::unix::fs::{MetadataExt, OpenOptionsExt};
 use std::rt::HostRuntime;
 use std::sync::Arc;
 use urb_names::NodeId;
 use urb_sqlite::{MessagePool, NodeDisk, SqlStable, close_node_in, open_node_in};
 use urb_stable::{Stable, StoreFault};
+
+// The mode of the files of a new journal: only their owner may read and write them.
+const JOURNAL_MODE: u32 = 0o600;
 
 /// The result of looking for a journal: nothing, or the outcome of opening the one that is there.
 pub(crate) type Found<D> = Option<Result<Journal<D>, StoreFault>>;
@@ -100,6 +103,18 @@ pub(crate) fn open_at<D: NodeDisk>(
     }
 }
 
+// Makes the database file of a node in this folder, with `JOURNAL_MODE`. The log beside it gets the
+// mode of this file. A file that exists is left as it is. If none can be made, the opening that
+// follows says why.
+fn make_file(rt: &HostRuntime, dir: &str, node: NodeId) {
+    let Ok(path) = format!(in rt.alloc(); "{dir}/node-{}.db", node.number()) else {
+        return;
+    };
+    let mut options = OpenOptions::new();
+    options.write(true).create_new(true).mode(JOURNAL_MODE);
+    let _ = options.open(rt, path.as_str());
+}
+
 /// How many bytes the database file at this place has. `None` if there is no such file.
 pub(crate) fn length_at(folder: &Folder<'_>, place: usize) -> Option<usize> {
     let found = metadata_of(folder.rt, folder.dir, node_at(place)?)?;
@@ -123,6 +138,9 @@ pub(crate) fn make_next<D: NodeDisk>(
     requires { AreOpened (OpensIn D.Disk D.NodeDisk.held) (length earlier.now) earlier.now }
     ensures { OpensIn D.Disk D.NodeDisk.held (length earlier.now) result }
 {
+    if let Some(node) = node_at(earlier.len()) {
+        make_file(folder.rt, folder.dir, node);
+    }
     open_at::<D>(folder.rt, folder.dir, folder.pool, earlier.len())
 }
 
