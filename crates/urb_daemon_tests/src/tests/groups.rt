@@ -12,7 +12,7 @@ use std::time::{Clock, Duration};
 use urb_cli::ServeOptions;
 use urb_daemon::{Host, Network, NetworkFault, Port, open_link, open_network, run_group_at};
 use urb_group::{Config, Group, MemStable};
-use urb_worker::{LEAST_CONNECTIONS, Reporter, Silent, Station, Watch};
+use urb_worker::{ClientLimits, LEAST_CONNECTIONS, Reporter, Silent, Station, Watch};
 
 // What a client sends to a group of one node. It is a submit, a read that shows it, a status, and a
 // submit whose number isn't the next. Then come an unknown opcode, a read of the place 0, a read
@@ -99,7 +99,7 @@ where
         stations,
         link,
         every: millis,
-        connections: LEAST_CONNECTIONS,
+        limits: ClientLimits::standard(LEAST_CONNECTIONS),
     };
     let stores = stores(alloc, nodes)?;
     let group = Group::new(alloc, config).ok()?;
