@@ -4,3 +4,4 @@ mod PayloadDigits
 mod BuiltCommands
 mod SilentResponses
 mod PushedLines
+mod StepsMore

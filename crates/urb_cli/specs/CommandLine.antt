@@ -73,6 +73,30 @@ status_app =
     (choice_rule (codes "base-port") (pos MIN_BASE_PORT) (pos MAX_BASE_PORT)))
     (choice_rule (codes "nodes") (pos 1) (pos MAX_NODES))
 
+-- an option that may be left out, with any text except an empty one
+abbrev pub choice_text_rule : Text → Rule
+choice_text_rule name = record (text_rule name) { required = false }
+
+-- a word at its place that may be left out
+abbrev pub choice_place_rule : Text → Rule
+choice_place_rule name = record (place_rule name) { required = false }
+
+-- `publish` takes a port, a client, and perhaps the payload
+abbrev pub publish_app : App
+publish_app =
+    with_rule (with_rule (with_rule (new_app (codes "publish"))
+    (number_rule (codes "port") (pos 1) (pos 65535)))
+    (number_rule (codes "client") (pos 1) (pos 65535)))
+    (choice_place_rule (codes "TEXT"))
+
+-- `follow` takes a port, and perhaps a place and a format
+abbrev pub follow_app : App
+follow_app =
+    with_rule (with_rule (with_rule (new_app (codes "follow"))
+    (number_rule (codes "port") (pos 1) (pos 65535)))
+    (choice_rule (codes "from") (pos 1) (pos 4294967295)))
+    (choice_text_rule (codes "format"))
+
 -- the program has a version, and needs one of its subcommands
 abbrev pub bare_app : App
 bare_app = record {
@@ -84,8 +108,9 @@ bare_app = record {
 -- the program with its subcommands
 abbrev pub urbd_app : App
 urbd_app =
-    with_subcommand (with_subcommand (with_subcommand (with_subcommand (with_subcommand bare_app
-    replay_app.top) serve_app.top) submit_app.top) read_app.top) status_app.top
+    with_subcommand (with_subcommand (with_subcommand (with_subcommand (with_subcommand
+    (with_subcommand (with_subcommand bare_app replay_app.top) serve_app.top) submit_app.top)
+    read_app.top) status_app.top) publish_app.top) follow_app.top
 
 -- the faults that the parser finds first in these words: no fault if they are a command line of the
 -- program

@@ -15,8 +15,8 @@ use urb_names::{Message, Name, NoMemory};
 /// The status if a node refused the request.
 pub(crate) const REFUSED: u8 = 4;
 
-// Writes a payload: its digits, or a hyphen if it is empty.
-fn push_payload(alloc: Global, text: &mut Vec<u8>, payload: &[u8]) -> Result<(), NoMemory>
+/// Writes a payload: its digits, or a hyphen if it is empty.
+pub(crate) fn push_payload(alloc: Global, text: &mut Vec<u8>, payload: &[u8]) -> Result<(), NoMemory>
     ensures { OnOk result (text.new.items ≡ text.old.items ++ hex_payload payload.now) }
 {
     if payload.is_empty() {
@@ -28,8 +28,8 @@ fn push_payload(alloc: Global, text: &mut Vec<u8>, payload: &[u8]) -> Result<(),
     Ok(())
 }
 
-// Writes an entry's line.
-fn push_entry(alloc: Global, text: &mut Vec<u8>, entry: &(Name, Message)) -> Result<(), NoMemory>
+/// Writes an entry's line.
+pub(crate) fn push_entry(alloc: Global, text: &mut Vec<u8>, entry: &(Name, Message)) -> Result<(), NoMemory>
     ensures { OnOk result (text.new.items ≡ text.old.items ++ entry_line entry.now) }
 {
     let (name, message) = entry;
@@ -63,7 +63,8 @@ fn render_entries(alloc: Global, entries: &[(Name, Message)]) -> Result<Printed,
     Ok(Printed { text, status: 0 })
 }
 
-fn render_accepted(alloc: Global, seq: u32) -> Result<Printed, NoMemory>
+/// What is printed for a message that was accepted, under the name with this number.
+pub(crate) fn render_accepted(alloc: Global, seq: u32) -> Result<Printed, NoMemory>
     ensures { IfOk result (λ shown. shown_by shown ≡ accepted_shown seq) }
 {
     let mut text = Vec::new(alloc);

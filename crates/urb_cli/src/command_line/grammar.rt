@@ -7,6 +7,7 @@ ghost use Rattle.urb_cli.specs.CommandLine.{bare_app, replay_app};
 ghost use Rattle.urb_cli.specs.CommandLine.{choice_rule, number_rule, text_rule, place_rule};
 ghost use Rattle.urb_cli.specs.CommandLine.{serve_app, submit_app, read_app, status_app, urbd_app};
 
+use crate::command_line::stream_grammar::{follow_command, publish_command};
 use crate::limits::{MAX_BASE_PORT, MAX_TICK_MILLIS, MIN_BASE_PORT};
 use crate::version::VERSION;
 use clap::builder::ValueParser;
@@ -16,14 +17,14 @@ use urb_client::MOST_ENTRIES;
 use urb_names::{MAX_CAP, MAX_NODES};
 
 // The texts of options that several commands have.
-const PORT_HELP: &str = "The node's port for clients, 1 to 65535";
+pub(crate) const PORT_HELP: &str = "The node's port for clients, 1 to 65535";
 
 const NODES_HELP: &str = "How many nodes, 1 to 7";
 
-const CLIENT_HELP: &str = "The client, 1 to 65535";
+pub(crate) const CLIENT_HELP: &str = "The client, 1 to 65535";
 
-// A required option whose value is a number from `low` to `high`.
-fn number_option<'a>(alloc: Global, name: &'a str, help: &'a str, low: i64, high: i64) -> Arg<'a>
+/// A required option whose value is a number from `low` to `high`.
+pub(crate) fn number_option<'a>(alloc: Global, name: &'a str, help: &'a str, low: i64, high: i64) -> Arg<'a>
     ensures rule { rule_of result ≡ number_rule name.entry.now low high }
     ensures own { result.global ≡ false }
 {
@@ -35,16 +36,16 @@ fn number_option<'a>(alloc: Global, name: &'a str, help: &'a str, low: i64, high
         .value_parser(ValueParser::signed(low, high))
 }
 
-// An option that may be left out, whose value is a number from `low` to `high`.
-fn optional_number<'a>(alloc: Global, name: &'a str, help: &'a str, low: i64, high: i64) -> Arg<'a>
+/// An option that may be left out, whose value is a number from `low` to `high`.
+pub(crate) fn optional_number<'a>(alloc: Global, name: &'a str, help: &'a str, low: i64, high: i64) -> Arg<'a>
     ensures rule { rule_of result ≡ choice_rule name.entry.now low high }
     ensures own { result.global ≡ false }
 {
     number_option(alloc, name, help, low, high).required(false)
 }
 
-// A required option whose value is any text except an empty one.
-fn text_option<'a>(alloc: Global, name: &'a str, help: &'a str) -> Arg<'a>
+/// A required option whose value is any text except an empty one.
+pub(crate) fn text_option<'a>(alloc: Global, name: &'a str, help: &'a str) -> Arg<'a>
     ensures rule { rule_of result ≡ text_rule name.entry.now }
     ensures own { result.global ≡ false }
 {
@@ -56,8 +57,8 @@ fn text_option<'a>(alloc: Global, name: &'a str, help: &'a str) -> Arg<'a>
         .value_parser(ValueParser::NonEmptyString)
 }
 
-// A required word at its place; it may be any text.
-fn text_word<'a>(alloc: Global, name: &'a str, help: &'a str) -> Arg<'a>
+/// A required word at its place; it may be any text.
+pub(crate) fn text_word<'a>(alloc: Global, name: &'a str, help: &'a str) -> Arg<'a>
     ensures rule { rule_of result ≡ place_rule name.entry.now }
     ensures own { result.global ≡ false }
 {
@@ -190,5 +191,7 @@ pub(crate) fn make_command_line<'a>(alloc: Global) -> Result<Command<'a>, AllocE
         .subcommand(serve_command(alloc)?)?
         .subcommand(submit_command(alloc)?)?
         .subcommand(read_command(alloc)?)?
-        .subcommand(status_command(alloc)?)
+        .subcommand(status_command(alloc)?)?
+        .subcommand(publish_command(alloc)?)?
+        .subcommand(follow_command(alloc)?)
 }

@@ -11,6 +11,7 @@ ghost use Rattle.urb_cli.specs.Tasks.{task_named, task_of, task_of_serving, task
 ghost use Rattle.urb_cli.specs.Tasks.{task_of_reading, task_of_asking, status_task};
 
 use crate::command_line::options::ServeOptions;
+use crate::command_line::stream_values::{read_follow_options, read_publish_options};
 use crate::command_line::task::{Errand, Line, ReadOptions, StatusOptions, SubmitOptions};
 use crate::limits::{CLIENT_PORT_OFFSET, MAX_BASE_PORT, MAX_TICK_MILLIS, MIN_BASE_PORT};
 use clap::ArgMatches;
@@ -29,16 +30,16 @@ fn keep_in_range(number: Option<u32>, low: u32, high: u32) -> Option<u32>
     }
 }
 
-// The value of an option: a number from `low` to `high`.
-fn number(found: &ArgMatches<'_>, name: &str, low: u32, high: u32) -> Option<u32>
+/// The value of an option: a number from `low` to `high`.
+pub(crate) fn number(found: &ArgMatches<'_>, name: &str, low: u32, high: u32) -> Option<u32>
     ensures value { result ≡ number_of name.now low high (rows_of (found_of found.now)) }
     ensures range { IfSome result (λ n. (low ≤ n) × (n ≤ high)) }
 {
     keep_in_range(found.get_one::<u32>(name), low, high)
 }
 
-// The text of an option, or of a word at its place.
-fn text<'a>(found: &ArgMatches<'a>, name: &str) -> Option<&'a str>
+/// The text of an option, or of a word at its place.
+pub(crate) fn text<'a>(found: &ArgMatches<'a>, name: &str) -> Option<&'a str>
     ensures { option_map (λ s. s.now) result ≡ first_of name.now (rows_of (found_of found.now)) }
 {
     found.get_str(name)
@@ -137,6 +138,8 @@ fn read_subcommand<'a>(name: &str, found: &ArgMatches<'a>) -> Option<Line<'a>>
         "submit" => Some(Line::Errand(Errand::Submit(read_submit_options(found)?))),
         "read" => Some(Line::Errand(Errand::Read(read_read_options(found)?))),
         "status" => Some(Line::Errand(Errand::Status(read_status_options(found)?))),
+        "publish" => Some(Line::Errand(Errand::Publish(read_publish_options(found)?))),
+        "follow" => Some(Line::Errand(Errand::Follow(read_follow_options(found)?))),
         _ => None,
     }
 }

@@ -1,0 +1,11 @@
+-- How a command ends that makes many calls.
+use Rattle.std.specs.Prelude.{ℕ, Result, Ok, Err}
+use Rattle.urb_cli.specs.declared.client.stream_fault.StreamEnd.{StreamEnd}
+use Rattle.urb_cli.specs.declared.client.stream_fault.StreamEnd.TheVariants.{Done, Refused}
+use Rattle.urb_cli.specs.declared.client.stream_fault.StreamFault.{StreamFault}
+
+-- 0 if all was done, 4 after a refusal, 1 after a fault
+abbrev pub status_of_stream : Result StreamEnd StreamFault → ℕ
+status_of_stream (Ok Done) = 0
+status_of_stream (Ok Refused) = 4
+status_of_stream (Err fault) = 1
