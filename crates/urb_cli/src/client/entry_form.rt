@@ -123,7 +123,11 @@ fn push_json_entry(
     let (sender, seq) = (name.sender.number(), name.seq);
     let (client, number) = (message.client().number(), message.number());
     text.extend_from_slice(b"{\"name\":\"")?;
-    write!(text, "{sender}.{seq}\",\"client\":{client},\"number\":{number},").map_err(|_| NoMemory)?;
+    write!(
+        text,
+        "{sender}.{seq}\",\"client\":{client},\"number\":{number},"
+    )
+    .map_err(|_| NoMemory)?;
     push_json_payload(alloc, text, message.payload())?;
     text.extend_from_slice(b"}\n")?;
     Ok(())

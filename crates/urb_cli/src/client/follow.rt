@@ -71,11 +71,7 @@ fn write_page<W: Write>(
 }
 
 // Asks for the log from this place on, until there is a response.
-fn ask_page<C: Caller>(
-    caller: &mut C,
-    place: u32,
-    knows_wait: bool,
-) -> Result<Response, CallFault>
+fn ask_page<C: Caller>(caller: &mut C, place: u32, knows_wait: bool) -> Result<Response, CallFault>
     requires { 0 < place }
     ensures { IsAnswered C.calls caller.old place (answer_of result) caller.new }
 {
@@ -198,6 +194,12 @@ where
     let alloc = rt.alloc();
     let mut caller = NodeCaller::new(rt, alloc, following.port);
     let mut writer = io::writer(rt);
-    let outcome = follow_over(alloc, &mut caller, &mut writer, following.form, following.from);
+    let outcome = follow_over(
+        alloc,
+        &mut caller,
+        &mut writer,
+        following.form,
+        following.from,
+    );
     report_stream_end(rt, following.port, outcome)
 }

@@ -16,7 +16,11 @@ use urb_names::{Message, Name, NoMemory};
 pub(crate) const REFUSED: u8 = 4;
 
 /// Writes a payload: its digits, or a hyphen if it is empty.
-pub(crate) fn push_payload(alloc: Global, text: &mut Vec<u8>, payload: &[u8]) -> Result<(), NoMemory>
+pub(crate) fn push_payload(
+    alloc: Global,
+    text: &mut Vec<u8>,
+    payload: &[u8],
+) -> Result<(), NoMemory>
     ensures { OnOk result (text.new.items ≡ text.old.items ++ hex_payload payload.now) }
 {
     if payload.is_empty() {
@@ -29,7 +33,11 @@ pub(crate) fn push_payload(alloc: Global, text: &mut Vec<u8>, payload: &[u8]) ->
 }
 
 /// Writes an entry's line.
-pub(crate) fn push_entry(alloc: Global, text: &mut Vec<u8>, entry: &(Name, Message)) -> Result<(), NoMemory>
+pub(crate) fn push_entry(
+    alloc: Global,
+    text: &mut Vec<u8>,
+    entry: &(Name, Message),
+) -> Result<(), NoMemory>
     ensures { OnOk result (text.new.items ≡ text.old.items ++ entry_line entry.now) }
 {
     let (name, message) = entry;

@@ -205,7 +205,12 @@ pub fn publish_over<T: Texts, C: Caller, W: Write>(
 /// was refused, 1 after a fault.
 pub(crate) fn run_publish<R>(rt: &R, publishing: PublishOptions<'_>) -> u8
 where
-    R: AllocGlobal + Print + Eprint + Input + Clock + Net<Listener = TcpListener, Stream = TcpStream>,
+    R: AllocGlobal
+        + Print
+        + Eprint
+        + Input
+        + Clock
+        + Net<Listener = TcpListener, Stream = TcpStream>,
     ensures { IsClientsEnd result }
 {
     let (alloc, client) = (rt.alloc(), publishing.client);

@@ -1,6 +1,7 @@
 //! The status of `publish` and `follow`, and what is reported of their faults.
 
-ghost use Rattle.std.specs.Prelude.{◌≡◌};
+ghost use Rattle.std.specs.Prelude.{◌≡◌, ◌⊎◌};
+ghost use Rattle.urb_cli.specs.Statuses.{IsClientsEnd};
 ghost use Rattle.urb_cli.specs.Streams.{status_of_stream};
 
 use crate::client::call_fault::report_call_fault;
@@ -15,7 +16,8 @@ pub fn report_stream_end<R: Eprint>(
     port: u16,
     outcome: Result<StreamEnd, StreamFault>,
 ) -> u8
-    ensures { result ≡ status_of_stream outcome }
+    ensures status { result ≡ status_of_stream outcome }
+    ensures end { IsClientsEnd result }
 {
     match outcome {
         Ok(StreamEnd::Done) => 0,

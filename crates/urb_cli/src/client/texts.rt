@@ -46,7 +46,8 @@ impl Texts for OneText<'_> {
         text.clear();
         match self.text.take() {
             Some(given) => {
-                text.extend_from_slice(given.as_bytes()).map_err(|_| Fault::NoMemory)?;
+                text.extend_from_slice(given.as_bytes())
+                    .map_err(|_| Fault::NoMemory)?;
                 Ok(true)
             }
             None => Ok(false),

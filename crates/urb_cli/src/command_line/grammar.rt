@@ -24,7 +24,13 @@ const NODES_HELP: &str = "How many nodes, 1 to 7";
 pub(crate) const CLIENT_HELP: &str = "The client, 1 to 65535";
 
 /// A required option whose value is a number from `low` to `high`.
-pub(crate) fn number_option<'a>(alloc: Global, name: &'a str, help: &'a str, low: i64, high: i64) -> Arg<'a>
+pub(crate) fn number_option<'a>(
+    alloc: Global,
+    name: &'a str,
+    help: &'a str,
+    low: i64,
+    high: i64,
+) -> Arg<'a>
     ensures rule { rule_of result ≡ number_rule name.entry.now low high }
     ensures own { result.global ≡ false }
 {
@@ -37,7 +43,13 @@ pub(crate) fn number_option<'a>(alloc: Global, name: &'a str, help: &'a str, low
 }
 
 /// An option that may be left out, whose value is a number from `low` to `high`.
-pub(crate) fn optional_number<'a>(alloc: Global, name: &'a str, help: &'a str, low: i64, high: i64) -> Arg<'a>
+pub(crate) fn optional_number<'a>(
+    alloc: Global,
+    name: &'a str,
+    help: &'a str,
+    low: i64,
+    high: i64,
+) -> Arg<'a>
     ensures rule { rule_of result ≡ choice_rule name.entry.now low high }
     ensures own { result.global ≡ false }
 {

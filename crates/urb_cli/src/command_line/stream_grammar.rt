@@ -6,8 +6,9 @@ ghost use Rattle.clap.specs.declared.builder.command.Command.TheViews.{out-Comma
 ghost use Rattle.urb_cli.specs.CommandLine.{choice_place_rule, choice_text_rule, follow_app};
 ghost use Rattle.urb_cli.specs.CommandLine.{publish_app};
 
-use crate::command_line::grammar::{CLIENT_HELP, PORT_HELP};
-use crate::command_line::grammar::{number_option, optional_number, text_option, text_word};
+use crate::command_line::grammar::{
+    CLIENT_HELP, PORT_HELP, number_option, optional_number, text_option, text_word,
+};
 use clap::{Arg, Command};
 use std::alloc::{AllocError, Global};
 

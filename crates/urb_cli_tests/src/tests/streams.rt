@@ -5,8 +5,8 @@ ghost use Rattle.std.specs.Prelude.{⊤};
 use std::alloc::Global;
 use std::test::Fail;
 use urb_cli::{
-    CallFault, Caller, EntryForm, Fault, InputLines, OneText, StreamEnd, StreamFault, TRIES,
-    Texts, follow_over, publish_over, report_stream_end,
+    CallFault, Caller, EntryForm, Fault, InputLines, OneText, StreamEnd, StreamFault, TRIES, Texts,
+    follow_over, publish_over, report_stream_end,
 };
 use urb_client::{Request, Response, encode_request, parse_response};
 use urb_names::MAX_PAYLOAD;
@@ -38,7 +38,9 @@ impl Caller for Script<'_> {
 
     fn call(&mut self, request: &Request) -> Result<Response, CallFault> {
         let frame = encode_request(self.alloc, request)?;
-        self.asked.extend_from_slice(frame.as_slice()).map_err(|_| Fault::NoMemory)?;
+        self.asked
+            .extend_from_slice(frame.as_slice())
+            .map_err(|_| Fault::NoMemory)?;
         let Some(bytes) = self.responses.get(self.given) else {
             return Err(CallFault::NobodyListens);
         };
@@ -129,7 +131,10 @@ fn lines_are_numbered_from_the_next_number_on(rt: HostRuntime) -> Result<(), Fai
     let asked = joined(rt.alloc(), &[ASKED_NEXT, ASKED_3, ASKED_4])?;
     for input in [b"one\ntwo\n".as_slice(), b"one\ntwo"] {
         let run = publish_lines(rt.alloc(), input, &[NEXT_IS_3, ACCEPTED_5, ACCEPTED_6]);
-        assert_eq!(rt; run.output.as_slice(), b"accepted 5\naccepted 6\n".as_slice());
+        assert_eq!(rt;
+            run.output.as_slice(),
+            b"accepted 5\naccepted 6\n".as_slice()
+        );
         assert_eq!(rt; run.asked.as_slice(), asked.as_slice());
         assert_eq!(rt; run.ended, Ok(StreamEnd::Done));
     }
@@ -140,7 +145,11 @@ fn lines_are_numbered_from_the_next_number_on(rt: HostRuntime) -> Result<(), Fai
     assert_eq!(rt; run.output.as_slice(), b"".as_slice());
     assert_eq!(rt; run.ended, Ok(StreamEnd::Done));
     // A text on the command line is the only message.
-    let run = publish(rt.alloc(), &mut OneText::new("one"), &[NEXT_IS_3, ACCEPTED_5]);
+    let run = publish(
+        rt.alloc(),
+        &mut OneText::new("one"),
+        &[NEXT_IS_3, ACCEPTED_5],
+    );
     let asked = joined(rt.alloc(), &[ASKED_NEXT, ASKED_3])?;
     assert_eq!(rt; run.asked.as_slice(), asked.as_slice());
     assert_eq!(rt; run.ended, Ok(StreamEnd::Done));
@@ -155,7 +164,10 @@ fn a_message_without_a_response_is_sent_again(rt: HostRuntime) -> Result<(), Fai
         rt.alloc(),
         &[ASKED_NEXT, ASKED_NEXT, ASKED_3, ASKED_4, ASKED_4, ASKED_4],
     )?;
-    assert_eq!(rt; run.output.as_slice(), b"accepted 5\naccepted 6\n".as_slice());
+    assert_eq!(rt;
+        run.output.as_slice(),
+        b"accepted 5\naccepted 6\n".as_slice()
+    );
     assert_eq!(rt; run.asked.as_slice(), asked.as_slice());
     assert_eq!(rt; run.ended, Ok(StreamEnd::Done));
     // A node that never answers ends it, after so many tries and one more.
@@ -178,7 +190,10 @@ fn a_refusal_ends_a_publish(rt: HostRuntime) -> Result<(), Fail> {
             FULL,
             b"refused 8 0: the node has as many messages as its cap: start it with a greater one\n",
         ),
-        (DOWN, b"refused 3 0: the node is down: restart it, and send the same again\n"),
+        (
+            DOWN,
+            b"refused 3 0: the node is down: restart it, and send the same again\n",
+        ),
     ] {
         let responses = [NEXT_IS_3, ACCEPTED_5, refusal, ACCEPTED_6];
         let run = publish_lines(rt.alloc(), b"one\ntwo\nthree\n", &responses);
@@ -263,8 +278,14 @@ fn each_entry_of_each_page_is_printed_once(rt: HostRuntime) -> Result<(), Fail> 
         assert!(rt; run.output.as_slice().starts_with(output), "{form:?}");
         let refused = b"refused 3 0: the node is down: restart it, and send the same again\n";
         assert!(rt; run.output.as_slice().ends_with(refused));
-        assert_eq!(rt; run.output.len(), output.len().saturating_add(refused.len()));
-        let asked = joined(rt.alloc(), &[WAIT_1, WAIT_2, WAIT_2, WAIT_2, WAIT_4, WAIT_5])?;
+        assert_eq!(rt;
+            run.output.len(),
+            output.len().saturating_add(refused.len())
+        );
+        let asked = joined(
+            rt.alloc(),
+            &[WAIT_1, WAIT_2, WAIT_2, WAIT_2, WAIT_4, WAIT_5],
+        )?;
         assert_eq!(rt; run.asked.as_slice(), asked.as_slice());
         assert_eq!(rt; run.ended, Ok(StreamEnd::Refused));
     }
@@ -349,7 +370,11 @@ fn an_end_has_its_status(rt: HostRuntime) -> Result<(), Fail> {
     for (outcome, status, errors) in [
         (Ok(StreamEnd::Done), 0, b"".as_slice()),
         (Ok(StreamEnd::Refused), 4, b""),
-        (Err(StreamFault::Own(Fault::Write)), 1, b"urbd: write failed\n"),
+        (
+            Err(StreamFault::Own(Fault::Write)),
+            1,
+            b"urbd: write failed\n",
+        ),
         (
             Err(StreamFault::Call(CallFault::NobodyListens)),
             1,
