@@ -1,6 +1,6 @@
 //! The command `follow`: the entries of a node's log, as they come.
 
-ghost use Rattle.std.specs.Prelude.{◌≡◌, ◌<◌, ◌≤◌, ◌+◌, IfOk, IfErr, OnOk, Some, flat_map};
+ghost use Rattle.std.specs.Prelude.{◌≡◌, ◌<◌, ◌+◌, IfOk, IfErr, OnOk, flat_map, length};
 ghost use Rattle.std.specs.Io.KnownBytes.{Appends};
 ghost use Rattle.urb_client.specs.Requests.{IsAsked, IsShort, asked_by};
 ghost use Rattle.urb_client.specs.Responses.{Listing, said_by};

@@ -64,7 +64,7 @@ pub struct InputLines<I: Read + Drop> {
 impl<I: Read + Drop> InputLines<I> {
     /// The lines of this input.
     pub fn new(input: I) -> InputLines<I>
-        ensures { result.input ≡ input.entry }
+        ensures { result.input ≡ input }
     {
         InputLines { input }
     }
