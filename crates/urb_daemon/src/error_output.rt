@@ -57,7 +57,7 @@ impl<R: Threads + Wait + Clock + Copy + Send + Drop + 'static> ErrorOutput<R> {
         });
         match writer {
             Ok(writer) => drop(writer),
-            Err(_) => return Err(NoMemory),
+            Err(_) => return Err(NoMemory::from(AllocError)),
         }
         Ok(ErrorOutput {
             rt,

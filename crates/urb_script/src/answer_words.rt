@@ -207,5 +207,6 @@ impl fmt::Display for Told {
 pub fn push_told<A: Allocator>(text: &mut Vec<u8, A>, reply: Told) -> Result<(), NoMemory>
     ensures { OnOk result (text.new.items ≡ text.old.items ++ told_text reply) }
 {
-    write!(text, "{reply}").map_err(|_| NoMemory)
+    write!(text, "{reply}")?;
+    Ok(())
 }

@@ -110,13 +110,13 @@ fn encode_packet<A: Allocator + Copy>(
     encode(alloc, &packet)
 }
 
-// Returns `NoMemory`, which is what this refusal says.
+// Returns the refused allocation that this refusal is.
 fn expect_no_memory(refusal: Refusal) -> NoMemory
     requires { refusal ≡ Refusal.NoMemory }
 {
-    match refusal {
-        Refusal::NoMemory => NoMemory,
-        _ => unreachable!(),
+    match refusal.as_no_memory() {
+        Some(refused) => refused,
+        None => unreachable!(),
     }
 }
 
@@ -366,9 +366,7 @@ impl<A: Allocator + Copy> Play<A> for Stage<A> {
 
     fn open(alloc: A, config: Config, text: &mut Vec<u8, A>) -> Result<Stage<A>, NoMemory> {
         let stores = make_stores(alloc, config.n())?;
-        let Ok(cluster) = Cluster::new(alloc, config, stores) else {
-            return Err(NoMemory);
-        };
+        let cluster = Cluster::new(alloc, config, stores).map_err(|refused| refused.1)?;
         push_told(text, Told::Grouped(config))?;
         Ok(Stage {
             alloc,

@@ -51,8 +51,9 @@ impl<K: HouseName, L: HubName> Hub<K, L> {
         ensures back { IfErr result (λ refused. refused.0 ≡ house) }
     {
         let nodes = house.config().n();
-        let Ok(mut tallies) = Vec::with_capacity(alloc, usize::from(nodes)) else {
-            return Err((house, NoMemory));
+        let mut tallies = match Vec::with_capacity(alloc, usize::from(nodes)) {
+            Ok(tallies) => tallies,
+            Err(refused) => return Err((house, NoMemory::from(refused))),
         };
         let (book, mut rest) = blank.open::<L>();
         for _i in 0..nodes {

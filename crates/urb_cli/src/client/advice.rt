@@ -33,7 +33,7 @@ fn push_advice(text: &mut Vec<u8>, number: u8, detail: u32) -> Result<(), NoMemo
 {
     text.extend_from_slice(advice(number).as_bytes())?;
     if number == GAP {
-        write!(text, "{detail}").map_err(|_| NoMemory)?;
+        write!(text, "{detail}")?;
     }
     Ok(())
 }
@@ -42,7 +42,7 @@ fn push_advice(text: &mut Vec<u8>, number: u8, detail: u32) -> Result<(), NoMemo
 pub(crate) fn push_refusal(text: &mut Vec<u8>, number: u8, detail: u32) -> Result<(), NoMemory>
     ensures { OnOk result (text.new.items ≡ text.old.items ++ explained_refusal number detail) }
 {
-    write!(text, "refused {number} {detail}: ").map_err(|_| NoMemory)?;
+    write!(text, "refused {number} {detail}: ")?;
     push_advice(text, number, detail)?;
     text.push(b'\n')?;
     Ok(())

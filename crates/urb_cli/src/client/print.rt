@@ -35,7 +35,7 @@ fn push_entry(alloc: Global, text: &mut Vec<u8>, entry: &(Name, Message)) -> Res
     let (name, message) = entry;
     let (sender, seq) = (name.sender.number(), name.seq);
     let (client, number) = (message.client().number(), message.number());
-    write!(text, "{sender}.{seq} {client} {number} ").map_err(|_| NoMemory)?;
+    write!(text, "{sender}.{seq} {client} {number} ")?;
     push_payload(alloc, text, message.payload())?;
     text.push(b'\n')?;
     Ok(())
@@ -67,7 +67,7 @@ fn render_accepted(alloc: Global, seq: u32) -> Result<Printed, NoMemory>
     ensures { IfOk result (λ shown. shown_by shown ≡ accepted_shown seq) }
 {
     let mut text = Vec::new(alloc);
-    write!(text, "accepted {seq}\n").map_err(|_| NoMemory)?;
+    write!(text, "accepted {seq}\n")?;
     Ok(Printed { text, status: 0 })
 }
 
@@ -76,7 +76,7 @@ pub(crate) fn render_refusal(alloc: Global, number: u8, detail: u32) -> Result<P
     ensures { IfOk result (λ shown. shown_by shown ≡ refused_shown number detail) }
 {
     let mut text = Vec::new(alloc);
-    write!(text, "refused {number} {detail}\n").map_err(|_| NoMemory)?;
+    write!(text, "refused {number} {detail}\n")?;
     Ok(Printed {
         text,
         status: REFUSED,

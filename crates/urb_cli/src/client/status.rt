@@ -45,7 +45,7 @@ fn render_status(
 {
     let mut text = Vec::new(alloc);
     let word = word(state);
-    write!(text, "{port} {word} accepted {own} shown {logged}\n").map_err(|_| NoMemory)?;
+    write!(text, "{port} {word} accepted {own} shown {logged}\n")?;
     Ok(Printed { text, status: 0 })
 }
 
@@ -60,7 +60,7 @@ fn render_refused_status(
         (λ shown. option_map shown_by (Some shown) ≡ status_shown port (Refused number detail)) }
 {
     let mut text = Vec::new(alloc);
-    write!(text, "{port} ").map_err(|_| NoMemory)?;
+    write!(text, "{port} ")?;
     push_refusal(&mut text, number, detail)?;
     Ok(Printed {
         text,
