@@ -4,6 +4,7 @@ mod failures;
 mod frames;
 mod node;
 mod receiving;
+mod sizes;
 mod summaries;
 
 use node::OneNode;

@@ -6,12 +6,14 @@ ghost use Rattle.urb_show.specs.Lists.{lists_in};
 
 mod again;
 mod lists;
+mod many;
 mod readers;
 mod seven;
 mod walk;
 mod writer;
 
 use again::{Tally, deliver, open_again};
+use many::{go_on, open_one, open_stored, publish_many};
 use readers::{learn_all, read_all, reads};
 use seven::seven_nodes;
 use std::alloc::Global;
@@ -19,7 +21,7 @@ use std::marker::Brand;
 use std::sync::{Mutex, Wait};
 use std::test::*;
 use std::thread::{Threads, join};
-use urb_group::{Config, Group};
+use urb_group::{Config, Group, MemStable};
 use urb_refusing::Refusing;
 use urb_show::*;
 use walk::walk;
@@ -205,6 +207,17 @@ fn run_readers_and_writer<K: HouseName + Send + Sync, R: Threads + Wait + Sync>(
 fn readers_read_while_another_thread_writes(rt: HostRuntime) -> Result<(), Fail> {
     let opened = open_three(rt.alloc()).ok_or("no group")?;
     run_readers_and_writer::<Brand, _>(&rt, rt.alloc(), opened)?;
+    Ok(())
+}
+
+#[test]
+fn seventy_thousand_messages_are_published_read_and_opened(rt: HostRuntime) -> Result<(), Fail> {
+    let alloc = rt.alloc();
+    let mut stores = [MemStable::new(alloc)];
+    let opened = open_one(alloc).ok_or("no group")?;
+    publish_many::<Brand, _>(&rt, alloc, opened, &mut stores)?;
+    let opened = open_stored(alloc, &mut stores[0]).ok_or("not opened")?;
+    go_on::<Brand, _>(&rt, alloc, opened, &mut stores)?;
     Ok(())
 }
 
