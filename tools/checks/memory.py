@@ -1,8 +1,8 @@
 """Who says that memory was refused, without a refused allocation in hand.
 
 `NoMemory` has a private field, so that a body can't make it from nothing. The toolchain's
-`AllocError` and `AllocFailed` are public, and `NoMemory` follows from them. So each place that names
-one of them as a value stands in this table, with its reason.
+`AllocError` and `AllocFailed` are public, and `NoMemory` follows from them. So each place that
+names one of them as a value stands in this table, with its reason.
 """
 from __future__ import annotations
 

@@ -62,7 +62,7 @@ fn open_stations<R: Net<Listener = TcpListener, Stream = TcpStream>>(
     Ok(stations)
 }
 
-/// Opens a link to these stations, in their order. Their group needs so many descriptors.
+/// Opens a link to these stations, in their order. Their group needs that many descriptors.
 pub fn open_link<R: Net<Listener = TcpListener, Stream = TcpStream>>(
     rt: &R,
     alloc: Global,
@@ -81,8 +81,8 @@ pub fn open_link<R: Net<Listener = TcpListener, Stream = TcpStream>>(
     }
 }
 
-/// Opens as many descriptors as it can, up to this number, for a group that needs so many. There
-/// has to be at least one.
+/// Opens as many descriptors as it can, up to this number, for a group that needs that many.
+/// There has to be at least one.
 pub(crate) fn open_spare_descriptors<R: Net<Listener = TcpListener, Stream = TcpStream>>(
     rt: &R,
     alloc: Global,
@@ -104,8 +104,8 @@ pub(crate) fn open_spare_descriptors<R: Net<Listener = TcpListener, Stream = Tcp
     Ok(spare)
 }
 
-// How many connections each of `nodes` nodes may serve if so many descriptors are left. A stop takes
-// one to wake the nodes, and they share the others. A node takes one for each connection, and one
+// How many connections each of `nodes` nodes may serve, if this many descriptors are left. A stop
+// takes one to wake the nodes, and they share the others. A node takes one for each connection, and one
 // for a client that it refuses. `None` if that is too few for the least number of connections.
 fn connections_for(spare: usize, nodes: u8) -> Option<usize>
     requires { 0 < nodes }
