@@ -1,6 +1,6 @@
 //! Lists of commands.
 
-ghost use Rattle.std.specs.Prelude.{◌≡◌};
+ghost use Rattle.std.specs.Prelude.{◌≡◌, is_some};
 ghost use Rattle.urb_group.specs.Commands.{is_no_memory};
 ghost use Rattle.urb_group.specs.Plays.{IsPromised, Plays, Runs, told_in};
 ghost use Rattle.urb_group.specs.Shown.{Shows};
