@@ -181,15 +181,15 @@ module _ {A : Type 0} {size : Limits} {places : List (Place A)} (group : IsGroup
                 (suc i) view.pairs packet.name packet.message) v meets));
           }
 
-  pub arrive-moved : {rest new : List (Place A)} {node : Place A} (moved : Place A)
-      (bytes : Result Carried PacketFault) → Ok packet ≡ bytes → node ≡ slice_index_or places i node
-      → rest ≡ remove places i → new ≡ insert rest i moved → (result : Result (Taken A) Refusal)
+  pub arrive-moved : {new : List (Place A)} {node moved : Place A}
+      (bytes : Result Carried PacketFault) → Ok packet ≡ bytes → slice_get places i ≡ Some node
+      → new ≡ set places i moved → (result : Result (Taken A) Refusal)
       → ArrivesAt node packet b (moved, result)
       → Takes (shown size places) p (Arrive p bytes) result (shown size new) × IsGroup size new
-  arrive-moved {new = new} moved bytes e is-node out back result h =
+  arrive-moved {new = new} bytes e at back result h =
       subst (λ (read : Result Carried PacketFault).
       Takes (shown size places) p (Arrive p read) result (shown size new) × IsGroup size new) e
-      (takes group ends.target.1 ends.target.2 moved is-node out back (Arrive p (Ok packet))
+      (takes group ends.target.1 at back (Arrive p (Ok packet))
       (arrives_as packet b) is result h)
     where
       is : (w : World) → Shows (shown size places) w

@@ -46,7 +46,7 @@ pub fn command<A: Allocator>(alloc: A, event: Event) -> Option<Command<A>> {
             node: one(),
             client: client(),
             number: 1,
-            payload: Vec::from_slice(alloc, b"a").ok()?,
+            payload: Payload::copied(alloc, b"a").ok()?,
         }),
         Event::Relay => Some(Command::Arrive {
             node: two(),

@@ -5,7 +5,7 @@ use crate::tests::packets::{letter, packet_for};
 use crate::tests::rows::What;
 use crate::tests::sending::are_sent;
 use crate::tests::states::{State, Went, went};
-use urb_names::{Flags, Refusal};
+use urb_names::{Flags, NoMemory, Payload, Refusal};
 use urb_node::{Answer, Ready, Step, Storing};
 use urb_stable::Draft;
 use urb_stubborn::Outbox;
@@ -130,14 +130,15 @@ pub(super) fn submit<A: Allocator + Copy>(
     named: Name,
 ) -> Went<A> {
     match (state, ClientId::new(7)) {
-        (State::Ready(ready), Some(client)) => {
-            lead(
-                ready.submit(heap, client, number, payload),
+        (State::Ready(ready), Some(client)) => match Payload::copied(heap, payload) {
+            Ok(shared) => lead(
+                ready.submit(heap, client, number, &shared),
                 what,
                 named,
                 payload,
-            )
-        }
+            ),
+            Err(NoMemory) => (State::Ready(ready), None),
+        },
         (other, _) => (other, None),
     }
 }
@@ -153,7 +154,7 @@ fn meet<A: Allocator + Copy>(
 ) -> Went<A> {
     match state {
         State::Ready(ready) => match packet_for(&ready, bytes, sent) {
-            Some(packet) => lead(ready.arrive(heap, packet), what, named, sent.payload()),
+            Some(packet) => lead(ready.arrive(heap, packet, None), what, named, sent.payload()),
             None => (State::Ready(ready), None),
         },
         other => (other, None),

@@ -10,15 +10,13 @@ returns-in_default g c =
 
 pub invariant_of-self : goal.invariant_of-self
 invariant_of-self g c =
-    (restart-moved c.self.invariant c.in-Some.ensures.1 c.in-Some.ensures.0
-    c.restart_at-moved.result.0 c.remove.ensures.value c.remove.ensures.items c.put_back.ensures
-    c.args.image.items c.restart_at-moved.result.1
-    (rw c.share_image-shared.ensures at c.restart_at-moved.ensures)).1
+    (restart-moved c.self.invariant c.in-Some.ensures.1 c.move_node.ensures.was
+    c.move_node.ensures.back c.args.image.items c.move_node.result 
+    (rw c.share_image-shared.ensures at c.move_node.ensures.step)).1
 
 pub returns : goal.returns
 returns g c =
     rw (← c.self.view_is)
-    (restart-moved c.self.invariant c.in-Some.ensures.1 c.in-Some.ensures.0
-    c.restart_at-moved.result.0 c.remove.ensures.value c.remove.ensures.items c.put_back.ensures
-    c.args.image.items c.restart_at-moved.result.1
-    (rw c.share_image-shared.ensures at c.restart_at-moved.ensures)).0
+    (restart-moved c.self.invariant c.in-Some.ensures.1 c.move_node.ensures.was
+    c.move_node.ensures.back c.args.image.items c.move_node.result 
+    (rw c.share_image-shared.ensures at c.move_node.ensures.step)).0

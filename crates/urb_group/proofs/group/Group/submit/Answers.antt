@@ -7,20 +7,17 @@ use Rattle.urb_group.proofs.group.Group.submit.Goals as goal
 pub returns-in_default : goal.returns-in_default
 returns-in_default g c =
     rw (← c.self.view_is) (nowhere c.self.inside.config c.self.inside.nodes.items
-    (Submit c.args.node (content c.args.client c.args.number c.args.payload.now)) tt
-    c.in_default.ensures)
+    (Submit c.args.node (content c.args.client c.args.number c.args.payload.now)) tt c.in_default.ensures)
 
 pub invariant_of-self : goal.invariant_of-self
 invariant_of-self g c =
-    (submit-moved c.self.invariant c.in-Some.ensures.1 c.in-Some.ensures.0
-    c.submit_at-moved.result.0 c.remove.ensures.value c.remove.ensures.items c.put_back.ensures
-    (content c.args.client c.args.number c.args.payload.now) c.submit_at-moved.result.1
-    c.submit_at-moved.ensures).1
+    (submit-moved c.self.invariant c.in-Some.ensures.1 c.move_node.ensures.was
+    c.move_node.ensures.back (content c.args.client c.args.number c.args.payload.now)
+    c.move_node.result c.move_node.ensures.step).1
 
 pub returns : goal.returns
 returns g c =
     rw (← c.self.view_is)
-    (submit-moved c.self.invariant c.in-Some.ensures.1 c.in-Some.ensures.0
-    c.submit_at-moved.result.0 c.remove.ensures.value c.remove.ensures.items c.put_back.ensures
-    (content c.args.client c.args.number c.args.payload.now) c.submit_at-moved.result.1
-    c.submit_at-moved.ensures).0
+    (submit-moved c.self.invariant c.in-Some.ensures.1 c.move_node.ensures.was
+    c.move_node.ensures.back (content c.args.client c.args.number c.args.payload.now)
+    c.move_node.result c.move_node.ensures.step).0
