@@ -9,4 +9,6 @@ pub mod WholeTurns
 pub mod ServedStores
 pub mod Desks
 pub mod Backlogs
+pub mod Pulses
+pub mod NodeFeeds
 pub mod internal

@@ -27,6 +27,10 @@ pub trait Reporter {
     /// Reports how many connections of clients each node serves at a time, once before the group
     /// runs. A reporter that doesn't care does nothing.
     fn report_connections(&self, _each: usize) {}
+
+    /// Reports that a node's feed ended early, because memory was refused. Ticks bring the node
+    /// what its log still lacks. A reporter that doesn't care does nothing.
+    fn report_cut_feed(&self, _node: NodeId) {}
 }
 
 /// A reporter that does nothing.

@@ -1,11 +1,12 @@
 //! A node's worker: its tickets, one after the other.
 
-ghost use Rattle.std.specs.Prelude.{◌≡◌, [], MatchOption};
+ghost use Rattle.std.specs.Prelude.{◌≡◌, [], MatchOption, true};
 ghost use Rattle.urb_node.specs.Replies.{packets_in};
 ghost use Rattle.urb_group.specs.Commands.{reply_of};
 ghost use Rattle.urb_worker.specs.internal.Replies.{tells_record};
-ghost use Rattle.urb_worker.specs.ServedStores.{IsLeftOf};
+ghost use Rattle.urb_worker.specs.ServedStores.{IsLeftOf, Turns};
 
+use crate::own_jobs::OwnJobs;
 use crate::polling::Polling;
 use crate::tickets::{Closed, next_ticket};
 use crate::{
@@ -14,6 +15,7 @@ use crate::{
 use crossbeam_channel::{Receiver, Sender};
 use std::alloc::Global;
 use std::sync::Wait;
+use std::time::Clock;
 use urb_group::{Answer, Outbox, Reply};
 use urb_names::{NodeId, encode_into};
 use urb_show::HouseName;
@@ -54,8 +56,8 @@ fn give_answer<K: HouseName, N: Link, R: Wait>(
     }
 }
 
-// The packets of a reply: those of a stored record, of a tick, or in answer to a packet.
-fn packets_in(reply: &Reply) -> Option<&Outbox>
+/// The packets of a reply: those of a stored record, of a tick, or in answer to a packet.
+pub(crate) fn packets_in(reply: &Reply) -> Option<&Outbox>
     ensures { MatchOption result (packets_in (reply_of reply.now) ≡ [])
         (λ packets. packets.now ≡ packets_in (reply_of reply.now)) }
 {
@@ -67,8 +69,8 @@ fn packets_in(reply: &Reply) -> Option<&Outbox>
     }
 }
 
-// Whether a record was stored.
-fn is_record_stored(reply: &Reply) -> bool
+/// Whether a record was stored.
+pub(crate) fn is_record_stored(reply: &Reply) -> bool
     ensures { result ≡ tells_record (reply_of reply.now) }
 {
     matches!(reply, Reply::Stored(_))
@@ -84,6 +86,8 @@ pub struct WorkerSetting<'a, K: HouseName, L: HubName, N: Link, G: Gate, H: Repo
     pub(crate) gate: &'a G,
     pub(crate) reporter: &'a H,
     pub(crate) polling: Polling,
+    /// Whether a worker feeds its node, and lets a tick follow a tick that sent something.
+    pub(crate) mends: bool,
 }
 
 impl<'a, K: HouseName, L: HubName, N: Link, G: Gate, H: Reporter, R: Wait> WorkerSetting<
@@ -95,7 +99,8 @@ impl<'a, K: HouseName, L: HubName, N: Link, G: Gate, H: Reporter, R: Wait> Worke
     H,
     R,
 > {
-    /// Workers that never poll their channels: they sleep until a ticket comes.
+    /// Workers that do their tickets and nothing else: they don't feed their nodes, tick by
+    /// themselves or poll their channels, but sleep until a ticket comes.
     pub fn new(
         rt: &'a R,
         alloc: Global,
@@ -112,15 +117,44 @@ impl<'a, K: HouseName, L: HubName, N: Link, G: Gate, H: Reporter, R: Wait> Worke
             gate,
             reporter,
             polling: Polling::none(),
+            mends: false,
         }
     }
+
+    /// The same workers, which also feed their nodes at their start and after each restart, and let
+    /// a tick follow a tick that sent something.
+    pub fn mending(self) -> WorkerSetting<'a, K, L, N, G, H, R>
+        ensures mends { result.mends ≡ true }
+        ensures polling { result.polling ≡ self.entry.polling }
+    {
+        WorkerSetting {
+            mends: true,
+            ..self
+        }
+    }
+}
+
+// What a worker keeps between two jobs: how often it still polls, a buffer for packets, and its own
+// jobs.
+#[derive(Drop)]
+struct LoopState {
+    polls: u32,
+    buffer: Vec<u8>,
+    own: OwnJobs,
 }
 
 /// Does the jobs of one node, until its channel closes. For each ticket it does the job, sends the
 /// packets, answers, and rings the node's bell if it has published entries. It holds nothing while
 /// it sends, answers and rings. An answer that can't be sent
 /// is lost.
-pub fn serve<K: HouseName, L: HubName, S: Stable<Alloc = Global> + Drop, N: Link, G: Gate, R: Wait>(
+pub fn serve<
+    K: HouseName,
+    L: HubName,
+    S: Stable<Alloc = Global> + Drop,
+    N: Link,
+    G: Gate,
+    R: Wait + Clock,
+>(
     rt: &R,
     alloc: Global,
     hub: &Hub<K, L>,
@@ -138,10 +172,59 @@ pub fn serve<K: HouseName, L: HubName, S: Stable<Alloc = Global> + Drop, N: Link
     tally
 }
 
+// Does the job of a ticket: sends the packets, answers, and rings the node's bell if it has
+// published entries. Reports a node that went down or came back.
+#[tactic(auto, using(crate::proofs::TurnSteps::one_job))]
+fn do_ticket<
+    K: HouseName,
+    L: HubName,
+    S: Stable<Alloc = Global>,
+    N: Link,
+    G: Gate,
+    H: Reporter,
+    R: Wait + Clock,
+>(
+    setting: &WorkerSetting<'_, K, L, N, G, H, R>,
+    node: NodeId,
+    store: &mut S,
+    state: &mut LoopState,
+    ticket: Ticket<K>,
+    tally: Tally<L>,
+) -> Tally<L>
+    ensures { Turns S.Stable store.old store.new }
+{
+    let Ticket { job, answer } = ticket;
+    let (rt, alloc) = (setting.rt, setting.alloc);
+    let (finished, tally) = setting
+        .hub
+        .work(rt, alloc, node, job, store, setting.gate, tally);
+    if let Some(change) = change_of(&finished) {
+        setting.reporter.report(change);
+    }
+    if is_record_stored(finished.reply()) {
+        state.polls = setting.polling.polls();
+    }
+    if let Some(packets) = packets_in(finished.reply()) {
+        send_packets(setting.link, packets, &mut state.buffer);
+    }
+    state.own.learn(setting, node, &finished);
+    let has_published = matches!(finished.settling(), Settling::Told(_));
+    give_answer(rt, setting.link, node, answer, finished);
+    if has_published {
+        setting.link.ring(node);
+    }
+    tally
+}
+
 /// Does the same with a borrowed store, for a caller that closes the store afterwards. It also
 /// reports each node that goes down or comes back, and polls for tickets after each record that it
 /// stored, as the setting says.
-#[tactic(auto, using(crate::proofs::ServedStores::not_yet, crate::proofs::TurnSteps::one_job))]
+///
+/// If the setting says so, it feeds its node: at its start, and after each restart, it lets the
+/// packets arrive that bring the node what its log lacks. Between two such packets it does a ticket,
+/// if one waits. And a tick that sent something is followed by another one as soon as the channel is
+/// empty, after a pause.
+#[tactic(auto, using(crate::proofs::ServedStores::not_yet, crate::proofs::ServedStores::one_turn))]
 pub fn serve_from<
     'q,
     K: HouseName,
@@ -150,7 +233,7 @@ pub fn serve_from<
     N: Link,
     G: Gate,
     H: Reporter,
-    R: Wait,
+    R: Wait + Clock,
 >(
     setting: &WorkerSetting<'_, K, L, N, G, H, R>,
     node: NodeId,
@@ -160,30 +243,26 @@ pub fn serve_from<
 ) -> (Tally<L>, Closed<'q>)
     ensures { IsLeftOf S.Stable store.old store.new }
 {
-    let (rt, alloc, hub) = (setting.rt, setting.alloc, setting.hub);
+    let rt = setting.rt;
     let mut tally = tally;
-    let mut left = 0;
-    let mut buffer = Vec::new(alloc);
+    let mut state = LoopState {
+        polls: 0,
+        buffer: Vec::new(setting.alloc),
+        own: OwnJobs::at_start(setting, node),
+    };
     for _ in rt.forever() {
-        let Ticket { job, answer } = match next_ticket(rt, jobs, &mut left) {
-            Ok(ticket) => ticket,
+        let patience = state.own.patience();
+        let came = match next_ticket(rt, jobs, &mut state.polls, patience) {
+            Ok(came) => came,
             Err(closed) => return (tally, closed),
         };
-        let (finished, counted) = hub.work(rt, alloc, node, job, store, setting.gate, tally);
-        tally = counted;
-        if let Some(change) = change_of(&finished) {
-            setting.reporter.report(change);
+        let has_waited = came.is_none();
+        if let Some(ticket) = came {
+            tally = do_ticket(setting, node, store, &mut state, ticket, tally);
         }
-        if is_record_stored(finished.reply()) {
-            left = setting.polling.polls();
-        }
-        if let Some(packets) = packets_in(finished.reply()) {
-            send_packets(setting.link, packets, &mut buffer);
-        }
-        let has_published = matches!(finished.settling(), Settling::Told(_));
-        give_answer(rt, setting.link, node, answer, finished);
-        if has_published {
-            setting.link.ring(node);
+        if let Some(job) = state.own.next(setting, node, has_waited) {
+            let ticket = Ticket { job, answer: None };
+            tally = do_ticket(setting, node, store, &mut state, ticket, tally);
         }
     }
     unreachable!()
