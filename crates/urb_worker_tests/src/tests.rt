@@ -36,7 +36,6 @@ mod stations;
 mod strays;
 mod timers;
 mod turns;
-mod waits;
 
 // A new group with the given number of nodes, opened.
 fn open_group(alloc: Global, nodes: u8) -> Option<Opened>
