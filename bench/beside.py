@@ -1,6 +1,7 @@
-"""What the benchmarks of clients share: a running redis, processor time, and figures."""
+"""What the benchmarks share beside groups: redis and etcd, processor time, and figures."""
 from __future__ import annotations
 
+import os
 import socket
 import statistics
 import subprocess
@@ -12,6 +13,8 @@ from pathlib import Path
 from trials.lib.program import LOCALHOST, PATIENCE, wait_until
 
 MOMENT = 0.2  # seconds
+MEMBERS = 3  # of etcd
+ELECTION = 3.0  # seconds until the members of etcd have a leader
 
 
 def free_port() -> int:
@@ -35,20 +38,59 @@ def running_redis(folder: Path) -> Iterator[tuple[int, int]]:
     }
     words = [word for key, it in options.items() for word in (f"--{key}", str(it))]
     process = subprocess.Popen(["redis-server", *words], stdout=subprocess.DEVNULL)
-
-    def is_open() -> bool:
-        try:
-            socket.create_connection((LOCALHOST, port), MOMENT).close()
-            return True
-        except OSError:
-            return False
-
     try:
-        wait_until(is_open, "redis takes connections")
+        wait_until(lambda: is_open(port), "redis takes connections")
         yield process.pid, port
     finally:
         process.kill()
         process.wait(PATIENCE)
+
+
+def is_open(port: int) -> bool:
+    """Whether somebody takes connections at a port."""
+    try:
+        socket.create_connection((LOCALHOST, port), MOMENT).close()
+        return True
+    except OSError:
+        return False
+
+
+@contextmanager
+def running_etcd(folder: Path) -> Iterator[list[int]]:
+    """Members of etcd on loopback, which have a leader: their ports for clients."""
+    ports = [(free_port(), free_port()) for _ in range(MEMBERS)]
+    urls = [[f"http://{LOCALHOST}:{port}" for port in pair] for pair in ports]
+    cluster = ",".join(f"m{at}={peer}" for at, (_, peer) in enumerate(urls))
+    members = []
+    try:
+        for at, (own, peer) in enumerate(urls):
+            words = ["--name", f"m{at}", "--data-dir", str(folder / f"m{at}")]
+            words += ["--initial-cluster", cluster]
+            words += ["--listen-client-urls", own, "--advertise-client-urls", own]
+            words += ["--listen-peer-urls", peer, "--initial-advertise-peer-urls", peer]
+            members.append(
+                subprocess.Popen(
+                    ["etcd", *words], stdout=subprocess.DEVNULL, stderr=subprocess.DEVNULL
+                )
+            )
+        clients = [port for port, _ in ports]
+        wait_until(lambda: all(map(is_open, clients)), "etcd takes connections")
+        time.sleep(ELECTION)
+        yield clients
+    finally:
+        for member in members:
+            member.terminate()
+        for member in members:
+            member.wait(PATIENCE)
+
+
+def processor_time(process: int) -> float:
+    """The processor seconds of a process so far, in steps of some milliseconds.
+
+    Threads that have ended count too.
+    """
+    fields = Path(f"/proc/{process}/stat").read_text().rsplit(")", 1)[1].split()
+    return (int(fields[11]) + int(fields[12])) / os.sysconf("SC_CLK_TCK")
 
 
 def processor_seconds(process: int) -> float:
@@ -74,10 +116,20 @@ def share_of_processor(process: int, seconds: float) -> float:
 
 def resident(process: int) -> int:
     """The resident memory of a process, in bytes."""
+    return bytes_of("VmRSS", process)
+
+
+def peak(process: int) -> int:
+    """The most bytes of a process that were resident at a time."""
+    return bytes_of("VmHWM", process)
+
+
+def bytes_of(figure: str, process: int) -> int:
+    """A figure that the system keeps of a process's memory."""
     for line in Path(f"/proc/{process}/status").read_text().splitlines():
-        if line.startswith("VmRSS"):
+        if line.startswith(figure):
             return int(line.split()[1]) * 1024
-    raise AssertionError("the system gives no VmRSS")
+    raise AssertionError(f"the system gives no {figure}")
 
 
 def percentile(figures: Sequence[float], part: int) -> float:

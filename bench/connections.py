@@ -17,7 +17,6 @@ import argparse
 import resource
 import shutil
 import socket
-import sys
 import tempfile
 import time
 from collections.abc import Callable, Sequence
@@ -25,6 +24,7 @@ from contextlib import ExitStack
 from pathlib import Path
 
 from bench.beside import load_of_machine, resident, running_redis, share_of_processor
+from bench.groups import at_least, duration, program_at, run
 from trials.lib.program import LOCALHOST, Options, Program, free_base_port
 
 DESCRIPTORS = 8_192
@@ -91,9 +91,9 @@ def main(words: Sequence[str]) -> int:
         description=__doc__,
         formatter_class=argparse.RawDescriptionHelpFormatter,
     )
-    parser.add_argument("program", type=Path, help="the built urbd")
-    parser.add_argument("--connections", type=int, default=1_000)
-    parser.add_argument("--seconds", type=float, default=20.0)
+    parser.add_argument("program", type=program_at, help="the built urbd")
+    parser.add_argument("--connections", type=at_least(2), default=1_000)
+    parser.add_argument("--seconds", type=duration, default=20.0)
     parser.add_argument("--dir", default=tempfile.gettempdir(), help="where files are made")
     options = parser.parse_args(words)
     allow_descriptors()
@@ -101,8 +101,7 @@ def main(words: Sequence[str]) -> int:
         print("urbd:", flush=True)
         folder = Path(room, "urbd")
         folder.mkdir()
-        program = Program(options.program.resolve())
-        measure_urbd(program, folder, options.connections, options.seconds)
+        measure_urbd(options.program, folder, options.connections, options.seconds)
         if shutil.which("redis-server"):
             print("redis:", flush=True)
             folder = Path(room, "redis")
@@ -113,4 +112,4 @@ def main(words: Sequence[str]) -> int:
 
 
 if __name__ == "__main__":
-    sys.exit(main(sys.argv[1:]))
+    run(main)

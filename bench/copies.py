@@ -1,101 +1,100 @@
-#!/usr/bin/env python3
-"""copies.py PROGRAM [--messages N] [--dir D]     how often a message takes memory of its payload's size
+"""How often a message takes memory of its payload's size.
 
-PROGRAM is a built urbd. A preloaded library (copies.c, built with cc) counts each call of malloc and realloc by its size. N messages
-(200) of 10,000 bytes come to node 1 of three, one after the other; then a client at each node reads its node's whole log. For both
-steps it prints how many buffers a message took that can hold its payload: of 10,000 to 12,047 bytes, so also encoded packets,
-frames and statements around the payload. A buffer that is used again isn't counted twice.
+    python3 -m bench.copies PROGRAM [--messages N] [--dir D]
+
+A preloaded library (copies.c, built with cc) counts each call of malloc and realloc by its size. N
+messages (200) of 10,000 bytes come to node 1 of three. Then a client at each node reads its node's
+whole log. For both steps it prints how many buffers a message took that can hold its payload: of
+10,000 to 12,047 bytes, so also encoded packets, frames and statements around the payload. A buffer
+that is used again isn't counted twice. The files are made below D.
 """
+from __future__ import annotations
+
 import argparse
 import mmap
-import os
-import shutil
-import socket
 import struct
-import subprocess
-import sys
 import tempfile
 import time
+from collections.abc import Mapping, Sequence
 from pathlib import Path
 
-from daemon import Daemon
-from memory import await_logs, submit
+from bench.groups import at_least, await_logs, program_at, run, submit_all
+from bench.load import compiled
+from trials.lib.messages import log_of
+from trials.lib.program import Options, Program, free_base_port
 
-SIZES = 65536
-LENGTH = 10000  # bytes of a payload
-SLACK = 2048  # what a frame, a packet or a statement may add
+SIZES = 65_536
+COUNTER = 8  # bytes
+LENGTH = 10_000  # bytes of a payload
+SLACK = 2_048  # what a frame, a packet or a statement may add
 NODES = 3
+TICK = 1_000  # milliseconds
+UNDER_WAY = 16  # requests at a time
+SETTLED = 1.0  # seconds after which nothing more is sent
+RARE = 20  # a size that fewer than every twentieth message takes is left out
 
 
 class Counts:
     """The counters that the library keeps, and how they rose."""
 
-    def __init__(self, path):
-        path.write_bytes(bytes(8 * SIZES))
+    def __init__(self, path: Path) -> None:
+        path.write_bytes(bytes(COUNTER * SIZES))
         with path.open("r+b") as file:
             self.bytes = mmap.mmap(file.fileno(), 0)
         self.before = self.now()
 
-    def now(self):
-        return struct.unpack_from(f"={SLACK}Q", self.bytes, 8 * LENGTH)
+    def now(self) -> Sequence[int]:
+        """The counters of the sizes that can hold a payload, from the payload's own size on."""
+        counts: Sequence[int] = struct.unpack_from(f"={SLACK}Q", self.bytes, COUNTER * LENGTH)
+        return counts
 
-    def rise(self):
-        """How much each counter has risen since the last call, by what a buffer has beside the payload."""
+    def rise(self) -> dict[int, int]:
+        """How much each counter has risen since the last call, by what it has room for beside the
+        payload."""
         before, self.before = self.before, self.now()
-        return {
-            more: now - was for more, (was, now) in enumerate(zip(before, self.before)) if was < now
-        }
+        pairs = enumerate(zip(before, self.before))
+        return {more: now - was for more, (was, now) in pairs if was < now}
 
 
-def read_log(port, count):
-    """Reads a node's log, eight entries at most a request."""
-    with socket.create_connection(("127.0.0.1", port)) as it:
-        reader, place = it.makefile("rb"), 1
-        while place <= count:
-            it.sendall(struct.pack(">HBIB", 6, 2, place, 8))
-            reply = reader.read(struct.unpack(">H", reader.read(2))[0])
-            entries = reply[1]
-            if reply[0] != 0x82 or not entries:
-                sys.exit(f"node at {port} shows nothing at {place}")
-            place += entries
-
-
-def tell(step, messages, rise):
+def tell(step: str, messages: int, rise: Mapping[int, int]) -> None:
+    """Prints how many buffers a message took in a step, and of which sizes."""
     print(f"{step}: {sum(rise.values()) / messages:.2f} buffers a message")
     for more, count in sorted(rise.items()):
-        if messages <= 20 * count:
+        if messages <= RARE * count:
             print(f"  payload and {more:4} bytes: {count / messages:.2f}")
 
 
-def main():
-    words = argparse.ArgumentParser(
-        description=__doc__, formatter_class=argparse.RawDescriptionHelpFormatter
+def measure(program: Program, room: Path, messages: int) -> None:
+    library = compiled("copies.c", room, "-shared", "-fPIC")
+    counts, folder = Counts(room / "counts"), room / "group"
+    folder.mkdir()
+    options = Options(folder, free_base_port(), NODES, tick_ms=TICK)
+    preloaded = {"LD_PRELOAD": str(library), "COPIES": str(room / "counts")}
+    with program.serve(options, environment=preloaded) as daemon:
+        submit_all(daemon, messages, LENGTH, under_way=UNDER_WAY)
+        await_logs(daemon, messages)
+        time.sleep(SETTLED)
+        tell("a submit, until three logs show it", messages, counts.rise())
+        for node in daemon.nodes:
+            log_of(daemon, node)
+        tell("reads at three nodes", messages, counts.rise())
+        daemon.stop()
+
+
+def main(words: Sequence[str]) -> int:
+    parser = argparse.ArgumentParser(
+        prog="python3 -m bench.copies",
+        description=__doc__,
+        formatter_class=argparse.RawDescriptionHelpFormatter,
     )
-    words.add_argument("program")
-    words.add_argument("--messages", type=int, default=200)
-    words.add_argument("--dir")
-    options = words.parse_args()
-    room = Path(tempfile.mkdtemp(dir=options.dir))
-    try:
-        library = room / "copies.so"
-        source = Path(__file__).resolve().parent / "copies.c"
-        subprocess.run(["cc", "-O2", "-shared", "-fPIC", "-o", library, source, "-ldl"], check=True)
-        counts = Counts(room / "counts")
-        os.environ.update(LD_PRELOAD=str(library), COPIES=str(room / "counts"))
-        (room / "group").mkdir()
-        it = Daemon(str(Path(options.program).resolve()), room / "group", NODES, tick=1000)
-        del os.environ["LD_PRELOAD"], os.environ["COPIES"]
-        submit(it.port(1), 1, options.messages, LENGTH)
-        await_logs(it, NODES, options.messages)
-        time.sleep(1)
-        tell("a submit, until three logs show it", options.messages, counts.rise())
-        for node in range(1, NODES + 1):
-            read_log(it.port(node), options.messages)
-        tell("reads at three nodes", options.messages, counts.rise())
-        it.stop()
-    finally:
-        shutil.rmtree(room, ignore_errors=True)
+    parser.add_argument("program", type=program_at, help="the built urbd")
+    parser.add_argument("--messages", type=at_least(1), default=200)
+    parser.add_argument("--dir", default=tempfile.gettempdir(), help="where files are made")
+    given = parser.parse_args(words)
+    with tempfile.TemporaryDirectory(prefix="urbd-copies-", dir=given.dir) as room:
+        measure(given.program, Path(room), given.messages)
+    return 0
 
 
 if __name__ == "__main__":
-    main()
+    run(main)

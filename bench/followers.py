@@ -22,7 +22,6 @@ import select
 import shutil
 import socket
 import statistics
-import sys
 import tempfile
 import time
 from abc import ABC, abstractmethod
@@ -33,6 +32,7 @@ from multiprocessing.connection import Connection as Pipe
 from pathlib import Path
 
 from bench.beside import load_of_machine, percentile, running_redis, share_of_processor
+from bench.groups import at_least, program_at, run
 from trials.lib.program import LOCALHOST, Options, Program, all_ports, free_base_port
 from urbd.frames import Submit, Wait, encode_request, frame
 
@@ -240,9 +240,9 @@ def main(words: Sequence[str]) -> int:
         description=__doc__,
         formatter_class=argparse.RawDescriptionHelpFormatter,
     )
-    parser.add_argument("program", type=Path, help="the built urbd")
-    parser.add_argument("--rounds", type=int, default=5)
-    parser.add_argument("--messages", type=int, default=500)
+    parser.add_argument("program", type=program_at, help="the built urbd")
+    parser.add_argument("--rounds", type=at_least(1), default=5)
+    parser.add_argument("--messages", type=at_least(2), default=500)
     parser.add_argument("--dir", default=tempfile.gettempdir(), help="where files are made")
     options = parser.parse_args(words)
     names = ["urbd"] + (["redis"] if shutil.which("redis-server") else [])
@@ -251,12 +251,11 @@ def main(words: Sequence[str]) -> int:
         for turn in range(options.rounds):
             for name in names if turn % 2 == 0 else reversed(names):
                 figures, places = found[name], [Path(room, f"{name}-{turn}-{it}") for it in (1, 2)]
-                program = Program(options.program.resolve())
-                with server_of(name, program, places[0]) as server:
+                with server_of(name, options.program, places[0]) as server:
                     answered, seen = measure(server, 1, options.messages, PAUSE)
                     figures.answered += answered
                     figures.seen += seen
-                with server_of(name, program, places[1]) as server:
+                with server_of(name, options.program, places[1]) as server:
                     figures.waiting.append(measure_waiting(server))
                     figures.seen_by_all += measure(server, MANY, MESSAGES_TO_MANY, LONG_PAUSE)[1]
     for name, figures in found.items():
@@ -273,4 +272,4 @@ def main(words: Sequence[str]) -> int:
 
 
 if __name__ == "__main__":
-    sys.exit(main(sys.argv[1:]))
+    run(main)

@@ -18,7 +18,6 @@ last node is removed before the start. The files are made below D.
 from __future__ import annotations
 
 import argparse
-import sys
 import tempfile
 import threading
 import time
@@ -28,6 +27,7 @@ from dataclasses import replace
 from pathlib import Path
 
 from bench.beside import dropped_datagrams, load_of_machine
+from bench.groups import at_least, duration, program_at, run
 from trials.lib.messages import AT_ONCE
 from trials.lib.program import Daemon, Options, Program, free_base_port, ports_of
 from urbd.frames import Accepted, Submit
@@ -138,11 +138,11 @@ def main(words: Sequence[str]) -> int:
         description=__doc__,
         formatter_class=argparse.RawDescriptionHelpFormatter,
     )
-    parser.add_argument("program", type=Path, help="the built urbd")
-    parser.add_argument("--nodes", type=int, default=3)
-    parser.add_argument("--messages", type=int, default=100_000)
-    parser.add_argument("--tick-ms", type=int, default=60_000)
-    parser.add_argument("--patience", type=float, default=60.0)
+    parser.add_argument("program", type=program_at, help="the built urbd")
+    parser.add_argument("--nodes", type=at_least(1), default=3)
+    parser.add_argument("--messages", type=at_least(1), default=100_000)
+    parser.add_argument("--tick-ms", type=at_least(1), default=60_000)
+    parser.add_argument("--patience", type=duration, default=60.0)
     parser.add_argument("--empty", action="store_true", help="empty the last node, without a kill")
     parser.add_argument("--dir", default=tempfile.gettempdir(), help="where files are made")
     given = parser.parse_args(words)
@@ -150,12 +150,11 @@ def main(words: Sequence[str]) -> int:
         parser.error("--empty needs three nodes or more")
     with tempfile.TemporaryDirectory(prefix="urbd-recovery-", dir=given.dir) as room:
         options = Options(Path(room), free_base_port(), given.nodes, tick_ms=given.tick_ms)
-        program = Program(given.program.resolve())
-        prepare(program, options, given.messages, given.empty)
-        measure(program, options, given.patience)
+        prepare(given.program, options, given.messages, given.empty)
+        measure(given.program, options, given.patience)
     print(f"load: {load_of_machine()}")
     return 0
 
 
 if __name__ == "__main__":
-    sys.exit(main(sys.argv[1:]))
+    run(main)

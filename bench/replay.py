@@ -115,16 +115,24 @@ def measure(program: Path, raft: Optional[Path], sizes: Iterable[int]) -> None:
         )
 
 
-def main(words: Sequence[str]) -> None:
+def main(words: Sequence[str]) -> int:
     parser = argparse.ArgumentParser(
         description=__doc__, formatter_class=argparse.RawDescriptionHelpFormatter
     )
     parser.add_argument("program", type=Path, help="the built urbd")
     parser.add_argument("sizes", nargs="*", type=int, default=SIZES, help="numbers of messages")
     options = parser.parse_args(words)
-    with tempfile.TemporaryDirectory() as room:
-        measure(options.program, built_raft(room), options.sizes)
+    if min(options.sizes) < 1:
+        parser.error("a script has at least one message")
+    try:
+        with tempfile.TemporaryDirectory() as room:
+            measure(options.program, built_raft(room), options.sizes)
+    except OSError as fault:
+        sys.exit(f"replay.py: {fault}")
+    except KeyboardInterrupt:
+        return 130
+    return 0
 
 
 if __name__ == "__main__":
-    main(sys.argv[1:])
+    sys.exit(main(sys.argv[1:]))

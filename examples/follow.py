@@ -33,7 +33,11 @@ class Faults:
 
 def ports(text: str) -> list[int]:
     """The ports of a list such as `7411,7412`."""
-    return [int(word) for word in text.split(",")]
+    words = text.split(",")
+    for word in words:
+        if not (word.isdecimal() and 1 <= int(word) <= 65_535):
+            raise argparse.ArgumentTypeError(f"{word!r} isn't a port from 1 to 65535")
+    return [int(word) for word in words]
 
 
 def shown(entry: Entry, is_text: bool) -> str:

@@ -35,6 +35,13 @@ class Faults:
             print(f"publish.py: waits: {fault}", file=sys.stderr, flush=True)
 
 
+def number(text: str) -> int:
+    """A port or a client's number: both have two bytes, and begin with 1."""
+    if not (text.isdecimal() and 1 <= int(text) <= 65_535):
+        raise argparse.ArgumentTypeError(f"{text!r} isn't a number from 1 to 65535")
+    return int(text)
+
+
 def is_file(descriptor: int) -> bool:
     """Whether this input is a file, which begins with the same lines if it is given again."""
     return stat.S_ISREG(os.fstat(descriptor).st_mode)
@@ -45,9 +52,9 @@ def parsed() -> argparse.Namespace:
     parser = argparse.ArgumentParser(
         description=__doc__, formatter_class=argparse.RawDescriptionHelpFormatter
     )
-    parser.add_argument("--port", type=int, required=True, help="the node's port for clients")
+    parser.add_argument("--port", type=number, required=True, help="the node's port for clients")
     parser.add_argument(
-        "--client", type=int, required=True, help="your client number, 1 to 65535, yours alone"
+        "--client", type=number, required=True, help="your client number, 1 to 65535, yours alone"
     )
     parser.add_argument("--file", required=True, help="keeps what is in progress and what is done")
     which = parser.add_mutually_exclusive_group()
@@ -60,12 +67,17 @@ def parsed() -> argparse.Namespace:
 
 def main() -> int:
     options = parsed()
-    is_same = options.resume or is_file(0) and not options.new_input
     try:
+        if sys.stdin is None:
+            raise OSError("standard input is closed")
+        is_same = options.resume or is_file(0) and not options.new_input
         told = Faults()
         with Publisher(options.port, options.client, options.file, on_fault=told.tell) as publisher:
             for seq in publish_lines(publisher, sys.stdin.buffer, is_same):
                 print("accepted", seq, flush=True)
+    except BrokenPipeError:
+        sys.stderr.close()  # nobody reads what is printed, so nothing is left to say
+        return 1
     except (OSError, RefusedError, Stopped) as fault:
         print(f"publish.py: {fault}", file=sys.stderr)
         return 1

@@ -7,16 +7,18 @@
     python3 -m tools weaken         makes wrong versions of definitions, and tries them
     python3 -m tools lint           checks the Python code by mypy, black and flake8
     python3 -m tools draw           draws a script's run, or compares the pictures of docs/pictures
+    python3 -m tools dashboard      draws the dashboard of a run (docs/pictures/dashboard.svg)
     python3 -m tools gate           the merge gate (.ci/run): all of this, the proofs and the trials
 
 Each says more by --help. ./prove is a tool of its own.
 """
 from __future__ import annotations
 
+import os
 import sys
 from collections.abc import Callable, Sequence
 
-from tools import believed, check, definitions, draw, gate, lint, weaken, wrong_bodies
+from tools import believed, check, dashboard, definitions, draw, gate, lint, weaken, wrong_bodies
 
 TOOLS: dict[str, Callable[[Sequence[str]], int]] = {
     "check": check.main,
@@ -26,6 +28,7 @@ TOOLS: dict[str, Callable[[Sequence[str]], int]] = {
     "weaken": weaken.main,
     "lint": lint.main,
     "draw": draw.main,
+    "dashboard": dashboard.main,
     "gate": gate.main,
 }
 
@@ -36,7 +39,16 @@ def main(words: Sequence[str]) -> int:
         is_asked = words[:1] in (["--help"], ["-h"])
         print(__doc__, file=sys.stdout if is_asked else sys.stderr)
         return 0 if is_asked else 2
-    return TOOLS[words[0]](words[1:])
+    try:
+        status = TOOLS[words[0]](words[1:])
+        sys.stdout.flush()
+        return status
+    except BrokenPipeError:
+        # Nobody reads what is printed. Python's own flush at the end would fail again.
+        os.dup2(os.open(os.devnull, os.O_WRONLY), 1)
+        return 1
+    except KeyboardInterrupt:
+        return 130
 
 
 if __name__ == "__main__":

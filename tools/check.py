@@ -11,7 +11,7 @@ import re
 from collections.abc import Callable, Iterable, Iterator, Sequence
 
 from tools import believed, definitions
-from tools.checks import edits, files, guarantees, limits, names, prose, sources
+from tools.checks import edits, files, guarantees, limits, monitoring, names, prose, sources
 from tools.tree import Misfit, Tree
 
 # What the headline is stated in, and how pages say how many definitions it rests on.
@@ -61,6 +61,9 @@ CHECKS: tuple[Callable[[Tree], Iterable[Misfit]], ...] = (
     limits.limits_of_architecture,
     limits.stated_limits,
     files.changes_of_files,
+    monitoring.alerts,
+    monitoring.figures,
+    monitoring.picture,
     prose.pages,
     prose.comments,
     prose.docstrings,

@@ -14,23 +14,23 @@ from collections.abc import Sequence
 
 from tools.tree import Tree
 
-# The folders of Python code that black and flake8 read; pyproject.toml names those of mypy.
-FOLDERS = (
-    "tools",
-    "trials/__main__.py",
-    "trials/gate",
-    "trials/lib",
-    "trials/long",
-    "trials/unit",
-    "bench/gate.py",
-    "bench/replay.py",
+# The Python code that black and flake8 read. pyproject.toml names that of mypy, which takes one
+# script without a module at a time: so it leaves out prove.
+CODE = (
+    "bench",
     "clients/python",
     "contrib/ctl",
+    "contrib/package",
+    "contrib/urbdctl",
+    "examples",
+    "prove",
+    "tools",
+    "trials",
 )
 LINTERS = {
     "mypy": ["mypy", "--cache-dir", os.devnull],
-    "black": ["black", "--check", "--quiet", *FOLDERS],
-    "flake8": ["flake8", *FOLDERS],
+    "black": ["black", "--check", "--quiet", *CODE],
+    "flake8": ["flake8", *CODE],
 }
 
 

@@ -26,6 +26,7 @@ import threading
 import time
 from collections.abc import Sequence
 from pathlib import Path
+from types import ModuleType
 from typing import Any, NamedTuple
 
 from tools.tree import TOP
@@ -65,15 +66,27 @@ def find_rt() -> str:
 
 
 def load_rt(command: str, store: Path) -> Rt:
-    """The code of the command rt, as a module that keeps what it proves in this store."""
+    """The code of the command rt, as a module that keeps what it proves in this store.
+
+    Each path of the module below the store that `rt ci` believes becomes one below this store.
+    """
     loader = importlib.machinery.SourceFileLoader("rt", command)
     spec = importlib.util.spec_from_loader("rt", loader)
     if spec is None:
         raise Refused(f"{command} is no Python program")
     rt = importlib.util.module_from_spec(spec)
     loader.exec_module(rt)
-    rt.STORE = str(store)  # type: ignore[attr-defined]
+    believed = str(rt.STORE)
+    for name in paths_below(rt, believed):
+        setattr(rt, name, str(store) + getattr(rt, name)[len(believed) :])
     return rt
+
+
+def paths_below(module: ModuleType, folder: str) -> list[str]:
+    """The names of a module whose value is this folder, or a path below it."""
+    values = vars(module).items()
+    paths = [(name, it) for name, it in values if isinstance(it, str) and not name.startswith("__")]
+    return [name for name, it in paths if it == folder or it.startswith(f"{folder}/")]
 
 
 def open_store(rt: Rt, crates: Sequence[Crate], store: Path) -> Kept:

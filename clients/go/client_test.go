@@ -8,6 +8,7 @@ import (
 	"fmt"
 	"io"
 	"net"
+	"os"
 	"path/filepath"
 	"reflect"
 	"sync"
@@ -569,5 +570,46 @@ func TestAFollowerThatWaitsLeavesANodeThatIsDownOrAway(t *testing.T) {
 		cancel()
 		same(t, err, context.Canceled)
 		same(t, got, all)
+	}
+}
+
+func TestAFileOfAnotherKindIsToldByItsName(t *testing.T) {
+	path := filepath.Join(t.TempDir(), "kept")
+	var value Position
+	if is, err := Kept(path, &value); is || err != nil {
+		t.Fatal(is, err)
+	}
+	for _, text := range []string{"{bad", "[1]"} {
+		if err := os.WriteFile(path, []byte(text), 0o600); err != nil {
+			t.Fatal(err)
+		}
+		_, err := Kept(path, &value)
+		if want := (Stopped{path + " isn't a file that a client has kept"}); err != want {
+			t.Errorf("%s: %v", text, err)
+		}
+	}
+}
+
+func TestFaultsAreToldBeforeTheNextTry(t *testing.T) {
+	made, node := start(t, 0, Entry{1, 1, 9, 1, []byte("x")})
+	var told []error
+	node.OnFault = func(fault error) { told = append(told, fault) }
+	made.troubles = []any{"close", RefusalDown}
+	publisher, err := OpenPublisher(node, 7, filepath.Join(t.TempDir(), "kept"))
+	if err != nil {
+		t.Fatal(err)
+	}
+	if _, err := publisher.Publish(within(t, 10*time.Second), []byte("hi")); err != nil || len(told) != 2 {
+		t.Fatal(err, told)
+	}
+	made.set(func() { made.troubles = []any{"close"} })
+	follower := NewFollower(Position{}, node)
+	for len(follower.Position.Seen) == 0 {
+		if _, err := follower.Poll(within(t, 10*time.Second)); err != nil {
+			t.Fatal(err)
+		}
+	}
+	if len(told) != 3 {
+		t.Fatal(told)
 	}
 }

@@ -38,7 +38,7 @@ func Keep(path string, value any) error {
 	return folder.Sync()
 }
 
-// Kept reads the value that Keep wrote; false if there is none.
+// Kept reads the value that Keep wrote; false if there is none. It is Stopped if the file is another kind of file.
 func Kept(path string, value any) (bool, error) {
 	text, err := os.ReadFile(path)
 	if errors.Is(err, os.ErrNotExist) {
@@ -47,5 +47,8 @@ func Kept(path string, value any) (bool, error) {
 	if err != nil {
 		return false, err
 	}
-	return true, json.Unmarshal(text, value)
+	if json.Unmarshal(text, value) != nil {
+		return false, Stopped{path + " isn't a file that a client has kept"}
+	}
+	return true, nil
 }

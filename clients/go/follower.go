@@ -70,6 +70,9 @@ func (f *Follower) look(ctx context.Context, limit time.Duration) ([]Entry, bool
 		return nil, true, nil
 	}
 	if err != nil {
+		if ctx.Err() == nil {
+			node.tell(err)
+		}
 		f.turn()
 		return nil, false, ctx.Err()
 	}

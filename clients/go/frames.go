@@ -11,8 +11,8 @@ import (
 	"time"
 )
 
-// LongestWait is the longest that a WAIT can take.
-const LongestWait = 65535 * time.Millisecond
+// LongestWait is the longest that a WAIT can take: its field has no room for more.
+const LongestWait = (1<<(8*(waitFields-readFields)) - 1) * time.Millisecond
 
 // Entry is one message of a log.
 type Entry struct {

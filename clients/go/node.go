@@ -21,6 +21,14 @@ const (
 type Node struct {
 	Port    int
 	Timeout time.Duration
+	// OnFault, if it isn't nil, is called with each fault after which a Publisher or Follower asks again.
+	OnFault func(error)
+}
+
+func (n *Node) tell(fault error) {
+	if n.OnFault != nil {
+		n.OnFault(fault)
+	}
 }
 
 // Ask sends these requests in one write and returns their responses.
@@ -167,6 +175,11 @@ func sleep(ctx context.Context, pause *time.Duration) error {
 
 // Until makes a call again after each temporary fault, until the context ends.
 func Until(ctx context.Context, call func() (uint32, error)) (uint32, error) {
+	return until(ctx, func(error) {}, call)
+}
+
+// until is Until, and tells each fault after which the call is made again.
+func until(ctx context.Context, tell func(error), call func() (uint32, error)) (uint32, error) {
 	pause := leastPause
 	for {
 		got, err := call()
@@ -174,6 +187,7 @@ func Until(ctx context.Context, call func() (uint32, error)) (uint32, error) {
 		if err == nil || errors.As(err, &refused) && !refused.Temporary() {
 			return got, err
 		}
+		tell(err)
 		if sleep(ctx, &pause) != nil {
 			return 0, err
 		}

@@ -119,7 +119,7 @@ func (p *Publisher) last(ctx context.Context) (underWay, error) {
 	if p.now != nil {
 		return *p.now, nil
 	}
-	next, err := Until(ctx, func() (uint32, error) { return p.node.NextNumber(ctx, p.client) })
+	next, err := until(ctx, p.node.tell, func() (uint32, error) { return p.node.NextNumber(ctx, p.client) })
 	return underWay{Port: p.node.Port, Client: p.client, Number: next - 1, Done: true}, err
 }
 
@@ -162,7 +162,7 @@ func (p *Publisher) finish(ctx context.Context) (uint32, error) {
 	if err != nil {
 		return 0, err
 	}
-	seq, err := Until(ctx, func() (uint32, error) { return p.node.Submit(ctx, p.client, number, payload) })
+	seq, err := until(ctx, p.node.tell, func() (uint32, error) { return p.node.Submit(ctx, p.client, number, payload) })
 	var refused Refused
 	if errors.As(err, &refused) {
 		switch {

@@ -27,6 +27,7 @@ PLACES = {
     "contrib/urbdctl": "usr/bin/urbdctl",
     "contrib/ctl/urbdctl": "usr/share/urbd/python/urbdctl",
     "clients/python/src/urbd": "usr/share/urbd/python/urbd",
+    "contrib/monitoring": "usr/share/urbd/monitoring",
     "contrib/package/completions/urbd.bash": "usr/share/bash-completion/completions/urbd",
     "contrib/package/completions/_urbd": "usr/share/zsh/vendor-completions/_urbd",
     "contrib/package/completions/urbd.fish": "usr/share/fish/vendor_completions.d/urbd.fish",
@@ -39,12 +40,12 @@ class Fault(Exception):
 
 def version_of(program: Path) -> str:
     """The version that the program tells."""
-    asked = [program, "--version"]
+    asked = [str(program), "--version"]
     said = subprocess.run(asked, capture_output=True, text=True, check=True).stdout
-    name, version = said.split("\n", 1)[0].split(" ")
-    if name != "urbd":
+    words = said.split("\n", 1)[0].split(" ")
+    if len(words) != 2 or words[0] != "urbd":
         raise Fault(f"{program} is no urbd")
-    return version
+    return words[1]
 
 
 def changelog_of(version: str) -> str:

@@ -21,6 +21,7 @@ PAGES = (
     "docs/GLOSSARY.md",
     "docs/GUARANTEES.md",
     "docs/MEASUREMENTS.md",
+    "docs/MONITORING.md",
     "docs/OPERATIONS.md",
     "docs/PROOFS_AT_RUN_TIME.md",
     "docs/QUESTIONS.md",
@@ -29,7 +30,7 @@ PAGES = (
 PYTHON = (
     "tools/**/*.py",
     "trials/**/*.py",
-    "bench/*.py",
+    "bench/**/*.py",
     "clients/**/*.py",
     "contrib/**/*.py",
     "examples/*.py",

@@ -27,6 +27,11 @@ class Main(unittest.TestCase):
                 self.assertEqual(run(name, "--help").returncode, 0)
                 self.assertEqual(run(name, "--no-such-option").returncode, 2)
 
+    def test_output_that_nobody_reads(self) -> None:
+        line = f"{sys.executable} -m tools believed | true"
+        told = subprocess.run(["bash", "-c", line], cwd=TOP, capture_output=True, text=True)
+        self.assertEqual(told.stderr, "")
+
     def test_words_that_it_does_not_know(self) -> None:
         for words in ((), ("chekc",)):
             told = run(*words)

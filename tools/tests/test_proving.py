@@ -2,6 +2,8 @@
 from __future__ import annotations
 
 import contextlib
+import importlib.machinery
+import importlib.util
 import io
 import os
 import stat
@@ -27,6 +29,8 @@ FAKE_RT = textwrap.dedent(
     from types import SimpleNamespace
     KIT = "/kit"
     STORE = "/gate"
+    WORK = "/gate/work"
+    OTHER = "/gates"
     ORDER = []
 
     class Crate:
@@ -173,6 +177,11 @@ class Proving(unittest.TestCase):
         with self.assertRaises(proving.Refused):
             proving.open_store(rt, [], self.store)
 
+    def test_no_path_of_the_kit_is_left_below_the_store_of_the_gate(self) -> None:
+        rt = proving.load_rt(proving.find_rt(), self.store)
+        self.assertEqual((rt.STORE, rt.WORK), (str(self.store), f"{self.store}/work"))
+        self.assertEqual(rt.OTHER, "/gates")
+
     def test_no_rt(self) -> None:
         with mock.patch.dict(os.environ, {"PATH": "/nowhere"}):
             with self.assertRaises(proving.Refused):
@@ -186,6 +195,48 @@ class Proving(unittest.TestCase):
         for bad in (["--processors", "0"], ["--processors", "x"], ["--no"]):
             status = subprocess.run([*words[:2], *bad], capture_output=True).returncode
             self.assertEqual(status, 2, bad)
+
+
+def has_known_kit() -> bool:
+    """Whether the real rt is installed, and its kit is one that ./prove knows."""
+    try:
+        return bool(proving.find_rt())
+    except proving.Refused:
+        return False
+
+
+@unittest.skipUnless(has_known_kit(), "it needs a kit that ./prove knows")
+class TheRealKit(unittest.TestCase):
+    """The code of the installed kit, of which nothing is proved here."""
+
+    def setUp(self) -> None:
+        room = tempfile.TemporaryDirectory()
+        self.addCleanup(room.cleanup)
+        self.store = Path(room.name, "store")
+        loader = importlib.machinery.SourceFileLoader("rt", proving.find_rt())
+        spec = importlib.util.spec_from_loader("rt", loader)
+        assert spec is not None
+        self.given = importlib.util.module_from_spec(spec)
+        loader.exec_module(self.given)
+        self.rt = proving.load_rt(proving.find_rt(), self.store)
+
+    def test_the_store_is_not_that_of_the_gate(self) -> None:
+        believed = self.given.STORE
+        self.assertFalse(str(proving.own_store()).startswith(believed))
+        self.assertFalse(believed.startswith(str(proving.own_store())))
+        self.assertIn("WORK", proving.paths_below(self.given, believed))
+        for module in (self.rt, self.rt.rtlib):
+            self.assertEqual(proving.paths_below(module, believed), [])
+
+    def test_the_code_names_the_store_of_the_gate_once(self) -> None:
+        folder = Path(self.given.STORE).name
+        texts = [Path(it.__file__).read_text() for it in (self.given, self.rt.rtlib)]
+        self.assertEqual([text.count(folder) for text in texts], [1, 0])
+
+    def test_what_is_kept_goes_to_the_own_store(self) -> None:
+        kept = proving.open_store(self.rt, [], self.store)
+        self.assertEqual(kept.at, str(self.store))
+        self.assertEqual(os.stat(self.store).st_mode & 0o777, 0o700)
 
 
 @dataclass(eq=False)

@@ -214,13 +214,15 @@ class Daemon:
         self.kill()
 
 
-def wait_until(is_so: Callable[[], bool], what: str, limit: float = PATIENCE) -> None:
+def wait_until(
+    is_so: Callable[[], bool], what: str, limit: float = PATIENCE, pause: float = 0.02
+) -> None:
     """Waits until this is so. `AssertionError` with these words if it takes too long."""
     end = time.monotonic() + limit
     while not is_so():
         if time.monotonic() > end:
             raise AssertionError(f"not within {limit:g} s: {what}")
-        time.sleep(0.02)
+        time.sleep(pause)
 
 
 def files_of(folder: Path) -> list[str]:

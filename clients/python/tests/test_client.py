@@ -163,9 +163,17 @@ class AFile(OverAGroup):
                 keep(self.path, {"a": 1})
         self.assertEqual(calls, ["sync", "replace", "sync"])
 
+    def test_a_file_that_holds_no_value_is_told_in_a_sentence(self) -> None:
+        for content in (b"{bad", b"\xff\xfe", b""):
+            with self.subTest(content):
+                with open(self.path, "wb") as file:
+                    file.write(content)
+                with self.assertRaisesRegex(Stopped, "isn't a file that a client has kept"):
+                    kept(self.path)
+
     def test_another_file_is_told_in_a_sentence(self) -> None:
         keep(self.path, {"a": 1})
-        with self.assertRaisesRegex(Stopped, "is no such file"):
+        with self.assertRaisesRegex(Stopped, "isn't one that a publisher has kept"):
             self.publisher()
 
 

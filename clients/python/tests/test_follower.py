@@ -201,7 +201,9 @@ class APosition(unittest.TestCase):
             {"seen": 1, "places": {}},
         ]
         for value in bad:
-            with self.subTest(value), self.assertRaisesRegex(Stopped, "is no such file"):
+            with self.subTest(value), self.assertRaisesRegex(
+                Stopped, "isn't one that a follower has kept"
+            ):
                 Position.from_json(value)
 
     def test_a_follower_needs_a_port(self) -> None:

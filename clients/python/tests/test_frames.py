@@ -6,6 +6,7 @@ import unittest
 from urbd.constants import MAX_PAYLOAD
 from urbd.errors import BadReply, RefusedError
 from urbd.frames import (
+    MOST_MILLIS,
     Accepted,
     BadRequest,
     Crash,
@@ -50,6 +51,12 @@ RESPONSES: list[tuple[Response, str]] = [
 
 
 class TheCodec(unittest.TestCase):
+    def test_the_longest_wait(self) -> None:
+        self.assertEqual(MOST_MILLIS, 65_535)
+        self.assertEqual(encode_request(Wait(1, 8, MOST_MILLIS)).hex(), "060000000108ffff")
+        with self.assertRaises(ValueError):
+            encode_request(Wait(1, 8, MOST_MILLIS + 1))
+
     def test_requests_have_the_bytes_of_the_formats(self) -> None:
         for request, text in REQUESTS:
             with self.subTest(request):

@@ -57,12 +57,16 @@ class Machine:
 
 
 def options_of(words: Sequence[str]) -> dict[str, str]:
-    """The options of a command line, each as `--name value` or `--name=value`."""
+    """The options of a command line: `--name value`, `--name=value`, or `--name` alone.
+
+    A value that begins with two hyphens is written after `=`.
+    """
     options, left = {}, list(words)
     while left:
         name, is_joined, value = left.pop(0).partition("=")
         if name.startswith("--"):
-            options[name] = value if is_joined else (left.pop(0) if left else "")
+            has_value = bool(left) and not left[0].startswith("--")
+            options[name] = value if is_joined else (left.pop(0) if has_value else "")
     return options
 
 

@@ -91,10 +91,13 @@ def group_options() -> Parser:
     """The options that name a group, and say what its command line would."""
     parser = Parser(add_help=False, parents=[port_options()])
     parser.add_argument(
-        "--nodes", type=whole(1, MAX_NODES), metavar="N", help="the number of nodes, 1 to 7"
+        "--nodes",
+        type=whole(1, MAX_NODES),
+        metavar="N",
+        help=f"the number of nodes, 1 to {MAX_NODES}",
     )
     parser.add_argument(
-        "--cap", type=whole(1, MAX_CAP), metavar="C", help="the cap of each node, 1 to 1000000"
+        "--cap", type=whole(1, MAX_CAP), metavar="C", help=f"the cap of each node, 1 to {MAX_CAP}"
     )
     parser.add_argument("--dir", metavar="D", help="the folder of the journals")
     return parser
@@ -226,6 +229,7 @@ def add_metrics(made: Parser) -> None:
 
 def main(arguments: Optional[Sequence[str]] = None) -> int:
     """Runs the command line, and returns its status."""
+    open_streams()
     options = parser().parse_args(arguments)
     try:
         status: int = options.run(options)
@@ -234,8 +238,7 @@ def main(arguments: Optional[Sequence[str]] = None) -> int:
     except Trouble as trouble:
         return failed(options, str(trouble), trouble.status)
     except BrokenPipeError:
-        # Nobody reads what is printed. Python's own flush at the end would fail again.
-        os.dup2(os.open(os.devnull, os.O_WRONLY), 1)
+        give_up_output()  # nobody reads what is printed
         return FAULT
     except (OSError, RefusedError) as fault:
         return failed(options, str(fault), FAULT)
@@ -245,13 +248,29 @@ def main(arguments: Optional[Sequence[str]] = None) -> int:
         return failed(options, f"an error of this command: {fault!r}", FAULT)
 
 
+def open_streams() -> None:
+    """Replaces standard output and standard error if they are closed: their status is left."""
+    if sys.stdout is None:
+        sys.stdout = open(os.devnull, "w")
+    if sys.stderr is None:
+        sys.stderr = open(os.devnull, "w")
+
+
 def failed(options: argparse.Namespace, text: str, status: int) -> int:
     """Tells why a command ends, and returns its status. A check that fails knows nothing."""
     if options.run is words.run_check:
-        print(f"UNKNOWN: {text}")
+        try:
+            print(f"UNKNOWN: {text}", flush=True)
+        except OSError:  # the line goes nowhere, so the status alone tells it
+            give_up_output()
         return MISUSE
     print(f"urbdctl: {text}", file=sys.stderr)
     return status
+
+
+def give_up_output() -> None:
+    """Leaves what can't be written. Python's own flush at the end would fail again."""
+    os.dup2(os.open(os.devnull, os.O_WRONLY), 1)
 
 
 if __name__ == "__main__":

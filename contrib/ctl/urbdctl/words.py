@@ -5,7 +5,7 @@ import argparse
 import sys
 from collections.abc import Callable
 
-from urbd import Node
+from urbd import Node, RefusedError
 from urbdctl import bridge, metrics
 from urbdctl import check as checks
 from urbdctl.backup import backup
@@ -94,7 +94,13 @@ def run_verify(options: Options) -> int:
 
 def run_restart(options: Options) -> int:
     """Brings a node back that is down."""
-    node_of(options).restart()
+    try:
+        node_of(options).restart()
+    except RefusedError as refused:
+        if refused.is_unknown_request:
+            text = "the program was started with --no-crash: it takes no RESTART, so start it again"
+            raise Trouble(text) from None
+        raise
     print(f"node {options.node} is up")
     return OK
 

@@ -125,15 +125,15 @@ class OverAWriter(unittest.TestCase):
 
 class OfCommandLines(unittest.TestCase):
     def test_options_are_read_in_both_spellings(self) -> None:
-        words = "--nodes 3 --cap=10 --dir --base-port=7400".split()
-        wanted = {"--nodes": "3", "--cap": "10", "--dir": "--base-port=7400"}
-        self.assertEqual(group.options_of(words), wanted)
+        words = "--nodes 3 --cap=10 --no-crash --dir=--d --base-port 7400".split()
+        wanted = {"--nodes": "3", "--cap": "10", "--no-crash": "", "--dir": "--d"}
+        self.assertEqual(group.options_of(words), {**wanted, "--base-port": "7400"})
         wanted = {"--dir": "a=b", "--nodes": ""}
         self.assertEqual(group.options_of(["--dir=a=b", "--nodes"]), wanted)
 
     def test_a_program_is_found_by_its_port(self) -> None:
         words = ["urbd", "serve", "--nodes", "3", "--cap", "10", "--dir", "some/where"]
-        words += ["--base-port", "64999", "--tick-ms", "20"]
+        words += ["--no-crash", "--base-port", "64999", "--tick-ms", "20"]
         self.assertIsNone(group.process_at(64999))
         with tempfile.TemporaryDirectory() as folder:
             with open(os.path.join(folder, "serve"), "w", encoding="utf-8") as file:

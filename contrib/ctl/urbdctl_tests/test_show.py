@@ -11,7 +11,9 @@ import unittest
 import urllib.error
 import urllib.request
 
-from urbd import Status
+from urbd import Refusal, Status
+from urbd.constants import UNKNOWN_OPCODE
+from urbd.frames import Refused, encode_response, frame
 from urbdctl import show
 from urbdctl.group import Group, Machine
 from urbdctl.looks import Lag, Look, look, node_look
@@ -51,6 +53,13 @@ class AStatus(OverAGroup):
         self.assertEqual((status, errors), (1, "urbdctl: refused 12 0: the node is not down\n"))
         self.group.nodes[1].state = "down"
         self.assertEqual(run("restart", *words), (0, "node 2 is up\n", ""))
+
+    def test_a_group_that_takes_no_restart_is_told(self) -> None:
+        refusal = frame(encode_response(Refused(Refusal.FRAME, UNKNOWN_OPCODE)))
+        self.group.nodes[1].troubles = [refusal]
+        status, _, errors = run("restart", "--base-port", self.base, "--node", 2)
+        self.assertEqual(status, 1)
+        self.assertIn("started with --no-crash", errors)
 
     def test_a_watch_ends_if_nobody_reads_it(self) -> None:
         words = [str(COMMAND), "watch", "--base-port", str(self.base), "--nodes", "3"]

@@ -41,12 +41,13 @@ func run(ctx context.Context, words []string) error {
 	fresh := options.Bool("new-input", false, "the input is a new one")
 	options.Parse(words[1:])
 	var nodes []*urbd.Node
+	var told faults
 	for _, word := range strings.Split(*ports, ",") {
 		port, err := strconv.ParseUint(word, 10, 16)
-		if err != nil {
+		if err != nil || port == 0 {
 			return fmt.Errorf("--port %q is no port", word)
 		}
-		nodes = append(nodes, &urbd.Node{Port: int(port)})
+		nodes = append(nodes, &urbd.Node{Port: int(port), OnFault: told.tell})
 	}
 	if *file == "" {
 		return fmt.Errorf("--file is missing")
@@ -58,6 +59,16 @@ func run(ctx context.Context, words []string) error {
 		return fmt.Errorf("--client is 1 to 65535")
 	}
 	return publish(ctx, nodes[0], uint16(*client), *file, *resume || isFile(os.Stdin) && !*fresh)
+}
+
+// faults tells each fault once, until another one comes.
+type faults struct{ last string }
+
+func (f *faults) tell(fault error) {
+	if text := fault.Error(); text != f.last {
+		f.last = text
+		fmt.Fprintln(os.Stderr, "urbclient: waits:", text)
+	}
 }
 
 // isFile says whether an input is a file, which begins with the same lines if it is given again.
@@ -85,12 +96,17 @@ func follow(ctx context.Context, nodes []*urbd.Node, path string) error {
 		return err
 	}
 	return urbd.NewFollower(position, nodes...).Follow(ctx, func(entries []urbd.Entry, position urbd.Position) error {
+		var lines strings.Builder
 		for _, it := range entries {
 			payload := hex.EncodeToString(it.Payload)
 			if payload == "" {
 				payload = "-"
 			}
-			fmt.Printf("%d.%d %d %d %s\n", it.Sender, it.Seq, it.Client, it.Number, payload)
+			fmt.Fprintf(&lines, "%d.%d %d %d %s\n", it.Sender, it.Seq, it.Client, it.Number, payload)
+		}
+		// what wasn't printed isn't noted as read
+		if _, err := os.Stdout.WriteString(lines.String()); err != nil {
+			return err
 		}
 		return urbd.Keep(path, position)
 	})

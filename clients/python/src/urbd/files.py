@@ -5,6 +5,8 @@ import json
 import os
 from typing import Any
 
+from urbd.errors import Stopped
+
 
 def keep(path: str, value: Any) -> None:
     """Writes a value to a file. If the program stops meanwhile, the file has the old value or the
@@ -22,9 +24,12 @@ def keep(path: str, value: Any) -> None:
 
 
 def kept(path: str) -> Any:
-    """The value that `keep` wrote to this file; None if there is no such file."""
+    """The value that `keep` wrote to this file; None if there is no such file. `Stopped` if it is
+    another kind of file."""
     try:
         with open(path, encoding="utf-8") as file:
             return json.load(file)
     except FileNotFoundError:
         return None
+    except ValueError:  # no JSON, or no text
+        raise Stopped(f"{path} isn't a file that a client has kept") from None

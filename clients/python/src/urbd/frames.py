@@ -38,6 +38,7 @@ from urbd.constants import (
 from urbd.errors import BadReply, RefusedError
 
 LENGTH_BYTES = 2
+MOST_MILLIS = 256 ** (WAIT_FIELDS - READ_FIELDS) - 1  # of a wait: its field has no room for more
 STATES = ("down", "ready", "storing")
 ENTRY = struct.Struct(">BIHIH")
 

@@ -88,8 +88,8 @@ class Progress:
                 ),
                 bool(value.get("line", False)),
             )
-        except (KeyError, TypeError, ValueError) as error:
-            raise Stopped(f"the file of the publisher is no such file: {error!r}") from None
+        except (KeyError, TypeError, ValueError):
+            raise Stopped("the file isn't one that a publisher has kept") from None
 
     def accepted(self) -> Progress:
         """The progress once the node has accepted the message."""

@@ -11,6 +11,7 @@ from typing import Any, Optional
 from urbd.constants import MOST_ENTRIES
 from urbd.errors import Stopped
 from urbd.frames import (
+    MOST_MILLIS,
     Entries,
     Entry,
     GetStatus,
@@ -59,8 +60,8 @@ class Position:
                 {int(sender): int(seq) for sender, seq in value["seen"].items()},
                 {int(port): Place(int(at[0]), at[1]) for port, at in value["places"].items()},
             )
-        except (AttributeError, IndexError, KeyError, TypeError, ValueError) as error:
-            raise Stopped(f"the file of the follower is no such file: {error!r}") from None
+        except (AttributeError, IndexError, KeyError, TypeError, ValueError):
+            raise Stopped("the file isn't one that a follower has kept") from None
 
 
 class Reading:
@@ -115,7 +116,7 @@ class Reading:
     def ask_wait(self, seconds: float) -> list[Request]:
         """WAIT at the place, and STATUS. Only on a connection that has answered `ask_pages`: while
         a connection lasts, the log behind it stays the same."""
-        millis = max(0, min(round(1000 * seconds), 65535))
+        millis = max(0, min(round(1000 * seconds), MOST_MILLIS))
         return [Wait(self._place().next, MOST_ENTRIES, millis), GetStatus()]
 
     def take_wait(self, responses: Sequence[Response]) -> list[Entry]:

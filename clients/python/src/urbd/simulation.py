@@ -37,6 +37,7 @@ from urbd.frames import (
 
 DOWN, READY = STATES[0], STATES[1]
 SESSIONS = 4  # connections of an older node; further ones wait
+MAX_CONNECTIONS = 1000  # connections of a node; a further one is refused
 HANG = 1.0  # seconds for which a node hangs on demand
 DRIP = 0.1  # seconds from byte to byte of an answer in drips
 
@@ -91,7 +92,7 @@ class SimulatedNode(threading.Thread):
         self.asked = 0
         self.is_closed = False
         self.open: set[socket.socket] = set()
-        self._sessions = threading.Semaphore(1000 if group.knows_wait else SESSIONS)
+        self._sessions = threading.Semaphore(MAX_CONNECTIONS if group.knows_wait else SESSIONS)
         self._listener = socket.create_server(("127.0.0.1", port))
         self.port: int = self._listener.getsockname()[1]
         self.start()
