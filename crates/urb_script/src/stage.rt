@@ -28,8 +28,8 @@ use crate::runs::Play;
 use std::alloc::{Allocator, Global};
 use urb_group::{Cluster, Command};
 use urb_names::{
-    ClientId, Config, Flags, MAX_PLAIN_PAYLOAD, Message, Name, NoMemory, NodeId, Packet, Refusal,
-    encode,
+    ClientId, Config, Flags, MAX_PLAIN_PAYLOAD, Message, Name, NoMemory, NodeId, Packet, Payload,
+    Refusal, encode,
 };
 use urb_stable::{Failure, MemStable};
 
@@ -146,7 +146,7 @@ impl<A: Allocator + Copy> Stage<A> {
         ensures kept { IsStocked (in_memory A) self.old.cluster
             → IsStocked (in_memory A) self.new.cluster }
     {
-        let payload = Vec::from_slice(self.alloc, payload)?;
+        let payload = Payload::copied(self.alloc, payload)?;
         let command = Command::Submit {
             node,
             client,

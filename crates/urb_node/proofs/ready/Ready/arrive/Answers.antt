@@ -9,7 +9,7 @@ use Rattle.urb_node.specs.Values.{Memory, ShowsReady}
 use Rattle.urb_node.proofs.Leads.{found-leads, refusal-leads}
 use Rattle.urb_node.proofs.ArriveOutcomes.{arrive-says}
 use Rattle.urb_node.proofs.SentPackets.{answers-of_stored, arrived-from}
-use Rattle.urb_node.proofs.ready.Ready.arrive_sharing.Goals as goal
+use Rattle.urb_node.proofs.ready.Ready.arrive.Goals as goal
 
 pub returns-in-Ok-clause-event : goal.returns-in-Ok-clause-event
 returns-in-Ok-clause-event g c =

@@ -8,7 +8,7 @@ use Rattle.urb_node.specs.Steps.{submits}
 use Rattle.urb_node.specs.Values.{Memory, ShowsReady}
 use Rattle.urb_node.proofs.Leads.{found-leads, refusal-leads}
 use Rattle.urb_node.proofs.SubmitOutcomes.{submit-says}
-use Rattle.urb_node.proofs.ready.Ready.take_submit.Goals as goal
+use Rattle.urb_node.proofs.ready.Ready.submit.Goals as goal
 
 pub returns-in-Ok-clause-event : goal.returns-in-Ok-clause-event
 returns-in-Ok-clause-event g c =
