@@ -1,7 +1,10 @@
 pub mod ClientService
+pub mod Doors
 pub mod NetworkFaults
 pub mod OpeningFaults
 pub mod Runs
 pub mod RunsAfterStop
 pub mod ServeFaults
+pub mod SocketFaults
+pub mod SocketFiles
 pub mod internal

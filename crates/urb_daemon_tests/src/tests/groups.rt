@@ -6,6 +6,7 @@ ghost use Rattle.std.specs.Prelude.{◌≡◌, ◌<◌, ◌≤◌, IfSome, vec_l
 use std::alloc::Global;
 use std::io::{Read, Write};
 use std::net::{Ipv4Addr, Net, TcpListener, TcpStream, UdpSocket};
+use std::rt::Files;
 use std::test::Fail;
 use std::thread;
 use std::time::{Clock, Duration};
@@ -187,7 +188,7 @@ fn is_alone<R: Net<Listener = TcpListener, Stream = TcpStream>>(rt: &R, station:
 
 // Whether the stations of seven nodes above this base belong to their nodes, and can't be opened
 // twice. `None` if a port is in use.
-fn are_of_their_nodes<R: Net<Listener = TcpListener, Stream = TcpStream>>(
+fn are_of_their_nodes<R: Files + Net<Listener = TcpListener, Stream = TcpStream>>(
     rt: &R,
     alloc: Global,
     base: u16,
