@@ -24,22 +24,27 @@ mod console;
 mod error_output;
 mod network_fault;
 mod opening_fault;
+mod program;
 mod prompted_input;
 mod reports;
 mod run;
 mod serve_fault;
 mod sockets;
 mod standard_streams;
+mod start_stage;
+mod surroundings;
 
 pub use console::Console;
-pub use error_output::{ErrorOutput, LAST_WAIT, TEXT_ROOM};
+pub use error_output::{ErrorOutput, FIRST_SECOND, LAST_WAIT, TEXT_ROOM};
 pub use network_fault::{
     COMMON_DESCRIPTORS, NODE_DESCRIPTORS, NetworkFault, Port, count_descriptors, judge_socket,
 };
 pub use opening_fault::{fault_of_folder, report_folder_fault};
+pub use program::{run_program, run_words, serve_folder};
 pub use prompted_input::PromptedInput;
 pub use reports::Reports;
 pub use run::{Host, report_end, run_group_at, run_journals, run_stores};
 pub use serve_fault::{ServeFault, fault_of_serve, report_serve_fault};
 pub use sockets::{Network, open_link, open_network};
 pub use standard_streams::Streams;
+pub use start_stage::{Stage, StageReports};
