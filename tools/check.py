@@ -11,7 +11,7 @@ import re
 from collections.abc import Callable, Iterable, Iterator, Sequence
 
 from tools import believed, definitions
-from tools.checks import edits, files, guarantees, limits, monitoring, names, prose, sources
+from tools.checks import edits, files, guarantees, limits, memory, monitoring, names, prose, sources
 from tools.tree import Misfit, Tree
 
 # What the headline is stated in, and how pages say how many definitions it rests on.
@@ -60,6 +60,7 @@ CHECKS: tuple[Callable[[Tree], Iterable[Misfit]], ...] = (
     names.clauses_of_decisions,
     limits.limits_of_architecture,
     limits.stated_limits,
+    memory.refusals_from_nothing,
     files.changes_of_files,
     monitoring.alerts,
     monitoring.figures,

@@ -66,6 +66,8 @@ TRIALS = (
     case("faults", "full disks, closed streams, few descriptors, signals", is_of_gate=True),
     case("connections", "many connections, half frames, one client too many", is_of_gate=True),
     case("waits", "what ends a WAIT, and what it answers", is_of_gate=True),
+    case("streams", "publish and follow: what they print, kills amid them", is_of_gate=True),
+    case("usage", "the help lists what the man page and completions list", is_of_gate=True),
     long("kills", "kills under the load of twelve clients", "--kills", "3"),
     long("crashes", "nodes are crashed and restarted under load", "--seconds", "10"),
     long("failing_calls", "system calls that fail", needs=["strace"]),

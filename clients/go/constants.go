@@ -104,6 +104,18 @@ const ClientPortOffset = 10
 // MaxTickMillis is the greatest time from one tick to the next, in milliseconds: a minute.
 const MaxTickMillis = 60000
 
+// MinConnections is the fewest connections of clients that a node may be told to serve at a time.
+const MinConnections = 4
+
+// MaxConnections is the most connections of clients that a node may be told to serve at a time.
+const MaxConnections = 1000
+
+// MaxIdleMinutes is the greatest time without a byte after which a connection is closed, in minutes: a day.
+const MaxIdleMinutes = 1440
+
+// StandardIdleMinutes is the time without a byte after which a connection is closed if nothing else is said, in minutes.
+const StandardIdleMinutes = 10
+
 // The refusals of a node, by their numbers.
 const (
 	RefusalNoMemory     = 1

@@ -34,6 +34,8 @@ COMMENT = re.compile(r"//.*")
 PLACES: Mapping[tuple[str, str], int] = {
     # what replaces a closed standard stream, once for reading and once for writing
     ("OpenOptions::new", "crates/urb_daemon/src/standard_streams.rt"): 2,
+    # makes a new journal's file, for its owner alone; a file that exists is left as it is
+    ("OpenOptions::new", "crates/urb_folder/src/node_journal.rt"): 1,
     # a copy in memory of a journal's bytes
     ("write_at", "crates/urb_folder/src/foreign_journals.rt"): 1,
     # looks whether a file is in the way; it opens for reading alone

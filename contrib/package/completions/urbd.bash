@@ -4,16 +4,21 @@ _urbd() {
     case $last in
         --dir) mapfile -t COMPREPLY < <(compgen -d -- "$word"); return ;;
         --nodes) mapfile -t COMPREPLY < <(compgen -W '1 2 3 4 5 6 7' -- "$word"); return ;;
-        --*) [[ $last == --version || $last == --help ]] || return ;;
+        --format) mapfile -t COMPREPLY < <(compgen -W 'text hex json' -- "$word"); return ;;
+        --*) [[ $last == --version || $last == --help || $last == --no-crash ]] || return ;;
     esac
     if ((COMP_CWORD == 1)); then
-        options='serve status submit read replay help --version --help'
+        options='serve status submit read publish follow replay help --version --help'
     else
         case ${COMP_WORDS[1]} in
-            serve) options='--nodes --cap --dir --base-port --tick-ms --help' ;;
+            serve)
+                options='--nodes --cap --dir --base-port --tick-ms --connections --idle-minutes --no-crash --help'
+                ;;
             status) options='--port --base-port --nodes --help' ;;
             submit) options='--port --client --number --help' ;;
             read) options='--port --from --max --help' ;;
+            publish) options='--port --client --help' ;;
+            follow) options='--port --from --format --help' ;;
             *) options='--help' ;;
         esac
     fi

@@ -4,3 +4,8 @@ mod PayloadDigits
 mod BuiltCommands
 mod SilentResponses
 mod PushedLines
+mod StepsMore
+mod TextTests
+mod StreamEnds
+mod FollowedPages
+mod PublishedTexts

@@ -1,10 +1,9 @@
 -- The numbers read from the values that the parser found.
 use Rattle.std.proofs.Common.{◌≡◌, ◌∙◌, ◌&&◌, ◌<◌, ◌≤◌, ◌^◌, ap, refl, ℕ, Bool, true}
 use Rattle.std.proofs.Common.{false, cond, List, [], ◌∷◌, length, Option, Some, None, Result, Ok}
-use Rattle.std.proofs.Common.{Err, option_map, arith}
-use Rattle.std.specs.Prelude.{IsSome, IfSome, nat_lt, nat_le, option_and_then}
+use Rattle.std.proofs.Common.{Err, arith}
+use Rattle.std.specs.Prelude.{nat_lt, nat_le, option_and_then}
 use Rattle.std.specs.List.{list_all}
-use Rattle.std.specs.Borrow.{Bor}
 use Rattle.std.specs.Char.{digit_value}
 use Rattle.std.specs.Str.Parse.{AllDigits, IsNumeral, ParsesUnsigned, digits_value}
 use Rattle.std.specs.Str.Parse.{without_leading_plus}
@@ -13,8 +12,7 @@ use Rattle.clap.specs.Words.{Text, one_text, rows_of}
 use Rattle.clap.proofs.WalkLemmas.{one_text-rows}
 use Rattle.clap.specs.Matches.{ReadsOne}
 use Rattle.clap.specs.declared.parser.matches.Found.{Found}
-use Rattle.urb_cli.specs.declared.command_line.options.ServeOptions.{ServeOptions}
-use Rattle.urb_cli.specs.Tasks.{Serve, is_decimal, number_in, number_of, task_of_serving}
+use Rattle.urb_cli.specs.Tasks.{is_decimal, number_in, number_of}
 
 digits_pass : (ds : List ℕ) → AllDigits 10 ds → list_all (λ d. nat_lt (digit_value d) 10) ds ≡ true
 digits_pass [] h = refl
@@ -84,12 +82,3 @@ number_found G low high found name r none some only fits =
         → bounded low high r ≡ option_and_then (number_in low high) o
     go None e = ap (bounded low high) (none e)
     go (Some t) e = number_read G low high t r (some t e) only fits
-
--- if the values are within their ranges, the group is made
-pub serving_made : (r : Option ServeOptions) (nodes cap : ℕ) (dir : Bor Text) (base every : ℕ)
-    → IsSome r
-    → IfSome r (λ s. (s.nodes ≡ nodes) × (s.cap ≡ cap) × (s.dir ≡ dir) × (s.base ≡ base)
-    × (s.every ≡ every))
-    → option_map task_of_serving r ≡ Some (Serve nodes cap dir.now base every)
-serving_made (Some s) nodes count dir base every some is = rw (is.0, is.1, is.2, is.3, is.4) refl
-serving_made None nodes count dir base every some is = absurd cc

@@ -4,9 +4,11 @@ use Rattle.urb_names.specs.declared.limits.TheConstants.{MAX_CAP, MAX_NODES}
 use Rattle.urb_client.specs.declared.format.TheConstants.{MOST_ENTRIES}
 use Rattle.urb_cli.specs.declared.limits.TheConstants.{MIN_BASE_PORT, MAX_BASE_PORT}
 use Rattle.urb_cli.specs.declared.limits.TheConstants.{MAX_TICK_MILLIS}
+use Rattle.urb_cli.specs.declared.limits.TheConstants.{MIN_CONNECTIONS, MAX_CONNECTIONS}
+use Rattle.urb_cli.specs.declared.limits.TheConstants.{MAX_IDLE_MINUTES}
 use Rattle.clap.specs.Words.{App, Rule, Text, new_app, new_rule, with_rule, with_subcommand}
 use Rattle.clap.specs.Words.{fault_of, Kinds, IsAmong}
-use Rattle.clap.specs.declared.builder.action.ArgAction.TheVariants.{Set}
+use Rattle.clap.specs.declared.builder.action.ArgAction.TheVariants.{Set, SetTrue}
 use Rattle.clap.specs.declared.builder.value_parser.ValueParser.{ValueParser}
 use Rattle.clap.specs.declared.builder.value_parser.ValueParser.TheVariants as vp
 use Rattle.clap.specs.declared.error.kind.ErrorKind.{ErrorKind}
@@ -33,20 +35,33 @@ number_rule name low high = option_rule name (vp.Signed low high)
 abbrev pub choice_rule : Text → ℤ → ℤ → Rule
 choice_rule name low high = record (number_rule name low high) { required = false }
 
+-- an option without a value, which may be left out
+abbrev pub flag_rule : Text → Rule
+flag_rule name = record (new_rule name) { long = Some name; action = Some SetTrue }
+
 -- `replay` takes no words of its own
 abbrev pub replay_app : App
 replay_app = new_app (codes "replay")
 
 -- `serve` takes the number of nodes, the cap, the folder, the base of the ports, and how often
 -- nodes resend
-abbrev pub serve_app : App
-serve_app =
+abbrev pub group_app : App
+group_app =
     with_rule (with_rule (with_rule (with_rule (with_rule (new_app (codes "serve"))
     (number_rule (codes "nodes") (pos 1) (pos MAX_NODES)))
     (number_rule (codes "cap") (pos 1) (pos MAX_CAP)))
     (text_rule (codes "dir")))
     (number_rule (codes "base-port") (pos MIN_BASE_PORT) (pos MAX_BASE_PORT)))
     (number_rule (codes "tick-ms") (pos 1) (pos MAX_TICK_MILLIS))
+
+-- it may also take how many clients a node serves, how long they may be idle, and that they may not
+-- crash it
+abbrev pub serve_app : App
+serve_app =
+    with_rule (with_rule (with_rule group_app
+    (choice_rule (codes "connections") (pos MIN_CONNECTIONS) (pos MAX_CONNECTIONS)))
+    (choice_rule (codes "idle-minutes") (pos 1) (pos MAX_IDLE_MINUTES)))
+    (flag_rule (codes "no-crash"))
 
 -- `submit` takes a port, a client, its number, and the payload
 abbrev pub submit_app : App
@@ -73,6 +88,30 @@ status_app =
     (choice_rule (codes "base-port") (pos MIN_BASE_PORT) (pos MAX_BASE_PORT)))
     (choice_rule (codes "nodes") (pos 1) (pos MAX_NODES))
 
+-- an option that may be left out, with any text except an empty one
+abbrev pub choice_text_rule : Text → Rule
+choice_text_rule name = record (text_rule name) { required = false }
+
+-- a word at its place that may be left out
+abbrev pub choice_place_rule : Text → Rule
+choice_place_rule name = record (place_rule name) { required = false }
+
+-- `publish` takes a port, a client, and perhaps the payload
+abbrev pub publish_app : App
+publish_app =
+    with_rule (with_rule (with_rule (new_app (codes "publish"))
+    (number_rule (codes "port") (pos 1) (pos 65535)))
+    (number_rule (codes "client") (pos 1) (pos 65535)))
+    (choice_place_rule (codes "TEXT"))
+
+-- `follow` takes a port, and perhaps a place and a format
+abbrev pub follow_app : App
+follow_app =
+    with_rule (with_rule (with_rule (new_app (codes "follow"))
+    (number_rule (codes "port") (pos 1) (pos 65535)))
+    (choice_rule (codes "from") (pos 1) (pos 4294967295)))
+    (choice_text_rule (codes "format"))
+
 -- the program has a version, and needs one of its subcommands
 abbrev pub bare_app : App
 bare_app = record {
@@ -84,8 +123,9 @@ bare_app = record {
 -- the program with its subcommands
 abbrev pub urbd_app : App
 urbd_app =
-    with_subcommand (with_subcommand (with_subcommand (with_subcommand (with_subcommand bare_app
-    replay_app.top) serve_app.top) submit_app.top) read_app.top) status_app.top
+    with_subcommand (with_subcommand (with_subcommand (with_subcommand (with_subcommand
+    (with_subcommand (with_subcommand bare_app replay_app.top) serve_app.top) submit_app.top)
+    read_app.top) status_app.top) publish_app.top) follow_app.top
 
 -- the faults that the parser finds first in these words: no fault if they are a command line of the
 -- program

@@ -1,6 +1,12 @@
 pub mod Advice
+pub mod Calls
 pub mod ClientOutput
 pub mod CommandLine
+pub mod EntryForms
+pub mod Following
 pub mod OptionRanges
+pub mod Publishing
 pub mod Statuses
+pub mod Streams
 pub mod Tasks
+pub mod internal

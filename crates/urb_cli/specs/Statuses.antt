@@ -36,6 +36,8 @@ IsErrandsEnd errand.Replay status = IsScriptsEnd status
 IsErrandsEnd (errand.Submit submitting) status = IsClientsEnd status
 IsErrandsEnd (errand.Read reading) status = IsClientsEnd status
 IsErrandsEnd (errand.Status asking) status = IsClientsEnd status
+IsErrandsEnd (errand.Publish publishing) status = IsClientsEnd status
+IsErrandsEnd (errand.Follow following) status = IsClientsEnd status
 
 -- the program's fault for a fault of a run
 abbrev pub fault_of_run : RunFault → Fault

@@ -1,6 +1,6 @@
 -- What a command line asks for.
 use Rattle.std.specs.Prelude.{◌≡◌, ◌⊎◌, ◌+◌, ℕ, Bool, ◌&&◌, nat_lt, nat_le, List, [], length}
-use Rattle.std.specs.Prelude.{Option, Some}
+use Rattle.std.specs.Prelude.{Option, Some, false, not, option_map, unwrap_or}
 use Rattle.std.specs.Prelude.{None, option_and_then, if◌then◌else◌, codes}
 use Rattle.std.specs.List.{list_all}
 use Rattle.std.specs.Char.{digit_value}
@@ -10,32 +10,51 @@ use Rattle.urb_names.specs.declared.limits.TheConstants.{MAX_CAP, MAX_NODES}
 use Rattle.urb_client.specs.declared.format.TheConstants.{MOST_ENTRIES}
 use Rattle.urb_cli.specs.declared.limits.TheConstants.{MIN_BASE_PORT, MAX_BASE_PORT}
 use Rattle.urb_cli.specs.declared.limits.TheConstants.{MAX_TICK_MILLIS, CLIENT_PORT_OFFSET}
+use Rattle.urb_cli.specs.declared.limits.TheConstants.{MIN_CONNECTIONS, MAX_CONNECTIONS}
+use Rattle.urb_cli.specs.declared.limits.TheConstants.{MAX_IDLE_MINUTES, STANDARD_IDLE_MINUTES}
 use Rattle.clap.specs.Words.{Row, Text, first_of, one_of, subcommand_of}
 use Rattle.urb_cli.specs.CommandLine.{urbd_app, faults_of, HasStatus}
 use Rattle.urb_cli.specs.declared.command_line.options.ServeOptions.{ServeOptions}
+use Rattle.urb_cli.specs.declared.command_line.service.ServiceOptions.{ServiceOptions}
 use Rattle.urb_cli.specs.declared.command_line.task.SubmitOptions.{SubmitOptions}
 use Rattle.urb_cli.specs.declared.command_line.task.ReadOptions.{ReadOptions}
 use Rattle.urb_cli.specs.declared.command_line.task.StatusOptions.{StatusOptions}
+use Rattle.urb_cli.specs.declared.client.entry_form_kind.EntryForm.{EntryForm}
+use Rattle.urb_cli.specs.declared.client.entry_form_kind.EntryForm.TheVariants as form
+use Rattle.urb_cli.specs.declared.command_line.stream_options.PublishOptions.{PublishOptions}
+use Rattle.urb_cli.specs.declared.command_line.stream_options.FollowOptions.{FollowOptions}
 use Rattle.urb_cli.specs.declared.command_line.task.Errand.{Errand}
 use Rattle.urb_cli.specs.declared.command_line.task.Errand.TheVariants as errand
 use Rattle.urb_cli.specs.declared.command_line.task.Line.{Line}
 use Rattle.urb_cli.specs.declared.command_line.task.Line.TheVariants as line
 
--- What the program has to do: run a script; run a group; submit a text; read entries; or show the
--- state of nodes. A group has its nodes, cap, folder, base of the ports, and pause between resends.
--- A text is submitted at a port, as a client, under a number. Entries are read at a port, from a
+-- How nodes serve their clients: how many connections a node has at a time, after how many minutes
+-- without a byte one is closed, and whether clients may crash and restart a node.
+abbrev pub Service : Type 0
+Service = ℕ × ℕ × Bool
+
+-- What the program has to do: run a script; run a group; submit a text; read entries; show the state
+-- of nodes; publish texts; or follow a log. A group has its nodes, cap, folder, base of the ports,
+-- pause between resends, and service to clients. A text is submitted at a port, as a client, under a number. Entries are read at a port, from a
 -- place on, up to a number of them. The states are those of the nodes at a port and at the ports
--- after it, a number of them in all.
+-- after it, a number of them in all. One text or an input is published at a port, as a client. A log
+-- is followed at a port, from a place on, in a form.
 pub data Task : Type 0 where
   Replay : Task
-  Serve : ℕ → ℕ → Text → ℕ → ℕ → Task
+  Serve : ℕ → ℕ → Text → ℕ → ℕ → Service → Task
   Submit : ℕ → ℕ → ℕ → Text → Task
   Read : ℕ → ℕ → ℕ → Task
   Status : ℕ → ℕ → Task
+  Publish : ℕ → ℕ → Option Text → Task
+  Follow : ℕ → ℕ → EntryForm → Task
+
+-- the service that these options ask for
+abbrev pub service_of : ServiceOptions → Service
+service_of s = (s.connections, s.idle_minutes, s.may_crash)
 
 -- the task of a group to run
 abbrev pub task_of_serving : ServeOptions → Task
-task_of_serving s = Serve s.nodes s.cap s.dir.now s.base s.every
+task_of_serving s = Serve s.nodes s.cap s.dir.now s.base s.every (service_of s.service)
 
 -- the task of a message to submit
 abbrev pub task_of_submitting : SubmitOptions → Task
@@ -49,12 +68,22 @@ task_of_reading r = Read r.port r.from r.max
 abbrev pub task_of_asking : StatusOptions → Task
 task_of_asking s = Status s.port s.count
 
+-- the task of texts to publish
+abbrev pub task_of_publishing : PublishOptions → Task
+task_of_publishing p = Publish p.port p.client (option_map (λ s. s.now) p.text)
+
+-- the task of a log to follow
+abbrev pub task_of_following : FollowOptions → Task
+task_of_following f = Follow f.port f.from f.form
+
 -- the task of an errand
 abbrev pub task_of_errand : Errand → Task
 task_of_errand errand.Replay = Replay
 task_of_errand (errand.Submit s) = task_of_submitting s
 task_of_errand (errand.Read r) = task_of_reading r
 task_of_errand (errand.Status s) = task_of_asking s
+task_of_errand (errand.Publish p) = task_of_publishing p
+task_of_errand (errand.Follow f) = task_of_following f
 
 -- the task of a command line
 abbrev pub task_of : Line → Task
@@ -83,6 +112,23 @@ None >>= f = None
 abbrev pub number_of : Text → ℕ → ℕ → List Row → Option ℕ
 number_of name low high rows = option_and_then (number_in low high) (one_of name rows)
 
+-- the value of an option that may be left out, as a number; this one if it is left out
+abbrev pub number_or : ℕ → Text → ℕ → ℕ → List Row → ℕ
+number_or standard name low high rows = unwrap_or (number_of name low high rows) standard
+
+-- an option without a value was given
+abbrev pub is_given : Text → List Row → Bool
+is_given name rows =
+    unwrap_or (option_map (λ text. bytes_eq text (codes "true")) (first_of name rows)) false
+
+-- how nodes serve their clients, from the options
+unfoldable pub service_asked : List Row → Service
+service_asked rows = (
+  number_or MAX_CONNECTIONS (codes "connections") MIN_CONNECTIONS MAX_CONNECTIONS rows,
+  number_or STANDARD_IDLE_MINUTES (codes "idle-minutes") 1 MAX_IDLE_MINUTES rows,
+  not (is_given (codes "no-crash") rows),
+)
+
 -- a group to run, from its options
 unfoldable pub serve_task : List Row → Option Task
 serve_task rows = do
@@ -91,7 +137,7 @@ serve_task rows = do
   dir ← first_of (codes "dir") rows
   base ← number_of (codes "base-port") MIN_BASE_PORT MAX_BASE_PORT rows
   every ← number_of (codes "tick-ms") 1 MAX_TICK_MILLIS rows
-  Some (Serve nodes cap dir base every)
+  Some (Serve nodes cap dir base every (service_asked rows))
 
 -- a message to submit, from its options and its text
 unfoldable pub submit_task : List Row → Option Task
@@ -124,6 +170,33 @@ status_task rows =
     (number_of (codes "base-port") MIN_BASE_PORT MAX_BASE_PORT rows)
     (number_of (codes "nodes") 1 MAX_NODES rows)
 
+-- texts to publish, from the options: one text, or those of an input
+unfoldable pub publish_task : List Row → Option Task
+publish_task rows = do
+  port ← number_of (codes "port") 1 65535 rows
+  client ← number_of (codes "client") 1 65535 rows
+  Some (Publish port client (first_of (codes "TEXT") rows))
+
+-- the form with this name
+abbrev pub form_named : Text → Option EntryForm
+form_named word =
+    if bytes_eq word (codes "text") then Some form.Text
+    else if bytes_eq word (codes "hex") then Some form.Hex
+    else if bytes_eq word (codes "json") then Some form.Json
+    else None
+
+-- the form of a log to follow: text if none is named
+abbrev pub chosen_form : Option Text → Option EntryForm
+chosen_form None = Some form.Text
+chosen_form (Some word) = form_named word
+
+-- a log to follow, from the options
+unfoldable pub follow_task : List Row → Option Task
+follow_task rows = do
+  port ← number_of (codes "port") 1 65535 rows
+  form ← chosen_form (first_of (codes "format") rows)
+  Some (Follow port (unwrap_or (number_of (codes "from") 1 4294967295 rows) 1) form)
+
 -- the task of a subcommand, from what was found for it
 abbrev pub task_named : Option (Text × List Row) → Option Task
 task_named None = None
@@ -133,6 +206,8 @@ task_named (Some (name, rows)) =
     else if bytes_eq name (codes "submit") then submit_task rows
     else if bytes_eq name (codes "read") then read_task rows
     else if bytes_eq name (codes "status") then status_task rows
+    else if bytes_eq name (codes "publish") then publish_task rows
+    else if bytes_eq name (codes "follow") then follow_task rows
     else None
 
 -- the parser finds no fault in these words, but the options that they have don't fit together

@@ -3,5 +3,9 @@
 pub(crate) mod grammar;
 pub(crate) mod options;
 pub(crate) mod parse;
+pub(crate) mod service;
+pub(crate) mod stream_grammar;
+pub(crate) mod stream_options;
+pub(crate) mod stream_values;
 pub(crate) mod task;
 pub(crate) mod values;

@@ -3,12 +3,15 @@
 ghost use Rattle.std.specs.Prelude.{◌≡◌};
 ghost use Rattle.urb_cli.specs.Statuses.{IsErrandsEnd, status_of};
 
+use crate::client::follow::run_follow;
+use crate::client::publish::run_publish;
 use crate::client::run::{run_read, run_submit};
 use crate::client::status::run_status;
 use crate::command_line::task::Errand;
 use crate::faults::{Fault, report_fault};
 use crate::script::replay;
 use std::net::{Net, TcpListener, TcpStream};
+use std::time::Clock;
 use urb_script::{Ended, RunFault};
 
 /// The status of a script with a bad line.
@@ -31,7 +34,12 @@ pub fn report_script_end<R: Eprint>(rt: &R, outcome: Result<Ended, RunFault>) ->
 /// fault.
 pub fn run_errand<R>(rt: &R, errand: Errand<'_>) -> u8
 where
-    R: AllocGlobal + Print + Eprint + Input + Net<Listener = TcpListener, Stream = TcpStream>,
+    R: AllocGlobal
+        + Print
+        + Eprint
+        + Input
+        + Clock
+        + Net<Listener = TcpListener, Stream = TcpStream>,
     ensures { IsErrandsEnd errand.entry result }
 {
     match errand {
@@ -39,5 +47,7 @@ where
         Errand::Submit(submitting) => run_submit(rt, submitting),
         Errand::Read(reading) => run_read(rt, reading),
         Errand::Status(asking) => run_status(rt, asking),
+        Errand::Publish(publishing) => run_publish(rt, publishing),
+        Errand::Follow(following) => run_follow(rt, following),
     }
 }

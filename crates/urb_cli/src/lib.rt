@@ -26,14 +26,26 @@ mod script;
 mod version;
 
 pub use client::call_fault::{CallFault, report_call_fault};
+pub use client::caller::{Caller, TRIES};
+pub use client::entry_form_kind::EntryForm;
+pub use client::follow::follow_over;
 pub use client::printed::Printed;
+pub use client::publish::publish_over;
 pub use client::run::{read_at, read_over, show, submit_at, submit_over};
 pub use client::status::{status_at, status_over};
+pub use client::stream_end::report_stream_end;
+pub use client::stream_fault::{StreamEnd, StreamFault};
+pub use client::texts::{InputLines, OneText, Texts};
 pub use command_line::options::ServeOptions;
 pub use command_line::parse::{parse_line, read_words};
+pub use command_line::service::ServiceOptions;
+pub use command_line::stream_options::{FollowOptions, PublishOptions};
 pub use command_line::task::{Errand, Line, ReadOptions, StatusOptions, SubmitOptions};
 pub use errands::{report_script_end, run_errand};
 pub use faults::{Fault, report_fault};
-pub use limits::{CLIENT_PORT_OFFSET, MAX_BASE_PORT, MAX_TICK_MILLIS, MIN_BASE_PORT};
+pub use limits::{
+    CLIENT_PORT_OFFSET, MAX_BASE_PORT, MAX_CONNECTIONS, MAX_IDLE_MINUTES, MAX_TICK_MILLIS,
+    MIN_BASE_PORT, MIN_CONNECTIONS, STANDARD_IDLE_MINUTES,
+};
 pub use script::replay;
 pub use version::VERSION;

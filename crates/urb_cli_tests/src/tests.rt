@@ -3,6 +3,9 @@
 mod clients;
 mod lines;
 mod scripts;
+mod serving;
+mod stream_lines;
+mod streams;
 
 use std::alloc::Global;
 use urb_cli::{Errand, Line, parse_line, read_words, replay, report_script_end};

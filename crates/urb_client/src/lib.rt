@@ -36,7 +36,7 @@ mod response_receiver;
 mod sessions;
 
 pub use buffered_answers::{BufferedAnswers, BufferedWriter, FlushingInput};
-pub use format::MOST_ENTRIES;
+pub use format::{MOST_ENTRIES, UNKNOWN_OPCODE};
 pub use pages::one_page_after_another;
 pub use request::{Request, encode_request, parse_request};
 pub use response::{Entries, NodeState, Response, encode_response};

@@ -163,8 +163,10 @@ fn respond<D: Desk>(
 {
     match parse_request(alloc, body) {
         Ok(request) => desk.answer(&request),
-        Err(Refusal::NoMemory) => Err(NoMemory),
-        Err(refusal) => Ok(Response::refused(&refusal)),
+        Err(refusal) => match refusal.as_no_memory() {
+            Some(refused) => Err(refused),
+            None => Ok(Response::refused(&refusal)),
+        },
     }
 }
 

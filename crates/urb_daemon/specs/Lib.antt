@@ -1,3 +1,4 @@
+pub mod ClientService
 pub mod NetworkFaults
 pub mod OpeningFaults
 pub mod Runs

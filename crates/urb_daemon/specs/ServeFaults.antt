@@ -7,7 +7,7 @@ use Rattle.urb_daemon.specs.declared.serve_fault.ServeFault.{ServeFault}
 use Rattle.urb_daemon.specs.declared.serve_fault.ServeFault.TheVariants.{Network, NoMemory, Unopened}
 use Rattle.urb_daemon.specs.declared.serve_fault.ServeFault.TheVariants.{Untold}
 
--- The program's fault for a group that doesn't run. A refused opening is told as its refusal.
+-- The program's fault for a group that doesn't run. A refused opening becomes its refusal.
 abbrev pub fault_of_serve : ServeFault → Fault
 fault_of_serve (Unopened why) = fault_of_refusal why
 fault_of_serve (Network network.NoMemory) = fault.NoMemory

@@ -57,7 +57,7 @@ impl<R: Threads + Wait + Clock + Copy + Send + Drop + 'static> ErrorOutput<R> {
         });
         match writer {
             Ok(writer) => drop(writer),
-            Err(_) => return Err(NoMemory),
+            Err(_) => return Err(NoMemory::from(AllocError)),
         }
         Ok(ErrorOutput {
             rt,
@@ -120,8 +120,8 @@ fn write_count<E: Eprint>(output: &E, lost: &AtomicU64, count: u64) {
     }
 }
 
-// Writes each text that comes, until the output is ended. Lost texts are told right before the next
-// text that was sent, or once nothing waits.
+// Writes each text that comes, until the output ends. It reports lost texts right before the next
+// text, or once nothing waits.
 fn write_texts<R: Wait, E: Eprint>(rt: &R, output: &E, queued: &Receiver<Text>, lost: &AtomicU64) {
     for _ in rt.forever() {
         let Ok(Text { lost_before, text }) = queued.recv(rt) else {

@@ -5,8 +5,9 @@
 //! let (dir, nodes) = (serving.dir, serving.nodes);
 //! let errors = ErrorOutput::start(rt, rt.alloc(), rt)?;  // a full pipe makes nobody wait
 //! let journals = open_journals::<NodeFile<Brand>, HostRuntime>(&rt, &rt, dir, nodes)?;
-//! let (reports, mut console) = (Reports::new(&errors), Console::new(&rt, rt.reader()));
-//! let alloc = rt.alloc();
+//! let (reports, alloc) = (Reports::new(&errors), rt.alloc());
+//! let input = PromptedInput::new(rt.reader(), &errors);  // a terminal shows how to stop
+//! let mut console = Console::new(&rt, input);
 //! let (journals, ended) = run_journals(&rt, alloc, serving, journals, &reports, &mut console);
 //! close_journals(&rt, dir, journals);
 //! let status = report_end(&rt, &errors, ended);
@@ -23,6 +24,7 @@ mod console;
 mod error_output;
 mod network_fault;
 mod opening_fault;
+mod prompted_input;
 mod reports;
 mod run;
 mod serve_fault;
@@ -35,6 +37,7 @@ pub use network_fault::{
     COMMON_DESCRIPTORS, NODE_DESCRIPTORS, NetworkFault, Port, count_descriptors, judge_socket,
 };
 pub use opening_fault::{fault_of_folder, report_folder_fault};
+pub use prompted_input::PromptedInput;
 pub use reports::Reports;
 pub use run::{Host, report_end, run_group_at, run_journals, run_stores};
 pub use serve_fault::{ServeFault, fault_of_serve, report_serve_fault};

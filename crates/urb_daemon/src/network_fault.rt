@@ -67,7 +67,7 @@ impl From<AllocError> for NetworkFault {
     }
 }
 
-/// What an error of this kind says, when a group that needs so many descriptors opens this port.
+/// What an error of this kind says, when a group that needs that many descriptors opens this port.
 pub fn judge_socket(port: Port, needed: u16, kind: ErrorKind) -> NetworkFault
     ensures { result ≡ fault_at port needed kind }
 {

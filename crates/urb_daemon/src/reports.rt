@@ -1,7 +1,7 @@
 //! What operators read about a running group.
 
 use urb_names::{NodeId, Refusal};
-use urb_worker::{Change, MOST_CONNECTIONS, Reporter};
+use urb_worker::{Change, Reporter};
 
 /// Reports each node that goes down or comes back, in a line of its own. A line that can't be
 /// written is lost. A worker calls it, so the output should be one that never waits.
@@ -38,12 +38,16 @@ impl<'a, E: Eprint> Reporter for Reports<'a, E> {
         }
     }
 
-    /// Reports it only if there are too few descriptors for `MOST_CONNECTIONS`.
     fn report_connections(&self, each: usize) {
-        if each < MOST_CONNECTIONS {
-            let _ = eprintln!(self.errors;
-                "urbd: few descriptors: each node serves {each} connections"
-            );
-        }
+        let _ = eprintln!(self.errors;
+            "urbd: few descriptors: each node serves {each} connections"
+        );
+    }
+
+    fn report_cut_feed(&self, node: NodeId) {
+        let node = node.number();
+        let _ = eprintln!(self.errors;
+            "urbd: no memory to feed node {node}: ticks bring what its log lacks"
+        );
     }
 }

@@ -25,13 +25,34 @@ use urb_cli::{Fault, ServeOptions, report_fault};
 use urb_folder::{Journal, open_group};
 use urb_group::{Group, Stable};
 use urb_show::House;
-use urb_worker::{ClientLimits, GroupSetting, Reporter, Watch, run_group};
+use urb_worker::{GroupSetting, Reporter, Watch, run_group};
 
 /// What the daemon needs of the runtime: threads, waiting and the clock. Functions that use sockets
 /// ask for `Net` as well, because they have to name the types of its sockets.
 pub trait Host: Threads + Wait + Clock + Sync {}
 
 impl<R: Threads + Wait + Clock + Sync> Host for R {}
+
+// What a group at this network runs with.
+fn setting_at<'a, H: Reporter, R>(
+    rt: &'a R,
+    alloc: Global,
+    network: &'a Network,
+    reporter: &'a H,
+) -> GroupSetting<'a, H, R>
+    ensures stations { result.stations.now ≡ network.now.stations.items }
+    ensures limits { (result.tick_millis ≡ network.now.every) × (result.limits ≡ network.now.limits) }
+{
+    GroupSetting {
+        rt,
+        alloc,
+        link: &network.link,
+        stations: network.stations.as_slice(),
+        tick_millis: network.every,
+        reporter,
+        limits: network.limits,
+    }
+}
 
 /// Runs a group over its stores until the watch ends. It reports each node that goes down or comes
 /// back. It returns the stores, and the count of the group's events. There is no count if memory or
@@ -57,16 +78,15 @@ where
     let Ok(opened) = House::open(group) else {
         unreachable!()
     };
-    let setting = GroupSetting {
-        rt,
-        alloc,
-        link: &network.link,
-        stations: network.stations.as_slice(),
-        tick_millis: network.every,
-        reporter,
-        limits: ClientLimits::standard(network.connections),
-    };
+    let setting = setting_at(rt, alloc, network, reporter);
     run_group::<Brand, Brand, S, H, R, W>(&setting, opened, blank, stores, watch)
+}
+
+// Reports how many connections each node serves, if that is fewer than were asked for.
+fn report_connections<H: Reporter>(reporter: &H, serving: ServeOptions<'_>, each: usize) {
+    if each < usize::from(serving.service.connections) {
+        reporter.report_connections(each);
+    }
 }
 
 // How a run has ended, judged by the count of its events, if it has one, and by whether its opening
@@ -122,7 +142,7 @@ where
     };
     match open_network(rt, alloc, serving) {
         Ok(network) => {
-            reporter.report_connections(network.connections);
+            report_connections(reporter, serving, network.limits.connections);
             let (stores, events) = run_group_at(
                 rt, alloc, group, &network, stores, reporter, console,
             );

@@ -20,7 +20,7 @@ pub enum ServeFault {
     NoMemory,
 }
 
-/// The program's fault for a group that doesn't run. A refused opening is told as its refusal.
+/// The program's fault for a group that doesn't run. A refused opening becomes its refusal.
 pub fn fault_of_serve(why: ServeFault) -> Fault
     ensures { result ≡ fault_of_serve why }
 {

@@ -1,6 +1,7 @@
 //! The journal of one node in its folder: finds it, makes it, and closes it.
 
-ghost use Rattle.std.specs.Prelude.{◌≡◌, suc, false, length, IfErr, IfOk, IfSome};
+ghost use Rattle.std.specs.Prelude.{◌≡◌, suc, false, true, length, IfErr, IfOk, IfSome};
+ghost use Rattle.std.specs.Fs.{asks_create_new, asks_write};
 ghost use Rattle.urb_stable.specs.Storing.{is_place};
 ghost use Rattle.urb_sqlite.specs.Nodes.{IsFoundIn};
 ghost use Rattle.urb_folder.specs.internal.OpenedJournals.{OpensIn};
@@ -10,13 +11,16 @@ use crate::journal::{FileId, Journal};
 use sqlite::FileStore;
 use sqlite_disk::Disk;
 use std::fs;
-use std::fs::Metadata;
-use std::os::unix::fs::MetadataExt;
+use std::fs::{Metadata, OpenOptions};
+use std::os::unix::fs::{MetadataExt, OpenOptionsExt};
 use std::rt::HostRuntime;
 use std::sync::Arc;
 use urb_names::NodeId;
 use urb_sqlite::{MessagePool, NodeDisk, SqlStable, close_node_in, open_node_in};
 use urb_stable::{Stable, StoreFault};
+
+// The mode of the files of a new journal: only their owner may read and write them.
+const JOURNAL_MODE: u32 = 0o600;
 
 /// The result of looking for a journal: nothing, or the outcome of opening the one that is there.
 pub(crate) type Found<D> = Option<Result<Journal<D>, StoreFault>>;
@@ -37,11 +41,15 @@ fn node_at(place: usize) -> Option<NodeId>
     NodeId::new(u8::try_from(place.checked_add(1)?).ok()?)
 }
 
+// The path of a node's journal in this folder. `None` if memory for it was refused.
+fn path_of(rt: &HostRuntime, dir: &str, node: NodeId) -> Option<String> {
+    format!(in rt.alloc(); "{dir}/node-{}.db", node.number()).ok()
+}
+
 // What the system says of the file with the name of a node's journal in this folder. `None` if no
 // file has that name.
 fn metadata_of(rt: &HostRuntime, dir: &str, node: NodeId) -> Option<Metadata> {
-    let path = format!(in rt.alloc(); "{dir}/node-{}.db", node.number()).ok()?;
-    fs::metadata(rt, path.as_str()).ok()
+    fs::metadata(rt, path_of(rt, dir, node)?.as_str()).ok()
 }
 
 // The file with the name of a node's journal in this folder. `None` if no file has that name.
@@ -100,6 +108,25 @@ pub(crate) fn open_at<D: NodeDisk>(
     }
 }
 
+// How a new journal's file is made: with `JOURNAL_MODE`, and never in place of an existing file. The
+// standard library's `mode` has no clause. So a test shows the mode, and no clause here does.
+fn options_of_new() -> OpenOptions
+    ensures { (asks_create_new result ≡ true) × (asks_write result ≡ true) }
+{
+    let mut options = OpenOptions::new();
+    options.mode(JOURNAL_MODE);
+    options.write(true).create_new(true);
+    options
+}
+
+// Makes the database file of a node in this folder. The log beside it gets its mode. If it can't be
+// made, the opening that follows says why.
+fn make_file(rt: &HostRuntime, dir: &str, node: NodeId) {
+    if let Some(path) = path_of(rt, dir, node) {
+        let _ = options_of_new().open(rt, path.as_str());
+    }
+}
+
 /// How many bytes the database file at this place has. `None` if there is no such file.
 pub(crate) fn length_at(folder: &Folder<'_>, place: usize) -> Option<usize> {
     let found = metadata_of(folder.rt, folder.dir, node_at(place)?)?;
@@ -123,6 +150,9 @@ pub(crate) fn make_next<D: NodeDisk>(
     requires { AreOpened (OpensIn D.Disk D.NodeDisk.held) (length earlier.now) earlier.now }
     ensures { OpensIn D.Disk D.NodeDisk.held (length earlier.now) result }
 {
+    if let Some(node) = node_at(earlier.len()) {
+        make_file(folder.rt, folder.dir, node);
+    }
     open_at::<D>(folder.rt, folder.dir, folder.pool, earlier.len())
 }
 

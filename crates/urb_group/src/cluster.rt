@@ -72,8 +72,9 @@ impl<S: Stable> Cluster<S> {
         requires { length stores.items ≡ config.n }
         ensures { Starts config stores.items stores result }
     {
-        let Ok(group) = Group::new(alloc, config) else {
-            return Err((stores, NoMemory));
+        let group = match Group::new(alloc, config) {
+            Ok(group) => group,
+            Err(refused) => return Err((stores, refused)),
         };
         match no_drafts(alloc, config.n()) {
             Ok(drafts) => Ok(Cluster {

@@ -1,6 +1,6 @@
 //! Lists of commands.
 
-ghost use Rattle.std.specs.Prelude.{◌≡◌};
+ghost use Rattle.std.specs.Prelude.{◌≡◌, is_some};
 ghost use Rattle.urb_group.specs.Commands.{is_no_memory};
 ghost use Rattle.urb_group.specs.Plays.{IsPromised, Plays, Runs, told_in};
 ghost use Rattle.urb_group.specs.Shown.{Shows};
@@ -12,11 +12,14 @@ use std::alloc::Allocator;
 use urb_names::{NoMemory, Refusal};
 use urb_stable::Stable;
 
-// Says whether memory was refused to the command.
-fn is_memory_refused<A: Allocator>(reply: &Reply<A>) -> bool
-    ensures { result ≡ is_no_memory reply.now }
+// Returns the refused allocation, if memory was refused to the command.
+fn refused_memory<A: Allocator>(reply: &Reply<A>) -> Option<NoMemory>
+    ensures { is_some result ≡ is_no_memory reply.now }
 {
-    matches!(reply, Reply::Refused(Refusal::NoMemory))
+    match reply {
+        Reply::Refused(refusal) => refusal.as_no_memory(),
+        _ => None,
+    }
 }
 
 // Plays the commands one after the other, until memory is refused.
@@ -29,12 +32,12 @@ fn play_commands<S: Stable>(
 {
     let mut replies = Vec::new(alloc);
     for command in commands {
-        let Ok(()) = replies.reserve(1) else {
-            return Err((replies, NoMemory));
-        };
+        if let Err(refused) = replies.reserve(1) {
+            return Err((replies, NoMemory::from(refused)));
+        }
         let reply = cluster.apply(alloc, command);
-        if is_memory_refused(&reply) {
-            return Err((replies, NoMemory));
+        if let Some(refused) = refused_memory(&reply) {
+            return Err((replies, refused));
         }
         replies.push_reserved(reply);
     }

@@ -95,7 +95,7 @@ impl<A: Allocator + Copy> Message<A> {
                 number,
                 payload,
             }),
-            Err(_) => Err(NoMemory),
+            Err(refused) => Err(NoMemory::from(refused)),
         }
     }
 

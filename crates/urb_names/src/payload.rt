@@ -39,7 +39,7 @@ impl<A: Allocator + Copy> Payload<A> {
     {
         match Arc::new(alloc, bytes) {
             Ok(bytes) => Ok(Payload { bytes }),
-            Err(_) => Err(NoMemory),
+            Err(refused) => Err(NoMemory::from(refused)),
         }
     }
 

@@ -1,5 +1,5 @@
 //! Why a call was refused.
-ghost use Rattle.std.specs.Prelude.{◌≡◌};
+ghost use Rattle.std.specs.Prelude.{◌≡◌, ◌≢◌, MatchOption};
 ghost use Rattle.urb_names.specs.Refusing.{number_of, detail_of};
 
 use crate::{Name, NodeId};
@@ -8,19 +8,24 @@ use thiserror::Error;
 
 /// An allocation was refused. The value that the call worked on is unchanged, so the caller may
 /// make the same call again.
+///
+/// Only a refused allocation makes this value: its field is private, so a body that has seen no
+/// refusal can't return it.
 #[derive(Clone, Copy, Debug, PartialEq, Eq, Error)]
 #[error("no memory")]
-pub struct NoMemory;
+pub struct NoMemory {
+    refused: (),
+}
 
 impl From<AllocError> for NoMemory {
     fn from(_: AllocError) -> NoMemory {
-        NoMemory
+        NoMemory { refused: () }
     }
 }
 
 impl<T: Drop> From<AllocFailed<T>> for NoMemory {
     fn from(_: AllocFailed<T>) -> NoMemory {
-        NoMemory
+        NoMemory { refused: () }
     }
 }
 
@@ -169,6 +174,16 @@ impl Refusal {
             Refusal::BadRow(place) => *place,
             Refusal::Frame(code) => u32::from(*code),
             _ => 0,
+        }
+    }
+
+    /// The refused allocation, if the refusal is one.
+    pub fn as_no_memory(&self) -> Option<NoMemory>
+        ensures { MatchOption result (self.now ≢ Refusal.NoMemory) (λ _. self.now ≡ Refusal.NoMemory) }
+    {
+        match self {
+            Refusal::NoMemory => Some(NoMemory { refused: () }),
+            _ => None,
         }
     }
 }

@@ -83,8 +83,8 @@ impl<A: Allocator + Copy> Pending<A> {
         name.recall();
         let own = name.sender == self.node;
         let client = message.client();
-        if self.clients.make_room_if(own, client).is_err() {
-            return Err((message, NoMemory));
+        if let Err(refused) = self.clients.make_room_if(own, client) {
+            return Err((message, refused));
         }
         self.windows.insert(name, message)?;
         self.clients.add_if(own, client, name.seq);

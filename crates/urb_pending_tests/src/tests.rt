@@ -9,7 +9,7 @@ mod told;
 
 use std::alloc::{Allocator, Global};
 use told::{Check, are_told, holds};
-use urb_names::{ClientId, Config, Message, Name, NoMemory, NodeId};
+use urb_names::{ClientId, Config, Message, Name, NodeId};
 use urb_pending::*;
 use urb_refusing::Refusing;
 
@@ -78,7 +78,7 @@ impl<A: Allocator + Copy> Tested<A> {
             return None;
         }
         let message = Message::copy_of(messages, client, number, &number.to_be_bytes()).ok()?;
-        let Err((back, NoMemory)) = self.pending.add(name, message) else {
+        let Err((back, _)) = self.pending.add(name, message) else {
             return Some(false);
         };
         if !holds(&self.pending, before) {

@@ -17,6 +17,7 @@ use Rattle.urb_script.specs.internal.Lines.{ReadsLine, TookPart}
 use Rattle.std.proofs.KnownBytes.{Consumes-nil}
 use Rattle.urb_script.specs.declared.input.LineRead.TheVariants.{Whole, Long}
 use Rattle.std.specs.Io.KnownBytes.{Consumes, IsAtEnd}
+use Rattle.urb_script.specs.declared.input.TheConstants.{LONGEST_LINE}
 
 -- a word, a space and the words after it
 pub first_of_words : (text : List ℕ) (at : ℕ) → position (λ byte. byte == 32) text ≡ Some at
@@ -86,12 +87,12 @@ first_ended [] others some = absurd (omega (arith, some))
 first_ended (byte ∷ bytes) [] some = ([], refl)
 first_ended (byte ∷ bytes) (second ∷ others) some = (ended_lines (second ∷ others), refl)
 
-lines_long : (front rest : List ℕ) → Plain front → 65536 < length front
+lines_long : (front rest : List ℕ) → Plain front → LONGEST_LINE < length front
     → (long : List ℕ) × (others : List (List ℕ)) × (lines_of (front ++ rest) ≡ long ∷ others)
-    × (65536 < length long)
+    × (LONGEST_LINE < length long)
 lines_long front rest plain long =
     let piece = some_piece rest in
-    let size : 65536 < length (front ++ piece.0) =
+    let size : LONGEST_LINE < length (front ++ piece.0) =
     omega (arith, long, length-append front piece.0) in
     let ended = first_ended (front ++ piece.0) piece.1 (omega (arith, size)) in (
       front ++ piece.0,
@@ -126,7 +127,7 @@ read_last (Some bytes) (Some more) (Some rest) line plain c d e some = (
 
 -- the front of a line that is too long
 pub read_long : (known left : Option (List ℕ)) (line : List ℕ) → Plain line
-    → Consumes known left line → 65536 < length line → ReadsLine known left line Long
+    → Consumes known left line → LONGEST_LINE < length line → ReadsLine known left line Long
 read_long None left line plain c long = tt
 read_long (Some bytes) None line plain c long = absurd c
 read_long (Some bytes) (Some rest) line plain c long =

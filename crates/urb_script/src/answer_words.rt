@@ -3,9 +3,9 @@
 ghost use Rattle.std.specs.Prelude.{◌≡◌, ◌++◌, OnOk};
 ghost use Rattle.urb_script.specs.Texts.{told_text};
 
-use std::alloc::Allocator;
-use std::fmt;
+use std::alloc::{AllocError, Allocator};
 use std::io::Write;
+use std::{fmt, io};
 use urb_names::{Config, Name, NoMemory, NodeId, PacketFault, Refusal, Rule};
 
 /// An answer in fixed words to a command.
@@ -203,9 +203,14 @@ impl fmt::Display for Told {
     }
 }
 
+/// The refused allocation behind a failed write to memory. Memory is all that such a write can lack.
+pub(crate) fn refused_write(_: io::Error) -> NoMemory {
+    NoMemory::from(AllocError)
+}
+
 /// Writes an answer at the end of a text.
 pub fn push_told<A: Allocator>(text: &mut Vec<u8, A>, reply: Told) -> Result<(), NoMemory>
     ensures { OnOk result (text.new.items ≡ text.old.items ++ told_text reply) }
 {
-    write!(text, "{reply}").map_err(|_| NoMemory)
+    write!(text, "{reply}").map_err(refused_write)
 }

@@ -8,13 +8,21 @@ ghost use Rattle.urb_script.specs.internal.Lines.{ReadsLine, TookPart};
 
 use std::alloc::Allocator;
 use std::io::{ErrorKind, Read};
+use urb_names::{MAX_PACKET, MAX_PAYLOAD};
 
 /// The reader failed.
 #[derive(Clone, Copy)]
 pub struct ReadFailed;
 
-/// The longest line, in bytes, without its LF.
-pub const LONGEST_LINE: usize = 65_536;
+/// The longest line, in bytes, without its LF: two hexadecimal digits for each byte of the longest
+/// payload, and as much again.
+pub const LONGEST_LINE: usize = 4 * MAX_PAYLOAD;
+
+// The number of bytes of a line before the digits of a packet: `raw`, a digit, and two spaces.
+const RAW_HEAD: usize = 6;
+
+// A line has room for the longest packet.
+const _: () = prove!(RAW_HEAD + 2 * MAX_PACKET <= LONGEST_LINE);
 
 /// One more byte than a line may have.
 pub const TOO_LONG: usize = LONGEST_LINE + 1;

@@ -9,7 +9,7 @@ ghost use Rattle.urb_script.specs.Texts.{reply_text};
 ghost use Rattle.urb_script.specs.internal.Texts.{IsToldAs};
 ghost use Rattle.urb_script.specs.Wording.{name_text, payload_word};
 
-use crate::answer_words::{NameWord, Told, push_told};
+use crate::answer_words::{NameWord, Told, push_told, refused_write};
 use std::alloc::Allocator;
 use std::io::Write;
 use urb_group::Reply;
@@ -28,9 +28,9 @@ fn push_answer_packet<A: Allocator>(
     match packet.flags() {
         Some(flags) => {
             let flags = flags.number();
-            write!(text, " to {node} flags {flags}").map_err(|_| NoMemory)
+            write!(text, " to {node} flags {flags}").map_err(refused_write)
         }
-        None => write!(text, " to {node}").map_err(|_| NoMemory),
+        None => write!(text, " to {node}").map_err(refused_write),
     }
 }
 
@@ -99,7 +99,7 @@ fn push_packet<A: Allocator>(text: &mut Vec<u8, A>, packet: &Packet<A>) -> Resul
 {
     let target = packet.target().number();
     let name = NameWord(packet.name());
-    write!(text, " {target}:{name}").map_err(|_| NoMemory)
+    write!(text, " {target}:{name}").map_err(refused_write)
 }
 
 // Writes packets, one after the other.
@@ -154,8 +154,10 @@ pub fn push_told_reply<A: Allocator + Copy>(
 ) -> Result<(), NoMemory>
     ensures { OnOk result (IsToldAs (reply_of reply.now) text.old.items text.new.items) }
 {
-    if let Reply::Refused(Refusal::NoMemory) = reply {
-        return Err(NoMemory);
+    if let Reply::Refused(refusal) = reply {
+        if let Some(refused) = refusal.as_no_memory() {
+            return Err(refused);
+        }
     }
     push_reply(text, reply)
 }
@@ -171,7 +173,7 @@ pub fn push_entry<A: Allocator>(
 {
     let Name { sender, seq } = name;
     let sender = sender.number();
-    write!(text, " {sender}.{seq}=").map_err(|_| NoMemory)?;
+    write!(text, " {sender}.{seq}=").map_err(refused_write)?;
     match message {
         Some(message) => push_payload(text, message),
         None => Ok(()),
@@ -198,7 +200,7 @@ pub fn push_log_head<A: Allocator>(text: &mut Vec<u8, A>, node: NodeId) -> Resul
         (text.new.items ≡ text.old.items ++ (codes "log " ++ (decimal node ++ 58 ∷ []))) }
 {
     let node = node.number();
-    write!(text, "log {node}:").map_err(|_| NoMemory)
+    write!(text, "log {node}:").map_err(refused_write)
 }
 
 /// Writes the head of the list of nodes that have a name stored, at the end of a text.
@@ -207,7 +209,7 @@ pub fn push_held_head<A: Allocator>(text: &mut Vec<u8, A>, name: Name) -> Result
         (text.new.items ≡ text.old.items ++ (codes "held " ++ (name_text name ++ 58 ∷ []))) }
 {
     let name = NameWord(name);
-    write!(text, "held {name}:").map_err(|_| NoMemory)
+    write!(text, "held {name}:").map_err(refused_write)
 }
 
 /// Writes a node that has a name stored, at the end of a text.
@@ -215,5 +217,5 @@ pub fn push_holder<A: Allocator>(text: &mut Vec<u8, A>, node: NodeId) -> Result<
     ensures { OnOk result (text.new.items ≡ text.old.items ++ 32 ∷ decimal node) }
 {
     let node = node.number();
-    write!(text, " {node}").map_err(|_| NoMemory)
+    write!(text, " {node}").map_err(refused_write)
 }

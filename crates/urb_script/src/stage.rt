@@ -110,14 +110,11 @@ fn encode_packet<A: Allocator + Copy>(
     encode(alloc, &packet)
 }
 
-// Returns `NoMemory`, which is what this refusal says.
+// Returns the refused allocation that this refusal is.
 fn expect_no_memory(refusal: Refusal) -> NoMemory
     requires { refusal ≡ Refusal.NoMemory }
 {
-    match refusal {
-        Refusal::NoMemory => NoMemory,
-        _ => unreachable!(),
-    }
+    refusal.as_no_memory().unwrap()
 }
 
 impl<A: Allocator + Copy> Stage<A> {
@@ -366,8 +363,9 @@ impl<A: Allocator + Copy> Play<A> for Stage<A> {
 
     fn open(alloc: A, config: Config, text: &mut Vec<u8, A>) -> Result<Stage<A>, NoMemory> {
         let stores = make_stores(alloc, config.n())?;
-        let Ok(cluster) = Cluster::new(alloc, config, stores) else {
-            return Err(NoMemory);
+        let cluster = match Cluster::new(alloc, config, stores) {
+            Ok(cluster) => cluster,
+            Err((_, refused)) => return Err(refused),
         };
         push_told(text, Told::Grouped(config))?;
         Ok(Stage {

@@ -7,5 +7,5 @@ use Rattle.urb_show.specs.declared.reader.ReadFault.TheVariants.{Gone, NoMemory}
 -- If memory was refused, nothing changed, or the lists of one moment were taken. If the house is
 -- gone, nothing changed.
 abbrev pub Leaves : ReadFault → ReaderView → ReaderView → Type 0
-Leaves NoMemory before after = (after ≡ before) ⊎ Takes before after
+Leaves (NoMemory refused) before after = (after ≡ before) ⊎ Takes before after
 Leaves Gone before after = after ≡ before

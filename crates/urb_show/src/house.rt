@@ -91,9 +91,7 @@ impl<K: HouseName, A: Allocator> House<K, A> {
         let place = usize::from(node.number() - 1);
         let index = self.prepared[place];
         self.group.recall_deliveries();
-        let Ok(entry) = entry_at(*self.prepared.allocator(), &self.group, node, index) else {
-            return Err(NoMemory);
-        };
+        let entry = entry_at(*self.prepared.allocator(), &self.group, node, index)?;
         self.publisher.add(Addition { place, entry })?;
         self.prepared[place] = index + 1;
         Ok(())

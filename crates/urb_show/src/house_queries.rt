@@ -8,7 +8,7 @@ use crate::history::tokens::HouseName;
 use crate::house::House;
 use crate::status::Status;
 use std::alloc::Allocator;
-use urb_group::{Config, Message, Name, NodeId, State};
+use urb_group::{Config, Group, Message, Name, NodeId, State};
 
 impl<K: HouseName, A: Allocator> House<K, A> {
     /// The number of events since the house was opened. A refused call is no event. The count stays
@@ -17,6 +17,13 @@ impl<K: HouseName, A: Allocator> House<K, A> {
         ensures { result ≡ self.now.events }
     {
         self.events
+    }
+
+    /// The group, as it is now. What only reads a group, a feed for example, reads it here.
+    pub fn group(&self) -> &Group
+        ensures { result.now ≡ self.now.group }
+    {
+        &self.group
     }
 
     /// The number of nodes in the group, and how many messages each node may broadcast.

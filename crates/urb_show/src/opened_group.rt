@@ -101,14 +101,18 @@ impl Opened {
         let Opened { group, unnamed } = self;
         group.recall_deliveries();
         let count = READERS * usize::from(group.config().n());
-        let Ok((writer, prepared)) = make_writer::<K, A>(alloc, memory, &group, &unnamed, count)
-        else {
-            return Err((Opened { group, unnamed }, NoMemory));
+        let made = make_writer::<K, A>(alloc, memory, &group, &unnamed, count);
+        let (writer, prepared) = match made {
+            Ok(made) => made,
+            Err(refused) => return Err((Opened { group, unnamed }, refused)),
         };
         let factory = writer.factory();
-        let Ok(readers) = make_readers::<K, A>(memory, &factory, &unnamed, count) else {
-            drop(writer.take(rt));
-            return Err((Opened { group, unnamed }, NoMemory));
+        let readers = match make_readers::<K, A>(memory, &factory, &unnamed, count) {
+            Ok(readers) => readers,
+            Err(refused) => {
+                drop(writer.take(rt));
+                return Err((Opened { group, unnamed }, refused));
+            }
         };
         let (book, token) = unnamed.parts::<K>();
         let house = House {

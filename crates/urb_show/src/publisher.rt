@@ -13,7 +13,7 @@ use crate::history::tokens::{Book, HistoryToken, HouseName};
 use crate::published_lists::{Operation, PublishedLists};
 use crate::reader::Told;
 use left_right::writer::Writer;
-use std::alloc::{Allocator, Global};
+use std::alloc::{AllocError, Allocator, Global};
 use std::marker::Model;
 use std::mem::replace;
 use std::sync::Wait;
@@ -105,7 +105,7 @@ impl<K: HouseName, A: Allocator> Publisher<K, A> {
         let added = all.add(&self.book, &addition);
         self.known = all.copy();
         if !added {
-            return Err(NoMemory);
+            return Err(NoMemory::from(AllocError));
         }
         self.kept = Some(Operation {
             addition,
@@ -142,7 +142,7 @@ impl<K: HouseName, A: Allocator> Publisher<K, A> {
             }
             Err(operation) => {
                 self.kept = Some(operation);
-                Err(NoMemory)
+                Err(NoMemory::from(AllocError))
             }
         }
     }
@@ -168,7 +168,7 @@ impl<K: HouseName, A: Allocator> Publisher<K, A> {
                 self.shown = self.all.copy();
                 Ok(Told::new(self.all.copy()))
             }
-            Err(_) => Err(NoMemory),
+            Err(refused) => Err(NoMemory::from(refused)),
         }
     }
 

@@ -13,13 +13,13 @@ use crate::published_lists::PublishedLists;
 use left_right::reader::Reader;
 use std::alloc::{Allocator, Global};
 use std::marker::Model;
-use urb_group::NodeId;
+use urb_group::{NoMemory, NodeId};
 
 /// Why a read returned no page.
 #[derive(Clone, Copy, Debug, PartialEq, Eq)]
 pub enum ReadFault {
     /// There was no memory for the page. Ask again.
-    NoMemory,
+    NoMemory(NoMemory),
     /// The house was closed: no later read returns a page.
     Gone,
 }
@@ -141,7 +141,7 @@ impl<K: HouseName, A: Allocator> LogReader<K, A> {
         self.seen = token;
         match page {
             Ok(page) => Ok(page),
-            Err(_) => Err(ReadFault::NoMemory),
+            Err(refused) => Err(ReadFault::NoMemory(refused)),
         }
     }
 

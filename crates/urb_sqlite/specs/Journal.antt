@@ -2,7 +2,7 @@
 use Rattle.std.specs.Prelude.{◌≡◌, ◌^◌, ◌==◌, nat_le, ℕ, true, false, List, [], ◌∷◌, find, codes}
 use Rattle.std.specs.Prelude.{Option, Some, option_map, option_and_then, slice_get, unwrap_or, None}
 use Rattle.std.specs.Prelude.{◌⊎◌}
-use Rattle.urb_names.specs.declared.limits.TheConstants.{MAX_PAYLOAD}
+use Rattle.urb_sqlite.specs.declared.sql.TheConstants.{LONGEST_IN_FIRST, LONGEST_IN_SECOND}
 use Rattle.urb_sqlite.specs.declared.sql.Part.{Part}
 use Rattle.urb_sqlite.specs.declared.sql.Part.TheVariants.{First, Second}
 use Rattle.sqlite_schema.specs.Names.{table_named}
@@ -22,11 +22,10 @@ journal_name = codes "journal"
 abbrev pub second_name : List ℕ
 second_name = codes "journal2"
 
--- the greatest number of bytes of a payload in a table: 1,024 in the first table, and MAX_PAYLOAD
--- in the second
+-- the greatest number of bytes of a payload in a table
 abbrev pub limit_of : Part → ℕ
-limit_of First = 1024
-limit_of Second = MAX_PAYLOAD
+limit_of First = LONGEST_IN_FIRST
+limit_of Second = LONGEST_IN_SECOND
 
 -- the text that makes the first table if it is absent
 abbrev pub create_text : List ℕ

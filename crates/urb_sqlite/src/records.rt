@@ -26,11 +26,10 @@ ghost use Rattle.urb_sqlite.specs.internal.PartOpening.{IsPartRefused};
 
 use crate::counting::count_part;
 use crate::rows::ReadFault;
-use crate::sql::Part;
+use crate::sql::{LONGEST_IN_FIRST, LONGEST_IN_SECOND, Part};
 use crate::{MessagePool, rows, sql, table_shape};
 use sqlite::{Alter, Connection, Error, ErrorCode};
 use std::alloc::Global;
-use urb_names::MAX_PAYLOAD;
 use urb_stable::{Record, StoreFault};
 
 fn is_memory(error: Error) -> bool
@@ -100,8 +99,8 @@ pub fn limit_of(part: Part) -> usize
     ensures low { result ≤ MAX_PAYLOAD }
 {
     match part {
-        Part::First => 1024,
-        Part::Second => MAX_PAYLOAD,
+        Part::First => LONGEST_IN_FIRST,
+        Part::Second => LONGEST_IN_SECOND,
     }
 }
 

@@ -8,7 +8,7 @@ ghost use Rattle.urb_sqlite.specs.Rows.{columns_of, row_of};
 
 use crate::rows::Columns;
 use sqlite::{Alter, Connection, Error, params};
-use urb_names::{Message, Name};
+use urb_names::{MAX_PAYLOAD, Message, Name};
 use urb_stable::Record;
 
 /// A table of a journal: the older one, and the one that takes new records.
@@ -17,6 +17,17 @@ pub enum Part {
     First,
     Second,
 }
+
+/// The most bytes that a payload has in the older table.
+pub const LONGEST_IN_FIRST: usize = 1_024;
+
+/// The most bytes that a payload has in the table that takes new records. Older programs read that
+/// table too, so this number stays if `MAX_PAYLOAD` changes. Longer payloads need a table of their
+/// own.
+pub const LONGEST_IN_SECOND: usize = 16_384;
+
+// The second table takes each payload.
+const _: () = prove!(MAX_PAYLOAD <= LONGEST_IN_SECOND);
 
 /// Makes the table if it is absent.
 pub fn create<S: Alter>(conn: &mut Connection<S>, part: Part) -> Result<usize, Error>

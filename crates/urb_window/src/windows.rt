@@ -8,7 +8,7 @@ ghost use Rattle.urb_window.specs.WindowSet.{IsWindowSet, with_entry};
 
 use crate::rows::{after_in, count_of, entry_of, fill, first_from, index_of, row_of};
 use crate::window::Window;
-use std::alloc::{Allocator, Global};
+use std::alloc::{AllocError, Allocator, Global};
 use std::marker::Model;
 use urb_names::{Name, NoMemory, NodeId};
 
@@ -114,7 +114,7 @@ impl<T, A: Allocator + Copy> Windows<T, A> {
         }
         let row = &mut self.rows[index_of(name.sender)];
         if let Err(value) = row.insert(name.seq, value) {
-            return Err((value, NoMemory));
+            return Err((value, NoMemory::from(AllocError)));
         }
         row.recall();
         self.reserved = None;

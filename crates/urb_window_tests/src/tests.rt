@@ -4,7 +4,7 @@ ghost use Rattle.std.specs.Prelude.{◌≤◌};
 
 use std::alloc::{Allocator, Global};
 use std::test::Fail;
-use urb_names::{Name, NoMemory, NodeId};
+use urb_names::{Name, NodeId};
 use urb_refusing::Refusing;
 use urb_window::*;
 
@@ -28,7 +28,7 @@ fn put<A: Allocator + Copy>(windows: &mut Windows<u32, A>, name: Name) -> Result
     }
     let low = windows.low(name.sender);
     let count = windows.count();
-    if let Err(NoMemory) = windows.reserve(name) {
+    if let Err(_) = windows.reserve(name) {
         if windows.get(name).is_some()
             || windows.low(name.sender) != low
             || windows.count() != count
@@ -55,7 +55,7 @@ fn put_unreserved<A: Allocator + Copy>(
     let low = windows.low(name.sender);
     let count = windows.count();
     let seq = name.seq;
-    if let Err((value, NoMemory)) = windows.insert(name, seq) {
+    if let Err((value, _)) = windows.insert(name, seq) {
         if value != seq || windows.low(name.sender) != low || windows.count() != count {
             return Err(Fail::from("a refused value changed something"));
         }

@@ -8,3 +8,5 @@ pub mod StoreKeeping
 pub mod TurnSteps
 pub mod OtherNodes
 pub mod ReportedChanges
+pub mod NodeFeeds
+pub mod Pulses

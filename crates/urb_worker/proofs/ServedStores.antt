@@ -19,6 +19,14 @@ pub one_turn : {S A : Type 0} (g : Ghosts S A) (a b c : S) → IsLeftOf g a b �
     → IsLeftOf g a c
 one_turn g a b c so_far turn = ∥∥₁_elim so_far (hlevel props) (λ s. ∣ Works a b c s turn ∣₁)
 
+-- one turn, or two, of a store that nobody took before
+pub first_turn : {S A : Type 0} (g : Ghosts S A) (a b : S) → Turns g a b → IsLeftOf g a b
+first_turn g a b turn = one_turn g a a b (not_yet g a) turn
+
+pub two_turns : {S A : Type 0} (g : Ghosts S A) (a b c : S) → Turns g a b → Turns g b c
+    → IsLeftOf g a c
+two_turns g a b c first second = one_turn g a b c (first_turn g a b first) second
+
 -- a store that did its part of one turn
 pub one_part : {S A : Type 0} (g : Ghosts S A) (a c : S) (at new : Stage) → Stores g a at c new
     → IsLeftOf g a c
@@ -45,7 +53,8 @@ more_turns g a b c before (Rests store) = before
 more_turns g a b c before (Works first last next so_far turn) =
     Works a last next (more_turns g a b last before so_far) turn
 
-left_again : {S A : Type 0} (g : Ghosts S A) (a b c : S) → IsLeftOf g a b → IsLeftOf g b c
+-- one more round
+pub left_again : {S A : Type 0} (g : Ghosts S A) (a b c : S) → IsLeftOf g a b → IsLeftOf g b c
     → IsLeftOf g a c
 left_again g a b c before after =
     ∥∥₁_elim before (hlevel props)

@@ -5,8 +5,11 @@ pub mod Views
 pub mod Stages
 pub mod Turns
 pub mod Changes
+pub mod ClientDesks
+pub mod ClientLimits
 pub mod WholeTurns
 pub mod ServedStores
 pub mod Desks
 pub mod Backlogs
+pub mod NodeFeeds
 pub mod internal

@@ -81,7 +81,8 @@ fn run_session<K: HouseName, R: Wait + Clock>(rt: &R, visit: &Visit<'_>, desk: N
     let Ok(mut reader) = answers.reader(alloc, input) else {
         return;
     };
-    let mut desk = ClientDesk::new(desk, &answers);
+    let may_crash = visit.connections.limits().may_crash;
+    let mut desk = ClientDesk::new(desk, &answers, may_crash);
     let _ = session(alloc, &mut reader, &mut answers.writer(), &mut desk);
     let _ = answers.send_all();
 }

@@ -24,9 +24,13 @@ pub enum Change {
 pub trait Reporter {
     fn report(&self, change: Change);
 
-    /// Reports how many connections of clients each node serves at a time, once before the group
-    /// runs. A reporter that doesn't care does nothing.
+    /// Reports how many connections of clients each node serves at a time, before the group runs, if
+    /// that is fewer than were asked for. A reporter that doesn't care does nothing.
     fn report_connections(&self, _each: usize) {}
+
+    /// Reports that a node's feed ended early, because memory was refused. Ticks bring the node
+    /// what its log still lacks. A reporter that doesn't care does nothing.
+    fn report_cut_feed(&self, _node: NodeId) {}
 }
 
 /// A reporter that does nothing.

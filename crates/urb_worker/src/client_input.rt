@@ -77,11 +77,10 @@ impl<'a, R: Clock> ClientInput<'a, R> {
 
     // Whether a client that has sent nothing for so many idle times may stay.
     fn may_stay(&self, times: u32) -> bool {
-        let most = if self.connections.is_full() {
-            1
-        } else {
-            self.connections.limits().idle_times
-        };
+        let most = self
+            .connections
+            .limits()
+            .times_until_closed(self.connections.is_full());
         self.progress.is_between_frames() && times < most
     }
 }

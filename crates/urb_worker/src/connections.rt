@@ -1,6 +1,9 @@
 //! The connections of a node's clients: how many there are, and how a stop ends them.
 
-ghost use Rattle.std.specs.Prelude.{◌≡◌};
+ghost use Rattle.std.specs.Prelude.{◌≡◌, IfOk, true};
+ghost use Rattle.urb_worker.specs.ClientLimits.{limits_of_clients};
+ghost use Rattle.urb_worker.specs.internal.IdleTimes.{idle_times_of};
+ghost use Rattle.urb_worker.specs.declared.connections.TheConstants.{IDLE_MINUTES};
 
 use std::alloc::{AllocError, Global};
 use std::net::{Shutdown, TcpStream};
@@ -13,7 +16,17 @@ pub const MOST_CONNECTIONS: usize = 1_000;
 /// With how few connections a node starts, if there are few descriptors.
 pub const LEAST_CONNECTIONS: usize = 4;
 
-/// How many clients a node serves at a time, and how long they may take.
+/// How long a client may take from the first byte of a frame to its last, in milliseconds.
+pub const FRAME_MILLIS: u32 = 10_000;
+
+/// A minute, in milliseconds: after this time without a byte a connection is closed if the node
+/// serves as many as it may.
+pub const IDLE_MILLIS: u32 = 60_000;
+
+/// After how many minutes without a byte a connection is closed if nothing else is said.
+pub const IDLE_MINUTES: u32 = 10;
+
+/// How many clients a node serves at a time, how long they may take, and whether they may crash it.
 #[derive(Clone, Copy, Debug)]
 pub struct ClientLimits {
     /// The most connections at a time.
@@ -25,20 +38,39 @@ pub struct ClientLimits {
     pub idle_millis: u32,
     /// After how many of these times it is closed if the node has room for more.
     pub idle_times: u32,
+    /// Whether clients may crash and restart the node.
+    pub may_crash: bool,
 }
 
 impl ClientLimits {
-    /// At most this many connections, ten seconds for a frame, and ten minutes without a byte, or
-    /// one if the node serves as many connections as it may.
-    pub fn standard(connections: usize) -> ClientLimits
-        ensures { result.connections ≡ connections }
+    /// At most this many connections, `FRAME_MILLIS` for a frame, and so many minutes without a
+    /// byte, or one if the node serves as many connections as it may.
+    pub fn new(connections: usize, idle_minutes: u32, may_crash: bool) -> ClientLimits
+        ensures { result ≡ limits_of_clients connections idle_minutes may_crash }
     {
         ClientLimits {
             connections,
-            frame_millis: 10_000,
-            idle_millis: 60_000,
-            idle_times: 10,
+            frame_millis: FRAME_MILLIS,
+            idle_millis: IDLE_MILLIS,
+            idle_times: idle_minutes,
+            may_crash,
         }
+    }
+
+    /// At most this many connections, and else what holds if nothing is said: `IDLE_MINUTES`, and
+    /// clients may crash and restart the node.
+    pub fn standard(connections: usize) -> ClientLimits
+        ensures { result ≡ limits_of_clients connections IDLE_MINUTES true }
+    {
+        ClientLimits::new(connections, IDLE_MINUTES, true)
+    }
+
+    /// After how many idle times a connection is closed: one if the node serves as many connections
+    /// as it may.
+    pub(crate) fn times_until_closed(&self, is_full: bool) -> u32
+        ensures { result ≡ idle_times_of self.now is_full }
+    {
+        if is_full { 1 } else { self.idle_times }
     }
 }
 
@@ -52,7 +84,9 @@ pub(crate) struct Connections {
 
 impl Connections {
     /// No connections, with places for as many as the limits say.
-    pub(crate) fn new(alloc: Global, limits: ClientLimits) -> Result<Connections, AllocError> {
+    pub(crate) fn new(alloc: Global, limits: ClientLimits) -> Result<Connections, AllocError>
+        ensures { IfOk result (λ made. made.limits ≡ limits) }
+    {
         let mut places = Vec::with_capacity(alloc, limits.connections)?;
         for _ in 0..limits.connections {
             places.push(None)?;
@@ -65,7 +99,9 @@ impl Connections {
     }
 
     /// How long clients may take.
-    pub(crate) fn limits(&self) -> ClientLimits {
+    pub(crate) fn limits(&self) -> ClientLimits
+        ensures { result ≡ self.now.limits }
+    {
         self.limits
     }
 

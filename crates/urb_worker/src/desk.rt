@@ -12,7 +12,7 @@ ghost use Rattle.urb_worker.specs.Settlings.{told_in};
 use crate::responses::{down_response, response_to_read, response_to_turn};
 use crate::{Bell, Finished, Job, ReaderPool, Stop, Ticket, TicketPlaces};
 use crossbeam_channel::{SendError, Sender};
-use std::alloc::Global;
+use std::alloc::{AllocError, Global};
 use std::marker::Model;
 use std::sync::Wait;
 use std::time::{Clock, Duration, Instant};
@@ -138,7 +138,7 @@ impl<'a, K: HouseName, R: Wait + Clock> NodeDesk<'a, K, R> {
         let came = match self.service.queue.send(self.rt, ticket) {
             Ok(()) => Ok(from.recv(self.rt).ok()),
             Err(SendError::Disconnected(_)) => Ok(None),
-            Err(SendError::OutOfMemory(_)) => Err(NoMemory),
+            Err(SendError::OutOfMemory(_)) => Err(NoMemory::from(AllocError)),
         };
         self.service.places.give_back(self.rt);
         came
@@ -222,7 +222,7 @@ impl<'a, K: HouseName, R: Wait + Clock> NodeDesk<'a, K, R> {
         let (rt, alloc, node, readers) = (self.rt, self.alloc, self.node, self.service.readers);
         match readers.read(rt, alloc, &mut self.position, node, place, max) {
             Ok(page) => response_to_read(self.alloc, page.entries),
-            Err(ReadFault::NoMemory) => Err(NoMemory),
+            Err(ReadFault::NoMemory(refused)) => Err(refused),
             Err(ReadFault::Gone) => Ok(down_response()),
         }
     }

@@ -1,8 +1,9 @@
 //! The Hub: the lock around the House, and one job done with it.
 
-ghost use Rattle.std.specs.Prelude.{◌≡◌, ◌+◌, ◌<◌, ◌^◌, IfOk, IfErr, sum, vec_len};
+ghost use Rattle.std.specs.Prelude.{◌≡◌, ◌+◌, ◌<◌, ◌^◌, IfOk, IfErr, OnErr, sum, vec_len};
 ghost use Rattle.urb_worker.specs.Counting.{count_after};
 ghost use Rattle.urb_worker.specs.Jobs.{runs_at};
+ghost use Rattle.urb_worker.specs.NodeFeeds.{IsFeedOf, IsNextPortion};
 ghost use Rattle.urb_worker.specs.WholeTurns.{Does};
 
 use crate::counting::counted_house::CountedHouse;
@@ -11,7 +12,8 @@ use crate::{Finished, Job};
 use std::alloc::Global;
 use std::sync::ledger::Blank;
 use std::sync::{Mutex, MutexGuard, Wait};
-use urb_names::{NoMemory, NodeId};
+use urb_feed::Feed;
+use urb_names::{NoMemory, NodeId, Packet};
 use urb_show::{House, HouseName};
 use urb_stable::Stable;
 
@@ -51,8 +53,9 @@ impl<K: HouseName, L: HubName> Hub<K, L> {
         ensures back { IfErr result (λ refused. refused.0 ≡ house) }
     {
         let nodes = house.config().n();
-        let Ok(mut tallies) = Vec::with_capacity(alloc, usize::from(nodes)) else {
-            return Err((house, NoMemory));
+        let mut tallies = match Vec::with_capacity(alloc, usize::from(nodes)) {
+            Ok(tallies) => tallies,
+            Err(refused) => return Err((house, NoMemory::from(refused))),
         };
         let (book, mut rest) = blank.open::<L>();
         for _i in 0..nodes {
@@ -105,6 +108,38 @@ impl<K: HouseName, L: HubName> Hub<K, L> {
         let finished = tallied.finish(rt, alloc, turn, &mut tally);
         MutexGuard::unlock(tallied);
         (finished, tally)
+    }
+
+    /// A feed of a node, of the group as it is now. It takes the lock once.
+    #[tactic(auto, using(crate::proofs::NodeFeeds::lends_feed))]
+    pub fn begin_feed<R: Wait>(&self, rt: &R, node: NodeId) -> Feed
+        ensures { IsFeedOf node result }
+    {
+        let tallied = self.tallied.lock(rt);
+        let feed = tallied.begin_feed(node);
+        MutexGuard::unlock(tallied);
+        feed
+    }
+
+    /// The next packets of a feed, of the group as it is now. It takes the lock once, and changes
+    /// nothing but the feed. `NoMemory`: the feed is as before.
+    #[tactic(auto, using(crate::proofs::NodeFeeds::lends_portion))]
+    pub fn next_portion<R: Wait>(
+        &self,
+        rt: &R,
+        alloc: Global,
+        feed: &mut Feed,
+    ) -> Result<Vec<Packet>, NoMemory>
+        ensures ok { IfOk result (λ packets. IsNextPortion feed.old feed.new packets.items) }
+        ensures err { OnErr result (feed.new ≡ feed.old) }
+    {
+        let tallied = self.tallied.lock(rt);
+        let made = tallied.next_portion(alloc, feed);
+        MutexGuard::unlock(tallied);
+        match made {
+            Ok(packets) => Ok(packets),
+            Err(refused) => Err(refused),
+        }
     }
 
     /// The House, once all workers have ended. It has counted the events that the tallies report,

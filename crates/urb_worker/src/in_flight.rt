@@ -5,15 +5,26 @@ ghost use Rattle.std.specs.Prelude.{◌≡◌, ◌<◌, ◌≤◌, ◌+◌, ◌^
 use std::sync::atomic::{AtomicBool, AtomicU64, Ordering};
 use std::thread;
 use std::time::{Clock, Duration};
+use urb_names::{MAX_PACKET, MAX_PAYLOAD};
 
-/// How much may be in flight to one node before its senders wait, in bytes. By default Linux gives
-/// a socket 212,992 bytes. It counts more than a datagram's length: at most twice the length of a
-/// long one, and some 800 bytes for a short one. So what is in flight fits with a margin.
-pub const MOST_IN_FLIGHT: u64 = 65_536;
+/// How much may be in flight to one node before its senders wait, in bytes: four of the longest
+/// payloads. By default Linux gives a socket 212,992 bytes (`SOCKET_ROOM`). It counts more than a
+/// datagram's length: at most twice the length of a long one, and some 800 bytes for a short one.
+/// So what is in flight fits with a margin.
+pub const MOST_IN_FLIGHT: u64 = 4 * MAX_PAYLOAD as u64;
 
 /// How much is added to a datagram's length when it is counted, in bytes. Linux adds less than this
 /// to a short one. What it adds to a long one is within the margin of `MOST_IN_FLIGHT`.
 pub const CARRYING: u64 = 1_024;
+
+// If more than half is in flight, that isn't one datagram alone, however long.
+const _: () = prove!(MAX_PACKET as u64 + CARRYING <= MOST_IN_FLIGHT / 2);
+
+// The bytes that Linux gives a socket by default.
+const SOCKET_ROOM: u64 = 212_992;
+
+// What is in flight fits in a socket that counts twice each length.
+const _: () = prove!(2 * MOST_IN_FLIGHT <= SOCKET_ROOM);
 
 // How long a sender sleeps before it checks again, in microseconds.
 const PAUSE: u64 = 100;

@@ -267,6 +267,7 @@ where
         gate: &gate,
         reporter: outer.reporter,
         polling: Polling::for_workers(rt, group.inputs.len()),
+        mends: true,
     };
     let setting = &setting;
     thread::scope(

@@ -1,11 +1,13 @@
 //! A node's worker: its tickets, one after the other.
 
-ghost use Rattle.std.specs.Prelude.{◌≡◌, [], MatchOption};
+ghost use Rattle.std.specs.Prelude.{◌≡◌, [], MatchOption, false, true};
 ghost use Rattle.urb_node.specs.Replies.{packets_in};
 ghost use Rattle.urb_group.specs.Commands.{reply_of};
 ghost use Rattle.urb_worker.specs.internal.Replies.{tells_record};
-ghost use Rattle.urb_worker.specs.ServedStores.{IsLeftOf};
+ghost use Rattle.urb_worker.specs.internal.OwnJobs.{DoesBoth, Learns, MayDoOwn};
+ghost use Rattle.urb_worker.specs.ServedStores.{IsLeftOf, Turns};
 
+use crate::own_jobs::OwnJobs;
 use crate::polling::Polling;
 use crate::tickets::{Closed, next_ticket};
 use crate::{
@@ -14,8 +16,9 @@ use crate::{
 use crossbeam_channel::{Receiver, Sender};
 use std::alloc::Global;
 use std::sync::Wait;
+use std::time::Clock;
 use urb_group::{Answer, Outbox, Reply};
-use urb_names::{NodeId, encode_into};
+use urb_names::{NoMemory, NodeId, encode_into};
 use urb_show::HouseName;
 use urb_stable::Stable;
 
@@ -54,8 +57,8 @@ fn give_answer<K: HouseName, N: Link, R: Wait>(
     }
 }
 
-// The packets of a reply: those of a stored record, of a tick, or in answer to a packet.
-fn packets_in(reply: &Reply) -> Option<&Outbox>
+/// The packets of a reply: those of a stored record, of a tick, or in answer to a packet.
+pub(crate) fn packets_in(reply: &Reply) -> Option<&Outbox>
     ensures { MatchOption result (packets_in (reply_of reply.now) ≡ [])
         (λ packets. packets.now ≡ packets_in (reply_of reply.now)) }
 {
@@ -67,8 +70,8 @@ fn packets_in(reply: &Reply) -> Option<&Outbox>
     }
 }
 
-// Whether a record was stored.
-fn is_record_stored(reply: &Reply) -> bool
+/// Whether a record was stored.
+pub(crate) fn is_record_stored(reply: &Reply) -> bool
     ensures { result ≡ tells_record (reply_of reply.now) }
 {
     matches!(reply, Reply::Stored(_))
@@ -84,6 +87,8 @@ pub struct WorkerSetting<'a, K: HouseName, L: HubName, N: Link, G: Gate, H: Repo
     pub(crate) gate: &'a G,
     pub(crate) reporter: &'a H,
     pub(crate) polling: Polling,
+    /// Whether a worker feeds its node, and lets it tick early.
+    pub(crate) mends: bool,
 }
 
 impl<'a, K: HouseName, L: HubName, N: Link, G: Gate, H: Reporter, R: Wait> WorkerSetting<
@@ -95,7 +100,8 @@ impl<'a, K: HouseName, L: HubName, N: Link, G: Gate, H: Reporter, R: Wait> Worke
     H,
     R,
 > {
-    /// Workers that never poll their channels: they sleep until a ticket comes.
+    /// Workers that do their tickets and nothing else: they don't feed their nodes, tick by
+    /// themselves or poll their channels, but sleep until a ticket comes.
     pub fn new(
         rt: &'a R,
         alloc: Global,
@@ -112,15 +118,44 @@ impl<'a, K: HouseName, L: HubName, N: Link, G: Gate, H: Reporter, R: Wait> Worke
             gate,
             reporter,
             polling: Polling::none(),
+            mends: false,
         }
     }
+
+    /// The same workers, which also feed their nodes at their start and after each restart, and let
+    /// them tick early after a tick that sent something.
+    pub fn mending(self) -> WorkerSetting<'a, K, L, N, G, H, R>
+        ensures mends { result.mends ≡ true }
+        ensures polling { result.polling ≡ self.entry.polling }
+    {
+        WorkerSetting {
+            mends: true,
+            ..self
+        }
+    }
+}
+
+// What a worker keeps between two jobs: how often it still polls, a buffer for packets, and its own
+// jobs.
+#[derive(Drop)]
+struct LoopState {
+    polls: u32,
+    buffer: Vec<u8>,
+    own: OwnJobs,
 }
 
 /// Does the jobs of one node, until its channel closes. For each ticket it does the job, sends the
 /// packets, answers, and rings the node's bell if it has published entries. It holds nothing while
 /// it sends, answers and rings. An answer that can't be sent
 /// is lost.
-pub fn serve<K: HouseName, L: HubName, S: Stable<Alloc = Global> + Drop, N: Link, G: Gate, R: Wait>(
+pub fn serve<
+    K: HouseName,
+    L: HubName,
+    S: Stable<Alloc = Global> + Drop,
+    N: Link,
+    G: Gate,
+    R: Wait + Clock,
+>(
     rt: &R,
     alloc: Global,
     hub: &Hub<K, L>,
@@ -138,10 +173,131 @@ pub fn serve<K: HouseName, L: HubName, S: Stable<Alloc = Global> + Drop, N: Link
     tally
 }
 
+// Does the job of a ticket, or one of the worker's own: sends the packets, answers, and rings the
+// node's bell if it has published entries. Reports a node that went down or came back.
+#[tactic(auto, using(crate::proofs::TurnSteps::does_turn, crate::proofs::NodeFeeds::learns))]
+fn do_ticket<
+    K: HouseName,
+    L: HubName,
+    S: Stable<Alloc = Global>,
+    N: Link,
+    G: Gate,
+    H: Reporter,
+    R: Wait + Clock,
+>(
+    setting: &WorkerSetting<'_, K, L, N, G, H, R>,
+    node: NodeId,
+    store: &mut S,
+    state: &mut LoopState,
+    is_own: bool,
+    ticket: Ticket<K>,
+    tally: Tally<L>,
+) -> Tally<L>
+    ensures store { Turns S.Stable store.old store.new }
+    ensures own { Learns setting.now.mends is_own node ticket.job state.old.own state.new.own }
+{
+    let Ticket { job, answer } = ticket;
+    let (rt, alloc) = (setting.rt, setting.alloc);
+    let (finished, tally) = setting
+        .hub
+        .work(rt, alloc, node, job, store, setting.gate, tally);
+    if let Some(change) = change_of(&finished) {
+        setting.reporter.report(change);
+    }
+    if is_record_stored(finished.reply()) {
+        state.polls = setting.polling.polls();
+    }
+    if let Some(packets) = packets_in(finished.reply()) {
+        send_packets(setting.link, packets, &mut state.buffer);
+    }
+    state.own.learn(setting, node, is_own, &finished);
+    let has_published = matches!(finished.settling(), Settling::Told(_));
+    give_answer(rt, setting.link, node, answer, finished);
+    if has_published {
+        setting.link.ring(node);
+    }
+    tally
+}
+
+// Does the worker's next job of its own, if there is one. `has_waited` says whether the worker has
+// waited for a ticket and none came. If memory was refused for the job, that is returned.
+#[tactic(auto, using(crate::proofs::NodeFeeds::does_own, crate::proofs::NodeFeeds::does_none))]
+fn do_own_job<
+    K: HouseName,
+    L: HubName,
+    S: Stable<Alloc = Global>,
+    N: Link,
+    G: Gate,
+    H: Reporter,
+    R: Wait + Clock,
+>(
+    setting: &WorkerSetting<'_, K, L, N, G, H, R>,
+    node: NodeId,
+    store: &mut S,
+    state: &mut LoopState,
+    has_waited: bool,
+    tally: Tally<L>,
+) -> (Tally<L>, Option<NoMemory>)
+    ensures store { Turns S.Stable store.old store.new }
+    ensures own { MayDoOwn setting.now.mends node has_waited state.old.own state.new.own
+        result.1 }
+{
+    match state.own.next(setting, node, has_waited) {
+        Ok(Some(job)) => {
+            let ticket = Ticket { job, answer: None };
+            let tally = do_ticket(setting, node, store, state, true, ticket, tally);
+            (tally, None)
+        }
+        Ok(None) => (tally, None),
+        Err(refused) => (tally, Some(refused)),
+    }
+}
+
+// One round of a worker: it does the ticket that came, if one came, and then its next job of its
+// own. So a client's request never waits for more than one packet of a feed. If memory was refused
+// for that job, its feed has ended, and the refusal is returned.
+#[tactic(auto, using(crate::proofs::ServedStores::first_turn, crate::proofs::ServedStores::two_turns, crate::proofs::NodeFeeds::does_both))]
+fn do_round<
+    K: HouseName,
+    L: HubName,
+    S: Stable<Alloc = Global>,
+    N: Link,
+    G: Gate,
+    H: Reporter,
+    R: Wait + Clock,
+>(
+    setting: &WorkerSetting<'_, K, L, N, G, H, R>,
+    node: NodeId,
+    store: &mut S,
+    state: &mut LoopState,
+    came: Option<Ticket<K>>,
+    tally: Tally<L>,
+) -> (Tally<L>, Option<NoMemory>)
+    ensures store { IsLeftOf S.Stable store.old store.new }
+    ensures order { MatchOption came
+        (MayDoOwn setting.now.mends node true state.old.own state.new.own result.1)
+        (λ ticket. DoesBoth setting.now.mends node ticket.job state.old.own state.new.own
+        result.1) }
+{
+    match came {
+        Some(ticket) => {
+            let tally = do_ticket(setting, node, store, state, false, ticket, tally);
+            do_own_job(setting, node, store, state, false, tally)
+        }
+        None => do_own_job(setting, node, store, state, true, tally),
+    }
+}
+
 /// Does the same with a borrowed store, for a caller that closes the store afterwards. It also
 /// reports each node that goes down or comes back, and polls for tickets after each record that it
 /// stored, as the setting says.
-#[tactic(auto, using(crate::proofs::ServedStores::not_yet, crate::proofs::TurnSteps::one_job))]
+///
+/// If the setting says so, it feeds its node: at its start, and after each restart, it lets the
+/// packets arrive that bring the node what its log lacks. Between two such packets it does a ticket,
+/// if one waits. If memory is refused for a packet, the feed ends, which is reported: the timer's
+/// ticks bring what is still lacking. And a tick that sent something is followed by early ones
+/// (`EARLY_TICKS`), each once no ticket has come for a pause.
+#[tactic(auto, using(crate::proofs::ServedStores::not_yet, crate::proofs::ServedStores::left_again))]
 pub fn serve_from<
     'q,
     K: HouseName,
@@ -150,7 +306,7 @@ pub fn serve_from<
     N: Link,
     G: Gate,
     H: Reporter,
-    R: Wait,
+    R: Wait + Clock,
 >(
     setting: &WorkerSetting<'_, K, L, N, G, H, R>,
     node: NodeId,
@@ -160,30 +316,23 @@ pub fn serve_from<
 ) -> (Tally<L>, Closed<'q>)
     ensures { IsLeftOf S.Stable store.old store.new }
 {
-    let (rt, alloc, hub) = (setting.rt, setting.alloc, setting.hub);
+    let rt = setting.rt;
     let mut tally = tally;
-    let mut left = 0;
-    let mut buffer = Vec::new(alloc);
+    let mut state = LoopState {
+        polls: 0,
+        buffer: Vec::new(setting.alloc),
+        own: OwnJobs::at_start(setting, node),
+    };
     for _ in rt.forever() {
-        let Ticket { job, answer } = match next_ticket(rt, jobs, &mut left) {
-            Ok(ticket) => ticket,
+        let patience = state.own.patience();
+        let came = match next_ticket(rt, jobs, &mut state.polls, patience) {
+            Ok(came) => came,
             Err(closed) => return (tally, closed),
         };
-        let (finished, counted) = hub.work(rt, alloc, node, job, store, setting.gate, tally);
+        let (counted, refused) = do_round(setting, node, store, &mut state, came, tally);
         tally = counted;
-        if let Some(change) = change_of(&finished) {
-            setting.reporter.report(change);
-        }
-        if is_record_stored(finished.reply()) {
-            left = setting.polling.polls();
-        }
-        if let Some(packets) = packets_in(finished.reply()) {
-            send_packets(setting.link, packets, &mut buffer);
-        }
-        let has_published = matches!(finished.settling(), Settling::Told(_));
-        give_answer(rt, setting.link, node, answer, finished);
-        if has_published {
-            setting.link.ring(node);
+        if refused.is_some() {
+            setting.reporter.report_cut_feed(node);
         }
     }
     unreachable!()

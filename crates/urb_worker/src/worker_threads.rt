@@ -10,6 +10,7 @@ use std::alloc::Global;
 use std::snapshot::Snapshot;
 use std::sync::Wait;
 use std::thread::{Promise, PromisedHandle, Scope, Threads};
+use std::time::Clock;
 use urb_names::NodeId;
 use urb_show::HouseName;
 use urb_stable::Stable;
@@ -57,7 +58,7 @@ where
     N: Link,
     G: Gate,
     H: Reporter,
-    R: Wait,
+    R: Wait + Clock,
     ensures { IsLeftOf S.Stable input.store result.0 }
 {
     let WorkerInput {
@@ -81,7 +82,7 @@ pub(crate) fn start_workers<
     N: Link + Sync,
     G: Gate + Sync,
     H: Reporter + Sync,
-    R: Wait + Sync,
+    R: Wait + Clock + Sync,
 >(
     scope: &Scope<'s, E>,
     setting: &'s WorkerSetting<'s, K, L, N, G, H, R>,

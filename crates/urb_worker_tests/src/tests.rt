@@ -19,11 +19,13 @@ use urb_worker::{
 mod bursts;
 mod desks;
 mod drafts;
+mod feeds;
 mod flights;
 mod gates;
 mod groups;
 mod hearing;
 mod limits;
+mod own_jobs;
 mod pacing;
 mod places;
 mod receivers;

@@ -5,7 +5,8 @@ use std::marker::Brand;
 use std::process::ExitCode;
 use urb_cli::{Fault, Line, parse_line, read_words, report_fault, run_errand};
 use urb_daemon::{
-    Console, ErrorOutput, Reports, Streams, report_end, report_folder_fault, run_journals,
+    Console, ErrorOutput, PromptedInput, Reports, Streams, report_end, report_folder_fault,
+    run_journals,
 };
 use urb_folder::{NodeFile, close_journals, open_journals};
 
@@ -27,7 +28,8 @@ fn main(rt: HostRuntime) -> ExitCode {
     let status = match open_journals::<NodeFile<Brand>, HostRuntime>(&rt, &rt, dir, nodes) {
         Ok(journals) => {
             let (reports, alloc) = (Reports::new(&errors), rt.alloc());
-            let mut console = Console::new(&rt, rt.reader());
+            let input = PromptedInput::new(rt.reader(), &errors);
+            let mut console = Console::new(&rt, input);
             let (journals, ended) = run_journals(
                 &rt,
                 alloc,

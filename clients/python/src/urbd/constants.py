@@ -105,6 +105,18 @@ CLIENT_PORT_OFFSET = 10
 # The greatest time from one tick to the next, in milliseconds: a minute.
 MAX_TICK_MILLIS = 60000
 
+# The fewest connections of clients that a node may be told to serve at a time.
+MIN_CONNECTIONS = 4
+
+# The most connections of clients that a node may be told to serve at a time.
+MAX_CONNECTIONS = 1000
+
+# The greatest time without a byte after which a connection is closed, in minutes: a day.
+MAX_IDLE_MINUTES = 1440
+
+# The time without a byte after which a connection is closed if nothing else is said, in minutes.
+STANDARD_IDLE_MINUTES = 10
+
 
 class Refusal(IntEnum):
     """Why a node refuses, by the number in its response."""

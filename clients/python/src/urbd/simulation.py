@@ -10,7 +10,7 @@ import threading
 from collections.abc import Sequence
 from typing import BinaryIO, Optional, Union
 
-from urbd.constants import MAX_CAP, MAX_PAYLOAD, UNKNOWN_OPCODE, Refusal
+from urbd.constants import MAX_CAP, MAX_CONNECTIONS, MAX_PAYLOAD, UNKNOWN_OPCODE, Refusal
 from urbd.frames import (
     LENGTH_BYTES,
     STATES,
@@ -37,7 +37,6 @@ from urbd.frames import (
 
 DOWN, READY = STATES[0], STATES[1]
 SESSIONS = 4  # connections of an older node; further ones wait
-MAX_CONNECTIONS = 1000  # connections of a node; a further one is refused
 HANG = 1.0  # seconds for which a node hangs on demand
 DRIP = 0.1  # seconds from byte to byte of an answer in drips
 

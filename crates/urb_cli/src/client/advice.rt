@@ -3,6 +3,7 @@
 ghost use Rattle.std.specs.Prelude.{◌≡◌, ◌++◌, OnOk};
 ghost use Rattle.urb_cli.specs.Advice.{advice_of, detailed_advice, explained_refusal};
 
+use crate::client::refused_write::refused_write;
 use std::io::Write;
 use urb_names::NoMemory;
 
@@ -33,7 +34,7 @@ fn push_advice(text: &mut Vec<u8>, number: u8, detail: u32) -> Result<(), NoMemo
 {
     text.extend_from_slice(advice(number).as_bytes())?;
     if number == GAP {
-        write!(text, "{detail}").map_err(|_| NoMemory)?;
+        write!(text, "{detail}").map_err(refused_write)?;
     }
     Ok(())
 }
@@ -42,7 +43,7 @@ fn push_advice(text: &mut Vec<u8>, number: u8, detail: u32) -> Result<(), NoMemo
 pub(crate) fn push_refusal(text: &mut Vec<u8>, number: u8, detail: u32) -> Result<(), NoMemory>
     ensures { OnOk result (text.new.items ≡ text.old.items ++ explained_refusal number detail) }
 {
-    write!(text, "refused {number} {detail}: ").map_err(|_| NoMemory)?;
+    write!(text, "refused {number} {detail}: ").map_err(refused_write)?;
     push_advice(text, number, detail)?;
     text.push(b'\n')?;
     Ok(())

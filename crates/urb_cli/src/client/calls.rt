@@ -45,8 +45,8 @@ pub(crate) fn connect_patiently<R: Net<Listener = TcpListener, Stream = TcpStrea
     Ok(stream)
 }
 
-// Sends the bytes of a request.
-fn send<W: Write>(writer: &mut W, frame: &[u8]) -> Result<(), Fault>
+/// Writes bytes, and flushes them.
+pub(crate) fn send<W: Write>(writer: &mut W, frame: &[u8]) -> Result<(), Fault>
     ensures ok { OnOk result (Appends (W.contents writer.old) (W.contents writer.new) frame.now) }
     ensures err { IfErr result (λ fault. fault ≡ Fault.Write) }
 {

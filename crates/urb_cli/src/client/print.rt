@@ -7,6 +7,7 @@ ghost use Rattle.urb_cli.specs.ClientOutput.{listing_shown, read_shown, refused_
 ghost use Rattle.urb_cli.specs.ClientOutput.{submit_shown};
 
 use crate::client::printed::Printed;
+use crate::client::refused_write::refused_write;
 use std::alloc::Global;
 use std::io::Write;
 use urb_client::Response;
@@ -15,8 +16,12 @@ use urb_names::{Message, Name, NoMemory};
 /// The status if a node refused the request.
 pub(crate) const REFUSED: u8 = 4;
 
-// Writes a payload: its digits, or a hyphen if it is empty.
-fn push_payload(alloc: Global, text: &mut Vec<u8>, payload: &[u8]) -> Result<(), NoMemory>
+/// Writes a payload: its digits, or a hyphen if it is empty.
+pub(crate) fn push_payload(
+    alloc: Global,
+    text: &mut Vec<u8>,
+    payload: &[u8],
+) -> Result<(), NoMemory>
     ensures { OnOk result (text.new.items ≡ text.old.items ++ hex_payload payload.now) }
 {
     if payload.is_empty() {
@@ -28,14 +33,18 @@ fn push_payload(alloc: Global, text: &mut Vec<u8>, payload: &[u8]) -> Result<(),
     Ok(())
 }
 
-// Writes an entry's line.
-fn push_entry(alloc: Global, text: &mut Vec<u8>, entry: &(Name, Message)) -> Result<(), NoMemory>
+/// Writes an entry's line.
+pub(crate) fn push_entry(
+    alloc: Global,
+    text: &mut Vec<u8>,
+    entry: &(Name, Message),
+) -> Result<(), NoMemory>
     ensures { OnOk result (text.new.items ≡ text.old.items ++ entry_line entry.now) }
 {
     let (name, message) = entry;
     let (sender, seq) = (name.sender.number(), name.seq);
     let (client, number) = (message.client().number(), message.number());
-    write!(text, "{sender}.{seq} {client} {number} ").map_err(|_| NoMemory)?;
+    write!(text, "{sender}.{seq} {client} {number} ").map_err(refused_write)?;
     push_payload(alloc, text, message.payload())?;
     text.push(b'\n')?;
     Ok(())
@@ -63,11 +72,12 @@ fn render_entries(alloc: Global, entries: &[(Name, Message)]) -> Result<Printed,
     Ok(Printed { text, status: 0 })
 }
 
-fn render_accepted(alloc: Global, seq: u32) -> Result<Printed, NoMemory>
+/// What is printed for a message that was accepted, under the name with this number.
+pub(crate) fn render_accepted(alloc: Global, seq: u32) -> Result<Printed, NoMemory>
     ensures { IfOk result (λ shown. shown_by shown ≡ accepted_shown seq) }
 {
     let mut text = Vec::new(alloc);
-    write!(text, "accepted {seq}\n").map_err(|_| NoMemory)?;
+    write!(text, "accepted {seq}\n").map_err(refused_write)?;
     Ok(Printed { text, status: 0 })
 }
 
@@ -76,7 +86,7 @@ pub(crate) fn render_refusal(alloc: Global, number: u8, detail: u32) -> Result<P
     ensures { IfOk result (λ shown. shown_by shown ≡ refused_shown number detail) }
 {
     let mut text = Vec::new(alloc);
-    write!(text, "refused {number} {detail}\n").map_err(|_| NoMemory)?;
+    write!(text, "refused {number} {detail}\n").map_err(refused_write)?;
     Ok(Printed {
         text,
         status: REFUSED,

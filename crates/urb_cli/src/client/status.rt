@@ -14,6 +14,7 @@ use crate::client::call_fault::CallFault;
 use crate::client::calls::{connect_patiently, exchange};
 use crate::client::print::REFUSED;
 use crate::client::printed::Printed;
+use crate::client::refused_write::refused_write;
 use crate::client::run::show;
 use crate::command_line::task::StatusOptions;
 use crate::faults::Fault;
@@ -45,7 +46,7 @@ fn render_status(
 {
     let mut text = Vec::new(alloc);
     let word = word(state);
-    write!(text, "{port} {word} accepted {own} shown {logged}\n").map_err(|_| NoMemory)?;
+    write!(text, "{port} {word} accepted {own} shown {logged}\n").map_err(refused_write)?;
     Ok(Printed { text, status: 0 })
 }
 
@@ -60,7 +61,7 @@ fn render_refused_status(
         (λ shown. option_map shown_by (Some shown) ≡ status_shown port (Refused number detail)) }
 {
     let mut text = Vec::new(alloc);
-    write!(text, "{port} ").map_err(|_| NoMemory)?;
+    write!(text, "{port} ").map_err(refused_write)?;
     push_refusal(&mut text, number, detail)?;
     Ok(Printed {
         text,

@@ -4,10 +4,15 @@ ghost use Rattle.std.specs.Prelude.{◌≡◌, IfOk, false};
 ghost use Rattle.clap.specs.Words.{app_of, rule_of};
 ghost use Rattle.clap.specs.declared.builder.command.Command.TheViews.{out-Command};
 ghost use Rattle.urb_cli.specs.CommandLine.{bare_app, replay_app};
-ghost use Rattle.urb_cli.specs.CommandLine.{choice_rule, number_rule, text_rule, place_rule};
-ghost use Rattle.urb_cli.specs.CommandLine.{serve_app, submit_app, read_app, status_app, urbd_app};
+ghost use Rattle.urb_cli.specs.CommandLine.{choice_rule, flag_rule, number_rule, text_rule};
+ghost use Rattle.urb_cli.specs.CommandLine.{place_rule};
+ghost use Rattle.urb_cli.specs.CommandLine.{group_app, serve_app, submit_app, read_app, status_app, urbd_app};
 
-use crate::limits::{MAX_BASE_PORT, MAX_TICK_MILLIS, MIN_BASE_PORT};
+use crate::command_line::stream_grammar::{follow_command, publish_command};
+use crate::limits::{
+    MAX_BASE_PORT, MAX_CONNECTIONS, MAX_IDLE_MINUTES, MAX_TICK_MILLIS, MIN_BASE_PORT,
+    MIN_CONNECTIONS,
+};
 use crate::version::VERSION;
 use clap::builder::ValueParser;
 use clap::{Arg, ArgAction, Command};
@@ -16,14 +21,20 @@ use urb_client::MOST_ENTRIES;
 use urb_names::{MAX_CAP, MAX_NODES};
 
 // The texts of options that several commands have.
-const PORT_HELP: &str = "The node's port for clients, 1 to 65535";
+pub(crate) const PORT_HELP: &str = "The node's port for clients, 1 to 65535";
 
 const NODES_HELP: &str = "How many nodes, 1 to 7";
 
-const CLIENT_HELP: &str = "The client, 1 to 65535";
+pub(crate) const CLIENT_HELP: &str = "The client, 1 to 65535";
 
-// A required option whose value is a number from `low` to `high`.
-fn number_option<'a>(alloc: Global, name: &'a str, help: &'a str, low: i64, high: i64) -> Arg<'a>
+/// A required option whose value is a number from `low` to `high`.
+pub(crate) fn number_option<'a>(
+    alloc: Global,
+    name: &'a str,
+    help: &'a str,
+    low: i64,
+    high: i64,
+) -> Arg<'a>
     ensures rule { rule_of result ≡ number_rule name.entry.now low high }
     ensures own { result.global ≡ false }
 {
@@ -35,16 +46,33 @@ fn number_option<'a>(alloc: Global, name: &'a str, help: &'a str, low: i64, high
         .value_parser(ValueParser::signed(low, high))
 }
 
-// An option that may be left out, whose value is a number from `low` to `high`.
-fn optional_number<'a>(alloc: Global, name: &'a str, help: &'a str, low: i64, high: i64) -> Arg<'a>
+/// An option that may be left out, whose value is a number from `low` to `high`.
+pub(crate) fn optional_number<'a>(
+    alloc: Global,
+    name: &'a str,
+    help: &'a str,
+    low: i64,
+    high: i64,
+) -> Arg<'a>
     ensures rule { rule_of result ≡ choice_rule name.entry.now low high }
     ensures own { result.global ≡ false }
 {
     number_option(alloc, name, help, low, high).required(false)
 }
 
-// A required option whose value is any text except an empty one.
-fn text_option<'a>(alloc: Global, name: &'a str, help: &'a str) -> Arg<'a>
+// An option without a value, which may be left out.
+fn flag<'a>(alloc: Global, name: &'a str, help: &'a str) -> Arg<'a>
+    ensures rule { rule_of result ≡ flag_rule name.entry.now }
+    ensures own { result.global ≡ false }
+{
+    Arg::new(alloc, name)
+        .long(name)
+        .help(help)
+        .action(ArgAction::SetTrue)
+}
+
+/// A required option whose value is any text except an empty one.
+pub(crate) fn text_option<'a>(alloc: Global, name: &'a str, help: &'a str) -> Arg<'a>
     ensures rule { rule_of result ≡ text_rule name.entry.now }
     ensures own { result.global ≡ false }
 {
@@ -56,8 +84,8 @@ fn text_option<'a>(alloc: Global, name: &'a str, help: &'a str) -> Arg<'a>
         .value_parser(ValueParser::NonEmptyString)
 }
 
-// A required word at its place; it may be any text.
-fn text_word<'a>(alloc: Global, name: &'a str, help: &'a str) -> Arg<'a>
+/// A required word at its place; it may be any text.
+pub(crate) fn text_word<'a>(alloc: Global, name: &'a str, help: &'a str) -> Arg<'a>
     ensures rule { rule_of result ≡ place_rule name.entry.now }
     ensures own { result.global ≡ false }
 {
@@ -67,9 +95,10 @@ fn text_word<'a>(alloc: Global, name: &'a str, help: &'a str) -> Arg<'a>
         .action(ArgAction::Set)
 }
 
-fn serve_command<'a>(alloc: Global) -> Result<Command<'a>, AllocError>
+// The command `serve` with the options of a group, which are required.
+fn group_command<'a>(alloc: Global) -> Result<Command<'a>, AllocError>
     ensures { IfOk result
-        (λ made. (app_of made ≡ serve_app) × ((out-Command made).has_globals ≡ false)) }
+        (λ made. (app_of made ≡ group_app) × ((out-Command made).has_globals ≡ false)) }
 {
     Command::new(alloc, "serve")
         .about("Runs a group of nodes until standard input ends")
@@ -98,6 +127,32 @@ fn serve_command<'a>(alloc: Global) -> Result<Command<'a>, AllocError>
             "Milliseconds between resends, 1 to 60000",
             1,
             MAX_TICK_MILLIS as i64,
+        ))
+}
+
+fn serve_command<'a>(alloc: Global) -> Result<Command<'a>, AllocError>
+    ensures { IfOk result
+        (λ made. (app_of made ≡ serve_app) × ((out-Command made).has_globals ≡ false)) }
+{
+    group_command(alloc)?
+        .arg(optional_number(
+            alloc,
+            "connections",
+            "The most clients of a node at a time, 4 to 1000; otherwise 1000",
+            MIN_CONNECTIONS as i64,
+            MAX_CONNECTIONS as i64,
+        ))?
+        .arg(optional_number(
+            alloc,
+            "idle-minutes",
+            "Minutes until an idle client is closed, 1 to 1440; otherwise 10",
+            1,
+            MAX_IDLE_MINUTES as i64,
+        ))?
+        .arg(flag(
+            alloc,
+            "no-crash",
+            "Refuses the requests CRASH and RESTART of clients",
         ))
 }
 
@@ -190,5 +245,7 @@ pub(crate) fn make_command_line<'a>(alloc: Global) -> Result<Command<'a>, AllocE
         .subcommand(serve_command(alloc)?)?
         .subcommand(submit_command(alloc)?)?
         .subcommand(read_command(alloc)?)?
-        .subcommand(status_command(alloc)?)
+        .subcommand(status_command(alloc)?)?
+        .subcommand(publish_command(alloc)?)?
+        .subcommand(follow_command(alloc)?)
 }

@@ -3,6 +3,7 @@
 ghost use Rattle.std.specs.Prelude.{◌≡◌, IsSome, IfSome};
 ghost use Rattle.urb_cli.specs.OptionRanges.{AreInRange};
 
+use crate::command_line::service::ServiceOptions;
 use crate::limits::{MAX_BASE_PORT, MAX_TICK_MILLIS, MIN_BASE_PORT};
 use urb_names::{Config, MAX_CAP, MAX_NODES};
 
@@ -21,11 +22,14 @@ pub struct ServeOptions<'a> {
     pub base: u16,
     /// Milliseconds from one tick to the next, 1 to `MAX_TICK_MILLIS`.
     pub every: u32,
+    /// How the nodes serve their clients.
+    pub service: ServiceOptions,
     ghost within: { AreInRange nodes cap base every },
 }
 
 impl<'a> ServeOptions<'a> {
-    /// A group with these settings. `None` exactly if one of them is outside its range.
+    /// A group with these settings, whose nodes serve their clients in the standard way. `None`
+    /// exactly if one of the settings is outside its range.
     pub fn new(nodes: u8, cap: u32, dir: &'a str, base: u16, every: u32) -> Option<ServeOptions<'a>>
         ensures some { AreInRange nodes cap base every → IsSome result }
         ensures fields { IfSome result (λ s. (s.nodes ≡ nodes)
@@ -46,7 +50,27 @@ impl<'a> ServeOptions<'a> {
             dir,
             base,
             every,
+            service: ServiceOptions::standard(),
         })
+    }
+
+    /// The same group, whose nodes serve their clients so.
+    pub fn with_service(self, service: ServiceOptions) -> ServeOptions<'a>
+        ensures others { (result.nodes ≡ self.entry.nodes)
+            × (result.cap ≡ self.entry.cap)
+            × (result.dir ≡ self.entry.dir)
+            × (result.base ≡ self.entry.base)
+            × (result.every ≡ self.entry.every) }
+        ensures service { result.service ≡ service }
+    {
+        ServeOptions {
+            nodes: self.nodes,
+            cap: self.cap,
+            dir: self.dir,
+            base: self.base,
+            every: self.every,
+            service,
+        }
     }
 
     /// The limits of the group.

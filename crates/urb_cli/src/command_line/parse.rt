@@ -37,7 +37,7 @@ fn report_parser_error<R: Print + Eprint>(rt: &R, error: &Error) -> u8
 }
 
 // What a line lacks that the parser accepts, and that asks for nothing.
-const UNFIT: &str = "give --port, or give --base-port and --nodes";
+const UNFIT: &str = "give --port, or give --base-port and --nodes; a format is text, hex or json";
 
 // What is said of a word that isn't UTF-8.
 const NOT_TEXT: &str = "invalid UTF-8 was detected in one or more arguments";

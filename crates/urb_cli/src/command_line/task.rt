@@ -4,6 +4,7 @@ ghost use Rattle.std.specs.Prelude.{◌<◌, ◌≤◌, ◌+◌};
 ghost use Rattle.urb_client.specs.declared.format.TheConstants.{MOST_ENTRIES};
 
 use crate::command_line::options::ServeOptions;
+use crate::command_line::stream_options::{FollowOptions, PublishOptions};
 
 /// A message to submit: the port, the client, the message's number, and its text.
 #[derive(Clone, Copy, Debug)]
@@ -53,6 +54,10 @@ pub enum Errand<'a> {
     Read(ReadOptions),
     /// Show the state of nodes.
     Status(StatusOptions),
+    /// Send messages to a node, numbered by the program.
+    Publish(PublishOptions<'a>),
+    /// Show a node's log as it grows.
+    Follow(FollowOptions),
 }
 
 /// What the program should do.

@@ -5,14 +5,19 @@ ghost use Rattle.std.specs.Prelude.{option_and_then, if◌then◌else◌};
 ghost use Rattle.urb_names.specs.declared.limits.TheConstants.{MAX_NODES};
 ghost use Rattle.urb_cli.specs.declared.limits.TheConstants.{MIN_BASE_PORT, MAX_BASE_PORT};
 ghost use Rattle.clap.specs.Words.{first_of, found_of, rows_of, subcommand_rows_of};
-ghost use Rattle.urb_cli.specs.Tasks.{asked_nodes};
+ghost use Rattle.urb_cli.specs.Tasks.{asked_nodes, is_given, number_or, service_asked, service_of};
 ghost use Rattle.urb_cli.specs.Tasks.{Serve, number_of, serve_task, submit_task, read_task};
 ghost use Rattle.urb_cli.specs.Tasks.{task_named, task_of, task_of_serving, task_of_submitting};
 ghost use Rattle.urb_cli.specs.Tasks.{task_of_reading, task_of_asking, status_task};
 
 use crate::command_line::options::ServeOptions;
+use crate::command_line::service::ServiceOptions;
+use crate::command_line::stream_values::{read_follow_options, read_publish_options};
 use crate::command_line::task::{Errand, Line, ReadOptions, StatusOptions, SubmitOptions};
-use crate::limits::{CLIENT_PORT_OFFSET, MAX_BASE_PORT, MAX_TICK_MILLIS, MIN_BASE_PORT};
+use crate::limits::{
+    CLIENT_PORT_OFFSET, MAX_BASE_PORT, MAX_CONNECTIONS, MAX_IDLE_MINUTES, MAX_TICK_MILLIS,
+    MIN_BASE_PORT, MIN_CONNECTIONS, STANDARD_IDLE_MINUTES,
+};
 use clap::ArgMatches;
 use urb_client::MOST_ENTRIES;
 use urb_names::{MAX_CAP, MAX_NODES};
@@ -29,19 +34,58 @@ fn keep_in_range(number: Option<u32>, low: u32, high: u32) -> Option<u32>
     }
 }
 
-// The value of an option: a number from `low` to `high`.
-fn number(found: &ArgMatches<'_>, name: &str, low: u32, high: u32) -> Option<u32>
+/// The value of an option: a number from `low` to `high`.
+pub(crate) fn number(found: &ArgMatches<'_>, name: &str, low: u32, high: u32) -> Option<u32>
     ensures value { result ≡ number_of name.now low high (rows_of (found_of found.now)) }
     ensures range { IfSome result (λ n. (low ≤ n) × (n ≤ high)) }
 {
     keep_in_range(found.get_one::<u32>(name), low, high)
 }
 
-// The text of an option, or of a word at its place.
-fn text<'a>(found: &ArgMatches<'a>, name: &str) -> Option<&'a str>
+/// The text of an option, or of a word at its place.
+pub(crate) fn text<'a>(found: &ArgMatches<'a>, name: &str) -> Option<&'a str>
     ensures { option_map (λ s. s.now) result ≡ first_of name.now (rows_of (found_of found.now)) }
 {
     found.get_str(name)
+}
+
+// The value of an option that may be left out: a number from `low` to `high`. If it is left out, it
+// is this one.
+fn number_or(standard: u32, found: &ArgMatches<'_>, name: &str, low: u32, high: u32) -> u32
+    requires { (low ≤ standard) × (standard ≤ high) }
+    ensures value { result ≡ number_or standard name.now low high (rows_of (found_of found.now)) }
+    ensures range { (low ≤ result) × (result ≤ high) }
+{
+    match number(found, name, low, high) {
+        Some(given) => given,
+        None => standard,
+    }
+}
+
+// Whether an option without a value was given.
+fn is_given(found: &ArgMatches<'_>, name: &str) -> bool
+    ensures { result ≡ is_given name.now (rows_of (found_of found.now)) }
+{
+    match text(found, name) {
+        Some(given) => given == "true",
+        None => false,
+    }
+}
+
+#[tactic(auto, unfolding(crate::specs::Tasks::service_asked))]
+fn read_service_options(found: &ArgMatches<'_>) -> ServiceOptions
+    ensures { service_of result ≡ service_asked (rows_of (found_of found.now)) }
+{
+    let (least, most) = (MIN_CONNECTIONS as u32, MAX_CONNECTIONS as u32);
+    let connections = number_or(most, found, "connections", least, most);
+    let standard = STANDARD_IDLE_MINUTES as u32;
+    let longest = MAX_IDLE_MINUTES as u32;
+    let idle_minutes = number_or(standard, found, "idle-minutes", 1, longest);
+    ServiceOptions {
+        connections: connections as u16,
+        idle_minutes: idle_minutes as u16,
+        may_crash: !is_given(found, "no-crash"),
+    }
 }
 
 #[tactic(auto, unfolding(crate::specs::Tasks::serve_task))]
@@ -58,7 +102,8 @@ fn read_serve_options<'a>(found: &ArgMatches<'a>) -> Option<ServeOptions<'a>>
         MAX_BASE_PORT as u32,
     )?;
     let every = number(found, "tick-ms", 1, MAX_TICK_MILLIS)?;
-    ServeOptions::new(nodes as u8, cap, dir, base as u16, every)
+    let serving = ServeOptions::new(nodes as u8, cap, dir, base as u16, every)?;
+    Some(serving.with_service(read_service_options(found)))
 }
 
 #[tactic(auto, unfolding(crate::specs::Tasks::submit_task))]
@@ -137,6 +182,8 @@ fn read_subcommand<'a>(name: &str, found: &ArgMatches<'a>) -> Option<Line<'a>>
         "submit" => Some(Line::Errand(Errand::Submit(read_submit_options(found)?))),
         "read" => Some(Line::Errand(Errand::Read(read_read_options(found)?))),
         "status" => Some(Line::Errand(Errand::Status(read_status_options(found)?))),
+        "publish" => Some(Line::Errand(Errand::Publish(read_publish_options(found)?))),
+        "follow" => Some(Line::Errand(Errand::Follow(read_follow_options(found)?))),
         _ => None,
     }
 }

@@ -29,6 +29,8 @@ fn mistakes_are_told_on_standard_error(rt: HostRuntime) -> Result<(), Fail> {
         &[b"urbd", b"status", b"--nodes", b"3"],
         &[b"urbd", b"status", b"--base-port", b"7400"],
         &[b"urbd", b"status", b"--port", b"7411", b"--nodes", b"3"],
+        &[b"urbd", b"publish", b"hi"],
+        &[b"urbd", b"follow", b"--port", b"7411", b"--format", b"xml"],
     ] {
         let shown = shown_by(rt.alloc(), words, b"group 1 1\n", true);
         assert!(rt;
@@ -130,6 +132,10 @@ const GROUP_STATUS: [&[u8]; 6] = [
     b"3",
 ];
 
+const PUBLISH: [&[u8]; 6] = [b"urbd", b"publish", b"--port", b"20011", b"--client", b"7"];
+
+const FOLLOW: [&[u8]; 6] = [b"urbd", b"follow", b"--from", b"1", b"--port", b"20011"];
+
 /// The status of these words, and whether the terminal showed the matching output. For a mistake
 /// this is the parser's text on standard error, and nothing else.
 fn status_of(alloc: Global, words: &[&[u8]]) -> Option<u8> {
@@ -197,6 +203,8 @@ fn each_option_stands_once(rt: HostRuntime) -> Result<(), Fail> {
         (&READ, &[2, 4, 6]),
         (&STATUS, &[2]),
         (&GROUP_STATUS, &[2, 4]),
+        (&PUBLISH, &[2, 4]),
+        (&FOLLOW, &[4]),
     ] {
         assert_eq!(rt; status_of(rt.alloc(), words), Some(WANTS_A_NETWORK));
         for at in options {
@@ -237,6 +245,10 @@ fn each_number_has_its_range(rt: HostRuntime) -> Result<(), Fail> {
         (&STATUS, 3, [b"1", b"65535"], [b"0", b"65536"]),
         (&GROUP_STATUS, 3, [b"1024", b"65000"], [b"1023", b"65001"]),
         (&GROUP_STATUS, 5, [b"1", b"7"], [b"0", b"8"]),
+        (&PUBLISH, 3, [b"1", b"65535"], [b"0", b"65536"]),
+        (&PUBLISH, 5, [b"1", b"65535"], [b"0", b"65536"]),
+        (&FOLLOW, 3, [b"1", b"4294967295"], [b"0", b"4294967296"]),
+        (&FOLLOW, 5, [b"1", b"65535"], [b"0", b"65536"]),
     ] {
         for new in &taken {
             let other = replace_word(rt.alloc(), words, at, *new)?;

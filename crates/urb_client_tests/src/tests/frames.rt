@@ -16,7 +16,7 @@ fn is_frame_of(alloc: Global, request: Request, frame: &[u8]) -> bool
 {
     match encode_request(alloc, &request) {
         Ok(encoded) => encoded.as_slice() == frame,
-        Err(NoMemory) => false,
+        Err(_) => false,
     }
 }
 

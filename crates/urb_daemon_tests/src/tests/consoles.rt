@@ -2,9 +2,9 @@
 
 use std::cell::Cell;
 use std::io;
-use std::io::{ErrorKind, Read};
+use std::io::{ErrorKind, IsTerminal, Read};
 use std::test::Fail;
-use urb_daemon::Console;
+use urb_daemon::{Console, PromptedInput};
 use urb_terminal::Terminal;
 use urb_worker::Watch;
 
@@ -65,6 +65,44 @@ fn a_console_tells_once_and_reads_to_the_end(rt: HostRuntime) -> Result<(), Fail
         drop(console);
         let shown = terminal.into_shown(0);
         assert!(rt; shown.is(0, output, b"", b""));
+    }
+    Ok(())
+}
+
+/// An input without a byte, which is a terminal or isn't.
+#[derive(Drop)]
+struct Empty {
+    is_terminal: bool,
+}
+
+impl Read for Empty {
+    fn read(&mut self, _buf: &mut [u8]) -> io::Result<usize> {
+        Ok(0)
+    }
+}
+
+impl IsTerminal for Empty {
+    fn is_terminal(&self) -> bool {
+        self.is_terminal
+    }
+}
+
+#[test]
+fn a_terminal_shows_how_to_stop(rt: HostRuntime) -> Result<(), Fail> {
+    for (is_terminal, told) in [
+        (
+            true,
+            b"urbd: press Ctrl-D to stop\nurbd: stopping: the sessions of clients end\n".as_slice(),
+        ),
+        (false, b""),
+    ] {
+        let terminal = Terminal::new(rt.alloc(), &[], b"", true);
+        let input = PromptedInput::new(Empty { is_terminal }, &terminal);
+        let mut console = Console::new(&terminal, input);
+        console.watch(&[]);
+        drop(console);
+        let shown = terminal.into_shown(0);
+        assert!(rt; shown.is(0, b"open 0\n", told, told));
     }
     Ok(())
 }

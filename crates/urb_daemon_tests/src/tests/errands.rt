@@ -9,7 +9,8 @@ use std::io;
 use std::io::Lines;
 use std::net::{Ipv4Addr, Net, SocketAddr, TcpListener, TcpStream};
 use std::test::Fail;
-use urb_cli::{Errand, ReadOptions, SubmitOptions, run_errand};
+use std::time::{Clock, Duration};
+use urb_cli::{Errand, PublishOptions, ReadOptions, SubmitOptions, run_errand};
 use urb_terminal::{Shown, Terminal};
 use urb_worker::{Silent, Station, Watch};
 
@@ -82,9 +83,23 @@ impl<N: Net<Listener = TcpListener, Stream = TcpStream>> Net for Wired<'_, N> {
     }
 }
 
+impl<N: Clock + Net<Listener = TcpListener, Stream = TcpStream>> Clock for Wired<'_, N> {
+    fn monotonic(&self) -> io::Result<Duration> {
+        self.net.monotonic()
+    }
+
+    fn since_1970(&self) -> io::Result<Duration> {
+        self.net.since_1970()
+    }
+
+    fn sleep(&self, duration: Duration) {
+        self.net.sleep(duration)
+    }
+}
+
 // Runs an errand at a terminal with this input, whose output is open or not. Returns what it shows,
 // and its status.
-fn shown_of<'a, N: Net<Listener = TcpListener, Stream = TcpStream>>(
+fn shown_of<'a, N: Clock + Net<Listener = TcpListener, Stream = TcpStream>>(
     net: &'a N,
     alloc: Global,
     errand: Errand<'_>,
@@ -125,12 +140,23 @@ fn read(port: u16, from: u32) -> Errand<'static>
     Errand::Read(ReadOptions { port, from, max: 8 })
 }
 
+// Texts that client 7 publishes: this one, or the lines of the input.
+fn publish(port: u16, text: Option<&str>) -> Errand<'_>
+    requires { 0 < port }
+{
+    Errand::Publish(PublishOptions {
+        port,
+        client: 7,
+        text,
+    })
+}
+
 const WRITE_FAILED: &[u8] = b"urbd: write failed\n";
 
 const NETWORK_FAILED: &[u8] = b"urbd: network failed: nobody listens at 127.0.0.1:";
 
 // Whether errands at the port of a new node, one after the other, show and end as expected.
-fn show_its_answers<N: Net<Listener = TcpListener, Stream = TcpStream>>(
+fn show_its_answers<N: Clock + Net<Listener = TcpListener, Stream = TcpStream>>(
     net: &N,
     alloc: Global,
     port: u16,
@@ -159,18 +185,24 @@ fn show_its_answers<N: Net<Listener = TcpListener, Stream = TcpStream>>(
         let shown = shown_of(net, alloc, errand, b"", open);
         show = show && is_all(&shown, status, output, errors);
     }
-    show
+    // The program numbers what it publishes: messages 3 and 4, and then 5.
+    let shown = shown_of(net, alloc, publish(port, None), b"a\nb\n", true);
+    show = show && is_all(&shown, 0, b"accepted 3\naccepted 4\n", b"");
+    let shown = shown_of(net, alloc, publish(port, Some("c")), b"", true);
+    show = show && is_all(&shown, 0, b"accepted 5\n", b"");
+    let shown = shown_of(net, alloc, read(port, 3), b"", true);
+    show && is_all(&shown, 0, b"1.3 7 3 61\n1.4 7 4 62\n1.5 7 5 63\n", b"")
 }
 
 // A client of the first node, by errands.
 #[derive(Drop)]
-struct Errands<'a, N: Net<Listener = TcpListener, Stream = TcpStream>> {
+struct Errands<'a, N: Clock + Net<Listener = TcpListener, Stream = TcpStream>> {
     net: &'a N,
     alloc: Global,
     show_its_answers: bool,
 }
 
-impl<'a, N: Net<Listener = TcpListener, Stream = TcpStream>> Watch for Errands<'a, N> {
+impl<'a, N: Clock + Net<Listener = TcpListener, Stream = TcpStream>> Watch for Errands<'a, N> {
     fn watch(&mut self, stations: &[Station]) {
         if let [station, ..] = stations
             && 0 < station.tcp_port

@@ -2,7 +2,9 @@
 //! their place.
 
 use std::fs;
+use std::fs::Permissions;
 use std::marker::Brand;
+use std::os::unix::fs::{MetadataExt, PermissionsExt};
 use std::rt::HostRuntime;
 use std::test::Fail;
 use std::thread::Threads;
@@ -43,6 +45,38 @@ fn of_each_closed_journal_one_file_is_left(rt: HostRuntime) -> Result<(), Fail> 
     let were_open = has_journals(&rt, true);
     close_journals(&rt, FOLDER, journals);
     assert!(rt; were_open && has_journals(&rt, false));
+    fs::remove_dir_all(&rt, FOLDER)?;
+    Ok(())
+}
+
+// The bits of the mode of the file at this path that say who may use it.
+fn access_of(rt: &HostRuntime, path: &str) -> Option<u32> {
+    Some(fs::metadata(rt, path).ok()?.mode() & 0o777)
+}
+
+#[test]
+fn a_new_journal_belongs_to_its_owner_alone(rt: HostRuntime) -> Result<(), Fail> {
+    assert!(rt; is_cleared(&rt));
+    let Ok(journals) = open_two(&rt, &rt) else {
+        return Err("journals")?;
+    };
+    for path in [
+        "urbd_folder/node-1.db",
+        "urbd_folder/node-1.db-wal",
+        "urbd_folder/node-2.db",
+        "urbd_folder/node-2.db-wal",
+    ] {
+        assert_eq!(rt; access_of(&rt, path), Some(0o600), "{path}");
+    }
+    close_journals(&rt, FOLDER, journals);
+    // An opening doesn't change the mode of a journal that exists.
+    fs::set_permissions(&rt, "urbd_folder/node-1.db", Permissions::from_mode(0o640))?;
+    let Ok(journals) = open_two(&rt, &rt) else {
+        return Err("journals")?;
+    };
+    assert_eq!(rt; access_of(&rt, "urbd_folder/node-1.db"), Some(0o640));
+    assert_eq!(rt; access_of(&rt, "urbd_folder/node-2.db"), Some(0o600));
+    close_journals(&rt, FOLDER, journals);
     fs::remove_dir_all(&rt, FOLDER)?;
     Ok(())
 }

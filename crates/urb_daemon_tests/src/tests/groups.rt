@@ -9,10 +9,10 @@ use std::net::{Ipv4Addr, Net, TcpListener, TcpStream, UdpSocket};
 use std::test::Fail;
 use std::thread;
 use std::time::{Clock, Duration};
-use urb_cli::ServeOptions;
+use urb_cli::{ServeOptions, ServiceOptions};
 use urb_daemon::{Host, Network, NetworkFault, Port, open_link, open_network, run_group_at};
 use urb_group::{Config, Group, MemStable};
-use urb_worker::{LEAST_CONNECTIONS, Reporter, Silent, Station, Watch};
+use urb_worker::{ClientLimits, LEAST_CONNECTIONS, Reporter, Silent, Station, Watch};
 
 // What a client sends to a group of one node. It is a submit, a read that shows it, a status, and a
 // submit whose number isn't the next. Then come an unknown opcode, a read of the place 0, a read
@@ -99,7 +99,7 @@ where
         stations,
         link,
         every: millis,
-        connections: LEAST_CONNECTIONS,
+        limits: ClientLimits::standard(LEAST_CONNECTIONS),
     };
     let stores = stores(alloc, nodes)?;
     let group = Group::new(alloc, config).ok()?;
@@ -216,6 +216,35 @@ fn sockets_are_those_of_their_nodes_at_loopback_alone(rt: HostRuntime) -> Result
         }
     }
     Err("no port is free".into())
+}
+
+// The limits of the clients of a group at these ports, if it opens them: the connections, the idle
+// time in minutes, and whether clients may crash it.
+fn limits_of<R: Net<Listener = TcpListener, Stream = TcpStream>>(
+    rt: &R,
+    alloc: Global,
+    base: u16,
+    service: ServiceOptions,
+) -> Option<(usize, u32, bool)> {
+    let serving = ServeOptions::new(1, 1, ".", base, 1)?.with_service(service);
+    let limits = open_network(rt, alloc, serving).ok()?.limits;
+    Some((limits.connections, limits.idle_times, limits.may_crash))
+}
+
+#[test]
+fn clients_have_the_limits_of_the_options(rt: HostRuntime) -> Result<(), Fail> {
+    for (connections, minutes, may_crash) in [(4u16, 1u16, false), (9, 3, true), (5, 1440, false)] {
+        let service = ServiceOptions::new(connections, minutes, may_crash).ok_or("a range")?;
+        let mut limits = None;
+        for base in [22_350u16, 25_910, 29_470, 31_230] {
+            if limits.is_none() {
+                limits = limits_of(&rt, rt.alloc(), base, service);
+            }
+        }
+        let expected = (usize::from(connections), u32::from(minutes), may_crash);
+        assert_eq!(rt; limits, Some(expected));
+    }
+    Ok(())
 }
 
 #[test]

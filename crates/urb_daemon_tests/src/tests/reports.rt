@@ -1,4 +1,4 @@
-//! What operators read on standard error when a node goes down or comes back.
+//! What operators read on standard error about a running group.
 
 use std::test::Fail;
 use urb_daemon::Reports;
@@ -29,5 +29,15 @@ fn each_change_of_a_node_is_one_line_on_standard_error(rt: HostRuntime) -> Resul
         let shown = terminal.into_shown(0);
         assert!(rt; shown.is(0, b"", line, line));
     }
+    Ok(())
+}
+
+#[test]
+fn few_descriptors_are_one_line_on_standard_error(rt: HostRuntime) -> Result<(), Fail> {
+    let terminal = Terminal::new(rt.alloc(), &[], b"", true);
+    Reports::new(&terminal).report_connections(4);
+    let shown = terminal.into_shown(0);
+    let line = b"urbd: few descriptors: each node serves 4 connections\n".as_slice();
+    assert!(rt; shown.is(0, b"", line, line));
     Ok(())
 }

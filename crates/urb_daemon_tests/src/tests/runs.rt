@@ -196,7 +196,7 @@ where
     None
 }
 
-// The fault that the end of a run is told as, if it is one.
+// The fault that the end of a run becomes, if it is one.
 fn fault_of_end(ended: Result<u64, ServeFault>) -> Option<Fault> {
     match ended {
         Ok(_) => None,

@@ -2,7 +2,7 @@
 -- then.
 use Rattle.std.proofs.Common.{List, Some, [], ap, ap₂, arith, eq-eqb, false}
 use Rattle.std.proofs.Common.{length, lt-ltb, ltb-true, nat_lt, refl, slice_get, subst, suc, sym, true}
-use Rattle.std.proofs.Common.{ℕ, ⊎_elim, ◌&&◌, ◌++◌, ◌<◌, ◌==◌, ◌∙◌, ◌∷◌, ◌≡◌, ◌≤◌}
+use Rattle.std.proofs.Common.{ℕ, ⊎_elim, ◌++◌, ◌<◌, ◌∙◌, ◌∷◌, ◌≡◌, ◌≤◌}
 use Rattle.std.proofs.lemmas.Bool.{and_from, and_parts, cases_Bool, cases_lt}
 use Rattle.std.proofs.lemmas.Option.{slice_get_within}
 use Rattle.urb_group.proofs.steps.Drafting.{AllKept, to_sender}
@@ -14,7 +14,7 @@ use Rattle.urb_group.specs.Stopping.{AlwaysLeaves, GoesOnUnder, MayLeave}
 use Rattle.urb_group.specs.World.{World}
 use Rattle.urb_names.proofs.FoundPairs.{has_pair-found, has_pair-itself, has_pair-left, some_found}
 use Rattle.urb_names.proofs.Places.{get_some}
-use Rattle.urb_names.specs.Names.{has_name, name}
+use Rattle.urb_names.specs.Names.{name}
 use Rattle.urb_names.specs.Naming.{Content, Label, Limits}
 use Rattle.urb_names.specs.Nodes.{is_node}
 use Rattle.urb_names.specs.Pairs.{has_pair, message_of, own}
@@ -23,8 +23,8 @@ use Rattle.urb_stable.proofs.KeptRules.{kept-all, kept-held, kept-known, kept-nu
 use Rattle.urb_stable.proofs.KeptRules.{kept-unique}
 use Rattle.urb_stable.proofs.OwnRules.{keeps_own-push, own_number, to_kept}
 use Rattle.urb_stable.specs.Entries.{Entry}
-use Rattle.urb_stable.specs.Fitting.{Fits, KeepsOwn, Kept, Rules, held_by_majority, in_range, keeps_a}
-use Rattle.urb_stable.specs.Records.{cert, pend}
+use Rattle.urb_stable.specs.Fitting.{Fits, KeepsOwn, Kept, held_by_majority, in_range, keeps_a}
+use Rattle.urb_stable.specs.Records.{pend}
 use Rattle.urb_stable.specs.declared.record.Record.TheVariants.{Cert, Pend, PendCert}
 
 -- ---- the images of one group

@@ -32,7 +32,7 @@ struct Step {
 fn group<A: Allocator + Copy>(alloc: A) -> Option<(Group<A>, bool)> {
     match Group::new(alloc, three()) {
         Ok(group) => Some((group, false)),
-        Err(NoMemory) => Some((Group::new(alloc, three()).ok()?, true)),
+        Err(_) => Some((Group::new(alloc, three()).ok()?, true)),
     }
 }
 

@@ -22,7 +22,7 @@ fn remake<A: Allocator + Copy>(alloc: A, packet: &Packet<A>) -> Option<Packet<A>
             let (source, target) = (packet.source(), packet.target());
             Some(Packet::new(source, target, packet.name(), message, packet.flags()))
         }
-        Err(NoMemory) => None,
+        Err(_) => None,
     }
 }
 
@@ -30,11 +30,11 @@ fn remake<A: Allocator + Copy>(alloc: A, packet: &Packet<A>) -> Option<Packet<A>
 fn is_spelled_late<A: Allocator + Copy>(alloc: A, packet: &Packet<A>) -> bool {
     let spelled = match encode(alloc, packet) {
         Ok(bytes) => Ok(bytes),
-        Err(NoMemory) => encode(alloc, packet),
+        Err(_) => encode(alloc, packet),
     };
     match spelled {
         Ok(bytes) => bytes.as_slice() == WITH_PAYLOAD,
-        Err(NoMemory) => false,
+        Err(_) => false,
     }
 }
 

@@ -108,7 +108,7 @@ fn open<A: Allocator + Copy>(heap: A, calm: A) -> Option<Result<Ready<A>, NoMemo
 pub(super) fn opened_at_last<A: Allocator + Copy>(heap: A, calm: A) -> Option<(Ready<A>, bool)> {
     match open(heap, calm)? {
         Ok(ready) => Some((ready, false)),
-        Err(NoMemory) => Some((open(heap, calm)?.ok()?, true)),
+        Err(_) => Some((open(heap, calm)?.ok()?, true)),
     }
 }
 

@@ -9,7 +9,7 @@ use super::readers::agrees;
 use super::writer::{answer, broadcast, node, three_stores};
 use std::alloc::Global;
 use std::sync::Wait;
-use urb_group::{Group, MemStable, NoMemory};
+use urb_group::{Group, MemStable};
 use urb_refusing::Refusing;
 use urb_show::{House, HouseName, LogReader, Opened, ReadFault, Told};
 
@@ -74,11 +74,11 @@ fn site_of<'a, K: HouseName, R: Wait>(
 {
     let opened = match opened.parts_in::<K, R, Heap<'a>>(rt, alloc, heap) {
         Ok((house, readers)) => return Ok((house, readers, 0)),
-        Err((opened, NoMemory)) => opened,
+        Err((opened, _)) => opened,
     };
     match opened.parts_in::<K, R, Heap<'a>>(rt, alloc, heap) {
         Ok((house, readers)) => Ok((house, readers, 1)),
-        Err((opened, NoMemory)) => {
+        Err((opened, _)) => {
             drop(opened.close());
             Err("no house")
         }
@@ -109,7 +109,7 @@ fn settle<K: HouseName, R: Wait>(
     let two = node(2);
     match house.settle(rt, two) {
         Ok(told) => Some((told, 0)),
-        Err(NoMemory) => {
+        Err(_) => {
             if !has(alloc, reader, before) {
                 return None;
             }
@@ -130,7 +130,7 @@ fn read<'a, K: HouseName>(
     let two = node(2);
     let (page, refused) = match reader.read(heap, two, 1, 255) {
         Ok(page) => (page, 0),
-        Err(ReadFault::NoMemory) => (reader.read(heap, two, 1, 255).ok()?, 1),
+        Err(ReadFault::NoMemory(_)) => (reader.read(heap, two, 1, 255).ok()?, 1),
         Err(ReadFault::Gone) => return None,
     };
     if agrees(&page) && page.total == total {

@@ -6,7 +6,7 @@
 use super::writer::node;
 use std::alloc::Global;
 use std::test::*;
-use urb_group::{ClientId, Message, Name, NoMemory};
+use urb_group::{ClientId, Message, Name};
 use urb_refusing::Refusing;
 use urb_show::Entry;
 use urb_show::entry_lists::{copy_entries, push_at, push_entry};
@@ -139,7 +139,7 @@ fn push_all_in_turn(alloc: Global, lists: &mut [List<'_>]) -> Option<u32> {
 fn copy_all(alloc: Global, heap: Heap<'_>, list: &[Entry]) -> Option<u32> {
     let (copy, refusals) = match copy_entries(alloc, heap, list) {
         Ok(copy) => (copy, 0),
-        Err(NoMemory) => (copy_entries(alloc, heap, list).ok()?, 1),
+        Err(_) => (copy_entries(alloc, heap, list).ok()?, 1),
     };
     if is_list(&copy, 1, 1, ENTRIES) && is_list(list, 1, 1, ENTRIES) {
         Some(refusals)

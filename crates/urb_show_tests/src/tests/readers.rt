@@ -36,7 +36,7 @@ pub fn page_of<K: HouseName>(alloc: Global, reader: &mut LogReader<K>, node: Nod
     requires { node ≤ length K.base }
 {
     match reader.read(alloc, node, 1, 255) {
-        Err(ReadFault::NoMemory) => reader.read(alloc, node, 1, 255).ok(),
+        Err(ReadFault::NoMemory(_)) => reader.read(alloc, node, 1, 255).ok(),
         page => page.ok(),
     }
 }

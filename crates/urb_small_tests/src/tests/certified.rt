@@ -5,7 +5,7 @@ ghost use Rattle.std.specs.Prelude.{◌≤◌, ◌<◌};
 use std::alloc::Allocator;
 use std::test::Fail;
 use urb_certified::Certified;
-use urb_names::{Name, NoMemory, NodeId};
+use urb_names::{Name, NodeId};
 use urb_refusing::Refusing;
 
 // A name, or `None` if there is no such sender or number.
@@ -25,7 +25,7 @@ fn adds<A: Allocator + Copy>(names: &mut Certified<A>, name: Name) -> bool {
     }
     let reach = names.reach(name.sender);
     let foretold = names.reach_with(name);
-    if let Err(NoMemory) = names.add(name) {
+    if let Err(_) = names.add(name) {
         if names.has(name) || names.reach(name.sender) != reach || names.add(name).is_err() {
             return false;
         }

@@ -4,7 +4,7 @@ ghost use Rattle.std.specs.Prelude.{◌≡◌, ◌<◌, ◌≤◌, IfSome};
 
 use std::alloc::{Allocator, Global};
 use urb_fifo::Fifo;
-use urb_names::{Config, Name, NoMemory, NodeId};
+use urb_names::{Config, Name, NodeId};
 use urb_refusing::Refusing;
 
 /// A call of a `Fifo`, with the sender and the number of its name.
@@ -77,7 +77,7 @@ fn certify<A: Allocator + Copy>(fifo: &mut Fifo<A>, certificate: Name) -> Option
     }
     match fifo.certify(certificate) {
         Ok(released) => Some((released, true)),
-        Err(NoMemory) => None,
+        Err(_) => None,
     }
 }
 

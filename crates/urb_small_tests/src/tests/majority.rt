@@ -3,7 +3,7 @@
 use std::alloc::Allocator;
 use std::test::Fail;
 use urb_majority::{Acks, Noted};
-use urb_names::{Config, Name, NoMemory, NodeId};
+use urb_names::{Config, Name, NodeId};
 use urb_refusing::Refusing;
 
 // Node 1's name with this number.
@@ -28,8 +28,8 @@ fn note<A: Allocator + Copy>(
     let foretold = acks.answer(name, node);
     let (noted, refused) = match acks.note(name, node) {
         Ok(noted) => (noted, false),
-        Err(NoMemory) if acks.noted(name, node) != known => return None,
-        Err(NoMemory) => (acks.note(name, node).ok()?, true),
+        Err(_) if acks.noted(name, node) != known => return None,
+        Err(_) => (acks.note(name, node).ok()?, true),
     };
     if noted != want || noted != foretold || !acks.noted(name, node) {
         return None;

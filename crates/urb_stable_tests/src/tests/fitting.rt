@@ -2,7 +2,7 @@
 
 use super::rows::{Form, image, name};
 use std::alloc::{Allocator, Global};
-use urb_names::{Config, Message, NoMemory, NodeId, Rule};
+use urb_names::{Config, Message, NodeId, Rule};
 use urb_stable::{Images, Misfit, Record};
 
 const CAP: u32 = 10;
@@ -43,7 +43,7 @@ fn judge<A: Allocator + Copy>(
     let config = Config::new(images.len() as u8, CAP)?;
     match Images::new(alloc, images) {
         Ok(read) => Some(read.first_misfit(config)),
-        Err(NoMemory) => None,
+        Err(_) => None,
     }
 }
 

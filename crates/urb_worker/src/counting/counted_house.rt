@@ -1,8 +1,10 @@
 //! The value under a Hub's lock: the House, with the book of its events.
 
-ghost use Rattle.std.specs.Prelude.{◌≡◌, ◌+◌, ◌-◌, ◌<◌, sum, true, vec_len};
+ghost use Rattle.std.specs.Prelude.{◌≡◌, ◌+◌, ◌-◌, ◌<◌, IfOk, OnErr, sum, true, vec_len};
+ghost use Rattle.urb_feed.specs.Feeding.{IsPortion};
 ghost use Rattle.urb_group.specs.Shown.{IsSound};
 ghost use Rattle.urb_worker.specs.Counting.{count_after};
+ghost use Rattle.urb_worker.specs.NodeFeeds.{BeginsFeed};
 ghost use Rattle.urb_worker.specs.Stages.{is_stored};
 ghost use Rattle.urb_worker.specs.Turns.{Begins, Finishes};
 
@@ -11,6 +13,8 @@ use crate::{Finished, Job, Turn};
 use std::alloc::Global;
 use std::sync::Wait;
 use std::sync::ledger::{Book, Share};
+use urb_feed::Feed;
+use urb_names::{NoMemory, NodeId, Packet};
 use urb_show::{House, HouseName};
 
 // The House, the total of all tallies, and the share that is left when each worker has its part.
@@ -77,6 +81,30 @@ impl<K: HouseName, L: HubName> CountedHouse<K, L> {
         // Does nothing at run time; it brings the house's invariant into the proof.
         house.recall();
         finished
+    }
+
+    // A feed of a node, of the group as it is now.
+    #[tactic(auto, using(crate::proofs::NodeFeeds::begins_feed))]
+    pub(crate) fn begin_feed(&self, node: NodeId) -> Feed
+        ensures { BeginsFeed self.now.house.group node result }
+    {
+        self.house.recall();
+        Feed::begin(self.house.group(), node)
+    }
+
+    // The next packets of a feed, of the group as it is now.
+    pub(crate) fn next_portion(
+        &self,
+        alloc: Global,
+        feed: &mut Feed,
+    ) -> Result<Vec<Packet>, NoMemory>
+        ensures sound { IsSound self.now.house.group }
+        ensures ok { IfOk result
+            (λ packets. IsPortion self.now.house.group feed.old feed.new packets.items) }
+        ensures err { OnErr result (feed.new ≡ feed.old) }
+    {
+        self.house.recall();
+        feed.next_portion(alloc, self.house.group())
     }
 
     // The House, once all tallies are back.

@@ -1,4 +1,5 @@
-//! Workers over channels and links in memory: stores of two nodes overlap.
+//! Workers over channels and links in memory: a node works while another node's store is held, by a
+//! gate before the store or inside it.
 
 ghost use Rattle.std.specs.Prelude.{◌≡◌};
 ghost use Rattle.urb_show.specs.Lists.{lists_in};
@@ -15,13 +16,13 @@ use std::test::Fail;
 use std::thread;
 use std::thread::Threads;
 use std::time::{Clock, Duration};
-use urb_group::MemStable;
+use urb_group::{MemStable, Record, Stable, StoreFault};
 use urb_names::NodeId;
 use urb_show::{HouseName, Opened};
-use urb_worker::{Finished, Gate, HubName, Job, MemoryLink, Ticket, serve};
+use urb_worker::{Finished, Gate, HubName, Job, MemoryLink, OpenGate, Ticket, serve};
 
-// What the gate and the client signal to each other. These are how often the gate held node 1's
-// store, whether node 2 was answered, and whether the gate gave up waiting for that.
+// What node 1's side and the client signal to each other: how often node 1's store was held, whether
+// node 2 was answered, and whether node 1's side gave up waiting for that.
 #[derive(Drop)]
 struct Signs {
     held: AtomicU64,
@@ -41,6 +42,14 @@ fn comes<R: Clock>(rt: &R, sign: &AtomicU64) -> bool {
 }
 
 // Holds node 1's store until node 2's submit was answered.
+fn hold<R: Clock>(rt: &R, signs: &Signs) {
+    signs.held.fetch_add(1, Ordering::SeqCst);
+    if !comes(rt, &signs.answered) {
+        signs.late.store(1, Ordering::SeqCst);
+    }
+}
+
+// A gate that holds node 1's store.
 #[derive(Drop)]
 struct HoldsFirst<'a, R: Clock> {
     rt: &'a R,
@@ -50,11 +59,59 @@ struct HoldsFirst<'a, R: Clock> {
 impl<'a, R: Clock> Gate for HoldsFirst<'a, R> {
     fn before_store(&self, node: NodeId) {
         if node.number() == 1 {
-            self.signs.held.fetch_add(1, Ordering::SeqCst);
-            if !comes(self.rt, &self.signs.answered) {
-                self.signs.late.store(1, Ordering::SeqCst);
-            }
+            hold(self.rt, self.signs);
         }
+    }
+}
+
+// A store in memory that is held while it stores a record.
+#[derive(Drop)]
+struct Slow<'a, R: Clock> {
+    rt: &'a R,
+    signs: &'a Signs,
+    store: MemStable,
+}
+
+impl<'a, R: Clock> Stable for Slow<'a, R> {
+    type Alloc = Global;
+
+    ghost certain = { λ s. ⟦<MemStable as Stable>⟧.certain s.store };
+
+    ghost doubt = { λ s. ⟦<MemStable as Stable>⟧.doubt s.store };
+
+    ghost is_doubtful = { λ s. ⟦<MemStable as Stable>⟧.is_doubtful s.store };
+
+    ghost place = { λ s. ⟦<MemStable as Stable>⟧.place s.store };
+
+    ghost failures = { λ s. ⟦<MemStable as Stable>⟧.failures s.store };
+
+    ghost is_clean = { λ s. ⟦<MemStable as Stable>⟧.is_clean s.store };
+
+    ghost is_honest = { λ s. ⟦<MemStable as Stable>⟧.is_honest s.store };
+
+    ghost is_shut = { λ s. ⟦<MemStable as Stable>⟧.is_shut s.store };
+
+    ghost leaves_only = { λ s. ⟦<MemStable as Stable>⟧.leaves_only s.store };
+
+    ghost stores = { λ s. ⟦<MemStable as Stable>⟧.stores s.store };
+
+    ghost answers = { λ s. ⟦<MemStable as Stable>⟧.answers s.store };
+
+    fn next(&self) -> u32 {
+        self.store.next()
+    }
+
+    fn doubtful(&self) -> bool {
+        self.store.doubtful()
+    }
+
+    fn store(&mut self, pos: u32, entry: &Record) -> Result<(), StoreFault> {
+        hold(self.rt, self.signs);
+        self.store.store(pos, entry)
+    }
+
+    fn retrieve(&mut self, alloc: Global) -> Result<Vec<Record>, StoreFault> {
+        self.store.retrieve(alloc)
     }
 }
 
@@ -136,7 +193,7 @@ fn both_asked<K: HouseName, R: Wait + Clock>(
 }
 
 // The outcome of two workers: whether all went as it should, how often node 1's store was held, and
-// whether the gate gave up. Also the House's events, and how many packets each node was sent.
+// whether its hold gave up. Also the House's events, and how many packets each node was sent.
 #[derive(Clone, Copy, Debug, PartialEq, Eq)]
 struct Outcome {
     went_well: bool,
@@ -160,11 +217,22 @@ fn make_queues<K: HouseName, R: Wait>(
     Some((link, first, second))
 }
 
+// What two workers do with the client's jobs. Node 1 has this store, and both have this gate.
 fn two_workers<
     K: HouseName + Send + Sync,
     L: HubName + Send + Sync,
+    S: Stable<Alloc = Global> + Send + Drop,
+    G: Gate + Sync,
     R: Threads + Wait + Clock + Sync,
->(rt: &R, alloc: Global, opened: Opened, blank: Blank) -> Option<Outcome>
+>(
+    rt: &R,
+    alloc: Global,
+    opened: Opened,
+    blank: Blank,
+    store: S,
+    gate: &G,
+    signs: &Signs,
+) -> Option<Outcome>
     requires names { (opened.book ≡ K.book) × (lists_in opened.group ≡ K.base) }
     requires name { blank.name ≡ L.name }
     requires parts { (blank.parts ≡ L.parts) × (L.parts ≡ 2) × (opened.group.size.n ≡ 2) }
@@ -181,17 +249,10 @@ fn two_workers<
     drop(readers);
     let first_tally = tallies.pop().unwrap();
     let second_tally = tallies.pop().unwrap();
-    let signs = Signs {
-        held: AtomicU64::new(0),
-        answered: AtomicU64::new(0),
-        late: AtomicU64::new(0),
-    };
-    let gate = HoldsFirst { rt, signs: &signs };
-    let (hub_of, link_of, gate_of, signs_of) = (&hub, &link, &gate, &signs);
+    let (hub_of, link_of) = (&hub, &link);
     let (first_tally, (second_tally, went_well)) = thread::join(
         rt,
         move || {
-            let store = MemStable::new(alloc);
             serve(
                 rt,
                 alloc,
@@ -200,7 +261,7 @@ fn two_workers<
                 store,
                 first_jobs,
                 link_of,
-                gate_of,
+                gate,
                 first_tally,
             )
         },
@@ -217,11 +278,11 @@ fn two_workers<
                         store,
                         second_jobs,
                         link_of,
-                        gate_of,
+                        gate,
                         second_tally,
                     )
                 },
-                move || both_asked(rt, alloc, signs_of, &first, &second),
+                move || both_asked(rt, alloc, signs, &first, &second),
             )
         },
     );
@@ -239,17 +300,57 @@ fn two_workers<
     })
 }
 
+// No sign yet.
+fn new_signs() -> Signs {
+    Signs {
+        held: AtomicU64::new(0),
+        answered: AtomicU64::new(0),
+        late: AtomicU64::new(0),
+    }
+}
+
+// Both submits are accepted, the second one while node 1's store is held.
+const OVERLAPPED: Outcome = Outcome {
+    went_well: true,
+    held: 1,
+    late: 0,
+    events: 5,
+    sent: (1, 2),
+};
+
 #[test]
 fn stores_of_two_nodes_overlap(rt: HostRuntime) -> Result<(), Fail> {
-    let opened = open_group(rt.alloc(), 2).ok_or("memory")?;
-    let outcome = two_workers::<Brand, Brand, _>(&rt, rt.alloc(), opened, Blank::new(2));
-    let expected = Outcome {
-        went_well: true,
-        held: 1,
-        late: 0,
-        events: 5,
-        sent: (1, 2),
+    let alloc = rt.alloc();
+    let opened = open_group(alloc, 2).ok_or("memory")?;
+    let (blank, signs) = (Blank::new(2), new_signs());
+    let (store, gate) = (
+        MemStable::new(alloc),
+        HoldsFirst {
+            rt: &rt,
+            signs: &signs,
+        },
+    );
+    let outcome = two_workers::<Brand, Brand, MemStable, _, _>(
+        &rt, alloc, opened, blank, store, &gate, &signs,
+    );
+    assert_eq!(rt; outcome, Some(OVERLAPPED));
+    Ok(())
+}
+
+// A store takes its time while nobody holds the lock: node 2 is answered meanwhile.
+#[test]
+fn a_node_is_answered_while_another_store_works(rt: HostRuntime) -> Result<(), Fail> {
+    let alloc = rt.alloc();
+    let opened = open_group(alloc, 2).ok_or("memory")?;
+    let (blank, signs) = (Blank::new(2), new_signs());
+    let store = Slow {
+        rt: &rt,
+        signs: &signs,
+        store: MemStable::new(alloc),
     };
-    assert_eq!(rt; outcome, Some(expected));
+    let outcome = two_workers::<Brand, Brand, Slow<'_, _>, _, _>(
+        &rt, alloc, opened, blank, store, &OpenGate, &signs,
+    );
+    assert_eq!(rt; outcome, Some(OVERLAPPED));
     Ok(())
 }

@@ -16,7 +16,9 @@ use std::thread;
 use std::thread::Threads;
 use std::time::{Clock, Duration};
 use urb_stable::MemStable;
-use urb_worker::{ClientLimits, GroupSetting, Silent, Station, UdpLink, Watch, run_group};
+use urb_worker::{
+    ClientLimits, GroupSetting, IDLE_MINUTES, Silent, Station, UdpLink, Watch, run_group,
+};
 
 // How many clients a node serves at a time.
 const CLIENTS: usize = 300;
@@ -42,6 +44,9 @@ const SHOWN: &[u8] = b"\x00\x10\x82\x01\x01\x00\x00\x00\x01\x00\x07\x00\x00\x00\
 
 // The refusal of a node that serves as many clients as it may.
 const BUSY: &[u8] = b"\x00\x06\xee\x04\x00\x00\x00\x00";
+
+// The answers of a node that takes no crash and no restart.
+const NOT_TAKEN: &[u8] = b"\x00\x06\xee\x13\x00\x00\x00\x02\x00\x06\xee\x13\x00\x00\x00\x01";
 
 // All that a node answers to these bytes, until it ends the session.
 pub(super) fn answers<R: Net<Listener = TcpListener, Stream = TcpStream>>(
@@ -139,6 +144,19 @@ fn accepts_one<R: Net<Listener = TcpListener, Stream = TcpStream>>(
     Some(answers(rt, alloc, stations.first()?, SUBMIT)?.as_slice() == ACCEPTED)
 }
 
+// Whether the first node refuses a crash and a restart as requests that it doesn't know, and accepts
+// a message after that.
+fn refuses_crashes<R: Net<Listener = TcpListener, Stream = TcpStream>>(
+    rt: &R,
+    alloc: Global,
+    stations: &[Station],
+) -> Option<bool> {
+    let station = stations.first()?;
+    let is_refused = answers(rt, alloc, station, CRASH)?.as_slice() == NOT_TAKEN
+        && answers(rt, alloc, station, RESTART)?.as_slice() == NOT_TAKEN;
+    Some(is_refused && accepts_one(rt, alloc, stations)?)
+}
+
 // Whether a node accepts a message, after at most 10,000 tries, a millisecond apart.
 fn is_served_soon<R: Clock + Net<Listener = TcpListener, Stream = TcpStream>>(
     rt: &R,
@@ -200,6 +218,7 @@ enum Course {
     HasErrors,
     SendsWhileOneIsDown,
     SendsToAll,
+    MayNotCrash,
 }
 
 // A client of a group, and whether its actions went well.
@@ -220,6 +239,7 @@ impl<'a, R: Clock + Net<Listener = TcpListener, Stream = TcpStream>> Watch for C
             Course::HasErrors => outlives_errors(rt, alloc, stations),
             Course::SendsWhileOneIsDown => comes_by_a_tick(rt, alloc, stations),
             Course::SendsToAll => comes_to_all(rt, alloc, stations),
+            Course::MayNotCrash => refuses_crashes(rt, alloc, stations),
         };
         self.went_well = went_well == Some(true);
     }
@@ -290,6 +310,7 @@ where
     let stores = make_stores(alloc, nodes)?;
     let opened = open_group(alloc, nodes)?;
     let blank = Blank::new(u64::from(nodes));
+    let may_crash = !matches!(course, Course::MayNotCrash);
     let setting = GroupSetting {
         rt,
         alloc,
@@ -297,7 +318,7 @@ where
         stations,
         tick_millis: millis,
         reporter: &Silent,
-        limits: ClientLimits::standard(CLIENTS),
+        limits: ClientLimits::new(CLIENTS, IDLE_MINUTES, may_crash),
     };
     let (_, ended) = run_group::<Brand, Brand, MemStable, Silent, R, Client<'_, R>>(
         &setting,
@@ -320,6 +341,15 @@ fn a_tick_brings_what_a_node_that_was_down_has_missed(rt: HostRuntime) -> Result
 #[test]
 fn a_message_comes_to_each_of_seven_nodes(rt: HostRuntime) -> Result<(), Fail> {
     let (went_well, _) = run_with_client(&rt, rt.alloc(), 7, 20, Course::SendsToAll).ok_or(
+        "memory",
+    )?;
+    assert!(rt; went_well);
+    Ok(())
+}
+
+#[test]
+fn clients_that_may_not_crash_a_node_are_refused(rt: HostRuntime) -> Result<(), Fail> {
+    let (went_well, _) = run_with_client(&rt, rt.alloc(), 1, 20, Course::MayNotCrash).ok_or(
         "memory",
     )?;
     assert!(rt; went_well);

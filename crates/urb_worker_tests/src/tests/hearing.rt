@@ -9,6 +9,7 @@ use std::marker::Brand;
 use std::sync::Wait;
 use std::sync::ledger::Blank;
 use std::test::Fail;
+use std::time::Clock;
 use urb_group::MemStable;
 use urb_names::NodeId;
 use urb_show::{House, HouseName, Opened};
@@ -18,7 +19,7 @@ use urb_worker::{
 
 // Nodes with their stores. Each node does a job when the test asks it to.
 #[derive(Drop)]
-struct Nodes<'a, 'r, K: HouseName, L: HubName, R: Wait> {
+struct Nodes<'a, 'r, K: HouseName, L: HubName, R: Wait + Clock> {
     rt: &'r R,
     alloc: Global,
     hub: &'a Hub<K, L>,
@@ -27,7 +28,7 @@ struct Nodes<'a, 'r, K: HouseName, L: HubName, R: Wait> {
     count: u8,
 }
 
-impl<'a, 'r, K: HouseName, L: HubName, R: Wait> Nodes<'a, 'r, K, L, R> {
+impl<'a, 'r, K: HouseName, L: HubName, R: Wait + Clock> Nodes<'a, 'r, K, L, R> {
     // Has a node's worker do a job. Without memory for that, the job is lost.
     fn work(&mut self, node: NodeId, job: Job, tally: Tally<L>) -> Tally<L> {
         let Some(store) = self.stores.get_mut(usize::from(node.number()) - 1) else {
@@ -108,7 +109,7 @@ fn have_delivered<K: HouseName>(house: &House<K>, count: u8) -> bool {
 }
 
 // What these nodes play.
-fn play_with<K: HouseName, L: HubName, R: Wait>(
+fn play_with<K: HouseName, L: HubName, R: Wait + Clock>(
     nodes: Nodes<'_, '_, K, L, R>,
     tally: Tally<L>,
 ) -> ((usize, usize, usize), Tally<L>) {
@@ -117,7 +118,7 @@ fn play_with<K: HouseName, L: HubName, R: Wait>(
 }
 
 // The packets of a group that plays, and whether all nodes have delivered the message.
-fn run_until_quiet<K: HouseName, L: HubName, R: Wait>(
+fn run_until_quiet<K: HouseName, L: HubName, R: Wait + Clock>(
     rt: &R,
     alloc: Global,
     opened: Opened,

@@ -1,10 +1,10 @@
-use Rattle.std.proofs.Common.{rules, sym, ◌++◌, ◌∙◌, ◌∷◌, ◌≡◌, [], true, false}
+use Rattle.std.proofs.Common.{refl, rules, sym, ◌++◌, ◌∙◌, ◌∷◌, ◌≡◌, [], true, false}
 use Rattle.urb_group.proofs.calls.PlayedRuns.{follows-next, ends-before, ends-short}
 use Rattle.urb_group.specs.Commands.{is_no_memory}
 use Rattle.urb_group.proofs.command_list.play_commands.Goals as goal
 
-pub returns-in_default : goal.returns-in_default
-returns-in_default g c =
+pub returns-in-Err : goal.returns-in-Err
+returns-in-Err g c =
     rw c.reserve.ensures.items
     (ends-before g.S.Stable c.args.cluster.now c.loop-command.cluster c.loop-command.cluster
     c.args.commands.now c.loop-command.replies.items c.loop-command.command-index
@@ -12,10 +12,10 @@ returns-in_default g c =
     c.loop-command-test.true c.command-item.is c.loop-command.invariant.follows
     c.loop-command.invariant.count)
 
-pub returns-then-is_memory_refused : goal.returns-then-is_memory_refused
-returns-then-is_memory_refused g c =
+pub returns-in-Some : goal.returns-in-Some
+returns-in-Some g c =
     let short : is_no_memory c.apply-reply.result ≡ true =
-    sym c.is_memory_refused.ensures ∙ c.if-is_memory_refused.true in
+    sym c.refused_memory.ensures ∙ rw c.in-Some.is refl in
     rw c.reserve.ensures.items
     (ends-short g.S.Stable c.args.cluster.now c.loop-command.cluster c.apply-reply.new.self
     c.args.commands.now c.loop-command.replies.items c.loop-command.command-index
@@ -26,7 +26,7 @@ returns-then-is_memory_refused g c =
 pub loop-command-preserved : goal.loop-command-preserved
 loop-command-preserved g c =
     let told_is : is_no_memory c.apply-reply.result ≡ false =
-    sym c.is_memory_refused.ensures ∙ c.if-is_memory_refused.false in
+    sym c.refused_memory.ensures ∙ rw c.in_default-refused_memory.is refl in
     let items : c.push_reserved.new.self.items ≡ c.loop-command.replies.items
     ++ c.apply-reply.result ∷ [] = search rules in
     record {

@@ -10,5 +10,5 @@ returns-in-Ok g c =
 pub returns-in-Err : goal.returns-in-Err
 returns-in-Err g c =
     tick_at _ c.args.node c.in-Ready.ready
-    (c.tick-ready.result.0, Err c.in-Err.field-0) c.in-Ready.is
+    (c.tick-ready.result.0, Err c.in-Err.NoMemory) c.in-Ready.is
     (rw c.in-Err.is at c.tick-ready.ensures.event)

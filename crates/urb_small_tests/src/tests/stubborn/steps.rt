@@ -125,7 +125,7 @@ fn ticks<A: Allocator + Copy>(
         } else {
             None
         },
-        Err(NoMemory) => None,
+        Err(_) => None,
     }
 }
 

@@ -12,6 +12,10 @@ returns c =
     let three =
     adds_below _ _ _ _ _ c.in_ok-subcommand-3.ensures two c.in_ok-submit_command.ensures in
     let four = adds_below _ _ _ _ _ c.in_ok-subcommand-4.ensures three c.in_ok-read_command.ensures in
-    IfOk-weaker c.subcommand-5.result _ _
-    (λ made added. (adds_below _ _ _ _ _ added four c.in_ok-status_command.ensures).0)
-    c.subcommand-5.ensures
+    let five =
+    adds_below _ _ _ _ _ c.in_ok-subcommand-5.ensures four c.in_ok-status_command.ensures in
+    let six =
+    adds_below _ _ _ _ _ c.in_ok-subcommand-6.ensures five c.in_ok-publish_command.ensures in
+    IfOk-weaker c.subcommand-7.result _ _
+    (λ made added. (adds_below _ _ _ _ _ added six c.in_ok-follow_command.ensures).0)
+    c.subcommand-7.ensures

@@ -20,6 +20,17 @@ returns-in-Some-clause-taken g c =
     ap (λ (a : App). fault_of a (map g.S.AsStr.text c.args.words.now)) (sym is)
     ∙ c.in-Ok-try_get_matches_from.ensures.kinds (ap is_simple_and_free is ∙ urbd_app-free)
 
+pub returns-in-Some-clause-asked : goal.returns-in-Some-clause-asked
+returns-in-Some-clause-asked g c =
+    let is : app_of c.in-Ok.command ≡ urbd_app = c.in-Ok.ensures in
+    let words = map g.S.AsStr.text c.args.words.now in
+    let simple = (and_parts (is_simple urbd_app) (is_free_app urbd_app) urbd_app-free).0 in
+    let met =
+    subst (λ (a : App). HasMatchesOf a words c.in-Ok-try_get_matches_from.matches) is
+    c.in-Ok-try_get_matches_from.ensures.matches in
+    ap task_named (sym (met simple).1) ∙ sym c.read_matches.ensures
+    ∙ ap (option_map task_of) c.in-Some.is
+
 pub returns-in-Ok-try_get_matches_from-clause-refused :
     goal.returns-in-Ok-try_get_matches_from-clause-refused
 returns-in-Ok-try_get_matches_from-clause-refused g c =

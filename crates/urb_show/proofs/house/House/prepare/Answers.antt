@@ -16,7 +16,7 @@ add-requires-clause-agree g c =
     let base = g.K.HouseName.base in
     let all = c.self.inside.publisher.all in
     let group = c.self.inside.group in
-    let a : Addition = record { place = c.from-place.result; entry = c.in-Ok.entry } in
+    let a : Addition = record { place = c.from-place.result; entry = c.in_ok-entry.entry } in
     let k = c.index-index.result.now in
     let place : c.from-place.result ≡ c.args.node - 1 =
     omega (arith, c.from-place.ensures, c.number.ensures.number) in
@@ -30,7 +30,7 @@ add-requires-clause-agree g c =
     let next : IsNext group base all a k (slice_set c.self.inside.prepared.items a.place (k + 1)) =
     is_next group base all a c.self.inside.prepared.items k
     (c.args.node - 1) place c.self.invariant in_group c.index-index.ensures lacks
-    c.in-Ok.ensures in
+    c.in_ok-entry.ensures in
     let same : c.flush.new.self.all ≡ all =
     ap (λ (p : PublisherView). p.all) c.in_ok-flush.ensures in
     subst (λ (w : List Addition). Agree (lists_of base (w ++ a ∷ []))) (sym same)
@@ -42,7 +42,7 @@ overflow_add-index g c =
     let base = g.K.HouseName.base in
     let all = c.self.inside.publisher.all in
     let group = c.self.inside.group in
-    let a : Addition = record { place = c.from-place.result; entry = c.in-Ok.entry } in
+    let a : Addition = record { place = c.from-place.result; entry = c.in_ok-entry.entry } in
     let k = c.index-index.result.now in
     let place : c.from-place.result ≡ c.args.node - 1 =
     omega (arith, c.from-place.ensures, c.number.ensures.number) in
@@ -56,7 +56,7 @@ overflow_add-index g c =
     let next : IsNext group base all a k (slice_set c.self.inside.prepared.items a.place (k + 1)) =
     is_next group base all a c.self.inside.prepared.items k
     (c.args.node - 1) place c.self.invariant in_group c.index-index.ensures lacks
-    c.in-Ok.ensures in
+    c.in_ok-entry.ensures in
     let short = (lists_agree group c.recall_deliveries.ensures.agree).short a.place in
     let index = next.index in
     record {
@@ -73,7 +73,7 @@ invariant_of-self-2 g c =
     let base = g.K.HouseName.base in
     let all = c.self.inside.publisher.all in
     let group = c.self.inside.group in
-    let a : Addition = record { place = c.from-place.result; entry = c.in-Ok.entry } in
+    let a : Addition = record { place = c.from-place.result; entry = c.in_ok-entry.entry } in
     let k = c.index-index.result.now in
     let place : c.from-place.result ≡ c.args.node - 1 =
     omega (arith, c.from-place.ensures, c.number.ensures.number) in
@@ -87,7 +87,7 @@ invariant_of-self-2 g c =
     let next : IsNext group base all a k (slice_set c.self.inside.prepared.items a.place (k + 1)) =
     is_next group base all a c.self.inside.prepared.items k
     (c.args.node - 1) place c.self.invariant in_group c.index-index.ensures lacks
-    c.in-Ok.ensures in
+    c.in_ok-entry.ensures in
     let same : c.flush.new.self.all ≡ all =
     ap (λ (p : PublisherView). p.all) c.in_ok-flush.ensures in
     let now : c.add.new.self.all ≡ all ++ a ∷ [] =
@@ -102,7 +102,7 @@ returns g c =
     let base = g.K.HouseName.base in
     let all = c.self.inside.publisher.all in
     let group = c.self.inside.group in
-    let a : Addition = record { place = c.from-place.result; entry = c.in-Ok.entry } in
+    let a : Addition = record { place = c.from-place.result; entry = c.in_ok-entry.entry } in
     let k = c.index-index.result.now in
     let place : c.from-place.result ≡ c.args.node - 1 =
     omega (arith, c.from-place.ensures, c.number.ensures.number) in
@@ -116,7 +116,7 @@ returns g c =
     let next : IsNext group base all a k (slice_set c.self.inside.prepared.items a.place (k + 1)) =
     is_next group base all a c.self.inside.prepared.items k
     (c.args.node - 1) place c.self.invariant in_group c.index-index.ensures lacks
-    c.in-Ok.ensures in
+    c.in_ok-entry.ensures in
     let same : c.flush.new.self.all ≡ all =
     ap (λ (p : PublisherView). p.all) c.in_ok-flush.ensures in
     let now : c.add.new.self.all ≡ all ++ a ∷ [] =

@@ -16,7 +16,7 @@ pub invariant_of-house : goal.invariant_of-house
 invariant_of-house g c =
     let base : lists_in c.self.inside.group ≡ g.K.HouseName.base =
     ap (λ (n : OpenedView). lists_in n.group) c.self.view_is ∙ c.requires.names.1 in
-    opened_house_is c.self.inside.group g.K.HouseName.base c.new.result.all c.in-Ok.prepared.items
+    opened_house_is c.self.inside.group g.K.HouseName.base c.new.result.all c.in-Ok.made.1.items
     c.recall_deliveries.ensures.sound c.recall_deliveries.ensures.counted base
     (ap (λ (p : PublisherView). p.all) c.new.ensures) c.in-Ok.ensures.2
 

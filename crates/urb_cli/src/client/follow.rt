@@ -1,0 +1,222 @@
+//! The command `follow`: the entries of a node's log, as they come.
+
+ghost use Rattle.std.specs.Prelude.{◌≡◌, ◌<◌, ◌+◌, IfOk, IfErr, IfSome, OnOk, flat_map};
+ghost use Rattle.std.specs.Prelude.{length};
+ghost use Rattle.std.specs.Io.KnownBytes.{Appends};
+ghost use Rattle.urb_client.specs.Requests.{IsAsked, IsShort, asked_by};
+ghost use Rattle.urb_client.specs.Responses.{Listing, said_by};
+ghost use Rattle.urb_cli.specs.Calls.{Insists, answer_of};
+ghost use Rattle.urb_cli.specs.EntryForms.{form_line};
+ghost use Rattle.urb_cli.specs.Following.{BreaksOffAfter, IsAnswered, IsFrom, IsRefusedAfter};
+ghost use Rattle.urb_cli.specs.Statuses.{IsClientsEnd};
+ghost use Rattle.urb_cli.specs.Streams.{MayPrint};
+ghost use Rattle.urb_cli.specs.internal.Following.{IsPrinted, Turns};
+
+use crate::client::call_fault::CallFault;
+use crate::client::caller::{Caller, insist};
+use crate::client::calls::send;
+use crate::client::entry_form::push_page_in;
+use crate::client::entry_form_kind::EntryForm;
+use crate::client::follow_turn::Turn;
+use crate::client::node_caller::NodeCaller;
+use crate::client::publish::write_refusal;
+use crate::client::stream_end::report_stream_end;
+use crate::client::stream_fault::{StreamEnd, StreamFault};
+use crate::command_line::stream_options::FollowOptions;
+use crate::faults::Fault;
+use std::alloc::Global;
+use std::io;
+use std::io::Write;
+use std::net::{Net, TcpListener, TcpStream};
+use std::time::Clock;
+use urb_client::{MOST_ENTRIES, Request, Response};
+use urb_names::{Message, Name};
+
+/// How long a node may wait for the next entry before it answers, in milliseconds.
+const WAIT_MILLIS: u16 = 5_000;
+
+/// The number of the refusal of a request that the node doesn't know.
+const UNKNOWN_REQUEST: u8 = 19;
+
+// The request for the log from this place on: a wait, or a read if the node doesn't know that.
+fn make_page_request(place: u32, knows_wait: bool) -> Request
+    requires { 0 < place }
+    ensures from { IsFrom place (asked_by result) }
+    ensures values { IsAsked (asked_by result) × IsShort (asked_by result) }
+{
+    let max = MOST_ENTRIES as u8;
+    if knows_wait {
+        Request::Wait {
+            place,
+            max,
+            millis: WAIT_MILLIS,
+        }
+    } else {
+        Request::Read { place, max }
+    }
+}
+
+// Writes the lines of a page.
+fn write_page<W: Write>(
+    alloc: Global,
+    writer: &mut W,
+    form: EntryForm,
+    page: &[(Name, Message)],
+) -> Result<(), StreamFault>
+    ensures ok { OnOk result (Appends (W.contents writer.old) (W.contents writer.new)
+        (flat_map (form_line form) page.now)) }
+    ensures err { IfErr result
+        (λ fault. MayPrint fault (W.contents writer.old) (W.contents writer.new)) }
+{
+    let mut text = Vec::new(alloc);
+    push_page_in(alloc, &mut text, form, page)?;
+    Ok(send(writer, text.as_slice())?)
+}
+
+// Asks for the log from this place on, until there is a response.
+fn ask_page<C: Caller>(caller: &mut C, place: u32, knows_wait: bool) -> Result<Response, CallFault>
+    requires { 0 < place }
+    ensures { IsAnswered C.calls caller.old place (answer_of result) caller.new }
+{
+    let request = make_page_request(place, knows_wait);
+    insist(caller, &request)
+}
+
+// The place after a page from this place on, of so many entries. `None`: no log is so long.
+fn find_place_after(place: u32, count: usize) -> Option<u32>
+    ensures { IfSome result (λ next. next ≡ place + count) }
+{
+    let next = (place as usize).checked_add(count)?;
+    if next <= u32::MAX as usize {
+        Some(next as u32)
+    } else {
+        None
+    }
+}
+
+// Writes the lines of a page, and returns the place after it. `BadReply`: no log is so long.
+fn write_page_from<W: Write>(
+    alloc: Global,
+    writer: &mut W,
+    form: EntryForm,
+    place: u32,
+    page: &[(Name, Message)],
+) -> Result<u32, StreamFault>
+    ensures ok { IfOk result (λ next. (next ≡ place + length page.now)
+        × Appends (W.contents writer.old) (W.contents writer.new) (flat_map (form_line form) page.now)) }
+    ensures err { IfErr result
+        (λ fault. MayPrint fault (W.contents writer.old) (W.contents writer.new)) }
+{
+    let Some(next) = find_place_after(place, page.len()) else {
+        return Err(StreamFault::Own(Fault::BadReply));
+    };
+    write_page(alloc, writer, form, page)?;
+    Ok(next)
+}
+
+// Prints the response for the log from this place on.
+fn print_response<W: Write>(
+    alloc: Global,
+    writer: &mut W,
+    form: EntryForm,
+    place: u32,
+    knows_wait: bool,
+    response: &Response,
+) -> Result<Turn, StreamFault>
+    requires { 0 < place }
+    ensures turn { IfOk result (λ turn. IsPrinted (form_line form) place (W.contents writer.old)
+        (said_by response.now) turn (W.contents writer.new)) }
+    ensures err { IfErr result
+        (λ fault. MayPrint fault (W.contents writer.old) (W.contents writer.new)) }
+{
+    match response {
+        Response::Entries(entries) => {
+            let next = write_page_from(alloc, writer, form, place, entries.as_slice())?;
+            Ok(Turn::Page(next))
+        }
+        Response::Refused { number, detail: _ } if *number == UNKNOWN_REQUEST && knows_wait => {
+            Ok(Turn::Older)
+        }
+        Response::Refused { number, detail } => {
+            write_refusal(alloc, writer, *number, *detail)?;
+            Ok(Turn::Refused)
+        }
+        _ => Err(StreamFault::Call(CallFault::Broken(Fault::BadReply))),
+    }
+}
+
+// Asks for the log from this place on, and prints the response.
+fn take_turn<C: Caller, W: Write>(
+    alloc: Global,
+    caller: &mut C,
+    writer: &mut W,
+    form: EntryForm,
+    place: u32,
+    knows_wait: bool,
+) -> Result<Turn, StreamFault>
+    requires { 0 < place }
+    ensures turn { IfOk result (λ turn. Turns C.calls (form_line form)
+        (record { caller = caller.old; place = place; output = W.contents writer.old }) turn
+        caller.new (W.contents writer.new)) }
+    ensures err { IfErr result
+        (λ fault. MayPrint fault (W.contents writer.old) (W.contents writer.new)) }
+{
+    let response = ask_page(caller, place, knows_wait)?;
+    print_response(alloc, writer, form, place, knows_wait, &response)
+}
+
+/// Prints the entries of a node's log from a place on, as they come. It asks the node to wait for
+/// more. A node that doesn't know that is asked again and again, with pauses. It ends when the
+/// output can't be written, when the node refuses, or when the node gives no response.
+///
+/// `Call`: the node gave no response, or none to a read. `Own`: a line could not be written, or
+/// memory was refused.
+pub fn follow_over<C: Caller, W: Write>(
+    alloc: Global,
+    caller: &mut C,
+    writer: &mut W,
+    form: EntryForm,
+    from: u32,
+) -> Result<StreamEnd, StreamFault>
+    requires { 0 < from }
+    // It ends well only after a refusal, which it prints.
+    ensures refused { IfOk result (λ ended. (ended ≡ StreamEnd.Refused)
+        × IsRefusedAfter C.calls (form_line form) caller.old from (W.contents writer.old)
+        caller.new (W.contents writer.new)) }
+    ensures broken { IfErr result (λ fault. BreaksOffAfter C.calls (form_line form) caller.old from
+        (W.contents writer.old) fault (W.contents writer.new)) }
+{
+    let (mut place, mut knows_wait) = (from, true);
+    for _ in 0..u64::MAX {
+        match take_turn(alloc, caller, writer, form, place, knows_wait)? {
+            Turn::Page(next) => {
+                if next == place && !knows_wait {
+                    caller.pause();
+                }
+                place = next;
+            }
+            Turn::Older => knows_wait = false,
+            Turn::Refused => return Ok(StreamEnd::Refused),
+        }
+    }
+    Err(StreamFault::Own(Fault::Read))
+}
+
+/// Does `urbd follow`, and returns the program's status: 4 if the node refused, 1 after a fault.
+pub(crate) fn run_follow<R>(rt: &R, following: FollowOptions) -> u8
+where
+    R: AllocGlobal + Print + Eprint + Clock + Net<Listener = TcpListener, Stream = TcpStream>,
+    ensures { IsClientsEnd result }
+{
+    let alloc = rt.alloc();
+    let mut caller = NodeCaller::new(rt, alloc, following.port);
+    let mut writer = io::writer(rt);
+    let outcome = follow_over(
+        alloc,
+        &mut caller,
+        &mut writer,
+        following.form,
+        following.from,
+    );
+    report_stream_end(rt, following.port, outcome)
+}
