@@ -5,6 +5,9 @@ pub mod PublishingSteps
 pub mod ListBeginnings
 pub mod AgreeingLists
 pub mod GroupLists
+pub mod PastPrefixes
+pub mod PastEvents
+pub mod ToldReplies
 pub mod GroupReports
 pub mod PreparedEntries
 pub mod SettledNodes
