@@ -1,6 +1,8 @@
 pub mod ClientService
+pub mod Endings
 pub mod NetworkFaults
 pub mod OpeningFaults
+pub mod Programs
 pub mod Runs
 pub mod RunsAfterStop
 pub mod ServeFaults

@@ -1,35 +1,37 @@
 //! The console of a run. It says that the group is open, and waits until its input ends.
 
-ghost use Rattle.std.specs.Prelude.{◌≡◌, false};
+ghost use Rattle.std.specs.Prelude.{◌≡◌, OnOk, false};
+ghost use Rattle.std.specs.Io.KnownBytes.{Appends};
+ghost use Rattle.urb_daemon.specs.internal.Openings.{open_line};
 
-use std::io::{ErrorKind, Read};
+use std::io;
+use std::io::{ErrorKind, Read, Write};
 use urb_worker::{Station, Watch};
 
 /// Says once that the group runs, and watches until the input ends. If it can't say so, it doesn't
 /// wait.
-pub struct Console<'a, P: Print, I: Read + Drop> {
-    terminal: &'a P,
-    input: I,
+#[derive(Drop)]
+pub struct Console<'a, W: Write, I: Read> {
+    output: &'a mut W,
+    input: &'a mut I,
     is_told: bool,
 }
 
-impl<P: Print, I: Read + Drop> Drop for Console<'_, P, I> {
-    fn drop(self) {
-        let Console {
-            terminal: _,
-            input: _,
-            is_told: _,
-        } = self;
-    }
+// Writes the line of a group that runs with so many nodes.
+fn write_open<W: Write>(output: &mut W, nodes: usize) -> io::Result<()>
+    ensures { OnOk result (Appends (W.contents output.old) (W.contents output.new) (open_line nodes)) }
+{
+    write!(output, "open {nodes}\n")?;
+    output.flush()
 }
 
-impl<'a, P: Print, I: Read + Drop> Console<'a, P, I> {
-    /// A console at this terminal that has said nothing yet.
-    pub fn new(terminal: &'a P, input: I) -> Console<'a, P, I>
+impl<'a, W: Write, I: Read> Console<'a, W, I> {
+    /// A console that writes to this output and reads this input. It has said nothing yet.
+    pub fn new(output: &'a mut W, input: &'a mut I) -> Console<'a, W, I>
         ensures { result.is_told ≡ false }
     {
         Console {
-            terminal,
+            output,
             input,
             is_told: false,
         }
@@ -43,11 +45,11 @@ impl<'a, P: Print, I: Read + Drop> Console<'a, P, I> {
     }
 }
 
-impl<'a, P: Print, I: Read + Drop> Watch for Console<'a, P, I> {
+impl<'a, W: Write, I: Read> Watch for Console<'a, W, I> {
     fn watch(&mut self, stations: &[Station]) {
-        self.is_told = println!(self.terminal; "open {}", stations.len()).is_ok();
+        self.is_told = write_open(self.output, stations.len()).is_ok();
         if self.is_told {
-            read_to_end(&mut self.input);
+            read_to_end(self.input);
         }
     }
 }

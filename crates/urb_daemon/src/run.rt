@@ -1,10 +1,12 @@
 //! The run of a group over its stores, from its opening until standard input ends.
 
-ghost use Rattle.std.specs.Prelude.{◌≡◌, ◌≤◌, IfErr, vec_len};
+ghost use Rattle.std.specs.Prelude.{◌≡◌, OnOk, vec_len};
+ghost use Rattle.std.specs.Io.KnownBytes.{Appends};
 ghost use Rattle.urb_group.specs.Reopening.{HasStopped};
 ghost use Rattle.urb_group.specs.Shown.{GroupView};
 ghost use Rattle.urb_group.specs.World.{World};
 ghost use Rattle.urb_worker.specs.ServedStores.{AreServed};
+ghost use Rattle.urb_daemon.specs.Endings.{ShowsEnd, closed_line};
 ghost use Rattle.urb_daemon.specs.RunsAfterStop.{EndsAfterStop};
 ghost use Rattle.urb_daemon.specs.Runs.{ComeBack, EndsFrom, limits_of};
 ghost use Rattle.urb_daemon.specs.internal.Runs.{end_of};
@@ -14,7 +16,8 @@ use crate::serve_fault::{ServeFault, report_serve_fault};
 use crate::sockets::{Network, open_network};
 use sqlite_disk::Disk;
 use std::alloc::Global;
-use std::io::Read;
+use std::io;
+use std::io::{Read, Write};
 use std::marker::Brand;
 use std::net::{Net, TcpListener, TcpStream};
 use std::sync::Wait;
@@ -102,21 +105,21 @@ fn judge_end(events: Option<u64>, is_told: bool) -> Result<u64, ServeFault>
 }
 
 /// Opens a group over its stores and its network, and runs it until standard input ends. The
-/// console prints `open N` once everything is open. The result is the count of the group's events,
+/// console writes `open N` once everything is open. The result is the count of the group's events,
 /// or the fault. In either case the stores are returned, so nothing that was accepted is lost.
 pub fn run_stores<
     S: Stable<Alloc = Global> + Send + Drop,
     R,
     H: Reporter + Sync,
-    P: Print,
-    I: Read + Drop,
+    W: Write,
+    I: Read,
 >(
     rt: &R,
     alloc: Global,
     serving: ServeOptions<'_>,
     stores: Vec<S>,
     reporter: &H,
-    console: &mut Console<'_, P, I>,
+    console: &mut Console<'_, W, I>,
 ) -> (Vec<S>, Result<u64, ServeFault>)
 where
     R: Host + Net<Listener = TcpListener, Stream = TcpStream>,
@@ -154,13 +157,13 @@ where
 
 /// Runs a group over its nodes' journals, in files of any kind, as `run_stores` does. That a
 /// journal may go to a thread is proved here, from the one fact that its file may.
-pub fn run_journals<D: Disk + Send + Drop, R, H: Reporter + Sync, P: Print, I: Read + Drop>(
+pub fn run_journals<D: Disk + Send + Drop, R, H: Reporter + Sync, W: Write, I: Read>(
     rt: &R,
     alloc: Global,
     serving: ServeOptions<'_>,
     journals: Vec<Journal<D>>,
     reporter: &H,
-    console: &mut Console<'_, P, I>,
+    console: &mut Console<'_, W, I>,
 ) -> (Vec<Journal<D>>, Result<u64, ServeFault>)
 where
     R: Host + Net<Listener = TcpListener, Stream = TcpStream>,
@@ -182,20 +185,28 @@ where
     run_stores(rt, alloc, serving, journals, reporter, console)
 }
 
-/// Reports how a run has ended, and returns the program's status. It prints `closed E` with the
-/// count of events on the terminal and returns 0, or it writes the fault to the errors' output and
-/// returns 1. If `closed E` can't be printed, it reports `write failed` and returns 1, although the
+// Writes the line of a group that ended after so many events.
+fn write_closed<W: Write>(output: &mut W, events: u64) -> io::Result<()>
+    ensures { OnOk result
+        (Appends (W.contents output.old) (W.contents output.new) (closed_line events)) }
+{
+    write!(output, "closed {events}\n")?;
+    output.flush()
+}
+
+/// Reports how a run has ended, and returns the program's status. It writes `closed E` with the
+/// count of events to the output and returns 0, or it writes the fault to the errors' output and
+/// returns 1. If `closed E` can't be written, it reports `write failed` and returns 1, although the
 /// group has stopped in order and nothing is lost.
-pub fn report_end<P: Print, E: Eprint>(
-    terminal: &P,
+pub fn report_end<W: Write, E: Eprint>(
+    output: &mut W,
     errors: &E,
     ended: Result<u64, ServeFault>,
 ) -> u8
-    ensures low { result ≤ 1 }
-    ensures fault { IfErr ended (λ why. result ≡ 1) }
+    ensures { ShowsEnd ended (W.contents output.old) (W.contents output.new) result }
 {
     match ended {
-        Ok(events) => match println!(terminal; "closed {events}") {
+        Ok(events) => match write_closed(output, events) {
             Ok(()) => 0,
             Err(_) => report_fault(errors, Fault::Write),
         },

@@ -8,6 +8,7 @@ mod folders;
 mod groups;
 mod openings;
 mod other_limits;
+mod programs;
 mod reopenings;
 mod reports;
 mod restarts;

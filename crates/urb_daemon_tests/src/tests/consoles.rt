@@ -44,7 +44,7 @@ impl Read for Typed<'_> {
 
 #[test]
 fn a_console_tells_once_and_reads_to_the_end(rt: HostRuntime) -> Result<(), Fail> {
-    for (open, ends, output, left) in [
+    for (open, ends, line, left) in [
         (true, true, b"open 0\n".as_slice(), 0),
         (true, false, b"open 0\n", 0),
         (false, true, b"", 300),
@@ -52,19 +52,20 @@ fn a_console_tells_once_and_reads_to_the_end(rt: HostRuntime) -> Result<(), Fail
         let terminal = Terminal::new(rt.alloc(), &[], b"", open);
         let typed = Cell::new(300u32);
         let interrupted = Cell::new(false);
-        let input = Typed {
+        let mut input = Typed {
             left: &typed,
             interrupted: &interrupted,
             ends,
         };
-        let mut console = Console::new(&terminal, input);
+        let mut output = io::writer(&terminal);
+        let mut console = Console::new(&mut output, &mut input);
         assert!(rt; !console.is_told());
         console.watch(&[]);
         assert_eq!(rt; console.is_told(), open);
         assert_eq!(rt; typed.get(), left);
         drop(console);
         let shown = terminal.into_shown(0);
-        assert!(rt; shown.is(0, output, b"", b""));
+        assert!(rt; shown.is(0, line, b"", b""));
     }
     Ok(())
 }
@@ -97,8 +98,9 @@ fn a_terminal_shows_how_to_stop(rt: HostRuntime) -> Result<(), Fail> {
         (false, b""),
     ] {
         let terminal = Terminal::new(rt.alloc(), &[], b"", true);
-        let input = PromptedInput::new(Empty { is_terminal }, &terminal);
-        let mut console = Console::new(&terminal, input);
+        let mut input = PromptedInput::new(Empty { is_terminal }, &terminal);
+        let mut output = io::writer(&terminal);
+        let mut console = Console::new(&mut output, &mut input);
         console.watch(&[]);
         drop(console);
         let shown = terminal.into_shown(0);

@@ -5,13 +5,14 @@ use super::groups::{answers, events_of};
 use crossbeam_channel::{Receiver, Sender, TryRecvError};
 use std::alloc::Global;
 use std::fmt::Display;
-use std::io;
 use std::io::ErrorKind;
 use std::net::{Net, TcpListener, TcpStream};
 use std::ops::Range;
 use std::sync::Wait;
 use std::test::Fail;
-use urb_daemon::{ErrorOutput, Reports, TEXT_ROOM};
+use std::time::Duration;
+use std::{io, thread};
+use urb_daemon::{ErrorOutput, Reports, Stage, StageReports, TEXT_ROOM};
 use urb_worker::{Station, Watch};
 
 /// An output like a full pipe. Each write says that it has begun, and waits until it is let through.
@@ -179,6 +180,52 @@ fn a_line_whose_write_fails_is_counted_as_lost(rt: HostRuntime) -> Result<(), Fa
     errors.finish();
     let rest = all_written(&rt, rt.alloc(), &written).ok_or("memory")?;
     assert_eq!(rt; rest.as_str(), "y\n");
+    Ok(())
+}
+
+#[test]
+fn a_start_or_a_stop_that_takes_long_says_each_second_how_far_it_is(
+    rt: HostRuntime,
+) -> Result<(), Fail> {
+    let (writes, written) = crossbeam_channel::unbounded(rt.alloc())?;
+    let output = Failing {
+        rt,
+        alloc: rt.alloc(),
+        written: writes,
+    };
+    let errors = ErrorOutput::start(rt, rt.alloc(), output).map_err(|_| "memory")?;
+    for (stage, line) in [
+        (
+            Stage::Journals,
+            "urbd: starting for 2 s: opening the journals\n",
+        ),
+        (
+            Stage::Journals,
+            "urbd: starting for 3 s: opening the journals\n",
+        ),
+        (
+            Stage::Records,
+            "urbd: starting for 4 s: reading the records of the journals\n",
+        ),
+        (
+            Stage::Sessions,
+            "urbd: stopping for 2 s: waiting for the sessions of clients\n",
+        ),
+        (
+            Stage::Files,
+            "urbd: stopping for 3 s: closing the journals\n",
+        ),
+    ] {
+        errors.reach(stage);
+        let told = written.recv(&rt).map_err(|_| "an end")?;
+        assert_eq!(rt; told.as_str(), line);
+    }
+    errors.reach(Stage::Quiet);
+    thread::sleep(&rt, Duration::from_millis(1_500));
+    assert!(rt; eprintln!(&errors; "a line").is_ok());
+    errors.finish();
+    let rest = all_written(&rt, rt.alloc(), &written).ok_or("memory")?;
+    assert_eq!(rt; rest.as_str(), "a line\n");
     Ok(())
 }
 

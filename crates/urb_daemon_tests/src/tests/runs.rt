@@ -165,7 +165,9 @@ where
         None
     };
     let terminal = Terminal::new(alloc, &[], b"", course.open);
-    let mut console = Console::new(&terminal, Client { rt, alloc, port });
+    let mut output = io::writer(&terminal);
+    let mut client = Client { rt, alloc, port };
+    let mut console = Console::new(&mut output, &mut client);
     let (stores, ended) = run_stores(rt, alloc, serving, stores, &Silent, &mut console);
     drop(console);
     Some(Ran {
@@ -331,7 +333,7 @@ descriptors (ulimit -n)\n",
         ),
     ] {
         let terminal = Terminal::new(rt.alloc(), &[], b"", open);
-        let told = report_end(&terminal, &terminal, ended);
+        let told = report_end(&mut io::writer(&terminal), &terminal, ended);
         let shown = terminal.into_shown(told);
         assert_eq!(rt; shown.status, status);
         assert_eq!(rt; shown.output.as_slice(), output);

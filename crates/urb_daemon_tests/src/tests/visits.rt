@@ -195,14 +195,15 @@ where
     };
     let seen = RefCell::new(None);
     let terminal = Terminal::new(rt.alloc(), &[], b"", true);
-    let clients = Clients {
+    let mut clients = Clients {
         rt: threads,
         alloc: rt.alloc(),
         serving,
         number,
         seen: &seen,
     };
-    let mut console = Console::new(&terminal, clients);
+    let mut output = io::writer(&terminal);
+    let mut console = Console::new(&mut output, &mut clients);
     let (journals, ended) = run_journals(
         threads,
         rt.alloc(),

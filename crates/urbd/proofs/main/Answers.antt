@@ -3,10 +3,6 @@ use Rattle.std.proofs.Crossing.{crosses}
 use Rattle.urb_folder.proofs.SendableFiles.{host_send, unnamed_send}
 use Rattle.urbd.proofs.main.Goals as goal
 
-pub open_journals-requires-send-D : goal.open_journals-requires-send-D
-open_journals-requires-send-D g c κs =
-    let a = host_send in let b = unnamed_send in search (crosses, sendable) depth 200 fits 100000
-
-pub run_journals-journals-requires-send-D : goal.run_journals-journals-requires-send-D
-run_journals-journals-requires-send-D g c κs =
+pub run_program-requires-send-D : goal.run_program-requires-send-D
+run_program-requires-send-D g c κs =
     let a = host_send in let b = unnamed_send in search (crosses, sendable) depth 200 fits 100000

@@ -1,0 +1,68 @@
+-- How the program ends, from its command line to its status.
+use Rattle.std.specs.Prelude.{Bool, List, Option, Result, Some, length, ℕ, ◌≡◌, ◌⊎◌}
+use Rattle.clap.specs.Words.{Text, subcommand_of}
+use Rattle.sqlite_wal.specs.Recovery.{Image}
+use Rattle.urb_names.specs.Naming.{Limits}
+use Rattle.urb_stable.specs.declared.stable.Stable.{Ghosts}
+use Rattle.urb_group.specs.Reopening.{HasStopped}
+use Rattle.urb_group.specs.Shown.{GroupView}
+use Rattle.urb_group.specs.World.{World}
+use Rattle.urb_sqlite.specs.Nodes.{AreFoundIn}
+use Rattle.urb_cli.specs.CommandLine.{urbd_app}
+use Rattle.urb_cli.specs.Statuses.{IsErrandsEnd}
+use Rattle.urb_cli.specs.Tasks.{IsRefused, task_named, task_of}
+use Rattle.urb_cli.specs.declared.command_line.task.Line.{Line}
+use Rattle.urb_cli.specs.declared.command_line.task.Line.TheVariants as line
+use Rattle.urb_daemon.specs.Endings.{ShowsEnd}
+use Rattle.urb_daemon.specs.Runs.{ComeBack, EndsFrom, limits_of}
+use Rattle.urb_daemon.specs.RunsAfterStop.{EndsAfterStop}
+use Rattle.urb_daemon.specs.declared.serve_fault.ServeFault.{ServeFault}
+use Rattle.urb_folder.specs.OpenedJournals.{AreOfNodes}
+
+module _ {J A : Type 0} (g : Ghosts J A) (node : J → ℕ) (held : ℕ → Image) where
+  -- A group ran over the journals of its folder. There was one for each node, and each was found in
+  -- what its node's files held. The group went on from what a stop had left in them, and they are
+  -- closed as their nodes' turns left them. Standard output, which has these bytes at last, and the
+  -- status show how the run ended.
+  pub record RanFolder (size : Limits) (new : Option (List ℕ)) (status : ℕ) : Type 0 where
+    pub journals : List J
+    pub lasts : List J
+    pub told : Bool
+    pub end : Result ℕ ServeFault
+    pub before : Option (List ℕ)
+    pub count : length journals ≡ size.n
+    pub nodes : AreOfNodes node journals
+    pub found : AreFoundIn g held journals
+    pub order : ComeBack g journals lasts
+    pub ends : EndsFrom g size journals told end lasts
+    pub goes_on :
+        (old : GroupView) (w : World) → HasStopped g old w size journals
+        → EndsAfterStop g old w size journals told end lasts
+    pub shows : ShowsEnd end before new status
+
+  -- The end of a group, and the bytes of standard output before and after. It never ran: nothing is
+  -- written, and the status is 1. Or it ran over its folder's journals.
+  abbrev pub EndsServing : Limits → Option (List ℕ) → Option (List ℕ) → ℕ → Type 0
+  EndsServing size old new status = ((status ≡ 1) × (new ≡ old)) ⊎ RanFolder size new status
+
+  -- the end of what a command line asks for: a group, or an errand
+  abbrev pub EndsLine : Line → ℕ → Type 0
+  EndsLine (line.Serve serving) status =
+      (old : Option (List ℕ)) × (new : Option (List ℕ))
+      × EndsServing (limits_of serving) old new status
+  EndsLine (line.Errand errand) status = IsErrandsEnd errand status
+
+  -- the command line with these words was accepted, and what it asks for ended so
+  pub record DidLine (words : List Text) (status : ℕ) : Type 0 where
+    pub line : Line
+    pub asked : task_named (subcommand_of urbd_app words) ≡ Some (task_of line)
+    pub ends : EndsLine line status
+
+  -- the end of the program with these words: they were refused, or it did what they ask for
+  abbrev pub EndsWords : List Text → ℕ → Type 0
+  EndsWords words status = IsRefused words status ⊎ DidLine words status
+
+  -- the end of the program: with the words that it read, or with 1 or 3 if it could read none
+  abbrev pub EndsProgram : ℕ → Type 0
+  EndsProgram status =
+      ((status ≡ 1) ⊎ (status ≡ 3)) ⊎ ((words : List Text) × EndsWords words status)
