@@ -3,6 +3,7 @@
 
     follow.py --port 7411
     follow.py --port 7411,7412,7413 --file follower.json
+    follow.py --socket /run/urbd/node-1.sock
 
 A line is a name, the client, its number, and the payload in hexadecimal; with --text, the name and
 the payload as text. With several ports, a node that fails is replaced by the next. FILE keeps what
@@ -15,7 +16,7 @@ from pathlib import Path
 
 sys.path.insert(0, str(Path(__file__).resolve().parent.parent / "clients" / "python" / "src"))
 
-from urbd import Entry, Follower, Position, Stopped, keep, kept  # noqa: E402
+from urbd import Address, Entry, Follower, Position, Stopped, keep, kept  # noqa: E402
 
 
 class Faults:
@@ -24,11 +25,19 @@ class Faults:
     def __init__(self) -> None:
         self.last = ""
 
-    def tell(self, port: int, fault: Exception) -> None:
+    def tell(self, port: Address, fault: Exception) -> None:
         """Tells a fault of the node at this port, and that the next node is asked."""
         if str(fault) != self.last:
             self.last = str(fault)
             print(f"follow.py: waits: {fault}", file=sys.stderr, flush=True)
+
+
+def paths(text: str) -> list[str]:
+    """The paths of a list such as `a/node-1.sock,a/node-2.sock`."""
+    words = text.split(",")
+    if not all(words):
+        raise argparse.ArgumentTypeError("a path is empty")
+    return words
 
 
 def ports(text: str) -> list[int]:
@@ -50,9 +59,9 @@ def parsed() -> argparse.Namespace:
     parser = argparse.ArgumentParser(
         description=__doc__, formatter_class=argparse.RawDescriptionHelpFormatter
     )
-    parser.add_argument(
-        "--port", type=ports, required=True, metavar="PORT,..", help="the nodes' ports for clients"
-    )
+    at = parser.add_mutually_exclusive_group(required=True)
+    at.add_argument("--port", type=ports, metavar="PORT,..", help="the nodes' ports for clients")
+    at.add_argument("--socket", type=paths, metavar="PATH,..", help="the nodes' sockets instead")
     parser.add_argument("--file", help="keeps what was printed")
     parser.add_argument("--text", action="store_true", help="print payloads as text")
     return parser.parse_args()
@@ -62,7 +71,7 @@ def main() -> int:
     options = parsed()
     try:
         position = Position.from_json(kept(options.file) if options.file else None)
-        with Follower(options.port, position, on_fault=Faults().tell) as follower:
+        with Follower(options.port or options.socket, position, on_fault=Faults().tell) as follower:
             for entries in follower:
                 lines = [shown(entry, options.text) for entry in entries]
                 print("\n".join(lines), flush=True)

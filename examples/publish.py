@@ -52,7 +52,9 @@ def parsed() -> argparse.Namespace:
     parser = argparse.ArgumentParser(
         description=__doc__, formatter_class=argparse.RawDescriptionHelpFormatter
     )
-    parser.add_argument("--port", type=number, required=True, help="the node's port for clients")
+    at = parser.add_mutually_exclusive_group(required=True)
+    at.add_argument("--port", type=number, help="the node's port for clients")
+    at.add_argument("--socket", metavar="PATH", help="the node's socket instead")
     parser.add_argument(
         "--client", type=number, required=True, help="your client number, 1 to 65535, yours alone"
     )
@@ -72,7 +74,8 @@ def main() -> int:
             raise OSError("standard input is closed")
         is_same = options.resume or is_file(0) and not options.new_input
         told = Faults()
-        with Publisher(options.port, options.client, options.file, on_fault=told.tell) as publisher:
+        at = options.port or options.socket
+        with Publisher(at, options.client, options.file, on_fault=told.tell) as publisher:
             for seq in publish_lines(publisher, sys.stdin.buffer, is_same):
                 print("accepted", seq, flush=True)
     except BrokenPipeError:

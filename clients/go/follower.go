@@ -27,7 +27,7 @@ func (p *Place) UnmarshalJSON(text []byte) error {
 // Position says what a Follower has read. Save it, as JSON, together with the results of the entries.
 type Position struct {
 	Seen   map[string]uint32 `json:"seen"`   // the last number of each sender
-	Places map[string]Place  `json:"places"` // by the node's port
+	Places map[string]Place  `json:"places"` // by the node's port, or by its socket's path
 }
 
 // Follower reads each message of a group once: at one node while it answers and is up, then at the next.
@@ -35,7 +35,7 @@ type Follower struct {
 	Position  Position
 	nodes     []*Node
 	at, pages int
-	isOld     map[int]bool // by the node's port: it doesn't know WAIT
+	isOld     map[address]bool // it doesn't know WAIT
 }
 
 // NewFollower begins at a position, or at the beginning if it is empty.
@@ -43,7 +43,7 @@ func NewFollower(position Position, nodes ...*Node) *Follower {
 	if position.Seen == nil {
 		position = Position{map[string]uint32{}, map[string]Place{}}
 	}
-	return &Follower{position, nodes, 0, 1, map[int]bool{}}
+	return &Follower{position, nodes, 0, 1, map[address]bool{}}
 }
 
 func (f *Follower) turn() { f.at, f.pages = (f.at+1)%len(f.nodes), 1 }
@@ -58,15 +58,14 @@ func (f *Follower) Poll(ctx context.Context) ([]Entry, error) {
 // look is Poll, but by a WAIT up to this limit if it isn't 0. It also says whether the node has answered and is up.
 func (f *Follower) look(ctx context.Context, limit time.Duration) ([]Entry, bool, error) {
 	node := f.nodes[f.at]
-	port := fmt.Sprint(node.Port)
-	at, ok := f.Position.Places[port]
+	at, ok := f.Position.Places[node.at().key()]
 	if !ok {
 		at.Next = 1
 	}
 	all, isDown, err := f.ask(ctx, node, at, limit)
 	var refused Refused
 	if limit > 0 && errors.As(err, &refused) && refused.UnknownRequest() {
-		f.isOld[node.Port] = true
+		f.isOld[node.at()] = true
 		return nil, true, nil
 	}
 	if err != nil {
@@ -78,7 +77,7 @@ func (f *Follower) look(ctx context.Context, limit time.Duration) ([]Entry, bool
 	}
 	if at.Digest != "" {
 		if len(all) == 0 || all[0].Digest() != at.Digest {
-			return nil, false, Stopped{fmt.Sprintf("the log at port %s isn't the one that was read up to place %d", port, at.Next-1)}
+			return nil, false, Stopped{fmt.Sprintf("the log at %v isn't the one that was read up to place %d", node.at(), at.Next-1)}
 		}
 		all = all[1:]
 	}
@@ -95,7 +94,7 @@ func (f *Follower) look(ctx context.Context, limit time.Duration) ([]Entry, bool
 		}
 	}
 	if len(all) > 0 {
-		f.Position.Places[port] = Place{at.Next + uint32(len(all)), all[len(all)-1].Digest()}
+		f.Position.Places[node.at().key()] = Place{at.Next + uint32(len(all)), all[len(all)-1].Digest()}
 	} else if isDown {
 		f.turn()
 		return unseen, false, nil
@@ -174,7 +173,7 @@ func (f *Follower) Follow(ctx context.Context, take func([]Entry, Position) erro
 		if err != nil {
 			return err
 		}
-		canWait := isUp && !f.isOld[f.nodes[f.at].Port]
+		canWait := isUp && !f.isOld[f.nodes[f.at].at()]
 		if limit = 0; canWait && f.pages == 1 {
 			limit = longestWait
 		}

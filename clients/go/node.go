@@ -4,7 +4,6 @@ import (
 	"context"
 	"encoding/binary"
 	"errors"
-	"fmt"
 	"io"
 	"net"
 	"time"
@@ -17,9 +16,11 @@ const (
 	mostPause  = 200 * time.Millisecond
 )
 
-// Node is one node, by its port for clients. Each call has a connection of its own. Timeout is a call's limit, 2 seconds if 0.
+// Node is one node, by its port for clients, or by the path of its Unix socket if that isn't empty. Each call has a connection of
+// its own. Timeout is a call's limit, 2 seconds if 0.
 type Node struct {
 	Port    int
+	Socket  string
 	Timeout time.Duration
 	// OnFault, if it isn't nil, is called with each fault after which a Publisher or Follower asks again.
 	OnFault func(error)
@@ -29,6 +30,13 @@ func (n *Node) tell(fault error) {
 	if n.OnFault != nil {
 		n.OnFault(fault)
 	}
+}
+
+func (n *Node) at() address {
+	if n.Socket != "" {
+		return address{socket: n.Socket}
+	}
+	return address{port: n.Port}
 }
 
 // Ask sends these requests in one write and returns their responses.
@@ -45,7 +53,8 @@ func (n *Node) ask(ctx context.Context, waits time.Duration, requests ...[]byte)
 	ctx, cancel := context.WithTimeout(ctx, limit+waits)
 	defer cancel()
 	var dialer net.Dialer
-	connection, err := dialer.DialContext(ctx, "tcp", fmt.Sprintf("127.0.0.1:%d", n.Port))
+	network, where := n.at().network()
+	connection, err := dialer.DialContext(ctx, network, where)
 	if err != nil {
 		return nil, err
 	}
@@ -66,7 +75,7 @@ func (n *Node) ask(ctx context.Context, waits time.Duration, requests ...[]byte)
 	if _, err := connection.Write(out); err != nil {
 		return nil, err
 	}
-	if err := connection.(*net.TCPConn).CloseWrite(); err != nil {
+	if err := connection.(interface{ CloseWrite() error }).CloseWrite(); err != nil {
 		return nil, err
 	}
 	var responses [][]byte

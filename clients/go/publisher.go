@@ -12,11 +12,11 @@ import (
 )
 
 type underWay struct {
-	Port    int    `json:"port"`
-	Client  uint16 `json:"client"`
-	Number  uint32 `json:"number"`
-	Payload string `json:"payload"`
-	Done    bool   `json:"done"`
+	At      address `json:"port"`
+	Client  uint16  `json:"client"`
+	Number  uint32  `json:"number"`
+	Payload string  `json:"payload"`
+	Done    bool    `json:"done"`
 	InputMark
 	IsLine bool `json:"line"` // the message in progress is the line after those that are done
 }
@@ -66,10 +66,10 @@ func OpenPublisher(node *Node, client uint16, path string) (*Publisher, error) {
 		is, err = Kept(path, &now)
 	}
 	if err == nil && is {
-		if now.Port == node.Port && now.Client == client {
+		if now.At == node.at() && now.Client == client {
 			p.now = &now
 		} else if !now.Done { // else all that was sent there is accepted there: it begins here
-			err = Stopped{fmt.Sprintf("its file keeps a message of client %d at port %d: finish it there", now.Client, now.Port)}
+			err = Stopped{fmt.Sprintf("its file keeps a message of client %d at %v: finish it there", now.Client, now.At)}
 		}
 	}
 	if err != nil {
@@ -120,7 +120,7 @@ func (p *Publisher) last(ctx context.Context) (underWay, error) {
 		return *p.now, nil
 	}
 	next, err := until(ctx, p.node.tell, func() (uint32, error) { return p.node.NextNumber(ctx, p.client) })
-	return underWay{Port: p.node.Port, Client: p.client, Number: next - 1, Done: true}, err
+	return underWay{At: p.node.at(), Client: p.client, Number: next - 1, Done: true}, err
 }
 
 // setMark finishes the message in progress, and counts the lines of an input from this mark on.

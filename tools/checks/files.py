@@ -32,6 +32,10 @@ CALL = re.compile(r"(?<!fn )\b(" + "|".join(map(re.escape, CALLS)) + r")\(")
 COMMENT = re.compile(r"//.*")
 # The places by call and file: how many there are.
 PLACES: Mapping[tuple[str, str], int] = {
+    # the socket of a node: one that an ended program left, or the group's own at its end
+    ("remove_file", "crates/urb_daemon/src/socket_files.rt"): 1,
+    # who may connect to a new socket
+    ("set_permissions", "crates/urb_daemon/src/socket_files.rt"): 1,
     # what replaces a closed standard stream, once for reading and once for writing
     ("OpenOptions::new", "crates/urb_daemon/src/standard_streams.rt"): 2,
     # makes a new journal's file, for its owner alone; a file that exists is left as it is

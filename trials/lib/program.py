@@ -1,7 +1,7 @@
 """The built program as a user starts it: its commands, and running groups.
 
 A group listens on 127.0.0.1. Node P has the UDP port B + P and serves clients at B + 10 + P, if B
-is the base port.
+is the base port. It may serve them at Unix sockets too, or at these alone.
 """
 from __future__ import annotations
 
@@ -81,20 +81,34 @@ class Options:
     nodes: int = 1
     cap: int = MAX_CAP
     tick_ms: int = 20
+    socket_dir: Optional[Path] = None
+    takes_tcp: bool = True
 
     def words(self) -> list[str]:
-        named = {
+        named: dict[str, object] = {
             "nodes": self.nodes,
             "cap": self.cap,
             "dir": self.folder,
             "base-port": self.base_port,
             "tick-ms": self.tick_ms,
         }
-        return ["serve", *(f"--{name}={value}" for name, value in named.items())]
+        if self.socket_dir is not None:
+            named["socket-dir"] = self.socket_dir
+        flags = [] if self.takes_tcp else ["--no-tcp"]
+        return ["serve", *(f"--{name}={value}" for name, value in named.items()), *flags]
+
+    def port(self, number: int) -> int:
+        """The port at which a node serves clients."""
+        return self.base_port + CLIENT_PORT_OFFSET + number
+
+    def socket(self, number: int) -> Path:
+        """The path of a node's Unix socket."""
+        assert self.socket_dir is not None
+        return self.socket_dir / f"node-{number}.sock"
 
     def node(self, number: int, timeout: float = PATIENCE) -> Node:
-        """A node, for single requests."""
-        return Node(self.base_port + CLIENT_PORT_OFFSET + number, timeout)
+        """A node, for single requests: at its port, or at its socket if it has no port."""
+        return Node(self.port(number) if self.takes_tcp else str(self.socket(number)), timeout)
 
 
 @dataclass(frozen=True)
@@ -130,6 +144,15 @@ class Program:
             stderr=errors,
             preexec_fn=before,
             env=None if environment is None else {**os.environ, **environment},
+        )
+
+    def start_words(self, words: Sequence[str]) -> subprocess.Popen[bytes]:
+        """Starts a command by its words, and doesn't wait for its end."""
+        return subprocess.Popen(
+            [str(self.path), *words],
+            stdin=subprocess.PIPE,
+            stdout=subprocess.PIPE,
+            stderr=subprocess.DEVNULL,
         )
 
     def serve(

@@ -41,8 +41,11 @@ def between(text: str, begin: str, end: str) -> str:
 
 # The grammar
 
+# Stands for the options that all commands of a client share.
+CLIENT = "a client"
 MADE = re.compile(
-    r'Command::new\(\s*alloc,\s*"(?P<command>[a-z]+)"|'
+    r'Command::new\(\s*alloc,\s*(?:"(?P<command>[a-z]+)"|(?P<shared>name)\b)|'
+    r'\bclient_command\(\s*alloc,\s*"(?P<client>[a-z]+)"|'
     r"\b(?:number_option|optional_number|text_option|optional_text|flag)\("
     r'\s*alloc,\s*"(?P<option>[a-z-]+)"'
 )
@@ -50,18 +53,28 @@ FORM = re.compile(r'"([a-z]+)" => Some\(EntryForm::')
 
 
 def options_made(source: str) -> Iterator[tuple[str, str]]:
-    """Each command with each option that a source adds after it; the empty option begins it."""
+    """Each command with each option that a source adds after it; the empty option begins it, or
+    `CLIENT` for one of a client."""
     command = ""
     for found in MADE.finditer(source):
-        command = found["command"] or command
-        yield command, found["option"] or ""
+        if found["shared"]:
+            command = CLIENT
+        command = found["command"] or found["client"] or command
+        yield command, found["option"] or (CLIENT if found["client"] else "")
 
 
 def options_of_grammar(sources: Iterable[str]) -> Options:
     """The options of each command, from the code of the grammar."""
     pairs = [pair for source in sources for pair in options_made(source)]
-    commands = [command for command, option in pairs if not option and command != PROGRAM]
-    return collected((pair for pair in pairs if pair[1]), commands)
+    commands = [
+        command
+        for command, option in pairs
+        if option in ("", CLIENT) and command not in (PROGRAM, CLIENT)
+    ]
+    shared = [option for command, option in pairs if command == CLIENT and option]
+    clients = [command for command, option in pairs if option == CLIENT]
+    own = [pair for pair in pairs if pair[0] != CLIENT and pair[1] not in ("", CLIENT)]
+    return collected([*own, *((it, option) for it in clients for option in shared)], commands)
 
 
 def read_grammar(folder: Path = SOURCES) -> Options:

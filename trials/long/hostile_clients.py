@@ -62,7 +62,7 @@ def refusal(code: int) -> bytes:
 
 def connect(daemon: Daemon, node: int) -> socket.socket:
     """A plain connection to a node."""
-    port = daemon.node(node).port
+    port = daemon.options.port(node)
     return socket.create_connection((LOCALHOST, port), timeout=PATIENCE)
 
 
@@ -142,7 +142,7 @@ def many_at_once(daemon: Daemon) -> None:
         connection = socket.socket()
         connection.setblocking(False)
         try:
-            connection.connect((LOCALHOST, daemon.node(2).port))
+            connection.connect((LOCALHOST, daemon.options.port(2)))
         except BlockingIOError:
             pass
         held.append(connection)

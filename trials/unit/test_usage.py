@@ -23,6 +23,17 @@ class Grammar(unittest.TestCase):
         found = usage.options_of_grammar([source])
         self.assertEqual(found, {"one": {"port", "no-crash"}, "two": frozenset()})
 
+    def test_options_may_be_shared(self) -> None:
+        source = """
+        Command::new(alloc, name)
+            .arg(optional_number(alloc, "port", HELP, 1, 2))?
+        client_command(alloc, "one", "About")?
+            .arg(number_option(alloc, "client", HELP, 1, 2))
+        Command::new(alloc, "two")
+        """
+        found = usage.options_of_grammar([source])
+        self.assertEqual(found, {"one": {"port", "client"}, "two": frozenset()})
+
     def test_the_code_has_the_seven_commands(self) -> None:
         commands = {"replay", "serve", "submit", "read", "status", "publish", "follow"}
         self.assertEqual(set(usage.read_grammar()), commands)

@@ -7,7 +7,7 @@ import unittest
 from collections.abc import Callable
 from typing import Any, Optional
 
-from urbd import Entry, Publisher, RefusedError
+from urbd import Address, Entry, Publisher, RefusedError
 from urbd.simulation import SimulatedGroup
 
 
@@ -36,12 +36,12 @@ class OverAGroup(unittest.TestCase):
         self.folder.cleanup()
 
     @property
-    def port(self) -> int:
+    def port(self) -> Address:
         """The port of node 1."""
         return self.group.ports[0]
 
     def publisher(
-        self, client: int = 7, port: Optional[int] = None, patience: float = 5
+        self, client: int = 7, port: Optional[Address] = None, patience: float = 5
     ) -> Publisher:
         """A publisher with the test's file, closed at the end of the test."""
         publisher = Publisher(port or self.port, client, self.path, patience=patience, timeout=0.5)

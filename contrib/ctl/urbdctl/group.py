@@ -8,7 +8,7 @@ from dataclasses import dataclass
 from glob import glob
 from typing import Optional
 
-from urbd import client_port
+from urbd import Address, client_port
 from urbd.constants import MAX_NODES
 from urbdctl.errors import Trouble
 
@@ -22,6 +22,7 @@ class Process:
     nodes: int
     cap: int
     dir: str
+    socket_dir: Optional[str] = None  # if it takes no clients over TCP
 
 
 @dataclass(frozen=True)
@@ -33,9 +34,12 @@ class Group:
     cap: Optional[int] = None
     dir: Optional[str] = None
     pid: Optional[int] = None
+    socket_dir: Optional[str] = None  # if its nodes are asked at their sockets
 
-    def port(self, node: int) -> int:
-        """The port at which this node serves clients."""
+    def at(self, node: int) -> Address:
+        """The port at which this node serves clients, or the path of its socket."""
+        if self.socket_dir is not None:
+            return os.path.join(self.socket_dir, f"node-{node}.sock")
         return client_port(self.base_port, node)
 
     @property
@@ -79,11 +83,15 @@ def processes() -> Iterator[Process]:
             if words[1:2] != ["serve"]:
                 continue
             options, pid = options_of(words[2:]), int(path.split("/")[2])
-            folder = os.path.join(os.readlink(f"/proc/{pid}/cwd"), options["--dir"])
+            inside = os.readlink(f"/proc/{pid}/cwd")
+            folder = os.path.join(inside, options["--dir"])
+            sockets = None
+            if "--no-tcp" in options:
+                sockets = os.path.join(inside, options["--socket-dir"])
             base_port, nodes, cap = (
                 int(options[name]) for name in ("--base-port", "--nodes", "--cap")
             )
-            yield Process(pid, base_port, nodes, cap, folder)
+            yield Process(pid, base_port, nodes, cap, folder, sockets)
         except (OSError, KeyError, ValueError):
             continue
 
@@ -98,6 +106,7 @@ def find(
     nodes: Optional[int] = None,
     cap: Optional[int] = None,
     folder: Optional[str] = None,
+    socket_dir: Optional[str] = None,
 ) -> Group:
     """The group at a base port. What isn't given is taken from the program's command line."""
     found = process_at(base_port)
@@ -108,8 +117,15 @@ def find(
         )
     if found is None:
         assert nodes is not None
-        return Group(base_port, nodes, cap, folder)
-    return Group(base_port, nodes or found.nodes, cap or found.cap, folder or found.dir, found.pid)
+        return Group(base_port, nodes, cap, folder, None, socket_dir)
+    return Group(
+        base_port,
+        nodes or found.nodes,
+        cap or found.cap,
+        folder or found.dir,
+        found.pid,
+        socket_dir or found.socket_dir,
+    )
 
 
 def journals_in(folder: str) -> list[str]:

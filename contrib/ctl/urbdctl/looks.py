@@ -22,7 +22,7 @@ def ask(group: Group) -> list[Optional[Status]]:
 
     def one(node: int) -> Optional[Status]:
         try:
-            return Node(group.port(node), LIMIT).status()
+            return Node(group.at(node), LIMIT).status()
         except (OSError, RefusedError):
             return None
 

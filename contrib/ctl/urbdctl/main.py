@@ -17,7 +17,8 @@ BASE_PORT = 7400  # the base port of the service unit
 ABOUT = "Shows, checks, copies and restarts groups of urbd on this machine."
 EPILOG = """\
 A group is named by its base port. The number of nodes, the cap and the folder are those of the
-running program's command line; give --nodes, --cap and --dir if this user can't read that.
+running program's command line; give --nodes, --cap and --dir if this user can't read that. Nodes are
+asked at their ports, or at their sockets if the program has --no-tcp or --socket-dir is given here.
 
 status: 0 if all is well, 1 if not, 3 if the command line is wrong. `check` ends with those of
 monitoring plugins: 0 fine, 1 warning, 2 critical, 3 unknown.
@@ -75,7 +76,7 @@ def limits(text: str) -> tuple[float, float]:
 
 
 def port_options() -> Parser:
-    """The option that names a group."""
+    """The options that name a group, and say where its nodes are asked."""
     parser = Parser(add_help=False)
     parser.add_argument(
         "--base-port",
@@ -83,6 +84,9 @@ def port_options() -> Parser:
         default=BASE_PORT,
         metavar="B",
         help=f"the group's base port, {MIN_BASE_PORT} to {MAX_BASE_PORT} (default {BASE_PORT})",
+    )
+    parser.add_argument(
+        "--socket-dir", metavar="S", help="ask the nodes at their sockets in this folder"
     )
     return parser
 

@@ -6,6 +6,7 @@ import sys
 from collections.abc import Callable
 
 from urbd import Node, RefusedError
+from urbd.constants import MAX_NODES
 from urbdctl import bridge, metrics
 from urbdctl import check as checks
 from urbdctl.backup import backup
@@ -22,12 +23,13 @@ Options = argparse.Namespace
 
 def group_of(options: Options) -> Group:
     """The group that the options name."""
-    return find(options.base_port, options.nodes, options.cap, options.dir)
+    return find(options.base_port, options.nodes, options.cap, options.dir, options.socket_dir)
 
 
 def node_of(options: Options) -> Node:
     """The node that the options name."""
-    return Node(Group(options.base_port, options.node).port(options.node))
+    group = find(options.base_port, MAX_NODES, socket_dir=options.socket_dir)
+    return Node(group.at(options.node))
 
 
 def run_status(options: Options) -> int:
@@ -44,9 +46,10 @@ def run_watch(options: Options) -> int:
 def run_check(options: Options) -> int:
     """A line and a status for a monitoring system."""
     try:
-        group = find(options.base_port, options.nodes, options.cap, options.dir)
+        group = group_of(options)
     except Trouble as trouble:
-        return told(*without_program(options.base_port, trouble))
+        unseen = Group(options.base_port, 1, socket_dir=options.socket_dir)
+        return told(*without_program(unseen, trouble))
     limits = checks.Thresholds(
         options.behind,
         options.cap_limits,
@@ -59,11 +62,10 @@ def run_check(options: Options) -> int:
     return told(verdict.level, verdict.line)
 
 
-def without_program(base_port: int, trouble: Trouble) -> tuple[checks.Level, str]:
+def without_program(group: Group, trouble: Trouble) -> tuple[checks.Level, str]:
     """What a check says if this user sees no program: whether node 1 answers decides it."""
-    port = Group(base_port, 1).port(1)
     try:
-        Node(port, 1.0).status()
+        Node(group.at(1), 1.0).status()
     except ConnectionRefusedError as fault:
         return checks.Level.CRITICAL, f"CRITICAL: {fault}"
     except Exception as fault:

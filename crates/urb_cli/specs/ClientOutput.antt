@@ -2,6 +2,7 @@
 use Rattle.std.specs.Prelude.{◌≡◌, ◌⊎◌, ◌+◌, ℕ, ◌==◌, ◌/◌, ◌%◌, nat_lt, List, [], ◌∷◌, ◌++◌, length}
 use Rattle.std.specs.Prelude.{flat_map, Option, Some, None, if◌then◌else◌, codes}
 use Rattle.std.specs.Fmt.{decimal}
+use Rattle.urb_cli.specs.Addresses.{Address, address_text}
 use Rattle.urb_cli.specs.Advice.{explained_refusal}
 use Rattle.urb_client.specs.declared.response.NodeState.{NodeState}
 use Rattle.urb_client.specs.declared.response.NodeState.TheVariants as state
@@ -69,20 +70,20 @@ state_word state.Down = codes "down"
 state_word state.Ready = codes "ready"
 state_word state.Storing = codes "storing"
 
--- the line of the node at a port: its state, how many messages it has accepted, and how many
+-- the line of the node at an address: its state, how many messages it has accepted, and how many
 -- entries its log has
-abbrev pub status_line : ℕ → NodeState → ℕ → ℕ → List ℕ
-status_line port state own logged =
-    decimal port ++ (32 ∷ (state_word state ++ (codes " accepted " ++ (decimal own
+abbrev pub status_line : Address → NodeState → ℕ → ℕ → List ℕ
+status_line at state own logged =
+    address_text at ++ (32 ∷ (state_word state ++ (codes " accepted " ++ (decimal own
     ++ (codes " shown " ++ (decimal logged ++ 10 ∷ []))))))
 
--- What `urbd status` shows for a response of the node at a port: its line, or the port and the
--- refusal. Nothing if it is no response to a question for the state.
-abbrev pub status_shown : ℕ → Said → Option Shown
-status_shown port (said.Status state own logged) = Some (status_line port state own logged, 0)
-status_shown port (said.Refused number detail) =
-    Some (decimal port ++ (32 ∷ explained_refusal number detail), 4)
-status_shown port _ = None
+-- What `urbd status` shows for a response of the node at an address: its line, or the address and
+-- the refusal. Nothing if it is no response to a question for the state.
+abbrev pub status_shown : Address → Said → Option Shown
+status_shown at (said.Status state own logged) = Some (status_line at state own logged, 0)
+status_shown at (said.Refused number detail) =
+    Some (address_text at ++ (32 ∷ explained_refusal number detail), 4)
+status_shown at _ = None
 
 -- this is shown for some response
 abbrev pub IsShown : (Said → Option Shown) → Shown → Type 0

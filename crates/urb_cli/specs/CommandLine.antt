@@ -39,6 +39,10 @@ choice_rule name low high = record (number_rule name low high) { required = fals
 abbrev pub flag_rule : Text → Rule
 flag_rule name = record (new_rule name) { long = Some name; action = Some SetTrue }
 
+-- an option that may be left out, with any text except an empty one
+abbrev pub choice_text_rule : Text → Rule
+choice_text_rule name = record (text_rule name) { required = false }
+
 -- `replay` takes no words of its own
 abbrev pub replay_app : App
 replay_app = new_app (codes "replay")
@@ -56,59 +60,65 @@ group_app =
 
 -- it may also take how many clients a node serves, how long they may be idle, and that they may not
 -- crash it
-abbrev pub serve_app : App
-serve_app =
+abbrev pub service_app : App
+service_app =
     with_rule (with_rule (with_rule group_app
     (choice_rule (codes "connections") (pos MIN_CONNECTIONS) (pos MAX_CONNECTIONS)))
     (choice_rule (codes "idle-minutes") (pos 1) (pos MAX_IDLE_MINUTES)))
     (flag_rule (codes "no-crash"))
 
--- `submit` takes a port, a client, its number, and the payload
+-- and a folder of sockets, their mode, and that there is no TCP
+abbrev pub serve_app : App
+serve_app =
+    with_rule (with_rule (with_rule service_app
+    (choice_text_rule (codes "socket-dir")))
+    (choice_text_rule (codes "socket-mode")))
+    (flag_rule (codes "no-tcp"))
+
+-- a client's command may take a port, and may take a socket
+abbrev pub client_app : Text → App
+client_app name =
+    with_rule (with_rule (new_app name)
+    (choice_rule (codes "port") (pos 1) (pos 65535)))
+    (choice_text_rule (codes "socket"))
+
+-- `submit` takes a client, its number, and the payload
 abbrev pub submit_app : App
 submit_app =
-    with_rule (with_rule (with_rule (with_rule (new_app (codes "submit"))
-    (number_rule (codes "port") (pos 1) (pos 65535)))
+    with_rule (with_rule (with_rule (client_app (codes "submit"))
     (number_rule (codes "client") (pos 1) (pos 65535)))
     (number_rule (codes "number") (pos 0) (pos 4294967295)))
     (place_rule (codes "TEXT"))
 
--- `read` takes a port, a place, and the greatest number of entries
+-- `read` takes a place, and the greatest number of entries
 abbrev pub read_app : App
 read_app =
-    with_rule (with_rule (with_rule (new_app (codes "read"))
-    (number_rule (codes "port") (pos 1) (pos 65535)))
+    with_rule (with_rule (client_app (codes "read"))
     (number_rule (codes "from") (pos 1) (pos 4294967295)))
     (number_rule (codes "max") (pos 1) (pos MOST_ENTRIES))
 
--- `status` takes a port, or the base of a group's ports and the number of its nodes
+-- `status` may take the base of a group's ports and the number of its nodes
 abbrev pub status_app : App
 status_app =
-    with_rule (with_rule (with_rule (new_app (codes "status"))
-    (choice_rule (codes "port") (pos 1) (pos 65535)))
+    with_rule (with_rule (client_app (codes "status"))
     (choice_rule (codes "base-port") (pos MIN_BASE_PORT) (pos MAX_BASE_PORT)))
     (choice_rule (codes "nodes") (pos 1) (pos MAX_NODES))
-
--- an option that may be left out, with any text except an empty one
-abbrev pub choice_text_rule : Text → Rule
-choice_text_rule name = record (text_rule name) { required = false }
 
 -- a word at its place that may be left out
 abbrev pub choice_place_rule : Text → Rule
 choice_place_rule name = record (place_rule name) { required = false }
 
--- `publish` takes a port, a client, and perhaps the payload
+-- `publish` takes a client, and perhaps the payload
 abbrev pub publish_app : App
 publish_app =
-    with_rule (with_rule (with_rule (new_app (codes "publish"))
-    (number_rule (codes "port") (pos 1) (pos 65535)))
+    with_rule (with_rule (client_app (codes "publish"))
     (number_rule (codes "client") (pos 1) (pos 65535)))
     (choice_place_rule (codes "TEXT"))
 
--- `follow` takes a port, and perhaps a place and a format
+-- `follow` may take a place and a format
 abbrev pub follow_app : App
 follow_app =
-    with_rule (with_rule (with_rule (new_app (codes "follow"))
-    (number_rule (codes "port") (pos 1) (pos 65535)))
+    with_rule (with_rule (client_app (codes "follow"))
     (choice_rule (codes "from") (pos 1) (pos 4294967295)))
     (choice_text_rule (codes "format"))
 

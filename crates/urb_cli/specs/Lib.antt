@@ -1,7 +1,9 @@
+pub mod Addresses
 pub mod Advice
 pub mod Calls
 pub mod ClientOutput
 pub mod CommandLine
+pub mod Doors
 pub mod EntryForms
 pub mod Following
 pub mod OptionRanges

@@ -13,6 +13,8 @@ use Rattle.urb_cli.specs.declared.limits.TheConstants.{MAX_TICK_MILLIS, CLIENT_P
 use Rattle.urb_cli.specs.declared.limits.TheConstants.{MIN_CONNECTIONS, MAX_CONNECTIONS}
 use Rattle.urb_cli.specs.declared.limits.TheConstants.{MAX_IDLE_MINUTES, STANDARD_IDLE_MINUTES}
 use Rattle.clap.specs.Words.{Row, Text, first_of, one_of, subcommand_of}
+use Rattle.urb_cli.specs.Addresses.{Address, AtPort, address_of}
+use Rattle.urb_cli.specs.Doors.{Doors, asked_address, asked_doors, doors_of}
 use Rattle.urb_cli.specs.CommandLine.{urbd_app, faults_of, HasStatus}
 use Rattle.urb_cli.specs.declared.command_line.options.ServeOptions.{ServeOptions}
 use Rattle.urb_cli.specs.declared.command_line.service.ServiceOptions.{ServiceOptions}
@@ -33,20 +35,21 @@ use Rattle.urb_cli.specs.declared.command_line.task.Line.TheVariants as line
 abbrev pub Service : Type 0
 Service = ℕ × ℕ × Bool
 
--- What the program has to do: run a script; run a group; submit a text; read entries; show the state
--- of nodes; publish texts; or follow a log. A group has its nodes, cap, folder, base of the ports,
--- pause between resends, and service to clients. A text is submitted at a port, as a client, under a number. Entries are read at a port, from a
--- place on, up to a number of them. The states are those of the nodes at a port and at the ports
--- after it, a number of them in all. One text or an input is published at a port, as a client. A log
--- is followed at a port, from a place on, in a form.
+-- What the program has to do: run a script; run a group; submit a text; read entries; show the
+-- state of nodes; publish texts; or follow a log. A group has its nodes, cap, folder, base of the
+-- ports, pause between resends, service to clients, and doors. A text is submitted at an address,
+-- as a client, under a number. Entries are read at an address, from a place on, up to a number of
+-- them. The states are those of the node at an address, or of those at a port and at the ports
+-- after it, a number of them in all. One text or an input is published at an address, as a client.
+-- A log is followed at an address, from a place on, in a form.
 pub data Task : Type 0 where
   Replay : Task
-  Serve : ℕ → ℕ → Text → ℕ → ℕ → Service → Task
-  Submit : ℕ → ℕ → ℕ → Text → Task
-  Read : ℕ → ℕ → ℕ → Task
-  Status : ℕ → ℕ → Task
-  Publish : ℕ → ℕ → Option Text → Task
-  Follow : ℕ → ℕ → EntryForm → Task
+  Serve : ℕ → ℕ → Text → ℕ → ℕ → Service → Doors → Task
+  Submit : Address → ℕ → ℕ → Text → Task
+  Read : Address → ℕ → ℕ → Task
+  Status : Address → ℕ → Task
+  Publish : Address → ℕ → Option Text → Task
+  Follow : Address → ℕ → EntryForm → Task
 
 -- the service that these options ask for
 abbrev pub service_of : ServiceOptions → Service
@@ -54,27 +57,28 @@ service_of s = (s.connections, s.idle_minutes, s.may_crash)
 
 -- the task of a group to run
 abbrev pub task_of_serving : ServeOptions → Task
-task_of_serving s = Serve s.nodes s.cap s.dir.now s.base s.every (service_of s.service)
+task_of_serving s =
+    Serve s.nodes s.cap s.dir.now s.base s.every (service_of s.service) (doors_of s.doors)
 
 -- the task of a message to submit
 abbrev pub task_of_submitting : SubmitOptions → Task
-task_of_submitting s = Submit s.port s.client s.number s.text.now
+task_of_submitting s = Submit (address_of s.at) s.client s.number s.text.now
 
 -- the task of entries to read
 abbrev pub task_of_reading : ReadOptions → Task
-task_of_reading r = Read r.port r.from r.max
+task_of_reading r = Read (address_of r.at) r.from r.max
 
 -- the task of nodes to ask for their state
 abbrev pub task_of_asking : StatusOptions → Task
-task_of_asking s = Status s.port s.count
+task_of_asking s = Status (address_of s.at) s.count
 
 -- the task of texts to publish
 abbrev pub task_of_publishing : PublishOptions → Task
-task_of_publishing p = Publish p.port p.client (option_map (λ s. s.now) p.text)
+task_of_publishing p = Publish (address_of p.at) p.client (option_map (λ s. s.now) p.text)
 
 -- the task of a log to follow
 abbrev pub task_of_following : FollowOptions → Task
-task_of_following f = Follow f.port f.from f.form
+task_of_following f = Follow (address_of f.at) f.from f.form
 
 -- the task of an errand
 abbrev pub task_of_errand : Errand → Task
@@ -129,6 +133,17 @@ service_asked rows = (
   not (is_given (codes "no-crash") rows),
 )
 
+-- the doors of a group, from its options
+abbrev pub doors_asked : List Row → Option Doors
+doors_asked rows =
+    asked_doors (is_given (codes "no-tcp") rows) (first_of (codes "socket-dir") rows)
+    (first_of (codes "socket-mode") rows)
+
+-- the address of a node, from the options
+abbrev pub address_asked : List Row → Option Address
+address_asked rows =
+    asked_address (number_of (codes "port") 1 65535 rows) (first_of (codes "socket") rows)
+
 -- a group to run, from its options
 unfoldable pub serve_task : List Row → Option Task
 serve_task rows = do
@@ -137,45 +152,47 @@ serve_task rows = do
   dir ← first_of (codes "dir") rows
   base ← number_of (codes "base-port") MIN_BASE_PORT MAX_BASE_PORT rows
   every ← number_of (codes "tick-ms") 1 MAX_TICK_MILLIS rows
-  Some (Serve nodes cap dir base every (service_asked rows))
+  doors ← doors_asked rows
+  Some (Serve nodes cap dir base every (service_asked rows) doors)
 
 -- a message to submit, from its options and its text
 unfoldable pub submit_task : List Row → Option Task
 submit_task rows = do
-  port ← number_of (codes "port") 1 65535 rows
+  at ← address_asked rows
   client ← number_of (codes "client") 1 65535 rows
   number ← number_of (codes "number") 0 4294967295 rows
   text ← first_of (codes "TEXT") rows
-  Some (Submit port client number text)
+  Some (Submit at client number text)
 
 -- entries to read, from their options
 unfoldable pub read_task : List Row → Option Task
 read_task rows = do
-  port ← number_of (codes "port") 1 65535 rows
+  at ← address_asked rows
   from ← number_of (codes "from") 1 4294967295 rows
   max ← number_of (codes "max") 1 MOST_ENTRIES rows
-  Some (Read port from max)
+  Some (Read at from max)
 
--- The nodes to ask: the one at the port, or all of a group. With a port there is neither a base nor
--- a number of nodes, and a group needs both.
-abbrev pub asked_nodes : Option ℕ → Option ℕ → Option ℕ → Option Task
-asked_nodes (Some port) None None = Some (Status port 1)
-asked_nodes None (Some base) (Some nodes) = Some (Status (base + CLIENT_PORT_OFFSET + 1) nodes)
-asked_nodes _ _ _ = None
+-- The nodes to ask: the one at the port or the socket, or all of a group. With a port or a socket
+-- there is neither a base nor a number of nodes, and a group needs both.
+abbrev pub asked_nodes : Option ℕ → Option Text → Option ℕ → Option ℕ → Option Task
+asked_nodes port path None None = option_map (λ at. Status at 1) (asked_address port path)
+asked_nodes None None (Some base) (Some nodes) =
+    Some (Status (AtPort (base + CLIENT_PORT_OFFSET + 1)) nodes)
+asked_nodes _ _ _ _ = None
 
 -- nodes to ask for their state, from the options
 unfoldable pub status_task : List Row → Option Task
 status_task rows =
-    asked_nodes (number_of (codes "port") 1 65535 rows)
+    asked_nodes (number_of (codes "port") 1 65535 rows) (first_of (codes "socket") rows)
     (number_of (codes "base-port") MIN_BASE_PORT MAX_BASE_PORT rows)
     (number_of (codes "nodes") 1 MAX_NODES rows)
 
 -- texts to publish, from the options: one text, or those of an input
 unfoldable pub publish_task : List Row → Option Task
 publish_task rows = do
-  port ← number_of (codes "port") 1 65535 rows
+  at ← address_asked rows
   client ← number_of (codes "client") 1 65535 rows
-  Some (Publish port client (first_of (codes "TEXT") rows))
+  Some (Publish at client (first_of (codes "TEXT") rows))
 
 -- the form with this name
 abbrev pub form_named : Text → Option EntryForm
@@ -193,9 +210,9 @@ chosen_form (Some word) = form_named word
 -- a log to follow, from the options
 unfoldable pub follow_task : List Row → Option Task
 follow_task rows = do
-  port ← number_of (codes "port") 1 65535 rows
+  at ← address_asked rows
   form ← chosen_form (first_of (codes "format") rows)
-  Some (Follow port (unwrap_or (number_of (codes "from") 1 4294967295 rows) 1) form)
+  Some (Follow at (unwrap_or (number_of (codes "from") 1 4294967295 rows) 1) form)
 
 -- the task of a subcommand, from what was found for it
 abbrev pub task_named : Option (Text × List Row) → Option Task

@@ -1,2 +1,4 @@
+pub mod Addresses
+pub mod Doors
 pub mod Following
 pub mod Publishing

@@ -9,6 +9,7 @@ pub(crate) mod entry_form;
 pub(crate) mod entry_form_kind;
 pub(crate) mod follow;
 pub(crate) mod follow_turn;
+pub(crate) mod node_address;
 pub(crate) mod node_caller;
 pub(crate) mod print;
 pub(crate) mod printed;

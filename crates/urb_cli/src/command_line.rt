@@ -1,5 +1,7 @@
 //! The command line: what the parser accepts, how its words are read, and what they ask for.
 
+pub(crate) mod door_options;
+pub(crate) mod door_values;
 pub(crate) mod grammar;
 pub(crate) mod options;
 pub(crate) mod parse;

@@ -29,6 +29,7 @@ pub use client::call_fault::{CallFault, report_call_fault};
 pub use client::caller::{Caller, TRIES};
 pub use client::entry_form_kind::EntryForm;
 pub use client::follow::follow_over;
+pub use client::node_address::NodeAddress;
 pub use client::printed::Printed;
 pub use client::publish::publish_over;
 pub use client::run::{read_at, read_over, show, submit_at, submit_over};
@@ -36,6 +37,7 @@ pub use client::status::{status_at, status_over};
 pub use client::stream_end::report_stream_end;
 pub use client::stream_fault::{StreamEnd, StreamFault};
 pub use client::texts::{InputLines, OneText, Texts};
+pub use command_line::door_options::{DoorOptions, SocketOptions};
 pub use command_line::options::ServeOptions;
 pub use command_line::parse::{parse_line, read_words};
 pub use command_line::service::ServiceOptions;
@@ -44,8 +46,8 @@ pub use command_line::task::{Errand, Line, ReadOptions, StatusOptions, SubmitOpt
 pub use errands::{report_script_end, run_errand};
 pub use faults::{Fault, report_fault};
 pub use limits::{
-    CLIENT_PORT_OFFSET, MAX_BASE_PORT, MAX_CONNECTIONS, MAX_IDLE_MINUTES, MAX_TICK_MILLIS,
-    MIN_BASE_PORT, MIN_CONNECTIONS, STANDARD_IDLE_MINUTES,
+    CLIENT_PORT_OFFSET, MAX_BASE_PORT, MAX_CONNECTIONS, MAX_IDLE_MINUTES, MAX_SOCKET_MODE,
+    MAX_TICK_MILLIS, MIN_BASE_PORT, MIN_CONNECTIONS, STANDARD_IDLE_MINUTES, STANDARD_SOCKET_MODE,
 };
 pub use script::replay;
 pub use version::VERSION;

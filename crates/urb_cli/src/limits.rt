@@ -28,3 +28,9 @@ pub const MAX_IDLE_MINUTES: u16 = 1_440;
 
 /// The time without a byte after which a connection is closed if nothing else is said, in minutes.
 pub const STANDARD_IDLE_MINUTES: u16 = 10;
+
+/// The greatest mode of a socket's file: everybody may read, write and run it.
+pub const MAX_SOCKET_MODE: u16 = 0o777;
+
+/// The mode of a socket's file if nothing else is said: its owner and its group may connect.
+pub const STANDARD_SOCKET_MODE: u16 = 0o660;

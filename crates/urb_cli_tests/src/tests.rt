@@ -1,6 +1,7 @@
 //! The program over a terminal of the tests' own: command lines, scripts, and outputs that fail.
 
 mod clients;
+mod doors;
 mod lines;
 mod scripts;
 mod serving;

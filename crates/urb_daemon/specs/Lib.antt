@@ -1,4 +1,5 @@
 pub mod ClientService
+pub mod Doors
 pub mod Endings
 pub mod NetworkFaults
 pub mod OpeningFaults
@@ -6,4 +7,6 @@ pub mod Programs
 pub mod Runs
 pub mod RunsAfterStop
 pub mod ServeFaults
+pub mod SocketFaults
+pub mod SocketFiles
 pub mod internal

@@ -27,6 +27,8 @@ mod prompted_input;
 mod reports;
 mod run;
 mod serve_fault;
+mod socket_fault;
+mod socket_files;
 mod sockets;
 mod stage;
 mod standard_streams;
@@ -35,7 +37,8 @@ mod surroundings;
 pub use console::Console;
 pub use error_output::{ErrorOutput, FIRST_SECOND, LAST_WAIT, TEXT_ROOM};
 pub use network_fault::{
-    COMMON_DESCRIPTORS, NODE_DESCRIPTORS, NetworkFault, Port, count_descriptors, judge_socket,
+    COMMON_DESCRIPTORS, NODE_DESCRIPTORS, NetworkFault, Port, SECOND_DOOR_DESCRIPTORS,
+    count_all_descriptors, count_descriptors, fault_of_socket, judge_socket,
 };
 pub use opening_fault::{fault_of_folder, report_folder_fault};
 pub use program::{run_program, run_words, serve_folder};
@@ -43,6 +46,8 @@ pub use prompted_input::PromptedInput;
 pub use reports::Reports;
 pub use run::{Host, report_end, run_group_at, run_journals, run_stores};
 pub use serve_fault::{ServeFault, fault_of_serve, report_serve_fault};
+pub use socket_fault::{SocketCause, judge_making, judge_probe};
+pub use socket_files::{MAX_SOCKET_PATH, make_socket_path, open_socket, remove_sockets};
 pub use sockets::{Network, open_link, open_network};
 pub use stage::{Stage, StageReports};
 pub use standard_streams::Streams;

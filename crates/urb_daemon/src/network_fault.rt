@@ -1,9 +1,10 @@
 //! Why the sockets of a group can't be opened.
 
-ghost use Rattle.std.specs.Prelude.{◌≡◌, ◌≤◌, ◌+◌, ◌*◌};
+ghost use Rattle.std.specs.Prelude.{◌≡◌, ◌≤◌, ◌+◌, ◌*◌, if◌then◌else◌};
 ghost use Rattle.urb_names.specs.declared.limits.TheConstants.{MAX_NODES};
-ghost use Rattle.urb_daemon.specs.NetworkFaults.{fault_at};
+ghost use Rattle.urb_daemon.specs.NetworkFaults.{fault_at, fault_of_socket};
 
+use crate::socket_fault::SocketCause;
 use std::alloc::AllocError;
 use std::io::ErrorKind;
 use thiserror::Error;
@@ -18,6 +19,10 @@ pub const COMMON_DESCRIPTORS: u16 = 6;
 pub const NODE_DESCRIPTORS: u16 = 9;
 
 const _: () = prove!(NODE_DESCRIPTORS as usize == 5 + LEAST_CONNECTIONS);
+
+/// How many descriptors a node needs more if it takes clients over TCP and over a Unix socket: the
+/// second socket, and one for a client that is refused there.
+pub const SECOND_DOOR_DESCRIPTORS: u16 = 2;
 
 /// A port of a node.
 #[derive(Clone, Copy, Debug, PartialEq, Eq, Error)]
@@ -46,14 +51,42 @@ pub enum NetworkFault {
     /// number, which the group needs.
     #[error("the system gives no further socket; the group needs {0} descriptors (ulimit -n)")]
     NoSocket(u16),
+    /// The Unix socket of the node with this number can't be made, for this cause.
+    #[error("socket node-{0}.sock: {1}")]
+    Socket(u8, SocketCause),
 }
 
-/// How many descriptors a group of this number of nodes needs.
+/// How many descriptors a group of this number of nodes needs if its nodes have one door each.
 pub fn count_descriptors(nodes: u8) -> u16
     requires { nodes ≤ MAX_NODES }
     ensures { result ≡ COMMON_DESCRIPTORS + NODE_DESCRIPTORS * nodes }
 {
     COMMON_DESCRIPTORS + NODE_DESCRIPTORS * u16::from(nodes)
+}
+
+/// How many descriptors a group of this number of nodes needs, whose nodes have a second door or
+/// not.
+pub fn count_all_descriptors(nodes: u8, has_second_door: bool) -> u16
+    requires { nodes ≤ MAX_NODES }
+    ensures { result ≡ COMMON_DESCRIPTORS + NODE_DESCRIPTORS * nodes
+        + (if has_second_door then SECOND_DOOR_DESCRIPTORS * nodes else 0) }
+{
+    let more = if has_second_door {
+        SECOND_DOOR_DESCRIPTORS * u16::from(nodes)
+    } else {
+        0
+    };
+    count_descriptors(nodes) + more
+}
+
+/// What the cause means, if the Unix socket of the node with this number can't be made.
+pub fn fault_of_socket(node: u8, cause: SocketCause) -> NetworkFault
+    ensures { result ≡ fault_of_socket node cause }
+{
+    match cause {
+        SocketCause::NoMemory => NetworkFault::NoMemory,
+        cause => NetworkFault::Socket(node, cause),
+    }
 }
 
 impl From<AllocError> for NetworkFault {

@@ -13,13 +13,14 @@ ghost use Rattle.urb_daemon.specs.internal.Runs.{end_of};
 
 use crate::console::Console;
 use crate::serve_fault::{ServeFault, report_serve_fault};
-use crate::sockets::{Network, open_network};
+use crate::sockets::{Network, close_doors, open_network};
 use sqlite_disk::Disk;
 use std::alloc::Global;
 use std::io;
 use std::io::{Read, Write};
 use std::marker::Brand;
 use std::net::{Net, TcpListener, TcpStream};
+use std::rt::Files;
 use std::sync::Wait;
 use std::sync::ledger::Blank;
 use std::thread::Threads;
@@ -30,11 +31,12 @@ use urb_group::{Group, Stable};
 use urb_show::House;
 use urb_worker::{GroupSetting, Reporter, Watch, run_group};
 
-/// What the daemon needs of the runtime: threads, waiting and the clock. Functions that use sockets
-/// ask for `Net` as well, because they have to name the types of its sockets.
-pub trait Host: Threads + Wait + Clock + Sync {}
+/// What the daemon needs of the runtime: threads, waiting, the clock, and files for Unix sockets.
+/// Functions that use sockets ask for `Net` as well, because they have to name the types of its
+/// sockets.
+pub trait Host: Threads + Wait + Clock + Files + Sync {}
 
-impl<R: Threads + Wait + Clock + Sync> Host for R {}
+impl<R: Threads + Wait + Clock + Files + Sync> Host for R {}
 
 // What a group at this network runs with.
 fn setting_at<'a, H: Reporter, R>(
@@ -105,8 +107,9 @@ fn judge_end(events: Option<u64>, is_told: bool) -> Result<u64, ServeFault>
 }
 
 /// Opens a group over its stores and its network, and runs it until standard input ends. The
-/// console writes `open N` once everything is open. The result is the count of the group's events,
-/// or the fault. In either case the stores are returned, so nothing that was accepted is lost.
+/// console writes `open N` once everything is open. The Unix sockets that it made are removed at the
+/// end. The result is the count of the group's events, or the fault. In either case the stores are
+/// returned, so nothing that was accepted is lost.
 pub fn run_stores<
     S: Stable<Alloc = Global> + Send + Drop,
     R,
@@ -149,6 +152,7 @@ where
             let (stores, events) = run_group_at(
                 rt, alloc, group, &network, stores, reporter, console,
             );
+            close_doors(rt, alloc, serving.doors, serving.nodes);
             (stores, judge_end(events, console.is_told()))
         }
         Err(fault) => (stores, Err(ServeFault::Network(fault))),

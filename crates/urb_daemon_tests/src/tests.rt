@@ -13,6 +13,7 @@ mod reopenings;
 mod reports;
 mod restarts;
 mod runs;
+mod sockets;
 mod starts;
 mod strangers;
 mod visits;

@@ -6,3 +6,4 @@ pub mod Arrivals
 pub mod IdleTimes
 pub mod Pulses
 pub mod OwnJobs
+pub mod Doors

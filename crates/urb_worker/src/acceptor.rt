@@ -2,15 +2,17 @@
 
 use crate::client_input::ClientInput;
 use crate::connections::Connections;
-use crate::stations::{Station, rest};
+use crate::door::Door;
+use crate::stations::rest;
 use crate::{ClientDesk, NodeDesk, Stop, StopSeen};
 use std::alloc::Global;
 use std::io::{Read, Write};
-use std::net::{Shutdown, TcpStream};
+use std::net::Shutdown;
 use std::sync::{Arc, Wait};
 use std::thread::{Builder, Scope};
 use std::time::{Clock, Duration};
 use urb_client::{BufferedAnswers, Response, encode_response, session};
+use urb_local::LocalStream;
 use urb_names::{NoMemory, Refusal};
 use urb_show::HouseName;
 
@@ -39,7 +41,7 @@ impl Refusals {
 
 // Sends a client this answer, and closes its connection. What the client has sent already is read
 // first, without waiting: the system would drop the answer if bytes were left unread.
-fn refuse(stream: &TcpStream, answer: &[u8]) {
+fn refuse(stream: &LocalStream, answer: &[u8]) {
     let mut ends = stream;
     let _ = stream.set_nonblocking(true);
     let _ = ends.read(&mut [0u8; 512]);
@@ -47,12 +49,12 @@ fn refuse(stream: &TcpStream, answer: &[u8]) {
     let _ = stream.shutdown(Shutdown::Write);
 }
 
-/// What a node's acceptor uses.
+/// What an acceptor of a node uses. Each door of the node has its own.
 #[derive(Drop)]
 pub(crate) struct Acceptor<'a> {
     pub(crate) alloc: Global,
     pub(crate) stop: &'a Stop,
-    pub(crate) station: &'a Station,
+    pub(crate) door: Door<'a>,
     pub(crate) connections: &'a Connections,
     pub(crate) refusals: &'a Refusals,
 }
@@ -63,7 +65,7 @@ struct Visit<'a> {
     alloc: Global,
     stop: &'a Stop,
     connections: &'a Connections,
-    stream: Arc<TcpStream>,
+    stream: Arc<LocalStream>,
     place: usize,
 }
 
@@ -100,11 +102,11 @@ fn admit<'s, E, K: HouseName + Send + Sync, R: Wait + Clock + Sync>(
     rt: &'s R,
     acceptor: &Acceptor<'s>,
     desk: NodeDesk<'s, K, R>,
-    stream: TcpStream,
+    stream: LocalStream,
 ) {
     let (alloc, connections, refusals) = (acceptor.alloc, acceptor.connections, acceptor.refusals);
-    let _ = stream.set_nodelay(true);
-    let _ = stream.set_write_timeout(Some(Duration::from_millis(UNREAD_MILLIS)));
+    let _ = stream.send_at_once();
+    let _ = stream.set_write_timeout(Duration::from_millis(UNREAD_MILLIS));
     let stream = match Arc::new(alloc, stream) {
         Ok(stream) => stream,
         Err(failed) => return refuse(&failed.value, refusals.no_memory.as_slice()),
@@ -131,9 +133,9 @@ fn admit<'s, E, K: HouseName + Send + Sync, R: Wait + Clock + Sync>(
     }
 }
 
-/// Starts a session for each client that connects to a node, until the stop is set. It checks the
-/// stop after each client, so a connection wakes it. After an error of its socket it rests for 10
-/// milliseconds and goes on.
+/// Starts a session for each client that connects at a door of a node, until the stop is set. It
+/// checks the stop after each client, so a connection wakes it, and after each error of its socket.
+/// After an error it rests for 10 milliseconds and goes on.
 pub(crate) fn accept_clients<'s, E, K: HouseName + Send + Sync, R: Wait + Clock + Sync>(
     scope: &Scope<'s, E>,
     rt: &'s R,
@@ -141,8 +143,8 @@ pub(crate) fn accept_clients<'s, E, K: HouseName + Send + Sync, R: Wait + Clock 
     desk: NodeDesk<'s, K, R>,
 ) -> StopSeen<'s> {
     for _ in rt.forever() {
-        match acceptor.station.tcp.accept() {
-            Ok((stream, _)) if !acceptor.stop.is_set() => {
+        match acceptor.door.accept() {
+            Ok(stream) if !acceptor.stop.is_set() => {
                 admit(scope, rt, &acceptor, desk.copy(), stream);
             }
             Ok(_) => {}

@@ -5,15 +5,15 @@ use crate::connections::Connections;
 use crate::frame_progress::FrameProgress;
 use std::io;
 use std::io::{ErrorKind, Read};
-use std::net::TcpStream;
 use std::time::{Clock, Duration, Instant};
+use urb_local::LocalStream;
 
 /// A client's bytes. They end at the stop. A read fails if the client takes longer than the node's
 /// limits say.
 #[derive(Drop)]
 pub(crate) struct ClientInput<'a, R: Clock> {
     rt: &'a R,
-    stream: &'a TcpStream,
+    stream: &'a LocalStream,
     stop: &'a Stop,
     connections: &'a Connections,
     progress: FrameProgress,
@@ -24,15 +24,15 @@ pub(crate) struct ClientInput<'a, R: Clock> {
 }
 
 // Sets the time that a read of this stream may take, in milliseconds. It takes 0 as 1.
-fn set_limit(stream: &TcpStream, millis: u32) -> io::Result<()> {
-    stream.set_read_timeout(Some(Duration::from_millis(u64::from(millis.max(1)))))
+fn set_limit(stream: &LocalStream, millis: u32) -> io::Result<()> {
+    stream.set_read_timeout(Duration::from_millis(u64::from(millis.max(1))))
 }
 
 impl<'a, R: Clock> ClientInput<'a, R> {
     /// The input of a new connection. An error is the system's.
     pub(crate) fn new(
         rt: &'a R,
-        stream: &'a TcpStream,
+        stream: &'a LocalStream,
         stop: &'a Stop,
         connections: &'a Connections,
     ) -> io::Result<ClientInput<'a, R>> {
@@ -62,7 +62,7 @@ impl<'a, R: Clock> ClientInput<'a, R> {
         let began = *self.began.get_or_insert(now);
         let most = Duration::from_millis(u64::from(self.connections.limits().frame_millis));
         match most.checked_sub(now.duration_since(began)) {
-            Some(rest) if !rest.is_zero() => self.stream.set_read_timeout(Some(rest)),
+            Some(rest) if !rest.is_zero() => self.stream.set_read_timeout(rest),
             _ => Err(io::Error::from(ErrorKind::TimedOut)),
         }
     }

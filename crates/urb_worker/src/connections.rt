@@ -6,9 +6,10 @@ ghost use Rattle.urb_worker.specs.internal.IdleTimes.{idle_times_of};
 ghost use Rattle.urb_worker.specs.declared.connections.TheConstants.{IDLE_MINUTES};
 
 use std::alloc::{AllocError, Global};
-use std::net::{Shutdown, TcpStream};
+use std::net::Shutdown;
 use std::sync::atomic::{AtomicU64, Ordering};
 use std::sync::{Arc, Mutex, Wait};
+use urb_local::LocalStream;
 
 /// How many connections of clients a node serves at a time, if there are enough descriptors.
 pub const MOST_CONNECTIONS: usize = 1_000;
@@ -77,7 +78,7 @@ impl ClientLimits {
 /// The connections that a node serves. Each has a place. A stop ends them through this list.
 #[derive(Drop)]
 pub(crate) struct Connections {
-    places: Mutex<Vec<Option<Arc<TcpStream>>>>,
+    places: Mutex<Vec<Option<Arc<LocalStream>>>>,
     live: AtomicU64,
     limits: ClientLimits,
 }
@@ -106,7 +107,7 @@ impl Connections {
     }
 
     /// Gives a connection a place. `None` if no place is free.
-    pub(crate) fn enter<R: Wait>(&self, rt: &R, stream: Arc<TcpStream>) -> Option<usize> {
+    pub(crate) fn enter<R: Wait>(&self, rt: &R, stream: Arc<LocalStream>) -> Option<usize> {
         let mut places = self.places.lock(rt);
         let place = places.iter().position(|place| place.is_none())?;
         if let Some(free) = places.get_mut(place) {
@@ -117,7 +118,7 @@ impl Connections {
     }
 
     /// Frees a connection's place, and returns the connection.
-    pub(crate) fn leave<R: Wait>(&self, rt: &R, place: usize) -> Option<Arc<TcpStream>> {
+    pub(crate) fn leave<R: Wait>(&self, rt: &R, place: usize) -> Option<Arc<LocalStream>> {
         let mut places = self.places.lock(rt);
         let left = places.get_mut(place)?.take();
         if left.is_some() {

@@ -47,6 +47,7 @@ mod client_input;
 mod connections;
 mod counting;
 mod desk;
+mod door;
 mod feeding;
 mod frame_progress;
 mod hub;

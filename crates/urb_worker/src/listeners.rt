@@ -5,6 +5,7 @@ ghost use Rattle.std.specs.Prelude.{◌≡◌, ◌<◌, ◌≤◌, IfOk, IfSome,
 
 use crate::acceptor::{Acceptor, Refusals, accept_clients};
 use crate::connections::Connections;
+use crate::door::Door;
 use crate::{
     ClientLimits, GroupSetting, NodeDesk, NodeService, ReaderPool, Reporter, Station, Stop,
     StopSeen, Ticket, TicketPlaces, pass_rings, receive, timer,
@@ -92,6 +93,39 @@ struct NodeListener<'a, K: HouseName, R: Wait + Clock> {
     desk: NodeDesk<'a, K, R>,
 }
 
+// What the acceptors of a node share.
+#[derive(Drop)]
+struct Welcome<'a> {
+    alloc: Global,
+    stop: &'a Stop,
+    connections: &'a Connections,
+    refusals: &'a Refusals,
+}
+
+// Starts the thread that accepts a node's clients at a door, if there is such a door. Returns
+// whether it could.
+fn start_acceptor<'s, E, K: HouseName + Send + Sync, R: Wait + Clock + Sync>(
+    scope: &'s Scope<'s, E>,
+    rt: &'s R,
+    welcome: &Welcome<'s>,
+    door: Option<Door<'s>>,
+    desk: NodeDesk<'s, K, R>,
+) -> bool {
+    let Some(door) = door else {
+        return true;
+    };
+    let acceptor = Acceptor {
+        alloc: welcome.alloc,
+        stop: welcome.stop,
+        door,
+        connections: welcome.connections,
+        refusals: welcome.refusals,
+    };
+    scope
+        .spawn(move || accept_clients(scope, rt, acceptor, desk))
+        .is_ok()
+}
+
 // Starts the threads that take a node's datagrams, pass on its bell's rings and accept its clients.
 // Returns whether it could.
 fn start_node_threads<'s, E, K: HouseName + Send + Sync, R: Wait + Clock + Sync>(
@@ -117,16 +151,15 @@ fn start_node_threads<'s, E, K: HouseName + Send + Sync, R: Wait + Clock + Sync>
     if scope.spawn(ringer).is_err() {
         return false;
     }
-    let acceptor = Acceptor {
+    let welcome = Welcome {
         alloc,
         stop,
-        station,
         connections,
         refusals,
     };
-    scope
-        .spawn(move || accept_clients(scope, rt, acceptor, desk))
-        .is_ok()
+    let at_socket = desk.copy();
+    start_acceptor(scope, rt, &welcome, station.tcp_door(), desk)
+        && start_acceptor(scope, rt, &welcome, station.socket_door(), at_socket)
 }
 
 // Starts the threads of all nodes and the timer. Returns whether it could.

@@ -1,7 +1,12 @@
 //! The sockets of a group's nodes, on this machine's loopback.
 
+ghost use Rattle.std.specs.Prelude.{◌≡◌, IfOk, None, Some, is_some, option_map};
+ghost use Rattle.urb_worker.specs.internal.Doors.{tcp_listener, unix_listener};
+
+use crate::door::{Door, close_door};
 use crate::{Bell, InFlight, Spares};
 use std::net::{Ipv4Addr, Net, SocketAddr, TcpListener, TcpStream, UdpSocket};
+use std::os::unix::net::UnixListener;
 use std::time::{Clock, Duration};
 use std::{io, thread};
 
@@ -13,13 +18,15 @@ const REST: u64 = 10;
 // it, other connections wait already.
 const PATIENCE: u64 = 200;
 
-/// A node's two sockets at 127.0.0.1, with their ports: packets come to the first, and clients to
-/// the second. The station also counts what is in flight to the first socket, and keeps buffers for
-/// what comes there. Its bell rings when the node's log has grown.
+/// A node's sockets. Packets come to the first, at 127.0.0.1. Clients come to the second, at
+/// 127.0.0.1 too, or to the third, a Unix socket; a station may have either or both. A port is 0 if
+/// the station has no such socket. The station also counts what is in flight to the first socket,
+/// and keeps buffers for what comes there. Its bell rings when the node's log has grown.
 #[derive(Drop)]
 pub struct Station {
     pub udp: UdpSocket,
-    pub tcp: TcpListener,
+    pub tcp: Option<TcpListener>,
+    pub socket: Option<UnixListener>,
     pub udp_port: u16,
     pub tcp_port: u16,
     pub in_flight: InFlight,
@@ -35,13 +42,26 @@ impl Station {
         udp_port: u16,
         tcp_port: u16,
     ) -> io::Result<Station> {
+        Station::open_ports(rt, udp_port, Some(tcp_port))
+    }
+
+    /// Opens a node's sockets at these ports, as `open` does. Without a TCP port there is no socket
+    /// for clients over TCP. The caller may put a Unix socket into the field `socket`.
+    pub fn open_ports<R: Net<Listener = TcpListener, Stream = TcpStream>>(
+        rt: &R,
+        udp_port: u16,
+        tcp_port: Option<u16>,
+    ) -> io::Result<Station>
+        ensures socket { IfOk result (λ made. made.socket ≡ None) }
+        ensures tcp { IfOk result (λ made. is_some made.tcp ≡ is_some tcp_port) }
+    {
         let udp = UdpSocket::bind(rt, (Ipv4Addr::LOCALHOST, udp_port))?;
-        let tcp = TcpListener::bind(rt, (Ipv4Addr::LOCALHOST, tcp_port))?;
         let udp_port = udp.local_addr()?.port();
-        let tcp_port = tcp.local_addr()?.port();
+        let (tcp, tcp_port) = open_tcp_door(rt, tcp_port)?;
         Ok(Station {
             udp,
             tcp,
+            socket: None,
             udp_port,
             tcp_port,
             in_flight: InFlight::new(),
@@ -50,14 +70,56 @@ impl Station {
         })
     }
 
-    /// Wakes what waits at the station: an empty datagram wakes the receiver, a connection wakes
-    /// the listener, and the bell wakes its ringer and the sessions that wait for entries.
+    /// Wakes what waits at the station: an empty datagram wakes the receiver, and the bell wakes its
+    /// ringer and the sessions that wait for entries. A connection wakes the acceptor at the TCP port.
+    /// The Unix socket takes no clients from then on, which ends the wait for them.
     pub fn wake<R: Net<Listener = TcpListener, Stream = TcpStream>>(&self, rt: &R) {
         let _ = self.udp.send_to(&[], (Ipv4Addr::LOCALHOST, self.udp_port));
-        let at = SocketAddr::from((Ipv4Addr::LOCALHOST, self.tcp_port));
-        let _ = TcpStream::connect_timeout(rt, &at, Duration::from_millis(PATIENCE));
+        if self.tcp.is_some() {
+            let at = SocketAddr::from((Ipv4Addr::LOCALHOST, self.tcp_port));
+            let _ = TcpStream::connect_timeout(rt, &at, Duration::from_millis(PATIENCE));
+        }
+        if let Some(listener) = &self.socket {
+            close_door(listener);
+        }
         self.bell.ring_for_all();
     }
+
+    /// The door for clients over TCP, if the station has one.
+    pub(crate) fn tcp_door(&self) -> Option<Door<'_>>
+        ensures { option_map tcp_listener result ≡ option_map Some self.now.tcp }
+    {
+        match &self.tcp {
+            Some(listener) => Some(Door::Tcp(listener)),
+            None => None,
+        }
+    }
+
+    /// The door for clients over the Unix socket, if the station has one.
+    pub(crate) fn socket_door(&self) -> Option<Door<'_>>
+        ensures { option_map unix_listener result ≡ option_map Some self.now.socket }
+    {
+        match &self.socket {
+            Some(listener) => Some(Door::Unix(listener)),
+            None => None,
+        }
+    }
+}
+
+// Opens the socket for clients at this port, if there is to be one, and returns its port. The port
+// is 0 without a socket.
+fn open_tcp_door<R: Net<Listener = TcpListener, Stream = TcpStream>>(
+    rt: &R,
+    port: Option<u16>,
+) -> io::Result<(Option<TcpListener>, u16)>
+    ensures { IfOk result (λ made. is_some made.0 ≡ is_some port) }
+{
+    let Some(port) = port else {
+        return Ok((None, 0));
+    };
+    let tcp = TcpListener::bind(rt, (Ipv4Addr::LOCALHOST, port))?;
+    let port = tcp.local_addr()?.port();
+    Ok((Some(tcp), port))
 }
 
 /// Rests after an error of a socket, before the caller tries again.

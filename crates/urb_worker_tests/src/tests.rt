@@ -33,6 +33,7 @@ mod refusals;
 mod reports;
 mod sevens;
 mod shorts;
+mod sockets;
 mod spares;
 mod stations;
 mod strays;

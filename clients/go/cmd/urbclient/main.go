@@ -3,6 +3,7 @@
 //	urbclient publish --port PORT --client C --file FILE    publishes each line of standard input once
 //	urbclient follow --port PORT[,PORT..] --file FILE       prints each entry, for ever
 //
+// In place of --port PORT, --socket PATH names a node's Unix socket; to follow, also several.
 // FILE keeps what is in progress and done. An input that is a file continues with its first line
 // that isn't done; the lines of a pipe are new, unless --resume is given.
 package main
@@ -31,23 +32,20 @@ func main() {
 
 func run(ctx context.Context, words []string) error {
 	if len(words) == 0 || words[0] != "publish" && words[0] != "follow" {
-		return fmt.Errorf("urbclient publish --port PORT --client C --file FILE | urbclient follow --port PORT[,PORT..] --file FILE")
+		return fmt.Errorf("urbclient publish --port PORT --client C --file FILE | urbclient follow --port PORT[,PORT..] --file FILE (or --socket PATH)")
 	}
 	options := flag.NewFlagSet("urbclient "+words[0], flag.ExitOnError)
 	ports := options.String("port", "", "the node's port for clients; to follow, also several")
+	sockets := options.String("socket", "", "the path of the node's socket, in place of a port")
 	file := options.String("file", "", "keeps what is in progress and done")
 	client := options.Uint("client", 0, "your client number, 1 to 65535")
 	resume := options.Bool("resume", false, "the input is that of an earlier run, from its start")
 	fresh := options.Bool("new-input", false, "the input is a new one")
 	options.Parse(words[1:])
-	var nodes []*urbd.Node
 	var told faults
-	for _, word := range strings.Split(*ports, ",") {
-		port, err := strconv.ParseUint(word, 10, 16)
-		if err != nil || port == 0 {
-			return fmt.Errorf("--port %q is no port", word)
-		}
-		nodes = append(nodes, &urbd.Node{Port: int(port), OnFault: told.tell})
+	nodes, err := nodesAt(*ports, *sockets, told.tell)
+	if err != nil {
+		return err
 	}
 	if *file == "" {
 		return fmt.Errorf("--file is missing")
@@ -69,6 +67,28 @@ func (f *faults) tell(fault error) {
 		f.last = text
 		fmt.Fprintln(os.Stderr, "urbclient: waits:", text)
 	}
+}
+
+// nodesAt returns the nodes at these ports, or at these sockets. One of both is empty.
+func nodesAt(ports, sockets string, onFault func(error)) ([]*urbd.Node, error) {
+	var nodes []*urbd.Node
+	if ports != "" && sockets != "" {
+		return nil, fmt.Errorf("give --port or --socket, and not both")
+	}
+	if sockets != "" {
+		for _, path := range strings.Split(sockets, ",") {
+			nodes = append(nodes, &urbd.Node{Socket: path, OnFault: onFault})
+		}
+		return nodes, nil
+	}
+	for _, word := range strings.Split(ports, ",") {
+		port, err := strconv.ParseUint(word, 10, 16)
+		if err != nil || port == 0 {
+			return nil, fmt.Errorf("--port %q is no port", word)
+		}
+		nodes = append(nodes, &urbd.Node{Port: int(port), OnFault: onFault})
+	}
+	return nodes, nil
 }
 
 // isFile says whether an input is a file, which begins with the same lines if it is given again.

@@ -15,6 +15,7 @@ tests. The package needs only the standard library.
         for entry in entries:
             print(entry.name, entry.text)
 """
+from urbd.addresses import Address
 from urbd.client import Connection, Follower, Node, Publisher, repeat
 from urbd.constants import CLIENT_PORT_OFFSET, MAX_PAYLOAD, Refusal
 from urbd.errors import BadReply, RefusedError, Stopped
@@ -25,6 +26,7 @@ from urbd.reading import Position
 __version__ = "0.2.0"
 
 __all__ = [
+    "Address",
     "BadReply",
     "CLIENT_PORT_OFFSET",
     "Connection",

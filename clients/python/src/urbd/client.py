@@ -9,6 +9,7 @@ from dataclasses import replace
 from types import TracebackType
 from typing import Optional
 
+from urbd.addresses import Address
 from urbd.constants import Refusal
 from urbd.errors import RefusedError, Stopped
 from urbd.files import keep, kept
@@ -25,6 +26,7 @@ __all__ = ["Connection", "Follower", "Node", "Publisher", "repeat"]
 class Publisher:
     """Publishes at one node as one client. Each message is accepted once, even if the program or
     the node stops. Several threads may use a publisher; each call waits for the one before it.
+    `port` is the node's port, or the path of its socket.
 
     `path` names the file that keeps the message in progress; one program may use it at a time
     (`BlockingIOError`). If `patience` seconds pass before a message is accepted, the fault is
@@ -34,7 +36,7 @@ class Publisher:
 
     def __init__(
         self,
-        port: int,
+        port: Address,
         client: int,
         path: str,
         *,
@@ -162,14 +164,14 @@ class Follower:
 
     def __init__(
         self,
-        ports: Sequence[int],
+        ports: Sequence[Address],
         position: Optional[Position] = None,
         *,
         timeout: float = TIMEOUT,
         least_pause: float = LEAST_PAUSE,
         most_pause: float = MOST_PAUSE,
         longest_wait: float = LONGEST_WAIT,
-        on_fault: Optional[Callable[[int, Exception], None]] = None,
+        on_fault: Optional[Callable[[Address, Exception], None]] = None,
     ) -> None:
         self.timeout, self.longest_wait, self.on_fault = timeout, longest_wait, on_fault
         self.least_pause, self.most_pause, self._pause = (
@@ -178,7 +180,7 @@ class Follower:
             least_pause,
         )
         self._reading = Reading(ports, position)
-        self._can_wait: dict[int, bool] = {}
+        self._can_wait: dict[Address, bool] = {}
         self._connection: Optional[Connection] = None
 
     @property
@@ -233,7 +235,7 @@ class Follower:
             self.close()
         return entries
 
-    def _ask(self, port: int, seconds: float) -> list[Entry]:
+    def _ask(self, port: Address, seconds: float) -> list[Entry]:
         is_new = self._connection is None
         if self._connection is None:
             self._connection = Connection(port, self.timeout)

@@ -12,6 +12,7 @@ from contextlib import contextmanager
 from types import TracebackType
 from typing import Optional, TypeVar
 
+from urbd.addresses import Address, connected, name_of
 from urbd.constants import MOST_ENTRIES, Refusal
 from urbd.errors import BadReply, RefusedError
 from urbd.frames import (
@@ -76,7 +77,7 @@ def naming(address: str, limit: float) -> Iterator[None]:
         yield
     except BadReply as fault:
         raise BadReply(f"{address}: {fault}") from None
-    except ConnectionRefusedError:
+    except (ConnectionRefusedError, FileNotFoundError):
         raise ConnectionRefusedError(f"nobody listens at {address}") from None
     except (socket.timeout, TimeoutError):
         raise TimeoutError(f"no answer from {address} in {limit:g} s") from None
@@ -148,13 +149,13 @@ class Requests(ABC):
 
 
 class Connection(Requests):
-    """One connection to a node. Close it, or use it in a `with`: a node has room for few."""
+    """One connection to a node, at a port or the path of a socket. Close it, or use it in a `with`:
+    a node has room for few."""
 
-    def __init__(self, port: int, timeout: float = TIMEOUT, host: str = LOCALHOST) -> None:
-        self.port, self.timeout, self.address = port, timeout, f"{host}:{port}"
+    def __init__(self, port: Address, timeout: float = TIMEOUT, host: str = LOCALHOST) -> None:
+        self.port, self.timeout, self.address = port, timeout, name_of(port, host)
         with naming(self.address, timeout):
-            self._socket = socket.create_connection((host, port), timeout)
-            self._socket.setsockopt(socket.IPPROTO_TCP, socket.TCP_NODELAY, 1)
+            self._socket = connected(port, host, timeout)
 
     def ask(self, *requests: Request) -> list[Response]:
         self.send(*requests)
@@ -212,9 +213,10 @@ class Connection(Requests):
 
 
 class Node(Requests):
-    """One node, by its port for clients. Each call opens a connection and closes it."""
+    """One node, by its port for clients, or by the path of its socket. Each call opens a connection
+    and closes it."""
 
-    def __init__(self, port: int, timeout: float = TIMEOUT, host: str = LOCALHOST) -> None:
+    def __init__(self, port: Address, timeout: float = TIMEOUT, host: str = LOCALHOST) -> None:
         self.port, self.timeout, self.host = port, timeout, host
 
     def ask(self, *requests: Request) -> list[Response]:

@@ -9,6 +9,7 @@ import hashlib
 from dataclasses import dataclass, replace
 from typing import Any, Optional, Union
 
+from urbd.addresses import Address, place_of
 from urbd.constants import MAX_PAYLOAD, Refusal
 from urbd.errors import RefusedError, Stopped
 
@@ -49,7 +50,7 @@ class Progress:
     `input` is the mark of the lines that are done. `is_line` says that the message in progress is
     the line after them."""
 
-    port: int
+    port: Address
     client: int
     number: int
     payload: bytes
@@ -76,7 +77,7 @@ class Progress:
         """The progress that a file has. An older file has no mark of an input."""
         try:
             return cls(
-                int(value["port"]),
+                _address_of(value["port"]),
                 int(value["client"]),
                 int(value["number"]),
                 bytes.fromhex(value["payload"]),
@@ -116,7 +117,14 @@ class Progress:
         return None
 
 
-def begin(value: Optional[dict[str, Any]], port: int, client: int) -> Optional[Progress]:
+def _address_of(value: Any) -> Address:
+    """The port or the path that a file has."""
+    return value if isinstance(value, str) else int(value)
+
+
+def begin(
+    value: Optional[dict[str, Any]], port: Address, client: int
+) -> Optional[Progress]:
     """The progress that a file has for this client at this node; None if there is none.
 
     `Stopped` if the file has a message under way at another node or for another client.
@@ -128,7 +136,7 @@ def begin(value: Optional[dict[str, Any]], port: int, client: int) -> Optional[P
         return found
     if not found.is_done:
         raise Stopped(
-            f"its file keeps a message of client {found.client} at port {found.port}: "
+            f"its file keeps a message of client {found.client} at {place_of(found.port)}: "
             "finish it there"
         )
     return None

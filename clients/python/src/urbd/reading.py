@@ -8,6 +8,7 @@ from collections.abc import Sequence
 from dataclasses import dataclass, field
 from typing import Any, Optional
 
+from urbd.addresses import Address, address_in, place_of
 from urbd.constants import MOST_ENTRIES
 from urbd.errors import Stopped
 from urbd.frames import (
@@ -36,12 +37,13 @@ class Place:
 
 @dataclass
 class Position:
-    """What a follower has read: the last number of each sender, and a place for each node's port.
+    """What a follower has read: the last number of each sender, and a place for each node's port or
+    socket.
 
     Save it together with the results of the entries, as the JSON value of `to_json`."""
 
     seen: dict[int, int] = field(default_factory=dict)
-    places: dict[int, Place] = field(default_factory=dict)
+    places: dict[Address, Place] = field(default_factory=dict)
 
     def to_json(self) -> dict[str, Any]:
         """The position as a value for a file."""
@@ -58,7 +60,7 @@ class Position:
         try:
             return cls(
                 {int(sender): int(seq) for sender, seq in value["seen"].items()},
-                {int(port): Place(int(at[0]), at[1]) for port, at in value["places"].items()},
+                {address_in(at): Place(int(to[0]), to[1]) for at, to in value["places"].items()},
             )
         except (AttributeError, IndexError, KeyError, TypeError, ValueError):
             raise Stopped("the file isn't one that a follower has kept") from None
@@ -68,17 +70,17 @@ class Reading:
     """Which node is read, and from where. Each `take` function takes the answers to the requests
     of the function with the same ending."""
 
-    def __init__(self, ports: Sequence[int], position: Optional[Position] = None) -> None:
+    def __init__(self, ports: Sequence[Address], position: Optional[Position] = None) -> None:
         if not ports:
-            raise ValueError("a follower needs the port of at least one node")
+            raise ValueError("a follower needs the port or the socket of at least one node")
         self.ports = list(ports)
         self.position = position or Position()
         self.at = 0
         self.pages = 1
 
     @property
-    def port(self) -> int:
-        """The port of the node that is read."""
+    def port(self) -> Address:
+        """The port of the node that is read, or the path of its socket."""
         return self.ports[self.at]
 
     @property
@@ -107,7 +109,7 @@ class Reading:
         if place.digest is not None:
             if not entries or entries[0].digest() != place.digest:
                 raise Stopped(
-                    f"the log at port {self.port} isn't the one that was read "
+                    f"the log at {place_of(self.port)} isn't the one that was read "
                     f"up to place {place.next - 1}"
                 )
             entries = entries[1:]

@@ -4,12 +4,14 @@ Its nodes run in this process and serve clients' frames by docs/FORMATS.md, with
 They share one list of messages, and each shows it up to a place of its own."""
 from __future__ import annotations
 
+import os
 import socket
 import struct
 import threading
 from collections.abc import Sequence
 from typing import BinaryIO, Optional, Union
 
+from urbd.addresses import Address
 from urbd.constants import MAX_CAP, MAX_CONNECTIONS, MAX_PAYLOAD, UNKNOWN_OPCODE, Refusal
 from urbd.frames import (
     LENGTH_BYTES,
@@ -49,20 +51,21 @@ class SimulatedGroup:
     """What a folder holds: entries in one order, and what each node shows of them.
 
     `knows_wait` says whether its nodes know WAIT, and serve any number of connections. Each node's
-    port is free for it to choose unless `ports` says which. `entries` is what it holds at first."""
+    port is free for it to choose unless `ports` says which, or says a path for a Unix socket.
+    `entries` is what it holds at first."""
 
     def __init__(
         self,
         nodes: int = 1,
         cap: int = MAX_CAP,
-        ports: Optional[Sequence[int]] = None,
+        ports: Optional[Sequence[Address]] = None,
         knows_wait: bool = False,
         entries: Optional[list[Entry]] = None,
     ) -> None:
         self.changed = threading.Condition()
         self.entries: list[Entry] = [] if entries is None else entries
         self.cap, self.knows_wait = cap, knows_wait
-        chosen = ports or [0] * nodes
+        chosen: Sequence[Address] = ports or [0] * nodes
         self.nodes = [SimulatedNode(self, node, chosen[node - 1]) for node in range(1, nodes + 1)]
         self.ports = [node.port for node in self.nodes]
 
@@ -78,11 +81,23 @@ class SimulatedGroup:
             node.close()
 
 
+def listening(at: Address) -> socket.socket:
+    """A socket that takes clients at this port, or at this path, where it replaces a file."""
+    if not isinstance(at, str):
+        return socket.create_server(("127.0.0.1", at))
+    if os.path.exists(at):
+        os.remove(at)
+    end = socket.socket(socket.AF_UNIX, socket.SOCK_STREAM)
+    end.bind(at)
+    end.listen()
+    return end
+
+
 class SimulatedNode(threading.Thread):
     """One node. It works off `troubles`, one at each request. `shows` is how many entries its log
     has, or the log itself, or None for all entries."""
 
-    def __init__(self, group: SimulatedGroup, node: int, port: int) -> None:
+    def __init__(self, group: SimulatedGroup, node: int, port: Address) -> None:
         super().__init__(daemon=True)
         self.group, self.node = group, node
         self.troubles: list[Trouble] = []
@@ -92,8 +107,8 @@ class SimulatedNode(threading.Thread):
         self.is_closed = False
         self.open: set[socket.socket] = set()
         self._sessions = threading.Semaphore(MAX_CONNECTIONS if group.knows_wait else SESSIONS)
-        self._listener = socket.create_server(("127.0.0.1", port))
-        self.port: int = self._listener.getsockname()[1]
+        self._listener = listening(port)
+        self.port: Address = port or self._listener.getsockname()[1]
         self.start()
 
     def close(self) -> None:

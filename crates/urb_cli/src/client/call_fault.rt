@@ -3,13 +3,14 @@
 ghost use Rattle.std.specs.Prelude.{◌≡◌};
 ghost use Rattle.urb_cli.specs.Statuses.{fault_of_call};
 
+use crate::client::node_address::NodeAddress;
 use crate::faults::{FAULT, Fault};
 use urb_names::NoMemory;
 
 /// Why a call of a node on this machine has no answer.
 #[derive(Clone, Copy, Debug, PartialEq, Eq)]
 pub enum CallFault {
-    /// The system refused the connection: nobody listens at the port.
+    /// The system refused the connection, or there is no socket: nobody listens at the address.
     NobodyListens,
     /// The system made no connection, for another reason.
     NotConnected,
@@ -64,12 +65,15 @@ impl CallFault {
     }
 }
 
-/// Reports on standard error that a call of the node at this port has no answer. The line begins
+/// Reports on standard error that a call of the node at this address has no answer. The line begins
 /// with the program's fault. Returns its status.
-pub fn report_call_fault<R: Eprint>(rt: &R, port: u16, fault: CallFault) -> u8
+pub fn report_call_fault<R: Eprint>(rt: &R, at: NodeAddress<'_>, fault: CallFault) -> u8
     ensures { result ≡ 1 }
 {
     let (words, cause) = (fault.fault(), fault.cause());
-    let _ = eprintln!(rt; "urbd: {words}: {cause} 127.0.0.1:{port}");
+    let _ = match at {
+        NodeAddress::Port(port) => eprintln!(rt; "urbd: {words}: {cause} 127.0.0.1:{port}"),
+        NodeAddress::Socket(path) => eprintln!(rt; "urbd: {words}: {cause} {path}"),
+    };
     FAULT
 }

@@ -7,38 +7,56 @@ ghost use Rattle.urb_client.specs.Responses.{encoding, frame, said_by};
 ghost use Rattle.urb_client.specs.ReceivedResponses.{HasNoResponse};
 
 use crate::client::call_fault::CallFault;
+use crate::client::node_address::NodeAddress;
 use crate::faults::Fault;
 use std::alloc::Global;
+use std::io;
 use std::io::{ErrorKind, Read, Write};
 use std::net::{Ipv4Addr, Net, TcpListener, TcpStream};
+use std::os::unix::net::UnixStream;
 use std::time::Duration;
 use urb_client::{Request, Response, encode_request, read_response};
+use urb_local::LocalStream;
 
 // How long a patient connection waits for a node, in seconds.
 const PATIENCE: u64 = 10;
 
-/// Connects to a port of this machine.
+// Connects to an address of this machine. An error is the system's.
+fn connect_to<R: Net<Listener = TcpListener, Stream = TcpStream>>(
+    rt: &R,
+    at: NodeAddress<'_>,
+) -> io::Result<LocalStream> {
+    match at {
+        NodeAddress::Port(port) => {
+            let stream = TcpStream::connect(rt, (Ipv4Addr::LOCALHOST, port))?;
+            Ok(LocalStream::Tcp(stream))
+        }
+        NodeAddress::Socket(path) => Ok(LocalStream::Unix(UnixStream::connect(rt, path)?)),
+    }
+}
+
+/// Connects to an address of this machine.
 pub(crate) fn connect<R: Net<Listener = TcpListener, Stream = TcpStream>>(
     rt: &R,
-    port: u16,
-) -> Result<TcpStream, CallFault> {
-    match TcpStream::connect(rt, (Ipv4Addr::LOCALHOST, port)) {
+    at: NodeAddress<'_>,
+) -> Result<LocalStream, CallFault> {
+    match connect_to(rt, at) {
         Ok(stream) => Ok(stream),
         Err(error) => Err(match error.kind() {
-            ErrorKind::ConnectionRefused => CallFault::NobodyListens,
+            ErrorKind::ConnectionRefused | ErrorKind::NotFound => CallFault::NobodyListens,
             _ => CallFault::NotConnected,
         }),
     }
 }
 
-/// Connects to a port of this machine. A read or a write that waits longer than `PATIENCE` seconds
-/// fails.
+/// Connects to an address of this machine. A read or a write that waits longer than `PATIENCE`
+/// seconds fails.
 pub(crate) fn connect_patiently<R: Net<Listener = TcpListener, Stream = TcpStream>>(
     rt: &R,
-    port: u16,
-) -> Result<TcpStream, CallFault> {
-    let stream = connect(rt, port)?;
-    let limit = Some(Duration::from_secs(PATIENCE));
+    at: NodeAddress<'_>,
+) -> Result<LocalStream, CallFault> {
+    let stream = connect(rt, at)?;
+    let limit = Duration::from_secs(PATIENCE);
     if stream.set_read_timeout(limit).is_err() || stream.set_write_timeout(limit).is_err() {
         return Err(CallFault::NotConnected);
     }

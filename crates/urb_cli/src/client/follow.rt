@@ -203,13 +203,13 @@ pub fn follow_over<C: Caller, W: Write>(
 }
 
 /// Does `urbd follow`, and returns the program's status: 4 if the node refused, 1 after a fault.
-pub(crate) fn run_follow<R>(rt: &R, following: FollowOptions) -> u8
+pub(crate) fn run_follow<R>(rt: &R, following: FollowOptions<'_>) -> u8
 where
     R: AllocGlobal + Print + Eprint + Clock + Net<Listener = TcpListener, Stream = TcpStream>,
     ensures { IsClientsEnd result }
 {
     let alloc = rt.alloc();
-    let mut caller = NodeCaller::new(rt, alloc, following.port);
+    let mut caller = NodeCaller::new(rt, alloc, following.at);
     let mut writer = io::writer(rt);
     let outcome = follow_over(
         alloc,
@@ -218,5 +218,5 @@ where
         following.form,
         following.from,
     );
-    report_stream_end(rt, following.port, outcome)
+    report_stream_end(rt, following.at, outcome)
 }

@@ -1,4 +1,4 @@
-//! The caller of the program: it asks a node at a port of this machine.
+//! The caller of the program: it asks a node at an address of this machine.
 
 ghost use Rattle.std.specs.Prelude.{◌≡◌};
 ghost use Rattle.urb_client.specs.Requests.{IsAsked, IsShort, asked_by};
@@ -6,33 +6,35 @@ ghost use Rattle.urb_client.specs.Requests.{IsAsked, IsShort, asked_by};
 use crate::client::call_fault::CallFault;
 use crate::client::caller::Caller;
 use crate::client::calls::{connect_patiently, exchange};
+use crate::client::node_address::NodeAddress;
 use std::alloc::Global;
 use std::net::{Net, TcpListener, TcpStream};
 use std::thread;
 use std::time::{Clock, Duration};
 use urb_client::{Request, Response};
+use urb_local::LocalStream;
 
 /// The pause between two calls, in milliseconds.
 const PAUSE_MILLIS: u64 = 500;
 
-/// Asks the node at a port, over one connection as long as it holds.
+/// Asks the node at an address, over one connection as long as it holds.
 #[derive(Drop)]
 pub(crate) struct NodeCaller<'a, R: Clock + Net<Listener = TcpListener, Stream = TcpStream>> {
     rt: &'a R,
     alloc: Global,
-    port: u16,
-    stream: Option<TcpStream>,
+    at: NodeAddress<'a>,
+    stream: Option<LocalStream>,
 }
 
 impl<'a, R: Clock + Net<Listener = TcpListener, Stream = TcpStream>> NodeCaller<'a, R> {
-    /// A caller of the node at this port, without a connection yet.
-    pub(crate) fn new(rt: &'a R, alloc: Global, port: u16) -> NodeCaller<'a, R>
-        ensures { result.port ≡ port }
+    /// A caller of the node at this address, without a connection yet.
+    pub(crate) fn new(rt: &'a R, alloc: Global, at: NodeAddress<'a>) -> NodeCaller<'a, R>
+        ensures { result.at ≡ at.entry }
     {
         NodeCaller {
             rt,
             alloc,
-            port,
+            at,
             stream: None,
         }
     }
@@ -42,28 +44,28 @@ impl<'a, R: Clock + Net<Listener = TcpListener, Stream = TcpStream>> NodeCaller<
 fn call_over<R: Net<Listener = TcpListener, Stream = TcpStream>>(
     rt: &R,
     alloc: Global,
-    port: u16,
-    kept: Option<TcpStream>,
+    at: NodeAddress<'_>,
+    kept: Option<LocalStream>,
     request: &Request,
-) -> Result<(TcpStream, Response), CallFault>
+) -> Result<(LocalStream, Response), CallFault>
     requires values { IsAsked (asked_by request.now) }
     requires short { IsShort (asked_by request.now) }
 {
     let stream = match kept {
         Some(stream) => stream,
-        None => connect_patiently(rt, port)?,
+        None => connect_patiently(rt, at)?,
     };
     let response = exchange(alloc, &mut &stream, &mut &stream, request)?;
     Ok((stream, response))
 }
 
 impl<'a, R: Clock + Net<Listener = TcpListener, Stream = TcpStream>> Caller for NodeCaller<'a, R> {
-    // It always asks at the same port.
-    ghost calls = { λ old asked answer new. new.port ≡ old.port };
+    // It always asks at the same address.
+    ghost calls = { λ old asked answer new. new.at ≡ old.at };
 
     fn call(&mut self, request: &Request) -> Result<Response, CallFault> {
         let kept = self.stream.take();
-        let (stream, response) = call_over(self.rt, self.alloc, self.port, kept, request)?;
+        let (stream, response) = call_over(self.rt, self.alloc, self.at, kept, request)?;
         self.stream = Some(stream);
         Ok(response)
     }

@@ -18,6 +18,7 @@ use crate::client::call_fault::CallFault;
 use crate::client::caller::{Caller, insist};
 use crate::client::calls::send;
 use crate::client::decision::Decision;
+use crate::client::node_address::NodeAddress;
 use crate::client::node_caller::NodeCaller;
 use crate::client::print::render_accepted;
 use crate::client::stream_end::report_stream_end;
@@ -216,15 +217,15 @@ pub fn publish_over<T: Texts, C: Caller, W: Write>(
     }
 }
 
-// Publishes texts as `publish_over` does, and reports a fault of the calls at this port. Returns the
-// program's status.
+// Publishes texts as `publish_over` does, and reports a fault of the calls at this address. Returns
+// the program's status.
 fn publish_and_report<R: Eprint, T: Texts, C: Caller, W: Write>(
     rt: &R,
     alloc: Global,
     texts: &mut T,
     caller: &mut C,
     writer: &mut W,
-    port: u16,
+    at: NodeAddress<'_>,
     client: u16,
 ) -> u8
     requires { 0 < client }
@@ -234,7 +235,7 @@ fn publish_and_report<R: Eprint, T: Texts, C: Caller, W: Write>(
     ensures end { IsClientsEnd result }
 {
     let outcome = publish_over(alloc, texts, caller, writer, client);
-    report_stream_end(rt, port, outcome)
+    report_stream_end(rt, at, outcome)
 }
 
 /// Does `urbd publish`, and returns the program's status: 0 if each message was accepted, 4 if one
@@ -249,33 +250,17 @@ where
         + Net<Listener = TcpListener, Stream = TcpStream>,
     ensures { IsClientsEnd result }
 {
-    let (alloc, port, client) = (rt.alloc(), publishing.port, publishing.client);
-    let mut caller = NodeCaller::new(rt, alloc, port);
+    let (alloc, at, client) = (rt.alloc(), publishing.at, publishing.client);
+    let mut caller = NodeCaller::new(rt, alloc, at);
     let mut writer = io::writer(rt);
     match publishing.text {
         Some(text) => {
             let mut texts = OneText::new(text);
-            publish_and_report(
-                rt,
-                alloc,
-                &mut texts,
-                &mut caller,
-                &mut writer,
-                port,
-                client,
-            )
+            publish_and_report(rt, alloc, &mut texts, &mut caller, &mut writer, at, client)
         }
         None => {
             let mut texts = InputLines::new(rt.reader());
-            publish_and_report(
-                rt,
-                alloc,
-                &mut texts,
-                &mut caller,
-                &mut writer,
-                port,
-                client,
-            )
+            publish_and_report(rt, alloc, &mut texts, &mut caller, &mut writer, at, client)
         }
     }
 }

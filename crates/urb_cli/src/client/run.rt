@@ -12,6 +12,7 @@ ghost use Rattle.urb_cli.specs.Statuses.{IsClientsEnd};
 
 use crate::client::call_fault::{CallFault, report_call_fault};
 use crate::client::calls::{connect, exchange};
+use crate::client::node_address::NodeAddress;
 use crate::client::print::{render_read_response, render_refusal, render_submit_response};
 use crate::client::printed::Printed;
 use crate::command_line::task::{ReadOptions, SubmitOptions};
@@ -79,11 +80,11 @@ pub fn read_over<R: Read, W: Write>(
     alloc: Global,
     reader: &mut R,
     writer: &mut W,
-    reading: ReadOptions,
+    reading: ReadOptions<'_>,
 ) -> Result<Printed, Fault>
     // The frame of this read is sent, and nothing else.
     ensures sent { IfOk result (λ shown. Appends (W.contents writer.old) (W.contents writer.new)
-        (frame (request_body (AskRead reading.from reading.max)))) }
+        (frame (request_body (AskRead reading.entry.from reading.entry.max)))) }
     // What is shown is what the response says.
     ensures shown { IfOk result
         (λ shown. IfSome (R.remaining reader.old) (ShowsAs read_shown (shown_by shown))) }
@@ -102,7 +103,7 @@ pub fn read_over<R: Read, W: Write>(
     }
 }
 
-/// Submits a message at its port. A text that is too long isn't sent.
+/// Submits a message at the node's address. A text that is too long isn't sent.
 pub fn submit_at<R: Net<Listener = TcpListener, Stream = TcpStream>>(
     rt: &R,
     alloc: Global,
@@ -118,26 +119,30 @@ pub fn submit_at<R: Net<Listener = TcpListener, Stream = TcpStream>>(
         let refusal = Refusal::TooLong;
         return Ok(render_refusal(alloc, refusal.number(), refusal.detail())?);
     }
-    let stream = connect(rt, submitting.port)?;
+    let stream = connect(rt, submitting.at)?;
     Ok(submit_over(alloc, &mut &stream, &mut &stream, submitting)?)
 }
 
-/// Reads entries at their port.
+/// Reads entries at the node's address.
 pub fn read_at<R: Net<Listener = TcpListener, Stream = TcpStream>>(
     rt: &R,
     alloc: Global,
-    reading: ReadOptions,
+    reading: ReadOptions<'_>,
 ) -> Result<Printed, CallFault>
     // What is shown is what a response to a read says.
     ensures { IfOk result (λ shown. IsShown read_shown (shown_by shown)) }
 {
-    let stream = connect(rt, reading.port)?;
+    let stream = connect(rt, reading.at)?;
     Ok(read_over(alloc, &mut &stream, &mut &stream, reading)?)
 }
 
-/// Writes what is shown of the node at this port to standard output, or reports the fault. Returns
-/// the status.
-pub fn show<R: Print + Eprint>(rt: &R, port: u16, outcome: Result<Printed, CallFault>) -> u8
+/// Writes what is shown of the node at this address to standard output, or reports the fault.
+/// Returns the status.
+pub fn show<R: Print + Eprint>(
+    rt: &R,
+    at: NodeAddress<'_>,
+    outcome: Result<Printed, CallFault>,
+) -> u8
     ensures shown { IfOk outcome (λ shown. (result ≡ shown.status) ⊎ (result ≡ 1)) }
     ensures fault { IfErr outcome (λ fault. result ≡ 1) }
 {
@@ -146,7 +151,7 @@ pub fn show<R: Print + Eprint>(rt: &R, port: u16, outcome: Result<Printed, CallF
             Ok(()) => shown.status,
             Err(_) => report_fault(rt, Fault::Write),
         },
-        Err(fault) => report_call_fault(rt, port, fault),
+        Err(fault) => report_call_fault(rt, at, fault),
     }
 }
 
@@ -159,15 +164,15 @@ where
     // A text that is too long is never accepted.
     ensures long { MAX_PAYLOAD < length submitting.entry.text.now → (result ≡ 1) ⊎ (result ≡ 4) }
 {
-    show(rt, submitting.port, submit_at(rt, rt.alloc(), submitting))
+    show(rt, submitting.at, submit_at(rt, rt.alloc(), submitting))
 }
 
 /// Does `urbd read`, and returns the program's status. It is 0 if entries were shown, even if the
 /// list is empty, 4 if the read was refused, and 1 after a fault.
-pub(crate) fn run_read<R>(rt: &R, reading: ReadOptions) -> u8
+pub(crate) fn run_read<R>(rt: &R, reading: ReadOptions<'_>) -> u8
 where
     R: AllocGlobal + Print + Eprint + Net<Listener = TcpListener, Stream = TcpStream>,
     ensures { IsClientsEnd result }
 {
-    show(rt, reading.port, read_at(rt, rt.alloc(), reading))
+    show(rt, reading.at, read_at(rt, rt.alloc(), reading))
 }

@@ -1,10 +1,12 @@
 //! The command `status`: a line for each node that is asked.
 
-ghost use Rattle.std.specs.Prelude.{◌≡◌, ◌⊎◌, ◌==◌, if◌then◌else◌, Err, IfOk, IfErr, IfSome, Some};
-ghost use Rattle.std.specs.Prelude.{option_map};
+ghost use Rattle.std.specs.Prelude.{◌≡◌, ◌<◌, ◌⊎◌, ◌==◌, if◌then◌else◌, Err, IfOk, IfErr};
+ghost use Rattle.std.specs.Prelude.{IfSome, Some, option_map};
 ghost use Rattle.std.specs.Io.KnownBytes.{Appends};
 ghost use Rattle.urb_client.specs.Requests.{Status as AskStatus, request_body};
 ghost use Rattle.urb_client.specs.Responses.{Refused, frame, said_by};
+ghost use Rattle.urb_cli.specs.Addresses.{address_of};
+ghost use Rattle.urb_cli.specs.internal.Addresses.{address_after};
 ghost use Rattle.urb_cli.specs.ClientOutput.{IsShown, ShowsAs, ShowsNothing, shown_by};
 ghost use Rattle.urb_cli.specs.ClientOutput.{state_word, status_line, status_shown};
 ghost use Rattle.urb_cli.specs.Statuses.{IsClientsEnd};
@@ -12,6 +14,7 @@ ghost use Rattle.urb_cli.specs.Statuses.{IsClientsEnd};
 use crate::client::advice::push_refusal;
 use crate::client::call_fault::CallFault;
 use crate::client::calls::{connect_patiently, exchange};
+use crate::client::node_address::{NodeAddress, push_address};
 use crate::client::print::REFUSED;
 use crate::client::printed::Printed;
 use crate::client::refused_write::refused_write;
@@ -37,31 +40,34 @@ fn word(state: NodeState) -> &'static str
 // The line of a node.
 fn render_status(
     alloc: Global,
-    port: u16,
+    at: NodeAddress<'_>,
     state: NodeState,
     own: u32,
     logged: u32,
 ) -> Result<Printed, NoMemory>
-    ensures { IfOk result (λ shown. shown_by shown ≡ (status_line port state own logged, 0)) }
+    ensures { IfOk result (λ shown. shown_by shown
+        ≡ (status_line (address_of at.entry) state own logged, 0)) }
 {
     let mut text = Vec::new(alloc);
     let word = word(state);
-    write!(text, "{port} {word} accepted {own} shown {logged}\n").map_err(refused_write)?;
+    push_address(&mut text, at)?;
+    write!(text, " {word} accepted {own} shown {logged}\n").map_err(refused_write)?;
     Ok(Printed { text, status: 0 })
 }
 
 // The line of a node that refused the question.
 fn render_refused_status(
     alloc: Global,
-    port: u16,
+    at: NodeAddress<'_>,
     number: u8,
     detail: u32,
 ) -> Result<Printed, NoMemory>
-    ensures { IfOk result
-        (λ shown. option_map shown_by (Some shown) ≡ status_shown port (Refused number detail)) }
+    ensures { IfOk result (λ shown. option_map shown_by (Some shown)
+        ≡ status_shown (address_of at.entry) (Refused number detail)) }
 {
     let mut text = Vec::new(alloc);
-    write!(text, "{port} ").map_err(refused_write)?;
+    push_address(&mut text, at)?;
+    text.push(b' ')?;
     push_refusal(&mut text, number, detail)?;
     Ok(Printed {
         text,
@@ -69,76 +75,84 @@ fn render_refused_status(
     })
 }
 
-/// What `urbd status` shows for a response of the node at this port. `None` if it is no response to
-/// a question for the state.
+/// What `urbd status` shows for a response of the node at this address. `None` if it is no response
+/// to a question for the state.
 fn render_status_response(
     alloc: Global,
-    port: u16,
+    at: NodeAddress<'_>,
     response: &Response,
 ) -> Result<Option<Printed>, NoMemory>
-    ensures { IfOk result
-        (λ shown. option_map shown_by shown ≡ status_shown port (said_by response.now)) }
+    ensures { IfOk result (λ shown. option_map shown_by shown
+        ≡ status_shown (address_of at.entry) (said_by response.now)) }
 {
     match response {
         Response::Status { state, own, logged } => {
-            Ok(Some(render_status(alloc, port, *state, *own, *logged)?))
+            Ok(Some(render_status(alloc, at, *state, *own, *logged)?))
         }
         Response::Refused { number, detail } => {
-            Ok(Some(render_refused_status(alloc, port, *number, *detail)?))
+            Ok(Some(render_refused_status(alloc, at, *number, *detail)?))
         }
         _ => Ok(None),
     }
 }
 
-/// Asks for the state of the node at this port over a connection, and returns the line that shows
-/// it. `BadReply`: what came is no response to this question.
+/// Asks for the state of the node at this address over a connection, and returns the line that
+/// shows it. `BadReply`: what came is no response to this question.
 pub fn status_over<R: Read, W: Write>(
     alloc: Global,
     reader: &mut R,
     writer: &mut W,
-    port: u16,
+    at: NodeAddress<'_>,
 ) -> Result<Printed, Fault>
     // The frame of this question is sent, and nothing else.
     ensures sent { IfOk result (λ shown. Appends (W.contents writer.old) (W.contents writer.new)
         (frame (request_body AskStatus))) }
     // What is shown is what the response says.
-    ensures shown { IfOk result
-        (λ shown. IfSome (R.remaining reader.old) (ShowsAs (status_shown port) (shown_by shown))) }
-    ensures response { IfOk result (λ shown. IsShown (status_shown port) (shown_by shown)) }
+    ensures shown { IfOk result (λ shown. IfSome (R.remaining reader.old)
+        (ShowsAs (status_shown (address_of at.entry)) (shown_by shown))) }
+    ensures response { IfOk result
+        (λ shown. IsShown (status_shown (address_of at.entry)) (shown_by shown)) }
     ensures bad { result ≡ Err Fault.BadReply
-        → IfSome (R.remaining reader.old) (ShowsNothing (status_shown port)) }
+        → IfSome (R.remaining reader.old) (ShowsNothing (status_shown (address_of at.entry))) }
 {
     let response = exchange(alloc, reader, writer, &Request::Status)?;
-    match render_status_response(alloc, port, &response)? {
+    match render_status_response(alloc, at, &response)? {
         Some(shown) => Ok(shown),
         None => Err(Fault::BadReply),
     }
 }
 
-/// Asks for the state of the node at this port, and waits some seconds for the answer.
+/// Asks for the state of the node at this address, and waits some seconds for the answer.
 pub fn status_at<R: Net<Listener = TcpListener, Stream = TcpStream>>(
     rt: &R,
     alloc: Global,
-    port: u16,
+    at: NodeAddress<'_>,
 ) -> Result<Printed, CallFault>
     // What is shown is what a response to the question says.
-    ensures { IfOk result (λ shown. IsShown (status_shown port) (shown_by shown)) }
+    ensures { IfOk result (λ shown. IsShown (status_shown (address_of at.entry)) (shown_by shown)) }
 {
-    let stream = connect_patiently(rt, port)?;
-    Ok(status_over(alloc, &mut &stream, &mut &stream, port)?)
+    let stream = connect_patiently(rt, at)?;
+    Ok(status_over(alloc, &mut &stream, &mut &stream, at)?)
 }
 
-// Says on standard output that the node at this port doesn't answer, and why on standard error.
+// Says on standard output that the node at this address doesn't answer, and why on standard error.
 // Returns the status.
-fn show_node<R: Print + Eprint>(rt: &R, port: u16, outcome: Result<Printed, CallFault>) -> u8
+fn show_node<R: Print + Eprint>(
+    rt: &R,
+    at: NodeAddress<'_>,
+    outcome: Result<Printed, CallFault>,
+) -> u8
     ensures shown { IfOk outcome (λ shown. (result ≡ shown.status) ⊎ (result ≡ 1)) }
     ensures fault { IfErr outcome (λ fault. result ≡ 1) }
     ensures end { IsClientsEnd result }
 {
     if outcome.is_err() {
-        let _ = println!(rt; "{port} no answer");
+        let _ = match at {
+            NodeAddress::Port(port) => println!(rt; "{port} no answer"),
+            NodeAddress::Socket(path) => println!(rt; "{path} no answer"),
+        };
     }
-    show(rt, port, outcome)
+    show(rt, at, outcome)
 }
 
 // The status of two calls together: that of the first one that didn't end well, else 0.
@@ -148,17 +162,28 @@ fn worse(first: u8, second: u8) -> u8
     if first == 0 { second } else { first }
 }
 
+// The address of the node that comes so many nodes after the first one.
+fn find_node<'a>(asking: StatusOptions<'a>, later: u8) -> NodeAddress<'a>
+    requires { later < asking.count }
+    ensures { address_of result ≡ address_after (address_of asking.entry.at) later }
+{
+    match asking.at {
+        NodeAddress::Port(port) => NodeAddress::Port(port + u16::from(later)),
+        NodeAddress::Socket(path) => NodeAddress::Socket(path),
+    }
+}
+
 /// Does `urbd status`: asks each node, prints its line, and returns the program's status. It is 0
 /// if all nodes answered, even if they are down. It is 1 if one doesn't answer.
-pub(crate) fn run_status<R>(rt: &R, asking: StatusOptions) -> u8
+pub(crate) fn run_status<R>(rt: &R, asking: StatusOptions<'_>) -> u8
 where
     R: AllocGlobal + Print + Eprint + Net<Listener = TcpListener, Stream = TcpStream>,
     ensures { IsClientsEnd result }
 {
     let mut status = 0;
     for node in 0..asking.count {
-        let port = asking.port + u16::from(node);
-        status = worse(status, show_node(rt, port, status_at(rt, rt.alloc(), port)));
+        let at = find_node(asking, node);
+        status = worse(status, show_node(rt, at, status_at(rt, rt.alloc(), at)));
     }
     status
 }

@@ -3,12 +3,13 @@
 ghost use Rattle.std.specs.Prelude.{◌≡◌, IfOk, false};
 ghost use Rattle.clap.specs.Words.{app_of, rule_of};
 ghost use Rattle.clap.specs.declared.builder.command.Command.TheViews.{out-Command};
-ghost use Rattle.urb_cli.specs.CommandLine.{bare_app, replay_app};
+ghost use Rattle.urb_cli.specs.CommandLine.{bare_app, client_app, replay_app};
 ghost use Rattle.urb_cli.specs.CommandLine.{choice_rule, flag_rule, number_rule, text_rule};
 ghost use Rattle.urb_cli.specs.CommandLine.{place_rule};
-ghost use Rattle.urb_cli.specs.CommandLine.{group_app, serve_app, submit_app, read_app, status_app, urbd_app};
+ghost use Rattle.urb_cli.specs.CommandLine.{group_app, serve_app, service_app, submit_app};
+ghost use Rattle.urb_cli.specs.CommandLine.{read_app, status_app, urbd_app};
 
-use crate::command_line::stream_grammar::{follow_command, publish_command};
+use crate::command_line::stream_grammar::{follow_command, optional_text, publish_command};
 use crate::limits::{
     MAX_BASE_PORT, MAX_CONNECTIONS, MAX_IDLE_MINUTES, MAX_TICK_MILLIS, MIN_BASE_PORT,
     MIN_CONNECTIONS,
@@ -21,7 +22,9 @@ use urb_client::MOST_ENTRIES;
 use urb_names::{MAX_CAP, MAX_NODES};
 
 // The texts of options that several commands have.
-pub(crate) const PORT_HELP: &str = "The node's port for clients, 1 to 65535";
+const PORT_HELP: &str = "The node's port for clients, 1 to 65535";
+
+const SOCKET_HELP: &str = "The path of the node's socket, in place of a port";
 
 const NODES_HELP: &str = "How many nodes, 1 to 7";
 
@@ -130,9 +133,10 @@ fn group_command<'a>(alloc: Global) -> Result<Command<'a>, AllocError>
         ))
 }
 
-fn serve_command<'a>(alloc: Global) -> Result<Command<'a>, AllocError>
+// The command `serve` with the options that say how nodes serve their clients.
+fn service_command<'a>(alloc: Global) -> Result<Command<'a>, AllocError>
     ensures { IfOk result
-        (λ made. (app_of made ≡ serve_app) × ((out-Command made).has_globals ≡ false)) }
+        (λ made. (app_of made ≡ service_app) × ((out-Command made).has_globals ≡ false)) }
 {
     group_command(alloc)?
         .arg(optional_number(
@@ -156,14 +160,45 @@ fn serve_command<'a>(alloc: Global) -> Result<Command<'a>, AllocError>
         ))
 }
 
+fn serve_command<'a>(alloc: Global) -> Result<Command<'a>, AllocError>
+    ensures { IfOk result
+        (λ made. (app_of made ≡ serve_app) × ((out-Command made).has_globals ≡ false)) }
+{
+    service_command(alloc)?
+        .arg(optional_text(
+            alloc,
+            "socket-dir",
+            "A folder for a Unix socket of each node, node-1.sock and so on",
+        ))?
+        .arg(optional_text(
+            alloc,
+            "socket-mode",
+            "The mode of the sockets, octal; otherwise 660: the owner and its group",
+        ))?
+        .arg(flag(alloc, "no-tcp", "Takes clients at the sockets alone"))
+}
+
+/// A client's command with this name, and what it is about. It takes the node's port or its socket.
+pub(crate) fn client_command<'a>(
+    alloc: Global,
+    name: &'a str,
+    about: &'a str,
+) -> Result<Command<'a>, AllocError>
+    ensures { IfOk result (λ made.
+        (app_of made ≡ client_app name.entry.now) × ((out-Command made).has_globals ≡ false)) }
+{
+    Command::new(alloc, name)
+        .about(about)
+        .arg(optional_number(alloc, "port", PORT_HELP, 1, 65_535))?
+        .arg(optional_text(alloc, "socket", SOCKET_HELP))
+}
+
 fn submit_command<'a>(alloc: Global) -> Result<Command<'a>, AllocError>
     ensures { IfOk result
         (λ made. (app_of made ≡ submit_app) × ((out-Command made).has_globals ≡ false)) }
 {
-    Command::new(alloc, "submit")
-        .about("Sends one message to a node")
+    client_command(alloc, "submit", "Sends one message to a node")?
         .after_help("Example: urbd submit --port 7411 --client 7 --number 1 hello")
-        .arg(number_option(alloc, "port", PORT_HELP, 1, 65_535))?
         .arg(number_option(alloc, "client", CLIENT_HELP, 1, 65_535))?
         .arg(number_option(
             alloc,
@@ -179,10 +214,8 @@ fn read_command<'a>(alloc: Global) -> Result<Command<'a>, AllocError>
     ensures { IfOk result
         (λ made. (app_of made ≡ read_app) × ((out-Command made).has_globals ≡ false)) }
 {
-    Command::new(alloc, "read")
-        .about("Shows entries of a node's log")
+    client_command(alloc, "read", "Shows entries of a node's log")?
         .after_help("Example: urbd read --port 7411 --from 1 --max 8")
-        .arg(number_option(alloc, "port", PORT_HELP, 1, 65_535))?
         .arg(number_option(
             alloc,
             "from",
@@ -204,10 +237,9 @@ fn status_command<'a>(alloc: Global) -> Result<Command<'a>, AllocError>
         (λ made. (app_of made ≡ status_app) × ((out-Command made).has_globals ≡ false)) }
 {
     let (low, high) = (MIN_BASE_PORT as i64, MAX_BASE_PORT as i64);
-    Command::new(alloc, "status")
-        .about("Shows the state of a node, or of all nodes of a group")
+    let about = "Shows the state of a node, or of all nodes of a group";
+    client_command(alloc, "status", about)?
         .after_help("Example: urbd status --base-port 7400 --nodes 3")
-        .arg(optional_number(alloc, "port", PORT_HELP, 1, 65_535))?
         .arg(optional_number(
             alloc,
             "base-port",

@@ -3,6 +3,7 @@
 ghost use Rattle.std.specs.Prelude.{◌≡◌, IsSome, IfSome};
 ghost use Rattle.urb_cli.specs.OptionRanges.{AreInRange};
 
+use crate::command_line::door_options::DoorOptions;
 use crate::command_line::service::ServiceOptions;
 use crate::limits::{MAX_BASE_PORT, MAX_TICK_MILLIS, MIN_BASE_PORT};
 use urb_names::{Config, MAX_CAP, MAX_NODES};
@@ -24,12 +25,14 @@ pub struct ServeOptions<'a> {
     pub every: u32,
     /// How the nodes serve their clients.
     pub service: ServiceOptions,
+    /// Where the nodes take their clients.
+    pub doors: DoorOptions<'a>,
     ghost within: { AreInRange nodes cap base every },
 }
 
 impl<'a> ServeOptions<'a> {
-    /// A group with these settings, whose nodes serve their clients in the standard way. `None`
-    /// exactly if one of the settings is outside its range.
+    /// A group with these settings, whose nodes serve their clients in the standard way, over TCP
+    /// alone. `None` exactly if one of the settings is outside its range.
     pub fn new(nodes: u8, cap: u32, dir: &'a str, base: u16, every: u32) -> Option<ServeOptions<'a>>
         ensures some { AreInRange nodes cap base every → IsSome result }
         ensures fields { IfSome result (λ s. (s.nodes ≡ nodes)
@@ -51,6 +54,7 @@ impl<'a> ServeOptions<'a> {
             base,
             every,
             service: ServiceOptions::standard(),
+            doors: DoorOptions::tcp_alone(),
         })
     }
 
@@ -61,7 +65,7 @@ impl<'a> ServeOptions<'a> {
             × (result.dir ≡ self.entry.dir)
             × (result.base ≡ self.entry.base)
             × (result.every ≡ self.entry.every) }
-        ensures service { result.service ≡ service }
+        ensures service { (result.service ≡ service) × (result.doors ≡ self.entry.doors) }
     {
         ServeOptions {
             nodes: self.nodes,
@@ -70,6 +74,28 @@ impl<'a> ServeOptions<'a> {
             base: self.base,
             every: self.every,
             service,
+            doors: self.doors,
+        }
+    }
+
+    /// The same group, whose nodes take their clients at these doors.
+    pub fn with_doors(self, doors: DoorOptions<'a>) -> ServeOptions<'a>
+        ensures others { (result.nodes ≡ self.entry.nodes)
+            × (result.cap ≡ self.entry.cap)
+            × (result.dir ≡ self.entry.dir)
+            × (result.base ≡ self.entry.base)
+            × (result.every ≡ self.entry.every)
+            × (result.service ≡ self.entry.service) }
+        ensures doors { result.doors ≡ doors.entry }
+    {
+        ServeOptions {
+            nodes: self.nodes,
+            cap: self.cap,
+            dir: self.dir,
+            base: self.base,
+            every: self.every,
+            service: self.service,
+            doors,
         }
     }
 

@@ -37,7 +37,9 @@ fn report_parser_error<R: Print + Eprint>(rt: &R, error: &Error) -> u8
 }
 
 // What a line lacks that the parser accepts, and that asks for nothing.
-const UNFIT: &str = "give --port, or give --base-port and --nodes; a format is text, hex or json";
+const UNFIT: &str =
+    "give --port or --socket, or give --base-port and --nodes; a format is text, hex or \
+json; --no-tcp and --socket-mode need --socket-dir; a mode is octal, as 660";
 
 // What is said of a word that isn't UTF-8.
 const NOT_TEXT: &str = "invalid UTF-8 was detected in one or more arguments";

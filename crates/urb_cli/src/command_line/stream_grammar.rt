@@ -7,13 +7,13 @@ ghost use Rattle.urb_cli.specs.CommandLine.{choice_place_rule, choice_text_rule,
 ghost use Rattle.urb_cli.specs.CommandLine.{publish_app};
 
 use crate::command_line::grammar::{
-    CLIENT_HELP, PORT_HELP, number_option, optional_number, text_option, text_word,
+    CLIENT_HELP, client_command, number_option, optional_number, text_option, text_word,
 };
 use clap::{Arg, Command};
 use std::alloc::{AllocError, Global};
 
-// An option that may be left out, whose value is any text except an empty one.
-fn optional_text<'a>(alloc: Global, name: &'a str, help: &'a str) -> Arg<'a>
+/// An option that may be left out, whose value is any text except an empty one.
+pub(crate) fn optional_text<'a>(alloc: Global, name: &'a str, help: &'a str) -> Arg<'a>
     ensures rule { rule_of result ≡ choice_text_rule name.entry.now }
     ensures own { result.global ≡ false }
 {
@@ -33,10 +33,9 @@ pub(crate) fn publish_command<'a>(alloc: Global) -> Result<Command<'a>, AllocErr
     ensures { IfOk result
         (λ made. (app_of made ≡ publish_app) × ((out-Command made).has_globals ≡ false)) }
 {
-    Command::new(alloc, "publish")
-        .about("Sends messages to a node, one after the other, and numbers them")
+    let about = "Sends messages to a node, one after the other, and numbers them";
+    client_command(alloc, "publish", about)?
         .after_help("Example: printf 'one\ntwo\n' | urbd publish --port 7411 --client 7")
-        .arg(number_option(alloc, "port", PORT_HELP, 1, 65_535))?
         .arg(number_option(alloc, "client", CLIENT_HELP, 1, 65_535))?
         .arg(optional_word(
             alloc,
@@ -50,10 +49,9 @@ pub(crate) fn follow_command<'a>(alloc: Global) -> Result<Command<'a>, AllocErro
     ensures { IfOk result
         (λ made. (app_of made ≡ follow_app) × ((out-Command made).has_globals ≡ false)) }
 {
-    Command::new(alloc, "follow")
-        .about("Shows entries of a node's log as they come, until it is stopped")
+    let about = "Shows entries of a node's log as they come, until it is stopped";
+    client_command(alloc, "follow", about)?
         .after_help("Example: urbd follow --port 7411 --from 1 --format text")
-        .arg(number_option(alloc, "port", PORT_HELP, 1, 65_535))?
         .arg(optional_number(
             alloc,
             "from",

@@ -6,6 +6,7 @@ ghost use Rattle.urb_cli.specs.Tasks.{chosen_form, follow_task, form_named, publ
 ghost use Rattle.urb_cli.specs.Tasks.{task_of_following, task_of_publishing};
 
 use crate::client::entry_form_kind::EntryForm;
+use crate::command_line::door_values::read_address;
 use crate::command_line::stream_options::{FollowOptions, PublishOptions};
 use crate::command_line::values::{number, text};
 use clap::ArgMatches;
@@ -15,10 +16,10 @@ use clap::ArgMatches;
 pub(crate) fn read_publish_options<'a>(found: &ArgMatches<'a>) -> Option<PublishOptions<'a>>
     ensures { option_map task_of_publishing result ≡ publish_task (rows_of (found_of found.now)) }
 {
-    let port = number(found, "port", 1, 65_535)?;
+    let at = read_address(found)?;
     let client = number(found, "client", 1, 65_535)?;
     Some(PublishOptions {
-        port: port as u16,
+        at,
         client: client as u16,
         text: text(found, "TEXT"),
     })
@@ -48,15 +49,11 @@ fn choose_form(word: Option<&str>) -> Option<EntryForm>
 
 /// The log to follow.
 #[tactic(auto, unfolding(crate::specs::Tasks::follow_task))]
-pub(crate) fn read_follow_options(found: &ArgMatches<'_>) -> Option<FollowOptions>
+pub(crate) fn read_follow_options<'a>(found: &ArgMatches<'a>) -> Option<FollowOptions<'a>>
     ensures { option_map task_of_following result ≡ follow_task (rows_of (found_of found.now)) }
 {
-    let port = number(found, "port", 1, 65_535)?;
+    let at = read_address(found)?;
     let form = choose_form(text(found, "format"))?;
     let from = number(found, "from", 1, 4_294_967_295).unwrap_or(1);
-    Some(FollowOptions {
-        port: port as u16,
-        from,
-        form,
-    })
+    Some(FollowOptions { at, from, form })
 }

@@ -10,6 +10,8 @@ ghost use Rattle.urb_cli.specs.Tasks.{Serve, number_of, serve_task, submit_task,
 ghost use Rattle.urb_cli.specs.Tasks.{task_named, task_of, task_of_serving, task_of_submitting};
 ghost use Rattle.urb_cli.specs.Tasks.{task_of_reading, task_of_asking, status_task};
 
+use crate::client::node_address::NodeAddress;
+use crate::command_line::door_values::{choose_address, read_address, read_doors};
 use crate::command_line::options::ServeOptions;
 use crate::command_line::service::ServiceOptions;
 use crate::command_line::stream_values::{read_follow_options, read_publish_options};
@@ -62,8 +64,8 @@ fn number_or(standard: u32, found: &ArgMatches<'_>, name: &str, low: u32, high: 
     }
 }
 
-// Whether an option without a value was given.
-fn is_given(found: &ArgMatches<'_>, name: &str) -> bool
+/// Whether an option without a value was given.
+pub(crate) fn is_given(found: &ArgMatches<'_>, name: &str) -> bool
     ensures { result ≡ is_given name.now (rows_of (found_of found.now)) }
 {
     match text(found, name) {
@@ -103,19 +105,24 @@ fn read_serve_options<'a>(found: &ArgMatches<'a>) -> Option<ServeOptions<'a>>
     )?;
     let every = number(found, "tick-ms", 1, MAX_TICK_MILLIS)?;
     let serving = ServeOptions::new(nodes as u8, cap, dir, base as u16, every)?;
-    Some(serving.with_service(read_service_options(found)))
+    let doors = read_doors(found)?;
+    Some(
+        serving
+            .with_service(read_service_options(found))
+            .with_doors(doors),
+    )
 }
 
 #[tactic(auto, unfolding(crate::specs::Tasks::submit_task))]
 fn read_submit_options<'a>(found: &ArgMatches<'a>) -> Option<SubmitOptions<'a>>
     ensures { option_map task_of_submitting result ≡ submit_task (rows_of (found_of found.now)) }
 {
-    let port = number(found, "port", 1, 65_535)?;
+    let at = read_address(found)?;
     let client = number(found, "client", 1, 65_535)?;
     let number = number(found, "number", 0, 4_294_967_295)?;
     let text = text(found, "TEXT")?;
     Some(SubmitOptions {
-        port: port as u16,
+        at,
         client: client as u16,
         number,
         text,
@@ -123,42 +130,51 @@ fn read_submit_options<'a>(found: &ArgMatches<'a>) -> Option<SubmitOptions<'a>>
 }
 
 #[tactic(auto, unfolding(crate::specs::Tasks::read_task))]
-fn read_read_options(found: &ArgMatches<'_>) -> Option<ReadOptions>
+fn read_read_options<'a>(found: &ArgMatches<'a>) -> Option<ReadOptions<'a>>
     ensures { option_map task_of_reading result ≡ read_task (rows_of (found_of found.now)) }
 {
-    let port = number(found, "port", 1, 65_535)?;
+    let at = read_address(found)?;
     let from = number(found, "from", 1, 4_294_967_295)?;
     let max = number(found, "max", 1, MOST_ENTRIES as u32)?;
     Some(ReadOptions {
-        port: port as u16,
+        at,
         from,
         max: max as u8,
     })
 }
 
-// The nodes to ask: the one at the port, or all of a group. `None` if the options name neither, or
-// both.
-fn asked_nodes(port: Option<u32>, base: Option<u32>, nodes: Option<u32>) -> Option<StatusOptions>
+// The nodes to ask: the one at the port or the socket, or all of a group. `None` if the options
+// name none of these, or several.
+fn asked_nodes<'a>(
+    port: Option<u32>,
+    path: Option<&'a str>,
+    base: Option<u32>,
+    nodes: Option<u32>,
+) -> Option<StatusOptions<'a>>
     requires port { IfSome port (λ n. (1 ≤ n) × (n ≤ 65535)) }
     requires base { IfSome base (λ n. (MIN_BASE_PORT ≤ n) × (n ≤ MAX_BASE_PORT)) }
     requires nodes { IfSome nodes (λ n. (1 ≤ n) × (n ≤ MAX_NODES)) }
-    ensures { option_map task_of_asking result ≡ asked_nodes port base nodes }
+    ensures { option_map task_of_asking result
+        ≡ asked_nodes port (option_map (λ s. s.now) path.entry) base nodes }
 {
-    match (port, base, nodes) {
-        (Some(port), None, None) => Some(StatusOptions {
-            port: port as u16,
-            count: 1,
-        }),
-        (None, Some(base), Some(nodes)) => Some(StatusOptions {
-            port: base as u16 + CLIENT_PORT_OFFSET + 1,
-            count: nodes as u8,
-        }),
+    match (base, nodes) {
+        (None, None) => {
+            let at = choose_address(port, path)?;
+            Some(StatusOptions { at, count: 1 })
+        }
+        (Some(base), Some(nodes)) if port.is_none() && path.is_none() => {
+            let port = base as u16 + CLIENT_PORT_OFFSET + 1;
+            Some(StatusOptions {
+                at: NodeAddress::Port(port),
+                count: nodes as u8,
+            })
+        }
         _ => None,
     }
 }
 
 #[tactic(auto, unfolding(crate::specs::Tasks::status_task))]
-fn read_status_options(found: &ArgMatches<'_>) -> Option<StatusOptions>
+fn read_status_options<'a>(found: &ArgMatches<'a>) -> Option<StatusOptions<'a>>
     ensures { option_map task_of_asking result ≡ status_task (rows_of (found_of found.now)) }
 {
     let port = number(found, "port", 1, 65_535);
@@ -169,7 +185,7 @@ fn read_status_options(found: &ArgMatches<'_>) -> Option<StatusOptions>
         MAX_BASE_PORT as u32,
     );
     let nodes = number(found, "nodes", 1, MAX_NODES as u32);
-    asked_nodes(port, base, nodes)
+    asked_nodes(port, text(found, "socket"), base, nodes)
 }
 
 fn read_subcommand<'a>(name: &str, found: &ArgMatches<'a>) -> Option<Line<'a>>

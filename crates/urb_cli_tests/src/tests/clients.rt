@@ -9,11 +9,14 @@ use std::test::Fail;
 use std::thread;
 use std::thread::Threads;
 use urb_cli::{
-    CallFault, Fault, Printed, ReadOptions, SubmitOptions, read_at, read_over, show, status_at,
-    status_over, submit_at, submit_over,
+    CallFault, Fault, NodeAddress, Printed, ReadOptions, SubmitOptions, read_at, read_over, show,
+    status_at, status_over, submit_at, submit_over,
 };
 use urb_names::MAX_PAYLOAD;
 use urb_terminal::Terminal;
+
+/// The address of the node that a terminal is told of.
+const NODE: NodeAddress<'static> = NodeAddress::Port(7411);
 
 /// What client 7 submits as its first message.
 fn hi(port: u16) -> SubmitOptions<'static>
@@ -21,7 +24,7 @@ fn hi(port: u16) -> SubmitOptions<'static>
     ensures { length result.text.now ≤ MAX_PAYLOAD }
 {
     SubmitOptions {
-        port,
+        at: NodeAddress::Port(port),
         client: 7,
         number: 1,
         text: "hi",
@@ -29,11 +32,11 @@ fn hi(port: u16) -> SubmitOptions<'static>
 }
 
 /// The first page of a log.
-fn page(port: u16) -> ReadOptions
+fn page(port: u16) -> ReadOptions<'static>
     requires { 0 < port }
 {
     ReadOptions {
-        port,
+        at: NodeAddress::Port(port),
         from: 1,
         max: 8,
     }
@@ -140,7 +143,7 @@ fn what_is_shown_goes_to_standard_output(rt: HostRuntime) -> Result<(), Fail> {
     ] {
         let terminal = Terminal::new(rt.alloc(), &[], b"", open);
         let text = Vec::from_slice(rt.alloc(), b"refused 5 0\n")?;
-        let told = show(&terminal, 7411, Ok(Printed { text, status: 4 }));
+        let told = show(&terminal, NODE, Ok(Printed { text, status: 4 }));
         let shown = terminal.into_shown(told);
         assert!(rt; shown.is(status, output, errors, errors));
     }
@@ -176,7 +179,7 @@ fn a_fault_says_what_is_wrong(rt: HostRuntime) -> Result<(), Fail> {
         ),
     ] {
         let terminal = Terminal::new(rt.alloc(), &[], b"", true);
-        let told = show(&terminal, 7411, Err(fault));
+        let told = show(&terminal, NODE, Err(fault));
         let shown = terminal.into_shown(told);
         assert!(rt; shown.is(1, b"", line, line));
     }
@@ -214,14 +217,14 @@ fn a_state_is_shown_in_a_line(rt: HostRuntime) -> Result<(), Fail> {
     ] {
         let mut reader = sent;
         let mut written = Vec::new(rt.alloc());
-        let outcome = status_over(rt.alloc(), &mut reader, &mut written, 7411);
+        let outcome = status_over(rt.alloc(), &mut reader, &mut written, NODE);
         assert_eq!(rt; told(&outcome), Ok((text, status)));
         assert_eq!(rt; written.as_slice(), b"\x00\x01\x03".as_slice());
     }
     for sent in [b"".as_slice(), b"\x00\x01\x84", ACCEPTED, ENTRIES] {
         let mut reader = sent;
         let mut written = Vec::new(rt.alloc());
-        let outcome = status_over(rt.alloc(), &mut reader, &mut written, 7411);
+        let outcome = status_over(rt.alloc(), &mut reader, &mut written, NODE);
         assert_eq!(rt; told(&outcome), Err(Fault::BadReply));
     }
     Ok(())
@@ -272,7 +275,7 @@ fn read_beside<R>(
     alloc: Global,
     listener: &TcpListener,
     answer: &[u8],
-    reading: ReadOptions,
+    reading: ReadOptions<'_>,
 ) -> (Option<Vec<u8>>, Result<Printed, CallFault>)
 where
     R: Threads + Net<Listener = TcpListener, Stream = TcpStream> + Sync,
@@ -309,7 +312,7 @@ fn a_submit_goes_over_a_socket(rt: HostRuntime) -> Result<(), Fail> {
     let long = Vec::from_elem(rt.alloc(), b'x', MAX_PAYLOAD + 1)?;
     let text = str::from_utf8(long.as_slice()).or(Err("a text"))?;
     let submitting = SubmitOptions {
-        port,
+        at: NodeAddress::Port(port),
         client: 7,
         number: 1,
         text,
@@ -336,7 +339,7 @@ fn a_read_goes_over_a_socket(rt: HostRuntime) -> Result<(), Fail> {
     drop(listener);
     let outcome = read_at(&rt, rt.alloc(), page(port));
     assert_eq!(rt; told(&outcome), Err(CallFault::NobodyListens));
-    let outcome = status_at(&rt, rt.alloc(), port);
+    let outcome = status_at(&rt, rt.alloc(), NodeAddress::Port(port));
     assert_eq!(rt; told(&outcome), Err(CallFault::NobodyListens));
     Ok(())
 }

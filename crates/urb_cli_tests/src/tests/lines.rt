@@ -3,7 +3,7 @@
 use super::{WANTS_A_NETWORK, shown_by};
 use std::alloc::Global;
 use std::test::Fail;
-use urb_cli::{Errand, Line, VERSION, parse_line};
+use urb_cli::{Errand, Line, NodeAddress, VERSION, parse_line};
 use urb_terminal::Terminal;
 
 #[test]
@@ -306,7 +306,10 @@ fn a_line_has_its_values(rt: HostRuntime) -> Result<(), Fail> {
     ];
     match parse_line(&terminal, rt.alloc(), words.as_slice()) {
         Ok(Line::Errand(Errand::Submit(submitting))) => {
-            assert_eq!(rt; (submitting.port, submitting.client), (11, 7));
+            assert_eq!(rt;
+                (submitting.at, submitting.client),
+                (NodeAddress::Port(11), 7)
+            );
             assert_eq!(rt; (submitting.number, submitting.text), (2, "hi"));
         }
         _ => return Err("a message to submit")?,
@@ -314,7 +317,8 @@ fn a_line_has_its_values(rt: HostRuntime) -> Result<(), Fail> {
     let words = ["urbd", "read", "--port", "12", "--from", "3", "--max", "4"];
     match parse_line(&terminal, rt.alloc(), words.as_slice()) {
         Ok(Line::Errand(Errand::Read(reading))) => {
-            assert_eq!(rt; (reading.port, reading.from, reading.max), (12, 3, 4));
+            assert_eq!(rt; reading.at, NodeAddress::Port(12));
+            assert_eq!(rt; (reading.from, reading.max), (3, 4));
         }
         _ => return Err("entries to read")?,
     }
@@ -326,7 +330,7 @@ fn a_line_has_its_values(rt: HostRuntime) -> Result<(), Fail> {
         line.extend_from_slice(words)?;
         match parse_line(&terminal, rt.alloc(), line.as_slice()) {
             Ok(Line::Errand(Errand::Status(asking))) => {
-                assert_eq!(rt; (asking.port, asking.count), (port, count));
+                assert_eq!(rt; (asking.at, asking.count), (NodeAddress::Port(port), count));
             }
             _ => return Err("nodes to ask")?,
         }

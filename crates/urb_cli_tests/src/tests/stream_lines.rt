@@ -1,7 +1,7 @@
 //! The values of the command lines of `publish` and `follow`.
 
 use std::test::Fail;
-use urb_cli::{EntryForm, Errand, Line, parse_line};
+use urb_cli::{EntryForm, Errand, Line, NodeAddress, parse_line};
 use urb_terminal::Terminal;
 
 #[test]
@@ -13,7 +13,10 @@ fn a_publish_has_its_values(rt: HostRuntime) -> Result<(), Fail> {
         line.extend_from_slice(text)?;
         match parse_line(&terminal, rt.alloc(), line.as_slice()) {
             Ok(Line::Errand(Errand::Publish(publishing))) => {
-                assert_eq!(rt; (publishing.port, publishing.client), (7411, 7));
+                assert_eq!(rt;
+                    (publishing.at, publishing.client),
+                    (NodeAddress::Port(7411), 7)
+                );
                 assert_eq!(rt; publishing.text, wanted);
             }
             _ => return Err("messages to publish")?,
@@ -36,7 +39,10 @@ fn a_follow_has_its_values(rt: HostRuntime) -> Result<(), Fail> {
         line.extend_from_slice(options)?;
         match parse_line(&terminal, rt.alloc(), line.as_slice()) {
             Ok(Line::Errand(Errand::Follow(following))) => {
-                assert_eq!(rt; (following.port, following.from), (7411, from));
+                assert_eq!(rt;
+                    (following.at, following.from),
+                    (NodeAddress::Port(7411), from)
+                );
                 assert_eq!(rt; following.form, form);
             }
             _ => return Err("a log to follow")?,

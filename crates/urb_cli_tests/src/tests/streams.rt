@@ -5,8 +5,8 @@ ghost use Rattle.std.specs.Prelude.{⊤};
 use std::alloc::Global;
 use std::test::Fail;
 use urb_cli::{
-    CallFault, Caller, EntryForm, Fault, InputLines, OneText, StreamEnd, StreamFault, TRIES, Texts,
-    follow_over, publish_over, report_stream_end,
+    CallFault, Caller, EntryForm, Fault, InputLines, NodeAddress, OneText, StreamEnd, StreamFault,
+    TRIES, Texts, follow_over, publish_over, report_stream_end,
 };
 use urb_client::{Request, Response, encode_request, parse_response};
 use urb_names::MAX_PAYLOAD;
@@ -382,7 +382,7 @@ fn an_end_has_its_status(rt: HostRuntime) -> Result<(), Fail> {
         ),
     ] {
         let terminal = Terminal::new(rt.alloc(), &[], b"", true);
-        let status_told = report_stream_end(&terminal, 7411, outcome);
+        let status_told = report_stream_end(&terminal, NodeAddress::Port(7411), outcome);
         let shown = terminal.into_shown(status_told);
         assert_eq!(rt; shown.status, status);
         assert_eq!(rt; shown.errors.as_slice(), errors);

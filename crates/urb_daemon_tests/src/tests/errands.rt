@@ -10,7 +10,7 @@ use std::io::Lines;
 use std::net::{Ipv4Addr, Net, SocketAddr, TcpListener, TcpStream};
 use std::test::Fail;
 use std::time::{Clock, Duration};
-use urb_cli::{Errand, PublishOptions, ReadOptions, SubmitOptions, run_errand};
+use urb_cli::{Errand, NodeAddress, PublishOptions, ReadOptions, SubmitOptions, run_errand};
 use urb_terminal::{Shown, Terminal};
 use urb_worker::{Silent, Station, Watch};
 
@@ -126,7 +126,7 @@ fn submit(port: u16, number: u32, text: &str) -> Errand<'_>
     requires { 0 < port }
 {
     Errand::Submit(SubmitOptions {
-        port,
+        at: NodeAddress::Port(port),
         client: 7,
         number,
         text,
@@ -137,7 +137,11 @@ fn submit(port: u16, number: u32, text: &str) -> Errand<'_>
 fn read(port: u16, from: u32) -> Errand<'static>
     requires { (0 < port) × (0 < from) }
 {
-    Errand::Read(ReadOptions { port, from, max: 8 })
+    Errand::Read(ReadOptions {
+        at: NodeAddress::Port(port),
+        from,
+        max: 8,
+    })
 }
 
 // Texts that client 7 publishes: this one, or the lines of the input.
@@ -145,7 +149,7 @@ fn publish(port: u16, text: Option<&str>) -> Errand<'_>
     requires { 0 < port }
 {
     Errand::Publish(PublishOptions {
-        port,
+        at: NodeAddress::Port(port),
         client: 7,
         text,
     })

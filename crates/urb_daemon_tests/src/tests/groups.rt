@@ -6,6 +6,7 @@ ghost use Rattle.std.specs.Prelude.{◌≡◌, ◌<◌, ◌≤◌, IfSome, vec_l
 use std::alloc::Global;
 use std::io::{Read, Write};
 use std::net::{Ipv4Addr, Net, TcpListener, TcpStream, UdpSocket};
+use std::rt::Files;
 use std::test::Fail;
 use std::thread;
 use std::time::{Clock, Duration};
@@ -187,7 +188,7 @@ fn is_alone<R: Net<Listener = TcpListener, Stream = TcpStream>>(rt: &R, station:
 
 // Whether the stations of seven nodes above this base belong to their nodes, and can't be opened
 // twice. `None` if a port is in use.
-fn are_of_their_nodes<R: Net<Listener = TcpListener, Stream = TcpStream>>(
+fn are_of_their_nodes<R: Files + Net<Listener = TcpListener, Stream = TcpStream>>(
     rt: &R,
     alloc: Global,
     base: u16,
@@ -220,7 +221,7 @@ fn sockets_are_those_of_their_nodes_at_loopback_alone(rt: HostRuntime) -> Result
 
 // The limits of the clients of a group at these ports, if it opens them: the connections, the idle
 // time in minutes, and whether clients may crash it.
-fn limits_of<R: Net<Listener = TcpListener, Stream = TcpStream>>(
+fn limits_of<R: Files + Net<Listener = TcpListener, Stream = TcpStream>>(
     rt: &R,
     alloc: Global,
     base: u16,

@@ -5,9 +5,10 @@ use std::io;
 use std::io::Read;
 use std::net::{Net, TcpListener, TcpStream};
 use std::test::Fail;
-use urb_cli::{Fault, ServeOptions, SubmitOptions, submit_at};
+use urb_cli::{Fault, NodeAddress, ServeOptions, SubmitOptions, submit_at};
 use urb_daemon::{
-    Console, Host, NetworkFault, Port, ServeFault, fault_of_serve, report_end, run_stores,
+    Console, Host, NetworkFault, Port, ServeFault, SocketCause, fault_of_serve, report_end,
+    run_stores,
 };
 use urb_group::{MemStable, Record, Stable, StoreFault};
 use urb_names::{ClientId, Message, Name, NodeId, Refusal, Rule};
@@ -132,7 +133,7 @@ impl<'a, R: Net<Listener = TcpListener, Stream = TcpStream>> Read for Client<'a,
             && 0 < port
         {
             let submitting = SubmitOptions {
-                port,
+                at: NodeAddress::Port(port),
                 client: 7,
                 number: 1,
                 text: "hi",
@@ -294,6 +295,13 @@ fn an_end_is_told(rt: HostRuntime) -> Result<(), Fail> {
             1,
             b"",
             b"urbd: network failed: the program may not use UDP port 1025\n",
+        ),
+        (
+            Err(ServeFault::Network(NetworkFault::Socket(2, SocketCause::InUse))),
+            true,
+            1,
+            b"",
+            b"urbd: network failed: socket node-2.sock: a program that runs uses it\n",
         ),
         (
             Err(ServeFault::Network(NetworkFault::NoSocket(29))),

@@ -202,11 +202,11 @@ fn outlives_errors<R: Clock + Net<Listener = TcpListener, Stream = TcpStream>>(
     stations: &[Station],
 ) -> Option<bool> {
     let station = stations.first()?;
-    station.tcp.set_nonblocking(true).ok()?;
+    station.tcp.as_ref()?.set_nonblocking(true).ok()?;
     // The listener takes one more connection, and has errors after it.
     break_off(rt, station, b"\x00\x01\x03", &mut [0])?;
     thread::sleep(rt, Duration::from_millis(50));
-    station.tcp.set_nonblocking(false).ok()?;
+    station.tcp.as_ref()?.set_nonblocking(false).ok()?;
     serves_all_at_once(rt, alloc, station)
 }
 

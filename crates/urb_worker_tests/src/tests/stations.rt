@@ -12,7 +12,7 @@ fn is_at_loopback_alone<R: Net<Listener = TcpListener, Stream = TcpStream>>(
     station: &Station,
 ) -> Option<bool> {
     let udp = station.udp.local_addr().ok()?;
-    let tcp = station.tcp.local_addr().ok()?;
+    let tcp = station.tcp.as_ref()?.local_addr().ok()?;
     let other = Ipv4Addr::new(127, 0, 0, 2);
     Some(
         udp.port() == station.udp_port
@@ -28,7 +28,7 @@ fn has_woken(station: &Station) -> Option<bool> {
     station.udp.set_read_timeout(patience).ok()?;
     let mut room = [0u8; 8];
     let (length, _from) = station.udp.recv_from(&mut room).ok()?;
-    station.tcp.accept().ok()?;
+    station.tcp.as_ref()?.accept().ok()?;
     Some(length == 0)
 }
 

@@ -7,6 +7,7 @@ from collections.abc import AsyncIterator, Awaitable, Callable, Sequence
 from types import TracebackType
 from typing import Optional
 
+from urbd.addresses import Address
 from urbd.aio.node import Connection, Node, repeat
 from urbd.client import LONGEST_WAIT
 from urbd.constants import Refusal
@@ -24,7 +25,7 @@ class Publisher:
 
     def __init__(
         self,
-        port: int,
+        port: Address,
         client: int,
         path: str,
         *,
@@ -130,14 +131,14 @@ class Follower:
 
     def __init__(
         self,
-        ports: Sequence[int],
+        ports: Sequence[Address],
         position: Optional[Position] = None,
         *,
         timeout: float = TIMEOUT,
         least_pause: float = LEAST_PAUSE,
         most_pause: float = MOST_PAUSE,
         longest_wait: float = LONGEST_WAIT,
-        on_fault: Optional[Callable[[int, Exception], None]] = None,
+        on_fault: Optional[Callable[[Address, Exception], None]] = None,
     ) -> None:
         self.timeout, self.longest_wait, self.on_fault = timeout, longest_wait, on_fault
         self.least_pause, self.most_pause, self._pause = (
@@ -146,7 +147,7 @@ class Follower:
             least_pause,
         )
         self._reading = Reading(ports, position)
-        self._can_wait: dict[int, bool] = {}
+        self._can_wait: dict[Address, bool] = {}
         self._connection: Optional[Connection] = None
 
     @property
@@ -202,7 +203,7 @@ class Follower:
             await self.close()
         return entries
 
-    async def _ask(self, port: int, seconds: float) -> list[Entry]:
+    async def _ask(self, port: Address, seconds: float) -> list[Entry]:
         is_new = self._connection is None
         if self._connection is None:
             self._connection = await Connection(port, self.timeout).open()

@@ -7,6 +7,7 @@ from collections.abc import AsyncIterator, Awaitable, Callable, Sequence
 from types import TracebackType
 from typing import Optional, TypeVar
 
+from urbd.addresses import Address, name_of
 from urbd.constants import MOST_ENTRIES, Refusal
 from urbd.errors import BadReply, RefusedError
 from urbd.frames import (
@@ -114,9 +115,9 @@ class Requests(ABC):
 class Connection(Requests):
     """One connection to a node, opened by `async with`, or by `open`."""
 
-    def __init__(self, port: int, timeout: float = TIMEOUT, host: str = LOCALHOST) -> None:
+    def __init__(self, port: Address, timeout: float = TIMEOUT, host: str = LOCALHOST) -> None:
         self.port, self.timeout, self.host = port, timeout, host
-        self.address = f"{host}:{port}"
+        self.address = name_of(port, host)
         self._streams: Optional[tuple[asyncio.StreamReader, asyncio.StreamWriter]] = None
 
     async def open(self) -> Connection:
@@ -139,7 +140,10 @@ class Connection(Requests):
                 pass
 
     async def _open(self) -> None:
-        self._streams = await asyncio.open_connection(self.host, self.port)
+        if isinstance(self.port, str):
+            self._streams = await asyncio.open_unix_connection(self.port)
+        else:
+            self._streams = await asyncio.open_connection(self.host, self.port)
 
     async def _ask(self, requests: Sequence[Request]) -> list[Response]:
         if self._streams is None:
@@ -181,9 +185,10 @@ class Connection(Requests):
 
 
 class Node(Requests):
-    """One node, by its port for clients. Each call opens a connection and closes it."""
+    """One node, by its port for clients, or by the path of its socket. Each call opens a connection
+    and closes it."""
 
-    def __init__(self, port: int, timeout: float = TIMEOUT, host: str = LOCALHOST) -> None:
+    def __init__(self, port: Address, timeout: float = TIMEOUT, host: str = LOCALHOST) -> None:
         self.port, self.timeout, self.host = port, timeout, host
 
     async def ask(self, *requests: Request) -> list[Response]:

@@ -1,17 +1,14 @@
 use Rattle.std.proofs.Common.{rules, codes}
-use Rattle.clap.specs.Words.{new_app}
 use Rattle.std.proofs.lemmas.Result.{IfOk-weaker}
 use Rattle.urb_cli.proofs.BuiltCommands.{adds}
+use Rattle.urb_cli.specs.CommandLine.{client_app}
 use Rattle.urb_cli.proofs.command_line.grammar.status_command.Goals as goal
 
 pub returns : goal.returns
 returns c =
     let one =
-    adds _ _ _ (new_app (codes "status")) _ c.in_ok-arg.ensures
+    adds _ _ _ (client_app (codes "status")) _ c.in_ok-arg.ensures
     (search rules) c.optional_number.ensures.rule c.optional_number.ensures.own in
-    let two =
-    adds _ _ _ _ _ c.in_ok-arg-2.ensures one c.optional_number-2.ensures.rule
-    c.optional_number-2.ensures.own in
-    IfOk-weaker c.arg-3.result _ _
-    (λ made added. adds _ _ _ _ _ added two c.optional_number-3.ensures.rule
-    c.optional_number-3.ensures.own) c.arg-3.ensures
+    IfOk-weaker c.arg-2.result _ _
+    (λ made added. adds _ _ _ _ _ added one c.optional_number-2.ensures.rule
+    c.optional_number-2.ensures.own) c.arg-2.ensures
