@@ -107,7 +107,7 @@ module _ {S A : Type 0} (g : Ghosts S A) where
   -- a command, by its kind
   abbrev pub Applies : Clustered S → Command A → Reply → Clustered S → Type 0
   Applies old (command.Submit p client number payload) reply new =
-      Alone old (Submit p (record { client = client; number = number; payload = payload.items }))
+      Alone old (Submit p (record { client = client; number = number; payload = payload }))
       reply new
   Applies old (command.Arrive p bytes) reply new =
       Alone old (Arrive p (packet_of bytes.items)) reply new

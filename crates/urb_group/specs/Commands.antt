@@ -31,7 +31,7 @@ is_no_memory _ = false
 -- it has some image.
 abbrev pub IsEventOf : {A : Type 0} → Command A → Event → Type 0
 IsEventOf (command.Submit p client number payload) event =
-    event ≡ Submit p (record { client = client; number = number; payload = payload.items })
+    event ≡ Submit p (record { client = client; number = number; payload = payload })
 IsEventOf (command.Arrive p bytes) event = event ≡ Arrive p (packet_of bytes.items)
 IsEventOf (command.Tick p) event = event ≡ Tick p
 IsEventOf (command.Store p) event =

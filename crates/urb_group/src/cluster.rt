@@ -22,7 +22,7 @@ use crate::stores::{
 use crate::{Command, Group, Reply};
 use std::alloc::Allocator;
 use std::marker::Model;
-use urb_names::{ClientId, Config, NoMemory, NodeId};
+use urb_names::{ClientId, Config, NoMemory, NodeId, Payload};
 use urb_stable::{Draft, Failure, MemStable, Stable};
 
 /// All nodes of a group, each with its store, and the drafts that they hold.
@@ -112,7 +112,7 @@ impl<S: Stable> Cluster<S> {
         node: NodeId,
         client: ClientId,
         number: u32,
-        payload: &[u8],
+        payload: &Payload<S::Alloc>,
     ) -> Reply<S::Alloc>
         ensures { Alone self.old
             (Submit node (record { client = client; number = number; payload = payload.now }))

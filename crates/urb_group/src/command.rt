@@ -1,7 +1,7 @@
 //! The commands of a cluster.
 
 use std::alloc::{Allocator, Global};
-use urb_names::{ClientId, NodeId};
+use urb_names::{ClientId, NodeId, Payload};
 
 /// One thing that happens at a node of a cluster.
 #[derive(Drop)]
@@ -12,7 +12,7 @@ pub enum Command<A: Allocator = Global> {
         node: NodeId,
         client: ClientId,
         number: u32,
-        payload: Vec<u8, A>,
+        payload: Payload<A>,
     },
     /// Bytes come to a node: any bytes.
     Arrive {

@@ -8,8 +8,7 @@ ghost use Rattle.urb_group.specs.World.{started};
 
 use crate::Taken;
 use crate::node_moves::{
-    Node, commit_at, crash_at, fail_at, place_of, put_back, restart_at, submit_at,
-    submit_sharing_at, tick_at,
+    Node, commit_at, crash_at, fail_at, move_node, place_of, restart_at, submit_at, tick_at,
 };
 use crate::shared_payloads::share_image;
 use std::alloc::{Allocator, Global};
@@ -56,35 +55,13 @@ impl<A: Allocator + Copy> Group<A> {
     }
 
     /// Submits a client's message to a node for broadcast, with the client's next number at this
-    /// node.
+    /// node. The node's message shares the memory of the payload.
     ///
     /// `BadNode`: the group has no such node. `Down`, `Busy`: ask again when the node is up, or has
     /// stored its record. `TooLong`: the payload has over `MAX_PAYLOAD` bytes. `Conflict`: the
     /// number was used with another payload. `Gap`: the number isn't the next one; the refusal says
     /// which is. `Full`: the node has broadcast as many messages as it may. `NoMemory`: ask again.
     pub fn submit(
-        &mut self,
-        alloc: A,
-        node: NodeId,
-        client: ClientId,
-        number: u32,
-        payload: &[u8],
-    ) -> Result<Taken<A>, Refusal>
-        ensures { Takes self.old node
-            (Submit node (record { client = client; number = number; payload = payload.now }))
-            result self.new }
-    {
-        let Some(at) = place_of(self.config, node) else {
-            return Err(Refusal::BadNode);
-        };
-        let (moved, taken) = submit_at(self.nodes.remove(at), alloc, client, number, payload);
-        put_back(&mut self.nodes, at, moved);
-        taken
-    }
-
-    /// Does the same, with the same refusals, but the node's message shares the memory of the
-    /// payload.
-    pub fn submit_sharing(
         &mut self,
         alloc: A,
         node: NodeId,
@@ -99,10 +76,9 @@ impl<A: Allocator + Copy> Group<A> {
         let Some(at) = place_of(self.config, node) else {
             return Err(Refusal::BadNode);
         };
-        let current = self.nodes.remove(at);
-        let (moved, taken) = submit_sharing_at(current, alloc, client, number, payload);
-        put_back(&mut self.nodes, at, moved);
-        taken
+        move_node(&mut self.nodes, at, |current| {
+            submit_at(current, alloc, client, number, payload)
+        })
     }
 
     /// Takes the receipt for a draft: the node's store has kept the draft's record. The node goes
@@ -116,9 +92,7 @@ impl<A: Allocator + Copy> Group<A> {
         let Some(at) = place_of(self.config, receipt.node()) else {
             return Err((receipt, Refusal::BadNode));
         };
-        let (moved, done) = commit_at(self.nodes.remove(at), receipt);
-        put_back(&mut self.nodes, at, moved);
-        done
+        move_node(&mut self.nodes, at, |current| commit_at(current, receipt))
     }
 
     /// Takes the doubt about a draft: the node's store may or may not have kept the draft's record.
@@ -132,9 +106,7 @@ impl<A: Allocator + Copy> Group<A> {
         let Some(at) = place_of(self.config, doubt.node()) else {
             return Err(Refusal::BadNode);
         };
-        let (moved, done) = fail_at(self.nodes.remove(at));
-        put_back(&mut self.nodes, at, moved);
-        done
+        move_node(&mut self.nodes, at, fail_at)
     }
 
     /// Makes a node send pending messages again, as on each timeout of its links.
@@ -147,9 +119,7 @@ impl<A: Allocator + Copy> Group<A> {
         let Some(at) = place_of(self.config, node) else {
             return Err(Refusal::BadNode);
         };
-        let (moved, sent) = tick_at(self.nodes.remove(at), alloc);
-        put_back(&mut self.nodes, at, moved);
-        sent
+        move_node(&mut self.nodes, at, |current| tick_at(current, alloc))
     }
 
     /// Stops a node, which loses what it has not stored. Allocates no memory.
@@ -161,9 +131,7 @@ impl<A: Allocator + Copy> Group<A> {
         let Some(at) = place_of(self.config, node) else {
             return Err(Refusal::BadNode);
         };
-        let (moved, done) = crash_at(self.nodes.remove(at));
-        put_back(&mut self.nodes, at, moved);
-        done
+        move_node(&mut self.nodes, at, crash_at)
     }
 
     /// Brings a node up again with all the records that its storage returned. The node sends
@@ -185,8 +153,10 @@ impl<A: Allocator + Copy> Group<A> {
             return Err(Refusal::BadNode);
         };
         let shared = share_image(&self.nodes, alloc, image);
-        let (moved, done) = restart_at(self.nodes.remove(at), alloc, shared);
-        put_back(&mut self.nodes, at, moved);
-        done
+        move_node(
+            &mut self.nodes,
+            at,
+            |current| restart_at(current, alloc, shared),
+        )
     }
 }

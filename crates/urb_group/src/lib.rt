@@ -54,7 +54,7 @@ pub use reply::Reply;
 pub use state::State;
 pub use taken::Taken;
 pub use urb_names::{
-    ClientId, Config, Message, Name, NoMemory, NodeId, PacketFault, Refusal, Rule,
+    ClientId, Config, Message, Name, NoMemory, NodeId, PacketFault, Payload, Refusal, Rule,
 };
 pub use urb_node::{Answer, Done};
 pub use urb_stable::{Doubt, Draft, Failure, MemStable, Receipt, Record, Stable, StoreFault};

@@ -1,10 +1,9 @@
 //! The nodes of a group, each in its place. A call moves a node to its next state, or leaves it.
 
-ghost use Rattle.std.specs.Prelude.{◌<◌, ◌≡◌, ◌≤◌, suc, vec_capacity, vec_len};
-ghost use Rattle.std.specs.List.{insert};
+ghost use Rattle.std.specs.Prelude.{◌<◌, ◌≡◌, Some, length, slice_get, suc};
 ghost use Rattle.std.specs.Option.{ForSome, MatchOption};
 ghost use Rattle.urb_group.specs.internal.Moving.{ArrivesAt, CommitsAt, CrashesAt, FailsAt};
-ghost use Rattle.urb_group.specs.internal.Moving.{MayReach};
+ghost use Rattle.urb_group.specs.internal.Moving.{MayReach, MovesNode};
 ghost use Rattle.urb_group.specs.internal.Moving.{RestartsAt, SubmitsAt, TicksAt, after_step};
 
 use crate::Taken;
@@ -34,13 +33,20 @@ pub(crate) enum Node<A: Allocator = Global> {
     Down(Down<A>),
 }
 
-/// Puts a node back into the place that it was taken from.
-pub(crate) fn put_back<A: Allocator>(nodes: &mut Vec<Node<A>, A>, at: usize, node: Node<A>)
-    requires within { at ≤ vec_len nodes.old }
-    requires room { vec_len nodes.old < vec_capacity nodes.old }
-    ensures { nodes.new.items ≡ insert nodes.old.items at node }
+/// Moves the node in one place: takes it out, applies a step to it, and puts it back. Returns what
+/// the step gives.
+pub(crate) fn move_node<N, T, A: Allocator, F: FnOnce(N) -> (N, T)>(
+    nodes: &mut Vec<N, A>,
+    at: usize,
+    step: F,
+) -> T
+    requires within { at < length nodes.old.items }
+    requires callable { (node : _) → slice_get nodes.old.items at ≡ Some node → F.pre step node }
+    ensures { MovesNode (F.post step) at nodes.old.items result nodes.new.items }
 {
-    nodes.insert(at, node).unwrap();
+    let (moved, told) = step(nodes.remove(at));
+    nodes.insert(at, moved).unwrap();
+    told
 }
 
 // Returns the node after a ready node's step, with what the step gives.
@@ -62,31 +68,13 @@ pub(crate) fn submit_at<A: Allocator + Copy>(
     alloc: A,
     client: ClientId,
     number: u32,
-    payload: &[u8],
-) -> (Node<A>, Result<Taken<A>, Refusal>)
-    ensures { SubmitsAt node (record { client = client; number = number; payload = payload.now })
-        result }
-{
-    match node {
-        Node::Ready(ready) => node_after(ready.submit(alloc, client, number, payload)),
-        Node::Storing(storing) => (Node::Storing(storing), Err(Refusal::Busy)),
-        Node::Down(down) => (Node::Down(down), Err(Refusal::Down)),
-    }
-}
-
-/// Does the same, but the node's message shares the memory of the payload.
-pub(crate) fn submit_sharing_at<A: Allocator + Copy>(
-    node: Node<A>,
-    alloc: A,
-    client: ClientId,
-    number: u32,
     payload: &Payload<A>,
 ) -> (Node<A>, Result<Taken<A>, Refusal>)
     ensures { SubmitsAt node (record { client = client; number = number; payload = payload.now })
         result }
 {
     match node {
-        Node::Ready(ready) => node_after(ready.submit_sharing(alloc, client, number, payload)),
+        Node::Ready(ready) => node_after(ready.submit(alloc, client, number, payload)),
         Node::Storing(storing) => (Node::Storing(storing), Err(Refusal::Busy)),
         Node::Down(down) => (Node::Down(down), Err(Refusal::Down)),
     }
@@ -111,7 +99,7 @@ pub(crate) fn arrive_at<A: Allocator + Copy>(
             if !is_truthful {
                 return (Node::Ready(ready), Err(Refusal::Forged));
             }
-            node_after(ready.arrive_sharing(alloc, packet, known))
+            node_after(ready.arrive(alloc, packet, known))
         }
         Node::Storing(storing) => (Node::Storing(storing), Err(Refusal::Busy)),
         Node::Down(down) => (Node::Down(down), Err(Refusal::Down)),

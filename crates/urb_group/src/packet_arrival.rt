@@ -1,15 +1,16 @@
 //! The arrival of a packet at a group.
 
-ghost use Rattle.std.specs.Prelude.{◌≡◌, false, MatchOption};
+ghost use Rattle.std.specs.Prelude.{◌≡◌, false, is_some, MatchOption};
 ghost use Rattle.std.specs.Bool.{MatchBool};
 ghost use Rattle.std.specs.Option.{ForSome};
 ghost use Rattle.urb_names.specs.Packets.{packet_of};
 ghost use Rattle.urb_group.specs.Calls.{Takes};
+ghost use Rattle.urb_group.specs.internal.Moving.{ArrivesAt, MayReach};
 ghost use Rattle.urb_group.specs.internal.Reaching.{AreEnds, HoldsPair, IsAsCertified, TellsTruth};
 ghost use Rattle.urb_group.specs.internal.Reaching.{is_for_node};
 ghost use Rattle.urb_group.specs.Step.{Arrive};
 
-use crate::node_moves::{Node, arrive_at, place_of, put_back};
+use crate::node_moves::{Node, arrive_at, move_node, place_of};
 use crate::{Group, Taken};
 use std::alloc::Allocator;
 use urb_names::{Config, Message, NodeId, PacketView, Refusal, parse};
@@ -39,14 +40,19 @@ fn is_carried<A: Allocator>(message: &Message<A>, packet: &PacketView<'_>) -> bo
         && message.payload() == packet.payload()
 }
 
-// Says whether a node has stored the message that a packet carries, under its name.
-fn holds_pair<A: Allocator + Copy>(node: &Node<A>, packet: &PacketView<'_>) -> bool
-    ensures { HoldsPair node.now packet.now result }
+// Returns the message that a node has stored under a packet's name, if the packet carries the same.
+fn find_carried<'n, A: Allocator + Copy>(
+    node: &'n Node<A>,
+    packet: &PacketView<'_>,
+) -> Option<&'n Message<A>>
+    ensures same { ForSome result (λ m. m.now ≡ packet.now.message) }
+    ensures held { HoldsPair node.now packet.now (is_some result) }
 {
-    match node.message(packet.name()) {
-        Some(message) => is_carried(message, packet),
-        None => false,
+    let message = node.message(packet.name())?;
+    if !is_carried(message, packet) {
+        return None;
     }
+    Some(message)
 }
 
 // Says whether a node has stored a certificate of a packet's name, if the packet claims one.
@@ -59,27 +65,20 @@ fn is_as_certified<A: Allocator + Copy>(node: &Node<A>, packet: &PacketView<'_>)
     }
 }
 
-// Says whether a node's storage confirms what a packet claims.
-fn tells_truth<A: Allocator + Copy>(node: &Node<A>, packet: &PacketView<'_>) -> bool
-    ensures { TellsTruth node.now packet.now result }
-{
-    holds_pair(node, packet) && is_as_certified(node, packet)
-}
-
-// Returns the message that a packet carries, sharing the payload that the packet's source has
-// stored. `None` if the source holds another message, or if sharing fails.
-fn share_stored<A: Allocator + Copy>(
+// Says whether a node's storage confirms what a packet claims. Also returns the packet's message,
+// sharing the payload that the node has stored, if the node has stored it and sharing works.
+fn confirm_packet<A: Allocator + Copy>(
     alloc: A,
     node: &Node<A>,
     packet: &PacketView<'_>,
-) -> Option<Message<A>>
-    ensures { ForSome result (λ m. m ≡ packet.now.message) }
+) -> (bool, Option<Message<A>>)
+    ensures truth { TellsTruth node.now packet.now result.0 }
+    ensures known { ForSome result.1 (λ m. m ≡ packet.now.message) }
 {
-    let message = node.message(packet.name())?;
-    if !is_carried(message, packet) {
-        return None;
-    }
-    message.share(alloc).ok()
+    let Some(message) = find_carried(node, packet) else {
+        return (false, None);
+    };
+    (is_as_certified(node, packet), message.share(alloc).ok())
 }
 
 impl<A: Allocator + Copy> Group<A> {
@@ -98,10 +97,15 @@ impl<A: Allocator + Copy> Group<A> {
         let Some((source, at)) = ends_of(self.config, node, &packet) else {
             return Err(Refusal::BadNode);
         };
-        let is_truthful = tells_truth(&self.nodes[source], &packet);
-        let known = share_stored(alloc, &self.nodes[source], &packet);
-        let (moved, taken) = arrive_at(self.nodes.remove(at), alloc, packet, known, is_truthful);
-        put_back(&mut self.nodes, at, moved);
-        taken
+        let (is_truthful, known) = confirm_packet(alloc, &self.nodes[source], &packet);
+        move_node(
+            &mut self.nodes,
+            at,
+            |current|
+                requires { MayReach current packet is_truthful
+                    × ForSome known (λ m. m ≡ packet.message) }
+                ensures { ArrivesAt current packet.entry is_truthful result }
+            { arrive_at(current, alloc, packet, known, is_truthful) },
+        )
     }
 }

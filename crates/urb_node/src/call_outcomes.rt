@@ -21,7 +21,6 @@ use crate::Answer;
 use crate::cause::{Cause, cause_of, certified_source};
 use crate::heard_certificates::{hear_packet, says_certified};
 use crate::held::Held;
-use crate::submission::submitted_message;
 use std::alloc::{Allocator, Global};
 use urb_majority::Acks;
 use urb_names::{
@@ -177,18 +176,16 @@ fn answer_repeat<A: Allocator + Copy>(
     }
 }
 
-/// The outcome of a submit: the checks of a submit at a ready node, in their order. `shared` is the
-/// same payload, if it is in shared memory.
+/// The outcome of a submit: the checks of a submit at a ready node, in their order. The message
+/// shares the payload.
 pub(crate) fn judge_submit<A: Allocator + Copy>(
     held: &mut Held<A>,
     alloc: A,
     client: ClientId,
     number: u32,
-    payload: &[u8],
-    shared: &Option<Payload<A>>,
+    payload: &Payload<A>,
 ) -> Result<Found<A>, Refusal>
     requires kept { IsHeld held.old }
-    requires shared { ForSome shared.now (λ p. p ≡ payload.now) }
     ensures kept { IsHeld held.new }
     ensures same { IsSameNode (memory_of held.old) (memory_of held.new) }
     ensures wanted { IfOk result (λ found. IsFoundIn held.new found) }
@@ -197,11 +194,12 @@ pub(crate) fn judge_submit<A: Allocator + Copy>(
         (record { client = client; number = number; payload = payload.now })) result
         (memory_of held.new) }
 {
-    if payload.len() > MAX_PAYLOAD {
+    let bytes = payload.as_slice();
+    if bytes.len() > MAX_PAYLOAD {
         return Err(Refusal::TooLong);
     }
     if let Some(name) = held.pending.find(client, number) {
-        return answer_repeat(held, name, client, number, payload);
+        return answer_repeat(held, name, client, number, bytes);
     }
     let next = held.pending.client_next(client);
     if number != next {
@@ -217,7 +215,7 @@ pub(crate) fn judge_submit<A: Allocator + Copy>(
         sender: held.node,
         seq: own + 1,
     };
-    let message = submitted_message(alloc, client, number, payload, shared)?;
+    let message = Message::sharing(alloc, client, number, payload)?;
     let is_certified = is_majority(1, held.config.n());
     Ok(Found::New(make_wanted(held, alloc, name, message, is_certified, None)?))
 }

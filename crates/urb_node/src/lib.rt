@@ -4,7 +4,7 @@
 //!
 //! ```text
 //! let ready = Ready::new(alloc, config, node)?;
-//! match ready.submit(alloc, client, number, payload)? {  // or arrive(alloc, packet)
+//! match ready.submit(alloc, client, number, payload)? {  // or arrive(alloc, packet, known)
 //!     Step::Same(ready, answer) => ..,                   // nothing has to be stored
 //!     Step::Store(storing, draft) => ..,                 // the caller's store must keep the draft first
 //! }
@@ -33,7 +33,6 @@ mod queries;
 mod ready;
 mod step;
 mod storing;
-mod submission;
 
 pub use answer::Answer;
 pub use down::Down;

@@ -108,27 +108,10 @@ impl<A: Allocator + Copy> Ready<A> {
         })
     }
 
-    /// Takes a client's message, up to its store. This is the broadcast of the textbook's
-    /// majority-ack algorithm with logging (section 3.7), under the node's next number (broadcast
-    /// with sequence number, section 3.9).
+    /// Takes a client's message, up to its store. The node's message shares the memory of the
+    /// payload. This is the broadcast of the textbook's majority-ack algorithm with logging
+    /// (section 3.7), under the node's next number (broadcast with sequence number, section 3.9).
     pub fn submit(
-        self,
-        alloc: A,
-        client: ClientId,
-        number: u32,
-        payload: &[u8],
-    ) -> Result<Step<A>, (Ready<A>, Refusal)>
-        ensures event { Submits self
-            (record { client = client; number = number; payload = payload.now }) result }
-
-        // After a refusal the node is as it was, whichever world it shows, if any.
-        ensures refused { IfErr result (λ e. e.0 ≡ self) }
-    {
-        self.take_submit(alloc, client, number, payload, &None)
-    }
-
-    /// Does the same, but the node's message shares the memory of the payload.
-    pub fn submit_sharing(
         self,
         alloc: A,
         client: ClientId,
@@ -141,55 +124,20 @@ impl<A: Allocator + Copy> Ready<A> {
         // After a refusal the node is as it was, whichever world it shows, if any.
         ensures refused { IfErr result (λ e. e.0 ≡ self) }
     {
-        let shared = payload.share(alloc).ok();
-        self.take_submit(alloc, client, number, payload.as_slice(), &shared)
-    }
-
-    // Takes a client's message, up to its store. `shared` is the same payload, if it is in shared
-    // memory: then the node's message shares that.
-    fn take_submit(
-        self,
-        alloc: A,
-        client: ClientId,
-        number: u32,
-        payload: &[u8],
-        shared: &Option<Payload<A>>,
-    ) -> Result<Step<A>, (Ready<A>, Refusal)>
-        requires shared { ForSome shared.now (λ p. p ≡ payload.now) }
-        ensures event { Submits self
-            (record { client = client; number = number; payload = payload.now }) result }
-        ensures refused { IfErr result (λ e. e.0 ≡ self) }
-    {
         let Ready { mut held } = self;
         // Only the proof needs this call: it states the invariant of the pending pairs.
         held.pending.recall();
-        match judge_submit(&mut held, alloc, client, number, payload, shared) {
+        match judge_submit(&mut held, alloc, client, number, payload) {
             Ok(found) => Ok(step_of(held, found)),
             Err(refusal) => Err((Ready { held }, refusal)),
         }
     }
 
     /// Takes a packet of another node of the group, up to its store; its source holds the message.
-    /// This is the delivery of a stubborn best-effort broadcast in the textbook's majority-ack
-    /// algorithm with logging (section 3.7).
-    pub fn arrive(self, alloc: A, packet: PacketView<'_>) -> Result<Step<A>, (Ready<A>, Refusal)>
-        requires { IsForNode self packet }
-        ensures event { Arrives self packet.entry.source packet.entry.name packet.entry.message
-            packet.entry.flags result }
-
-        // Its answer carries one of the node's stored pairs, with the node as its source.
-        ensures memory { IfOk result AnswersFrom }
-        ensures stored { IfOk result AnswersOfStored }
-
-        // After a refusal the node is as it was, whichever world it shows, if any.
-        ensures refused { IfErr result (λ e. e.0 ≡ self) }
-    {
-        self.arrive_sharing(alloc, packet, None)
-    }
-
-    /// Does the same, but shares the payload of `known` if the caller has another message with the
-    /// same content.
-    pub fn arrive_sharing(
+    /// The node shares the payload of `known` if the caller has another message with the same
+    /// content. This is the delivery of a stubborn best-effort broadcast in the textbook's
+    /// majority-ack algorithm with logging (section 3.7).
+    pub fn arrive(
         self,
         alloc: A,
         packet: PacketView<'_>,

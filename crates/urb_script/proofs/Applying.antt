@@ -34,7 +34,7 @@ use Rattle.std.specs.List.{All}
 use Rattle.std.proofs.lemmas.Option.{slice_get_within}
 use Rattle.urb_group.specs.Shown.{Shows}
 use Rattle.urb_group.specs.World.{started}
-use Rattle.urb_script.specs.declared.answer_words.Told.TheVariants as told
+use Rattle.urb_script.specs.declared.answer_words.FixedAnswer.TheVariants as told
 use Rattle.urb_names.specs.Carried.{Carried}
 use Rattle.urb_names.specs.declared.refusal.PacketFault.{PacketFault}
 use Rattle.urb_names.specs.Packets.{IsPacket, packet_of, spelling}

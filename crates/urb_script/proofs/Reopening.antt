@@ -31,7 +31,7 @@ use Rattle.urb_script.proofs.Telling.{node_within}
 use Rattle.urb_script.specs.internal.Staged.{IsHeldBy, ShowsScene}
 use Rattle.urb_script.specs.Steps.{Takes, reopens}
 use Rattle.urb_script.specs.Texts.{told_text}
-use Rattle.urb_script.specs.declared.answer_words.Told.TheVariants as told
+use Rattle.urb_script.specs.declared.answer_words.FixedAnswer.TheVariants as told
 
 some_same : {X : Type 0} {x y : X} → Some x ≡ Some y → x ≡ y
 some_same e = cc

@@ -20,7 +20,7 @@ use Rattle.urb_group.specs.Scenes.{Scene, flags_with, keeping, or_nothing, recei
 use Rattle.urb_script.specs.Commands.{Command, Group, Submit, Stored, Fail, Crash, Restart, Arrive}
 use Rattle.urb_script.specs.Commands.{ArriveFlagged, Raw, Tick, Log, Held, Reopen}
 use Rattle.urb_script.specs.Texts.{told_text, reply_text, log_text, held_text}
-use Rattle.urb_script.specs.declared.answer_words.Told.TheVariants as told
+use Rattle.urb_script.specs.declared.answer_words.FixedAnswer.TheVariants as told
 
 -- the scene of a new group
 abbrev pub new_scene : Limits → Scene

@@ -18,8 +18,8 @@ use Rattle.urb_node.specs.Replies as reply
 use Rattle.urb_stable.specs.Entries.{Entry}
 use Rattle.urb_stable.specs.Log.{entries}
 use Rattle.urb_script.specs.Wording.{payload_word, name_text}
-use Rattle.urb_script.specs.declared.answer_words.Told.{Told}
-use Rattle.urb_script.specs.declared.answer_words.Told.TheVariants as told
+use Rattle.urb_script.specs.declared.answer_words.FixedAnswer.{FixedAnswer}
+use Rattle.urb_script.specs.declared.answer_words.FixedAnswer.TheVariants as told
 
 -- a fault of a packet's bytes, as a word
 abbrev pub fault_word : PacketFault → List ℕ
@@ -62,7 +62,7 @@ refusal_words (refusal.BadLine line) = []
 refusal_words (refusal.Frame code) = []
 
 -- the answer lines in fixed words, without their LF
-abbrev pub told_text : Told → List ℕ
+abbrev pub told_text : FixedAnswer → List ℕ
 told_text (told.Grouped limits) = codes "group " ++ (decimal limits.n ++ (32 ∷ decimal limits.cap))
 told_text (told.Drafted x position) =
     codes "draft " ++ (name_text x ++ (codes " at " ++ decimal position))

@@ -10,7 +10,7 @@ use urb_names::{Config, Name, NoMemory, NodeId, PacketFault, Refusal, Rule};
 
 /// An answer in fixed words to a command.
 #[derive(Clone, Copy)]
-pub enum Told {
+pub enum FixedAnswer {
     /// The group is made.
     Grouped(Config),
     /// A node holds a record under this name, for this position of its storage.
@@ -137,7 +137,7 @@ impl fmt::Display for RefusalWords {
     }
 }
 
-impl fmt::Display for Told {
+impl fmt::Display for FixedAnswer {
     ghost use Rattle.urb_script.specs.Texts.{told_text};
     ghost use Rattle.std.specs.Prelude.{Some};
 
@@ -145,32 +145,32 @@ impl fmt::Display for Told {
 
     fn fmt<W: fmt::Write>(&self, f: &mut fmt::Formatter<W>) -> fmt::Result {
         match self {
-            Told::Grouped(config) => {
+            FixedAnswer::Grouped(config) => {
                 let n = config.n();
                 let cap = config.cap();
                 write!(f, "group {n} {cap}")
             }
-            Told::Drafted { name, position } => {
+            FixedAnswer::Drafted { name, position } => {
                 let name = NameWord(*name);
                 write!(f, "draft {name} at {position}")
             }
-            Told::Accepted(name) => {
+            FixedAnswer::Accepted(name) => {
                 let name = NameWord(*name);
                 write!(f, "accepted {name}")
             }
-            Told::Noted(name) => {
+            FixedAnswer::Noted(name) => {
                 let name = NameWord(*name);
                 write!(f, "noted {name}")
             }
-            Told::Again(name) => {
+            FixedAnswer::Again(name) => {
                 let name = NameWord(*name);
                 write!(f, "again {name}")
             }
-            Told::Answered(name) => {
+            FixedAnswer::Answered(name) => {
                 let name = NameWord(*name);
                 write!(f, "answered {name}")
             }
-            Told::Stored {
+            FixedAnswer::Stored {
                 name,
                 sent,
                 released,
@@ -178,7 +178,7 @@ impl fmt::Display for Told {
                 let name = NameWord(*name);
                 write!(f, "accepted {name} sent {sent} released {released}")
             }
-            Told::Taken {
+            FixedAnswer::Taken {
                 name,
                 sent,
                 released,
@@ -186,16 +186,16 @@ impl fmt::Display for Told {
                 let name = NameWord(*name);
                 write!(f, "taken {name} sent {sent} released {released}")
             }
-            Told::Down(node) => {
+            FixedAnswer::Down(node) => {
                 let node = node.number();
                 write!(f, "down {node}")
             }
-            Told::Up(node) => {
+            FixedAnswer::Up(node) => {
                 let node = node.number();
                 write!(f, "up {node}")
             }
-            Told::Opened => write!(f, "open"),
-            Told::Refused(refusal) => {
+            FixedAnswer::Opened => write!(f, "open"),
+            FixedAnswer::Refused(refusal) => {
                 let words = RefusalWords(*refusal);
                 write!(f, "refused {words}")
             }
@@ -209,7 +209,7 @@ pub(crate) fn refused_write(_: io::Error) -> NoMemory {
 }
 
 /// Writes an answer at the end of a text.
-pub fn push_told<A: Allocator>(text: &mut Vec<u8, A>, reply: Told) -> Result<(), NoMemory>
+pub fn push_told<A: Allocator>(text: &mut Vec<u8, A>, reply: FixedAnswer) -> Result<(), NoMemory>
     ensures { OnOk result (text.new.items ≡ text.old.items ++ told_text reply) }
 {
     write!(text, "{reply}").map_err(refused_write)

@@ -12,7 +12,7 @@ use urb_names::{MAX_PACKET, MAX_PAYLOAD};
 
 /// The reader failed.
 #[derive(Clone, Copy)]
-pub struct ReadFailed;
+pub struct InputFailed;
 
 /// The longest line, in bytes, without its LF: two hexadecimal digits for each byte of the longest
 /// payload, and as much again.
@@ -38,7 +38,7 @@ pub enum LineRead {
 }
 
 // Returns the next byte, or `None` at the end. A read that a signal interrupts is tried again.
-fn read_byte<R: Read>(reader: &mut R) -> Result<Option<u8>, ReadFailed>
+fn read_byte<R: Read>(reader: &mut R) -> Result<Option<u8>, InputFailed>
     ensures bytes { IfOk result
         (λ next. Consumes (R.remaining reader.old) (R.remaining reader.new) (option_to_list next)) }
     ensures end { IfOk result (λ next. next ≡ None → IsAtEnd (R.remaining reader.new)) }
@@ -51,19 +51,19 @@ fn read_byte<R: Read>(reader: &mut R) -> Result<Option<u8>, ReadFailed>
             Ok(_) => return Ok(Some(byte[0])),
             Err(error) => {
                 if error.kind() != ErrorKind::Interrupted {
-                    return Err(ReadFailed);
+                    return Err(InputFailed);
                 }
             }
         }
     }
-    Err(ReadFailed)
+    Err(InputFailed)
 }
 
 /// Reads a line into `line`, which has room for it. Reads nothing of the line after it.
 pub fn read_line<R: Read, A: Allocator>(
     reader: &mut R,
     line: &mut Vec<u8, A>,
-) -> Result<LineRead, ReadFailed>
+) -> Result<LineRead, InputFailed>
     requires { TOO_LONG ≤ vec_capacity line.old }
     ensures line { IfOk result
         (λ read. ReadsLine (R.remaining reader.old) (R.remaining reader.new) line.new.items read) }

@@ -13,9 +13,9 @@ mod answer_words;
 mod commands;
 mod hex;
 mod input;
+mod mem_cluster;
 mod reply_lines;
 mod runs;
-mod stage;
 mod words;
 
 pub use runs::{Ended, RunFault, run};

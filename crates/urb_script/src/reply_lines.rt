@@ -9,7 +9,7 @@ ghost use Rattle.urb_script.specs.Texts.{reply_text};
 ghost use Rattle.urb_script.specs.internal.Texts.{IsToldAs};
 ghost use Rattle.urb_script.specs.Wording.{name_text, payload_word};
 
-use crate::answer_words::{NameWord, Told, push_told, refused_write};
+use crate::answer_words::{FixedAnswer, NameWord, push_told, refused_write};
 use std::alloc::Allocator;
 use std::io::Write;
 use urb_group::Reply;
@@ -55,11 +55,11 @@ fn push_answer<A: Allocator + Copy>(
     ensures { OnOk result (text.new.items ≡ text.old.items ++ reply_text (Same answer.now)) }
 {
     match answer {
-        Answer::Accepted(name) => push_told(text, Told::Accepted(*name)),
-        Answer::Noted(name) => push_told(text, Told::Noted(*name)),
-        Answer::Again(name) => push_told(text, Told::Again(*name)),
+        Answer::Accepted(name) => push_told(text, FixedAnswer::Accepted(*name)),
+        Answer::Noted(name) => push_told(text, FixedAnswer::Noted(*name)),
+        Answer::Again(name) => push_told(text, FixedAnswer::Again(*name)),
         Answer::Answered(name, packets) => {
-            push_told(text, Told::Answered(*name))?;
+            push_told(text, FixedAnswer::Answered(*name))?;
             push_answer_packets(text, packets)
         }
     }
@@ -75,7 +75,7 @@ fn push_done<A: Allocator + Copy>(text: &mut Vec<u8, A>, done: &Done<A>) -> Resu
     if done.accepted {
         push_told(
             text,
-            Told::Stored {
+            FixedAnswer::Stored {
                 name,
                 sent,
                 released,
@@ -84,7 +84,7 @@ fn push_done<A: Allocator + Copy>(text: &mut Vec<u8, A>, done: &Done<A>) -> Resu
     } else {
         push_told(
             text,
-            Told::Taken {
+            FixedAnswer::Taken {
                 name,
                 sent,
                 released,
@@ -136,14 +136,14 @@ pub fn push_reply<A: Allocator + Copy>(
     match reply {
         Reply::Drafted { name, pos } => {
             let (name, position) = (*name, *pos);
-            push_told(text, Told::Drafted { name, position })
+            push_told(text, FixedAnswer::Drafted { name, position })
         }
         Reply::Same(answer) => push_answer(text, answer),
         Reply::Stored(done) => push_done(text, done),
         Reply::Sent(packets) => push_sent(text, packets),
-        Reply::WentDown(node) => push_told(text, Told::Down(*node)),
-        Reply::Up(node) => push_told(text, Told::Up(*node)),
-        Reply::Refused(refusal) => push_told(text, Told::Refused(*refusal)),
+        Reply::WentDown(node) => push_told(text, FixedAnswer::Down(*node)),
+        Reply::Up(node) => push_told(text, FixedAnswer::Up(*node)),
+        Reply::Refused(refusal) => push_told(text, FixedAnswer::Refused(*refusal)),
     }
 }
 

@@ -12,8 +12,8 @@ ghost use Rattle.urb_script.specs.Scripts.{bad_line};
 ghost use Rattle.urb_script.specs.internal.Scripts.{AnsweredFrom, OpensWith, TakesFrom};
 
 use crate::commands::{CommandLine, parse_command};
-use crate::input::{LineRead, ReadFailed, TOO_LONG, read_line};
-use crate::stage::Stage;
+use crate::input::{InputFailed, LineRead, TOO_LONG, read_line};
+use crate::mem_cluster::MemCluster;
 use std::alloc::{AllocError, Allocator};
 use std::io::{Read, Write};
 use thiserror::Error;
@@ -48,13 +48,13 @@ pub enum RunFault {
     NoMemory,
 }
 
-impl From<ReadFailed> for RunFault {
+impl From<InputFailed> for RunFault {
     ghost use Rattle.std.specs.Prelude.{◌≡◌};
     ghost use Rattle.urb_script.specs.declared.runs.RunFault.TheVariants.{Read as read};
 
     ghost from_gives = { λ _ e. e ≡ read };
 
-    fn from(_: ReadFailed) -> RunFault {
+    fn from(_: InputFailed) -> RunFault {
         RunFault::Read
     }
 }
@@ -239,5 +239,5 @@ pub fn run<A: Allocator + Copy, R: Read, W: Write>(
     // was written.
     ensures one { HasOneOutcome }
 {
-    run_lines::<A, Stage<A>, R, W>(alloc, reader, writer)
+    run_lines::<A, MemCluster<A>, R, W>(alloc, reader, writer)
 }

@@ -10,7 +10,7 @@ use mathlib.Core.List.{IsPrefix}
 use Rattle.std.proofs.Common.{ap, sym, ◌∙◌, fold, ◌++◌, Option, Some, None}
 use Rattle.std.specs.Option.{MatchOption}
 use Rattle.urb_show.specs.declared.entry.Addition.{Addition}
-use Rattle.urb_show.specs.declared.published_lists.State.{State}
+use Rattle.urb_show.specs.declared.published_lists.ListsState.{ListsState}
 use Rattle.urb_show.specs.declared.published_lists.Operation.{Operation}
 use Rattle.urb_show.specs.internal.Operations.{state_of, applied_to}
 use Rattle.urb_show.specs.Lists.{Lists, Agree}
@@ -52,7 +52,7 @@ rises book base seat v x y up good views h at = let top = length y.mark.log in (
 )
 
 pub same_issue : (x y : Issue) → state_of x ≡ state_of y → x ≡ y
-same_issue x y is = ap (λ (s : State). record { lists = s.lists; mark = s.mark }) is
+same_issue x y is = ap (λ (s : ListsState). record { lists = s.lists; mark = s.mark }) is
 
 -- the writer's step: what it has is published, and that is no shorter
 pub turns : (book : Book) (base : Lists) (shown all : List Addition) (x next : Issue)

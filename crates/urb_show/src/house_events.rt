@@ -24,30 +24,9 @@ fn events_after<T, E>(group: &Group, events: u64, done: &Result<T, E>) -> u64
 }
 
 impl<K: HouseName, A: Allocator> House<K, A> {
-    /// A client gives a node a message to broadcast, under the client's next number at this node:
-    /// `Group::submit`, with its refusals.
+    /// A client gives a node a message to broadcast, under the client's next number at this node.
+    /// The node's message shares the memory of the payload: `Group::submit`, with its refusals.
     pub fn submit(
-        &mut self,
-        alloc: Global,
-        node: NodeId,
-        client: ClientId,
-        number: u32,
-        payload: &[u8],
-    ) -> Result<Taken, Refusal>
-        ensures step { Takes self.old.group node
-            (Submit node (record { client = client; number = number; payload = payload.now }))
-            result self.new.group }
-        ensures counted { MatchResult result
-            (λ _. IsEvent self.old self.new) (λ _. self.new ≡ self.old) }
-    {
-        let taken = self.group.submit(alloc, node, client, number, payload);
-        self.events = events_after(&self.group, self.events, &taken);
-        taken
-    }
-
-    /// Does the same, but the node's message shares the memory of the payload:
-    /// `Group::submit_sharing`, with its refusals.
-    pub fn submit_sharing(
         &mut self,
         alloc: Global,
         node: NodeId,
@@ -61,9 +40,7 @@ impl<K: HouseName, A: Allocator> House<K, A> {
         ensures counted { MatchResult result
             (λ _. IsEvent self.old self.new) (λ _. self.new ≡ self.old) }
     {
-        let taken = self
-            .group
-            .submit_sharing(alloc, node, client, number, payload);
+        let taken = self.group.submit(alloc, node, client, number, payload);
         self.events = events_after(&self.group, self.events, &taken);
         taken
     }

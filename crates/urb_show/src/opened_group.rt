@@ -9,7 +9,7 @@ ghost use Rattle.urb_show.specs.declared.opened_group.TheConstants.{READERS};
 use crate::entry::Entry;
 use crate::group_entries::entries_of;
 use crate::history::rule::Grows;
-use crate::history::tokens::{HouseName, Unnamed};
+use crate::history::tokens::{HouseName, UnnamedBook};
 use crate::house::House;
 use crate::published_lists::PublishedLists;
 use crate::publisher::{LogWriter, Publisher};
@@ -29,7 +29,7 @@ pub const READERS: usize = 4;
 /// of it. Until then it can't be dropped: end it by `close`.
 pub struct Opened {
     group: Group,
-    unnamed: Unnamed,
+    unnamed: UnnamedBook,
 }
 
 impl Model for Opened {
@@ -48,7 +48,7 @@ impl House<Brand> {
     {
         Ok(Opened {
             group,
-            unnamed: Unnamed::new(),
+            unnamed: UnnamedBook::new(),
         })
     }
 }
@@ -130,7 +130,7 @@ fn make_writer<K: HouseName, A: Allocator + Copy>(
     alloc: Global,
     memory: A,
     group: &Group,
-    unnamed: &Unnamed,
+    unnamed: &UnnamedBook,
     count: usize,
 ) -> Result<(LogWriter<K, A>, Vec<usize>), NoMemory>
     requires names { (unnamed.now.seen.book ≡ K.book) × (lists_in group.now ≡ K.base) }
@@ -173,7 +173,7 @@ fn copy_lists(alloc: Global, group: &Group) -> Result<(Vec<Vec<Entry>>, Vec<usiz
 fn make_readers<K: HouseName, A: Allocator + Copy>(
     alloc: A,
     factory: &Factory<PublishedLists, u64, Grows<K>, A>,
-    unnamed: &Unnamed,
+    unnamed: &UnnamedBook,
     count: usize,
 ) -> Result<Vec<LogReader<K, A>, A>, NoMemory>
     requires name { unnamed.now.seen.book ≡ K.book }

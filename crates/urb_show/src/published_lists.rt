@@ -36,7 +36,7 @@ pub(crate) struct Operation {
 }
 
 /// What the two published copies have in common. No value of this type is made.
-pub(crate) struct State {
+pub(crate) struct ListsState {
     pub(crate) lists: [[Entry; 0]; 0],
     pub(crate) mark: Mark,
 }
@@ -44,7 +44,7 @@ pub(crate) struct State {
 impl Absorb<Operation> for PublishedLists {
     ghost use Rattle.urb_show.specs.internal.Operations.{state_of, applied_to};
 
-    type State = State;
+    type State = ListsState;
 
     ghost state = { state_of };
 

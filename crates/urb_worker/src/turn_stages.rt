@@ -97,7 +97,7 @@ pub(crate) fn start_event<K: HouseName>(
             client,
             number,
             payload,
-        } => stage_after_message(house.submit_sharing(alloc, *node, *client, *number, payload)),
+        } => stage_after_message(house.submit(alloc, *node, *client, *number, payload)),
         Job::Arrive { node, bytes } => stage_after_message(house.arrive(
             alloc,
             *node,

@@ -7,7 +7,7 @@ use std::test::Fail;
 use std::thread::Threads;
 use urb_folder::open_group;
 use urb_group::{Answer, Config, Group, MemStable, Record, Stable, State, Taken};
-use urb_names::{ClientId, Message, Name, NodeId};
+use urb_names::{ClientId, Message, Name, NodeId, Payload};
 
 /// What the store of a node holds for the name 1.1.
 #[derive(Clone, Copy)]
@@ -84,7 +84,8 @@ fn accepted_as<O>(answer: &Answer<O>) -> u32 {
 
 // Whether node 1 accepts the message again, as 1.1.
 fn accepts_again(alloc: Global, group: &mut Group) -> Option<bool> {
-    match group.submit(alloc, node(1)?, client()?, 1, b"a") {
+    let payload = Payload::copied(alloc, b"a").ok()?;
+    match group.submit(alloc, node(1)?, client()?, 1, &payload) {
         Ok(Taken::Same(answer)) => Some(accepted_as(&answer) == 1),
         _ => Some(false),
     }

@@ -1,8 +1,5 @@
 -- What each call of a group says, once one of its nodes has moved.
-use Rattle.std.proofs.Common.{Err, List, Ok, Result, Some, ap, arith, length, refl, set}
-use Rattle.std.proofs.Common.{slice_index_or, subst, suc, sym, ℕ, ◌<◌, ◌∙◌, ◌≡◌}
-use Rattle.std.proofs.lemmas.Option.{slice_get_read}
-use Rattle.std.specs.List.{insert, remove}
+use Rattle.std.proofs.Common.{Err, List, Ok, Result, Some, ap, set, subst, suc, sym, ℕ, ◌∙◌, ◌≡◌}
 use Rattle.std.specs.Prelude.{slice_get}
 use Rattle.urb_names.specs.Carried.{Carried}
 use Rattle.urb_names.specs.Naming.{Content, Limits}
@@ -26,26 +23,13 @@ use Rattle.urb_group.specs.World.{World}
 use Rattle.urb_group.specs.declared.node_moves.Node.{Node as Place}
 use Rattle.urb_group.specs.declared.taken.Taken.{Taken}
 use Rattle.urb_group.specs.declared.taken.Taken.TheVariants as taken
-use Rattle.urb_group.proofs.shown.ReplacedElements.{insert_removed}
 use Rattle.urb_group.proofs.shown.NodeMoves.{StepsTo, holds_draft, lifted, place_shows, still_group}
 use Rattle.urb_group.proofs.steps.StepCases.{step-outcome}
 
--- A node is taken out of its place, moves, and is put back.
-module _ {A : Type 0} {size : Limits} {places rest new : List (Place A)}
-    (group : IsGroup size places) {i p : ℕ} (own : p ≡ suc i) (low : i < size.n)
-    {node : Place A} (moved : Place A) (is-node : node ≡ slice_index_or places i node)
-    (out : rest ≡ remove places i) (back : new ≡ insert rest i moved) where
-  within : i < length places
-  within = omega (arith, group.placed.count)
-
-  was : slice_get places i ≡ Some node
-  was = slice_get_read _ _ _ _ refl within is-node
-
-  set-back : new ≡ set places i moved
-  set-back =
-      back ∙ (ap (λ (ps : List (Place A)). insert ps i moved) out
-      ∙ insert_removed places i moved within)
-
+-- A node moved, and is in its place again.
+module _ {A : Type 0} {size : Limits} {places new : List (Place A)}
+    (group : IsGroup size places) {i p : ℕ} (own : p ≡ suc i) {node : Place A} (moved : Place A)
+    (was : slice_get places i ≡ Some node) (back : new ≡ set places i moved) where
   module _ (event : Event) (outcome : Outcomes)
       (is : (w : World) → Shows (shown size places) w
       → step w event ≡ at_node w p (outcome w.size p (w.node p))) where
@@ -62,7 +46,7 @@ module _ {A : Type 0} {size : Limits} {places rest new : List (Place A)}
         → StepsTo (shown size places) event told (shown size new) × IsGroup size new
     steps told leads =
         subst (λ (ps : List (Place A)). StepsTo (shown size places) event told (shown size ps)
-        × IsGroup size ps) (sym set-back) (
+        × IsGroup size ps) (sym back) (
           lifted size places group i node moved was event outcome here told leads,
           still_group size places group i node moved was event outcome here told
               leads,
@@ -82,7 +66,7 @@ module _ {A : Type 0} {size : Limits} {places rest new : List (Place A)}
         group.sound.shows) in
         let held =
         subst (λ (ps : List (Place A)). (draft.node ≡ suc i) × HoldsDraft (shown size ps) draft)
-        (sym set-back) (holds_draft size places group i node moved was draft
+        (sym back) (holds_draft size places group i node moved was draft
         led.0.same led.1) in ((all.0, held.0 ∙ sym own, held.1), all.1)
     takes (Err r) h = steps (Err r) (λ n s. (h n s).0)
 

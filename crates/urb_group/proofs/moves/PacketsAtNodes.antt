@@ -1,9 +1,8 @@
 -- A packet that comes to a node of a group: whether it is truthful, and what it leads to.
 use Rattle.std.proofs.Common.{Bool, Err, List, MatchBool, None, Ok, Result, Some, ap, cond, false}
-use Rattle.std.proofs.Common.{map, not, refl, slice_index_or, subst, suc, sym, true, ℕ, ◌&&◌, ◌||◌}
-use Rattle.std.proofs.Common.{◌∙◌, ◌≡◌, ◌≤◌, ◌<◌, arith}
+use Rattle.std.proofs.Common.{map, not, refl, set, slice_index_or, subst, suc, sym, true, ℕ}
+use Rattle.std.proofs.Common.{◌&&◌, ◌||◌, ◌∙◌, ◌≡◌, ◌≤◌, ◌<◌, arith}
 use Rattle.std.proofs.lemmas.Bool.{and_parts, cond-true}
-use Rattle.std.specs.List.{insert, remove}
 use Rattle.std.specs.Prelude.{slice_get}
 use Rattle.urb_names.proofs.FoundPairs.{has_pair-found}
 use Rattle.urb_names.specs.Carried.{Carried, says_certified}
@@ -80,10 +79,17 @@ no_pair_held node packet finds n s = at (has_pair (pend n.records) packet.name p
         (memory_in node).node n.records s.rules packet.name packet.message e))
 
 -- a stored pair and a stored certificate together confirm the packet
-both_true : {A : Type 0} (node : Place A) (packet : Carried) (b : Bool) → HoldsPair node packet true
-    → IsAsCertified node packet b → TellsTruth node packet b
+pub both_true : {A : Type 0} (node : Place A) (packet : Carried) (b : Bool)
+    → HoldsPair node packet true → IsAsCertified node packet b → TellsTruth node packet b
 both_true node packet b pair certified n s =
     certified n s ∙ ap (λ (c : Bool). c
+    && (not (says_certified packet.flags) || has_name (cert n.records) packet.name)) (pair n s)
+
+-- without a stored pair nothing confirms the packet
+pub no_truth : {A : Type 0} (node : Place A) (packet : Carried) → HoldsPair node packet false
+    → TellsTruth node packet false
+no_truth node packet pair n s =
+    ap (λ (c : Bool). c
     && (not (says_certified packet.flags) || has_name (cert n.records) packet.name)) (pair n s)
 
 -- ---- refused before it reaches the node
@@ -181,15 +187,15 @@ module _ {A : Type 0} {size : Limits} {places : List (Place A)} (group : IsGroup
                 (suc i) view.pairs packet.name packet.message) v meets));
           }
 
-  pub arrive-moved : {rest new : List (Place A)} {node : Place A} (moved : Place A)
-      (bytes : Result Carried PacketFault) → Ok packet ≡ bytes → node ≡ slice_index_or places i node
-      → rest ≡ remove places i → new ≡ insert rest i moved → (result : Result (Taken A) Refusal)
+  pub arrive-moved : {new : List (Place A)} {node : Place A} (moved : Place A)
+      (bytes : Result Carried PacketFault) → Ok packet ≡ bytes → slice_get places i ≡ Some node
+      → new ≡ set places i moved → (result : Result (Taken A) Refusal)
       → ArrivesAt node packet b (moved, result)
       → Takes (shown size places) p (Arrive p bytes) result (shown size new) × IsGroup size new
-  arrive-moved {new = new} moved bytes e is-node out back result h =
+  arrive-moved {new = new} moved bytes e at back result h =
       subst (λ (read : Result Carried PacketFault).
       Takes (shown size places) p (Arrive p read) result (shown size new) × IsGroup size new) e
-      (takes group ends.target.1 ends.target.2 moved is-node out back (Arrive p (Ok packet))
+      (takes group ends.target.1 moved at back (Arrive p (Ok packet))
       (arrives_as packet b) is result h)
     where
       is : (w : World) → Shows (shown size places) w

@@ -1,6 +1,7 @@
 -- What each call does with the node in one place, by the definition's outcome for every node that
 -- the place shows.
-use Rattle.std.specs.Prelude.{Bool, Err, List, Ok, Result, if◌then◌else◌, not, true, ℕ, ◌≡◌}
+use Rattle.std.specs.Prelude.{Bool, Err, List, Ok, Result, Some, if◌then◌else◌, not, set, slice_get}
+use Rattle.std.specs.Prelude.{true, ℕ, ◌≡◌}
 use Rattle.urb_names.specs.Carried.{Carried}
 use Rattle.urb_names.specs.Naming.{Content, Limits}
 use Rattle.urb_names.specs.declared.refusal.Refusal.{Refusal}
@@ -47,6 +48,16 @@ abbrev pub LeadsAt : {A : Type 0} → Outcomes → Place A → Told → Place A 
 LeadsAt outcome old told new =
     (node : Node) → ShowsAt old node
     → Leads (outcome (memory_in old).limits (memory_in old).node node) old told new
+
+-- The node in place i moved by a step, which gave this result. The step took the node as it was,
+-- and what the step left is in its place.
+pub record MovesNode {N T : Type 0} (IsStep : N → N × T → Type 0) (i : ℕ) (old : List N)
+    (result : T) (new : List N) : Type 0 where
+  pub node : N
+  pub moved : N
+  pub was : slice_get old i ≡ Some node
+  pub step : IsStep node (moved, result)
+  pub back : new ≡ set old i moved
 
 -- ---- the result of each call
 

@@ -40,13 +40,13 @@ const RELAYED: &[u8] = b"UB\x02\x01\x02\x00\x01\x00\x00\x00\x01\x00\x07\x00\x00\
 const CERTIFIED: &[u8] = b"UB\x02\x02\x01\x01\x01\x00\x00\x00\x01\x00\x07\x00\x00\x00\x01\x00\x01a";
 
 /// Returns the command of an event.
-pub fn command<A: Allocator>(alloc: A, event: Event) -> Option<Command<A>> {
+pub fn command<A: Allocator + Copy>(alloc: A, event: Event) -> Option<Command<A>> {
     match event {
         Event::Submit => Some(Command::Submit {
             node: one(),
             client: client(),
             number: 1,
-            payload: Vec::from_slice(alloc, b"a").ok()?,
+            payload: Payload::copied(alloc, b"a").ok()?,
         }),
         Event::Relay => Some(Command::Arrive {
             node: two(),

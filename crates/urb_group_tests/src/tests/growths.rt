@@ -48,7 +48,10 @@ impl<A: Allocator + Copy> Walk<A> {
     // With `None`, the client submits its message at node 1. With a node, the packet arrives at it.
     fn take(&mut self, node: Option<NodeId>) -> Result<Taken<A>, Refusal> {
         match node {
-            None => self.group.submit(self.heap, one(), client(), 1, b"a"),
+            None => {
+                let payload = Payload::copied(self.calm, b"a")?;
+                self.group.submit(self.heap, one(), client(), 1, &payload)
+            }
             Some(node) => self.group.arrive(self.heap, node, &self.packet),
         }
     }

@@ -31,7 +31,7 @@ fn submit(cluster: &mut Cluster<MemStable>, alloc: Global, number: u32) -> Optio
         node: one(),
         client: client(),
         number,
-        payload: Vec::from_slice(alloc, b"a").ok()?,
+        payload: Payload::copied(alloc, b"a").ok()?,
     };
     match cluster.apply(alloc, &submit) {
         Reply::Refused(refusal) => Some(refusal.number()),

@@ -5,7 +5,7 @@ use crate::tests::packets::{letter, packet_for};
 use crate::tests::rows::What;
 use crate::tests::sending::are_sent;
 use crate::tests::states::{State, Went, went};
-use urb_names::{Flags, Refusal};
+use urb_names::{Flags, Payload, Refusal};
 use urb_node::{Answer, Ready, Step, Storing};
 use urb_stable::Draft;
 use urb_stubborn::Outbox;
@@ -120,25 +120,26 @@ fn lead<A: Allocator + Copy>(
     }
 }
 
-/// Submits a message of client 7.
+/// Submits a message of client 7. Its payload is in memory that is never refused.
 pub(super) fn submit<A: Allocator + Copy>(
     state: State<A>,
-    heap: A,
+    (heap, calm): (A, A),
     number: u32,
     payload: &[u8],
     what: &What,
     named: Name,
 ) -> Went<A> {
-    match (state, ClientId::new(7)) {
-        (State::Ready(ready), Some(client)) => {
-            lead(
-                ready.submit(heap, client, number, payload),
-                what,
-                named,
-                payload,
-            )
-        }
-        (other, _) => (other, None),
+    let (Some(client), Ok(shared)) = (ClientId::new(7), Payload::copied(calm, payload)) else {
+        return (state, None);
+    };
+    match state {
+        State::Ready(ready) => lead(
+            ready.submit(heap, client, number, &shared),
+            what,
+            named,
+            payload,
+        ),
+        other => (other, None),
     }
 }
 
@@ -153,7 +154,12 @@ fn meet<A: Allocator + Copy>(
 ) -> Went<A> {
     match state {
         State::Ready(ready) => match packet_for(&ready, bytes, sent) {
-            Some(packet) => lead(ready.arrive(heap, packet), what, named, sent.payload()),
+            Some(packet) => lead(
+                ready.arrive(heap, packet, None),
+                what,
+                named,
+                sent.payload(),
+            ),
             None => (State::Ready(ready), None),
         },
         other => (other, None),

@@ -96,7 +96,7 @@ fn call<A: Allocator + Copy>(
     named: Name,
 ) -> Went<A> {
     match act {
-        Act::Submit(number, what) => submit(state, memory.0, *number, payload, what, named),
+        Act::Submit(number, what) => submit(state, memory, *number, payload, what, named),
         Act::Arrive(source, what) => arrive(state, memory, (*source, None), payload, what, named),
         Act::Tell(source, flags, what) => {
             arrive(state, memory, (*source, Some(*flags)), payload, what, named)

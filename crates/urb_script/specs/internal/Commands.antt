@@ -33,7 +33,7 @@ arrival source node name (Some flags) = ArriveFlagged source node name flags
 
 -- the script's command for a command of a cluster
 abbrev pub line_of : {A : Type 0} → acts.Command A → Command
-line_of (act.Submit p client number payload) = Submit p client number payload.items
+line_of (act.Submit p client number payload) = Submit p client number payload
 line_of (act.Arrive p bytes) = Raw p bytes.items
 line_of (act.Tick p) = Tick p
 line_of (act.Store p) = Stored p

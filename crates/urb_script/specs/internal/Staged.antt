@@ -16,7 +16,7 @@ use Rattle.urb_group.specs.Clusters.{FailsHeld, StoresHeld}
 use Rattle.urb_group.specs.InMemory.{in_memory}
 use Rattle.urb_node.specs.Replies.{Reply}
 use Rattle.urb_script.specs.Commands.{Command, Fail, Stored}
-use Rattle.urb_script.specs.declared.stage.Stage.{Stage}
+use Rattle.urb_script.specs.declared.mem_cluster.MemCluster.{MemCluster}
 
 -- The store has what the scene's storage holds: the node's records, or these with the doubtful one.
 -- While the node is up, the store has the node's records, and no record is in doubt.
@@ -50,9 +50,9 @@ StoresAsAsked A (Fail p failure) old new =
     (said : Reply) × FailsHeld old p (held_draft old.group p) failure said new
 StoresAsAsked A asked old new = Unit {0}
 
--- what the stage shows
-abbrev pub Shown : {A : Type 0} → Stage A → Scene → Type 0
-Shown stage scene = ShowsScene stage.config stage.cluster scene
+-- what a cluster of stores in memory shows
+abbrev pub Shown : {A : Type 0} → MemCluster A → Scene → Type 0
+Shown held scene = ShowsScene held.config held.cluster scene
 
 -- the answer that is the same in every world that the group shows
 abbrev pub TellsOf : (World → List ℕ) → GroupView → List ℕ → List ℕ → Type 0

@@ -2,14 +2,14 @@
 use Rattle.urb_show.specs.internal.History.{Issue}
 use Rattle.urb_show.specs.Lists.{add_at}
 use Rattle.urb_show.specs.declared.published_lists.Operation.{Operation}
-use Rattle.urb_show.specs.declared.published_lists.State.{State}
+use Rattle.urb_show.specs.declared.published_lists.ListsState.{ListsState}
 
 -- what the two published copies have in common
-abbrev pub state_of : Issue → State
+abbrev pub state_of : Issue → ListsState
 state_of p = record { lists = p.lists; mark = p.mark }
 
 -- the entry is appended to its node's list, and the history is the operation's
-abbrev pub applied_to : State → Operation → State
+abbrev pub applied_to : ListsState → Operation → ListsState
 applied_to s op = record {
   lists = add_at s.lists op.addition.place op.addition.entry;
   mark =

@@ -82,17 +82,17 @@ impl HouseName for Brand {
 
 /// A new book without a name.
 #[derive(Drop)]
-pub(crate) struct Unnamed {
+pub(crate) struct UnnamedBook {
     head: Word<Addition, u64, Law>,
     seen: Seen<Addition, u64, Law>,
     pub(crate) ghost empty: { seen.log ≡ [] },
     pub(crate) ghost head_is: { head ≡ head_of seen.book },
 }
 
-impl Unnamed {
-    pub(crate) fn new() -> Unnamed {
+impl UnnamedBook {
+    pub(crate) fn new() -> UnnamedBook {
         let (seen, mut first, _second) = Seen::open(Start::alone(), 0, 0);
-        Unnamed {
+        UnnamedBook {
             head: Word::tracked(0, &mut first),
             seen,
         }
@@ -112,7 +112,7 @@ impl Unnamed {
         requires { self.seen.book ≡ K.book }
         ensures { result.1 ≡ [] }
     {
-        let Unnamed { head, seen } = self;
+        let UnnamedBook { head, seen } = self;
         (
             Book {
                 head,

@@ -8,12 +8,14 @@ use super::writer::{arrive, draft_in, keep, node, submit, three_stores};
 use std::alloc::Global;
 use std::sync::Wait;
 use urb_group::{ClientId, Failure, MemStable, Name, NodeId, Outbox, Refusal, Stable, State};
+use urb_names::Payload;
 use urb_show::{House, HouseName, LogReader, Opened, ReadPosition, Status};
 
 // Whether a submit is refused if its number isn't the next. The refusal is no event.
 fn is_refused<K: HouseName>(alloc: Global, house: &mut House<K>, node: NodeId) -> Option<bool> {
     let client = ClientId::new(7)?;
-    let refusal = house.submit(alloc, node, client, 2, b"x").err();
+    let payload = Payload::copied(alloc, b"x").ok()?;
+    let refusal = house.submit(alloc, node, client, 2, &payload).err();
     Some(refusal == Some(Refusal::Gap(1)) && house.events() == 0)
 }
 

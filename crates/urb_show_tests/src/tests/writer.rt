@@ -4,7 +4,7 @@ ghost use Rattle.std.specs.Prelude.{◌≡◌, ◌<◌, ◌≤◌, length};
 use std::alloc::{Allocator, Global};
 use std::sync::{Mutex, MutexGuard, Wait};
 use urb_group::{ClientId, Done, Draft, MemStable, NodeId, Outbox, Taken};
-use urb_names::encode;
+use urb_names::{Payload, encode};
 use urb_show::{House, HouseName, Told};
 
 /// The number of messages that each of two nodes broadcasts.
@@ -96,7 +96,7 @@ pub fn submit<K: HouseName, A: Allocator + Copy>(
     number: u32,
 ) -> Option<Taken> {
     let client = ClientId::new(7)?;
-    let payload = [node.number(), (number % 256) as u8];
+    let payload = Payload::copied(alloc, &[node.number(), (number % 256) as u8]).ok()?;
     house.submit(alloc, node, client, number, &payload).ok()
 }
 

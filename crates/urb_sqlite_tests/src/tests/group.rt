@@ -3,7 +3,7 @@ ghost use Rattle.std.specs.Prelude.{◌≡◌};
 
 use std::alloc::Global;
 use urb_group::{Answer, Cluster, Command, Reply, play};
-use urb_names::{ClientId, Config, Name, NodeId, Refusal, Rule};
+use urb_names::{ClientId, Config, Name, NodeId, Payload, Refusal, Rule};
 use urb_stable::{Stable, StoreFault};
 
 /// Three nodes, each of which may broadcast ten messages.
@@ -52,7 +52,7 @@ pub fn command(alloc: Global, event: Event) -> Option<Command> {
             node: one,
             client: ClientId::new(7).unwrap(),
             number: 1,
-            payload: Vec::from_slice(alloc, b"a").ok()?,
+            payload: Payload::copied(alloc, b"a").ok()?,
         }),
         Event::Relay => Some(Command::Arrive {
             node: two,

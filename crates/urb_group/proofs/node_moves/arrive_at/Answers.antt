@@ -5,5 +5,4 @@ pub returns-else-not-is_truthful : goal.returns-else-not-is_truthful
 returns-else-not-is_truthful g c =
     rw c.node_after.ensures
     (arrive_at c.args.node c.in-Ready.ready c.args.packet c.args.is_truthful
-    c.arrive_sharing.result c.in-Ready.is c.if-not-is_truthful.false
-    c.arrive_sharing.ensures.event)
+    c.arrive.result c.in-Ready.is c.if-not-is_truthful.false c.arrive.ensures.event)

@@ -44,7 +44,8 @@ returns-clause-outcome g c =
     let room : length (own held.pending.node held.pending.pairs) < held.config.cap =
     (let cap = c.cap.ensures.value in let below = c.if-own-cap.false in omega arith) in
     let short : length c.args.payload.now ≤ MAX_PAYLOAD =
-    (let below = c.if-payload-gt-MAX_PAYLOAD.false in omega arith) in
+    (let below = c.if-bytes-gt-MAX_PAYLOAD.false in let same = ap length c.as_slice-bytes.ensures
+    in omega arith) in
     submit-told (memory_of held) held.pending.node m c.in_ok-make_wanted.field-0.entry
     c.in_ok-make_wanted.field-0.cause c.is_majority-is_certified.result
     (memory_of c.make_wanted.new.held) c.requires.kept.pending_node short

@@ -28,34 +28,29 @@ index-requires g c =
       c.self.inside.nodes.ok.0,
     )
 
-pub remove-requires : goal.remove-requires
-remove-requires g c =
-    omega (
-      arith,
-      c.in-Some.ensures.target.2,
-      c.self.invariant.placed.count,
-      c.self.inside.nodes.ok.0,
-    )
+pub move_node-requires-clause-within : goal.move_node-requires-clause-within
+move_node-requires-clause-within g c =
+    omega (arith, c.in-Some.ensures.target.2, c.self.invariant.placed.count)
 
-pub arrive_at-moved-requires-clause-reach : goal.arrive_at-moved-requires-clause-reach
-arrive_at-moved-requires-clause-reach g c =
+pub move_node-requires-clause-callable : goal.move_node-requires-clause-callable
+move_node-requires-clause-callable g c node at =
     let from =
     was_read c.self.inside.nodes.items c.in-Some.source _ c.index.result.now
-    c.self.invariant.placed.count c.in-Some.ensures.source.1 c.index.ensures in
-    may_reach c.self.invariant c.in-Some.ensures from c.tells_truth-is_truthful.ensures
-    c.remove.result
-    (was_read c.self.inside.nodes.items c.in-Some.at _ c.remove.result
-    c.self.invariant.placed.count c.in-Some.ensures.target.2 c.remove.ensures.value)
+    c.self.invariant.placed.count c.in-Some.ensures.source.1 c.index.ensures in (
+      may_reach c.self.invariant c.in-Some.ensures from
+          c.confirm_packet-is_truthful.ensures.truth node at,
+      c.confirm_packet-is_truthful.ensures.known,
+    )
 
 pub invariant_of-self : goal.invariant_of-self
 invariant_of-self g c =
     let from =
     was_read c.self.inside.nodes.items c.in-Some.source _ c.index.result.now
     c.self.invariant.placed.count c.in-Some.ensures.source.1 c.index.ensures in
-    (arrive-moved c.self.invariant c.in-Some.ensures from c.tells_truth-is_truthful.ensures
-    c.arrive_at-moved.result.0 (packet_of c.args.bytes.now) c.in_ok-packet.ensures.exact
-    c.remove.ensures.value c.remove.ensures.items c.put_back.ensures c.arrive_at-moved.result.1
-    c.arrive_at-moved.ensures).1
+    (arrive-moved c.self.invariant c.in-Some.ensures from
+    c.confirm_packet-is_truthful.ensures.truth c.move_node.ensures.moved
+    (packet_of c.args.bytes.now) c.in_ok-packet.ensures.exact c.move_node.ensures.was
+    c.move_node.ensures.back c.move_node.result c.move_node.ensures.step).1
 
 pub returns : goal.returns
 returns g c =
@@ -63,7 +58,7 @@ returns g c =
     was_read c.self.inside.nodes.items c.in-Some.source _ c.index.result.now
     c.self.invariant.placed.count c.in-Some.ensures.source.1 c.index.ensures in
     rw (← c.self.view_is)
-    (arrive-moved c.self.invariant c.in-Some.ensures from c.tells_truth-is_truthful.ensures
-    c.arrive_at-moved.result.0 (packet_of c.args.bytes.now) c.in_ok-packet.ensures.exact
-    c.remove.ensures.value c.remove.ensures.items c.put_back.ensures c.arrive_at-moved.result.1
-    c.arrive_at-moved.ensures).0
+    (arrive-moved c.self.invariant c.in-Some.ensures from
+    c.confirm_packet-is_truthful.ensures.truth c.move_node.ensures.moved
+    (packet_of c.args.bytes.now) c.in_ok-packet.ensures.exact c.move_node.ensures.was
+    c.move_node.ensures.back c.move_node.result c.move_node.ensures.step).0

@@ -1,4 +1,4 @@
-use Rattle.std.proofs.Common.{refl}
+use Rattle.std.proofs.Common.{refl, rules}
 use Rattle.urb_group.specs.Step.{Commit}
 use Rattle.urb_group.proofs.moves.GroupMoves.{commit-moved}
 use Rattle.urb_group.proofs.shown.NodeMoves.{nowhere}
@@ -16,13 +16,13 @@ returns-in_default g c =
 
 pub invariant_of-self : goal.invariant_of-self
 invariant_of-self g c =
-    (commit-moved c.self.invariant (rw c.node.ensures at c.in-Some.ensures.1) c.in-Some.ensures.0
-    c.commit_at-moved.result.0 c.remove.ensures.value c.remove.ensures.items c.put_back.ensures
-    c.args.receipt refl c.commit_at-moved.result.1 c.commit_at-moved.ensures).1
+    (commit-moved c.self.invariant (rw c.node.ensures at c.in-Some.ensures.1)
+    c.move_node.ensures.moved c.move_node.ensures.was c.move_node.ensures.back c.args.receipt refl
+    c.move_node.result (let step = c.move_node.ensures.step in search rules)).1
 
 pub returns : goal.returns
 returns g c =
     rw (← c.self.view_is)
-    (commit-moved c.self.invariant (rw c.node.ensures at c.in-Some.ensures.1) c.in-Some.ensures.0
-    c.commit_at-moved.result.0 c.remove.ensures.value c.remove.ensures.items c.put_back.ensures
-    c.args.receipt refl c.commit_at-moved.result.1 c.commit_at-moved.ensures).0
+    (commit-moved c.self.invariant (rw c.node.ensures at c.in-Some.ensures.1)
+    c.move_node.ensures.moved c.move_node.ensures.was c.move_node.ensures.back c.args.receipt refl
+    c.move_node.result (let step = c.move_node.ensures.step in search rules)).0

@@ -10,13 +10,11 @@ returns-in_default g c =
 
 pub invariant_of-self : goal.invariant_of-self
 invariant_of-self g c =
-    (crash-moved c.self.invariant c.in-Some.ensures.1 c.in-Some.ensures.0 c.crash_at-moved.result.0
-    c.remove.ensures.value c.remove.ensures.items c.put_back.ensures c.crash_at-moved.result.1
-    c.crash_at-moved.ensures).1
+    (crash-moved c.self.invariant c.in-Some.ensures.1 c.move_node.ensures.moved
+    c.move_node.ensures.was c.move_node.ensures.back c.move_node.result c.move_node.ensures.step).1
 
 pub returns : goal.returns
 returns g c =
     rw (← c.self.view_is)
-    (crash-moved c.self.invariant c.in-Some.ensures.1 c.in-Some.ensures.0 c.crash_at-moved.result.0
-    c.remove.ensures.value c.remove.ensures.items c.put_back.ensures c.crash_at-moved.result.1
-    c.crash_at-moved.ensures).0
+    (crash-moved c.self.invariant c.in-Some.ensures.1 c.move_node.ensures.moved
+    c.move_node.ensures.was c.move_node.ensures.back c.move_node.result c.move_node.ensures.step).0

@@ -1,3 +1,5 @@
+use Rattle.std.proofs.Common.{rules}
+use Rattle.urb_group.specs.internal.Moving.{RestartsAt}
 use Rattle.urb_group.specs.Step.{Restart}
 use Rattle.urb_group.proofs.moves.GroupMoves.{restart-moved}
 use Rattle.urb_group.proofs.shown.NodeMoves.{nowhere}
@@ -10,15 +12,19 @@ returns-in_default g c =
 
 pub invariant_of-self : goal.invariant_of-self
 invariant_of-self g c =
-    (restart-moved c.self.invariant c.in-Some.ensures.1 c.in-Some.ensures.0
-    c.restart_at-moved.result.0 c.remove.ensures.value c.remove.ensures.items c.put_back.ensures
-    c.args.image.items c.restart_at-moved.result.1
-    (rw c.share_image-shared.ensures at c.restart_at-moved.ensures)).1
+    (restart-moved c.self.invariant c.in-Some.ensures.1 c.move_node.ensures.moved
+    c.move_node.ensures.was c.move_node.ensures.back c.args.image.items c.move_node.result
+    (let step : RestartsAt c.move_node.ensures.node c.share_image-shared.result.items
+    (c.move_node.ensures.moved, c.move_node.result) =
+    (let told = c.move_node.ensures.step in search rules) in
+    rw c.share_image-shared.ensures at step)).1
 
 pub returns : goal.returns
 returns g c =
     rw (← c.self.view_is)
-    (restart-moved c.self.invariant c.in-Some.ensures.1 c.in-Some.ensures.0
-    c.restart_at-moved.result.0 c.remove.ensures.value c.remove.ensures.items c.put_back.ensures
-    c.args.image.items c.restart_at-moved.result.1
-    (rw c.share_image-shared.ensures at c.restart_at-moved.ensures)).0
+    (restart-moved c.self.invariant c.in-Some.ensures.1 c.move_node.ensures.moved
+    c.move_node.ensures.was c.move_node.ensures.back c.args.image.items c.move_node.result
+    (let step : RestartsAt c.move_node.ensures.node c.share_image-shared.result.items
+    (c.move_node.ensures.moved, c.move_node.result) =
+    (let told = c.move_node.ensures.step in search rules) in
+    rw c.share_image-shared.ensures at step)).0

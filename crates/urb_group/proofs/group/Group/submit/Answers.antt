@@ -1,3 +1,4 @@
+use Rattle.std.proofs.Common.{rules}
 use Rattle.urb_group.specs.Step.{Submit}
 use Rattle.urb_group.proofs.moves.GroupMoves.{submit-moved}
 use Rattle.urb_group.proofs.moves.PlaceMoves.{content}
@@ -12,15 +13,15 @@ returns-in_default g c =
 
 pub invariant_of-self : goal.invariant_of-self
 invariant_of-self g c =
-    (submit-moved c.self.invariant c.in-Some.ensures.1 c.in-Some.ensures.0
-    c.submit_at-moved.result.0 c.remove.ensures.value c.remove.ensures.items c.put_back.ensures
-    (content c.args.client c.args.number c.args.payload.now) c.submit_at-moved.result.1
-    c.submit_at-moved.ensures).1
+    (submit-moved c.self.invariant c.in-Some.ensures.1 c.move_node.ensures.moved
+    c.move_node.ensures.was c.move_node.ensures.back
+    (content c.args.client c.args.number c.args.payload.now)
+    c.move_node.result (let step = c.move_node.ensures.step in search rules)).1
 
 pub returns : goal.returns
 returns g c =
     rw (← c.self.view_is)
-    (submit-moved c.self.invariant c.in-Some.ensures.1 c.in-Some.ensures.0
-    c.submit_at-moved.result.0 c.remove.ensures.value c.remove.ensures.items c.put_back.ensures
-    (content c.args.client c.args.number c.args.payload.now) c.submit_at-moved.result.1
-    c.submit_at-moved.ensures).0
+    (submit-moved c.self.invariant c.in-Some.ensures.1 c.move_node.ensures.moved
+    c.move_node.ensures.was c.move_node.ensures.back
+    (content c.args.client c.args.number c.args.payload.now)
+    c.move_node.result (let step = c.move_node.ensures.step in search rules)).0

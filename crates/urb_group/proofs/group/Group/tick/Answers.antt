@@ -1,3 +1,4 @@
+use Rattle.std.proofs.Common.{rules}
 use Rattle.urb_group.specs.Step.{Tick}
 use Rattle.urb_group.proofs.moves.GroupMoves.{tick-moved}
 use Rattle.urb_group.proofs.shown.NodeMoves.{nowhere}
@@ -10,13 +11,13 @@ returns-in_default g c =
 
 pub invariant_of-self : goal.invariant_of-self
 invariant_of-self g c =
-    (tick-moved c.self.invariant c.in-Some.ensures.1 c.in-Some.ensures.0 c.tick_at-moved.result.0
-    c.remove.ensures.value c.remove.ensures.items c.put_back.ensures c.tick_at-moved.result.1
-    c.tick_at-moved.ensures).1
+    (tick-moved c.self.invariant c.in-Some.ensures.1 c.move_node.ensures.moved
+    c.move_node.ensures.was c.move_node.ensures.back c.move_node.result
+    (let step = c.move_node.ensures.step in search rules)).1
 
 pub returns : goal.returns
 returns g c =
     rw (← c.self.view_is)
-    (tick-moved c.self.invariant c.in-Some.ensures.1 c.in-Some.ensures.0 c.tick_at-moved.result.0
-    c.remove.ensures.value c.remove.ensures.items c.put_back.ensures c.tick_at-moved.result.1
-    c.tick_at-moved.ensures).0
+    (tick-moved c.self.invariant c.in-Some.ensures.1 c.move_node.ensures.moved
+    c.move_node.ensures.was c.move_node.ensures.back c.move_node.result
+    (let step = c.move_node.ensures.step in search rules)).0

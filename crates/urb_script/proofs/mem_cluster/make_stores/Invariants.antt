@@ -1,0 +1,11 @@
+use Rattle.std.proofs.Common.{◌≡◌, length}
+use Rattle.std.specs.List.{All}
+use Rattle.urb_stable.specs.Memory.{empty_memory}
+use Rattle.urb_script.proofs.mem_cluster.make_stores.Given as goal
+
+-- as many new stores as were made
+abbrev pub invariant-loop : goal.invariant-loop
+invariant-loop g l = record {
+  made : length l.stores.items ≡ l.counter;
+  blank : All (λ m. m ≡ empty_memory) l.stores.items;
+}

@@ -1,5 +1,0 @@
-use Rattle.std.proofs.Common.{sym}
-use Rattle.urb_script.proofs.stage.Stage.submit.Goals as goal
-
-pub returns-clause-shown : goal.returns-clause-shown
-returns-clause-shown g c = rw (sym c.in_ok-payload.ensures.items) c.apply.ensures.shown
