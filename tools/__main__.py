@@ -2,6 +2,7 @@
 
     python3 -m tools check          compares the documents with the files
     python3 -m tools definitions    copies the sentences of specs/ to docs/DEFINITIONS.md
+    python3 -m tools lemmas         copies the sentences of proofs/ to docs/LEMMAS.md
     python3 -m tools believed       says which definitions a reader has to believe
     python3 -m tools wrong-bodies   tries the edits of crates/NAME/wrong-bodies
     python3 -m tools weaken         makes wrong versions of definitions, and tries them
@@ -18,11 +19,23 @@ import os
 import sys
 from collections.abc import Callable, Sequence
 
-from tools import believed, check, dashboard, definitions, draw, gate, lint, weaken, wrong_bodies
+from tools import (
+    believed,
+    check,
+    dashboard,
+    definitions,
+    draw,
+    gate,
+    lemmas,
+    lint,
+    weaken,
+    wrong_bodies,
+)
 
 TOOLS: dict[str, Callable[[Sequence[str]], int]] = {
     "check": check.main,
     "definitions": definitions.main,
+    "lemmas": lemmas.main,
     "believed": believed.main,
     "wrong-bodies": wrong_bodies.main,
     "weaken": weaken.main,

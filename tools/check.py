@@ -11,7 +11,18 @@ import re
 from collections.abc import Callable, Iterable, Iterator, Sequence
 
 from tools import believed, definitions
-from tools.checks import edits, files, guarantees, limits, memory, monitoring, names, prose, sources
+from tools.checks import (
+    edits,
+    files,
+    guarantees,
+    lemmas,
+    limits,
+    memory,
+    monitoring,
+    names,
+    prose,
+    sources,
+)
 from tools.tree import Misfit, Tree
 
 # What the headline is stated in, and how pages say how many definitions it rests on.
@@ -51,6 +62,10 @@ CHECKS: tuple[Callable[[Tree], Iterable[Misfit]], ...] = (
     sources.contracts,
     sentences_of_specs,
     believed_definitions,
+    lemmas.sentences_of_lemmas,
+    lemmas.heads_of_proofs,
+    lemmas.names_of_files,
+    lemmas.page,
     guarantees.promise_forms,
     guarantees.named_clauses,
     guarantees.accounted,

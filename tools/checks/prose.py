@@ -20,6 +20,7 @@ PAGES = (
     "docs/FORMATS.md",
     "docs/GLOSSARY.md",
     "docs/GUARANTEES.md",
+    "docs/LEMMAS.md",
     "docs/MEASUREMENTS.md",
     "docs/MONITORING.md",
     "docs/OPERATIONS.md",

@@ -19,6 +19,7 @@ use Rattle.urb_certified.proofs.Orders.{names_in_order}
 use Rattle.urb_certified.proofs.Sorted.{filter_all, filter_has, filter_rises}
 use Rattle.urb_certified.proofs.Members.{IsInRows, all_above, all_low, all_true}
 
+-- a name of the sender that stays above has a number past the run's end
 pub left_behind : (s end : ℕ) (y : Label) → y.sender ≡ s → is_left s end y ≡ true → end < y.seq
 left_behind s end y e h = at (cases_lt end y.seq)
   where
@@ -28,6 +29,7 @@ left_behind s end y e h = at (cases_lt end y.seq)
         absurd (false≢true (sym (not-true _ h)
         ∙ and_from (y.sender == s) (nat_le y.seq end) (eq-eqb y.sender s e) (le-leb y.seq end l)))
 
+-- a name that doesn't stay above is the sender's, with a number up to the run's end
 pub gone_within : (s end : ℕ) (y : Label) → is_left s end y ≡ false → (y.sender ≡ s) × (y.seq ≤ end)
 gone_within s end y h =
     let parts = and_parts (y.sender == s) (nat_le y.seq end) (not-false _ h) in
@@ -161,6 +163,8 @@ module _ (low : List ℕ) (above : List Label) (x : Label) (end : ℕ) (parts : 
           let near : y.seq ≤ low_of low y.sender = h.low in
           all_low new_low new_above y (record { sender = h.sender; seq = h.seq; low = omega arith })
 
+  -- once the gap is closed, the two parts are well formed, and have the certified name besides
+  -- those of before
   pub closes : IsJoined low above x (slice_set low (x.sender - 1) end)
       (filter (is_left x.sender end) above)
   closes = record { parts = closed_parts; has = λ y. both_ways _ _ (there y) (back y) }

@@ -14,14 +14,20 @@ use Rattle.urb_certified.specs.internal.Parts.{low_of}
 
 -- a name in the row of k numbers from a on
 pub record IsInRow (s a k : ℕ) (y : Label) : Type 0 where
+  -- the name is the sender's
   pub sender : y.sender ≡ s
+  -- its number is at least the row's first
   pub first : a ≤ y.seq
+  -- its number is before the row's end
   pub last : y.seq < a + k
 
 -- a name in the rows of the senders from one on
 pub record IsInRows (first : ℕ) (ks : List ℕ) (y : Label) : Type 0 where
+  -- its sender is not before the first
   pub sender : first ≤ y.sender
+  -- its number is at least 1
   pub seq : 1 ≤ y.seq
+  -- its number is at most the last of its sender's row
   pub low : y.seq ≤ get_or ks (y.sender - first) 0
 
 row_true : (s a k : ℕ) (y : Label) → has_name (map (name s) (numbers_from a k)) y ≡ true
@@ -45,6 +51,7 @@ row_true s a (suc k) y e =
               omega (arith, h.last);
         }
 
+-- each name in the rows is one of a sender with a row, with a number within that row
 pub rows_true : (first : ℕ) (ks : List ℕ) (y : Label) → has_name (rows_from first ks) y ≡ true
     → IsInRows first ks y
 rows_true first [] y e = absurd (false≢true e)
@@ -79,6 +86,7 @@ none_in : (n d : ℕ) → get_or [] n d ≡ d
 none_in zero d = refl
 none_in (suc n) d = refl
 
+-- each name of a sender with a row, with a number within that row, is in the rows
 pub rows_hold : (first : ℕ) (ks : List ℕ) (y : Label) → IsInRows first ks y
     → has_name (rows_from first ks) y ≡ true
 rows_hold first [] y h =
@@ -122,11 +130,13 @@ all_true low above y e =
     at (inl f) = inl f
     at (inr f) = inr (rows_true 1 low y f)
 
+-- a name in the upper part is among the names of both parts
 pub all_above : (low : List ℕ) (above : List Label) (y : Label) → has_name above y ≡ true
     → has_name (all_names low above) y ≡ true
 all_above low above y e =
     list_any-append (λ z. same_name z y) above (rows_from 1 low) ∙ or_left (has_name above y) _ e
 
+-- a name in the rows of the lower part is among the names of both parts
 pub all_low : (low : List ℕ) (above : List Label) (y : Label) → IsInRows 1 low y
     → has_name (all_names low above) y ≡ true
 all_low low above y h =

@@ -11,6 +11,7 @@ use Rattle.urb_certified.specs.internal.Sets.{IsOrder}
 pub name_lt-strict : (x : Label) → name_lt x x ≡ false
 name_lt-strict x = false_from_ne_true _ (λ e. false≢true (sym (name_lt-other_way x x e) ∙ e))
 
+-- the order of names meets the laws of a strict order
 pub names_in_order : IsOrder name_lt same_name
 names_in_order = record {
   transitive = name_lt-trans;

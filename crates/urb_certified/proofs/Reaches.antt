@@ -20,15 +20,18 @@ use Rattle.urb_certified.proofs.Members.{IsInRows, all_above, all_low, all_true}
 abbrev pub held : List ℕ → List Label → List Label
 held low above = set_of name_lt same_name (all_names low above)
 
+-- the ordered list has exactly the names of the two parts
 pub held_has : (low : List ℕ) (above : List Label) (y : Label)
     → has_name (held low above) y ≡ has_name (all_names low above) y
 held_has low above y = set_has name_lt same_name names_in_order (all_names low above) y
 
+-- a sender's names up to the first uncertified one are as many as its certificates reach
 pub length-beginning : (s : ℕ) (certified : List Label)
     → length (beginning s certified) ≡ reach s certified
 length-beginning s certified =
     ap length (beginning_is s certified) ∙ length-row s 1 (reach s certified)
 
+-- each of a sender's names up to its number in the lower part is among the names of both parts
 pub in_low : (low : List ℕ) (above : List Label) (s i : ℕ) → 1 ≤ s → 1 ≤ i → i ≤ low_of low s
     → has_name (held low above) (name s i) ≡ true
 in_low low above s i h l u =

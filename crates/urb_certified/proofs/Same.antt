@@ -26,6 +26,7 @@ module _ (low low' : List ℕ) (above above' : List Label) (parts : IsParts low 
       sym (reach_low low above s parts h)
       ∙ (ap (λ xs. length (beginning s xs)) same ∙ reach_low low' above' s parts' h)
 
+  -- two pairs of parts with the same names have the same lower part
   pub same_low : low ≡ low'
   same_low =
       same_numbers low low' (parts.senders ∙ sym parts'.senders)
@@ -57,6 +58,7 @@ module _ (low low' : List ℕ) (above above' : List Label) (parts : IsParts low 
           let far : low_of low' y.sender + 1 < y.seq = (parts'.gap y e).1 in
           absurd (omega arith)
 
+  -- two pairs of parts with the same names have the same upper part
   pub same_above : above ≡ above'
   same_above =
       rising_same name_lt same_name names_in_order above above' parts.order parts'.order

@@ -10,6 +10,7 @@ use Rattle.clap.specs.declared.builder.command.Command.TheViews.{out-Command}
 abbrev pub IsMade : Command → App → Type 0
 IsMade made app = (app_of made ≡ app) × ((out-Command made).has_globals ≡ false)
 
+-- an argument that is added to a command adds its rule to what the parser sees
 pub adds : (old new : Command) (arg : Arg) (app : App) (rule : Rule) → AddsArg old arg new
     → IsMade old app → rule_of arg ≡ rule → arg.global ≡ false → IsMade new (with_rule app rule)
 adds old new arg app rule added made is own = (
@@ -17,6 +18,7 @@ adds old new arg app rule added made is own = (
   added.globals ∙ ap₂ (λ x y. x || y) made.1 own,
 )
 
+-- a subcommand that is added to a command is added to what the parser sees
 pub adds_below : (old sub new : Command) (app below : App) → AddsSubcommand old sub new
     → IsMade old app → IsMade sub below → IsMade new (with_subcommand app below.top)
 adds_below old sub new app below added made is = (

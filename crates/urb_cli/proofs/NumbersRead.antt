@@ -41,6 +41,7 @@ numeral_from ds e =
 abbrev bounded : ℕ → ℕ → Option ℕ → Option ℕ
 bounded low high = option_and_then (λ n. cond (nat_le low n && nat_le n high) (Some n) None)
 
+-- the number that was read from a text, if it is within the bounds, is that of the text
 pub number_read : {E : Type 0} (G : List ℕ → Result ℕ E → Type 0) (low high : ℕ) (text : Text)
     (r : Option ℕ)
     → ReadsOne G text r → ((u : List ℕ) (x : Result ℕ E) → G u x → ParsesUnsigned 32 10 u x)

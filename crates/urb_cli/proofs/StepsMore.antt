@@ -3,6 +3,7 @@ use Rattle.std.proofs.Common.{◌≡◌, List, [], ◌∷◌, ◌++◌, refl, su
 use Rattle.urb_cli.specs.Calls.{Steps}
 
 module _ {S X : Type 0} (step : S → X → S → Type 0) where
+  -- one step after others is one more of them
   pub one_step_more : (old mid new : S) (xs : List X) (x : X) → Steps step old xs mid
       → step mid x new → Steps step old (xs ++ x ∷ []) new
   one_step_more old mid new [] x so_far more =

@@ -6,7 +6,7 @@ use Rattle.std.proofs.lemmas.List.Concat.{flat_map-cons}
 use Rattle.urb_names.specs.Naming.{Label, Content}
 use Rattle.urb_client.specs.Listings.{entry_bytes}
 
--- one more entry is pushed
+-- once the next entry is pushed, the bytes and those of the later entries are still the whole
 pub one_more : (old new whole : List ℕ) (entries : List (Label × Content)) (i : ℕ)
     (entry : Label × Content) → i < length entries → entry ≡ get_or entries i entry
     → new ≡ old ++ entry_bytes entry

@@ -18,7 +18,7 @@ regroup front entry (Some x) =
     ap (λ (entries : List (Label × Content)). Some (entries, x.1)) (simp append_assoc)
 regroup front entry None = refl
 
--- one more entry is read
+-- once the next entry is read, what was read and what is left are still the whole
 pub goes_on : (front : List (Label × Content)) (count i : ℕ) (bytes : List ℕ)
     (entry : Label × Content) (after : List ℕ) (total : Option (List (Label × Content) × List ℕ))
     → i < count → entry_at bytes ≡ Some (entry, after)
@@ -32,7 +32,7 @@ goes_on front count i bytes entry after total lt h so_far =
     rw (k, h) (regroup front entry (entries_at (count - (i + 1)) after)) in
     sym one ∙ so_far
 
--- there is no entry
+-- if the next entry is missing, the whole can't be read
 pub stops : (front : List (Label × Content)) (count i : ℕ) (bytes : List ℕ)
     (total : Option (List (Label × Content) × List ℕ)) → i < count → entry_at bytes ≡ None
     → with_front front (entries_at (count - i) bytes) ≡ total → total ≡ None
@@ -42,7 +42,7 @@ stops front count i bytes total lt h so_far =
     let one : with_front front (entries_at (count - i) bytes) ≡ None = rw (k, h) refl in
     sym so_far ∙ one
 
--- all are read
+-- once as many entries as were announced are read, they are the whole
 pub is_done : (front : List (Label × Content)) (count i : ℕ) (bytes : List ℕ)
     (total : Option (List (Label × Content) × List ℕ)) → count ≤ i
     → with_front front (entries_at (count - i) bytes) ≡ total → total ≡ Some (front, bytes)

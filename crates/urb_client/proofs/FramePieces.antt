@@ -25,16 +25,23 @@ two_bytes bytes fits len =
 
 -- a length that was read whole
 pub record Length (bytes : List ℕ) (got n : ℕ) : Type 0 where
+  -- a length takes two bytes
   pub two : length bytes ≡ 2
+  -- at most two bytes are read
   pub within : got ≤ 2
+  -- at least one byte is read
   pub some : got ≢ 0
+  -- not only one byte is read
   pub more : got ≢ 1
+  -- the two bytes are the number
   pub says : bytes ≡ big_bytes 2 n
+  -- the number fits in two bytes
   pub below : n < 2 ^ 16
 
 spelled : (bytes : List ℕ) (got n : ℕ) → Length bytes got n → take got bytes ≡ big_bytes 2 n
 spelled bytes got n t = take_all got bytes (omega (arith, t.two, t.within, t.some, t.more)) ∙ t.says
 
+-- a length of 0, or over that of the longest request, breaks the frame
 pub bad_length : (known left : Option (List ℕ)) (bytes : List ℕ) (got n : ℕ) → Length bytes got n
     → Consumes known left (take got bytes) → (n ≡ 0) ⊎ (LONGEST_REQUEST < n)
     → IfSome known (λ all. IsSomeAnd left (IsBroken all 1))
@@ -46,6 +53,7 @@ bad_length (Some all) (Some rest) bytes got n t c bad =
     )
 bad_length (Some all) None bytes got n t c bad = absurd c
 
+-- an input that ends inside a frame breaks it
 pub cut_inside : (known mid left : Option (List ℕ)) (bytes body : List ℕ) (got n part : ℕ)
     → Length bytes got n → Consumes known mid (take got bytes) → Consumes mid left (take part body)
     → IsAtEnd left → n ≢ 0 → n ≤ LONGEST_REQUEST → part < n
@@ -68,6 +76,7 @@ cut_inside (Some all) (Some rest) (Some last) bytes body got n part t c d e some
       refl,
     )
 
+-- a length, and as many bytes after it, are read as a whole frame
 pub whole_frame : (known mid left : Option (List ℕ)) (bytes body : List ℕ) (got n part : ℕ)
     (after : List ℕ) → Length bytes got n → Consumes known mid (take got bytes)
     → Consumes mid left (take part body) → part ≡ n → length body ≡ n
@@ -80,7 +89,7 @@ whole_frame known mid left bytes body got n part after t c d all len =
     rw same (rw len (subst (λ (front : List ℕ). Consumes known left (front ++ body))
     (spelled bytes got n t) (Consumes-trans _ _ _ _ _ c read)))
 
--- the reader fails after a length
+-- if the reader fails after a length and before the body's end, less than a frame is read
 pub part_inside : (known mid left : Option (List ℕ)) (bytes : List ℕ) (got n : ℕ)
     → Length bytes got n → Consumes known mid (take got bytes) → n ≢ 0 → n ≤ LONGEST_REQUEST
     → ReadsUnder n mid left → PartRead known left
@@ -95,6 +104,7 @@ part_inside (Some all) (Some rest) (Some last) bytes got n t c some small under 
   inr (inr (n, under.0, refl, omega (arith, some), small, under.2)),
 )
 
+-- what holds anyway holds if a result is an error
 pub on_err : {A E : Type 0} (r : Result A E) (P : Type 0) → P → OnErr r P
 on_err (Ok x) P p = tt
 on_err (Err e) P p = p

@@ -22,7 +22,7 @@ slice_range-put_mid a k n xs ys within fits =
     ap (take ((a + n) - a)) (drop_at (take a xs) (ys ++ after) a (length-take-le a xs within))
     ∙ ap (λ m. take m (ys ++ after)) same ∙ take-append-le n ys after fits
 
--- a read into the rest of the buffer
+-- what is read into the rest of a buffer follows what was read into its front
 pub filled_more : (known mid new : Option (List ℕ)) (at k n : ℕ) (old piece : List ℕ)
     → at ≤ length old → n ≤ length piece → Consumes known mid (take at old)
     → Consumes mid new (take n piece)
@@ -35,7 +35,7 @@ filled_more known mid new at k n old piece within fits before now_read =
     subst (Consumes known new) (ap (λ l. take at old ++ l) (sym part) ∙ joined)
     (Consumes-trans _ _ _ _ _ before now_read)
 
--- a read that failed
+-- a failed read leaves what was read into the front of a buffer
 pub filled_same : (known mid new : Option (List ℕ)) (at k : ℕ) (old piece : List ℕ)
     → at ≤ length old → Consumes known mid (take at old) → Keeps mid new
     → Consumes known new (take at (put_mid at k old piece))

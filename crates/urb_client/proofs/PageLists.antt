@@ -28,7 +28,7 @@ size-one entry =
     ∙ length-append (entry_head entry.0 entry.1) entry.1.payload
     ∙ ap (λ (n : ℕ). n + length entry.1.payload) head
 
--- one more entry
+-- a prefix with one more entry takes the bytes of that entry more
 pub size-more : (entries : List (Label × Content)) (i : ℕ) (entry : Label × Content)
     → i < length entries → entry ≡ get_or entries i entry
     → size (take (i + 1) entries) ≡ size (take i entries) + (ENTRY_HEAD + length entry.1.payload)
@@ -42,6 +42,7 @@ size-more entries i entry within here =
 size-beginning : (xs ys : List (Label × Content)) → size xs ≤ size (xs ++ ys)
 size-beginning xs ys = omega (arith, size-append xs ys)
 
+-- a longer prefix of entries takes at least as many bytes
 pub size-longer : (entries : List (Label × Content)) (i k : ℕ) → i ≤ k
     → size (take i entries) ≤ size (take k entries)
 size-longer entries i k below =
@@ -118,6 +119,7 @@ front_and_rest max log listed rest is =
     (ap (drop (length listed)) all ∙ drop_at listed (rest ++ drop max log) (length listed) refl)
     ∙ sym all
 
+-- a reader that asks on gets every entry of the log once, in order
 pub is_read_whole : IsReadWhole
 is_read_whole max log [] some reads = sym (nothing_left max log some (reads.some refl))
 is_read_whole max log (listed ∷ lists) some reads =

@@ -135,6 +135,7 @@ once (event ∷ whole) (first ∷ others)
     (subst (λ (mid : List ℕ). Begins mid whole rest) same.1 b.6) e c.6 f in
     (cc (here, behind.0), behind.1)
 
+-- no input says two different things
 pub is_read_once : IsReadOnce
 is_read_once input ended other events others left rest p q =
     let same =

@@ -15,16 +15,21 @@ use Rattle.urb_client.proofs.ResponseLimits.{said_fits}
 
 -- a length that was read whole
 pub record Headed (bytes : List ℕ) (got n : ℕ) : Type 0 where
+  -- a length takes two bytes
   pub two : length bytes ≡ 2
+  -- at most two bytes are read
   pub within : got ≤ 2
+  -- at least two bytes are read
   pub enough : 2 ≤ got
+  -- the two bytes are the number
   pub says : bytes ≡ big_bytes 2 n
+  -- the number fits in two bytes
   pub below : n < 2 ^ 16
 
 spelled : (bytes : List ℕ) (got n : ℕ) → Headed bytes got n → take got bytes ≡ big_bytes 2 n
 spelled bytes got n t = take_all got bytes (omega (arith, t.two, t.enough)) ∙ t.says
 
--- fewer bytes than a length has
+-- an input of fewer bytes than a length has begins with no frame
 pub no_length : (known left : Option (List ℕ)) (bytes : List ℕ) (got : ℕ)
     → Consumes known left (take got bytes) → IsAtEnd left → got < 2 → IfSome known HasNoFrame
 no_length None left bytes got c e few = tt
@@ -34,7 +39,7 @@ no_length (Some all) (Some rest) bytes got c e few = λ body behind some small i
     rw (c, e) (omega (arith, length-take got bytes, length-append (take got bytes) [])) in
     omega (arith, short, few, ap length is)
 
--- a length of 0
+-- an input with a length of 0 begins with no frame
 pub no_body : (known left : Option (List ℕ)) (bytes : List ℕ) (got n : ℕ) → Headed bytes got n
     → Consumes known left (take got bytes) → n ≡ 0 → IfSome known HasNoFrame
 no_body None left bytes got n t c none = tt
@@ -45,7 +50,7 @@ no_body (Some all) (Some rest) bytes got n t c none = λ body behind some small 
     (c ∙ ap (λ (front : List ℕ). front ++ rest) (spelled bytes got n t)) is in
     omega (arith, same.0, none, some)
 
--- fewer bytes than the length says
+-- an input with fewer bytes than its length says begins with no frame
 pub cut_body : (known mid left : Option (List ℕ)) (bytes part : List ℕ) (got n filled : ℕ)
     → Headed bytes got n → Consumes known mid (take got bytes)
     → Consumes mid left (take filled part) → IsAtEnd left → filled < n
@@ -62,7 +67,7 @@ cut_body (Some all) (Some rest) (Some last) bytes part got n filled t c d e shor
     rw (d, e) (omega (arith, length-take filled part, length-append (take filled part) [])) in
     omega (arith, same.0, few, short, ap length same.1, length-append body behind)
 
--- a whole frame
+-- a length, and as many bytes after it, are read as a frame
 pub whole_body : (known mid left : Option (List ℕ)) (bytes body : List ℕ) (got n filled : ℕ)
     → Headed bytes got n → Consumes known mid (take got bytes)
     → Consumes mid left (take filled body) → n ≤ filled → length body ≡ n
@@ -83,13 +88,13 @@ some_bytes (Refused number detail) = omega arith
 below : (said : Said) → IsSaid said → length (response_body said) < 2 ^ 16
 below said is = omega (arith, said_fits said is)
 
--- no frame is no response
+-- an input that begins with no frame begins with no response
 pub no_response : (known : Option (List ℕ)) → IfSome known HasNoFrame → IfSome known HasNoResponse
 no_response None h = tt
 no_response (Some all) h =
     λ said rest is same. h (response_body said) rest (some_bytes said) (below said is) same
 
--- a frame of bytes that are no response
+-- an input that begins with a frame of other bytes than a response's begins with no response
 pub another_frame : (known left : Option (List ℕ)) (body : List ℕ)
     → Consumes known left (frame body) → length body < 2 ^ 16
     → ((said : Said) → IsSaid said → body ≡ response_body said → ⊥) → IfSome known HasNoResponse

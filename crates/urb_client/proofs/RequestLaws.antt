@@ -24,7 +24,9 @@ is_submit fields long client =
 
 -- these bytes encode this request
 record Spells (fields : List ℕ) (opcode : ℕ) (asked : Asked) : Type 0 where
+  -- the values of the request are within their limits
   pub is : IsAsked asked
+  -- the opcode and the fields are its encoding
   pub bytes : opcode ∷ fields ≡ request_body asked
 
 -- a test that found no fault
@@ -139,6 +141,7 @@ alone_takes opcode alone fields asked is body e =
     subst (Spells fields opcode) same
     (record { is = is; bytes = ap (λ (r : List ℕ). opcode ∷ r) nothing ∙ body })
 
+-- bytes that are read as a request are its encoding, and its values are within their limits
 pub asked_takes : (bytes : List ℕ) (asked : Asked) → IsBytes bytes → request_of bytes ≡ Ok asked
     → IsAsked asked × (bytes ≡ request_body asked)
 asked_takes [] asked fits e = absurd cc
@@ -161,6 +164,7 @@ asked_takes (opcode ∷ fields) asked fits e =
     (λ same h. from 6 same (wait_takes fields asked rest h))
     (λ e. absurd cc))))))
 
+-- a request that a call returns has these bytes as its encoding, and values within their limits
 pub is_found : {A : Type 0} (view : A → Asked) (bytes : List ℕ) (read : Result A Refusal)
     → IsBytes bytes → Gives view read (request_of bytes)
     → IfOk read (λ request. IsAsked (view request) × (bytes ≡ request_body (view request)))

@@ -83,7 +83,9 @@ ended said other rest e =
 
 -- these bytes encode this response
 record Spells (fields : List ℕ) (opcode : ℕ) (said : Said) : Type 0 where
+  -- the values of the response are within their limits
   pub is : IsSaid said
+  -- the opcode and the fields are its encoding
   pub bytes : opcode ∷ fields ≡ response_body said
 
 number_ends : (fields : List ℕ) (x : ℕ × List ℕ) → Takes fields (big_bytes 4 x.0) x.1 → x.1 ≡ []
@@ -213,6 +215,7 @@ refused_takes fields said fits e =
     subst (Spells fields 238) end.1
     (record { is = (number.1, detail.1); bytes = ap (λ (r : List ℕ). 238 ∷ r) all })
 
+-- bytes that are read as a response are its encoding, and its values are within their limits
 pub said_takes : (bytes : List ℕ) (said : Said) → length bytes ≤ LONGEST_FRAME → IsBytes bytes
     → said_of bytes ≡ Some said → IsSaid said × (bytes ≡ response_body said)
 said_takes [] said short fits e = absurd cc
@@ -277,6 +280,7 @@ refused_again number detail is =
     ap (λ (r : Option (ℕ × List ℕ)). r >>= λ x. at_end (Refused number x.0) x.1)
     (last_again detail is)
 
+-- the encoding of a response is read as that response
 pub said_again : (said : Said) → IsSaid said → said_of (response_body said) ≡ Some said
 said_again (Accepted seq) is = accepted_again seq is
 said_again (Listing entries) is = listing_again entries is.0 is.1
@@ -284,6 +288,7 @@ said_again (Status state own logged) is = status_again state own logged is.0 is.
 said_again Done is = refl
 said_again (Refused number detail) is = refused_again number detail is.1
 
+-- a response that a call returns has these bytes as its encoding, and values within their limits
 pub is_found : {A E : Type 0} (view : A → Said) (bytes : List ℕ) (read : Result (Option A) E)
     → length bytes ≤ LONGEST_FRAME → IsBytes bytes
     → IfOk read (λ r. option_map view r ≡ said_of bytes)
@@ -294,6 +299,7 @@ is_found view bytes (Ok (Some response)) short fits e =
     said_takes bytes (view response) short fits (sym e)
 is_found view bytes (Err fault) short fits e = tt
 
+-- a call finds each response whose encoding the bytes are
 pub is_only : {A E : Type 0} (view : A → Said) (bytes : List ℕ) (read : Result (Option A) E)
     → IfOk read (λ r. option_map view r ≡ said_of bytes)
     → IfOk read (λ r. (said : Said) → IsSaid said → bytes ≡ response_body said

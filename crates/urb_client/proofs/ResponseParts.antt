@@ -22,6 +22,7 @@ use Rattle.urb_client.specs.internal.ParsedResponses.{message_at, entry_at}
 abbrev pub IsBytes : List ℕ → Type 0
 IsBytes bytes = (i : ℕ) → get_or bytes i 0 < 256
 
+-- if numbers are bytes, those after the first n are bytes
 pub IsBytes-drop : (n : ℕ) (bytes : List ℕ) → IsBytes bytes → IsBytes (drop n bytes)
 IsBytes-drop n bytes h i = rw get_or-drop (h (n + i))
 
@@ -33,22 +34,23 @@ IsBytes-take n bytes h i =
           (omega arith)
     ]
 
+-- if numbers are bytes, those after the first are bytes
 pub IsBytes-rest : (b : ℕ) (bytes : List ℕ) → IsBytes (b ∷ bytes) → IsBytes bytes
 IsBytes-rest b bytes h i = h (suc i)
 
--- the value of a part that was read
+-- if two parts were read one after the other, the first was read, and then the second
 pub bind_some : {A B : Type 0} (r : Option A) (f : A → Option B) (y : B) → (r >>= f) ≡ Some y
     → (x : A) × (r ≡ Some x) × (f x ≡ Some y)
 bind_some (Some x) f y e = (x, refl, e)
 bind_some None f y e = absurd cc
 
--- a test that didn't stop the reading
+-- if a test didn't stop the reading, it is false, and the value was read
 pub guard_some : {A : Type 0} (b : Bool) (x y : A) → cond b None (Some x) ≡ Some y
     → (b ≡ false) × (x ≡ y)
 guard_some true x y e = absurd cc
 guard_some false x y e = (refl, cc)
 
--- one of two values, by a test
+-- what follows from each of two values follows from the one that a test chooses
 pub by_test : {X : Type 0} (b : Bool) (x y z : X) (P : Type 0) → cond b x y ≡ z
     → (b ≡ true → x ≡ z → P) → (y ≡ z → P) → P
 by_test true x y z P e first second = first refl e
@@ -56,9 +58,12 @@ by_test false x y z P e first second = second e
 
 -- what was taken from the front
 pub record Takes (bytes text rest : List ℕ) : Type 0 where
+  -- the bytes are what was taken, then the rest
   pub parts : bytes ≡ text ++ rest
+  -- each number of the rest is a byte
   pub rest_fits : IsBytes rest
 
+-- two texts that are taken one after the other are taken together
 pub Takes-then : (a x b y c : List ℕ) → Takes a x b → Takes b y c → Takes a (x ++ y) c
 Takes-then a x b y c p q = record {
   parts = p.parts ∙ ap (λ (t : List ℕ). x ++ t) q.parts ∙ sym (append_assoc x y c);
@@ -70,10 +75,14 @@ Takes-then a x b y c p q = record {
 
 -- a number that is read from n bytes is encoded as these bytes
 pub record IsWide (n limit : ℕ) : Type 0 where
+  -- bytes that are read as a number are its encoding
   pub back : (bytes : List ℕ) → n ≤ length bytes → IsBytes bytes
       → big_bytes n (big_number n bytes) ++ drop n bytes ≡ bytes
+  -- the encoding of a number is read as that number
   pub again : (x : ℕ) (rest : List ℕ) → x < limit → big_number n (big_bytes n x ++ rest) ≡ x
+  -- what is read is below the limit
   pub below : (bytes : List ℕ) → IsBytes bytes → big_number n bytes < limit
+  -- the encoding has n bytes
   pub len : (x : ℕ) → length (big_bytes n x) ≡ n
 
 back_two : (bytes : List ℕ) → 2 ≤ length bytes → IsBytes bytes
@@ -96,6 +105,7 @@ back_four (a ∷ b ∷ c ∷ d ∷ rest) long fits =
     (be_bytes_4 (a ∷ b ∷ c ∷ d ∷ []) (big_number 4 (a ∷ b ∷ c ∷ d ∷ rest)) refl
     (IsBytes-take 4 (a ∷ b ∷ c ∷ d ∷ rest) fits) (omega arith))
 
+-- two bytes are read as a number below 2^16, and encoded again, and the other way round
 pub two : IsWide 2 (2 ^ 16)
 two = record {
   back = back_two;
@@ -105,6 +115,7 @@ two = record {
   len = λ x. refl;
 }
 
+-- four bytes are read as a number below 2^32, and encoded again, and the other way round
 pub four : IsWide 4 (2 ^ 32)
 four = record {
   back = back_four;
@@ -114,6 +125,7 @@ four = record {
   len = λ x. refl;
 }
 
+-- a number that is read is below the limit, and its encoding was taken
 pub number_takes : (n limit : ℕ) (wide : IsWide n limit) (bytes : List ℕ) (x : ℕ × List ℕ)
     → IsBytes bytes → number_at n bytes ≡ Some x → Takes bytes (big_bytes n x.0) x.1 × (x.0 < limit)
 number_takes n limit wide bytes x fits e =
@@ -124,6 +136,7 @@ number_takes n limit wide bytes x fits e =
       wide.below bytes fits,
     )
 
+-- the encoding of a number below the limit is read as that number
 pub number_again : (n limit : ℕ) (wide : IsWide n limit) (x : ℕ) (rest : List ℕ) → x < limit
     → number_at n (big_bytes n x ++ rest) ≡ Some (x, rest)
 number_again n limit wide x rest lt =
@@ -132,7 +145,7 @@ number_again n limit wide x rest lt =
     le-ltb _ _ (omega (arith, length-append (big_bytes n x) rest)) in
     rw (long, wide.again x rest lt, drop_at (big_bytes n x) rest n len) refl
 
--- a byte
+-- a byte that is read was taken from the front, and is below 256
 pub byte_takes : (bytes : List ℕ) (x : ℕ × List ℕ) → IsBytes bytes → byte_at bytes ≡ Some x
     → Takes bytes (x.0 ∷ []) x.1 × (x.0 < 256)
 byte_takes [] x fits e = absurd cc
@@ -285,6 +298,7 @@ message_again m rest is =
 
 -- ---- entries
 
+-- an entry that is read is within its limits, and its encoding was taken
 pub entry_takes : (bytes : List ℕ) (x : (Label × Content) × List ℕ) → IsBytes bytes
     → entry_at bytes ≡ Some x → Takes bytes (entry_bytes x.0) x.1 × IsEntry x.0
 unfolding entry_at
@@ -302,6 +316,7 @@ entry_takes bytes x fits e =
       (name.1, message.1),
     )
 
+-- the encoding of an entry is read as that entry
 pub entry_again : (entry : Label × Content) (rest : List ℕ) → IsEntry entry
     → entry_at (entry_bytes entry ++ rest) ≡ Some (entry, rest)
 unfolding entry_at

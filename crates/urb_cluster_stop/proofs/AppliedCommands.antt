@@ -53,6 +53,7 @@ module _ {S A : Type 0} (g : Ghosts S A) where
   restarts-size old new p reply false sound alone =
       reacts-size old.group new.group _ reply sound (alone []).0
 
+  -- After a command, whatever the reply, the group has the limits that it had before.
   pub applies-size : (old new : Clustered S) (what : Command A) (reply : Reply) → IsSound old.group
       → Applies g old what reply new → new.group.size ≡ old.group.size
   applies-size old new (command.Submit p client number payload) reply sound alone =

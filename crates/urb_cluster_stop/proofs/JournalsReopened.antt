@@ -15,6 +15,7 @@ use Rattle.urb_sqlite.specs.Reading.{records_of}
 use Rattle.urb_cluster_stop.specs.internal.ClusterStops.{AreReopened}
 use Rattle.urb_sqlite.specs.Stops.{IsReopened}
 
+-- one more journal was opened again, after those that were
 pub one_more_reopened : {S : Type 0} (before after : List S) (old new : S) (at : S → State)
     → AreReopened before after at → IsReopened (at old) (at new)
     → AreReopened (before ++ old ∷ []) (after ++ new ∷ []) at
@@ -24,6 +25,7 @@ one_more_reopened (x ∷ before) [] old new at are is = absurd are
 one_more_reopened (x ∷ before) (y ∷ after) old new at are is =
     (are.0, one_more_reopened before after old new at are.1 is)
 
+-- as many journals were opened again as there were
 pub same_count : {S : Type 0} (before after : List S) (at : S → State) → AreReopened before after at
     → length after ≡ length before
 same_count [] [] at are = refl
@@ -47,6 +49,7 @@ holds_again node old new is leaves honest records holds =
     let found = is.left honest.clean of.0 of.1 of.2 in
     subst (MayLeave node) (sym holds) (of.3 (records_of new.now) found.1)
 
+-- a journal that is honest once it is opened again holds what a stop may leave of its node
 pub all_hold : {S : Type 0} (before after : List S) (at : S → State) (nodes : ℕ → Node)
     → AreReopened before after at
     → ((i : ℕ) (store : S) → slice_get before i ≡ Some store → HasCleanDisk (at store)
@@ -95,19 +98,23 @@ honest-again g (x ∷ before) (image ∷ images) [] gave were clean = absurd gav
 
 -- ---- lists that a loop has come through
 
+-- the next element goes from the front of those that are left to the end of those that came
 pub moved : {S : Type 0} (yielded left : List S) (x : S)
     → yielded ++ x ∷ left ≡ (yielded ++ x ∷ []) ++ left
 moved [] left x = refl
 moved (y ∷ yielded) left x = ap (λ zs. y ∷ zs) (moved yielded left x)
 
+-- a list with nothing after it is the list itself
 pub append-none : {S : Type 0} (xs : List S) → xs ++ [] ≡ xs
 append-none [] = refl
 append-none (x ∷ xs) = ap (λ zs. x ∷ zs) (append-none xs)
 
+-- a list that has no element is empty
 pub none_left : {S : Type 0} (xs : List S) (n : ℕ) → n ≡ length xs → n ≡ 0 → xs ≡ []
 none_left [] n e z = refl
 none_left (x ∷ xs) n e z = absurd (omega arith)
 
+-- one more element makes a list longer by one
 pub one_more_length : {S : Type 0} (xs : List S) (x : S) → length (xs ++ x ∷ []) ≡ suc (length xs)
 one_more_length [] x = refl
 one_more_length (y ∷ xs) x = ap suc (one_more_length xs x)

@@ -54,6 +54,8 @@ ends-opened g size own stores result group asked lasts told end same is opens se
 
 -- ---- how a run over what a stop had left ends
 
+-- over honest stores, a run whose group opened after a stop goes on from the stopped world until
+-- the run ends
 pub served-after-stop :
     {S A : Type 0} (g : Ghosts S A) (size own : Limits) (stores : List S)
     (result : Result GroupView Refusal) (group : GroupView) (asked lasts : List S) (told : Bool)
@@ -77,6 +79,7 @@ served-after-stop g size own stores result group asked lasts told end same is op
       ends = ends;
     })
 
+-- a run whose group didn't open over what a stop had left ends with that refusal
 pub refused-after-stop :
     {S A : Type 0} (g : Ghosts S A) (size own : Limits) (stores : List S)
     (result : Result GroupView Refusal) (why : Refusal) (asked : List S) (told : Bool)

@@ -81,6 +81,7 @@ needs_all w q s own delivered j row low above within =
     (row j low ∙ and_from (nat_le j own) (nat_lt delivered j) (le-leb j own within)
     (lt-ltb delivered j above))
 
+-- a node needs nothing for a name that it has delivered, or that its sender has not broadcast
 pub needs_none : (w : World) (q s own delivered j : ℕ) → IsRow w q s delivered own → 1 ≤ j
     → (j ≤ delivered) ⊎ (own < j) → needed w q (name s j) ≡ []
 needs_none w q s own delivered j row low (inl within) =

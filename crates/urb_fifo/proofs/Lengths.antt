@@ -67,7 +67,7 @@ below_few names cap none few zero = omega (arith, none_below names, none, below_
 below_few names cap none few (suc m) =
     omega (arith, below_few names cap none few m, below_more (suc m) names, few (suc m))
 
--- at most cap names of each sender
+-- a list with at most a cap of names for each sender is at most MAX_NODES times the cap long
 pub all_parts : (names : List Label) (cap : ℕ)
     → ((x : Label) → has_name names x ≡ true → x.sender ≤ MAX_NODES) → length (part_of 0 names) ≡ 0
     → ((s : ℕ) → length (part_of s names) ≤ cap) → length names ≤ MAX_NODES * cap

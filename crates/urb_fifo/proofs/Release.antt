@@ -23,13 +23,13 @@ parts_of_release certificates d h s =
     ∙ (ap (row s 1) (reach-same s certificates d.certified (λ x. sym (h.certified x)))
     ∙ sym (beginning_is s d.certified)))
 
--- how many names of a sender the log holds
+-- a log holds as many names of a sender as the certificates reach
 pub part_reaches : (d : Delivery) → ((s : ℕ) → part_of s d.log ≡ beginning s d.certified) → (s : ℕ)
     → length (part_of s d.log) ≡ reach s d.certified
 part_reaches d parts s =
     ap length (parts s ∙ beginning_is s d.certified) ∙ length-row s 1 (reach s d.certified)
 
--- this is within the cap
+-- the certificates of names of the group reach at most the cap
 pub reach_within : (d : Delivery)
     → ((x : Label) → has_name d.certified x ≡ true → IsNameOf d.limits x) → (s : ℕ)
     → reach s d.certified ≤ d.limits.cap
@@ -40,12 +40,12 @@ reach_within d within s =
     (reach-certified s (reach s d.certified) d.certified h (omega arith))).seq)
     (cases_lt (reach s d.certified) 1)
 
--- the certified names with one more at its place
+-- the certified names with one more at its place are these names and that one
 pub certified_with : (certified : List Label) (x y : Label)
     → has_name (placed name_lt certified x) y ≡ has_name (x ∷ certified) y
 certified_with certified x y = any_insert (λ z. same_name z y) certified _ x
 
--- one more certificate
+-- if one more certificate appends what it releases, the log is still what the certificates release
 pub release_goes_on : (certificates : List Label) (old new : Delivery) (x : Label)
     → IsReleaseOf certificates old
     → new.log ≡ old.log ++ newly_released old.log old.certified x
@@ -67,7 +67,7 @@ release_goes_on certificates old new x h log certified = record {
     with_it : (y : Label) → has_name (x ∷ old.certified) y ≡ has_name (x ∷ certificates) y
     with_it y = ap (λ (b : Bool). same_name x y || b) (h.certified y)
 
--- a certificate that is there already
+-- if a name is certified already, the log is also what the certificates and one more of it release
 pub release_stays : (certificates : List Label) (d : Delivery) (x : Label)
     → has_name d.certified x ≡ true → IsReleaseOf certificates d → IsReleaseOf (x ∷ certificates) d
 release_stays certificates d x there h = record {
@@ -93,11 +93,12 @@ release_stays certificates d x there h = record {
         let e : reach x.sender certificates ≡ reach x.sender (x ∷ certificates) =
         reach-same x.sender certificates (x ∷ certificates) same in omega arith
 
+-- a log has no more names of a sender than the cap
 pub part_within : (d : Delivery) → IsDelivery d → (s : ℕ) → length (part_of s d.log) ≤ d.limits.cap
 part_within d h s =
     subst (λ (n : ℕ). n ≤ d.limits.cap) (sym (part_reaches d h.parts s)) (reach_within d h.within s)
 
--- a delivery with one more certified name, field by field
+-- a delivery with one more name in each of its fields is the one that certifying it gives
 pub certifying_new : (d new : Delivery) (x : Label) → has_name d.certified x ≡ false
     → new.limits ≡ d.limits → new.certified ≡ placed name_lt d.certified x
     → new.log ≡ d.log ++ newly_released d.log d.certified x
@@ -126,7 +127,8 @@ certifying_new d new x none limits certified log reserved =
               reserved i;
         }
 
--- a delivery with one more certified name
+-- certifying a new name puts it at its place, appends what it releases, and leaves only its own
+-- reservation
 pub certified_new : (d new : Delivery) (x : Label) → has_name d.certified x ≡ false
     → new ≡ certifying d x
     → new ≡ record d {

@@ -60,7 +60,7 @@ delivery_of d certificates limits order within h = record {
         absurd (omega arith))
         (cases_lt (reach 0 d.certified) 1)
 
--- if only the space grows
+-- the invariant remains if only the space grows
 pub kept_bigger : {A : Type 0} (a b : Inside A) → b.config ≡ a.config → b.reserved ≡ a.reserved
     → b.certified.names ≡ a.certified.names → (a.certified.room ≡ true → b.certified.room ≡ true)
     → b.log.items ≡ a.log.items → vec_len b.log ≡ vec_len a.log
@@ -95,7 +95,7 @@ kept_bigger a b config reserved certified certified_room log log_len log_room ke
               reserved i;
         }
 
--- if one more name of the group is certified
+-- the invariant remains if one more name of the group is certified
 pub kept_certified : {A : Type 0} (a b : Inside A) (x : Label) → IsNameOf a.config x
     → has_name a.certified.names x ≡ false
     → b.config ≡ a.config → b.reserved ≡ reserved_for a.reserved x
@@ -165,7 +165,7 @@ pub newly_count : (d : Delivery) (x : Label) (from end : ℕ)
     → length (newly_released d.log d.certified x) ≡ end - from
 newly_count d x from end names = ap length names ∙ length-row x.sender (suc from) (end - from)
 
--- if space was reserved for a name
+-- the invariant remains if space is reserved for a name
 pub kept_reserved : {A : Type 0} (a b : Inside A) (x : Label) (from end : ℕ)
     → newly_released a.log.items a.certified.names x ≡ map (name x.sender)
     (numbers_from (suc from) (end - from))

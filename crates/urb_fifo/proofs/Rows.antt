@@ -3,7 +3,7 @@ use Rattle.std.proofs.Common.{◌≡◌, ℕ, suc, ◌+◌, ◌-◌, ◌<◌, �
 use Rattle.urb_names.specs.Names.{name}
 use Rattle.urb_names.specs.Nodes.{numbers_from}
 
--- the next name, and those after it
+-- the names after a number up to the end are the next one, and those after it
 pub row_next : (s k end : ℕ) → k < end
     → map (name s) (numbers_from (suc k) (end - k)) ≡ name s (k + 1) ∷ map (name s)
     (numbers_from (suc (k + 1)) (end - (k + 1)))
@@ -12,6 +12,6 @@ row_next s k end h =
     let next : suc k ≡ k + 1 = omega arith in
     rw (left, next) refl
 
--- none comes after the last
+-- no name comes after the end
 pub row_none : (s k end : ℕ) → end ≤ k → map (name s) (numbers_from (suc k) (end - k)) ≡ []
 row_none s k end h = let left : end - k ≡ 0 = omega arith in rw left refl

@@ -212,6 +212,7 @@ opened-of g size stores images (Ok group) asked given opens =
 opened-of g size stores images (Err why) asked given opens =
     inr (record { images = images; given = given; opens = opens })
 
+-- if all stores gave their lists, the group is opened from them, or refused because of them
 pub opened-together :
     {S A : Type 0} (g : Ghosts S A) (size : Limits) (stores : List S)
     (answer : Result (Vec (Vec Entry A) A) Refusal) (asked : List S) (images : Vec (Vec Entry A) A)
@@ -223,6 +224,7 @@ opened-together g size stores answer asked images result gives is =
     opened-of g size stores (map (λ image. image.items) images.items) result asked
     (subst (λ them. RetrievesTogether g stores them asked) is gives)
 
+-- if the stores did not give all their lists, the group is refused for the same cause
 pub unopened-together :
     {S A : Type 0} (g : Ghosts S A) (size : Limits) (stores : List S)
     (answer : Result (Vec (Vec Entry A) A) Refusal) (asked : List S) (why : Refusal)
@@ -231,6 +233,7 @@ pub unopened-together :
 unopened-together g size stores answer asked why gives is =
     inl (subst (λ them. RetrievesTogether g stores them asked) is gives)
 
+-- A group that is opened after a stop goes on from the world before it, if its stores are honest.
 pub goes-on-together :
     {S A : Type 0} (g : Ghosts S A) (size : Limits) (stores : List S)
     (result : Result GroupView Refusal) (asked : Vec S A)
@@ -253,6 +256,7 @@ goes-on-together g size stores (Err why) asked (inl h) count old w stopped = (
   λ may. refused-so g stores why asked.items h,
 )
 
+-- a stop while the stores are asked leaves in them what a stop may leave of the world's nodes
 pub leaves-together :
     {S A : Type 0} (g : Ghosts S A) (size : Limits) (stores : List S)
     (result : Result GroupView Refusal) (asked : Vec S A)
@@ -265,6 +269,7 @@ leaves-together g size stores (Err why) asked (inr h) =
 leaves-together g size stores (Err why) asked (inl h) =
     λ w hold rest. refused-left g w stores why asked.items h hold rest
 
+-- a group that was opened is stocked, with the stores that were asked
 pub stocked-together :
     {S A : Type 0} (g : Ghosts S A) (size : Limits) (stores : List S)
     (result : Result GroupView Refusal) (asked : List S)
@@ -274,6 +279,7 @@ stocked-together g size stores (Ok group) asked h =
     opens-stocked g size stores (Ok (beside_stores group asked)) h
 stocked-together g size stores (Err why) asked h = tt
 
+-- if each store was honest or shut by a failure, the opened group is secured, with these stores
 pub secured-together :
     {S A : Type 0} (g : Ghosts S A) (size : Limits) (stores : List S)
     (result : Result GroupView Refusal) (asked : List S)

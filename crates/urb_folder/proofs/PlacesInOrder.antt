@@ -1,4 +1,5 @@
--- Places that are opened in their order.
+-- Places that are opened in their order. The lemmas on the arithmetic of a loop over places are
+-- over plain variables, because `omega` looks at all that is in reach.
 use Rattle.std.proofs.Common.{Err, IfErr, IfOk, List, MatchResult, Ok, Result, Some, [], arith, inl}
 use Rattle.std.proofs.Common.{inr, length, refl, slice_get, slice_index_or, slice_set, subst, suc}
 use Rattle.std.proofs.Common.{sym, zero, ℕ, ◌++◌, ◌+◌, ◌<◌, ◌∷◌, ◌≡◌, ◌≤◌}
@@ -55,17 +56,19 @@ pub outcome_of : {J E : Type 0} (P Q : J → Type 0) (R : E → Type 0) (outcome
 outcome_of P Q R (Ok it) p q r = (p, q)
 outcome_of P Q R (Err fault) p q r = r
 
--- The arithmetic of a loop over places. These lemmas are over plain variables, because `omega` looks
--- at all that is in reach.
+-- if there is room for all places, and not all are there yet, there is room for one more
 pub has_room : (held place count room : ℕ) → held ≡ place → place < count → count ≤ room
     → held < room
 has_room held place count room same less fits = omega (arith, same, less, fits)
 
+-- a place that is neither below the count nor above it is the count
 pub ended : (place count : ℕ) → count ≤ place → place ≤ count → place ≡ count
 ended place count behind within = omega (arith, behind, within)
 
+-- what is not before the next place is not before this one
 pub earlier : (place at : ℕ) → place + 1 ≤ at → place ≤ at
 earlier place at behind = omega (arith, behind)
 
+-- what is not before the next place is after this one
 pub before : (place at : ℕ) → place + 1 ≤ at → place < at
 before place at behind = omega (arith, behind)

@@ -14,9 +14,11 @@ use Rattle.urb_sqlite.specs.contracts.node_file.Unnamed as Unnamed
 use Rattle.urb_folder.specs.contracts.journal.Journal as Row
 use Rattle.urb_folder.specs.declared.journal.Journal.{Journal}
 
+-- the type of the operating system's files may go to a thread
 pub host_send : IsSend Host.the_field.row
 host_send = search (crosses, sendable) depth 100 fits 100000
 
+-- `Unnamed`, which says nothing about what files held, may go to a thread
 pub unnamed_send : IsSend Unnamed.the_field.row
 unnamed_send = search (crosses, sendable) depth 100 fits 100000
 

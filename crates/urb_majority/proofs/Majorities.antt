@@ -13,7 +13,7 @@ use Rattle.urb_majority.specs.Counting.{answer_of, has_majority, has_majority_wi
 use Rattle.urb_majority.specs.declared.acks.Noted.TheVariants.{Again, Counted, Reached}
 use Rattle.urb_window.proofs.Counts.{count_alike, count_one_more}
 
--- one more node is counted
+-- counting a new node of the group for a name raises its count by one
 pub count_with : (acks : List (Label × ℕ)) (x : Label) (q n : ℕ) → 0 < q → q ≤ n
     → acked acks x q ≡ false → count_by (acked ((x, q) ∷ acks) x) (nodes n) ≡ suc
     (count_by (acked acks x) (nodes n))
@@ -22,6 +22,7 @@ count_with acks x q n l u e =
     (λ r m v. ap (λ (b : Bool). (b && (q == r)) || acked acks x r) (same_name-same x))
     ∙ count_one_more (acked acks x) 1 n q (omega arith) (omega arith) e
 
+-- counting a new node makes a majority exactly if one node more than those counted is one
 pub with_new : (a : AckSet) (x : Label) (q : ℕ) → 0 < q → q ≤ a.limits.n
     → acked a.counted x q ≡ false
     → has_majority_with a x q ≡ is_majority
@@ -47,6 +48,7 @@ with_other a x q h =
     (λ r l u. ap (λ (b : Bool). b || acked a.counted x r)
     (and_right (same_name x x) (q == r) (ne_eqb q r (λ f. omega arith))))))
 
+-- counting a node again makes a majority exactly if the nodes counted are one
 pub with_counted : (a : AckSet) (x : Label) (q : ℕ) → acked a.counted x q ≡ true
     → has_majority_with a x q ≡ is_majority
     (count_by (acked a.counted x) (nodes a.limits.n)) a.limits.n
@@ -57,12 +59,14 @@ with_counted a x q e =
 
 -- ---- what an acknowledgement returns
 
+-- a node that is counted already is answered Again
 pub answer_again : (a : AckSet) (x : Label) (q : ℕ) → acked a.counted x q ≡ true
     → answer_of a x q ≡ Again
 answer_again a x q e =
     cond-true (acked a.counted x q) Again
     (if has_majority_with a x q && not (has_majority a x) then Reached else Counted) e
 
+-- a new node that completes a majority is answered Reached
 pub answer_reached : (a : AckSet) (x : Label) (q : ℕ) → acked a.counted x q ≡ false
     → has_majority_with a x q ≡ true → has_majority a x ≡ false → answer_of a x q ≡ Reached
 answer_reached a x q e f h =
@@ -71,6 +75,7 @@ answer_reached a x q e f h =
     ∙ cond-true (has_majority_with a x q && not (has_majority a x)) Reached Counted
     (and_from (has_majority_with a x q) (not (has_majority a x)) f (ap not h))
 
+-- a new node that leaves the name without a majority is answered Counted
 pub answer_few : (a : AckSet) (x : Label) (q : ℕ) → acked a.counted x q ≡ false
     → has_majority_with a x q ≡ false → answer_of a x q ≡ Counted
 answer_few a x q e f =
@@ -79,6 +84,7 @@ answer_few a x q e f =
     ∙ cond-false (has_majority_with a x q && not (has_majority a x)) Reached Counted
     (and_left (has_majority_with a x q) (not (has_majority a x)) f)
 
+-- a new node for a name that had a majority already is answered Counted
 pub answer_more : (a : AckSet) (x : Label) (q : ℕ) → acked a.counted x q ≡ false
     → has_majority a x ≡ true → answer_of a x q ≡ Counted
 answer_more a x q e h =

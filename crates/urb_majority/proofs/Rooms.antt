@@ -9,7 +9,7 @@ use Rattle.urb_names.proofs.Ordered.{any_insert, reserved_for-some}
 use Rattle.urb_majority.specs.internal.Room.{HasRoom, IsKept}
 use Rattle.urb_majority.specs.declared.acks.Acks.TheInside.{Inside}
 
--- if only the space for certificates grows
+-- promised space remains if only the space for certificates grows
 pub kept_bigger : {A : Type 0} (a b : Inside A) → b.reserved ≡ a.reserved → b.counted ≡ a.counted
     → b.certified.names ≡ a.certified.names → (a.certified.room ≡ true → b.certified.room ≡ true)
     → IsKept a → IsKept b
@@ -22,7 +22,7 @@ kept_bigger a b reserved counted certified certified_room kept = λ x e.
           λ none. certified_room (room.certified (ap (λ xs. has_name xs x) (sym certified) ∙ none));
     }
 
--- if one more node is counted for a name
+-- promised space remains if a node is counted for a name
 pub kept_noted : {A : Type 0} (a b : Inside A) (x : Label) → has_name b.counted.roomy x ≡ true
     → b.reserved ≡ reserved_for a.reserved x → b.certified ≡ a.certified
     → IsKept a → IsKept b
@@ -36,7 +36,7 @@ kept_noted a b x there reserved certified kept = λ y e.
           subst (λ s. has_name s.names x ≡ false → s.room ≡ true) (sym certified) room.certified;
     })
 
--- if one more name is certified
+-- promised space remains if one more name is certified
 pub kept_certified : {A : Type 0} (a b : Inside A) (x : Label)
     → b.reserved ≡ reserved_for a.reserved x
     → b.certified.names ≡ placed name_lt a.certified.names x → b.counted ≡ a.counted

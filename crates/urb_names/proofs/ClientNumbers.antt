@@ -40,8 +40,10 @@ none_places test (m ∷ ms) e =
 -- Each client's numbers run 1, 2, 3, ..: no number is above the count, and each message is found by
 -- its own number.
 pub record Numbers (ms : List Content) : Type 0 where
+  -- no number of a client exceeds how many of the messages are that client's
   pub bounded : (c k : ℕ) → list_any (is_numbered c k) ms ≡ true
       → k ≤ count_by (λ o. o.client == c) ms
+  -- a message is found by its client and number, at its own place
   pub found : (j : ℕ) (m : Content) → slice_get ms j ≡ Some m
       → (find (is_numbered m.client m.number) ms ≡ Some m)
       × (position_or_len (is_numbered m.client m.number) ms ≡ j)
@@ -51,6 +53,7 @@ itself m =
     and_from (m.client == m.client) (m.number == m.number) (eq-eqb m.client m.client refl)
     (eq-eqb m.number m.number refl)
 
+-- one more message with its client's next number leaves each client's numbers in a row
 pub numbers-push : (ms : List Content) (m : Content) → Numbers ms
     → m.number ≡ suc (count_by (λ o. o.client == m.client) ms) → Numbers (ms ++ m ∷ [])
 numbers-push ms m h e = record

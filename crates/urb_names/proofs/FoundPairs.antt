@@ -11,6 +11,7 @@ use Rattle.urb_names.specs.Names.{has_name, same_message, same_name}
 use Rattle.urb_names.specs.Naming.{Content, Label}
 use Rattle.urb_names.specs.Pairs.{has_pair, message_of, own}
 
+-- a sender's messages in two lists are those in the first, then those in the second
 pub own-append : (s : ℕ) (ps qs : List (Label × Content)) → own s (ps ++ qs) ≡ own s ps ++ own s qs
 own-append s [] qs = refl
 own-append s (p ∷ ps) qs = step (own-append s ps qs) (p.0.sender == s)
@@ -72,14 +73,17 @@ no_pair (p ∷ ps) x m e h = step (no_pair ps x m) (same_name p.0 x) e h
     step ih true k w = cc
     step ih false k w = ih k w
 
+-- a pair of the first list is in both lists together
 pub has_pair-left : (ps qs : List (Label × Content)) (x : Label) (m : Content)
     → has_pair ps x m ≡ true → has_pair (ps ++ qs) x m ≡ true
 has_pair-left ps qs x m h = any_left _ ps qs h
 
+-- a pair of the second list is in both lists together
 pub has_pair-right : (ps qs : List (Label × Content)) (x : Label) (m : Content)
     → has_pair qs x m ≡ true → has_pair (ps ++ qs) x m ≡ true
 has_pair-right ps qs x m h = any_right _ ps qs h
 
+-- a pair of two lists together is in one of them
 pub has_pair-cases : (ps qs : List (Label × Content)) (x : Label) (m : Content)
     → has_pair (ps ++ qs) x m ≡ true → (has_pair ps x m ≡ true) ⊎ (has_pair qs x m ≡ true)
 has_pair-cases ps qs x m h =
@@ -88,10 +92,12 @@ has_pair-cases ps qs x m h =
 
 -- ---- whether anything is found
 
+-- an option that tests as empty holds nothing
 pub none_found : {A : Type 0} (o : Option A) → is_none o ≡ true → o ≡ None
 none_found None e = refl
 none_found (Some a) e = absurd (false≢true e)
 
+-- an option that tests as full holds a value
 pub some_found : {A : Type 0} (o : Option A) → is_some o ≡ true → (a : A) × (o ≡ Some a)
 some_found None e = absurd (false≢true e)
 some_found (Some a) e = (a, refl)
@@ -101,6 +107,7 @@ some_found (Some a) e = (a, refl)
 message_of-itself : (x : Label) (m : Content) → message_of ((x, m) ∷ []) x ≡ Some m
 message_of-itself x m = cond-true (same_name x x) _ _ (same_name-same x)
 
+-- in a list of one pair, no message is found under another name
 pub message_of-another : (x y : Label) (m : Content) → same_name x y ≡ false
     → message_of ((x, m) ∷ []) y ≡ None
 message_of-another x y m e = cond-false (same_name x y) _ _ e
@@ -115,6 +122,7 @@ message_of-other ps x y m e = at (message_of ps y) refl
     at None f = message_of-behind ps ((x, m) ∷ []) y f ∙ (message_of-another x y m e ∙ sym f)
     at (Some o) f = message_of-more ps ((x, m) ∷ []) y o f ∙ sym f
 
+-- a pair that is put last is in the list
 pub has_pair-itself : (ps : List (Label × Content)) (x : Label) (m : Content)
     → has_pair (ps ++ (x, m) ∷ []) x m ≡ true
 has_pair-itself ps x m =
@@ -149,10 +157,12 @@ own-one p x m e = cond-true (x.sender == p) _ _ e
 own-no : (p : ℕ) (x : Label) (m : Content) → (x.sender == p) ≡ false → own p ((x, m) ∷ []) ≡ []
 own-no p x m e = cond-false (x.sender == p) _ _ e
 
+-- a pair of the sender that is put last adds its message to the sender's messages
 pub own-push : (p : ℕ) (ps : List (Label × Content)) (x : Label) (m : Content)
     → (x.sender == p) ≡ true → own p (ps ++ (x, m) ∷ []) ≡ own p ps ++ m ∷ []
 own-push p ps x m e = own-append p ps ((x, m) ∷ []) ∙ ap (λ ms. own p ps ++ ms) (own-one p x m e)
 
+-- a pair of another sender that is put last leaves the sender's messages as they are
 pub own-other : (p : ℕ) (ps : List (Label × Content)) (x : Label) (m : Content)
     → (x.sender == p) ≡ false → own p (ps ++ (x, m) ∷ []) ≡ own p ps
 own-other p ps x m e =
@@ -172,6 +182,7 @@ has_name-last (z ∷ xs) x y h =
 
 -- ---- two lists with the same pairs
 
+-- if two lists have the same pairs, and one message for each name, they have the same messages
 pub same_found : (ps qs : List (Label × Content))
     → ((x : Label) (m : Content) → has_pair ps x m ≡ has_pair qs x m) → Unique ps → Unique qs
     → (x : Label) → message_of ps x ≡ message_of qs x

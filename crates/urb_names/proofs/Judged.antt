@@ -43,10 +43,15 @@ within_version (Some flags) payload fits h = h
 
 -- what holds for fields that pass every test
 pub record Sound (f : Fields) : Type 0 where
+  -- the magic bytes are those of a packet
   pub magic : f.magic ≡ 0x5542
+  -- the version is one or two
   pub version : ((f.version == 1) || (f.version == 2)) ≡ true
+  -- the size is the payload's length
   pub size : f.size ≡ length f.payload
+  -- the size is within the limit for its flags
   pub short : f.size ≤ longest_payload f.flags
+  -- the fields are in their ranges
   pub range : is_in_range f ≡ true
 
 -- the judgement that remains after the earlier tests
@@ -61,6 +66,7 @@ sized f =
 abbrev versioned : Fields → Result Carried PacketFault
 versioned f = if not ((f.version == 1) || (f.version == 2)) then Err fault.Version else sized f
 
+-- accepted fields pass every test, and the accepted packet is the one that they describe
 pub sound : (f : Fields) (p : Carried) → judged f ≡ Ok p → Sound f × (carried_of f ≡ p)
 unfolding judged
 sound f p h =
@@ -115,6 +121,7 @@ fields_again f fit s =
       payload = f.payload;
     }
 
+-- fields that fit their bytes and pass every test describe a packet
 pub is_packet : (f : Fields) → IsFields f → Sound f → IsPacket (carried_of f)
 is_packet f fit s =
     record {
@@ -142,6 +149,7 @@ version_passes : (flags : Option Flags)
 version_passes None = refl
 version_passes (Some flags) = refl
 
+-- the byte of a packet's flags is at most three
 pub flags_pass : (flags : Option Flags) → are_flags (flags_byte flags) ≡ true
 flags_pass None = refl
 flags_pass (Some flags) = lt-ltb (flags_number flags) 4 (number_below flags)

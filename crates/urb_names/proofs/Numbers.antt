@@ -36,14 +36,14 @@ front_four (a ∷ b ∷ c ∷ d ∷ rest) long fit =
 pub left_are_bytes : (k : ℕ) (xs : List ℕ) → AreBytes xs → AreBytes (drop k xs)
 left_are_bytes k xs fit = λ i. rw (get_or-drop k xs i 0) (fit (k + i))
 
--- two bytes at a place, and the rest after them
+-- the bytes from a place on are the encoding of the number in the next two, then the others
 pub two_at : (k : ℕ) (xs : List ℕ) → k + 2 ≤ length xs → AreBytes xs
     → drop k xs ≡ big_bytes 2 (big_number 2 (drop k xs)) ++ drop (k + 2) xs
 two_at k xs long fit =
     let again = front_two (drop k xs) (omega (arith, length-drop k xs)) (left_are_bytes k xs fit) in
     sym again ∙ ap (λ rest. big_bytes 2 (big_number 2 (drop k xs)) ++ rest) (drop-drop 2 k xs)
 
--- four bytes at a place, and the rest after them
+-- the bytes from a place on are the encoding of the number in the next four, then the others
 pub four_at : (k : ℕ) (xs : List ℕ) → k + 4 ≤ length xs → AreBytes xs
     → drop k xs ≡ big_bytes 4 (big_number 4 (drop k xs)) ++ drop (k + 4) xs
 four_at k xs long fit =

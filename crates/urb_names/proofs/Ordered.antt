@@ -29,7 +29,9 @@ any_insert test xs i x =
 
 -- The laws of a strict order. The test `same` says when two elements are the same.
 pub record IsStrictOrder {X : Type 0} (before same : X → X → Bool) : Type 0 where
+  -- what comes before an element comes before all that come after it
   pub transitive : (x y z : X) → before x y ≡ true → before y z ≡ true → before x z ≡ true
+  -- of two different elements, one comes before the other
   pub one_way : (x y : X) → same x y ≡ false → (before x y ≡ true) ⊎ (before y x ≡ true)
 
 -- an element goes after the first one if that comes before it
@@ -49,6 +51,7 @@ pub placed_front : {X : Type 0} (before : X → X → Bool) (x y : X) (xs : List
 placed_front before x y xs e =
     ap (λ (b : Bool). insert (y ∷ xs) (cond b (1 + prefix_len (λ z. before z x) xs) 0) x) e
 
+-- if all elements pass a test, they still do once another one that passes is put among them
 pub all_placed : {X : Type 0} (before : X → X → Bool) (test : X → Bool) (x : X) (xs : List X)
     → test x ≡ true → list_all test xs ≡ true → list_all test (placed before xs x) ≡ true
 all_placed before test x [] e h = and_from (test x) true e refl
@@ -66,6 +69,7 @@ all_placed before test x (y ∷ xs) e h =
         ∙ and_from (test x) (list_all test (y ∷ xs)) e
         (and_from (test y) (list_all test xs) parts.0 parts.1)
 
+-- if all elements pass a test, they pass each weaker one
 pub all_grows : {X : Type 0} (f g : X → Bool) (xs : List X) → ((x : X) → f x ≡ true → g x ≡ true)
     → list_all f xs ≡ true → list_all g xs ≡ true
 all_grows f g [] h e = refl

@@ -27,12 +27,14 @@ has_pair-first pair pairs x m h =
     inl (same_name-true pair.0 x parts.0, same_message-true pair.1 m parts.1)) (λ e. inr e)
     (or_cases (same_name pair.0 x && same_message pair.1 m) (has_pair pairs x m) h)
 
+-- a list has its first pair
 pub has_pair-head : (pair : Label × Content) (pairs : List (Label × Content))
     → has_pair (pair ∷ pairs) pair.0 pair.1 ≡ true
 has_pair-head pair pairs =
     or_left (same_name pair.0 pair.0 && same_message pair.1 pair.1) _
     (and_from (same_name pair.0 pair.0) _ (same_name-same pair.0) (same_message-same pair.1))
 
+-- a list has each pair that comes after its first
 pub has_pair-behind : (pair : Label × Content) (pairs : List (Label × Content)) (x : Label)
     (m : Content) → has_pair pairs x m ≡ true → has_pair (pair ∷ pairs) x m ≡ true
 has_pair-behind pair pairs x m h = or_right (same_name pair.0 x && same_message pair.1 m) _ h
@@ -51,7 +53,7 @@ all_before first (pair ∷ pairs) h x m k =
     ⊎_elim (λ e. subst (λ (y : Label). name_lt first.0 y ≡ true) e.0 parts.0)
     (λ e. all_before first pairs parts.1 x m e) (has_pair-first pair pairs x m k)
 
--- what the test says
+-- if the test says that pairs rise, each name comes before all later names
 pub rising-rises : (pairs : List (Label × Content)) → are_rising pairs ≡ true → Rises pairs
 rising-rises [] h = tt
 rising-rises (pair ∷ pairs) h =
@@ -97,6 +99,7 @@ rises-same (p ∷ ps) (q ∷ qs) h k e =
 
 -- ---- one more pair, at its place
 
+-- a list with a pair inserted has the pairs of the list, and that one
 pub has_pair-inserted : (q : Label × Content) (ps : List (Label × Content)) (x : Label)
     (m : Content) → has_pair (inserted q ps) x m ≡ has_pair (q ∷ ps) x m
 has_pair-inserted q [] x m = refl
@@ -145,7 +148,7 @@ rises-inserted q (p ∷ ps) h k =
 
 -- ---- the messages of a pair's sender
 
--- the messages of other senders stay
+-- inserting a pair leaves the messages of other senders as they are
 pub own-inserted_other : (s : ℕ) (q : Label × Content) (ps : List (Label × Content))
     → (q.0.sender == s) ≡ false → own s (inserted q ps) ≡ own s ps
 own-inserted_other s q [] e = cond-false (q.0.sender == s) _ _ e
@@ -169,7 +172,7 @@ own-none s (p ∷ ps) h =
     cond-false (p.0.sender == s) _ _ (h p.0 p.1 (has_pair-head p ps))
     ∙ own-none s ps (λ x m e. h x m (has_pair-behind p ps x m e))
 
--- its own message comes last if its name comes after the others
+-- an inserted pair's message is its sender's last if its name comes after the sender's others
 pub own-inserted_last : (s : ℕ) (q : Label × Content) (ps : List (Label × Content))
     → (q.0.sender == s) ≡ true → Rises ps
     → ((x : Label) (m : Content) → has_pair ps x m ≡ true → (x.sender == s) ≡ true

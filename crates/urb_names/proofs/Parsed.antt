@@ -66,7 +66,7 @@ only bytes p h is =
     ap (λ b. judged (fields_at b)) is ∙ ap judged (read_again (fields_of p) (packet_fits p h))
     ∙ accepted p h
 
--- the packet of an encoding
+-- the encoding of a packet is read as that packet
 pub packet_spelled : (bytes : List ℕ) (p : Carried) → IsPacket p → bytes ≡ spelling p
     → packet_of bytes ≡ Ok p
 packet_spelled bytes p h is =

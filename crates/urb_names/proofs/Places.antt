@@ -2,23 +2,27 @@
 use Rattle.std.proofs.Common.{List, None, Some, [], ap, ap₂, arith, drop, length, refl, slice_get}
 use Rattle.std.proofs.Common.{suc, zero, ℕ, ◌++◌, ◌<◌, ◌∷◌, ◌≡◌, ◌≤◌}
 
+-- there is no element at a place past the end
 pub get_none : {A : Type 0} (xs : List A) (j : ℕ) → length xs ≤ j → slice_get xs j ≡ None
 get_none [] j h = refl
 get_none (x ∷ xs) zero h = absurd (omega arith)
 get_none (x ∷ xs) (suc j) h = get_none xs j (omega arith)
 
+-- there is an element at each place within a list
 pub get_some : {A : Type 0} (xs : List A) (j : ℕ) → j < length xs
     → (a : A) × (slice_get xs j ≡ Some a)
 get_some [] j h = absurd (omega arith)
 get_some (x ∷ xs) zero h = (x, refl)
 get_some (x ∷ xs) (suc j) h = get_some xs j (omega arith)
 
+-- at a place within the first of two lists stands the first list's element
 pub get_front : {A : Type 0} (xs ys : List A) (j : ℕ) → j < length xs
     → slice_get (xs ++ ys) j ≡ slice_get xs j
 get_front [] ys j h = absurd (omega arith)
 get_front (x ∷ xs) ys zero h = refl
 get_front (x ∷ xs) ys (suc j) h = get_front xs ys j (omega arith)
 
+-- the element that is put last stands at the place after all others
 pub get_last : {A : Type 0} (xs : List A) (y : A) (j : ℕ) → j ≡ length xs
     → slice_get (xs ++ y ∷ []) j ≡ Some y
 get_last [] y zero h = refl
@@ -26,6 +30,7 @@ get_last [] y (suc j) h = absurd (omega arith)
 get_last (x ∷ xs) y zero h = absurd (omega arith)
 get_last (x ∷ xs) y (suc j) h = get_last xs y j (omega arith)
 
+-- past the element that is put last there is none
 pub get_past : {A : Type 0} (xs : List A) (y : A) (j : ℕ) → length xs < j
     → slice_get (xs ++ y ∷ []) j ≡ None
 get_past [] y zero h = absurd (omega arith)
@@ -35,12 +40,14 @@ get_past (x ∷ xs) y (suc j) h = get_past xs y j (omega arith)
 
 -- ---- the first messages
 
+-- the list from a place on begins with the element at that place
 pub drop_get : {A : Type 0} (xs : List A) (i : ℕ) (a : A) → slice_get xs i ≡ Some a
     → drop i xs ≡ a ∷ drop (suc i) xs
 drop_get [] i a e = cc
 drop_get (x ∷ xs) zero a e = let f : x ≡ a = cc in ap (λ y. y ∷ xs) f
 drop_get (x ∷ xs) (suc i) a e = drop_get xs i a e
 
+-- lists with the same element at each place are the same
 pub same_at_each : {A : Type 0} (xs ys : List A) → ((j : ℕ) → slice_get xs j ≡ slice_get ys j)
     → xs ≡ ys
 same_at_each [] [] h = refl

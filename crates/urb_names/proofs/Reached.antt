@@ -16,6 +16,7 @@ use Rattle.urb_names.specs.Release.{part_of, released}
 
 -- ---- certificates in any order
 
+-- if an element of the reversed list passes a test, one of the list does
 pub any-reverse : {X : Type 0} (test : X → Bool) (xs : List X) → list_any test (reverse xs) ≡ true
     → list_any test xs ≡ true
 any-reverse test [] h = h
@@ -135,17 +136,20 @@ row_reaches test s a (suc j) (suc l) h m =
     subst (λ (b : Bool). suc j ≤ cond b (1 + prefix_len test (row s (suc a) l)) 0)
     (sym (h a (omega arith) (omega arith))) (omega arith)
 
+-- if a sender's names from 1 to a number are all certified, its certificates reach that number
 pub reach-all : (s j : ℕ) (certified : List Label)
     → ((i : ℕ) → 1 ≤ i → i ≤ j → has_name certified (name s i) ≡ true) → j ≤ reach s certified
 reach-all s j certified h =
     row_reaches (has_name certified) s 1 j (length (part_of s certified))
     (λ i l u. h i l (omega arith)) (certificates_enough s j certified h)
 
+-- each of a sender's names that its certificates reach is certified
 pub reach-certified : (s i : ℕ) (certified : List Label) → 1 ≤ i → i ≤ reach s certified
     → has_name certified (name s i) ≡ true
 reach-certified s i certified l u =
     row_certified certified s 1 (length (part_of s certified)) i l (omega arith)
 
+-- the sender's name after the last that its certificates reach is not certified
 pub reach-stops : (s : ℕ) (certified : List Label)
     → has_name certified (name s (suc (reach s certified))) ≡ false
 reach-stops s certified =
@@ -164,7 +168,8 @@ reach-stops s certified =
         subst (λ (j : ℕ). has_name certified (name s j) ≡ true) g e)
         (cases_lt i (suc (reach s certified)))
 
--- a place such that all names up to it are certified and the next one is not
+-- certificates reach a number, and no further, if the names up to it are certified and the next is
+-- not
 pub reach-is : (s k : ℕ) (certified : List Label)
     → ((i : ℕ) → 1 ≤ i → i ≤ k → has_name certified (name s i) ≡ true)
     → has_name certified (name s (suc k)) ≡ false → reach s certified ≡ k
@@ -174,7 +179,7 @@ reach-is s k certified h e =
     (sym e ∙ reach-certified s (suc k) certified (omega arith) (omega arith))))
     (λ f. omega arith) (cases_lt k (reach s certified))
 
--- only the set of the certificates matters
+-- how far certificates reach depends only on which names are certified
 pub reach-same : (s : ℕ) (xs ys : List Label) → ((x : Label) → has_name xs x ≡ has_name ys x)
     → reach s xs ≡ reach s ys
 reach-same s xs ys h =
@@ -227,10 +232,12 @@ released-exactly s j certified = (there, back)
 
 -- ---- a log depends only on the set of the certificates
 
+-- a name in the reversed list is in the list
 pub reversed-same : (xs : List Label) (x : Label) → has_name (reverse xs) x ≡ true
     → has_name xs x ≡ true
 reversed-same xs x h = any-reverse _ xs h
 
+-- a name in the list is in the reversed list
 pub reversed-back : (xs : List Label) (x : Label) → has_name xs x ≡ true
     → has_name (reverse xs) x ≡ true
 reversed-back xs x h =

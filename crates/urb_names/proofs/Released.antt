@@ -20,6 +20,7 @@ use Rattle.urb_names.specs.Release.{beginning, part_of, released}
 abbrev pub row : ℕ → ℕ → ℕ → List Label
 row s a k = map (name s) (numbers_from a k)
 
+-- a row of k names has k names
 pub length-row : (s a k : ℕ) → length (row s a k) ≡ k
 length-row s a zero = refl
 length-row s a (suc k) = omega (arith, length-row s (suc a) k)
@@ -32,6 +33,7 @@ take-row s a zero l h = take_none (row s a l)
 take-row s a (suc k) zero h = absurd (omega arith)
 take-row s a (suc k) (suc l) h = ap (λ xs. name s a ∷ xs) (take-row s (suc a) k l (omega arith))
 
+-- a row of a sender's names is a shorter one, then the row of the remaining names
 pub row-split : (s a k d m b : ℕ) → m ≡ k + d → b ≡ a + k → row s a m ≡ row s a k ++ row s b d
 row-split s a zero d m b e f = let e' : m ≡ d = omega arith in let f' : b ≡ a = omega arith in cc
 row-split s a (suc k) d zero b e f = absurd (omega arith)
@@ -41,6 +43,7 @@ row-split s a (suc k) d (suc m) b e f =
 same_row_name : (s i j : ℕ) → (i ≡ j → ⊥) → same_name (name s i) (name s j) ≡ false
 same_row_name s i j h = and_right (s == s) (i == j) (ne_eqb i j h)
 
+-- a row has each of the sender's names with a number within it
 pub has-row : (s a k j : ℕ) → a ≤ j → j < a + k → has_name (row s a k) (name s j) ≡ true
 has-row s a zero j h l = absurd (omega arith)
 has-row s a (suc k) j h l = first_or_later (has-row s (suc a) k j) (cases_eq a j)
@@ -53,6 +56,7 @@ has-row s a (suc k) j h l = first_or_later (has-row s (suc a) k j) (cases_eq a j
     first_or_later later (inr e) =
         or_right (same_name (name s a) (name s j)) _ (later (omega arith) (omega arith))
 
+-- a row has none of the sender's names with a number before or after it
 pub has-row-not : (s a k j : ℕ) → (j < a) ⊎ (a + k ≤ j) → has_name (row s a k) (name s j) ≡ false
 has-row-not s a zero j h = refl
 has-row-not s a (suc k) j h =
@@ -110,6 +114,8 @@ prefix_same p q s a (suc k) h =
 abbrev pub reach : ℕ → List Label → ℕ
 reach s certified = prefix_len (has_name certified) (names s (length (part_of s certified)))
 
+-- a sender's names up to the first uncertified one are those from 1 to as far as its certificates
+-- reach
 pub beginning_is : (s : ℕ) (certified : List Label)
     → beginning s certified ≡ row s 1 (reach s certified)
 beginning_is s certified =
@@ -143,6 +149,7 @@ part-row_other test s t a (suc k) e = kept (part-row_other test s t (suc a) k e)
     kept ih true = cond-false (t == s) _ _ e ∙ ih
     kept ih false = ih
 
+-- a sender's name is in a list exactly if it is among the sender's names in the list
 pub has_name-part : (s j : ℕ) (xs : List Label)
     → has_name (part_of s xs) (name s j) ≡ has_name xs (name s j)
 has_name-part s j [] = refl
@@ -173,7 +180,8 @@ reach-grows s x older e =
     (subst (λ (b : Bool). length (part_of s older) ≤ length
     (cond b (x ∷ part_of s older) (part_of s older))) (sym e) (omega arith))
 
--- the new names of a row whose front is in the log
+-- if a log holds a sender's names up to a number, those of a longer row that it lacks are the later
+-- ones
 pub new_on_row : (s : ℕ) (old : List Label) (k l : ℕ) → k ≤ l → part_of s old ≡ row s 1 k
     → filter (λ y. not (has_name old y)) (row s 1 l) ≡ row s (1 + k) (l - k)
 new_on_row s old k l h e =
@@ -313,12 +321,14 @@ same_decides : (x y : Label) → Decides (same_name x y) (x ≡ y)
 same_decides x y =
     (same_name-true x y, λ e. subst (λ (z : Label). same_name x z ≡ true) e (same_name-same x))
 
+-- a log holds no name twice
 pub no_name_twice : (certified : List Label) → AllPairs (λ x y. x ≢ y) (released certified)
 no_name_twice certified =
     AllPairs-from_IsDistinct same_decides (released certified) (distinct_released certified)
 
 -- ---- what is in a log is certified
 
+-- the names of a row before its first uncertified one are certified
 pub row_certified : (certified : List Label) (s a k j : ℕ) → a ≤ j
     → j < a + prefix_len (has_name certified) (row s a k) → has_name certified (name s j) ≡ true
 row_certified certified s a zero j h l = absurd (omega arith)
@@ -334,6 +344,7 @@ row_certified certified s a (suc k) j h l =
         (λ f. ih (omega arith) (omega arith)) (cases_eq a j)
     at ih false e l = absurd (omega arith)
 
+-- each name of a log is certified
 pub log_certified : (certified : List Label) (x : Label) → has_name (released certified) x ≡ true
     → has_name certified x ≡ true
 log_certified certified x h =

@@ -31,6 +31,7 @@ from_before x y (inr h) =
     (and_from (x.sender == y.sender) (nat_lt x.seq y.seq) (eq-eqb x.sender y.sender h.0)
     (lt-ltb x.seq y.seq h.1))
 
+-- a name that comes before another comes before all names after it
 pub name_lt-trans : (x y z : Label) → name_lt x y ≡ true → name_lt y z ≡ true → name_lt x z ≡ true
 unfolding Before
 name_lt-trans x y z e f = from_before x z (both (before x y e) (before y z f))
@@ -41,6 +42,7 @@ name_lt-trans x y z e f = from_before x z (both (before x y e) (before y z f))
     both (inr h) (inl k) = inl (omega (arith, h.0))
     both (inr h) (inr k) = inr (h.0 ∙ k.0, omega (arith, h.1, k.1))
 
+-- if a name comes before another, the other doesn't come before it
 pub name_lt-other_way : (x y : Label) → name_lt x y ≡ true → name_lt y x ≡ false
 unfolding Before
 name_lt-other_way x y e = go (cases_Bool (name_lt y x))

@@ -10,17 +10,20 @@ use Rattle.urb_names.specs.Names.{name, same_message, same_name}
 use Rattle.urb_names.specs.Naming.{Content, Label}
 use Rattle.urb_names.specs.Nodes.{majority_passes, nodes}
 
+-- names that test as the same are equal
 pub same_name-true : (x y : Label) → same_name x y ≡ true → x ≡ y
 same_name-true x y e =
     let parts = and_parts _ _ e in
     ap₂ name (eqb-true x.sender y.sender parts.0) (eqb-true x.seq y.seq parts.1)
 
+-- each name tests as the same as itself
 pub same_name-same : (x : Label) → same_name x x ≡ true
 same_name-same x = and_from _ _ (eq-eqb x.sender x.sender refl) (eq-eqb x.seq x.seq refl)
 
 abbrev message : ℕ → ℕ → List ℕ → Content
 message client number payload = record { client = client; number = number; payload = payload }
 
+-- messages that test as the same are equal
 pub same_message-true : (m o : Content) → same_message m o ≡ true → m ≡ o
 same_message-true m o e =
     let parts = and_parts _ _ e in
@@ -31,6 +34,7 @@ same_message-true m o e =
     ap (λ v. message v m.number m.payload) c
     ∙ (ap (λ v. message o.client v m.payload) k ∙ ap (λ v. message o.client o.number v) p)
 
+-- each message tests as the same as itself
 pub same_message-same : (m : Content) → same_message m m ≡ true
 same_message-same m =
     and_from _ _ (and_from _ _ (eq-eqb m.client m.client refl) (eq-eqb m.number m.number refl))
@@ -38,6 +42,7 @@ same_message-same m =
 
 -- ---- a test that some element passes
 
+-- if an element of the first list passes a test, one of both lists together does
 pub any_left : {X : Type 0} (test : X → Bool) (xs ys : List X) → list_any test xs ≡ true
     → list_any test (xs ++ ys) ≡ true
 any_left test [] ys e = absurd (false≢true e)
@@ -46,6 +51,7 @@ any_left test (x ∷ xs) ys e =
     (λ h. or_right (test x) (list_any test (xs ++ ys)) (any_left test xs ys h))
     (or_cases (test x) (list_any test xs) e)
 
+-- if an element of the second list passes a test, one of both lists together does
 pub any_right : {X : Type 0} (test : X → Bool) (xs ys : List X) → list_any test ys ≡ true
     → list_any test (xs ++ ys) ≡ true
 any_right test [] ys e = e
@@ -71,6 +77,7 @@ pub count_grows : {X : Type 0} (f g : X → Bool) (xs : List X) → ((x : X) →
     → count_by f xs ≤ count_by g xs
 count_grows f g xs h = omega (arith, filter_grows f g xs h, length-filter f xs, length-filter g xs)
 
+-- if a majority of the nodes passes a test, a majority passes each weaker one
 pub majority_grows : (n : ℕ) (f g : ℕ → Bool) → ((q : ℕ) → f q ≡ true → g q ≡ true)
     → majority_passes n f ≡ true → majority_passes n g ≡ true
 majority_grows n f g h e =

@@ -15,11 +15,13 @@ use Rattle.urb_names.specs.declared.flags.Flags.{Flags}
 
 -- ---- facts about each element
 
+-- what holds for each element of two lists holds for each element of both together
 pub all_append : {X : Type 0} (P : X → Type 0) (xs ys : List X) → AllByRecursion P xs
     → AllByRecursion P ys → AllByRecursion P (xs ++ ys)
 all_append P [] ys h k = k
 all_append P (x ∷ xs) ys h k = (h.0, all_append P xs ys h.1 k)
 
+-- if something holds for each element of a list, whatever follows from it does too
 pub all_weaker : {X : Type 0} (P Q : X → Type 0) (xs : List X) → ((x : X) → P x → Q x)
     → AllByRecursion P xs → AllByRecursion Q xs
 all_weaker P Q [] f h = tt
@@ -54,6 +56,7 @@ in_more : (p : Label × Content) (all ps : List (Label × Content)) → AllIn al
 in_more p all [] h = tt
 in_more p all (q ∷ ps) h = (has_pair-behind p all q.0 q.1 h.0, in_more p all ps h.1)
 
+-- each pair of a list is in that list
 pub in_itself : (ps : List (Label × Content)) → AllIn ps ps
 in_itself [] = tt
 in_itself (p ∷ ps) = (has_pair-head p ps, in_more p ps ps (in_itself ps))
@@ -65,11 +68,12 @@ in_inserted all p (q ∷ ps) h k =
     cond_both (name_lt q.0 p.0) (q ∷ inserted p ps) (p ∷ q ∷ ps) (AllIn all)
     (λ _. (k.0, in_inserted all p ps h k.1)) (λ _. (h, (k.0, k.1)))
 
+-- if each pair of a list is in a second one, so is each pair of the sorted list
 pub in_rising : (all ps : List (Label × Content)) → AllIn all ps → AllIn all (rising ps)
 in_rising all [] h = tt
 in_rising all (p ∷ ps) h = in_inserted all p (rising ps) h.0 (in_rising all ps h.1)
 
--- the pairs that a tick resends
+-- if each pair of a list is in a second one, so is each pair of it that a tick resends
 pub in_resent : (all : List (Label × Content)) (cursor : Option Label) (ps : List (Label × Content))
     → AllIn all ps → AllIn all (resent cursor ps)
 in_resent all cursor ps h =
@@ -79,14 +83,15 @@ in_resent all cursor ps h =
     (all_kept_filter _ (λ pair. is_after cursor pair.0) ps h)
     (all_kept_filter _ (λ pair. not (is_after cursor pair.0)) ps h))
 
--- the pairs that are due
+-- if each pair of a list is in a second one, so is each pair of it that is due
 pub in_due : (all : List (Label × Content)) (n p : ℕ) (heard : List (Label × ℕ))
     (ps : List (Label × Content)) → AllIn all ps → AllIn all (due_of n p heard ps)
 in_due all n p heard ps h = all_kept_filter _ (λ pair. is_due n p heard pair.0) ps h
 
 -- ---- packets
 
--- the packets of one pair, if their flags claim a certificate only when there is one
+-- the packets of a node's pair are from that node, if their flags claim a certificate only when
+-- there is one
 pub packets_to-from : (p : ℕ) (flags : ℕ → Flags) (targets : List ℕ)
     (pairs : List (Label × Content)) (certified : List Label) (pair : Label × Content) →
     has_pair pairs pair.0 pair.1 ≡ true
@@ -104,7 +109,7 @@ packets_to-from p flags targets pairs certified pair h k =
     }) targets
     (λ q. record { source = refl; pair = h; certificate = k q })
 
--- the packets of a stored record
+-- the packets of a stored pair to the other nodes are from the node that stored it
 pub to_others-from : (n p : ℕ) (pairs : List (Label × Content)) (certified : List Label)
     (is_certified : Bool) (heard : Option ℕ) (pair : Label × Content) →
     has_pair pairs pair.0 pair.1 ≡ true → (is_certified ≡ true → has_name certified pair.0 ≡ true)
@@ -113,7 +118,7 @@ to_others-from n p pairs certified is_certified heard pair h k =
     packets_to-from p (λ q. record { certified = is_certified; heard = is_heard_of heard q })
     (others n p) pairs certified pair h (λ q. k)
 
--- the packets of a resent pair
+-- the packets of a node's pair to the nodes that it hasn't heard are from that node
 pub to_unheard-from : (n p : ℕ) (pairs : List (Label × Content)) (certified : List Label)
     (heard : List (Label × ℕ)) (pair : Label × Content) →
     has_pair pairs pair.0 pair.1 ≡ true
@@ -122,7 +127,7 @@ to_unheard-from n p pairs certified heard pair h =
     packets_to-from p (λ q. record { certified = has_name certified pair.0; heard = false })
     (filter (λ q. not (acked heard pair.0 q)) (others n p)) pairs certified pair h (λ q k. k)
 
--- the packets of several pairs
+-- the packets of several of a node's pairs to nodes that it hasn't heard are from that node
 pub all-from : (n p : ℕ) (pairs : List (Label × Content)) (certified : List Label)
     (heard : List (Label × ℕ)) (ps : List (Label × Content)) →
     AllIn pairs ps → AreFrom p pairs certified (flat_map (to_unheard n p certified heard) ps)
@@ -132,7 +137,7 @@ all-from n p pairs certified heard (pair ∷ ps) h =
     (flat_map (to_unheard n p certified heard) ps)
     (to_unheard-from n p pairs certified heard pair h.0) (all-from n p pairs certified heard ps h.1)
 
--- the packets of a tick
+-- the packets of a tick are from the node that ticks: they carry its pairs and its certificates
 pub resent-from : (n p : ℕ) (cursor : Option Label) (pairs : List (Label × Content))
     (certified : List Label) (heard : List (Label × ℕ)) →
     AreFrom p pairs certified (flat_map (to_unheard n p certified heard)

@@ -73,6 +73,7 @@ arrives-hands P size p q x m flags node none some =
 
 -- ---- silence
 
+-- a packet that says that its target's certificate was heard gets no answer
 pub heard-silent : (size : Limits) (packet : Carried) (node : Node) → says_heard packet.flags ≡ true
     → answers_of size packet node ≡ []
 heard-silent size packet node said =
@@ -95,6 +96,7 @@ heard-silent size packet node said =
         at true f = refl
         at false f = absurd (false≢true f)
 
+-- a packet of version one gets no answer
 pub first_version-silent : (size : Limits) (packet : Carried) (node : Node) → packet.flags ≡ None
     → answers_of size packet node ≡ []
 first_version-silent size packet node first =
@@ -114,6 +116,7 @@ SayCertified packets = AllByRecursion (λ packet. says_certified packet.flags �
 abbrev pub SayHeard : List Carried → Type 0
 SayHeard packets = AllByRecursion (λ packet. says_heard packet.flags ≡ true) packets
 
+-- each answer to a packet reports a certificate
 pub answers-certify : (size : Limits) (packet : Carried) (node : Node)
     → SayCertified (answers_of size packet node)
 answers-certify size packet node =
@@ -146,6 +149,7 @@ heard-then q x flags node e =
     ∙ or_left (same_name x x && (q == q)) (acked node.heard x q)
     (and_from (same_name x x) _ (same_name-same x) (eq-eqb q q refl)))
 
+-- an answer to a packet that reports a certificate says that this certificate was heard
 pub answers-hear : (size : Limits) (packet : Carried) (node : Node)
     → says_certified packet.flags ≡ true → SayHeard (answers_of size packet node)
 answers-hear size packet node certified =

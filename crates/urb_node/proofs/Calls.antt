@@ -26,12 +26,14 @@ Gives size p outcome reply view = (outcome.0 ≡ reply) × ShowsNode size p view
 
 -- ---- records
 
+-- each record is the same as itself
 pub same_record-same : (r : Entry) → same_record r r ≡ true
 same_record-same (Pend x m) = and_from (same_name x x) _ (same_name-same x) (same_message-same m)
 same_record-same (PendCert x m) =
     and_from (same_name x x) _ (same_name-same x) (same_message-same m)
 same_record-same (Cert x) = same_name-same x
 
+-- two records that are the same by the test are equal
 pub same_record-true : (a b : Entry) → same_record a b ≡ true → a ≡ b
 same_record-true (Pend x m) (Pend y o) h =
     let parts = and_parts (same_name x y) (same_message m o) h in
@@ -129,6 +131,8 @@ bad_image-call size p view node image s down old =
     ∙ cond-false (says image node.records) _ _
     (sym (shown-told size p view node s image) ∙ old))) (refl, s)
 
+-- a restart is refused as BadImage if its image says neither the records nor these with the
+-- doubtful one
 pub bad_image-joined-call : (size : Limits) (p : ℕ) (view joined : NodeView) (node : Node)
     (r : Entry) (image : List Entry) → ShowsNode size p view node → view.state ≡ Down (Some r)
     → are_rising view.pairs ≡ true → IsNext size p view.pairs view.certified r

@@ -55,6 +55,7 @@ certified_pending h x next =
     (and_parts (is_some (message_of h.pending.pairs x))
     (not (has_name h.acks.certified x)) parts.1).0
 
+-- the log that the layers keep is the release of the certificates that they keep
 pub released_held : {A : Type 0} (h : Held A) → IsHeld h → IsDelivery h.fifo
     → IsReleased (memory_of h)
 released_held h k d =
@@ -64,6 +65,7 @@ released_held h k d =
       certified = λ x. sym (d.released.1.certified x) ∙ ap (λ names. has_name names x) k.certified;
     }
 
+-- a receipt of the held draft has the definition's result once the record has joined the memory
 pub confirm-leads : {A : Type 0} (held : Held A) (entry : Entry) (cause : Option Cause)
     (packets : List Carried) (receipt : Placed) (new : Memory) (told : Done)
     → IsDrafted held entry cause packets → IsPendingSet held.pending → IsDelivery held.fifo

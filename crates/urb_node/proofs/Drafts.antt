@@ -59,7 +59,7 @@ counted-shows size p view acks node x q s h =
       broadcast = s.broadcast;
     }
 
--- The memory heard one more certificate, in any order.
+-- a memory that shows a node still shows it once both have heard one more certificate
 pub heard-shows : (size : Limits) (p : ℕ) (view : NodeView) (heard : List (Label × ℕ)) (node : Node)
     (x : Label) (q : ℕ) → ShowsNode size p view node
     → ((y : Label) (z : ℕ) → acked heard y z ≡ acked (with_ack view.heard x q) y z)
@@ -79,7 +79,7 @@ heard-shows size p view heard node x q s h =
       broadcast = s.broadcast;
     }
 
--- The memory moved its cursor.
+-- a memory that shows a node still shows it once both have the same new cursor
 pub cursor-shows : (size : Limits) (p : ℕ) (view : NodeView) (cursor : Option Label) (node : Node)
     → ShowsNode size p view node → ShowsNode size p (record view { cursor = cursor })
     (record node { cursor = cursor })

@@ -21,6 +21,7 @@ pub doubtful-next : {A : Type 0} (h : Held A) (entry : Entry) → IsNextHeld h e
 doubtful-next h entry next r is =
     (let same : entry ≡ r = cc in subst (λ (x : Entry). IsNextHeld h x) same next)
 
+-- a node that holds a draft goes down in a crash as it does when its store fails
 pub crash-as-fail : (h : Holding) (f : Fallen) → Fails h f → Crashes (ShowsStoring h) h.memory f
 crash-as-fail h f failed = (
   failed.0,

@@ -30,6 +30,7 @@ same_list-true (x ∷ xs) (y ∷ ys) h =
     let parts = and_parts (same_name x y) (same_list xs ys) h in
     ap₂ (λ z zs. z ∷ zs) (same_name-true x y parts.0) (same_list-true xs ys parts.1)
 
+-- each list of names is the same as itself
 pub same_list-same : (xs : List Label) → same_list xs xs ≡ true
 same_list-same [] = refl
 same_list-same (x ∷ xs) =

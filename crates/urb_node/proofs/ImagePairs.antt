@@ -47,7 +47,7 @@ all_with test pairs r = list_all-append test pairs (pend (r ∷ []))
 
 -- ---- whether all of a list pass, place by place
 
--- the elements from a place on
+-- all elements from a place on pass if the one at that place and all behind it do
 pub all_from : {X : Type 0} (test : X → Bool) (xs : List X) (i : ℕ) (x : X)
     → slice_get xs i ≡ Some x → list_all test (drop i xs)
     ≡ (test x && list_all test (drop (suc i) xs))
@@ -56,7 +56,8 @@ all_from test xs i x e = ap (list_all test) (drop_get xs i x e)
 next : (i : ℕ) → i + 1 ≡ suc i
 next i = omega arith
 
--- an element that passes
+-- if those from a place on decide whether all pass, and the one there passes, those behind it
+-- decide
 pub one_more : {X : Type 0} (test : X → Bool) (xs : List X) (i : ℕ) (x : X)
     → slice_get xs i ≡ Some x → test x ≡ true → list_all test (drop i xs) ≡ list_all test xs
     → list_all test (drop (i + 1) xs) ≡ list_all test xs
@@ -65,7 +66,7 @@ one_more test xs i x e passes so_far =
     ∙ sym (ap (λ b. b && list_all test (drop (suc i) xs)) passes)
     ∙ (sym (all_from test xs i x e) ∙ so_far)
 
--- an element that fails
+-- if the element at a place fails, not all elements pass
 pub one_not : {X : Type 0} (test : X → Bool) (xs : List X) (i : ℕ) (x : X) → slice_get xs i ≡ Some x
     → test x ≡ false → list_all test (drop i xs) ≡ list_all test xs → false ≡ list_all test xs
 one_not test xs i x e fails so_far =
@@ -97,7 +98,7 @@ certified_at image i r x got one =
         ∙ any_left (λ y. same_name y x) (cert (r ∷ [])) (cert (drop (suc i) image))
         (ap (λ names. has_name names x) one ∙ or_left (same_name x x) false (same_name-same x)))
 
--- the elements up to and including a place
+-- the elements up to a place are those before it, followed by the one at it
 pub take_get : {X : Type 0} (xs : List X) (i : ℕ) (x : X) → slice_get xs i ≡ Some x
     → take (suc i) xs ≡ take i xs ++ x ∷ []
 take_get [] i x e = cc
@@ -109,7 +110,7 @@ few (Pend x m) = refl
 few (PendCert x m) = refl
 few (Cert x) = refl
 
--- the certificates up to and including a record, newest first
+-- the certificates up to a record, newest first, are the record's, followed by those before it
 pub certified_to : (image : List Entry) (i : ℕ) (r : Entry) → slice_get image i ≡ Some r
     → reverse (cert (take (i + 1) image)) ≡ cert (r ∷ []) ++ reverse (cert (take i image))
 certified_to image i r got =

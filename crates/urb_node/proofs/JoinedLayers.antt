@@ -141,6 +141,7 @@ room-kept h pending acks resend x client k e f g =
 
 -- ---- one more pair
 
+-- the layers still belong together once a pair is pending in them
 pub pair-kept : {A : Type 0} (old : Held A) (pending : PendingSet) (acks : AckSet)
     (resend : Resending) (x : Label) (m : Content) → IsHeld old → pending ≡ added x m old.pending
     → (acks.limits ≡ old.acks.limits) × (acks.certified ≡ old.acks.certified)
@@ -248,6 +249,7 @@ with-grows names x = at (has_name names x)
     at true = omega arith
     at false = let more = length-placed names x in omega (arith, more)
 
+-- the layers still belong together once a pending name is certified in them
 pub certificate-kept : {A : Type 0} (old : Held A) (acks : AckSet) (fifo : Delivery) (x : Label)
     → IsHeld old → is_some (message_of old.pending.pairs x) ≡ true
     → acks ≡ acks_certifying old.acks x → fifo ≡ fifo_certifying old.fifo x
@@ -309,6 +311,7 @@ counted-kept h k more =
 abbrev pub forgetful : Memory → Memory
 forgetful a = record a { acks = []; heard = [] }
 
+-- a failed store makes the node forget what it counted and heard, and leaves its record in doubt
 pub falls : (h : Holding) → Fails h (record { memory = forgetful h.memory; doubt = Some h.entry })
 falls h = (
   (refl, refl),

@@ -28,13 +28,17 @@ use Rattle.urb_node.specs.declared.cause.Cause.{Cause}
 
 -- the memory `new` says what `view` said, and the record
 pub record SaysMore (view new : NodeView) (r : Entry) : Type 0 where
+  -- it has the pairs from before, and the record's
   pub pairs : (x : Label) (m : Content)
       → has_pair new.pairs x m ≡ (has_pair view.pairs x m || has_pair (pend (r ∷ [])) x m)
+  -- it has the certified names from before, and the record's
   pub certified : (x : Label) → has_name new.certified x
       ≡ (has_name view.certified x || has_name (cert (r ∷ [])) x)
+  -- its log is that of the earlier records followed by this one
   pub log : (records : List Entry) → view.log ≡ log records
       → ((x : Label) → has_name view.certified x ≡ has_name (cert records) x)
       → new.log ≡ log (records ++ r ∷ [])
+  -- it counts one record more
   pub count : new.count ≡ suc view.count
 
 -- ---- the log
@@ -94,6 +98,7 @@ heard-same (Cert y) cause a b x q e = e
 
 -- ---- the broadcasts
 
+-- once a record is stored, a node's broadcasts are still its own pending messages
 pub own-after : (p : ℕ) (records : List Entry) (r : Entry) (messages : List Content)
     → messages ≡ own p (pend records)
     → broadcast_after p r messages ≡ own p (pend (records ++ r ∷ []))
@@ -186,7 +191,7 @@ confirm-shows size p view new node r cause s rise next more state cursor acks he
         left true b g = g
         left false b g = refl
 
--- the effect reported for it
+-- the effect that is reported for a stored record can be computed from the memory
 pub done-shown : (size : Limits) (n p : ℕ) (view new : NodeView) (node : Node) (r : Entry)
     (cause : Option Cause) → ShowsNode size p view node → SaysMore view new r
     → done n p r cause node ≡ record {

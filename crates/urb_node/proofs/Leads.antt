@@ -42,6 +42,7 @@ refused : (told : Reply × Node) (outcome : Outcome) (r : Refusal) → Says told
 refused told outcome r says e =
     let told_so : Says told (Refuses r) = subst (λ (o : Outcome). Says told o) e says in told_so
 
+-- the refusal of an outcome is the definition's, or it is for memory, if memory may be refused
 pub is-refused : (told : Reply × Node) (outcome : Outcome) (r : Refusal) → Says told outcome
     → IsRefusalOf outcome r → IsRefusedAs told.0 r
 is-refused told outcome refusal.NoMemory says is = grows told outcome says is
@@ -94,7 +95,7 @@ pub refusal-leads : (A : Type 0) (told : Reply × Node) (outcome : Outcome) (old
 refusal-leads A told outcome old new r says finds =
     (is-refused told outcome r says finds.0, finds.1)
 
--- a tick
+-- a tick in the memory has the definition's result, and if memory is refused, nothing changes
 pub tick-leads : (a : Memory) (old new : Resending) (result : Result (List Carried) NoMemory)
     → are_rising a.pairs ≡ true
     → old ≡ record {

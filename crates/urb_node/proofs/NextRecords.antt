@@ -160,7 +160,7 @@ keeps-next size p view node r s rise a b =
 
 -- ---- an image
 
--- the rules of one image, record by record
+-- if records keep the rules of one image, those before a record keep them, and so does it
 pub own-parts : (size : Limits) (p : ℕ) (earlier before : List Entry) (r : Entry)
     (behind : List Entry) → KeepsOwn size p earlier (before ++ r ∷ behind)
     → (KeepsOwn size p earlier before × (keeps_a size (earlier ++ before) r ≡ true))

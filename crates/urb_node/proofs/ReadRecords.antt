@@ -31,14 +31,20 @@ use Rattle.urb_stable.specs.declared.record.Record.TheVariants.{Cert, Pend, Pend
 -- read
 pub record HasRead {A : Type 0} (limits : Limits) (p : ℕ) (records before behind : List Entry)
     (h : Held A) : Type 0 where
+  -- the records are those that were read and those that are left
   pub list : before ++ behind ≡ records
+  -- the layers belong together
   pub held : IsHeld h
+  -- they have these limits
   pub limits_are : h.config ≡ limits
+  -- they are node p's
   pub node_is : h.node ≡ p
+  -- no certificate was heard
   pub unheard : h.resend.heard ≡ []
+  -- the memory shows the node that is opened from the records that were read
   pub shows : ShowsReady (memory_of h) (opened_node h.node before)
 
--- nothing is read yet
+-- layers that hold what a new node holds have read no record of the image yet
 pub nothing-read : {A : Type 0} (limits : Limits) (p : ℕ) (records : List Entry) (h : Held A)
     → IsHeld h → memory_of h ≡ new_memory limits p → HasRead limits p records [] records h
 nothing-read limits p records h held new =

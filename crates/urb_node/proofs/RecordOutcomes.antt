@@ -37,8 +37,11 @@ use Rattle.urb_node.specs.declared.cause.Cause.{Cause}
 
 -- the log is the release of certificates, the newest first, and exactly these names are certified
 pub record IsReleased (a : Memory) : Type 0 where
+  -- the certificates, the newest first
   pub certificates : List Label
+  -- the log is what they release
   pub log : a.log ≡ released certificates
+  -- exactly their names are certified
   pub certified : (x : Label) → has_name certificates x ≡ has_name a.certified x
 
 -- a record that certifies a name is the first to do so
@@ -83,6 +86,7 @@ delivers-more a x h new =
 
 -- ---- the memory with the record
 
+-- a memory with one more record says what it said before, and the record
 pub record-more : (state new : State) (a : Memory) (r : Entry) (cause : Option Cause) → IsReleased a
     → IsFirst a r → SaysMore (view_in state a) (view_in new (with_record a r cause)) r
 record-more state new a (Pend x m) cause h f =
@@ -115,6 +119,7 @@ record-more state new a (Cert x) cause h f =
       count = refl;
     }
 
+-- a memory with one more record has counted the nodes that the definition says
 pub record-acks : (a : Memory) (r : Entry) (cause : Option Cause) (y : Label) (z : ℕ)
     → acked (with_record a r cause).acks y z ≡ acked (acks_after a.node r cause a.acks) y z
 record-acks a (Pend x m) None y z = counted-with a.acks x a.node y z
@@ -135,12 +140,14 @@ heard-with : (heard : List (Label × ℕ)) (x : Label) (o : Option ℕ) (y : Lab
 heard-with heard x None y z = refl
 heard-with heard x (Some q) y z = counted-with heard x q y z
 
+-- a memory with one more record has heard the certificates that the definition says
 pub record-heard : (a : Memory) (r : Entry) (cause : Option Cause) (y : Label) (z : ℕ)
     → acked (with_record a r cause).heard y z ≡ acked (heard_after r cause a.heard) y z
 record-heard a (Pend x m) cause y z = heard-with a.heard x (heard_of cause) y z
 record-heard a (PendCert x m) cause y z = heard-with a.heard x (heard_of cause) y z
 record-heard a (Cert x) cause y z = refl
 
+-- one more record leaves the memory's limits and its node
 pub same_limits : (a : Memory) (r : Entry) (cause : Option Cause)
     → ((with_record a r cause).limits ≡ a.limits) × ((with_record a r cause).node ≡ a.node)
 same_limits a (Pend x m) cause = (refl, refl)

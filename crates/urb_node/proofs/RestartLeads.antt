@@ -28,6 +28,7 @@ use Rattle.urb_node.proofs.ShownNodes.{acked-with}
 
 -- ---- what is stored
 
+-- if the image says what the memory has, a restart brings the node up with these records
 pub stored-leads : (a : Memory) (doubt : Option Entry) (image : List Entry)
     (acks : List (Label × ℕ)) → a.heard ≡ [] → Says image a → CountsItself a acks
     → Restarts (record { memory = a; doubt = doubt }) image
@@ -114,6 +115,7 @@ other-joined image a acks (Pend x m) told = told
 other-joined image a acks (PendCert x m) told = told
 other-joined image a acks (Cert x) told = told
 
+-- if the image says what the memory has with record r, which is in doubt, a restart stores r too
 pub joined-leads : (a : Memory) (r : Entry) (image : List Entry) (acks : List (Label × ℕ))
     → are_rising a.pairs ≡ true → IsNextIn a r → IsReleased a → IsFirst a r
     → a.heard ≡ [] → IsOther image a → Says image (with_record a r None) → CountsItself a acks
@@ -144,6 +146,7 @@ joined-leads a r image acks rise next released first nothing old told counted =
     unheard (PendCert x m) = nothing
     unheard (Cert x) = nothing
 
+-- if the image says what the memory has with whatever is in doubt, a restart stores that too
 pub with_doubtful-leads : (a : Memory) (doubt : Option Entry) (image : List Entry)
     (acks : List (Label × ℕ)) → are_rising a.pairs ≡ true → ForSome doubt (IsNextIn a)
     → IsReleased a → ForSome doubt (IsFirst a)
@@ -157,6 +160,7 @@ with_doubtful-leads a (Some r) image acks rise next released first nothing old t
 
 -- ---- neither
 
+-- if the image says neither, a restart is refused as BadImage, and the node stays as it is
 pub neither-leads : (a : Memory) (doubt : Option Entry) (image : List Entry)
     → are_rising a.pairs ≡ true → ForSome doubt (IsNextIn a) → IsReleased a
     → ForSome doubt (IsFirst a)
@@ -194,6 +198,7 @@ grows p image node (Some r) = at (says image node.records) (says image (node.rec
     at false true = tt
     at false false = tt
 
+-- a restart may be refused for memory, and then the node stays as it is
 pub short-leads : (a : Memory) (doubt : Option Entry) (image : List Entry)
     → Restarts (record { memory = a; doubt = doubt }) image
     (Err (record { memory = a; doubt = doubt }, refusal.NoMemory))

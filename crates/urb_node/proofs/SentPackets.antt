@@ -79,6 +79,7 @@ record-from n p a (PendCert x m) cause =
     (heard_of cause) (x, m) (inserted-pair a.pairs (x, m)) (λ e. with-itself a.certified x)
 record-from n p a (Cert x) cause = tt
 
+-- the packets of a stored record carry pairs and certificates that are in memory once it is stored
 pub stored-from : (old new : Memory) (r : Entry) (cause : Option Cause) (packets : List Carried)
     → new ≡ with_record old r cause → packets ≡ packets_of old.limits.n old.node r cause
     → AreFrom new.node new.pairs new.certified packets
@@ -100,6 +101,7 @@ tick-from a old (Ok packets) is sent =
     (resent-from old.limits.n old.node old.cursor a.pairs a.certified old.heard))
 tick-from a old (Err e) is sent = tt
 
+-- if the packets of a tick carry pairs in memory, these are stored at each node that is shown
 pub tick-of_stored : (state : State) (a : Memory) (result : Result (List Carried) NoMemory)
     → IfOk result (AreFrom a.node a.pairs a.certified)
     → IfOk result (AreOfStored (ShowsIn state a) a.node)
@@ -180,6 +182,7 @@ arrived-from a q x m flags new (found.Known told) same finds =
     subst (λ (outcome : Outcome). AreAnswersFrom outcome) finds (arrive-from a q x m flags same)
 arrived-from a q x m flags new (found.New w) same finds = tt
 
+-- if the packets of an answer carry pairs in memory, these are stored at each node that is shown
 pub answers-of_stored : {A : Type 0} (step : Step A) → AnswersFrom step → AnswersOfStored step
 answers-of_stored (step.Same ready told) from = of-stored Ready ready (packets_with told) from
 answers-of_stored (step.Store storing draft) from = tt

@@ -46,6 +46,7 @@ unique-same ps qs same u x m h =
     ∙ u x f.0 (sym (same x f.0) ∙ has_pair-found ps x f.0 f.1) in
     f.1 ∙ sym e
 
+-- a memory that shows a node has one message for each name
 pub shown-unique : (size : Limits) (p : ℕ) (view : NodeView) (node : Node)
     → ShowsNode size p view node → Unique view.pairs
 shown-unique size p view node s =
@@ -71,14 +72,14 @@ pub shown-broadcast : (size : Limits) (p : ℕ) (view : NodeView) (node : Node)
 shown-broadcast size p view node s r =
     s.broadcast ∙ sym (own-records size p node.records view.pairs s.rules r s.pairs)
 
--- the position of the next record
+-- the position of the next record is one more than the count in the memory
 pub shown-position : (size : Limits) (p : ℕ) (view : NodeView) (node : Node)
     → ShowsNode size p view node → next_position node ≡ suc view.count
 shown-position size p view node s = ap suc (sym s.count)
 
 -- ---- acknowledgements
 
--- one more is counted
+-- after one more acknowledgement, that one is counted, and those counted before are
 pub acked-with : (acks : List (Label × ℕ)) (y : Label) (z : ℕ) (x : Label) (q : ℕ)
     → acked (with_ack acks y z) x q ≡ ((same_name y x && (z == q)) || acked acks x q)
 acked-with acks y z x q = at (acked acks y z) refl (same_name y x) refl (z == q) refl
@@ -155,6 +156,7 @@ from_in (p ∷ ps) qs h =
     and_from (has_pair qs p.0 p.1) _ (h p.0 p.1 (has_pair-head p ps))
     (from_in ps qs (λ x m k. h x m (has_pair-behind p ps x m k)))
 
+-- whether a list has the same pairs as another depends only on which pairs that one has
 pub pairs-told : (xs ps qs : List (Label × Content))
     → ((x : Label) (m : Content) → has_pair ps x m ≡ has_pair qs x m)
     → same_pairs xs ps ≡ same_pairs xs qs
@@ -173,6 +175,7 @@ pairs-told xs ps qs h =
         (from_in xs qs (λ x m k. sym (h x m) ∙ all_in xs ps parts.0 x m k))
         (from_in qs xs (λ x m k. all_in ps xs parts.1 x m (h x m ∙ k)))
 
+-- if all names of one list are in another by the test, each of them is
 pub all_named : (xs ys : List Label) → list_all (has_name ys) xs ≡ true → (x : Label)
     → has_name xs x ≡ true → has_name ys x ≡ true
 all_named [] ys h x k = absurd (false≢true k)
@@ -181,6 +184,7 @@ all_named (y ∷ xs) ys h x k =
     ⊎_elim (λ e. subst (λ (z : Label). has_name ys z ≡ true) (same_name-true y x e) parts.0)
     (λ e. all_named xs ys parts.1 x e) (or_cases (same_name y x) (has_name xs x) k)
 
+-- if each name of one list is in another, all of them are by the test
 pub from_named : (xs ys : List Label) → ((x : Label) → has_name xs x ≡ true → has_name ys x ≡ true)
     → list_all (has_name ys) xs ≡ true
 from_named [] ys h = refl

@@ -26,15 +26,22 @@ is-ready (Down doubtful) up free = absurd (false≢true (sym up))
 
 -- the message is drafted under a new name
 pub record IsNew (size : Limits) (m : Content) (node : Node) : Type 0 where
+  -- the node is ready
   pub ready : node.state ≡ Ready
+  -- the payload is within its limit
   pub short : length m.payload ≤ MAX_PAYLOAD
+  -- the message has its client's next number
   pub number : (m.number == next_number m.client node.broadcast) ≡ true
+  -- the node has fewer messages of its own than the cap
   pub room : nat_lt (length node.broadcast) size.cap ≡ true
 
 -- it was accepted before, as this message
 pub record IsAgain (m first : Content) (node : Node) : Type 0 where
+  -- the node is ready
   pub ready : node.state ≡ Ready
+  -- the node has broadcast a message with this client and number
   pub found : find (is_numbered m.client m.number) node.broadcast ≡ Some first
+  -- both messages have the same payload
   pub same : bytes_eq first.payload m.payload ≡ true
 
 -- the name of the node's next message
@@ -45,6 +52,7 @@ next_name p node = name p (suc (length node.broadcast))
 abbrev pub first_name : ℕ → Content → Node → Label
 first_name p m node = name p (suc (position_or_len (is_numbered m.client m.number) node.broadcast))
 
+-- what holds for a refusal, for a message accepted before, and for a new draft holds for a submit
 pub submits-cases : (P : Reply × Node → Type 0) (size : Limits) (p : ℕ) (m : Content) (node : Node)
     → ((r : Refusal) → P (refuses node r))
     → ((first : Content) → IsAgain m first node → P (Same (Accepted (first_name p m node)), node))

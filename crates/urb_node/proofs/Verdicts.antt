@@ -53,6 +53,7 @@ next_in_range a (Pend x m) next = (and_parts (in_range a.limits x) _ next.new).0
 next_in_range a (PendCert x m) next = (and_parts (in_range a.limits x) _ next.new).0
 next_in_range a (Cert x) next = (and_parts (in_range a.limits x) _ next.new).0
 
+-- the name of a record that may come next is one that the group may have
 pub next_range : (a : Memory) (r : Entry) → IsNextIn a r
     → ((name_of r).sender ≤ a.limits.n) × ((name_of r).seq ≤ a.limits.cap)
 next_range a r next = range_is a.limits (name_of r) (next_in_range a r next)

@@ -100,7 +100,7 @@ submitted-next set limits p certified x m b kept l is within room named number =
         one : (n : ℕ) → n + 1 ≡ suc n
         one n = omega arith
 
--- what a submit wants stored
+-- a submit of a new message with its next number and with room wants its record stored
 pub submit-wants : (a : Memory) (m : Content) (entry : Entry) (b : Bool)
     → length m.payload ≤ MAX_PAYLOAD → name_given a.node m.client m.number (own_of a) ≡ None
     → m.number ≡ next_number m.client (own_of a)
@@ -146,7 +146,7 @@ pub arrived-next : (limits : Limits) (p : ℕ) (pairs : List (Label × Content))
 arrived-next limits p pairs certified x m b may fresh =
     either_next limits p pairs certified x m b (arrival-next limits p pairs certified x m may fresh)
 
--- an arrival's outcome that wants a record stored
+-- a packet of a name that is not pending wants its pair stored, because of its source
 pub arrive-told : (a : Memory) (q : ℕ) (x : Label) (m : Content) (flags : Option Flags)
     (entry : Entry) (cause : Option Cause) (b : Bool) (after : Memory) → message_of a.pairs x ≡ None
     → b ≡ is_majority 2 a.limits.n
@@ -178,6 +178,7 @@ arrive-answers a q x m first flags pending there =
 paired : Content → List Label → List (Label × Content)
 paired m names = map (λ x. (x, m)) names
 
+-- names in rising order, each paired with the same message, are pairs in rising order
 pub paired_rising : (m : Content) (names : List Label) → is_rising name_lt names ≡ true
     → is_rising (λ (p : Label × Content) (q : Label × Content). name_lt p.0 q.0)
     (map (λ x. (x, m)) names) ≡ true
@@ -241,7 +242,7 @@ one_more_fits h held pending delivery =
     let same : length h.fifo.certified ≡ length h.acks.certified = ap length held.certified in
     omega (arith, pairs, names, most_pairs, most_names, same, held.count)
 
--- a look-up that succeeds
+-- mapping the result of a look-up that succeeds gives some value
 pub some-pending : {X Y : Type 0} (f : X → Y) (o : Option X) (r : Option Y) → is_some o ≡ true
     → option_map f o ≡ r → (y : Y) × (r ≡ Some y)
 some-pending f None r e h = absurd (false≢true e)

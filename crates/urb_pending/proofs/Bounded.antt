@@ -79,7 +79,7 @@ bounded_from limits p (q ∷ qs) h k =
     (in_range limits q.0 next.0) first.0 in
     omega (arith, rest, more)
 
--- at most n times cap
+-- rising pairs within the limits are at most as many as the number of nodes times the cap
 pub bounded : (limits : Limits) (ps : List (Label × Content)) → are_rising ps ≡ true
     → list_all (λ pair. is_within limits pair.0) ps ≡ true → length ps ≤ limits.n * limits.cap
 bounded limits [] h k = omega arith
@@ -89,10 +89,12 @@ bounded limits (p ∷ ps) h k =
     mul-le-mul_right limits.cap here.sender_low in
     omega (arith, bounded_from limits p ps h k, low, here.seq_low)
 
+-- a pending set has at most as many pairs as the number of nodes times the cap
 pub length_bounded : (set : PendingSet) → IsPendingSet set
     → length set.pairs ≤ set.limits.n * set.limits.cap
 length_bounded set h = bounded set.limits set.pairs h.rising h.within
 
+-- the number of a pending set's pairs fits in 32 bits
 pub length_fits : (set : PendingSet) → IsPendingSet set → Fits w32 (length set.pairs)
 length_fits set h =
     let most : set.limits.n * set.limits.cap ≤ MAX_NODES * MAX_CAP =

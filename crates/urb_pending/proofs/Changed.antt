@@ -48,10 +48,14 @@ module _ (client : ℕ) (new : Row) (rows after : List Row)
 
 -- the row of a client that has space
 pub record HasRoom (client : ℕ) (rows : List Row) : Type 0 where
+  -- the client's row
   pub row : Row
+  -- it stands at the client's place among the rows
   pub held : IsHeld client rows row
+  -- it has space for one more number
   pub room : row.room ≡ true
 
+-- if there is space for one more message of a client, the client's row has it
 pub roomy_row : (client : ℕ) (rows : List Row) → are_in_order rows ≡ true
     → has_room client rows ≡ true → HasRoom client rows
 roomy_row client rows h e = at (row_of client rows) refl e
@@ -68,15 +72,19 @@ row_read client rows row here i h place read =
     let found = get_at rows i here row (ap (slice_get rows) place ∙ h.at) in
     (found.0, read ∙ found.1)
 
+-- the place of a client's row is within the rows
 pub row_within : (client : ℕ) (rows : List Row) (row : Row) (i : ℕ) → IsHeld client rows row
     → i ≡ place_in client rows → i < length rows
 row_within client rows row i h place = (get_at rows i row row (ap (slice_get rows) place ∙ h.at)).0
 
 -- the row of a client that has one
 pub record HasRow (client : ℕ) (rows : List Row) : Type 0 where
+  -- the client's row
   pub row : Row
+  -- it stands at the client's place among the rows
   pub held : IsHeld client rows row
 
+-- if a client has a row, it stands at the client's place
 pub row_there : (client : ℕ) (rows : List Row) → are_in_order rows ≡ true
     → is_some (row_of client rows) ≡ true → HasRow client rows
 row_there client rows h e = at (row_of client rows) refl e
@@ -86,7 +94,7 @@ row_there client rows h e = at (row_of client rows) refl e
     at None f g = absurd cc
     at (Some row) f g = record { row = row; held = held_in client rows row h f }
 
--- a client has no row
+-- if a search for a client's row tests as failed, it found none
 pub no_row : (client : ℕ) (rows : List Row) → is_some (row_of client rows) ≡ false
     → row_of client rows ≡ None
 no_row client rows e = at (row_of client rows) e

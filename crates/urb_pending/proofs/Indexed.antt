@@ -63,7 +63,7 @@ module _ {A : Type 0} (a : Inside A) (clients : List Row) (kept : IsKept a)
         record { under = old.under; own = λ f. room client (old.own f) };
   }
 
-  -- also if the windows are unchanged
+  -- more space in the index preserves the invariant, also if the windows are only equal
   pub roomier_same : (windows : WindowSet Content) → windows ≡ a.windows
       → IsKept (record a { windows = windows; clients = clients })
   roomier_same windows e =

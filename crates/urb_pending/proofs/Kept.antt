@@ -63,7 +63,7 @@ own_next set h x m e f =
     ∙ (map-append (λ (q : Label × Content). q.1) (mine set.node set.pairs) ((x, m) ∷ [])
     ∙ ap (λ ms. ms ++ m ∷ []) (sym (own_mine set.node set.pairs))))
 
--- another sender's message is not one of them
+-- inserting another sender's pair leaves the node's own messages as they are
 pub own_kept : (node : ℕ) (x : Label) (m : Content) (ps : List (Label × Content))
     → (x.sender == node) ≡ false → own node (inserted (x, m) ps) ≡ own node ps
 own_kept node x m ps e =

@@ -128,7 +128,7 @@ pub found_is : (ps : List (Label × Content)) (x : Label) (m : Content) (found :
     → are_rising ps ≡ true → found ≡ value_of ps x → is_that m found ≡ has_pair ps x m
 found_is ps x m found h e = ap (is_that m) (e ∙ value_is ps x) ∙ sym (pair_found ps x m h)
 
--- what decides whether two messages are the same
+-- a truth value that decides whether two messages are equal is what their test says
 pub told_same : (b : Bool) (m o : Content) → MatchBool b (m ≡ o) (m ≡ o → ⊥) → b ≡ same_message m o
 told_same true m o h = sym (subst (λ x. same_message m x ≡ true) h (same_message-same m))
 told_same false m o h = sym (false_from_ne_true _ (λ e. h (same_message-true m o e)))

@@ -24,6 +24,7 @@ is_of s pair = pair.0.sender == s
 abbrev pub mine : ℕ → List (Label × Content) → List (Label × Content)
 mine s ps = filter (is_of s) ps
 
+-- a sender's messages are the messages of its pairs
 pub own_mine : (s : ℕ) (ps : List (Label × Content)) → own s ps ≡ map (λ pair. pair.1) (mine s ps)
 own_mine s [] = refl
 own_mine s (p ∷ ps) = step (own_mine s ps) (p.0.sender == s)
@@ -34,6 +35,7 @@ own_mine s (p ∷ ps) = step (own_mine s ps) (p.0.sender == s)
     step ih true = ap (λ ms. p.1 ∷ ms) ih
     step ih false = ih
 
+-- a sender's names are the names of its pairs
 pub part_mine : (s : ℕ) (ps : List (Label × Content))
     → part_of s (map (λ pair. pair.0) ps) ≡ map (λ pair. pair.0) (mine s ps)
 part_mine s [] = refl
@@ -45,7 +47,7 @@ part_mine s (p ∷ ps) = step (part_mine s ps) (p.0.sender == s)
     step ih true = ap (λ xs. p.0 ∷ xs) ih
     step ih false = ih
 
--- another sender's pair is not one of them
+-- inserting another sender's pair leaves the sender's pairs as they are
 pub mine_other : (s : ℕ) (p : Label × Content) (ps : List (Label × Content)) → is_of s p ≡ false
     → mine s (inserted p ps) ≡ mine s ps
 mine_other s p [] e = cond-false (is_of s p) _ _ e
@@ -137,7 +139,7 @@ new_behind x (q ∷ qs) h = at (new_behind x qs) (same_name q.0 x) refl
 
 -- ---- the sender's own names are numbered 1, 2, 3, ..
 
--- one more number
+-- one number more in a row is put last
 pub numbers_more : (first count : ℕ)
     → numbers_from first (suc count) ≡ numbers_from first count ++ (first + count) ∷ []
 numbers_more first zero = ap (λ n. n ∷ []) (at first)
@@ -151,7 +153,7 @@ numbers_more first (suc count) =
     at : (m n : ℕ) → suc m + n ≡ m + suc n
     at m n = omega arith
 
--- the name that follows the first ones
+-- a sender's names up to the next number are the earlier ones, then the next
 pub names_more : (s count : ℕ) → names s (count + 1) ≡ names s count ++ name s (count + 1) ∷ []
 names_more s count =
     ap (λ n. map (name s) (numbers_from 1 n)) (more count)

@@ -148,7 +148,7 @@ same_other_way a b c e = at (a == b) refl
     at true f = sym (eq-eqb b c (sym (eqb-true a b f) ∙ e))
     at false f = sym (ne_eqb b c (λ g. eqb-false a b f (e ∙ sym g)))
 
--- one more row, at its place
+-- putting a client's row at its place gives this client that row, and changes no other client's
 pub row_placed : (client : ℕ) (row : Row) (rows : List Row) → row.client ≡ client → (c : ℕ)
     → row_of c (placed row_lt rows row) ≡ with_row client row rows c
 row_placed client row [] e c =
@@ -166,7 +166,8 @@ row_placed client row (r ∷ rs) e c = at (row_placed client row rs e c) (row_lt
         ∙ ap (λ (b : Bool). cond b (Some row) (row_of c (r ∷ rs)))
         (same_other_way row.client c client e)
 
--- the client's row changed, at its place
+-- replacing a client's row at its place gives this client the new one, and changes no other
+-- client's
 pub row_changed : (client : ℕ) (row old : Row) (rows : List Row) → row.client ≡ client
     → old.client ≡ client → slice_get rows (place_in client rows) ≡ Some old
     → (c : ℕ) → row_of c (slice_set rows (place_in client rows) row) ≡ with_row client row rows c
@@ -269,8 +270,11 @@ order_changed row old (r ∷ rs) (suc i) e f h =
 
 -- the client's row, at its place
 pub record IsHeld (client : ℕ) (rows : List Row) (row : Row) : Type 0 where
+  -- the row stands at the client's place
   pub at : slice_get rows (place_in client rows) ≡ Some row
+  -- the row is the client's
   pub own : row.client ≡ client
+  -- a search for the client's row finds it
   pub found : row_of client rows ≡ Some row
 
 -- if a client has a row, the row is at its place
@@ -324,20 +328,21 @@ not_held client rows h never =
     at None f = refl
     at (Some r) f = other r f (r.client == client) refl
 
--- the element at a place, read with a default
+-- an element at a place within a list is the one read there, whatever the default
 pub get_at : {X : Type 0} (xs : List X) (i : ℕ) (d x : X) → slice_get xs i ≡ Some x
     → (i < length xs) × (get_or xs i d ≡ x)
 get_at [] i d x e = absurd cc
 get_at (y ∷ ys) zero d x e = let same : y ≡ x = cc in (omega arith, same)
 get_at (y ∷ ys) (suc i) d x e = let rest = get_at ys i d x e in (omega (arith, rest.0), rest.1)
 
+-- a place within a list holds the element that is read there, whatever the default
 pub get_within : {X : Type 0} (xs : List X) (i : ℕ) (d : X) → i < length xs
     → slice_get xs i ≡ Some (get_or xs i d)
 get_within [] i d h = absurd (omega arith)
 get_within (y ∷ ys) zero d h = refl
 get_within (y ∷ ys) (suc i) d h = get_within ys i d (omega arith)
 
--- the search at a client's place finds its row
+-- if the row at a client's place is the client's, a search for the client's row finds it
 pub held_here : (client : ℕ) (rows : List Row) (row : Row) (i : ℕ) → are_in_order rows ≡ true
     → i ≡ place_in client rows → i < length rows → row ≡ get_or rows i row → row.client ≡ client
     → IsHeld client rows row
@@ -345,7 +350,7 @@ held_here client rows row i h place within at own =
     held_at client rows row h (ap (slice_get rows) (sym place)
     ∙ (get_within rows i row within ∙ ap Some (sym at))) own
 
--- the search finds another client's row
+-- if the row at a client's place is another client's, the client has no row
 pub held_not : (client : ℕ) (rows : List Row) (row : Row) (i : ℕ) → are_in_order rows ≡ true
     → i ≡ place_in client rows → i < length rows → row ≡ get_or rows i row
     → (row.client ≡ client → ⊥) → row_of client rows ≡ None
@@ -357,7 +362,7 @@ held_not client rows row i h place within at other =
         (let same : Some row ≡ Some r =
         ap Some at ∙ (sym (get_within rows i row within) ∙ (ap (slice_get rows) place ∙ e)) in cc)
 
--- the search finds no row
+-- if a client's place is past the last row, the client has no row
 pub held_past : (client : ℕ) (rows : List Row) (i : ℕ) → are_in_order rows ≡ true
     → i ≡ place_in client rows → length rows ≤ i → row_of client rows ≡ None
 held_past client rows i h place past =

@@ -53,7 +53,7 @@ pub whole_cycle : (ps : List (Label × Content)) → first_name ps ≡ first_nam
 whole_cycle [] = refl
 whole_cycle (p ∷ ps) = refl
 
--- the first that passes
+-- the name found first by a test is the first name of the pairs that pass it
 pub first_passing : (test : Label × Content → Bool) (ps : List (Label × Content))
     → option_map (λ pair. pair.0) (find test ps) ≡ first_name (filter test ps)
 first_passing test [] = refl
@@ -65,7 +65,7 @@ first_passing test (p ∷ ps) = step (first_passing test ps) (test p)
     step ih true = refl
     step ih false = ih
 
--- without a cursor all are after it
+-- without a cursor, the first name of all pairs is the first after it
 pub all_behind_none : (ps : List (Label × Content))
     → first_name ps ≡ first_name (filter (λ pair. is_after None pair.0) ps)
 all_behind_none [] = refl

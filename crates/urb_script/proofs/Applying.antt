@@ -125,6 +125,8 @@ by_draft A size old new scene p (Some draft) said s not e r =
     stored_by A size old new scene p draft said r.before r.after r.stored.answer s e r.moves
     r.stored.keeps r.stored.event
 
+-- unless memory is refused, the answer to `stored` is its reply, and a scene that it leads to is
+-- shown
 pub takes_stored : (A : Type 0) (size : Limits) (old new : Clustered Memory) (scene : Scene) (p : ℕ)
     (said : Reply) → ShowsScene size old scene → said ≢ Refused refusal.NoMemory
     → StoresHeld (in_memory A) old p (held_draft old.group p) said new
@@ -185,6 +187,8 @@ fails_draft size old new scene p (Some draft) failure said s not e r =
     s e r.moves r.event (sure_before size old scene p draft r.before r.after new.stores s e
     r.moves) r.breaks
 
+-- unless memory is refused, the answer to `fail` is its reply, and a scene that it leads to is
+-- shown
 pub takes_fail : (size : Limits) (old new : Clustered Memory) (scene : Scene) (p : ℕ)
     (failure : Failure) (said : Reply) → ShowsScene size old scene → said ≢ Refused refusal.NoMemory
     → FailsHeld old p (held_draft old.group p) failure said new
@@ -234,6 +238,8 @@ by_state A size old new scene p said true s not is r =
     asked_store A size old new scene p said r.before r.after r.reads.answer s not is r.moves
     r.reads.gives r.reads.returns
 
+-- unless memory is refused, the answer to `restart` is its reply, and a scene that it leads to is
+-- shown
 pub takes_restart : (A : Type 0) (size : Limits) (old new : Clustered Memory) (scene : Scene)
     (p : ℕ) (said : Reply) → ShowsScene size old scene → said ≢ Refused refusal.NoMemory
     → RestartsBy (in_memory A) (is_fallen old.group p) old p said new
@@ -299,6 +305,7 @@ told_from size old new asked (Ok done) said before text fresh t f =
     λ scene s. subst (λ (said : List ℕ). TakesTo size new scene asked said) (sym is) (f scene s t.1)
 told_from size old new asked (Err e) said before text fresh t f = tt
 
+-- if a command was applied and its reply was written, this is the answer to its line
 pub applies_from : {A E : Type 0} (size : Limits) (old new : Clustered Memory)
     (what : acts.Command A) (result : Result (Unit {0}) E) (said : Reply) (before text : List ℕ)
     → before ≡ [] → OnOk result (IsToldAs said before text)
@@ -309,6 +316,7 @@ applies_from {A = A} size old new what result said before text fresh t r =
     told_from size old new (line_of what) result said before text fresh t
     (λ scene s not. takes_reply {A = A} size old new scene what said s not r)
 
+-- if a store was made to fail and the reply was written, this is the answer to the `fail` line
 pub fails_from : {E : Type 0} (size : Limits) (old new : Clustered Memory) (p : ℕ)
     (failure : Failure) (result : Result (Unit {0}) E) (said : Reply) (before text : List ℕ)
     → before ≡ [] → OnOk result (IsToldAs said before text)
@@ -331,6 +339,8 @@ arrives_as scene after q p x (Some flags) bytes text e (inl t) =
     inl (t ∙ ap (λ (r : Result Carried PacketFault). happens (Arrive p r) scene) e)
 arrives_as scene after q p x flags bytes text e (inr t) = absurd t.1
 
+-- if the bytes are those of a packet of what q has stored, their answer is that of the packet's
+-- arrival
 pub arrives_from : {E : Type 0} (size limits : Limits) (old new : Clustered Memory) (q p : ℕ)
     (x : Label) (flags : Option Flags) (found : Option Content) (bytes text : List ℕ)
     (result : Result (Unit {0}) E)
@@ -384,6 +394,7 @@ new_held p m e =
     subst (IsHeldBy (opened_node p []) []) (sym e)
     (record { holds = refl; contents = refl; certain = λ up. (refl, refl) })
 
+-- a new cluster with empty stores shows a scene to which the line `group` leads
 pub opens : (limits : Limits) (cluster : Clustered Memory) (stores : List Memory)
     (before text : List ℕ) → Shows cluster.group (started limits) → cluster.stores ≡ stores
     → All (λ m. m ≡ empty_memory) stores

@@ -62,6 +62,7 @@ within : (v d : ℕ) → IsDigit v d → v ≤ 15
 within v d (inl h) = omega (arith, h.0)
 within v d (inr h) = h.1
 
+-- the value of a hexadecimal digit is at most 15
 pub value_small : (d : ℕ) → IsHexDigit d → digit_value d ≤ 15
 value_small d h = within (digit_value d) d (digit_of d h)
 
@@ -82,6 +83,7 @@ even_more n e = omega (arith, e)
 odd_one : 1 % 2 ≡ 0 → ⊥
 odd_one e = omega (arith, e)
 
+-- pairs of digits are the digits of the bytes that they encode
 pub are_digits : (digits : List ℕ) → ArePairs digits → AreDigits (bytes_of digits) digits
 are_digits [] p = refl
 are_digits (digit ∷ []) p = absurd (odd_one p.0)
@@ -98,12 +100,14 @@ are_digits (h ∷ l ∷ digits) p =
       are_digits digits (even_less (length digits) p.0, p.1.1.1),
     )
 
+-- at least one pair of digits is a word for the bytes that they encode
 pub is_word : (digits : List ℕ) → 0 < length digits → ArePairs digits
     → IsHexWord (bytes_of digits) digits
 is_word [] some p = absurd (omega (arith, some))
 is_word (digit ∷ []) some p = absurd (odd_one p.0)
 is_word (h ∷ l ∷ digits) some p = are_digits (h ∷ l ∷ digits) p
 
+-- the digits of bytes are pairs of digits
 pub are_pairs : (bytes digits : List ℕ) → AreDigits bytes digits → ArePairs digits
 are_pairs [] digits e = subst ArePairs (sym e) (refl, tt)
 are_pairs (byte ∷ bytes) digits d =
@@ -124,15 +128,18 @@ pub no_word : (bytes word : List ℕ) → length word ≡ 0 → IsHexWord bytes 
 no_word [] word e w = omega (arith, e, ap length w)
 no_word (byte ∷ bytes) word e w = omega (arith, e, ap length w.3)
 
+-- a word of odd length, except for a hyphen, stands for no bytes
 pub odd_word : (bytes word : List ℕ) → length word % 2 ≢ 0 → word ≢ 45 ∷ [] → IsHexWord bytes word
     → ⊥
 odd_word bytes word odd hyphen w = only_pairs bytes word w (λ p. odd p.0) hyphen
 
+-- a word with a byte that is no digit, except for a hyphen, stands for no bytes
 pub other_word : (all : Bool) (bytes word : List ℕ) → (IsTrue all ↔ AllByRecursion IsHexDigit word)
     → all ≡ false → word ≢ 45 ∷ [] → IsHexWord bytes word → ⊥
 other_word all bytes word tells none hyphen w =
     only_pairs bytes word w (λ p. let f : all ≡ true = tells.1 p.1 in absurd (cc)) hyphen
 
+-- a word of digits, in a number that is even and not 0, stands for the bytes that they encode
 pub digits_word : (all : Bool) (word : List ℕ) → length word ≢ 0 → length word % 2 ≡ 0
     → (IsTrue all ↔ AllByRecursion IsHexDigit word) → all ≡ true → IsHexWord (bytes_of word) word
 digits_word all word some even tells is = is_word word (above (length word) some) (even, tells.0 is)
@@ -156,6 +163,7 @@ the_bytes (byte ∷ bytes) digits d =
 hyphen_none : (byte : ℕ) (bytes word : List ℕ) → AreDigits (byte ∷ bytes) word → word ≡ 45 ∷ [] → ⊥
 hyphen_none byte bytes word d e = let f = d.3 in absurd (cc)
 
+-- a word stands for only one list of bytes
 pub same_bytes : (bytes others word : List ℕ) → IsHexWord bytes word → IsHexWord others word
     → bytes ≡ others
 same_bytes [] [] word w v = refl

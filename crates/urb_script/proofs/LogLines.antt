@@ -108,9 +108,11 @@ log_shows (Some scene) line p later output new s a =
 safe_scene : (scene : Scene) → IsKeptScene scene → Safe scene.world
 safe_scene scene k = safe scene.world k.kept.nodes
 
+-- whichever lines are answered, the world that they lead to is safe
 pub stays_safe : StaysSafe
 stays_safe lines output scene a = safe_scene scene (answers_kept None lines output scene tt a)
 
+-- a log line shows a log of a safe world
 pub logs_are_safe : LogsAreSafe
 logs_are_safe earlier later line output p state s a =
     let k = parted earlier (line ∷ later) output None state a in
@@ -231,6 +233,7 @@ agree_on old new p q s g safe =
     ⊎_elim (λ h. inl (begins-trans _ _ _ grown h)) (λ h. both_begin _ _ _ grown h)
     (agree-now new safe p q s)
 
+-- any two log lines of a script show logs that agree
 pub logs_agree : LogsAgree
 logs_agree earlier between later line other output p q state s o a =
     let k = parted earlier (line ∷ (between ++ other ∷ later)) output None state a in

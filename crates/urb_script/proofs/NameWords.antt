@@ -13,6 +13,7 @@ spelled x l =
     ap (λ (s : List ℕ). s ++ (46 ∷ decimal x.seq))
     (decimal_digit x.sender (omega (arith, l.sender)))
 
+-- names with the same word have the same sender, in decimal
 pub name_sender : (x y : Label) → IsLabel x → IsLabel y → name_text x ≡ name_text y
     → decimal x.sender ≡ decimal y.sender
 name_sender x y l k e =
@@ -21,6 +22,7 @@ name_sender x y l k e =
     ∙ ap (λ (d : ℕ). d ∷ []) (ap (λ (w : List ℕ). get_or w 0 0) f)
     ∙ sym (decimal_digit y.sender (omega (arith, k.sender)))
 
+-- names with the same word have the same number, in decimal
 pub name_seq : (x y : Label) → IsLabel x → IsLabel y → name_text x ≡ name_text y
     → decimal x.seq ≡ decimal y.seq
 name_seq x y l k e = ap (λ (w : List ℕ). drop 2 w) (sym (spelled x l) ∙ e ∙ spelled y k)
@@ -29,9 +31,11 @@ name_seq x y l k e = ap (λ (w : List ℕ). drop 2 w) (sym (spelled x l) ∙ e �
 pub name_long : (x : Label) (word : List ℕ) → IsLabel x → word ≡ name_text x → length word < 2 → ⊥
 name_long x word l e short = omega (arith, ap length (e ∙ spelled x l), short)
 
+-- the second byte of a name's word is a full stop
 pub name_stop : (x : Label) (word : List ℕ) → IsLabel x → word ≡ name_text x → get_or word 1 0 ≡ 46
 name_stop x word l e = ap (λ (w : List ℕ). get_or w 1 0) (e ∙ spelled x l)
 
+-- the first byte of a name's word is its sender's digit
 pub name_front : (x : Label) (word : List ℕ) → IsLabel x → word ≡ name_text x
     → take 1 word ≡ decimal x.sender
 name_front x word l e =
@@ -42,7 +46,7 @@ name_back : (x : Label) (word : List ℕ) → IsLabel x → word ≡ name_text x
     → drop 2 word ≡ decimal x.seq
 name_back x word l e = ap (λ (w : List ℕ). drop 2 w) (e ∙ spelled x l)
 
--- such a word is a name's
+-- a word of a sender's digit, a full stop and a number is the word of that name
 pub name_whole : (word : List ℕ) (sender seq : ℕ) → 2 ≤ length word → get_or word 1 0 ≡ 46
     → take 1 word ≡ decimal sender → drop 2 word ≡ decimal seq
     → word ≡ decimal sender ++ (46 ∷ decimal seq)

@@ -146,6 +146,7 @@ one_command (first ∷ others) asked other r s a b =
     same_arguments asked other others
     (test first (keyword asked) (keyword other) a.0 b.0) r s a.1 b.1
 
+-- a line spells at most one command
 pub spells_one : (line : List ℕ) (asked other : Command) → Spells line asked → Spells line other
     → asked ≡ other
 spells_one line asked other s t =
@@ -245,6 +246,7 @@ one_way old state final (line ∷ done)
           ∙ sym (ap (λ x. x ++ end) b.6 ∙ append_assoc b.1 (10 ∷ b.3) end),
     )
 
+-- if no store is refused memory, a script has only one outcome
 pub one_outcome : HasOneOutcome
 one_outcome input ended other unread left before after later w v =
     let one =

@@ -161,17 +161,20 @@ took P (Some bytes) (Some more) (Some rest) front back c d p = (
   p,
 )
 
+-- with a last line, which has no LF, at most one line was taken
 pub took_last : (known mid left : Option (List ℕ)) (line : List ℕ) → Plain line
     → Consumes known mid line → Consumes mid left [] → TookPart IsOneLine known left
 took_last known mid left line plain c d =
     took IsOneLine known mid left line [] c d
     (subst IsOneLine (sym (append-nil line)) (plain_line line plain))
 
+-- with a line and its LF, at most one line was taken
 pub took_whole : (known mid left : Option (List ℕ)) (line : List ℕ) → Plain line
     → Consumes known mid line → Consumes mid left (10 ∷ []) → TookPart IsOneLine known left
 took_whole known mid left line plain c d =
     took IsOneLine known mid left line (10 ∷ []) c d (rw (lines_whole line [] plain) (omega arith))
 
+-- with the front of a line that is too long, at most one line was taken
 pub took_long : (known left : Option (List ℕ)) (line : List ℕ) → Plain line
     → Consumes known left line → TookPart IsOneLine known left
 took_long known left line plain c =

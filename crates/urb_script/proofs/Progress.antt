@@ -267,6 +267,7 @@ each : (known : Option (List ℕ)) (P Q : List ℕ → Type 0) → ((input : Lis
 each None P Q f p = tt
 each (Some input) P Q f p = f input p
 
+-- before the first line, nothing is answered and nothing is written
 pub nothing_yet : {S : Type 0} (shows : S → Scene → Type 0) (known before : Option (List ℕ))
     → IfSome known (λ input. Going shows input before before known 0 None)
 nothing_yet shows known before =
@@ -403,6 +404,7 @@ bad_breaks shows held fault from before after later known left count g t (inl e)
 bad_breaks shows held fault from before after later known left count g t (inr e) =
     rw (e.0, e.1) (breaks_off shows IsOneLine held from before after known left count g t)
 
+-- if a fault for memory leaves the writer as it was, it leaves the writer's bytes as they were
 pub same_contents : {S : Type 0} (view : S → Option (List ℕ)) (fault : RunFault) (old new : S)
     → (fault ≡ faults.Write) ⊎ ((fault ≡ faults.NoMemory) × (new ≡ old))
     → (fault ≡ faults.Write) ⊎ ((fault ≡ faults.NoMemory) × (view new ≡ view old))

@@ -403,11 +403,13 @@ plays_kept (Some scene) asked text new k t =
     subst IsKeptScene (sym (ap (λ (o : List ℕ × Scene). o.1) (plays_answer scene asked text new t)))
     (answer_kept scene asked k)
 
+-- a line that is taken from a kept scene leads to a kept scene
 pub takes_kept : (old : Option Scene) (asked : Command) (text : List ℕ) (new : Scene) → IsKeptSo old
     → Takes old asked text new → IsKeptScene new
 takes_kept old asked text new k (inl t) = plays_kept old asked text new k t
 takes_kept old asked text new k (inr t) = plays_kept old t.0 text new k t.2
 
+-- lines that are answered from a kept scene lead to a kept scene
 pub answers_kept : (old : Option Scene) (lines : List (List ℕ)) (output : List ℕ) (new : Scene)
     → IsKeptSo old → Answers Takes old lines output (Some new) → IsKeptScene new
 answers_kept old [] output new k a = subst IsKeptSo (sym a.1) k

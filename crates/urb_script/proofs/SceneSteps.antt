@@ -40,6 +40,7 @@ up_storage : (node : Node) (storage : List Entry) (m : Memory) → IsHeldBy node
 up_storage node storage m h up =
     h.holds ∙ ap (λ (d : Option Entry). with_doubt m.certain d) (h.certain up).1 ∙ (h.certain up).0
 
+-- a store that holds what it should still does after a quiet change of its node
 pub quiet_held : (old new : Node) (storage : List Entry) (m : Memory) → Quiet old new
     → IsHeldBy old storage m → IsHeldBy new storage m
 quiet_held old new storage m (inl e) h = subst (λ (node : Node). IsHeldBy node storage m) (sym e) h
@@ -89,6 +90,7 @@ step-quiet w e q i =
           joined = λ image r f g. absurd (subst IsQuiet f i);
         }
 
+-- after an event that leaves storage as it is, each store still holds what it should
 pub quiet_step : (w : World) (e : Event) (q : ℕ) (storage : List Entry) (m : Memory) → IsQuiet e
     → IsHeldBy (w.node q) storage m → IsHeldBy ((step w e).1.node q) storage m
 quiet_step w e q storage m i h =
@@ -96,6 +98,7 @@ quiet_step w e q storage m i h =
 
 -- ---- a store that takes or loses the held record
 
+-- a store that took its node's record holds the storage with this record
 pub stored_held : (p : ℕ) (entry : Entry) (cause : Option Cause) (node : Node)
     (storage : List Entry) (before after : Memory) → is_down node.state ≡ false
     → IsHeldBy node storage before
@@ -113,6 +116,7 @@ stored_held p entry cause node storage before after up h takes clear =
       certain = λ _. (joined, clear);
     }
 
+-- a store that lost its node's record still holds the storage, and the node went down
 pub lost_held : (node new : Node) (storage : List Entry) (before after : Memory)
     → is_down node.state ≡ false → new.records ≡ node.records → is_down new.state ≡ true
     → IsHeldBy node storage before
@@ -127,6 +131,7 @@ lost_held node new storage before after up records down h certain clear = record
   certain = λ not. absurd (false≢true (sym not ∙ down));
 }
 
+-- a store that kept a record in doubt holds the storage with this record, and the node went down
 pub kept_held : (entry : Entry) (node new : Node) (storage : List Entry) (before after : Memory)
     → is_down node.state ≡ false → new.records ≡ node.records → is_down new.state ≡ true
     → doubt new.state ≡ Some entry
@@ -183,6 +188,7 @@ read_held node image after down contents certain clear = record {
   certain = λ not. absurd (false≢true (sym not ∙ down));
 }
 
+-- a store that gave all of its storage holds what it should after the restart with it
 pub restart_with : (p : ℕ) (image : List Entry) (node : Node) (d : Option Entry) (after : Memory)
     → node.state ≡ Down d → IsContents node.records d image → after.certain ≡ image
     → after.doubt ≡ None

@@ -86,6 +86,7 @@ no_group word others same none (Group limits) s r = none limits r s.1
 no_group word others same none asked s r =
     let e = test word (codes "group") (keyword asked) same s.0 in absurd (cc)
 
+-- a line that begins with `group` is no command if no `group` has the words after it
 pub none_group : {T : Type 0} (result : Option T) (word : List ℕ) (others : List (List ℕ))
     → word ≡ codes "group"
     → IfNone result ((limits : Limits) → InRange (Group limits)
@@ -102,6 +103,7 @@ no_submit word others same none (Submit node client number payload) s r = none n
 no_submit word others same none asked s r =
     let e = test word (codes "submit") (keyword asked) same s.0 in absurd (cc)
 
+-- a line that begins with `submit` is no command if no `submit` has the words after it
 pub none_submit : {T : Type 0} (result : Option T) (word : List ℕ) (others : List (List ℕ))
     → word ≡ codes "submit"
     → IfNone result ((node client number : ℕ) (payload : List ℕ) → InRange (Submit node client number payload)
@@ -118,6 +120,7 @@ no_fail word others same none (Fail node failure) s r = none node failure r s.1
 no_fail word others same none asked s r =
     let e = test word (codes "fail") (keyword asked) same s.0 in absurd (cc)
 
+-- a line that begins with `fail` is no command if no `fail` has the words after it
 pub none_fail : {T : Type 0} (result : Option T) (word : List ℕ) (others : List (List ℕ))
     → word ≡ codes "fail"
     → IfNone result ((node : ℕ) (failure : Failure) → InRange (Fail node failure)
@@ -134,6 +137,7 @@ no_arrive word others same none (Arrive source node name) s r = none source node
 no_arrive word others same none asked s r =
     let e = test word (codes "arrive") (keyword asked) same s.0 in absurd (cc)
 
+-- a line that begins with `arrive` is no command if no `arrive` has the words after it
 pub none_arrive : {T : Type 0} (result : Option T) (word : List ℕ) (others : List (List ℕ))
     → word ≡ codes "arrive"
     → IfNone result ((source node : ℕ) (name : Label) → InRange (Arrive source node name)
@@ -150,6 +154,7 @@ no_arrive_flagged word others same none (ArriveFlagged source node name flags) s
 no_arrive_flagged word others same none asked s r =
     let e = test word (codes "arrive2") (keyword asked) same s.0 in absurd (cc)
 
+-- a line that begins with `arrive2` is no command if no `arrive2` has the words after it
 pub none_arrive_flagged : {T : Type 0} (result : Option T) (word : List ℕ) (others : List (List ℕ))
     → word ≡ codes "arrive2"
     → IfNone result ((source node : ℕ) (name : Label) (flags : Flags) → InRange (ArriveFlagged source node name flags)
@@ -166,6 +171,7 @@ no_raw word others same none (Raw node bytes) s r = none node bytes r s.1
 no_raw word others same none asked s r =
     let e = test word (codes "raw") (keyword asked) same s.0 in absurd (cc)
 
+-- a line that begins with `raw` is no command if no `raw` has the words after it
 pub none_raw : {T : Type 0} (result : Option T) (word : List ℕ) (others : List (List ℕ))
     → word ≡ codes "raw"
     → IfNone result ((node : ℕ) (bytes : List ℕ) → InRange (Raw node bytes)
@@ -182,6 +188,7 @@ no_held word others same none (Held name) s r = none name r s.1
 no_held word others same none asked s r =
     let e = test word (codes "held") (keyword asked) same s.0 in absurd (cc)
 
+-- a line that begins with `held` is no command if no `held` has the words after it
 pub none_held : {T : Type 0} (result : Option T) (word : List ℕ) (others : List (List ℕ))
     → word ≡ codes "held"
     → IfNone result ((name : Label) → InRange (Held name)
@@ -197,6 +204,7 @@ no_reopen word others same none Reopen s r = none s.1
 no_reopen word others same none asked s r =
     let e = test word (codes "reopen") (keyword asked) same s.0 in absurd (cc)
 
+-- a line that begins with `reopen` is no command if `reopen` can't have the words after it
 pub none_reopen : {T : Type 0} (result : Option T) (word : List ℕ) (others : List (List ℕ))
     → word ≡ codes "reopen" → IfNone result (AreArguments Reopen others → ⊥)
     → IfNone result ((asked : Command) → IsSpelled (word ∷ others) asked → InRange asked → ⊥)

@@ -48,10 +48,14 @@ refusal_is said why r not = r
 abbrev Tells : GroupView → Event → Reply → World → Type 0
 Tells new e said w = ((step w e).0 ≡ said) × Shows new (step w e).1
 
+-- if the group took a step, each world that it showed gives the same reply, and its next world is
+-- shown
 pub happened : (old new : GroupView) (e : Event) (said : Reply) (w : World) → Shows old w
     → Steps old e (λ told. told ≡ said) new → Tells new e said w
 happened old new e said w s steps = let h = steps w s in (h.told, h.shows)
 
+-- unless memory is refused, each world that the group showed gives its reply, and its next world is
+-- shown
 pub reacted : (old new : GroupView) (e : Event) (said : Reply) (w : World) → Shows old w
     → said ≢ Refused refusal.NoMemory → Reacts old e said new → Tells new e said w
 reacted old new e (Drafted x position) w s not r = happened old new e (Drafted x position) w s r
@@ -84,6 +88,8 @@ GoesTo size new given text =
 
 -- ---- events that ask no store
 
+-- unless memory is refused, an event that asks no store is answered, and a scene that it leads to
+-- is shown
 pub quiet_scene : (size : Limits) (old new : Clustered Memory) (scene : Scene) (e : Event)
     (said : Reply) → IsQuiet e → ShowsScene size old scene → said ≢ Refused refusal.NoMemory
     → Reacts old.group e said new.group → new.stores ≡ old.stores
@@ -165,6 +171,7 @@ moved n nodes after_nodes storage after_storage stores after_stores p before aft
         subst (λ (node : Node). IsHeldBy node (after_storage q) found) (sym (same_node q is))
         (subst (λ (rs : List Entry). IsHeldBy (nodes q) rs found) (sym (same_storage q is)) old)
 
+-- a function that is changed at one number is the same at all others
 pub elsewhere : {X : Type 0} (f : ℕ → X) (p q : ℕ) (x : X) → (q == p) ≡ false
     → updated f p x q ≡ f q
 elsewhere f p q x e = cond-false (q == p) x (f q) e
@@ -202,6 +209,7 @@ pub record Holds (w : World) (p : ℕ) (draft : Placed) : Type 0 where
   node : draft.node ≡ p
   position : draft.pos ≡ next_position (w.node p)
 
+-- the draft that a group holds for p is held at p in each world that it shows
 pub held : (group : GroupView) (w : World) (p : ℕ) (draft : Placed) → Shows group w
     → held_draft group p ≡ Some draft → Holds w p draft
 held group w p draft s e =
@@ -218,6 +226,7 @@ held group w p draft s e =
 
 -- ---- a store that takes or loses the held record
 
+-- a receipt of the held draft adds its record at p, and changes no other node
 pub commit_node : (w : World) (p q : ℕ) (entry : Entry) (cause : Option Cause)
     → is_node w.size.n p ≡ true → (w.node p).state ≡ Storing entry cause
     → (step w (Commit p (next_position (w.node p)) entry)).1.node q ≡ updated w.node p
@@ -234,6 +243,7 @@ commit_node w p q entry cause is state =
     (eq-eqb (next_position (w.node p)) (next_position (w.node p)) refl)
     (same_record-same entry)))
 
+-- a failure of the held draft takes p down, and changes no other node
 pub fail_node : (w : World) (p q : ℕ) (entry : Entry) (cause : Option Cause)
     → is_node w.size.n p ≡ true → (w.node p).state ≡ Storing entry cause
     → (step w (Fail p)).1.node q ≡ updated w.node p (goes_down p (w.node p)).1 q
@@ -241,6 +251,7 @@ unfolding step
 fail_node w p q entry cause is state =
     at_one w p q _ (goes_down p (w.node p)) is (ap (λ (s : State). fails p (w.node p) s) state)
 
+-- a restart of p, which is down, restarts p with the image, and changes no other node
 pub restart_node : (w : World) (p q : ℕ) (image : List Entry) (d : Option Entry)
     → is_node w.size.n p ≡ true → (w.node p).state ≡ Down d
     → (step w (Restart p image)).1.node q ≡ updated w.node p
@@ -434,12 +445,14 @@ up_stays p image node Ready e = refl
 up_stays p image node (Storing entry cause) e = refl
 up_stays p image node (Down d) e = absurd (cc)
 
+-- an outcome that leaves p as it was leaves each node as it was
 pub same_at : (w : World) (p q : ℕ) (o : Reply × Node) → o.1 ≡ w.node p
     → (world_after w p o).1.node q ≡ w.node q
 same_at w p q o e =
     cond_both (q == p) o.1 (w.node q) (λ (n : Node). n ≡ w.node q)
     (λ is. e ∙ ap w.node (sym (eqb-true q p is))) (λ _. refl)
 
+-- a restart of what isn't a node that is down leaves each node as it was
 pub restart_stays : (w : World) (p q : ℕ) (image : List Entry)
     → (is_node w.size.n p && is_down (w.node p).state) ≡ false
     → (step w (Restart p image)).1.node q ≡ w.node q

@@ -34,6 +34,7 @@ joined old digits entries =
     append_assoc old (codes "log " ++ (digits ++ 58 ∷ [])) entries
     ∙ ap (λ (xs : List ℕ). old ++ (codes "log " ++ xs)) (append_assoc digits (58 ∷ []) entries)
 
+-- the head of a log line and the entries of p's log make the line that shows p's log
 pub log_told : {E : Type 0} (result : Result (Unit {0}) E) (group : GroupView) (p : ℕ)
     (names : List Label) (old mid new : List ℕ) → TellsLog group p (Some names)
     → mid ≡ old ++ (codes "log " ++ (decimal p ++ 58 ∷ []))
@@ -70,6 +71,7 @@ no_of : (a b : Bool) → a ≡ true → false ≡ (a && b) → b ≡ false
 no_of true b i e = sym e
 no_of false b i e = absurd (cc)
 
+-- a space and its number are what is written of a node that has the name
 pub tells_yes : {E : Type 0} (result : Result (Unit {0}) E) (group : GroupView) (p : ℕ) (x : Label)
     (held : Bool) (old new : List ℕ) → Holds group p x held → held ≡ true
     → OnOk result (new ≡ old ++ 32 ∷ decimal p)
@@ -80,6 +82,7 @@ tells_yes (Ok done) group p x held old new h has t = λ w s is.
     (cond-true (Has w x p) (32 ∷ decimal p) []
     (yes_of (is_node w.size.n p) (Has w x p) (sym has ∙ h w s))))
 
+-- nothing is written of a node that hasn't the name
 pub tells_no : (group : GroupView) (p : ℕ) (x : Label) (held : Bool) (old : List ℕ)
     → Holds group p x held → held ≡ false → TellsAt p (λ w. holder_text w x p) group old old
 tells_no group p x held old h lacks = λ w s is.
@@ -108,6 +111,7 @@ one_left w x k rest = at (Has w x k) refl
     at true e = rw e refl
     at false e = rw e refl
 
+-- the numbers from 1 to n are those of nodes
 pub node_within : (n k : ℕ) → 1 ≤ k → k ≤ n → is_node n k ≡ true
 node_within n k from to =
     rw (lt-ltb 0 k (omega (arith, from)), lt-ltb k (suc n) (omega (arith, to))) refl

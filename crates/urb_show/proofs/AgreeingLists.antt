@@ -21,6 +21,7 @@ sent_prefix s xs ys pre = (
       ∙ ap (sent_by s) pre.1,
 )
 
+-- a mapped prefix of a list is a prefix of the mapped list
 pub map_prefix : {A B : Type 0} (f : A → B) (xs ys : List A) → IsPrefix xs ys
     → IsPrefix (map f xs) (map f ys)
 map_prefix f [] ys pre = (map f ys, refl)
@@ -55,12 +56,14 @@ either_prefix (x ∷ xs) (y ∷ ys) (z ∷ zs) p q =
     (λ (t : IsPrefix ys xs). inr (t.0, cc (heads, t.1)))
     (either_prefix xs ys zs (p.0, cc (p.1)) (q.0, cc (q.1)))
 
+-- if lists are prefixes of others, node by node, so is the list at each place
 pub begins_at : (xs ys : Lists) (p : ℕ) → Begins xs ys → IsPrefix (list_at xs p) (list_at ys p)
 begins_at [] ys p b = let none : IsPrefix [] (list_at ys p) = (list_at ys p, refl) in none
 begins_at (x ∷ xs) [] p b = absurd b
 begins_at (x ∷ xs) (y ∷ ys) zero b = b.0
 begins_at (x ∷ xs) (y ∷ ys) (suc p) b = begins_at xs ys p b.1
 
+-- lists that are prefixes of lists that agree, node by node, agree
 pub agree_begins : (xs ys : Lists) → Begins xs ys → Agree ys → Agree xs
 agree_begins xs ys b agree = record {
   numbers =
@@ -85,12 +88,14 @@ begins_across xs ys b agree p q s =
     ⊎_elim (λ t. inl (prefix_trans _ _ _ at t)) (λ t. either_prefix _ _ _ at t)
     (agree.one_begins p q s)
 
+-- if one of two lists of lists begins the other, and each agrees, then they agree across
 pub one_begins_across : (xs ys : Lists) → OneBeginsAll xs ys → Agree xs → Agree ys
     → AgreeAcross xs ys
 one_begins_across xs ys (inl b) left right p q s = begins_across xs ys b right p q s
 one_begins_across xs ys (inr b) left right p q s =
     ⊎_elim (λ t. inr t) (λ t. inl t) (begins_across ys xs b left q p s)
 
+-- if one of two lists of lists begins the other, and each agrees, then they are of one history
 pub of_one_history : (xs ys : Lists) → OneBeginsAll xs ys → Agree xs → Agree ys
     → AreOfOneHistory xs ys
 of_one_history xs ys one left right =
@@ -102,6 +107,7 @@ of_one_history xs ys one left right =
           one_begins_across xs ys one left right;
     }
 
+-- what a reader saw first is, node by node, a prefix of what it saw last
 pub goes_on_begins : (first last : ReaderView) → GoesOn first last → Begins first.seen last.seen
 goes_on_begins first last Rests = begins_self first.seen
 goes_on_begins first last (HasRead before after runs takes) =
@@ -109,6 +115,7 @@ goes_on_begins first last (HasRead before after runs takes) =
 goes_on_begins first last (HasLearnt token before after runs learns) =
     subst (λ (w : Lists). Begins first.seen w) (sym learns.seen) (goes_on_begins first before runs)
 
+-- what a reader saw first and what it sees in one more read are of one history
 pub goes_on_agrees : (first before last : ReaderView) → GoesOn first before → Takes before last
     → AreOfOneHistory first.seen last.seen
 goes_on_agrees first before last runs then =
@@ -118,6 +125,7 @@ goes_on_agrees first before last runs then =
     of_one_history first.seen last.seen (inl seen)
     (agree_begins first.seen last.seen seen then.agree) then.agree
 
+-- what a reader had learnt first is, node by node, a prefix of what it had learnt last
 pub goes_on_told : (first last : ReaderView) → GoesOn first last → Begins first.told last.told
 goes_on_told first last Rests = begins_self first.told
 goes_on_told first last (HasRead before after runs takes) =
@@ -136,7 +144,7 @@ learnt_agrees token start first before last learns runs then =
     of_one_history token last.seen (inl seen)
     (agree_begins token last.seen seen then.agree) then.agree
 
--- prefixes of lists of one history
+-- prefixes, node by node, of two values of one history agree across
 pub earlier_across : (xs us ys vs : Lists) → Begins xs us → Begins ys vs → AreOfOneHistory us vs
     → AgreeAcross xs ys
 earlier_across xs us ys vs b c one p q s =
@@ -156,6 +164,7 @@ prefix_next (x ∷ xs) (y ∷ ys) e pre low is =
     let rest = prefix_next xs ys e (pre.0, cc (pre.1)) (omega arith) is in
     (rest.0, cc (heads, rest.1))
 
+-- prefixes of other lists stay prefixes if the other list's next entry is added at one place
 pub begins_next : (xs ys : Lists) (p : ℕ) (e : Entry) → Begins xs ys
     → length (list_at xs p) < length (list_at ys p)
     → e ≡ slice_index_or (list_at ys p) (length (list_at xs p)) e → Begins (add_at xs p e) ys
@@ -164,12 +173,14 @@ begins_next (x ∷ xs) [] p e b low is = absurd b
 begins_next (x ∷ xs) (y ∷ ys) zero e b low is = (prefix_next x y e b.0 low is, b.1)
 begins_next (x ∷ xs) (y ∷ ys) (suc p) e b low is = (b.0, begins_next xs ys p e b.1 low is)
 
+-- the list at the place ends with the entry that was added
 pub at_added : (xs : Lists) (p : ℕ) (e : Entry) → p < length xs
     → list_at (add_at xs p e) p ≡ list_at xs p ++ e ∷ []
 at_added [] p e low = absurd (omega arith)
 at_added (x ∷ xs) zero e low = refl
 at_added (x ∷ xs) (suc p) e low = at_added xs p e (omega arith)
 
+-- the list at another place stays
 pub at_other : (xs : Lists) (p q : ℕ) (e : Entry) → (p ≡ q → ⊥)
     → list_at (add_at xs p e) q ≡ list_at xs q
 at_other [] p q e apart = refl
@@ -178,6 +189,7 @@ at_other (x ∷ xs) zero (suc q) e apart = refl
 at_other (x ∷ xs) (suc p) zero e apart = refl
 at_other (x ∷ xs) (suc p) (suc q) e apart = at_other xs p q e (λ is. apart (ap suc is))
 
+-- an entry that is added leaves the number of lists
 pub length_added : (xs : Lists) (p : ℕ) (e : Entry) → length (add_at xs p e) ≡ length xs
 length_added [] p e = refl
 length_added (x ∷ xs) zero e = refl

@@ -91,6 +91,7 @@ in_list list first max page e is h his =
     in_map delivery_of list e whole.0 whole.1 whole.2 in
     in_sent e.name.sender (map delivery_of list) (delivery_of e) told.0 his told.1 told.2
 
+-- two pages of lists that agree never have different entries with one name
 pub never_contradict : {A B : Type 0} (xs ys : Lists) (p q first second most more : ℕ) (a : Page A)
     (b : Page B) → Agree xs → Agree ys → AgreeAcross xs ys
     → IsPageOf (list_at xs p) first most a → IsPageOf (list_at ys q) second more b
@@ -114,6 +115,8 @@ never_contradict xs ys p q first second most more a b left right across page_a p
     (across p q s) in
     ap entry_of same
 
+-- pages that two readers of one history saw, at any moments, never have different entries with one
+-- name
 pub readers_never_contradict : {A B : Type 0} (first last other latest : ReaderView)
     (p q place spot most more : ℕ) (a : Page A) (b : Page B) → GoesOn first last
     → GoesOn other latest

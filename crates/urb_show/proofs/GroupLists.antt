@@ -36,11 +36,12 @@ in_place [] place = refl
 in_place (v ∷ views) zero = refl
 in_place (v ∷ views) (suc place) = in_place views place
 
+-- the list at a place has what the node of that place has delivered
 pub list_in : (group : GroupView) (place : ℕ)
     → list_at (lists_in group) place ≡ map entry_of (delivered_at group (suc place))
 list_in group place = in_place group.nodes place
 
--- the list of the node with a number
+-- the list of a node, at the place one below its number, has what the node has delivered
 pub list_of : (group : GroupView) (node : ℕ) → 0 < node
     → list_at (lists_in group) (node - 1) ≡ map entry_of (delivered_at group node)
 list_of group node low =
@@ -53,6 +54,7 @@ as_deliveries : (list : List Delivery) → map delivery_of (map entry_of list) �
 as_deliveries [] = refl
 as_deliveries (d ∷ list) = ap (λ ds. d ∷ ds) (as_deliveries list)
 
+-- if what the nodes have delivered agrees, their lists agree
 pub lists_agree : (group : GroupView) → AgreeAll (delivered_at group) → Agree (lists_in group)
 lists_agree group agree = record {
   numbers =
@@ -92,6 +94,7 @@ module _ (old new : GroupView) (event : Event) (sound : IsSound old)
       let shows = follows sound.world sound.shows in
       shows.size ∙ (step-size sound.world event ∙ sym sound.shows.size)
 
+  -- the lists before an event are, node by node, prefixes of those after it
   pub lists_grow : length old.nodes ≡ old.size.n → length new.nodes ≡ new.size.n
       → Begins (lists_in old) (lists_in new)
   lists_grow before after =
@@ -119,6 +122,7 @@ module _ (old new : GroupView) (event : Event) (sound : IsSound old)
 abbrev pub MayFollow : GroupView → Event → GroupView → Type 0
 MayFollow old event new = Follows old event new ⊎ (new ≡ old)
 
+-- a house stays one through an event of its group, or if its group is unchanged
 pub house_after : (old new : GroupView) (event : Event) (prepared : Lists) (counts : List ℕ)
     → IsHouse old prepared counts → length new.nodes ≡ new.size.n → MayFollow old event new
     → IsHouse new prepared counts
@@ -129,27 +133,32 @@ house_after old new event prepared counts house after (inr same) =
 
 -- ---- what each call says
 
+-- after a submit or an arrival the group follows its event or is unchanged
 pub takes_follow : {A : Type 0} (old new : GroupView) (p : ℕ) (event : Event)
     (r : Result (Taken A) Refusal) → Takes old p event r new → MayFollow old event new
 takes_follow old new p event (Ok (taken.Same answer)) h = inl (λ w s. (h w s).shows)
 takes_follow old new p event (Ok (taken.Store draft)) h = inl (λ w s. (h.0 w s).shows)
 takes_follow old new p event (Err refusal) h = inr h.1
 
+-- after a receipt the group follows its event or is unchanged
 pub commits_follow : (old new : GroupView) (receipt : Placed) (r : Result Done (Placed × Refusal))
     → Commits old receipt r new → MayFollow old (Commit receipt.node receipt.pos receipt.entry) new
 commits_follow old new receipt (Ok done) h = inl (λ w s. (h w s).shows)
 commits_follow old new receipt (Err e) h = inr h.0.1
 
+-- after a tick the group follows its event or is unchanged
 pub ticks_follow : (old new : GroupView) (event : Event) (r : Result (List Carried) Refusal)
     → Ticks old event r new → MayFollow old event new
 ticks_follow old new event (Ok packets) h = inl (λ w s. (h w s).shows)
 ticks_follow old new event (Err refusal) h = inr h.1
 
+-- after a failed store or a crash the group follows its event or is unchanged
 pub goes_down_follow : (old new : GroupView) (p : ℕ) (event : Event) (r : Result (Unit {0}) Refusal)
     → GoesDown old p event r new → MayFollow old event new
 goes_down_follow old new p event (Ok done) h = inl (λ w s. (h w s).shows)
 goes_down_follow old new p event (Err refusal) h = inr h.1
 
+-- after a restart the group follows its event or is unchanged
 pub comes_up_follow : (old new : GroupView) (p : ℕ) (event : Event) (r : Result (Unit {0}) Refusal)
     → ComesUp old p event r new → MayFollow old event new
 comes_up_follow old new p event (Ok done) h = inl (λ w s. (h w s).shows)

@@ -47,6 +47,7 @@ module _ (group : GroupView) (sound : IsSound group) (p : ℕ) where
   logged_as : (xs : List Label) → TellsLog group p (Some xs) → xs ≡ log (stored w p)
   logged_as xs told = told_as (is_node w.size.n p) xs (log (stored w p)) (told w sound.shows)
 
+  -- if what the nodes have delivered agrees, a log that the group reports has fewer than 2^32 names
   pub log_is_short : AgreeAll (delivered_at group) → (xs : List Label) → TellsLog group p (Some xs)
       → length xs < 2 ^ 32
   log_is_short agree xs told =
@@ -62,11 +63,13 @@ module _ (group : GroupView) (sound : IsSound group) (p : ℕ) where
         and_from (nat_lt 0 p) (nat_lt p (suc w.size.n)) (lt-ltb 0 p low)
         (lt-ltb p (suc w.size.n) (omega (arith, n, high)))
 
+    -- a group reports a log for each of its nodes
     pub log_is_told : TellsLog group p None → ⊥
     log_is_told none =
         let e : None ≡ cond (is_node w.size.n p) (Some (log (stored w p))) None =
         none w sound.shows in cc (e, node_is)
 
+    -- a log that a group reports is as long as the node's list
     pub log_length : (xs : List Label) → TellsLog group p (Some xs)
         → length xs ≡ length (list_at (lists_in group) (p - 1))
     log_length xs told =
@@ -81,6 +84,8 @@ module _ (group : GroupView) (sound : IsSound group) (p : ℕ) where
         let e : o ≡ cond (is_node w.size.n p) (message_of (pend (stored w p)) x) None =
         told w sound.shows in rw node_is at e
 
+    -- a name of a reported log, with the message that the group finds, is the node's entry at that
+    -- place
     pub log_entry : (xs : List Label) (i : ℕ) (x : Label) (m : Content) (d : Entry)
         → TellsLog group p (Some xs) → i < length xs → x ≡ slice_index_or xs i x
         → FindsMessage group p x (Some m)
@@ -111,6 +116,7 @@ module _ (group : GroupView) (sound : IsSound group) (p : ℕ) where
     has_message f (e ∷ ds) (y ∷ xs) (suc i) x same low_i at none =
         has_message f ds xs i x (cc (same)) (omega (arith, low_i)) at none
 
+    -- a group finds a message under each name of a log that it reports
     pub message_is_told : (xs : List Label) (i : ℕ) (x : Label) → TellsLog group p (Some xs)
         → i < length xs → x ≡ slice_index_or xs i x → FindsMessage group p x None → ⊥
     message_is_told xs i x told low_i at none =

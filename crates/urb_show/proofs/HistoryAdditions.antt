@@ -16,6 +16,7 @@ shown log = []
 abbrev pub moved : List Addition → List Addition → ℕ → Type 0
 moved xs ys n = Unit {0}
 
+-- the exchange adds the entry if the history is as long as was seen, and otherwise finds it longer
 pub adds_goes : (log v : List Addition) (e : Addition) (old : ℕ) → length v ≡ old → IsPrefix v log
     → (b : Bool) → (length log == old) ≡ b
     → Goes IsKept shown moved 0 (v, (no_nib, None)) (λ n. either (n == old) (old + 1) n)

@@ -10,10 +10,12 @@ use Rattle.urb_show.specs.Readers.{Learns, ReaderView, Takes}
 use Rattle.urb_show.specs.Additions.{lists_of}
 use Rattle.urb_show.proofs.Prefixes.{prefix_self, prefix_trans}
 
+-- lists are prefixes of themselves, node by node
 pub begins_self : (xs : Lists) → Begins xs xs
 begins_self [] = tt
 begins_self (x ∷ xs) = (prefix_self x, begins_self xs)
 
+-- prefixes of prefixes of lists are prefixes of these lists, node by node
 pub begins_trans : (xs ys zs : Lists) → Begins xs ys → Begins ys zs → Begins xs zs
 begins_trans [] ys zs p q = tt
 begins_trans (x ∷ xs) [] zs p q = absurd p
@@ -21,12 +23,14 @@ begins_trans (x ∷ xs) (y ∷ ys) [] p q = absurd q
 begins_trans (x ∷ xs) (y ∷ ys) (z ∷ zs) p q =
     (prefix_trans x y z p.0 q.0, begins_trans xs ys zs p.1 q.1)
 
+-- lists are prefixes of these lists with one more entry, node by node
 pub begins_add : (xs : Lists) (p : ℕ) (e : Entry) → Begins xs (add_at xs p e)
 begins_add [] p e = tt
 begins_add (x ∷ xs) zero e =
     let one : IsPrefix x (x ++ e ∷ []) = (e ∷ [], refl) in (one, begins_self xs)
 begins_add (x ∷ xs) (suc p) e = (prefix_self x, begins_add xs p e)
 
+-- lists are prefixes of these lists after any additions, node by node
 pub begins_all : (lists : Lists) (log : List Addition) → Begins lists (lists_of lists log)
 begins_all lists [] = begins_self lists
 begins_all lists (a ∷ log) =

@@ -14,6 +14,7 @@ use Rattle.urb_show.specs.Additions.{lists_of}
 use Rattle.urb_show.specs.internal.PreparedLists.{IsHouse}
 use Rattle.urb_show.proofs.AgreeingLists.{at_added, at_other, begins_next, length_added}
 
+-- one more addition adds its entry to the lists at its place
 pub lists_add : (base : Lists) (all : List Addition) (a : Addition)
     → lists_of base (all ++ a ∷ []) ≡ add_at (lists_of base all) a.place a.entry
 lists_add base all a =
@@ -25,6 +26,7 @@ pub counted : (lists : Lists) (counts : List ℕ) (p k : ℕ) → counts ≡ map
 counted lists counts p k is low at =
     at ∙ (ap (λ (w : List ℕ). slice_index_or w p k) is ∙ get_or-map length lists p [] k low)
 
+-- the prepared lists stay prefixes of the group's lists once the next entry of a node is prepared
 pub begins_prepared : (base core : Lists) (all : List Addition) (a : Addition) (k : ℕ)
     → Begins (lists_of base all) core → k ≡ length (list_at (lists_of base all) a.place)
     → k < length (list_at core a.place) → a.entry ≡ slice_index_or (list_at core a.place) k a.entry
@@ -38,6 +40,7 @@ begins_prepared base core all a k b is low at =
     subst (λ (w : Lists). Begins w core) (sym (lists_add base all a))
     (begins_next (lists_of base all) core a.place a.entry b low2 at2)
 
+-- the lengths that are kept are those of the lists, also with one more entry
 pub counts_added : (lists : Lists) (p k : ℕ) (e : Entry) → p < length lists
     → k ≡ length (list_at lists p)
     → slice_set (map length lists) p (k + 1) ≡ map length (add_at lists p e)
@@ -47,6 +50,7 @@ counts_added (x ∷ xs) zero k e low is =
 counts_added (x ∷ xs) (suc p) k e low is =
     ap (λ ns. length x ∷ ns) (counts_added xs p k e (omega arith) is)
 
+-- additions leave the number of lists
 pub lists_length : (base : Lists) (all : List Addition) → length (lists_of base all) ≡ length base
 lists_length base [] = refl
 lists_length base (a ∷ all) =
@@ -55,10 +59,14 @@ lists_length base (a ∷ all) =
 -- one more entry of the node at this place was prepared
 pub record IsNext (group : GroupView) (base : Lists) (all : List Addition) (a : Addition) (k : ℕ)
     (counts : List ℕ) : Type 0 where
+  -- with the addition it is a house
   pub house : IsHouse group (lists_of base (all ++ a ∷ [])) counts
+  -- the node had an entry that wasn't prepared
   pub index : k < length (list_at (lists_in group) a.place)
+  -- the list that is prepared for the node is longer by one
   pub longer : length (list_at (lists_of base (all ++ a ∷ [])) a.place) ≡ length
       (list_at (lists_of base all) a.place) + 1
+  -- each other list stays
   pub others : (q : ℕ) → a.place ≢ q
       → list_at (lists_of base (all ++ a ∷ [])) q ≡ list_at (lists_of base all) q
 

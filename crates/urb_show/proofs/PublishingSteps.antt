@@ -19,6 +19,7 @@ use Rattle.urb_show.specs.internal.History.{Issue, issue_of}
 use Rattle.urb_show.proofs.Prefixes.{prefix_length, prefix_trans}
 use Rattle.urb_show.specs.internal.PublishingRule.{IsIssue, Keeps, Rises}
 
+-- a new reader that has seen nothing leaves the rule kept
 pub admits : (book : Book) (base : Lists) → Admits (Keeps book base) 0
 admits book base x views h = (
   h.0,
@@ -30,13 +31,14 @@ no_views : (n seat v : ℕ) → get_elem? [] seat ≡ some v → v ≤ n
 no_views n zero v at = absurd (cc (at))
 no_views n (suc seat) v at = absurd (cc (at))
 
--- what the house publishes first
+-- what a house publishes first keeps the rule, with one reader that has seen nothing
 pub first_issue : (book : Book) (base : Lists) (x : Issue) → x ≡ issue_of book base [] → Agree base
     → Keeps book base x (0 ∷ [])
 first_issue book base x is agree =
     let good : IsIssue book base x = rw is (record { named = refl; lists = refl; agree = agree }) in
     admits book base x [] (good, no_views (length x.mark.log))
 
+-- a reader's step keeps the rule if the published history becomes no shorter
 pub rises : (book : Book) (base : Lists) (seat v : ℕ) (x y : Issue)
     → length x.mark.log ≤ length y.mark.log → (IsIssue book base x → IsIssue book base y)
     → TurnsAt (Keeps book base) seat v x y (Rises book base)
@@ -51,6 +53,7 @@ rises book base seat v x y up good views h at = let top = length y.mark.log in (
   (h.0, h.1 seat v at, refl),
 )
 
+-- two published values with the same lists and history are equal
 pub same_issue : (x y : Issue) → state_of x ≡ state_of y → x ≡ y
 same_issue x y is = ap (λ (s : ListsState). record { lists = s.lists; mark = s.mark }) is
 
@@ -71,6 +74,7 @@ turns book base shown all x next pending seat v was after pre agree is =
     rw now (record { named = refl; lists = refl; agree = agree }) in
     rises book base seat v x next le (λ _. good)
 
+-- once nothing waits, all additions are published, and the writer has nothing pending
 pub now_published : (book : Book) (base : Lists) (shown queued all again : List Addition)
     (x y : Issue) (pending rest : List Operation) → x ≡ issue_of book base shown
     → fold applied_to (state_of (issue_of book base shown)) pending ≡ state_of

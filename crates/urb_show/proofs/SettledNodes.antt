@@ -6,6 +6,7 @@ use Rattle.urb_show.specs.Houses.{HouseView, Grew, Settled}
 use Rattle.urb_show.proofs.Prefixes.{prefix_whole}
 use Rattle.urb_show.proofs.AgreeingLists.{begins_at}
 
+-- if all entries of a node are prepared, publishing them settles the node, or nothing more changes
 pub settles : {E : Type 0} (place : ℕ) (old mid new : HouseView) (r : Result Lists E)
     → Grew place old mid → Begins mid.prepared (lists_in mid.group)
     → length (list_at (lists_in mid.group) place) ≤ length (list_at mid.prepared place)

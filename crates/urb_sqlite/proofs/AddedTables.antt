@@ -19,18 +19,21 @@ use Rattle.urb_sqlite.proofs.StatementTexts.{found_at}
 
 -- ---- lists with one more
 
+-- what holds of all elements of a list holds of the element at a place
 pub all_at : {X : Type 0} (P : X → Type 0) (xs : List X) (i : ℕ) (x : X) → AllByRecursion P xs
     → slice_get xs i ≡ Some x → P x
 all_at P [] i x all got = absurd (let e = got in cc)
 all_at P (y ∷ xs) zero x all got = (let same : y ≡ x = cc in subst P same all.0)
 all_at P (y ∷ xs) (suc i) x all got = all_at P xs i x all.1 got
 
+-- an element stays at its place when others are added after the list
 pub slice_front : {X : Type 0} (xs ys : List X) (i : ℕ) (x : X) → slice_get xs i ≡ Some x
     → slice_get (xs ++ ys) i ≡ Some x
 slice_front [] ys i x got = absurd (let e = got in cc)
 slice_front (y ∷ xs) ys zero x got = got
 slice_front (y ∷ xs) ys (suc i) x got = slice_front xs ys i x got
 
+-- the element that is added to a list is at the place that equals the list's length
 pub slice_last : {X : Type 0} (xs : List X) (x : X) → slice_get (xs ++ x ∷ []) (length xs) ≡ Some x
 slice_last [] x = refl
 slice_last (y ∷ xs) x = slice_last xs x
@@ -180,6 +183,7 @@ module _ (s k : Schema) (t : Table) (behind : k.tables ≡ s.tables ++ t ∷ [])
       (lacks_named s name lacks) other in
       ap (option_and_then (slice_get k.tables)) none
 
+  -- a table of records is still there, in the same tree, after another table was added
   pub has_behind : (name : List ℕ) → HasTable s name
       → HasTable k name × (tree_of k name ≡ tree_of s name)
   has_behind name has =
@@ -194,6 +198,7 @@ module _ (s k : Schema) (t : Table) (behind : k.tables ≡ s.tables ++ t ∷ [])
       (ap (find (λ x. x.tree == tree)) behind
       ∙ find_front (λ x. x.tree == tree) s.tables (t ∷ []) _ has.alone) has.stored
 
+  -- a table of records with a new name is there, in the next free tree, once it was added
   pub has_new : (name : List ℕ) → t ≡ record_table name (next_tree s) → table_named s name ≡ None
       → same_name name name ≡ true → next_tree s < 65536
       → HasTable k name × (tree_of k name ≡ next_tree s)

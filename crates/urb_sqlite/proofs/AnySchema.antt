@@ -85,6 +85,7 @@ compiled_means s text p parsed c h =
       returning_is = shown.1 ∙ ap Ok as_shown;
     }
 
+-- a text that is understood means what its statement means under some schema
 pub understood_means : (s : Schema) (text : List ℕ) (p : Parsed) → first text ≡ Ok p
     → (c : Compiled) → understood s text ≡ Ok c → (at : Schema) × Means at p c
 unfolding understood
@@ -213,6 +214,7 @@ module _ (s : Schema) (formats : List (List ℕ)) (def : ast.CreateTable) (c : C
   unfolding create_table after is_new
   parts h = split (is_attached s def.name) h
 
+  -- a CREATE TABLE that compiles creates a table, or does nothing
   pub create_any : create_table s formats def ≡ Ok c → Created c
   create_any h =
       let it = parts h in elim (ended it.0 it.2) [ inl none ↦ inl none.1 | inr made ↦ inr made ]
@@ -231,6 +233,7 @@ module _ (s : Schema) (formats : List (List ℕ)) (def : ast.CreateTable) (c : C
   none_made true h e = absurd (let n = h in cc)
   none_made false h e = let n = e in cc
 
+  -- a CREATE TABLE that compiles does nothing if a table has its name
   pub create_none : (at : ℕ) → table_named s def.name ≡ Some at → create_table s formats def ≡ Ok c
       → c ≡ Nothing
   unfolding is_new
@@ -259,6 +262,8 @@ pub record IsCreate (s : Schema) (text name : List ℕ) (c : Compiled) : Type 0 
   pub comes_to : Created c.command
   pub leaves : HasTable s name → c.command ≡ Nothing
 
+-- Whatever the schema is, CREATE TABLE IF NOT EXISTS shows no rows, and creates a table or does
+-- nothing.
 pub create_is : (text name : List ℕ) → Makes text name → (s : Schema) (c : Compiled)
     → understood s text ≡ Ok c → IsCreate s text name c
 unfolding understood

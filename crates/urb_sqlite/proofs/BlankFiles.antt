@@ -14,6 +14,7 @@ use Rattle.sqlite_trees.specs.Tree.{Trees}
 use Rattle.sqlite.specs.Files.{HoldsDatabase, IsNothing}
 use Rattle.sqlite_wal.proofs.CreateLemmas.{begun_is_not_blank}
 
+-- Files that are judged to be blank hold no database.
 pub holds_none : (size : ℕ) (image : Image) (db : Trees) → 0 < size → IsBlankFile size image
     → ¬ HoldsDatabase image db
 holds_none size image db some blank held =

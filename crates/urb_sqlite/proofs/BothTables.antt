@@ -17,6 +17,7 @@ use Rattle.urb_sqlite.proofs.KeptRecords.{IsSettled, earlier_clean, left, same_j
 
 -- ---- two calls, the first of which changes nothing
 
+-- two calls that change nothing, one after the other, change nothing
 pub unchanged_then : (a b c : State) → IsUnchanged a b → IsUnchanged b c → IsUnchanged a c
 unchanged_then a b c p q = (
   record {
@@ -44,11 +45,13 @@ undone_then a b c p q = record {
   };
 }
 
+-- a call that changes nothing and one that changes nothing or rolls back do no more together
 pub left_then : (a b c : State) → IsUnchanged a b → IsUnchanged b c ⊎ IsRolledBack b c
     → IsUnchanged a c ⊎ IsRolledBack a c
 left_then a b c p (inl same) = inl (unchanged_then a b c p same)
 left_then a b c p (inr undone) = inr (undone_then a b c p undone)
 
+-- if two calls commit nothing, a crash after them leaves only what it could leave before them
 pub survives_both : (a b c : State) → Survives a b (λ _. ⊥) → Survives b c (λ _. ⊥)
     → Survives a c (λ _. ⊥)
 survives_both a b c =
@@ -76,6 +79,7 @@ reads_on old mid place next second same at read =
     subst (λ n. ReadsOn old.now n second) at
     (subst (λ d. ReadsOn d place second) same.0.now_is read)
 
+-- if both tables were read one after the other, they stand for the records that were read
 pub stands_when_read : (old mid : State) (place : ℕ) (first second all : List Entry)
     → IsUnchanged old mid → place ≡ 1 + length first
     → read_from (limit_of First) 1 (table_rows old.now journal_name) ≡ Ok first
@@ -111,6 +115,8 @@ given_by_read old new records honest same read =
 
 -- ---- a stop behind them
 
+-- If the next position agreed with the rows, a stop after reading both tables leaves the journal's
+-- records.
 pub safe_after : (old new : State) (next : ℕ) → Survives old new (λ _. ⊥)
     → (HasCleanDisk new → IsUnchanged old new ⊎ IsRolledBack old new)
     → (IsTrue new.is_open → IsSettled new) → IsLive new → IsInStep old next → IsSafeAtRest new

@@ -68,6 +68,7 @@ longer_one : (d after : Database) (text : List ℕ)
 longer_one d after text made =
     record { more = added d made.table ∷ []; tables = behind d after text made; rows = made.others }
 
+-- Tables that were added twice are added after the first ones, which keep their rows.
 pub longer_then : (a b c : Database) → IsLonger a b → IsLonger b c → IsLonger a c
 longer_then a b c one two = record {
   more = one.more ++ two.more;
@@ -285,6 +286,7 @@ module _ (text name : List ℕ) (parsed : Makes text name) where
             inr (made, λ auto. rw auto at w.shown.committed_is)
       ]
 
+  -- If the table was there, the CREATE changes nothing.
   pub creates_nothing : (old new : State) (count : ℕ) → HasTable old.now.schema name
       → Executes text [] old new (Ok count) → IsUnchanged old new
   unfolding ExecutesIn

@@ -78,6 +78,7 @@ module _ (limit : ℕ) where
       read_behind first rows (row ∷ []) rs h
       ∙ ap (λ k. extended rs (read_from limit k (row ∷ []))) (sym at)
 
+  -- a row that is a record, after the rows of records, is read as one more record
   pub read_more : (first place : ℕ) (rows : List Row) (rs : List Entry) (row : Row) (r : Entry)
       → read_from limit first rows ≡ Ok rs → place ≡ first + length rs
       → record_at limit place row ≡ Some r
@@ -85,6 +86,7 @@ module _ (limit : ℕ) where
   read_more first place rows rs row r h at found =
       read_one first place rows rs row h at ∙ ap (λ o. extended rs (joined place o (Ok []))) found
 
+  -- a row that is no record, after the rows of records, is the first bad one
   pub read_bad : (first place : ℕ) (rows : List Row) (rs : List Entry) (row : Row)
       → read_from limit first rows ≡ Ok rs → place ≡ first + length rs
       → record_at limit place row ≡ None
@@ -113,6 +115,7 @@ module _ (limit : ℕ) where
       go further (Some r) (Err b) is h =
           let same : b ≡ bad = cc in ap (joined first (Some r)) (further b is) ∙ ap Err same
 
+  -- no rows are read as no records
   pub read_nothing : (first : ℕ) → read_from limit first [] ≡ Ok []
   unfolding read_from
   read_nothing first = refl
@@ -189,6 +192,7 @@ pub record MeetsBadRow (part : Part) (limit first : ℕ) (old : State) (place : 
 -- the query begins
 module _ {S : Type 0} (g : Ghosts S) (part : Part) (sql : List ℕ) (is : sql ≡ select_of part)
     (old new : Held S) where
+  -- A SELECT commits nothing, so a crash at its start leaves only what it could leave before.
   pub start_stops : Survives (state g old) (state g new) (CommitsShowing sql [] (state g old))
       → Survives (state g old) (state g new) (λ _. ⊥)
   start_stops h =
@@ -196,6 +200,7 @@ module _ {S : Type 0} (g : Ghosts S) (part : Part) (sql : List ℕ) (is : sql �
       (λ _ db. select_commits_nothing part (state g old) db)
       (subst (λ q. Survives (state g old) (state g new) (CommitsShowing q [] (state g old))) is h)
 
+  -- a cursor that has begun has given no rows, and nothing has changed
   pub reads_none : (limit first : ℕ) → HasBegun g sql [] old new
       → HasReadTo g part limit first (state g old) new []
   reads_none limit first h = go (subst (λ q. HasBegun g q [] old new) is h)
@@ -211,9 +216,11 @@ module _ {S : Type 0} (g : Ghosts S) (part : Part) (sql : List ℕ) (is : sql �
     refused : IsRefused g sql [] old result new
     refused = subst (λ r. OnErr r (IsRefused g sql [] old result new)) failed h
 
+    -- a crash after a refused query leaves only what it could leave before
     pub refused_stops : Survives (state g old) (state g new) (λ _. ⊥)
     refused_stops = start_stops refused.survives
 
+    -- a refused query changed nothing, or went back to the last commit
     pub refused_left : HasCleanDisk (state g new)
         → IsUnchanged (state g old) (state g new) ⊎ IsRolledBack (state g old) (state g new)
     refused_left clean =
@@ -233,6 +240,7 @@ module _ {S : Type 0} (g : Ghosts S) (part : Part) (limit first : ℕ) (old : St
     given_on : HasGiven g (select_of part) [] new (h.given ++ row ∷ [])
     given_on = subst (GivesOn g (select_of part) [] mid new h.given) is on
 
+    -- a row that is the record of its place is one more record that the cursor has given
     pub reads_on : (r : Entry) → record_at limit place row ≡ Some r
         → HasReadTo g part limit first old new (records ++ r ∷ [])
     reads_on r found = record {
@@ -242,6 +250,7 @@ module _ {S : Type 0} (g : Ghosts S) (part : Part) (limit first : ℕ) (old : St
       read = read_more limit first place h.given records row r h.read at found;
     }
 
+    -- a row that is no record of its place is the bad row that the cursor meets
     pub meets_bad : record_at limit place row ≡ None → MeetsBadRow part limit first old place
     meets_bad none =
         let still = unchanged_then old (state g mid) (state g new) h.same same in
@@ -252,6 +261,7 @@ module _ {S : Type 0} (g : Ghosts S) (part : Part) (limit first : ℕ) (old : St
           read = read_bad limit first place h.given records row h.read at none;
         }
 
+  -- a cursor that gives no more rows has given the whole answer of the query
   pub reads_all : got ≡ None → Shown (select_of part) [] old (state g new) h.given
   reads_all is =
       shown_before part old (state g mid) (state g new) h.given h.same
@@ -276,6 +286,8 @@ module _ (part : Part) (old new : State) (has : HasTable old.now.schema (name_of
           let command = sym (ap command_of it.is) ∙ is.command_is in
           subst (λ k. EndsIn k db (timed [] c.formats it.now)) (sym command) tt
 
+  -- a bad row that the cursor meets is the first one in the rows of the whole table, in order of
+  -- pos
   pub bad_in_table : limit_of part ≤ MAX_PAYLOAD → first ≤ 4294967295
       → (all : List Row) × IsInOrder (tree_of old.now.schema (name_of part)) old.now.trees all
       × IsFirstBad (limit_of part) first all place
@@ -286,6 +298,7 @@ module _ (part : Part) (old new : State) (has : HasTable old.now.schema (name_of
         (stays_bad (limit_of part) first rows rest.0 place read),
   )
 
+  -- if the cursor meets a bad row, the rows of the table are not all records
   pub no_records : (rs : List Entry)
       → read_from (limit_of part) first (table_rows old.now (name_of part)) ≡ Ok rs → ⊥
   no_records rs all =
@@ -295,10 +308,12 @@ module _ (part : Part) (old new : State) (has : HasTable old.now.schema (name_of
 
 -- ---- faults
 
+-- what holds in any case holds after an `Err`
 pub on_err : {X E : Type 0} (P : Type 0) (r : Result X E) → P → OnErr r P
 on_err P (Ok x) p = tt
 on_err P (Err e) p = p
 
+-- a fault that is `BadRow` for no place isn't one of a bad row
 pub no_bad_row : (e : StoreFault) → ((place : ℕ) → e ≡ BadRow place → ⊥) → is_bad_row e ≡ false
 no_bad_row NoMemory none = refl
 no_bad_row Device none = refl

@@ -180,6 +180,7 @@ module _ (old mid new : State) (place : ℕ) (e : StoreFault)
     (two : HasCleanDisk new → IsPartRefused mid new Second place e)
     (first : Survives old mid (CommitsBy create_text [] old))
     (second : Survives mid new (CommitsBy second_text [] mid)) where
+  -- If the second table is refused after the first was opened, the database keeps its rows.
   pub second_given_back : (HasCleanDisk mid → StaysApart old mid) → is_place e ≡ false
       → IsGivenBack old new e
   second_given_back apart placed =

@@ -53,6 +53,7 @@ pub went : {B E R : Type 0} {b : B} {Stops : E → Type 0}
 went (inl stopped) = absurd (let e = stopped.2 in cc)
 went (inr on) = on
 
+-- two `Ok` that are equal have the same value
 pub same_value : {B E : Type 0} {a b : B} → ◌≡◌ {A = Result B E} (Ok a) (Ok b) → a ≡ b
 same_value e = cc
 
@@ -158,6 +159,7 @@ does_put old name tree at place kind sender seq client number payload text tally
     }
 
 module _ (text name : List ℕ) (parsed : Puts text name) where
+  -- An INSERT that succeeds puts its row into its table, and no other table changes.
   pub inserts : (old new : State) (place kind sender seq client number : ℕ) (payload : List ℕ)
       (count : ℕ) → HasTable old.now.schema name
       → Executes text (columns_of place kind sender seq client number payload) old new (Ok count)

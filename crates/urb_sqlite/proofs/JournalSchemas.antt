@@ -113,7 +113,7 @@ finds_base conn now db live opens is base adopted =
     same_rows name tables =
         ap (λ ts. table_rows (record { schema = bare ts; trees = db }) name) (sym tables)
 
--- .. and so is a connection that found a journal
+-- A connection that found a journal is adopted with the records of the journal.
 pub finds_journal : (conn now : State) (db : Trees) → IsLive conn → Opens conn
     → conn.committed.trees ≡ db → (journal : IsJournal db)
     → (IsAdoptable conn.now.schema → IsHonestJournal now × StandsFor conn.now (records_of now.now))
@@ -152,6 +152,7 @@ bare_schema schema db none sound =
     ≡ no_schema = rw (tables, indexes, views) refl in
     made
 
+-- if the database file is empty, the files hold no database
 pub empty_is_nothing : (image : Image) → image.db ≡ [] → IsNothing image
 empty_is_nothing image none = inl (inl (ap length none))
 

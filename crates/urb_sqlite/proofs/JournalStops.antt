@@ -34,6 +34,7 @@ use Rattle.urb_sqlite.specs.OpenJournal.{database_of}
 use Rattle.urb_sqlite.specs.Stops.{IsFoundAfter}
 use Rattle.urb_sqlite.proofs.StoredRows.{records_are}
 
+-- a store is clean if both of its files are clean
 pub store_clean : {D : Type 0} {g : Ghosts D} (it : Pool D g)
     → AreClean g (pool.files it).0 (pool.files it).1 → IsTrue (pool.state it).is_clean
 unfolding pool.state pool.files
@@ -111,6 +112,7 @@ found_again conn store left again clean may numbered sound fewer opened P leaves
     ∙ records_are (database_of rest.0) (records_of again.now) got.1 in
     (got.0, subst P same rest.3))
 
+-- A journal with a clean disk is honest if it is merely known to be honest.
 pub honest_again : (s : State) → HasCleanDisk s → ∥ IsHonestJournal s ∥₁ → IsHonestJournal s
 honest_again s clean h = record {
   clean = clean;
@@ -135,6 +137,7 @@ honest_again s clean h = record {
   };
 }
 
+-- two lists of records are equal if they are merely known to be equal
 pub same_again : (found before : List Entry) → ∥ found ≡ before ∥₁ → found ≡ before
 same_again found before h = ∥∥₁_elim h (same_once found before) (λ x. x)
 
@@ -158,6 +161,7 @@ one_again found before r h = go (length found == length before) refl
       | inr longer ↦ longer
     ]))
 
+-- two facts of an `Ok` answer hold together
 pub both_ok : {A E : Type 0} (r : Result A E) (P Q : A → Type 0) → IfOk r P → IfOk r Q
     → IfOk r (λ x. P x × Q x)
 both_ok (Ok x) P Q p q = (p, q)

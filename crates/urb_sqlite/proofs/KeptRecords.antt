@@ -52,6 +52,7 @@ use Rattle.urb_sqlite.proofs.StoredRows.{stands_more, rows_there, records_are, p
 pub same_first : {new old : Schema} → new ≡ old → HasBoth old → HasBoth new
 same_first same has = subst HasBoth (sym same) has
 
+-- a database that equals one with both tables has both tables
 pub same_journal : {new old : Database} → new ≡ old → HasBoth old.schema → HasBoth new.schema
 same_journal same has = subst (λ (d : Database). HasBoth d.schema) (sym same) has
 
@@ -77,6 +78,7 @@ pub record IsSame (old new : State) : Type 0 where
   pub committed_is : IsTrue new.is_open → new.committed ≡ old.committed
   pub autocommit : old.in_transaction ≡ false → new.in_transaction ≡ false
 
+-- a call that changed nothing changed no row
 pub same_if_unchanged : (old new : State) → IsUnchanged old new → IsSame old new
 same_if_unchanged old new h = record {
   was_open = λ _. h.0.was_open;
@@ -85,6 +87,7 @@ same_if_unchanged old new h = record {
   autocommit = λ auto. h.0.mode ∙ auto;
 }
 
+-- if all was committed, a call that went back to the last commit changed no row
 pub same_if_undone : (old new : State) → old.now ≡ old.committed → IsRolledBack old new
     → IsSame old new
 same_if_undone old new settled h = record {
@@ -94,6 +97,7 @@ same_if_undone old new settled h = record {
   autocommit = λ _. h.autocommit;
 }
 
+-- if all was committed, a refused statement changed no row
 pub same_if_refused : (sql : List ℕ) (params : Row) (old new : State) (e : Error)
     → old.now ≡ old.committed → Executes sql params old new (Err e) → IsSame old new
 same_if_refused sql params old new e settled h = elim (left_by_err sql params old new e h) [
@@ -101,6 +105,7 @@ same_if_refused sql params old new e settled h = elim (left_by_err sql params ol
   | inr undone ↦ same_if_undone old new settled undone
 ]
 
+-- after a call that changed no row, the next position still agrees with the rows
 pub kept_same : (old new : State) (next : ℕ) → IsTrue new.is_open → IsSame old new → IsKept old next
     → IsKept new next
 kept_same old new next is_open same h =
@@ -113,6 +118,7 @@ kept_same old new next is_open same h =
           (h.counted (same_journal (sym now) has));
     }
 
+-- the INSERT of a record puts the row of this record into the second table
 pub puts_record : (old new : State) (place : ℕ) (r : Entry) (count : ℕ)
     → HasTable old.now.schema second_name → Executes insert_text (row_of place r) old new (Ok count)
     → IsPut old new (tree_of old.now.schema second_name) (kept_of place r)
@@ -135,6 +141,7 @@ pub record IsOwnWrite (old new : State) : Type 0 where
   pub was_open : IsTrue old.is_open
   pub is_open : IsTrue new.is_open
 
+-- whatever the schema is, an INSERT that succeeds keeps it, and is committed outside a transaction
 pub writes_in_any : (params : Row) (old new : State) (count : ℕ)
     → Executes insert_text params old new (Ok count) → IsOwnWrite old new
 unfolding ExecutesIn
@@ -194,6 +201,7 @@ first_kept s old new has others =
     s.tables it.at _ others it.there
     (trees_differ s journal_name second_name has.first has.second names_differ)
 
+-- The INSERT of the next record adds this record to those of the journal.
 pub adds_record : (old new : State) (place : ℕ) (r : Entry) (count : ℕ) → HasBoth old.now.schema
     → IsCounted old.now place → place < 4294967295 → IsEntry r
     → Executes insert_text (row_of place r) old new (Ok count) → IsAdded old new place r
@@ -212,6 +220,7 @@ adds_record old new place r count has h low valid ran =
       };
     }
 
+-- After the INSERT of a record, the next position is one more, and agrees with the rows.
 pub kept_more : (old new : State) (place : ℕ) (r : Entry) (count : ℕ) → IsKept old place
     → place < 4294967295 → IsEntry r → Executes insert_text (row_of place r) old new (Ok count)
     → IsKept new (place + 1)
@@ -235,6 +244,7 @@ IsJournalOf db records = (journal : IsJournal db) × StandsFor (database_of jour
 abbrev pub journal_of : (s : Schema) (db : Trees) → HasBoth s → IsSound s db → IsJournal db
 journal_of s db has sound = record { schema = s; has = (has.first, inl has.second); sound = sound }
 
+-- what the INSERT of a record commits is a journal of the earlier records and this one
 pub commits_record : (old : State) (place : ℕ) (r : Entry) (db : Trees) → HasBoth old.now.schema
     → IsCounted old.now place → place < 4294967295 → IsEntry r
     → CommitsBy insert_text (row_of place r) old db → IsJournalOf db (records_of old.now ++ r ∷ [])
@@ -275,6 +285,7 @@ last_commit s next db settled live honest kept left =
     subst (λ d. IsJournalOf d (records_of s.now)) (sym is)
     (sound, (kept.counted honest.schema).stands)
 
+-- A stop at the INSERT of a record leaves the earlier records, or these and this one.
 pub stops_at_insert : (old new : State) (place : ℕ) (r : Entry) → IsInStep old place
     → place < 4294967295 → IsEntry r → IsSettled old → IsLive old
     → Survives old new (CommitsBy insert_text (row_of place r) old) → IsHonestJournal old
@@ -293,6 +304,7 @@ stops_at_insert old new place r step low valid settled live survives honest clea
           (it.0, records_of old.now ++ r ∷ [], it.1, inr refl)
     ]
 
+-- A stop at a SELECT leaves the earlier records.
 pub stops_at_select : (old new : State) (place : ℕ) → IsInStep old place → IsSettled old
     → IsLive old → Survives old new (λ _. ⊥) → IsHonestJournal old → HasCleanDisk new
     → LeavesOnly new (λ records. records ≡ records_of old.now)
@@ -306,6 +318,7 @@ stops_at_select old new place step settled live survives honest clean db left =
 
 -- ---- reading
 
+-- a SELECT that shows its rows changes nothing
 pub unchanged_by_select : (part : Part) (old new : State) (rows : List Row)
     → Shown (select_of part) [] old new rows → IsUnchanged old new
 unfolding Shown
@@ -313,6 +326,7 @@ unchanged_by_select part old new rows h =
     (rw (reads_in_any (select_of part) (name_of part)
     (select_parsed part) old.now.schema h.0 h.1.is) at h.2).3
 
+-- a refused SELECT changed nothing, or went back to the last commit
 pub left_by_query : (part : Part) (old new : State) (e : Error)
     → FailsToQuery (select_of part) [] old new e → IsUnchanged old new ⊎ IsRolledBack old new
 unfolding FailsToQuery IsNotRun
@@ -322,6 +336,7 @@ left_by_query part old new e (inr ran) =
     inl (rw (reads_in_any (select_of part) (name_of part)
     (select_parsed part) old.now.schema ran.0 ran.1.is) at ran.2).3
 
+-- the SELECT of a table commits nothing
 pub select_commits_nothing : (part : Part) (s : State) (db : Trees)
     → ¬ CommitsShowing (select_of part) [] s db
 unfolding CommitsShowing
@@ -363,10 +378,12 @@ module _ (part : Part) (old new : State) (rows : List Row)
 
 -- ---- the calls
 
+-- if the disk is clean after a call, it was clean before
 pub earlier_clean : (old new : State) → doubt old.is_clean ≤ doubt new.is_clean → HasCleanDisk new
     → HasCleanDisk old
 earlier_clean old new below clean = omega arith
 
+-- An INSERT of the next record that succeeds appends this record to the journal.
 pub appended : (old new : State) (place : ℕ) (r : Entry) (count : ℕ) → IsInStep old place
     → place < 4294967295 → IsEntry r → doubt old.is_clean ≤ doubt new.is_clean
     → (HasCleanDisk new → Executes insert_text (row_of place r) old new (Ok count))
@@ -409,6 +426,7 @@ same_if_left : (old new : State) → old.now ≡ old.committed
 same_if_left old new settled (inl same) = same_if_unchanged old new same
 same_if_left old new settled (inr undone) = same_if_undone old new settled undone
 
+-- A call that changed nothing or rolled back leaves the records and the next position as they were.
 pub left : (old new : State) (place : ℕ) → IsInStep old place
     → doubt old.is_clean ≤ doubt new.is_clean
     → (HasCleanDisk new → IsUnchanged old new ⊎ IsRolledBack old new) → IsLeft old new place
@@ -448,7 +466,7 @@ not_bad old new place e step below how sound honest =
     let was = (left old new place step below how).honest honest in
     sound honest.clean was.schema place ((step was.clean was.is_open).counted was.schema)
 
--- .. nor if the journal was honest before, or a fault had shut it.
+-- If a journal was honest before it refuses to be read, the cause is no bad row.
 pub honest_before : (old new : State) (place : ℕ) (e : StoreFault) → IsInStep old place
     → (HasCleanDisk new → HasBoth old.now.schema → (next : ℕ) → IsCounted old.now next
     → is_bad_row e ≡ false)
@@ -456,6 +474,7 @@ pub honest_before : (old new : State) (place : ℕ) (e : StoreFault) → IsInSte
 honest_before old new place e step sound was clean =
     sound clean was.schema place ((step was.clean was.is_open).counted was.schema)
 
+-- If a fault had shut the journal, the cause of a refusal is no bad row.
 pub shut_before : (old new : State) (e : StoreFault) → IsShutJournal old
     → ((place : ℕ) → e ≡ BadRow place → IsUnchanged old new) → is_bad_row e ≡ false
 shut_before old new (BadRow place) shut same = absurd (shut (same place refl).0.was_open)
@@ -463,6 +482,7 @@ shut_before old new NoMemory shut same = refl
 shut_before old new Device shut same = refl
 shut_before old new (Place next) shut same = refl
 
+-- a SELECT shows the rows of its table, in an order that their pos allows
 pub in_order : (part : Part) (old new : State) (rows : List Row)
     → HasTable old.now.schema (name_of part) → Shown (select_of part) [] old new rows
     → IsInOrder (tree_of old.now.schema (name_of part)) old.now.trees rows
@@ -480,6 +500,7 @@ stops_now s next step settled live honest db left =
 
 -- ---- what stays committed
 
+-- a call that changed nothing or rolled back committed nothing
 pub keeps_if_left : (old new : State) → IsUnchanged old new ⊎ IsRolledBack old new
     → KeepsCommit old new
 keeps_if_left old new (inl same) =
@@ -487,6 +508,7 @@ keeps_if_left old new (inl same) =
 keeps_if_left old new (inr undone) =
     record { was_open = undone.was_open; committed = λ is_open. (undone.undone is_open).1 }
 
+-- two calls that commit nothing, one after the other, commit nothing
 pub keeps_then : (a b c : State) → KeepsCommit a b → KeepsCommit b c → KeepsCommit a c
 keeps_then a b c p q = record {
   was_open = λ h. p.was_open (q.was_open h);

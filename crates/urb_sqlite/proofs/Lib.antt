@@ -1,3 +1,15 @@
+-- A journal is two tables of an SQLite database. Proved here: what its statements do to the
+-- records, what an opening finds in a node's files, and what a stop leaves there. All rests on the
+-- clauses of the database's calls.
+-- ResolvedSelects and StatementTexts come first: they compute what the texts of the statements mean
+-- if the table is known. AnySchema says it if the table is not known. InsertStatement,
+-- SelectStatement and CreateStatement say what each statement does to its table. SpelledRows and
+-- StoredRows read rows as records, and CursorReads does so one by one.
+-- KeptRecords joins these: a store adds its record (`appended`), and a stop at a store leaves the
+-- records with it or without it (`stops_at_insert`). The openings of the tables are built on it.
+-- The database is taken over (`taken_over`), or it is given back with its rows
+-- (`second_given_back`). JournalSchemas, NodeJournals and JournalStops come last: what an opening
+-- finds in the files (`found_there`), and after a stop (`found_again`).
 pub mod ResolvedSelects
 pub mod StatementTexts
 pub mod InsertStatement

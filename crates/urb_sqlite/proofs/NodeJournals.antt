@@ -27,6 +27,7 @@ module _ (conn now : State) (image : Image) (opened : HasCleanDisk conn → Open
       → IsHonestJournal now × (records_of now.now ≡ [])
   without_tables clean lacks = taken.fresh clean (lacks journal_name) (lacks second_name)
 
+  -- An opened journal has the records that its files held, in each case that `IsFoundIf` names.
   pub found_there : IsFoundIf (IsNothing image) image (HasCleanDisk now) (IsHonestJournal now)
       (records_of now.now)
   found_there = record {

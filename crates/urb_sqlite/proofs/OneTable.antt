@@ -21,6 +21,7 @@ use Rattle.urb_sqlite.proofs.BothTables.{unchanged_then}
 use Rattle.urb_sqlite.proofs.KeptRecords.{keeps_if_left, keeps_then}
 use Rattle.urb_sqlite.proofs.OpenedTables.{rows_none}
 
+-- no rows are read as no records
 pub none_read : (limit first : ℕ) → read_from limit first [] ≡ Ok []
 unfolding read_from
 none_read limit first = refl
@@ -35,6 +36,7 @@ made_then old mid new name made same = record {
 
 module _ (part : Part) (old mid new : State) (first : ℕ) (one : IsPrepared old mid part)
     (clean : HasCleanDisk mid) where
+  -- a table that was prepared, and whose rows were then read, is opened
   pub opened : (next : ℕ) → IsUnchanged mid new
       → (HasTable mid.now.schema (name_of part) → IsRead mid.now part first next)
       → IsPartOpened old new part first next
@@ -58,6 +60,7 @@ module _ (part : Part) (old mid new : State) (first : ℕ) (one : IsPrepared old
       (rows : List Row) × IsInOrder (tree_of s.now.schema (name_of part)) s.now.trees rows
       × IsFirstBad (limit_of part) first rows place
 
+  -- if a prepared table can't be read, it is refused, and at most the empty table was committed
   pub unread : (e : StoreFault) → IsUnchanged mid new ⊎ IsRolledBack mid new
       → (HasTable mid.now.schema (name_of part) → (place : ℕ) → e ≡ BadRow place → BadIn mid place)
       → (HasTable mid.now.schema (name_of part) → (records : List Entry)
@@ -93,6 +96,7 @@ module _ (part : Part) (old mid new : State) (first : ℕ) (one : IsPrepared old
             ∙ none_read (limit_of part) first);
       }
 
+-- a table that can't be prepared is refused, and the fault names no bad row
 pub unprepared : (part : Part) (old new : State) (first : ℕ) (e : StoreFault)
     → (e ≡ NoMemory) ⊎ (e ≡ Device) → CommitsAtMost old new (name_of part)
     → (HasTable old.now.schema (name_of part) → KeepsCommit old new)

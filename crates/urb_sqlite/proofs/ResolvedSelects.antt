@@ -56,6 +56,7 @@ use Rattle.sqlite.specs.Listing.{understood, reads_listing}
 use Rattle.sqlite_resolve.specs.Program.{query, query_to}
 use Rattle.sqlite_schema.specs.declared.program.Table.{Table as Let}
 
+-- the resolver's state with no steps and no aggregates, with this budget left
 abbrev pub quiet : ℕ → ℕ → Carried → State
 quiet next budget last = record
     { next = next; steps = []; aggregates = []; budget = budget; written = None; last = last }
@@ -101,9 +102,11 @@ pub record IsPlainSort (t : Table) (so : Sort) (k : ℕ) (c : schema.Column)
   pub unaliased : scope.alias_of name outs ≡ None
 
 module _ (s : Schema) (at : ℕ) (t : Table) (there : slice_get s.tables at ≡ Some t) where
+  -- the table in FROM under this name
   abbrev pub bound_to : Name → Bound
   bound_to n = record { name = n; table = at; slot = 1; shared = [] }
 
+  -- the context of a SELECT from this table alone, which shows these columns
   abbrev pub over : Name → List Output → Bool → Context
   over n shown grouped = record {
     schema = s;
@@ -200,6 +203,7 @@ module _ (s : Schema) (at : ℕ) (t : Table) (there : slice_get s.tables at ≡ 
   unfolding body.is_column
   is_column_is e name is = ap body.is_column_at is
 
+  -- resolving one more plain column of a SELECT adds this column to the result
   pub outputs_more : (n : Name) (tables : List Bound) (done : List Output) (sh : Shown)
       (more : List Shown) (k : ℕ) (c : schema.Column) (next budget : ℕ) (last : Carried)
       → IsColumn t sh k c → nat_lt 1 budget ≡ true
@@ -277,6 +281,7 @@ module _ (s : Schema) (at : ℕ) (t : Table) (there : slice_get s.tables at ≡ 
         joins_is below n outs h.src (quiet 2 budget last) h.plain,
       ) refl
 
+  -- ascending order by one column of the table
   abbrev pub order_of : ℕ → schema.Column → List (Term × Key)
   order_of k c =
       (col 1 (place_of t k), record { collation = alone (declared t k c); descending = false }) ∷ []
@@ -360,6 +365,7 @@ module _ (s : Schema) (at : ℕ) (t : Table) (there : slice_get s.tables at ≡ 
         sort_is n outs so k c 2 budget last sorted low,
       ) refl
 
+  -- the draft of a SELECT of these columns, ordered by one column of the table
   abbrev pub draft_of : List Output → ℕ → schema.Column → Term × Term → Draft
   draft_of outs k c page = record {
     from = chain (Inner t.tree ∷ []);
@@ -373,6 +379,7 @@ module _ (s : Schema) (at : ℕ) (t : Table) (there : slice_get s.tables at ≡ 
     offset = page.1;
   }
 
+  -- a plain SELECT from one table, ordered by one column, is resolved to a draft of its columns
   pub named_is : (core : Core) (n : Name) (shs : List Shown) (outs : List Output) (so : Sort)
       (k : ℕ) (c : schema.Column) (budget : ℕ) (last : Carried) (page : Term × Term)
       → IsPlainCore core n shs → table_named s n ≡ Some at
@@ -391,6 +398,7 @@ module _ (s : Schema) (at : ℕ) (t : Table) (there : slice_get s.tables at ≡ 
 
 -- ---- a query with neither WITH nor other parts
 
+-- a SELECT of one core, ordered by one column, with no limit and no offset
 pub record IsPlainSelect (sel : Select) (core : Core) (so : Sort) : Type 0 where
   pub with : (out-Select sel).with ≡ []
   pub first : (out-Select sel).first ≡ core
@@ -399,6 +407,7 @@ pub record IsPlainSelect (sel : Select) (core : Core) (so : Sort) : Type 0 where
   pub limit : (out-Select sel).limit ≡ None
   pub offset : (out-Select sel).offset ≡ None
 
+-- the terms for no limit and no offset
 abbrev pub no_page : Term × Term
 no_page = (lit (Int (negsuc 0)), lit (Int (pos 0)))
 
@@ -448,6 +457,7 @@ pub record IsOfText (text : List ℕ) (p : Parsed) (st : Statement) : Type 0 whe
   pub statement : p.statement ≡ st
   pub formats : p.formats ≡ []
 
+-- the first number after those of the text's parameters
 abbrev pub base_of : Parsed → ℕ
 base_of p = compile.small p.names + 0
 
@@ -465,6 +475,7 @@ pub understood_is : (s : Schema) (text : List ℕ) (c : Compiled) → compiled s
 unfolding understood
 understood_is s text c made = (rw made refl, rw made refl)
 
+-- the text of a plain SELECT compiles to the query of its draft
 pub read_is : (s : Schema) (text : List ℕ) (p : Parsed) (sel : Select) (core : Core) (n : Name)
     (shs : List Shown) (so : Sort) (d : Draft) (names : List Name) (collations : _)
     → IsOfText text p (written.Select sel) → IsPlainSelect sel core so → IsPlainCore core n shs
@@ -477,6 +488,7 @@ read_is s text p sel core n shs so d names collations h plain from named typed =
     compiled_is s text p (written.Select sel) _ h refl refl
     (rw (query_is s sel core n shs so (d, names, collations) plain from named, typed) refl)
 
+-- the text of an INSERT into a table that is there compiles to an INSERT of its rows
 pub inserted_is : (s : Schema) (text : List ℕ) (p : Parsed) (n : Name) (rows : Rows) (at : ℕ)
     (t : Table) (src : source.Source)
     → IsOfText text p (written.Insert conflict.Abort n [] rows [] [])

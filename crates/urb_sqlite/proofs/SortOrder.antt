@@ -58,6 +58,7 @@ module _ {X : Type 0} (cmp : X → X → Ordering) (total : IsTotalOrder cmp) wh
       let e : suc k + 1 ≡ suc (k + 1) = omega arith in
       rw e (sorted_from_up (y ∷ xs) up.1 k d (omega arith) (omega arith))
 
+  -- `sort_by` gives a sorted list
   pub sorted-sort_by : (xs : List X) → IsSorted cmp (sort_by cmp xs)
   sorted-sort_by xs = sorted_from_up _ (up-sort xs)
 

@@ -22,6 +22,7 @@ use Rattle.urb_names.specs.declared.limits.TheConstants.{MAX_NODES, MAX_PAYLOAD}
 
 -- ---- the columns of a row
 
+-- the value is this number of 32 bits
 abbrev pub IsNumber : Value → ℕ → Type 0
 IsNumber v n = (v ≡ Int (pos n)) × (n < 2 ^ 32)
 
@@ -58,6 +59,7 @@ pub record Numbers (row : Row) (c : Columns) : Type 0 where
   pub client : IsNumber (column row 4) c.client
   pub number : IsNumber (column row 5) c.number
 
+-- the numbers that are read from a row are in its columns
 pub numbers_are : (row : Row) (c : Columns) → numbers_in row ≡ Some c → Numbers row c
 numbers_are row c h =
     let it =
@@ -124,6 +126,7 @@ pub record Found (limit place : ℕ) (row : Row) (r : Entry) : Type 0 where
   pub name : is_name c.sender c.seq ≡ true
   pub kind : record_by limit c payload ≡ Some r
 
+-- a row that is read as a record has its place, a name, and the other parts of the record
 pub found_in : (limit place : ℕ) (row : Row) (r : Entry) → record_at limit place row ≡ Some r
     → Found limit place row r
 found_in limit place row r h = go (numbers_in row) (bytes_in (column row 6)) refl refl h
@@ -147,6 +150,7 @@ found_in limit place row r h = go (numbers_in row) (bytes_in (column row 6)) ref
           kind = passed.3;
         }
 
+-- the first column of a row that is read as a record is its place
 pub at_place : (limit place : ℕ) (row : Row) (r : Entry) → record_at limit place row ≡ Some r
     → column row 0 ≡ Int (pos place)
 at_place limit place row r h =
@@ -349,6 +353,7 @@ record_is limit place (Cert name) low h =
       name_passes name h.entry,
     ) refl
 
+-- If a row has the columns of a record within its limits, it is read as that record.
 pub is_read_as : (limit place : ℕ) (row : Row) (r : Entry) → place < 4294967295 → IsWithin limit r
     → columns_in row ≡ row_of place r → record_at limit place row ≡ Some r
 is_read_as limit place row r low within is =
@@ -356,6 +361,7 @@ is_read_as limit place row r low within is =
 
 -- ---- all rows
 
+-- if rows are read as records, the first row is the first record, and the others are the rest
 pub went_on : (place : ℕ) (found : Option Entry) (rest : Result (List Entry) ℕ) (rs : List Entry)
     → joined place found rest ≡ Ok rs
     → (r : Entry) × (found ≡ Some r) × (more : List Entry) × (rest ≡ Ok more) × (rs ≡ r ∷ more)
@@ -384,6 +390,7 @@ module _ (limit : ℕ) (most : limit ≤ MAX_PAYLOAD) where
       subst (Spelling first (row ∷ rows)) (sym on.4)
       (ap₂ ◌∷◌ here.0 later.0, (here.1, later.1), omega (arith, later.2))
 
+  -- Rows that are read as records are the rows of these records.
   pub spells_if_read : (first : ℕ) (rows : List Row) (records : List Entry) → first ≤ 4294967295
       → read_from limit first rows ≡ Ok records → Spells limit first rows records
   spells_if_read first rows records low h =
@@ -448,6 +455,7 @@ module _ (limit : ℕ) (most : limit ≤ MAX_PAYLOAD) where
             bad = later.bad;
           }
 
+  -- If a reading ends at a place, the row there is the first one that is no record.
   pub first_bad : (first : ℕ) (rows : List Row) (place : ℕ) → first ≤ 4294967295
       → read_from limit first rows ≡ Err place → IsFirstBad limit first rows place
   first_bad = bad_from
@@ -467,6 +475,7 @@ module _ (limit : ℕ) where
       let later = reads (first + 1) rows records tail all.1 (omega (arith, low)) in
       rw (here, later) refl
 
+  -- The rows of records are read as these records.
   pub read_if_spelled : (first : ℕ) (rows : List Row) (records : List Entry)
       → Spells limit first rows records → read_from limit first rows ≡ Ok records
   read_if_spelled first rows records h =

@@ -48,6 +48,8 @@ use Rattle.urb_sqlite.proofs.ResolvedSelects.{IsPlainSort, base_of, quiet, bound
 use Rattle.urb_sqlite.proofs.ResolvedSelects.{no_page, outputs_more, named_is, read_is}
 use Rattle.urb_sqlite.proofs.ResolvedSelects.{inserted_is, understood_is}
 
+-- the terms that the INSERT puts into a row: its seven parameters, and no value for the key's
+-- column
 abbrev pub terms : List Term
 terms = col 0 0 ∷ lit Null ∷ col 0 1 ∷ col 0 2 ∷ col 0 3 ∷ col 0 4 ∷ col 0 5 ∷ col 0 6 ∷ []
 
@@ -120,6 +122,7 @@ pub record Selects (text name : List ℕ) : Type 0 where
   pub payloads : (tree : ℕ) → IsColumn (record_table name tree) g 6 payload_column
   pub order : (tree : ℕ) → IsPlainSort (record_table name tree) so 0 place_column (outs name tree)
 
+-- the SELECT of each table reads its seven columns in order of the first
 pub select_parsed : (part : Part) → Selects (select_of part) (name_of part)
 unfolding everything
 select_parsed First = record {
@@ -365,6 +368,7 @@ select_parsed Second = record {
       };
 }
 
+-- an INSERT of one row of parameters into the table of this name
 pub record Puts (text name : List ℕ) : Type 0 where
   pub p : Parsed
   pub rows : Rows
@@ -386,6 +390,7 @@ pub record Makes (text name : List ℕ) : Type 0 where
   pub defines : table_defined_by text ≡ Ok (record_table name 0)
   pub itself : same_name name name ≡ true
 
+-- the CREATE of each table is a CREATE TABLE IF NOT EXISTS of the table's name
 pub create_parsed : (part : Part) → Makes (create_of part) (name_of part)
 unfolding everything listing_schema Rattle.sqlite_schema.specs.Names.same_name
 create_parsed First = record {
@@ -415,6 +420,7 @@ create_parsed Second = record {
   itself = refl;
 }
 
+-- the INSERT of a record puts one row of parameters into the second table
 pub insert_parsed : Puts insert_text second_name
 unfolding everything
 insert_parsed = record {
@@ -427,11 +433,13 @@ insert_parsed = record {
 
 -- ---- under a schema that has the table
 
+-- a table of records is at this place of the schema, under this name
 pub record Found (s : Schema) (name : List ℕ) : Type 0 where
   pub at : ℕ
   pub named : table_named s name ≡ Some at
   pub there : slice_get s.tables at ≡ Some (record_table name (tree_of s name))
 
+-- a table of records has a place in the schema, and is found there by its name
 pub found_at : (s : Schema) (name : List ℕ) → HasTable s name → Found s name
 found_at s name has = go (table_named s name) refl has.there
   where
@@ -475,6 +483,7 @@ outputs_are s text name tree at there h =
     (integer (codes "client")) ∷ out t 5 (integer (codes "number")) ∷ []) h.g
     [] 6 payload_column 2 99994 (declared t 5 (integer (codes "number"))) (h.payloads tree) refl
 
+-- the query of the seven columns of the table in this tree, in order of pos
 abbrev pub query : ℕ → Query
 query tree = record {
   from = inner tree end;
@@ -488,6 +497,7 @@ query tree = record {
   offset = lit (Int (pos 0));
 }
 
+-- the names of the seven columns
 abbrev pub names : List (List ℕ)
 names =
     codes "pos" ∷ codes "kind" ∷ codes "sender" ∷ codes "seq" ∷ codes "client" ∷ codes "number"
@@ -533,6 +543,7 @@ selected s text name has h =
           ([], (command.Select (record { lets = []; body = q }) names, None)))) is,
     )
 
+-- under this schema, the text is a query of the seven columns of the table in this tree
 pub record IsSelected (s : Schema) (text : List ℕ) (tree : ℕ) : Type 0 where
   pub command_is : command_of (understood s text) ≡ command.Select
       (record { lets = []; body = query tree }) names
@@ -552,6 +563,7 @@ select_is s text name has h =
           subst IsPlain (sym known.0) (refl, refl);
     }
 
+-- under this schema, the text is an INSERT of one row into the table of this name
 pub record IsInserted (s : Schema) (text name : List ℕ) : Type 0 where
   pub at : ℕ
   pub there : slice_get s.tables at ≡ Some (record_table name (tree_of s name))

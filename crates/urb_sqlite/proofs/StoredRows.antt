@@ -36,6 +36,7 @@ use Rattle.urb_sqlite.proofs.SpelledRows.{at_place, went_on, is_read_as, spells_
 use Rattle.urb_sqlite.proofs.SpelledRows.{read_if_spelled}
 use Rattle.std.proofs.lemmas.List.{map_push}
 
+-- the order of rows by their first column is total
 pub by_pos_total : IsTotalOrder by_pos
 by_pos_total = on_total (λ (r : Row). column r 0) value_cmp_total
 
@@ -50,11 +51,13 @@ less : (a b : Row) (m n : ℕ) → column a 0 ≡ Int (pos m) → column b 0 ≡
 less a b m n p q low =
     rw (p, q) (value_cmp-Int (pos m) (pos n) ∙ Less-from_lt (pos m) (pos n) (omega (arith, ints)))
 
+-- the rows are at their places, rising from this one, and there are as many records as rows
 pub record Placed (place : ℕ) (rows : List Row) (rs : List Entry) : Type 0 where
   pub between : AllByRecursion (Between place (place + length rows)) rows
   pub rising : IsAscending (λ a b. by_pos a b ≡ Less) rows
   pub count : length rs ≡ length rows
 
+-- rows that are read as records rise in their first column, from the first place on
 pub placed : (limit place : ℕ) (rows : List Row) (rs : List Entry)
     → read_from limit place rows ≡ Ok rs → Placed place rows rs
 unfolding read_from
@@ -130,6 +133,7 @@ module _ (limit tree : ℕ) where
       ∙ ap (sort_by by_pos) (map_push shown (old tree) row)
       ∙ sort_push (map shown (old tree)) (shown row) at.rising below
 
+  -- a row that is read as a record, after rows that are, adds its record at the end
   pub read_end : (place : ℕ) (rows : List Row) (rs : List Entry) (row : Row) (r : Entry)
       → read_from limit place rows ≡ Ok rs → record_at limit (place + length rows) row ≡ Some r
       → read_from limit place (rows ++ row ∷ []) ≡ Ok (rs ++ r ∷ [])
@@ -172,6 +176,7 @@ pub rows_there : (d : Database) (name : List ℕ) → HasTable d.schema name
 rows_there d name has =
     ap (λ (o : Option Table). unwrap_or (option_map (λ t. rows_in t.tree d.trees) o) []) has.there
 
+-- a table that is absent has no rows
 pub rows_absent : (d : Database) (name : List ℕ) → Lacks d.schema name → table_rows d name ≡ []
 rows_absent d name none =
     ap (λ (o : Option Table). unwrap_or (option_map (λ t. rows_in t.tree d.trees) o) []) none
@@ -195,17 +200,20 @@ stands_by d first second read more =
           (table_rows d second_name) second before.places more;
     }
 
+-- the rows of the first table are the first of the records that the tables stand for
 pub first_read : (d : Database) (rs : List Entry) (h : StandsFor d rs)
     → read_from (limit_of First) 1 (table_rows d journal_name) ≡ Ok h.first
 first_read d rs h =
     read_if_spelled (limit_of First) 1 (table_rows d journal_name) h.first h.in_first
 
+-- the rows of the second table are the records after those of the first
 pub second_read : (d : Database) (rs : List Entry) (h : StandsFor d rs)
     → read_from (limit_of Second) (1 + length h.first) (table_rows d second_name) ≡ Ok h.second
 second_read d rs h =
     read_if_spelled (limit_of Second) (1 + length h.first)
     (table_rows d second_name) h.second h.in_second
 
+-- if the tables stand for records, both tables are read as these records
 pub reads_if_stands : (d : Database) (rs : List Entry) → StandsFor d rs
     → read_both (table_rows d journal_name) (table_rows d second_name) ≡ Ok rs
 reads_if_stands d rs h =
@@ -213,9 +221,11 @@ reads_if_stands d rs h =
     (table_rows d second_name))) (first_read d rs h)
     ∙ ap (extended h.first) (second_read d rs h) ∙ ap Ok (sym h.whole)
 
+-- the records of a database are those that its tables stand for
 pub records_are : (d : Database) (rs : List Entry) → StandsFor d rs → records_of d ≡ rs
 records_are d rs h = ap ok_or_none (reads_if_stands d rs h)
 
+-- If the row of the next record is put into the second table, the tables stand for one more record.
 pub stands_more : (old new : Database) (rs : List Entry) (place : ℕ) (r : Entry)
     → HasBoth old.schema → new.schema ≡ old.schema → StandsFor old rs → place ≡ length rs + 1
     → place < 4294967295 → IsWithin (limit_of Second) r

@@ -28,6 +28,7 @@ use Rattle.urb_sqlite.proofs.OneTable.{none_read}
 
 -- what holds of an answer
 
+-- if the value of an `Ok` has P, and Q follows from P, then Q holds after an `Ok`
 pub when_ok : {X E : Type 0} (r : Result X E) (P : X → Type 0) (Q : Type 0) → ((x : X) → P x → Q)
     → IfOk r P → OnOk r Q
 when_ok (Ok x) P Q f h = f x h
@@ -253,9 +254,12 @@ module _ (old mid new : State) (place next : ℕ)
   before : HasCleanDisk new → IsPartOpened old mid First 1 place
   before clean = one (earlier_clean mid new second.clean clean)
 
+  -- after both tables were opened, the next position agrees with the rows
   pub kept_over : IsInStep new next
   kept_over clean = in_step old mid new place next (before clean) (two clean) clean
 
+  -- if both tables were opened, the database is taken over as a journal, and its rows are the
+  -- records
   pub taken_over : (HasCleanDisk mid → StaysApart old mid) → IsTakenOver old new
   taken_over apart =
       let stays : HasCleanDisk new → StaysApart old mid =

@@ -8,6 +8,7 @@ abbrev pub IsEither : List Entry → Option Entry → List Entry → Type 0
 IsEither certain doubtful records =
     (records ≡ certain) ⊎ ((r : Entry) × (doubtful ≡ Some r) × (records ≡ certain ++ r ∷ []))
 
+-- what storage holds is its certain list, or that list and its doubtful record
 pub contents-either : (certain : List Entry) (doubtful : Option Entry) (records : List Entry)
     → IsContents certain doubtful records → IsEither certain doubtful records
 contents-either certain None records h = inl h

@@ -91,6 +91,7 @@ first-append : (xs ys : List Misfit)
 first-append [] ys = refl
 first-append (x ∷ xs) ys = refl
 
+-- the first misfit from a record on is that record's first, or else the first of the later records
 pub record-step : (size : Limits) (images : ℕ → List Entry) (p : ℕ) (image : List Entry) (i : ℕ)
     (r : Entry) → i < length image → r ≡ slice_index_or image i r
     → first_of_all (misfits_behind size images p (take i image) (drop i image)) ≡ option_or
@@ -108,12 +109,14 @@ record-step size images p image i r l e =
     taken : take (suc i) image ≡ take i image ++ r ∷ []
     taken = take-suc image i r l ∙ ap (λ x. take i image ++ x ∷ []) (sym e)
 
+-- past the last record there is no misfit
 pub record-none : (size : Limits) (images : ℕ → List Entry) (p : ℕ) (image : List Entry) (i : ℕ)
     → length image ≤ i
     → first_of_all (misfits_behind size images p (take i image) (drop i image)) ≡ None
 record-none size images p image i l =
     ap (λ rs. first_of_all (misfits_behind size images p (take i image) rs)) (drop_all i image l)
 
+-- the first misfit from a node on is that node's first, or else the first of the later nodes
 pub node-step : (f : ℕ → List Misfit) (i n : ℕ) → i < n
     → first_of_all (flat_map f (numbers_from (suc i) (n - i))) ≡ option_or
     (first_of_all (f (suc i))) (first_of_all
@@ -127,6 +130,7 @@ node-step f i n l =
     left : n - i ≡ suc (n - (i + 1))
     left = omega arith
 
+-- past the last node there is no misfit
 pub node-none : (f : ℕ → List Misfit) (i n : ℕ) → n ≤ i
     → first_of_all (flat_map f (numbers_from (suc i) (n - i))) ≡ None
 node-none f i n l = ap (λ k. first_of_all (flat_map f (numbers_from (suc i) k))) left
@@ -144,6 +148,7 @@ image-at items (image ∷ images) zero x e = ap items (first_is e)
     first_is f = cc
 image-at items (image ∷ images) (suc i) x e = image-at items images i x e
 
+-- a node's image is the one at its place in the list
 pub image-of : {X : Type 0} (items : X → List Entry) (images : List X) (q i : ℕ) (x : X) → i ≡ q - 1
     → 0 < q → slice_get images i ≡ Some x → image_of (map items images) q ≡ items x
 image-of items images zero i x e l f = absurd (omega arith)
@@ -160,12 +165,12 @@ node-told size images i node image o e f h =
     ap (λ k. first_of_all (misfits_behind size images k [] (images (suc i)))) (one_more i ∙ sym e)
     ∙ (ap (λ rs. first_of_all (misfits_behind size images node [] rs)) (sym f) ∙ sym h)
 
--- the node that a number gives
+-- if a number was found for a node, the node is that number
 pub node-is : (P : Type 0) (o : Option ℕ) (node number : ℕ) → SomeIff o P number → o ≡ Some node
     → node ≡ number
 node-is P o node number h e = (subst (λ (r : Option ℕ). SomeIff r P number) e h).1
 
--- the number of messages from the client of a pair of the node's own
+-- what is counted for a record with a message is how many messages come from its client
 pub turn-clients : (r : Entry) (x : Label) (m : Content) (messages : List Content)
     → (r ≡ Pend x m) ⊎ (r ≡ PendCert x m) → same_client r messages ≡ client_count m.client messages
 turn-clients r x m messages is =

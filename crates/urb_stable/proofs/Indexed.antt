@@ -43,6 +43,7 @@ then-same Less p = refl
 then-same Equal p = refl
 then-same Greater p = refl
 
+-- the order of names finds two equal exactly if they are the same
 pub order-same : (x y : Label) → is_eq (by_name x y) ≡ same_name x y
 order-same x y =
     then-same (nat_cmp x.sender y.sender) (nat_cmp x.seq y.seq)
@@ -70,6 +71,7 @@ or-false : (a b : Bool) → b ≡ false → (a || b) ≡ a
 or-false true b e = refl
 or-false false b e = e
 
+-- a name without a message has no pair
 pub none-has : (ps : List (Label × Content)) (x : Label) (m : Content) → message_of ps x ≡ None
     → has_pair ps x m ≡ false
 none-has ps x m e =
@@ -78,7 +80,7 @@ none-has ps x m e =
 one_more : (i : ℕ) → suc i ≡ i + 1
 one_more i = omega arith
 
--- the pairs once one more record is read
+-- the pairs of the records up to the next one are those before it, then its own
 pub pend-next : (image : List Entry) (i : ℕ) (r : Entry) → i < length image
     → r ≡ slice_index_or image i r
     → pend (take (i + 1) image) ≡ pend (take i image) ++ pend (r ∷ [])
@@ -138,6 +140,7 @@ module _ (image : List Entry) (i : ℕ) (r : Entry) (l : i < length image)
 
 -- ---- an index with one more record
 
+-- an element of a list with one more is one of the list, or the last
 pub read_more : {X : Type 0} (xs : List X) (y z : X) (k : ℕ) → slice_get (xs ++ y ∷ []) k ≡ Some z
     → (slice_get xs k ≡ Some z) ⊎ ((k ≡ length xs) × (z ≡ y))
 read_more [] y z zero e = inr (refl, cc)
@@ -146,10 +149,12 @@ read_more (x ∷ xs) y z zero e = inl e
 read_more (x ∷ xs) y z (suc k) e =
     elim (read_more xs y z k e) [ inl p ↦ inl p | inr q ↦ inr (ap suc q.0, q.1) ]
 
+-- a list with one more element is longer by one
 pub one_longer : {X : Type 0} (xs : List X) (y : X) → length (xs ++ y ∷ []) ≡ length xs + 1
 one_longer [] y = refl
 one_longer (x ∷ xs) y = let ih = one_longer xs y in omega (arith, ih)
 
+-- an option has only one value
 pub same_some : {X : Type 0} (a b : X) (o : Option X) → o ≡ Some a → o ≡ Some b → a ≡ b
 same_some a b o e f = cc
 
@@ -179,7 +184,7 @@ more-index image i r old new o here h is items last =
         (subst (λ (q : Option ℕ). IsLast image i (name_of r) q) (sym (same ∙ is))
         (h.last (name_of r))))
 
--- if the record is a certificate
+-- an index of the earlier records is also one of the next, if that is a certificate
 pub index-certificate : {A : Type 0} (image : List Entry) (i : ℕ) (x : Label) (r : Entry)
     (old new : Places A) (o : Option ℕ) → i < length image → r ≡ slice_index_or image i r
     → slice_get image i ≡ Some r → r ≡ Cert x → IsIndexOf image i old
@@ -235,6 +240,7 @@ IsSomePair r =
     ((x : Label) × (m : Content) × (r ≡ Pend x m))
     ⊎ ((x : Label) × (m : Content) × (r ≡ PendCert x m))
 
+-- an index of the earlier records, with the next record's pair added, is one of that record too
 pub index-next : {A : Type 0} (image : List Entry) (i : ℕ) (y : Label) (r : Entry)
     (old new : Places A) (o : Option ℕ) → i < length image → r ≡ slice_index_or image i r
     → slice_get image i ≡ Some r → IsSomePair r → y ≡ name_of r
@@ -247,7 +253,7 @@ index-next image i y r old new o l e here is named h found items updates =
     ⊎_elim (λ f. index-pair image i f.0 f.1 r old new o l e here (inl f.2) h found items moved)
     (λ f. index-pair image i f.0 f.1 r old new o l e here (inr f.2) h found items moved) is
 
--- an empty index
+-- an empty index is one of no records
 pub index-none : {A : Type 0} (image : List Entry) (index : Places A) → tree.IsEmpty index.last
     → index.before.items ≡ [] → IsIndexOf image 0 index
 index-none image index empty items =

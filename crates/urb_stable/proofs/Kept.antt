@@ -10,11 +10,17 @@ use Rattle.urb_stable.specs.Memory.{with_doubt}
 
 -- what is read from ys, which is xs followed by r
 pub record Kept {X : Type 0} (xs : List X) (r : X) (n : ℕ) (ys : List X) : Type 0 where
+  -- the first n elements of xs are all of it
   pub before : take n xs ≡ xs
+  -- xs has no element at place n
   pub nothing : slice_get xs n ≡ None
+  -- ys begins with the elements of xs
   pub front : take n ys ≡ take n xs
+  -- at place n, ys has r
   pub here : slice_get ys n ≡ Some r
+  -- the first n + 1 elements of ys are those of xs, then r
   pub all : take (n + 1) ys ≡ take n xs ++ r ∷ []
+  -- ys has no element after r
   pub past : slice_get ys (n + 1) ≡ None
 
 kept_suc : {X : Type 0} (xs : List X) (r : X) → Kept xs r (length xs) (xs ++ r ∷ [])
@@ -38,23 +44,24 @@ kept_suc (x ∷ xs) r =
       past = rw add-one (rw add-one at k.past);
     }
 
+-- what is read from a list with one more element is the list, and that element after it
 pub kept : {X : Type 0} (xs : List X) (r : X) (n : ℕ) (ys : List X) → n ≡ length xs
     → ys ≡ xs ++ r ∷ [] → Kept xs r n ys
 kept xs r n ys e f = rw (e, f) (kept_suc xs r)
 
--- a stop after a failure that kept the record
+-- after a failure that kept the record, a stop leaves what was there, or that and the record
 pub doubtful_stop : (xs : List Entry) (r : Entry) (n : ℕ) (ys : List Entry) → Kept xs r n ys
     → (records : List Entry) → IsContents (take n ys) (slice_get ys n) records
     → IsContents (take n xs) (slice_get xs n) records ⊎ (records ≡ take n xs ++ r ∷ [])
 doubtful_stop xs r n ys k records h = rw k.nothing (rw (k.here, k.front) at h)
 
--- a stop after the record was kept
+-- after the record was kept, a stop leaves what was there, or that and the record
 pub certain_stop : (xs : List Entry) (r : Entry) (n : ℕ) (ys : List Entry) → Kept xs r n ys
     → (records : List Entry) → IsContents (take (n + 1) ys) (slice_get ys (n + 1)) records
     → IsContents (take n xs) (slice_get xs n) records ⊎ (records ≡ take n xs ++ r ∷ [])
 certain_stop xs r n ys k records h = inr (rw (k.past, k.all) at h)
 
--- one more element is taken
+-- the elements up to the next one are those before it, then it
 pub take-next : {X : Type 0} (xs : List X) (i : ℕ) (x : X) → i < length xs
     → x ≡ slice_index_or xs i x → take (i + 1) xs ≡ take i xs ++ x ∷ []
 take-next xs i x l e =
@@ -66,9 +73,13 @@ take-next xs i x l e =
 
 -- what is read from xs, which has at most one element after the first n
 pub record Whole (xs : List Entry) (n : ℕ) : Type 0 where
+  -- the elements up to the length are all of the list
   pub all : take (length xs) xs ≡ xs
+  -- past the last element there is none
   pub nothing : slice_get xs (length xs) ≡ None
+  -- the list is what storage with these certain records and this doubtful one may hold
   pub contents : IsContents (take n xs) (slice_get xs n) xs
+  -- the list is the certain records, then the doubtful one if there is one
   pub whole : xs ≡ with_doubt (take n xs) (slice_get xs n)
 
 end : {X : Type 0} (xs : List X) → (take (length xs) xs ≡ xs) × (slice_get xs (length xs) ≡ None)
@@ -90,6 +101,8 @@ one_behind (x ∷ y ∷ xs) zero le ge = absurd (omega arith)
 one_behind (x ∷ xs) (suc n) le ge =
     more x (take n xs) xs (slice_get xs n) (one_behind xs n (omega arith) (omega arith))
 
+-- a list with at most one record after the certain ones is these records and the doubtful one, if
+-- any
 pub whole : (xs : List Entry) (n : ℕ) → n ≤ length xs → length xs ≤ n + 1 → Whole xs n
 whole xs n le ge =
     let e = end xs in

@@ -28,6 +28,7 @@ Grows old new =
 
 -- ---- kept rules stay kept
 
+-- if the images of a majority have a pair, they still do when the images grow
 pub majority_held-grows : (n : ℕ) (old new : ℕ → List Entry) (x : Label) (m : Content)
     → Grows old new → held_by_majority n old x m ≡ true → held_by_majority n new x m ≡ true
 majority_held-grows n old new x m g e =
@@ -45,6 +46,7 @@ c_pair-grows : (old new : ℕ → List Entry) (p : ℕ) (x : Label) (m : Content
 c_pair-grows old new p x m true g e = e
 c_pair-grows old new p x m false g e = g x.sender x m e
 
+-- a record that keeps the four rules still does when the images grow
 pub rules-grow : (size : Limits) (old new : ℕ → List Entry) (p : ℕ) (earlier : List Entry)
     (r : Entry) → Grows old new → Rules size old p earlier r → Rules size new p earlier r
 rules-grow size old new p earlier (Pend x m) g h =
@@ -66,6 +68,7 @@ rules-grow size old new p earlier (Cert x) g h =
           known-grows size.n old new x (message_of (pend earlier) x) g h.d;
     }
 
+-- records that keep the four rules still do when the images grow
 pub kept-grow : (size : Limits) (old new : ℕ → List Entry) (p : ℕ) (earlier rs : List Entry)
     → Grows old new → Kept size old p earlier rs → Kept size new p earlier rs
 kept-grow size old new p earlier [] g h = tt
@@ -74,7 +77,7 @@ kept-grow size old new p earlier (r ∷ rs) g h = (
   kept-grow size old new p (earlier ++ r ∷ []) rs g h.1,
 )
 
--- one more record that keeps the rules
+-- records that keep the rules, and one more that does, keep them together
 pub kept-push : (size : Limits) (images : ℕ → List Entry) (p : ℕ) (earlier rs : List Entry)
     (r : Entry) → Kept size images p earlier rs → Rules size images p (earlier ++ rs) r
     → Kept size images p earlier (rs ++ r ∷ [])
@@ -98,9 +101,13 @@ kept-all size images p P step earlier (r ∷ rs) start h =
 
 pub record PairRules (size : Limits) (images : ℕ → List Entry) (p : ℕ) (earlier : List Entry)
     (x : Label) (m : Content) : Type 0 where
+  -- the name is in the range of the limits
   pub range : in_range size x ≡ true
+  -- no earlier pair has the name
   pub fresh : message_of (pend earlier) x ≡ None
+  -- if the pair is the node's own, it is the next of its own
   pub next : (x.sender == p) ≡ true → is_next_own (own p (pend earlier)) x m ≡ true
+  -- if the pair is another sender's, that sender's image has it
   pub known : (x.sender == p) ≡ false → has_pair (pend (images x.sender)) x m ≡ true
 
 pair_rules : (size : Limits) (images : ℕ → List Entry) (p : ℕ) (earlier : List Entry) (x : Label)
@@ -137,6 +144,7 @@ pairs-all size images p Q start step rs h =
         (step e x m q (pair_rules size images p e x m k.a k.b k.c))
     more e (Cert x) q k = subst Q (sym (pend-append e (Cert x ∷ []) ∙ append-nil (pend e))) q
 
+-- records that keep the rules have one message for each name
 pub kept-unique : (size : Limits) (images : ℕ → List Entry) (p : ℕ) (rs : List Entry)
     → Kept size images p [] rs → Unique (pend rs)
 kept-unique size images p rs h =
@@ -151,6 +159,7 @@ kept-unique size images p rs h =
         (has_pair-last (pend e) x y m o h)
 
 -- ---- names are in range
+-- the names of pairs in records that keep the rules are in the range of the limits
 pub kept-range : (size : Limits) (images : ℕ → List Entry) (p : ℕ) (rs : List Entry)
     → Kept size images p [] rs
     → (x : Label) (m : Content) → has_pair (pend rs) x m ≡ true → in_range size x ≡ true
@@ -168,6 +177,7 @@ kept-range size images p rs h =
         (has_pair-last (pend e) x y m o h)
 
 -- ---- another sender's pair is in that sender's image
+-- for each pair of another sender in records that keep the rules, that sender's image has the pair
 pub kept-known : (size : Limits) (images : ℕ → List Entry) (p : ℕ) (rs : List Entry)
     → Kept size images p [] rs
     → (x : Label) (m : Content) → has_pair (pend rs) x m ≡ true → (x.sender == p) ≡ false
@@ -192,6 +202,7 @@ kept-known size images p rs h =
 abbrev pub Numbered : ℕ → List (Label × Content) → Type 0
 Numbered p ps = (j : ℕ) → message_of ps (name p (suc j)) ≡ slice_get (own p ps) j
 
+-- in records that keep the rules, the node's own messages are found by their numbers
 pub kept-numbered : (size : Limits) (images : ℕ → List Entry) (p : ℕ) (rs : List Entry)
     → Kept size images p [] rs → Numbered p (pend rs)
 kept-numbered size images p rs h = pairs-all size images p (Numbered p) (λ j. refl) more rs h
@@ -252,6 +263,7 @@ known_is_held : (n : ℕ) (images : ℕ → List Entry) (ps : List (Label × Con
 known_is_held n images ps x None e h = absurd (false≢true h)
 known_is_held n images ps x (Some m) e h = (m, e, h)
 
+-- if records keep the rules, a majority's images have the pair of each certified name
 pub kept-held : (size : Limits) (images : ℕ → List Entry) (p : ℕ) (rs : List Entry)
     → Kept size images p [] rs → (x : Label) → has_name (cert rs) x ≡ true
     → IsHeld size.n images (pend rs) x

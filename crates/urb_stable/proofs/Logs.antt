@@ -17,18 +17,20 @@ use Rattle.urb_stable.specs.Log.{DeliversExactly, log}
 use Rattle.urb_stable.specs.Records.{cert}
 use Rattle.urb_stable.specs.declared.record.Record.TheVariants.{Cert, Pend, PendCert}
 
+-- each name of a log is certified by its records
 pub logged_certified : (records : List Entry) (x : Label) → has_name (log records) x ≡ true
     → has_name (cert records) x ≡ true
 logged_certified records x h =
     any-reverse _ (cert records) (log_certified (reverse (cert records)) x h)
 
--- record by record
+-- a Pend record leaves the log as it is
 pub log-pend : (records : List Entry) (x : Label) (m : Content)
     → log (records ++ Pend x m ∷ []) ≡ log records
 log-pend records x m =
     ap (λ xs. released (reverse xs))
     (cert-append records (Pend x m ∷ []) ∙ append-nil (cert records))
 
+-- a record that certifies a name appends to the log the sender's names that are newly reached
 pub log-certificate : (records : List Entry) (r : Entry) (x : Label) → cert (r ∷ []) ≡ x ∷ []
     → log (records ++ r ∷ []) ≡ log records ++ row x.sender
     (1 + reach x.sender (reverse (cert records)))
@@ -39,12 +41,14 @@ log-certificate records r x e =
     ∙ (ap released (reverse-append (cert records) (x ∷ []))
     ∙ released-more x (reverse (cert records)))
 
+-- a PendCert record appends to the log the sender's names that are newly reached
 pub log-pend_cert : (records : List Entry) (x : Label) (m : Content)
     → log (records ++ PendCert x m ∷ []) ≡ log records ++ row x.sender
     (1 + reach x.sender (reverse (cert records)))
     (reach x.sender (x ∷ reverse (cert records)) - reach x.sender (reverse (cert records)))
 log-pend_cert records x m = log-certificate records (PendCert x m) x refl
 
+-- a Cert record appends to the log the sender's names that are newly reached
 pub log-cert : (records : List Entry) (x : Label)
     → log (records ++ Cert x ∷ []) ≡ log records ++ row x.sender
     (1 + reach x.sender (reverse (cert records)))
@@ -53,7 +57,7 @@ log-cert records x = log-certificate records (Cert x) x refl
 
 -- What one more certificate releases, as a loop over the certified names finds it.
 
--- how many of a sender's names the log holds
+-- the log holds as many of a sender's names as the certificates reach
 pub log-reach : (records : List Entry) (s : ℕ)
     → length (part_of s (log records)) ≡ reach s (reverse (cert records))
 log-reach records s =

@@ -22,6 +22,7 @@ use Rattle.urb_stable.specs.Fitting.{known_held}
 use Rattle.urb_stable.specs.Records.{cert, pend}
 use Rattle.urb_stable.specs.declared.record.Record.TheVariants.{Cert, Pend, PendCert}
 
+-- in records that keep the rules, each client numbers the node's own messages 1, 2, 3, ..
 pub kept-numbers : (size : Limits) (images : ℕ → List Entry) (p : ℕ) (rs : List Entry)
     → Kept size images p [] rs → Numbers (own p (pend rs))
 kept-numbers size images p rs h =
@@ -113,6 +114,8 @@ module _ (size : Limits) (images : ℕ → List Entry) (p : ℕ) (whole : List E
       ap (known_held size.n images x) f.1
       ∙ held x f.0 (name_within earlier rs x (Cert x) whole refl e) pair
 
+  -- records that keep rules A and B keep all four, if the images have the pairs that C and D
+  -- require
   pub to_kept : (earlier rs : List Entry) → earlier ++ rs ≡ whole → KeepsOwn size p earlier rs
       → Kept size images p earlier rs
   to_kept earlier [] e h = tt
@@ -211,28 +214,30 @@ own-kept size p rs h =
     (λ x m c k. all_majority size.n (has_pair (pend rs) x m) k) [] rs refl
     (more_own size p [] rs h)
 
+-- records that keep rules A and B have one message for each name
 pub own-unique : (size : Limits) (p : ℕ) (rs : List Entry) → KeepsOwn size p [] rs
     → Unique (pend rs)
 own-unique size p rs h = kept-unique (more_nodes size) (λ q. rs) p rs (own-kept size p rs h)
 
--- the node's own pairs are at their numbers
+-- in records that keep rules A and B, the node's own messages are found by their numbers
 pub own-numbered : (size : Limits) (p : ℕ) (rs : List Entry) → KeepsOwn size p [] rs
     → Numbered p (pend rs)
 own-numbered size p rs h = kept-numbered (more_nodes size) (λ q. rs) p rs (own-kept size p rs h)
 
--- a client's numbers run 1, 2, 3, ..
+-- in records that keep rules A and B, each client numbers the node's own messages 1, 2, 3, ..
 pub own-numbers : (size : Limits) (p : ℕ) (rs : List Entry) → KeepsOwn size p [] rs
     → Numbers (own p (pend rs))
 own-numbers size p rs h = kept-numbers (more_nodes size) (λ q. rs) p rs (own-kept size p rs h)
 
 -- ---- one more record
 
+-- two truth values are equal if each follows from the other
 pub both_ways : (a b : Bool) → (a ≡ true → b ≡ true) → (b ≡ true → a ≡ true) → a ≡ b
 both_ways true b h k = sym (h refl)
 both_ways false true h k = k refl
 both_ways false false h k = refl
 
--- the pairs and certificates after it, as sets
+-- the pairs before a record, with its own, are those after it
 pub pairs-joined : (records : List Entry) (r : Entry) (ps : List (Label × Content))
     → ((x : Label) (m : Content) → has_pair ps x m ≡ has_pair (pend records) x m)
     → (x : Label) (m : Content) → (has_pair ps x m || has_pair (pend (r ∷ [])) x m) ≡ has_pair
@@ -242,6 +247,7 @@ pairs-joined records r ps h x m =
     ∙ (sym (list_any-append _ (pend records) (pend (r ∷ [])))
     ∙ ap (λ qs. has_pair qs x m) (sym (pend-append records (r ∷ []))))
 
+-- the names certified before a record, with the one that it certifies, are those certified after it
 pub names-joined : (records : List Entry) (r : Entry) (xs : List Label)
     → ((x : Label) → has_name xs x ≡ has_name (cert records) x)
     → (x : Label) → (has_name xs x || has_name (cert (r ∷ [])) x) ≡ has_name
@@ -251,7 +257,7 @@ names-joined records r xs h x =
     ∙ (sym (list_any-append _ (cert records) (cert (r ∷ [])))
     ∙ ap (λ ys. has_name ys x) (sym (cert-append records (r ∷ []))))
 
--- one more record that keeps rules A and B
+-- records that keep rules A and B, and one more that does, keep them together
 pub keeps_own-push : (size : Limits) (p : ℕ) (earlier rs : List Entry) (r : Entry)
     → KeepsOwn size p earlier rs → keeps_a size (earlier ++ rs) r ≡ true
     → keeps_b p (earlier ++ rs) r ≡ true → KeepsOwn size p earlier (rs ++ r ∷ [])

@@ -10,10 +10,14 @@ use Rattle.urb_stable.specs.internal.NodeImages.{AreNumbered, NodeImage}
 -- the first n images are read
 pub record AreRead {X : Type 0} (items : X → List Entry) (images : List X) (n : ℕ)
     (read : List NodeImage) : Type 0 where
+  -- so many images are read
   pub size : length read ≡ n
+  -- they have the numbers 1, 2, 3, ..
   pub numbered : AreNumbered read
+  -- their records are those of the first n images
   pub same : map (λ image. image.records) read ≡ map items (take n images)
 
+-- at the start no image is read
 pub read-none : {X : Type 0} (items : X → List Entry) (images : List X) (read : List NodeImage)
     → read ≡ [] → AreRead items images 0 read
 read-none items images read e =
@@ -27,7 +31,7 @@ read-none items images read e =
     none_at : (i : ℕ) (image : NodeImage) → slice_get [] i ≡ Some image → ⊥
     none_at i image e = cc
 
--- one more image is read
+-- once the next image is read, one image more is read
 pub read-more : {X : Type 0} (items : X → List Entry) (images : List X) (i : ℕ) (x : X)
     (old new : List NodeImage) (y : NodeImage) → i < length images → x ≡ slice_index_or images i x
     → y ≡ record { number = i + 1; records = items x } → new ≡ old ++ y ∷ []
@@ -60,7 +64,7 @@ read-more items images i x old new y l e is put h =
         let size = h.size in
         omega (arith, number, place, size)
 
--- all images are read
+-- once all images are read, their records are those of the images
 pub read-all : {X : Type 0} (items : X → List Entry) (images : List X) (n : ℕ)
     (read : List NodeImage) → length images ≤ n → AreRead items images n read
     → map (λ image. image.records) read ≡ map items images

@@ -25,7 +25,7 @@ use Rattle.urb_stable.specs.declared.record.Record.TheVariants.{Cert, Pend, Pend
 
 -- ---- the certified names
 
--- a record without a certificate leaves the set unchanged
+-- a record without a certificate leaves the set of certified names right
 pub names-kept : (earlier : List Entry) (r : Entry) (certified : set.BTreeSet Label)
     → cert (r ∷ []) ≡ [] → IsSetOf (cert earlier) certified
     → IsSetOf (cert (earlier ++ r ∷ [])) certified
@@ -34,7 +34,7 @@ names-kept earlier r certified none h x =
     (sym (cert-append earlier (r ∷ [])
     ∙ (ap (λ xs. cert earlier ++ xs) none ∙ append-nil (cert earlier))))
 
--- a record with a certificate adds its name
+-- the set of certified names is right after a record, if the name that it certifies is added
 pub names-more : (earlier : List Entry) (r : Entry) (y : Label) (old new : set.BTreeSet Label)
     → cert (r ∷ []) ≡ y ∷ [] → set.Updates by_name old new y true → IsSetOf (cert earlier) old
     → IsSetOf (cert (earlier ++ r ∷ [])) new
@@ -53,10 +53,12 @@ names-more earlier r y old new one updates h x =
     at false true = refl
     at false false = refl
 
+-- a record with a certificate certifies exactly its own name
 pub one-name : (r : Entry) (x : Label) → ((m : Content) × (r ≡ PendCert x m)) ⊎ (r ≡ Cert x)
     → cert (r ∷ []) ≡ x ∷ []
 one-name r x is = ⊎_elim (λ f. ap (λ s. cert (s ∷ [])) f.1) (λ f. ap (λ s. cert (s ∷ [])) f) is
 
+-- a set with the certified names of the earlier records and the next is right one record further on
 pub names-next : (image : List Entry) (i : ℕ) (r : Entry) (certified : set.BTreeSet Label)
     → i < length image → r ≡ slice_index_or image i r
     → IsSetOf (cert (take i image ++ r ∷ [])) certified
@@ -69,6 +71,7 @@ names-next image i r certified l e h =
     one_more : (i : ℕ) → i + 1 ≡ suc i
     one_more i = omega arith
 
+-- an empty set has the certified names of no records
 pub names-none : (certified : set.BTreeSet Label) → set.IsEmpty certified → IsSetOf [] certified
 names-none certified empty x = ap (λ ks. set.contains by_name (record { keys = ks }) x) empty
 
@@ -97,6 +100,7 @@ own-few p (PendCert x m ∷ records) = at (own-few p records) (x.sender == p)
     at ih false = omega (arith, ih)
 own-few p (Cert x ∷ records) = let ih = own-few p records in omega (arith, ih)
 
+-- the earlier records hold at most as many own messages as there are records
 pub own-room : {A : Type 0} (p : ℕ) (image : List Entry) (i : ℕ) (counts : Counts A)
     → i < length image → IsCount (own p (pend (take i image))) counts → counts.own ≤ i
 own-room p image i counts l h =
@@ -105,7 +109,7 @@ own-room p image i counts l h =
     let total = h.total in
     omega (arith, few, size, total)
 
--- the message of a pair of the node's own adds one
+-- counts with a message of the node's own are right after the record that holds it
 pub count-own : {A : Type 0} (p : ℕ) (image : List Entry) (i : ℕ) (r : Entry) (x : Label)
     (m : Content) (counts : Counts A) → i < length image → r ≡ slice_index_or image i r
     → (r ≡ Pend x m) ⊎ (r ≡ PendCert x m) → x.sender ≡ p
@@ -117,7 +121,7 @@ count-own p image i r x m counts l e is mine h =
     ∙ ap (λ ps. pend (take i image) ++ ps) (one-pair r x m is))
     ∙ own-push p (pend (take i image)) x m (eq-eqb x.sender p mine))) h
 
--- the message of another node's pair adds none
+-- counts stay right after a record that holds another sender's pair
 pub count-other : {A : Type 0} (p : ℕ) (image : List Entry) (i : ℕ) (r : Entry) (x : Label)
     (m : Content) (counts : Counts A) → i < length image → r ≡ slice_index_or image i r
     → (r ≡ Pend x m) ⊎ (r ≡ PendCert x m) → (x.sender ≡ p → ⊥)
@@ -133,7 +137,7 @@ count-other p image i r x m counts l e is other h =
     not_own =
         ⊎_elim (λ f. absurd (other (eqb-true x.sender p f))) (λ f. f) (cases_Bool (x.sender == p))
 
--- a certificate adds none
+-- counts stay right after a certificate
 pub count-certificate : {A : Type 0} (p : ℕ) (image : List Entry) (i : ℕ) (r : Entry) (x : Label)
     (counts : Counts A) → i < length image → r ≡ slice_index_or image i r → r ≡ Cert x
     → IsCount (own p (pend (take i image))) counts
@@ -146,6 +150,7 @@ count-certificate p image i r x counts l e is h =
 
 -- ---- what the earlier records say
 
+-- an empty list holds what is said of no records
 pub told-none : (p : ℕ) (image : List Entry) (told : List Before) → told ≡ []
     → AreBefore p image 0 told
 told-none p image told e = record {
@@ -157,6 +162,7 @@ told-none p image told e = record {
     none_at : (k : ℕ) (before : Before) → slice_get [] k ≡ Some before → ⊥
     none_at k before e = cc
 
+-- with what is said of the next record, the list is right one record further on
 pub told-more : (p : ℕ) (image : List Entry) (i : ℕ) (r : Entry) (old new : List Before)
     (before : Before) → slice_get image i ≡ Some r → IsBefore p (take i image) r before
     → new ≡ old ++ before ∷ [] → AreBefore p image i old → AreBefore p image (i + 1) new

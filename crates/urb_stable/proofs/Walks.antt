@@ -21,9 +21,12 @@ left (Some k) = suc k
 
 -- the walk is at the last pair with the name among the first n records
 pub record Stands (image : List Entry) (x : Label) (n : ℕ) (place : Option ℕ) : Type 0 where
+  -- the n records are in the image
   pub within : n ≤ length image
+  -- the place is that of the name's last pair among them
   pub last : IsLast image n x place
 
+-- the place at which the walk stands is within the image
 pub stands-within : (image : List Entry) (x : Label) (n k : ℕ) → Stands image x n (Some k)
     → k < length image
 stands-within image x n k s =
@@ -66,6 +69,7 @@ stands-next image x index n k r o h s here found =
     (ap name_of (same_some r s.last.entry (slice_get image k) here s.last.here) ∙ s.last.named)
     found
 
+-- a walk among the first k records has at most k records still to visit
 pub left-less : (image : List Entry) (x : Label) (k : ℕ) (o : Option ℕ) → Stands image x k o
     → left o < suc k
 left-less image x k None s = omega arith
@@ -79,6 +83,7 @@ Seeks image x m place =
     (n : ℕ) × Stands image x n place
     × (has_pair (pend image) x m ≡ has_pair (pend (take n image)) x m)
 
+-- a walk begins at the name's last pair in the image
 pub seeks-first : {A : Type 0} (image : List Entry) (x : Label) (m : Content) (index : Places A)
     (o : Option ℕ) → IsIndexOf image (length image) index → o ≡ tree.get by_name index.last x
     → Seeks image x m o
@@ -96,6 +101,7 @@ seen image x m n k r s here =
     s.last.pairs m ∙ ap (λ e. has_pair (pend (take k image)) x m || has_pair (pend (e ∷ [])) x m)
     (same_some s.last.entry r (slice_get image k) s.last.here here)
 
+-- if the record at which the walk stands has the pair, the image has it
 pub seeks-found : (image : List Entry) (x : Label) (m : Content) (k : ℕ) (r : Entry)
     → Seeks image x m (Some k) → slice_get image k ≡ Some r → true ≡ has_pair (pend (r ∷ [])) x m
     → true ≡ has_pair (pend image) x m
@@ -108,6 +114,7 @@ seeks-found image x m k r s here e =
     at true = cc
     at false = cc
 
+-- if the record doesn't have the pair, the walk goes on to the name's pair before it
 pub seeks-next : {A : Type 0} (image : List Entry) (x : Label) (m : Content) (index : Places A)
     (k : ℕ) (r : Entry) (o : Option ℕ) → IsIndexOf image (length image) index
     → Seeks image x m (Some k) → slice_get image k ≡ Some r → false ≡ has_pair (pend (r ∷ [])) x m
@@ -124,6 +131,7 @@ seeks-next image x m index k r o h s here e found = (
     at true = cc
     at false = cc
 
+-- if the walk is at its end, the image doesn't have the pair
 pub seeks-end : (image : List Entry) (x : Label) (m : Content) → Seeks image x m None
     → false ≡ has_pair (pend image) x m
 seeks-end image x m s = sym (s.2 ∙ none-has (pend (take s.0 image)) x m s.1.last)
@@ -142,6 +150,7 @@ or-none : (o : Option Content) → o ≡ option_or o None
 or-none None = refl
 or-none (Some m) = refl
 
+-- a walk from a record begins at the last pair with its name before it
 pub looks-first : {A : Type 0} (image : List Entry) (x : Label) (index : Places A) (k : ℕ)
     (r : Entry) (o : Option ℕ) → IsIndexOf image (length image) index → k < length image
     → slice_get image k ≡ Some r → name_of r ≡ x → slice_get index.before.items k ≡ Some o
@@ -152,6 +161,7 @@ looks-first image x index k r o h within here named found = (
   or-none (message_of (pend (take k image)) x),
 )
 
+-- a walk takes the message of the record that it visits, and goes on to the name's pair before it
 pub looks-next : {A : Type 0} (image : List Entry) (x : Label) (index : Places A) (before k : ℕ)
     (r : Entry) (old new : Option Content) (o : Option ℕ) → IsIndexOf image (length image) index
     → Looks image x before old (Some k) → slice_get image k ≡ Some r
@@ -179,11 +189,12 @@ looks-next image x index before k r old new o h s here is found =
     at None (Some m) e = refl
     at None None e = absurd cc
 
+-- at a walk's end, the message that it took last is the name's first one before the record
 pub looks-end : (image : List Entry) (x : Label) (before : ℕ) (found : Option Content)
     → Looks image x before found None → found ≡ message_of (pend (take before image)) x
 looks-end image x before found s = sym (s.2 ∙ ap (λ p. option_or p found) s.1.last)
 
--- the record that has the name
+-- if a name is read at a place, a record with that name stands there
 pub named-found : (image : List Entry) (k : ℕ) (x : Label)
     → option_map name_of (slice_get image k) ≡ Some x
     → (r : Entry) × (slice_get image k ≡ Some r) × (name_of r ≡ x)

@@ -17,6 +17,7 @@ none_due r (p ∷ ps) e f =
     ∙ (sym (ap (λ (n : ℕ). filter (λ pair. is_due n r.node r.heard pair.0) ps) e)
     ∙ none_due r ps e f)))
 
+-- a tick of the only node of a group sends nothing and changes nothing
 pub tick_alone : (r : Resending) (pairs : List (Label × Content)) (certified : List Label)
     → r.limits.n ≡ 1 → r.node ≡ 1 → ([] ≡ tick_packets r pairs certified) × (r ≡ ticked r pairs)
 tick_alone r pairs certified e f =

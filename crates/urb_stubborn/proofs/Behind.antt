@@ -113,6 +113,7 @@ none_before cursor x (p ∷ ps) h =
     at true c e = ap not e
     at false c e = refl
 
+-- among rising pairs, none after the cursor comes before the first of them
 pub first_least : (cursor : Option Label) (ps : Pairs) (x : Label) → are_rising ps ≡ true
     → first_name (behind cursor ps) ≡ Some x → IsLeast cursor ps x
 first_least cursor [] x h e = refl

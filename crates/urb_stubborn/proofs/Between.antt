@@ -17,6 +17,7 @@ use Rattle.urb_stubborn.proofs.Behind.{Pairs, after_behind, first_after}
 
 -- ---- pairs that pass a test
 
+-- a filter leaves pairs that all pass its test as they are
 pub all_pass : (test : Label × Content → Bool) (ps : Pairs) → list_all test ps ≡ true
     → filter test ps ≡ ps
 all_pass test [] h = refl
@@ -70,6 +71,7 @@ rising_kept test (p ∷ ps) h =
 first_of : (p : Label × Content) (ps : Pairs) (x : Label) → first_name (p ∷ ps) ≡ Some x → p.0 ≡ x
 first_of p ps x e = cc
 
+-- if the first name doesn't come after the last one, it is also the first of those that don't
 pub within_first : (last : Option Label) (ps : Pairs) (x : Label) → first_name ps ≡ Some x
     → is_within last x ≡ true → first_name (filter (λ p. is_within last p.0) ps) ≡ Some x
 within_first last [] x e h = e
@@ -78,6 +80,7 @@ within_first last (p ∷ ps) x e h =
     ap first_name (cond-true (is_within last p.0) (p ∷ filter (λ q. is_within last q.0) ps)
     (filter (λ q. is_within last q.0) ps) (ap (is_within last) here ∙ h)) ∙ e
 
+-- if there is no first name, there is none that doesn't come after the last one
 pub within_none : (last : Option Label) (ps : Pairs) → first_name ps ≡ None
     → first_name (filter (λ p. is_within last p.0) ps) ≡ None
 within_none last [] e = refl
@@ -108,6 +111,7 @@ all_over (Some l) (p ∷ ps) x h e o =
     over : name_lt l p.0 ≡ true
     over = ap (name_lt l) (first_of p ps x e) ∙ not_false (name_lt l x) o
 
+-- if the first of rising pairs comes after the last name, so does each of them
 pub within_over : (last : Option Label) (ps : Pairs) (x : Label) → are_rising ps ≡ true
     → first_name ps ≡ Some x → is_within last x ≡ false
     → first_name (filter (λ p. is_within last p.0) ps) ≡ None
@@ -198,6 +202,7 @@ found_behind p all (q ∷ ps) h k =
       found_behind p all ps parts.1 k.1,
     )
 
+-- in rising pairs, each pair's message is found under its name
 pub all_found : (ps : Pairs) → are_rising ps ≡ true → AreFound ps ps
 all_found [] h = tt
 all_found (p ∷ ps) h =
@@ -206,6 +211,7 @@ all_found (p ∷ ps) h =
       found_behind p ps ps parts.0 (all_found ps parts.1),
     )
 
+-- if each pair's message is found under its name, so is that of each pair that passes a test
 pub found_kept : (test : Label × Content → Bool) (all ps : Pairs) → AreFound all ps
     → AreFound all (filter test ps)
 found_kept test all [] h = tt

@@ -32,13 +32,20 @@ sends r certified pair = to_unheard r.limits.n r.node certified r.heard pair
 pub record Walks (r : Resending) (certified : List Label) (all : List (Label × Content))
     (turn : Turn) (old : List Carried) (left : ℕ) (rest : List (Label × Content))
     (cursor : Option Label) (packets : List Carried) : Type 0 where
+  -- how many pairs are done
   pub done : ℕ
+  -- the names done and those left are as many as the turn had
   pub count : done + left ≡ turn.left
+  -- no more pairs are done than there are
   pub few : done ≤ length all
+  -- the remaining pairs are those after the ones done
   pub others : rest ≡ drop done all
+  -- the cursor is the last name done, or as it was if none is done
   pub last : cursor ≡ last_name turn.cursor (take done all)
+  -- the packets of the pairs done follow those from before
   pub sent : packets ≡ old ++ flat_map (sends r certified) (take done all)
 
+-- at the start no pair is done, and the cursor and the packets are as before
 pub begun : (r : Resending) (certified : List Label) (all : Pairs) (turn : Turn)
     (old : List Carried) → Walks r certified all turn old turn.left all turn.cursor old
 begun r certified all turn old =
@@ -70,7 +77,7 @@ next_of (suc done) (p ∷ all) q rest e =
     let more = next_of done all q rest e in
     (more.0, ap (λ ps. p ∷ ps) more.1, omega (arith, more.2))
 
--- one name further
+-- once a pair's packets are sent, the walk is one name further
 pub further : (r : Resending) (certified : List Label) (all : Pairs) (turn : Turn)
     (old : List Carried) (left : ℕ) (q : Label × Content) (rest : Pairs) (cursor : Option Label)
     (packets new : List Carried) → 0 < left
@@ -91,7 +98,7 @@ further r certified all turn old left q rest cursor packets new some h e =
           ∙ ap (λ ps. old ++ flat_map (sends r certified) ps) (sym at.1)));
     }
 
--- the turn has no name left
+-- a walk whose turn has no name left has sent the turn's pairs
 pub turn_over : (r : Resending) (certified : List Label) (all : Pairs) (turn : Turn)
     (old : List Carried) (left : ℕ) (rest : Pairs) (cursor : Option Label) (packets : List Carried)
     → left ≡ 0
@@ -111,7 +118,7 @@ nothing_left done [] e = omega arith
 nothing_left zero (p ∷ all) e = absurd cc
 nothing_left (suc done) (p ∷ all) e = omega (arith, nothing_left done all e)
 
--- no pair is left
+-- a walk with no pair left has sent the turn's pairs
 pub all_walked : (r : Resending) (certified : List Label) (all : Pairs) (turn : Turn)
     (old : List Carried) (left : ℕ) (cursor : Option Label) (packets : List Carried)
     → Walks r certified all turn old left [] cursor packets
@@ -132,9 +139,13 @@ all_walked r certified all turn old left cursor packets h =
 -- the remaining pairs begin with the pair of the first name and its message
 pub record Next (pairs : List (Label × Content)) (x : Label)
     (rest : List (Label × Content)) : Type 0 where
+  -- the message of the first name
   pub message : Content
+  -- the pairs after the first
   pub others : List (Label × Content)
+  -- the first name with this message comes first, and then the others
   pub whole : rest ≡ (x, message) ∷ others
+  -- the message is found under the name
   pub found : message_of pairs x ≡ Some message
 
 next_in : (pairs : Pairs) (x : Label) (rest : Pairs) → AreFound pairs rest
@@ -150,6 +161,7 @@ next_in pairs x (p ∷ ps) h e =
           ap (message_of pairs) (sym here) ∙ h.0;
     }
 
+-- the due pairs between a cursor and a last name begin with the first name's pair
 pub next : (r : Resending) (pairs : Pairs) (from last : Option Label) (x : Label)
     → are_rising pairs ≡ true → first_name (between from last (due_pairs r pairs)) ≡ Some x
     → Next pairs x (between from last (due_pairs r pairs))
@@ -159,12 +171,13 @@ next r pairs from last x rises e =
     (found_kept (λ p. is_after from p.0) pairs (due_pairs r pairs)
     (found_kept _ pairs pairs (all_found pairs rises)))) e
 
+-- the first due name between a cursor and a last name has a message
 pub some_message : (r : Resending) (pairs : Pairs) (from last : Option Label) (x : Label)
     → are_rising pairs ≡ true → first_name (between from last (due_pairs r pairs)) ≡ Some x
     → IsSome (message_of pairs x)
 some_message r pairs from last x rises e = rw (next r pairs from last x rises e).found refl
 
--- a message through a reference
+-- if an option holds a value once that is changed, it held one before
 pub some_behind : {A B : Type 0} (f : A → B) (o : Option A) → IsSome (option_map f o) → IsSome o
 some_behind f None h = h
 some_behind f (Some a) h = refl
@@ -192,6 +205,7 @@ one_further r certified pairs all turn old left from last cursor packets new x m
     (further r certified all turn old left (x, m) n.others cursor packets new some
     (subst (λ (ps : Pairs). Walks r certified all turn old left ps cursor packets) whole h) g)
 
+-- if there is no first name, there are no pairs
 pub no_name : (ps : Pairs) → first_name ps ≡ None → ps ≡ []
 no_name [] e = refl
 no_name (p ∷ ps) e = absurd cc
@@ -223,9 +237,11 @@ all_true : (ps : Pairs) → list_all (λ p. true) ps ≡ true
 all_true [] = refl
 all_true (p ∷ ps) = all_true ps
 
+-- without a last name, the pairs between are all those after the cursor
 pub to_the_end : (cursor : Option Label) (ps : Pairs) → between cursor None ps ≡ behind cursor ps
 to_the_end cursor ps = all_pass (λ p. true) (behind cursor ps) (all_true (behind cursor ps))
 
+-- the pairs from the start to the cursor are those that don't come after it
 pub to_the_cursor : (cursor : Label) (ps : Pairs)
     → between None (Some cursor) ps ≡ filter (λ p. not (is_after (Some cursor) p.0)) ps
 to_the_cursor cursor ps =
@@ -281,6 +297,7 @@ tick_around r pairs certified c first second sent packets e one two =
           ∙ ap (last_name r.cursor) whole));
     }
 
+-- without a cursor, one walk over the due pairs is the whole tick
 pub tick_straight : (r : Resending) (pairs : Pairs) (certified : List Label) (first : Turn)
     (sent : List Carried) → r.cursor ≡ None
     → IsWalked r certified (take NAMES_PER_TICK (between r.cursor None (due_pairs r pairs)))
@@ -320,11 +337,12 @@ pub if_ok_more : {A E : Type 0} (P Q : A → Type 0) (result : Result A E) → (
 if_ok_more P Q (Ok a) more h = more a h
 if_ok_more P Q (Err e) more h = tt
 
--- whether there is a cursor
+-- an option that tests as full holds a cursor
 pub some_cursor : (o : Option Label) → is_some o ≡ true → (c : Label) × (o ≡ Some c)
 some_cursor None e = absurd cc
 some_cursor (Some c) e = (c, refl)
 
+-- an option that doesn't test as full holds nothing
 pub no_cursor : (o : Option Label) → is_some o ≡ false → o ≡ None
 no_cursor None e = refl
 no_cursor (Some c) e = absurd cc

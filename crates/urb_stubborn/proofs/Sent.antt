@@ -24,6 +24,7 @@ packet p flags q pair = record
 abbrev pub Grows : (ℕ → List ℕ) → (ℕ → Bool) → Type 0
 Grows targets test = (k : ℕ) → targets (suc k) ≡ targets k ++ cond (test (suc k)) (suc k ∷ []) []
 
+-- the nodes other than p gain one more node, if it isn't p
 pub others_grow : (p : ℕ) → Grows (λ n. others n p) (λ q. not (q == p))
 others_grow p k =
     ap (filter (λ q. not (q == p))) (numbers_more 1 k)
@@ -33,6 +34,7 @@ others_grow p k =
     at : (n : ℕ) → 1 + n ≡ suc n
     at n = omega arith
 
+-- those of the other nodes that pass a test gain one more node, if it isn't p and passes
 pub some_grow : (test : ℕ → Bool) (p : ℕ)
     → Grows (λ n. filter test (others n p)) (λ q. not (q == p) && test q)
 some_grow test p k =
@@ -77,6 +79,7 @@ module _ (targets : ℕ → List ℕ) (test : ℕ → Bool) (grows : Grows targe
       at : (n : ℕ) → n ≡ suc n - 1
       at n = omega arith
 
+  -- the packet to a node that passes completes the packets to the targets up to that node
   pub sent_to : (i j : ℕ) (old new : List Carried) → j ≡ i → 0 < i → test i ≡ true
       → new ≡ old ++ packets_to p flags (targets (i - 1)) pair
       → new ++ packet p flags i pair ∷ [] ≡ old ++ packets_to p flags (targets j) pair
@@ -86,6 +89,7 @@ module _ (targets : ℕ → List ℕ) (test : ℕ → Bool) (grows : Grows targe
       ∙ ap (λ ps. old ++ ps) (sym (sent_more i h passes)
       ∙ ap (λ n. packets_to p flags (targets n) pair) (sym e)))
 
+  -- if a node doesn't pass, the packets to the targets before it are those up to it
   pub not_sent_to : (i j : ℕ) (old new : List Carried) → j ≡ i → 0 < i → test i ≡ false
       → new ≡ old ++ packets_to p flags (targets (i - 1)) pair
       → new ≡ old ++ packets_to p flags (targets j) pair

@@ -13,6 +13,7 @@ abbrev pub due_from : ℕ → ℕ → List (Label × ℕ) → Label → ℕ → 
 due_from n p heard x k =
     list_any (λ q. not (acked heard x q)) (filter (λ q. not (q == p)) (numbers_from k (suc n - k)))
 
+-- a name is due exactly if some other node from 1 on was not heard
 pub due_start : (n p : ℕ) (heard : List (Label × ℕ)) (x : Label)
     → due_from n p heard x 1 ≡ is_due n p heard x
 due_start n p heard x =
@@ -20,6 +21,7 @@ due_start n p heard x =
     ap (λ (m : ℕ). list_any (λ q. not (acked heard x q))
     (filter (λ q. not (q == p)) (numbers_from 1 m))) all
 
+-- a name is due from a node on if that is another node, not heard, or if it is due from the next on
 pub due_next : (n p : ℕ) (heard : List (Label × ℕ)) (x : Label) (k : ℕ) → k ≤ n
     → due_from n p heard x k ≡ ((not (k == p) && not (acked heard x k))
     || due_from n p heard x (k + 1))
@@ -41,6 +43,7 @@ due_next n p heard x k h =
     at true = refl
     at false = refl
 
+-- a name isn't due from past the last node on
 pub due_end : (n p : ℕ) (heard : List (Label × ℕ)) (x : Label) (k : ℕ) → n < k
     → due_from n p heard x k ≡ false
 due_end n p heard x k h =

@@ -14,6 +14,7 @@ use Rattle.urb_names.specs.Acknowledged.{ack_lt}
 abbrev pub same_ack : Label × ℕ → Label × ℕ → Bool
 same_ack a b = same_name a.0 b.0 && (a.1 == b.1)
 
+-- an acknowledgement that comes before another comes before all after it
 pub ack_lt-trans : (a b c : Label × ℕ) → ack_lt a b ≡ true → ack_lt b c ≡ true → ack_lt a c ≡ true
 ack_lt-trans a b c e f =
     both (or_cases (name_lt a.0 b.0) (same_name a.0 b.0 && nat_lt a.1 b.1) e)
@@ -46,6 +47,7 @@ same_sym : (x y : Label) → same_name x y ≡ true → same_name y x ≡ true
 same_sym x y e =
     subst (λ (z : Label). same_name z x ≡ true) (same_name-true x y e) (same_name-same x)
 
+-- of two different acknowledgements, one comes before the other
 pub ack_lt-one_way : (a b : Label × ℕ) → same_ack a b ≡ false
     → (ack_lt a b ≡ true) ⊎ (ack_lt b a ≡ true)
 ack_lt-one_way a b e = at (cases_Bool (same_name a.0 b.0)) (cases_order a.1 b.1)
@@ -65,5 +67,6 @@ ack_lt-one_way a b e = at (cases_Bool (same_name a.0 b.0)) (cases_order a.1 b.1)
         (λ l. inr (or_left (name_lt b.0 a.0) (same_name b.0 a.0 && nat_lt b.1 a.1) l))
         (name_lt-one_way a.0 b.0 h)
 
+-- the order of acknowledgements meets the laws of a strict order
 pub acks_ordered : IsStrictOrder ack_lt same_ack
 acks_ordered = record { transitive = ack_lt-trans; one_way = ack_lt-one_way }

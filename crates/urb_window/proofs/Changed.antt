@@ -160,7 +160,7 @@ module _ {V : Type 0} where
 
   -- ---- changes that keep the entries
 
-  -- a row with the same pairs
+  -- replacing a row by one with the same pairs leaves the entries as they are
   pub same_rows : (first : ℕ) (rows : List (Row V)) (i : ℕ) (row : Row V)
       → pairs_of row ≡ pairs_of (get_or rows i no_row)
       → entries_from first (slice_set rows i row) ≡ entries_from first rows
@@ -169,12 +169,13 @@ module _ {V : Type 0} where
   same_rows first (r ∷ rs) (suc i) row h =
       ap (λ es. named first (pairs_of r) ++ es) (same_rows (suc first) rs i row h)
 
-  -- an empty row at the end
+  -- an empty row at the end adds no entry
   pub more_rows : (first : ℕ) (rows : List (Row V))
       → entries_from first (rows ++ no_row ∷ []) ≡ entries_from first rows
   more_rows first [] = refl
   more_rows first (r ∷ rs) = ap (λ es. named first (pairs_of r) ++ es) (more_rows (suc first) rs)
 
+  -- well-formed rows stay so when an empty row is put after them
   pub all_more : (rows : List (Row V)) → AllByRecursion IsRow rows
       → AllByRecursion IsRow (rows ++ no_row ∷ [])
   all_more [] h = (nothing_row, tt)

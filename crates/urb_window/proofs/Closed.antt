@@ -13,10 +13,14 @@ module _ {V : Type 0} where
   -- the state after one step of closing a gap
   pub record IsMoved (low : List V) (above : List (ℕ × V)) (new_low : List V)
       (rest : List (ℕ × V)) : Type 0 where
+    -- the two parts together have the pairs that they had
     pub pairs : counted_from 1 new_low ++ rest ≡ counted_from 1 low ++ above
+    -- the numbers of the remaining upper part rise, and are above the new lower part
     pub over : AreOver (length new_low) rest
+    -- the new lower part has fewer than 2^32 values
     pub few : length new_low < 2 ^ 32
 
+  -- if the upper part begins with the next number, its value moves to the end of the lower part
   pub moves : (low : List V) (v : V) (rest : List (ℕ × V))
       → AreOver (length low) ((length low + 1, v) ∷ rest)
       → IsMoved low ((length low + 1, v) ∷ rest) (low ++ v ∷ []) rest

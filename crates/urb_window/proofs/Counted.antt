@@ -11,10 +11,12 @@ use Rattle.urb_window.specs.internal.Row.{AreOver, IsRow, numbered}
 use Rattle.urb_window.proofs.Halved.{few_over, one_more, over_less}
 
 module _ {V : Type 0} where
+  -- numbered values are as many as the values
   pub length-counted : (first : ℕ) (low : List V) → length (counted_from first low) ≡ length low
   length-counted first [] = refl
   length-counted first (v ∷ vs) = ap suc (length-counted (suc first) vs)
 
+  -- a row has as many pairs as its two parts have values
   pub length-pairs : (row : Row V) → length (pairs_of row) ≡ length row.low + length row.above
   length-pairs row =
       length-append (counted_from 1 row.low) row.above
@@ -31,7 +33,7 @@ module _ {V : Type 0} where
       ap (λ ps. (first, w) ∷ ps) (counted_push (suc first) low v rest
       ∙ ap (λ (n : ℕ). counted_from (suc first) low ++ ((n, v) ∷ rest)) next)
 
-  -- the value of a number in the lower part
+  -- the value of a number within the lower part is the one at its place there
   pub numbered_low : (first : ℕ) (low : List V) (rest : List (ℕ × V)) (n : ℕ) (d : V) → first ≤ n
       → n < first + length low → numbered (counted_from first low ++ rest) n ≡ Some
       (get_or low (n - first) d)
@@ -53,7 +55,7 @@ module _ {V : Type 0} where
           (ne_eqb first n e)
           ∙ (ih (omega arith) (omega arith) ∙ ap (λ (i : ℕ). Some (get_or (v ∷ vs) i d)) later)
 
-  -- the value of a number after the lower part
+  -- the value of a number after the lower part is the one in the upper part
   pub numbered_behind : (first : ℕ) (low : List V) (rest : List (ℕ × V)) (n : ℕ)
       → first + length low ≤ n → numbered (counted_from first low ++ rest) n ≡ numbered rest n
   numbered_behind first [] rest n l = refl
@@ -61,6 +63,7 @@ module _ {V : Type 0} where
       cond-false (first == n) (Some v) (numbered (counted_from (suc first) vs ++ rest) n)
       (ne_eqb first n (λ e. omega arith)) ∙ numbered_behind (suc first) vs rest n (omega arith)
 
+  -- values numbered from after a number, and rising pairs after them, have rising numbers above it
   pub over_counted : (k : ℕ) (low : List V) (rest : List (ℕ × V)) → k + length low < 2 ^ 32
       → AreOver (k + length low) rest → AreOver k (counted_from (suc k) low ++ rest)
   over_counted k [] rest l o =
@@ -73,7 +76,7 @@ module _ {V : Type 0} where
         (let same : k + suc (length vs) ≡ suc k + length vs = omega arith in same) o),
   )
 
-  -- the pair at a place in the lower part
+  -- at a place within the lower part stands the value there, with its number
   pub pair_low : (first : ℕ) (low : List V) (rest : List (ℕ × V)) (i : ℕ) (d : V) → i < length low
       → slice_get (counted_from first low ++ rest) i ≡ Some (first + i, get_or low i d)
   pair_low first [] rest i d l = absurd (omega arith)
@@ -83,7 +86,7 @@ module _ {V : Type 0} where
       let next : suc first + i ≡ first + suc i = omega arith in
       pair_low (suc first) vs rest i d (omega arith) ∙ ap (λ (n : ℕ). Some (n, get_or vs i d)) next
 
-  -- the pair at a place after the lower part
+  -- at a place after the lower part stands a pair of the upper part
   pub pair_behind : (first : ℕ) (low : List V) (rest : List (ℕ × V)) (i : ℕ) → length low ≤ i
       → slice_get (counted_from first low ++ rest) i ≡ slice_get rest (i - length low)
   pair_behind first [] rest i l = let same : i ≡ i - 0 = omega arith in ap (slice_get rest) same
@@ -92,7 +95,7 @@ module _ {V : Type 0} where
       let same : i - length vs ≡ suc i - suc (length vs) = omega arith in
       pair_behind (suc first) vs rest i (omega arith) ∙ ap (slice_get rest) same
 
-  -- the first greater number, if the lower part goes further
+  -- if the lower part goes further, the first number after one is the next
   pub after_low : (first : ℕ) (low : List V) (rest : List (ℕ × V)) (n : ℕ) → first ≤ suc n
       → suc n < first + length low
       → option_map (λ p. p.0) (find (λ p. nat_lt n p.0) (counted_from first low ++ rest)) ≡ Some

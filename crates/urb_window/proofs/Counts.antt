@@ -16,7 +16,7 @@ count_first : (test : ℕ → Bool) (first left : ℕ)
 count_first test first left =
     sum_by-cons (λ x. cond (test x) 1 0) first (numbers_from (suc first) left)
 
--- one more step of a loop over the numbers up to n
+-- the nodes from one on that pass a test are that node, if it passes, and those after it
 pub count_of_next : (test : ℕ → Bool) (k n : ℕ) → k ≤ n
     → count_by test (numbers_from k (suc n - k)) ≡ cond (test k) 1 0 + count_by test
     (numbers_from (k + 1) (suc n - (k + 1)))
@@ -27,6 +27,7 @@ count_of_next test k n h =
     ∙ (count_first test k (suc n - (k + 1))
     ∙ ap (λ (i : ℕ). cond (test k) 1 0 + count_by test (numbers_from i (suc n - (k + 1)))) next)
 
+-- from past the last node on, no node passes a test
 pub count_of_none : (test : ℕ → Bool) (k n : ℕ) → n < k
     → count_by test (numbers_from k (suc n - k)) ≡ 0
 count_of_none test k n h =

@@ -38,7 +38,7 @@ module _ {V : Type 0} where
       ∙ ap (λ (r : Row V). numbered (pairs_of r) x.seq)
       (row_here rows x.sender i row at within read))
 
-  -- a row in which a value was inserted
+  -- inserting a value in the sender's row puts its entry at its place
   pub inserted_here : (rows : List (Row V)) (x : Label) (v : V) (i : ℕ) (row new : Row V)
       → i + 1 ≡ x.sender → i < length rows → row ≡ get_or rows i row → IsInserted row x.seq v new
       → entries_from 1 (slice_set rows i new) ≡ placed entry_lt (entries_from 1 rows) (x, v)
@@ -49,7 +49,7 @@ module _ {V : Type 0} where
       (put.pairs ∙ ap (λ (r : Row V). placed number_lt (pairs_of r) (x.seq, v))
       (sym (row_here rows x.sender i row at within read)))
 
-  -- a row in which a value was replaced
+  -- replacing a value in the sender's row replaces it in the entries
   pub replaced_here : (rows : List (Row V)) (x : Label) (v : V) (i : ℕ) (row new : Row V)
       → i + 1 ≡ x.sender → i < length rows → row ≡ get_or rows i row → IsReplaced row x.seq v new
       → entries_from 1 (slice_set rows i new) ≡ with_value (entries_from 1 rows) x v
@@ -73,7 +73,7 @@ module _ {V : Type 0} where
           (get_or_past rows (x.sender - 1) no_row (omega arith)) in
           absurd (false≢true (sym (ap is_some (value_rows 1 rows x (omega arith) ∙ none)) ∙ some))
 
-  -- a row with the same pairs
+  -- replacing a row by one with the same pairs leaves the entries as they are
   pub same_here : (rows : List (Row V)) (i : ℕ) (row new : Row V) → i < length rows
       → row ≡ get_or rows i row → pairs_of new ≡ pairs_of row
       → entries_from 1 (slice_set rows i new) ≡ entries_from 1 rows
@@ -81,7 +81,7 @@ module _ {V : Type 0} where
       same_rows 1 rows i new (pairs ∙ ap pairs_of (read ∙ get_or_default rows i row no_row within))
 
 module _ {T A : Type 0} where
-  -- rows were appended, or nothing changed
+  -- filling up rows that weren't all there, or changing none, preserves the invariant
   pub kept_filled : (a b : Inside T A) → b.reserved ≡ a.reserved → length b.rows.items ≤ MAX_SENDERS
       → (AllByRecursion IsRow a.rows.items → AllByRecursion IsRow b.rows.items)
       → (length a.rows.items ≡ MAX_SENDERS → b.rows.items ≡ a.rows.items) → IsKept a → IsKept b
@@ -97,12 +97,12 @@ module _ {T A : Type 0} where
         };
   }
 
-  -- no space is promised
+  -- if no space is promised, well-formed rows meet the invariant
   pub kept_unreserved : (a : Inside T A) → length a.rows.items ≤ MAX_SENDERS
       → AllByRecursion IsRow a.rows.items → a.reserved ≡ None → IsKept a
   kept_unreserved a most rows none = record { most = most; rows = rows; room = λ x e. absurd cc }
 
-  -- a row changed but promises the same space
+  -- replacing a row by one that promises the same space preserves the invariant
   pub kept_set : (a b : Inside T A) (i : ℕ) (row new : Row T) → b.reserved ≡ a.reserved
       → b.rows.items ≡ slice_set a.rows.items i new → i < length a.rows.items
       → row ≡ get_or a.rows.items i row
@@ -136,7 +136,7 @@ module _ {T A : Type 0} where
           ∙ sym (ap (λ (k : ℕ). (get_or a.rows.items k no_row).reserved) e))))
       at j (inr e) = ap (λ (r : Row T). r.reserved) (get_or-set_other a.rows.items i j new no_row e)
 
-  -- a row promises space for a name
+  -- a row with space for a name makes good a promise of space for that name
   pub kept_reserved : (b : Inside T A) (rows : List (Row T)) (i : ℕ) (new : Row T) (x : Label)
       → b.reserved ≡ Some x → length rows ≡ MAX_SENDERS → AllByRecursion IsRow rows
       → b.rows.items ≡ slice_set rows i new

@@ -23,6 +23,7 @@ point_is test (y ∷ ys) (suc i) l h =
     one ∙ sym (ap (λ (b : Bool). cond b (1 + prefix_len test ys) 0)
     (h.0 0 y (omega arith) (omega arith)))
 
+-- the elements at the front that pass a test are at most as many as all
 pub prefix_within : {X : Type 0} (test : X → Bool) (xs : List X) → prefix_len test xs ≤ length xs
 prefix_within test [] = omega arith
 prefix_within test (x ∷ xs) = at (test x) (prefix_within test xs)
@@ -32,6 +33,7 @@ prefix_within test (x ∷ xs) = at (test x) (prefix_within test xs)
     at true h = omega arith
     at false h = omega arith
 
+-- the number after a number is one plus it
 pub one_more : (n : ℕ) → suc n ≡ 1 + n
 one_more n = omega arith
 
@@ -41,6 +43,7 @@ module _ {V : Type 0} where
   over_less j k [] h o = tt
   over_less j k (p ∷ ps) h o = let first : k < p.0 = o.0 in (omega arith, o.1, o.2)
 
+  -- if the numbers of pairs rise from above a number, the one at each place is above it
   pub over_at : (k : ℕ) (pairs : List (ℕ × V)) (j : ℕ) (d : ℕ × V) → AreOver k pairs
       → j < length pairs → k < (get_or pairs j d).0
   over_at k [] j d o l = absurd (omega arith)
@@ -114,13 +117,14 @@ module _ {V : Type 0} where
       at ih false f h (inr l) =
           cond-false (p.0 == n) (Some p.1) (numbered ps n) h ∙ numbered_none p.0 n ps o.2 l
 
-  -- whether a number is at a place within the list
+  -- a number stands at a place within a list exactly if the pair there has it
   pub holds_there : (pairs : List (ℕ × V)) (i n : ℕ) (d : ℕ × V) → i < length pairs
       → holds_at pairs i n ≡ ((get_or pairs i d).0 == n)
   holds_there [] i n d l = absurd (omega arith)
   holds_there (p ∷ ps) zero n d l = refl
   holds_there (p ∷ ps) (suc i) n d l = holds_there ps i n d (omega arith)
 
+  -- past the end of a list there is no pair with a number
   pub holds_beyond : (pairs : List (ℕ × V)) (i n : ℕ) → length pairs ≤ i
       → holds_at pairs i n ≡ false
   holds_beyond [] i n l = refl

@@ -18,6 +18,7 @@ use Rattle.urb_window.specs.internal.Rows.{no_row, row_at}
 use Rattle.urb_window.proofs.Counted.{numbered_behind}
 use Rattle.urb_window.proofs.Halved.{numbered_none}
 
+-- a sender's name with a number is this name exactly if the numbers are equal
 pub same_number : (s : ℕ) (n : ℕ) (x : Label) → s ≡ x.sender → same_name (name s n) x ≡ (n == x.seq)
 same_number s n x e = ap (λ (b : Bool). b && (n == x.seq)) (eq-eqb s x.sender e)
 
@@ -32,6 +33,7 @@ module _ {V : Type 0} where
       (and_left (s == x.sender) (p.0 == x.seq) (ne_eqb s x.sender e))
       ∙ value_other s ps rest x e
 
+  -- a name of a sender before the first row has no value
   pub value_none : (first : ℕ) (rows : List (Row V)) (x : Label) → x.sender < first
       → value_of (entries_from first rows) x ≡ None
   value_none first [] x l = refl
@@ -106,15 +108,18 @@ module _ {V : Type 0} where
       ∙ numbered_none (length row.low + 1) (suc (length row.low)) row.above h.above
       (omega arith)
 
+  -- an empty row is well formed
   pub nothing_row : IsRow {V = V} no_row
   nothing_row = record { low = omega arith; above = tt }
 
+  -- if all rows are well formed, so is the row that is read at any place, also past the end
   pub all_at : (rows : List (Row V)) (i : ℕ) → AllByRecursion IsRow rows
       → IsRow (get_or rows i no_row)
   all_at [] i h = nothing_row
   all_at (r ∷ rs) zero h = h.0
   all_at (r ∷ rs) (suc i) h = all_at rs i h.1
 
+  -- a sender's numbers go without a gap as far as the lower part of its row is long
   pub low_is : (rows : List (Row V)) (s : ℕ) → AllByRecursion IsRow rows → 1 ≤ s
       → low_of s (entries_from 1 rows) ≡ length (row_at rows s).low
   low_is rows s h l =

@@ -75,7 +75,9 @@ mapped_some f (Some x) = refl
 -- only this name's value has changed
 pub record IsMarked (old : List (Label × ℕ)) (x : Label) (v : ℕ)
     (new : List (Label × ℕ)) : Type 0 where
+  -- this name has the new value
   pub here : value_of new x ≡ Some v
+  -- each other name has the value that it had
   pub others : (y : Label) → same_name x y ≡ false → value_of new y ≡ value_of old y
 
 -- two names that are both the same as a third
@@ -149,7 +151,7 @@ set_here (e ∷ es) x v some = at (same_name e.0 x) refl (set_here es x v)
         cond-false (same_name e.0 x) (Some e.1) (value_of (with_value es x v) x) g
         ∙ ih (ap is_some (sym (cond-false (same_name e.0 x) (Some e.1) (value_of es x) g)) ∙ some)
 
--- a new name with its value
+-- inserting a new name with its value changes only that name's value
 pub changed_new : (old new : List (Label × ℕ)) (x : Label) (v : ℕ)
     → is_some (value_of old x) ≡ false → new ≡ placed entry_lt old (x, v) → IsMarked old x v new
 changed_new old new x v none e =
@@ -160,7 +162,7 @@ changed_new old new x v none e =
     nothing None f = refl
     nothing (Some v) f = absurd (false≢true (sym f))
 
--- a replaced value under a name
+-- replacing the value of a name changes only that name's value
 pub changed_known : (old new : List (Label × ℕ)) (x : Label) (v : ℕ)
     → is_some (value_of old x) ≡ true → new ≡ with_value old x v → IsMarked old x v new
 changed_known old new x v some e =

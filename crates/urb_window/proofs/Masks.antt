@@ -4,12 +4,12 @@ use Rattle.std.proofs.Common.{◌==◌, sym, ap, ◌∙◌, inl, inr, ◌⊎◌,
 use Rattle.std.proofs.lemmas.Bool.{cases_eq, eqb-false}
 use Rattle.std.proofs.lemmas.Nat.{shr-shr}
 
--- whether the bit at a place is set, counted from the lowest
+-- whether the bit at a place of a number is set, counted from the lowest
 pub is_set : ℕ → ℕ → Bool
 is_set mask zero = mask % 2 == 1
 is_set mask (suc place) = is_set (mask / 2) place
 
--- that is the lowest bit of the quotient
+-- the bit at a place is the lowest bit of the quotient by that power of two
 pub set_is : (mask place : ℕ) → ((mask / 2 ^ place) % 2 == 1) ≡ is_set mask place
 unfolding is_set
 set_is mask zero = let same : mask / 2 ^ 0 ≡ mask = omega arith in ap (λ (m : ℕ). m % 2 == 1) same
@@ -27,7 +27,7 @@ next_same place other = at (cases_eq place other)
     at (inl e) = eq-eqb (suc place) (suc other) (ap suc e) ∙ sym (eq-eqb place other e)
     at (inr e) = ne_eqb (suc place) (suc other) (λ f. e (omega arith)) ∙ sym (ne_eqb place other e)
 
--- one more bit is set
+-- adding the power of two of a bit that isn't set sets this bit, and no other
 pub set_more : (mask place other : ℕ) → is_set mask place ≡ false
     → is_set (mask + 2 ^ place) other ≡ ((place == other) || is_set mask other)
 unfolding is_set

@@ -11,7 +11,7 @@ use Rattle.urb_window.specs.Row.{counted_from}
 use Rattle.urb_window.specs.internal.Row.{AreOver, number_lt, numbered}
 
 module _ {X : Type 0} (before : X → X → Bool) (x : X) where
-  -- after a part whose elements all come before it
+  -- after a part whose elements all come before it, an element goes to its place in the rest
   pub placed_after : (xs ys : List X) → list_all (λ y. before y x) xs ≡ true
       → placed before (xs ++ ys) x ≡ xs ++ placed before ys x
   placed_after [] ys h = refl
@@ -26,7 +26,7 @@ module _ {X : Type 0} (before : X → X → Bool) (x : X) where
       placed_front before x y ys (not-true _
       (and_parts (not (before y x)) (list_all (λ z. not (before z x)) ys) h).0)
 
-  -- before a part none of whose elements comes before it
+  -- before a part none of whose elements comes before it, an element goes to its place in the front
   pub placed_before : (xs ys : List X) → list_all (λ y. not (before y x)) ys ≡ true
       → placed before (xs ++ ys) x ≡ placed before xs x ++ ys
   placed_before [] ys h = placed_first ys h
@@ -58,7 +58,7 @@ module _ {V : Type 0} where
   placed_above first low above n v l =
       placed_after number_lt (n, v) (counted_from first low) above (low_before first low n v l)
 
-  -- it goes before the pairs that are above it
+  -- a pair goes before the pairs with greater numbers
   pub placed_under : (n : ℕ) (v : V) (above : List (ℕ × V)) → AreOver n above
       → placed number_lt above (n, v) ≡ (n, v) ∷ above
   placed_under n v [] o = refl

@@ -27,9 +27,11 @@ same_sender_lt s n x e =
     ap₂ (λ (a b : Bool). a || (b && nat_lt n x.seq)) (le-ltb s x.sender (omega arith))
     (eq-eqb s x.sender e)
 
+-- a name of a lower sender comes before one of a higher sender
 pub lower_sender_lt : (x y : Label) → x.sender < y.sender → name_lt x y ≡ true
 lower_sender_lt x y l = or_left (nat_lt x.sender y.sender) _ (lt-ltb x.sender y.sender l)
 
+-- a name of a higher sender doesn't come before one of a lower sender
 pub higher_sender_lt : (x y : Label) → y.sender < x.sender → name_lt x y ≡ false
 higher_sender_lt x y l =
     or_from (nat_lt x.sender y.sender) ((x.sender == y.sender) && nat_lt x.seq y.seq)
@@ -84,6 +86,7 @@ module _ {V : Type 0} where
       (all_named first test (pairs_of r) (λ e f. h e (omega arith)))
       (all_entries (suc first) test rs (λ e f. h e (omega arith)))
 
+  -- the entries of well-formed rows are in strictly rising order of name
   pub rising_entries : (first : ℕ) (rows : List (Row V)) → AllByRecursion IsRow rows
       → is_rising entry_lt (entries_from first rows) ≡ true
   rising_entries first [] h = refl
@@ -132,7 +135,7 @@ module _ {V : Type 0} where
           ∙ ap (λ (r : Row V). numbered (pairs_of r) x.seq)
           (get_or_past rows (x.sender - 1) no_row m)) e)
 
-  -- the invariant of the entries of rows
+  -- the entries of well-formed rows are a set of windows: in order, with names within limits
   pub entries_are : (rows : List (Row V)) (reserved : Option Label) → length rows ≤ MAX_SENDERS
       → AllByRecursion IsRow rows → IsWindowSet record
       { entries = entries_from 1 rows; reserved = reserved }

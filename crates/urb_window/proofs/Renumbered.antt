@@ -35,7 +35,7 @@ module _ {V : Type 0} where
       renumbered_other p ps n v (λ e. omega arith)
       ∙ ap (λ qs. p ∷ qs) (renumbered_none p.0 ps n v o.2 (omega arith))
 
-  -- a number in the lower part
+  -- replacing the value of a number within the lower part sets the value at its place
   pub renumbered_low : (first : ℕ) (low : List V) (rest : List (ℕ × V)) (n k : ℕ) (v : V)
       → first ≤ n → n < first + length low → AreOver k rest → first + length low ≤ suc k
       → renumbered (counted_from first low ++ rest) n v ≡ counted_from first
@@ -69,7 +69,7 @@ module _ {V : Type 0} where
           ∙ (ap (λ qs. (first, w) ∷ qs) (ih (omega arith) (omega arith) o (omega arith))
           ∙ ap (λ (i : ℕ). counted_from first (slice_set (w ∷ low) i v) ++ rest) later)
 
-  -- a number after the lower part
+  -- replacing the value of a number after the lower part replaces it in the upper part
   pub renumbered_behind : (first : ℕ) (low : List V) (rest : List (ℕ × V)) (n : ℕ) (v : V)
       → first + length low ≤ n → renumbered (counted_from first low ++ rest) n v
       ≡ counted_from first low ++ renumbered rest n v
@@ -106,7 +106,7 @@ module _ {V : Type 0} where
           renumbered_here p ps n v same
           ∙ ap (λ qs. (p.0, v) ∷ qs) (renumbered_none p.0 ps n v o.2 (omega arith))
 
-  -- the numbers stay
+  -- replacing a value leaves the numbers rising
   pub over_renumbered : (k : ℕ) (pairs : List (ℕ × V)) (n : ℕ) (v : V) → AreOver k pairs
       → AreOver k (renumbered pairs n v)
   over_renumbered k [] n v o = tt
@@ -132,9 +132,12 @@ module _ {V : Type 0} where
   -- the pair at the place of a number in the upper part
   pub record IsFound (low : List V) (above : List (ℕ × V)) (n : ℕ) (v : V) (i : ℕ)
       (d : ℕ × V) : Type 0 where
+    -- the number's value is that of the pair found
     pub old : numbered (counted_from 1 low ++ above) n ≡ Some d.1
+    -- setting that pair's value replaces the number's value in the upper part
     pub set : slice_set above i (d.0, v) ≡ renumbered above n v
 
+  -- a number past the lower part that has a value is found at its place in the upper part
   pub finds : (low : List V) (above : List (ℕ × V)) (n : ℕ) (v : V) (i : ℕ) (d : ℕ × V)
       → AreOver 0 above → 1 + length low ≤ n → IsSome (numbered (counted_from 1 low ++ above) n)
       → i ≡ prefix_len (λ p. nat_lt p.0 n) above → d ≡ get_or above i d → IsFound low above n v i d

@@ -17,7 +17,7 @@ module _ {T A : Type 0} where
         (subst (λ (ps : List (ℕ × T)). AreOver (length a.low.items + 1) ps) (sym above) row.above);
   }
 
-  -- each part holds as much as before, and has at least as much space
+  -- a row keeps its promised space if its parts are as long as before, and have no less space
   pub roomy_as : (a b : Inside T A) → IsRow (row_of b) → b.reserved ≡ a.reserved
       → length b.low.items ≡ length a.low.items → vec_len b.low ≡ vec_len a.low
       → vec_capacity a.low ≤ vec_capacity b.low
@@ -37,7 +37,7 @@ module _ {T A : Type 0} where
         };
   }
 
-  -- only the capacities grew
+  -- a row keeps its promised space if only the capacities grow
   pub roomy_bigger : (a b : Inside T A) → b.reserved ≡ a.reserved
       → b.low.items ≡ a.low.items → vec_len b.low ≡ vec_len a.low
       → vec_capacity a.low ≤ vec_capacity b.low
@@ -48,6 +48,6 @@ module _ {T A : Type 0} where
       roomy_as a b (same_row a b low above roomy.row) reserved
       (ap (λ (vs : List T). length vs) low) low_len low_room above_len above_room roomy
 
-  -- without a promise only the row matters
+  -- a row that promises no space meets its invariant if it is well formed
   pub roomy_unreserved : (a : Inside T A) → IsRow (row_of a) → a.reserved ≡ None → IsRoomy a
   roomy_unreserved a row none = record { row = row; room = λ n e. absurd cc }

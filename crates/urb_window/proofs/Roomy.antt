@@ -78,6 +78,7 @@ placed_empty (e ∷ es) x = at (cases_Bool (name_lt e.0 x)) (placed_empty es x)
 
 -- ---- a new name, or a known one
 
+-- inserting a mask under a name that had none makes space for that name's marks
 pub room_new : (old new : WindowSet ℕ) (x : Label) (m : ℕ)
     → is_some (value_of old.entries x) ≡ false
     → new ≡ record { entries = placed entry_lt old.entries (x, m); reserved = None }
@@ -96,6 +97,7 @@ room_new old new x m none e =
     (sym (ap (λ (s : WindowSet ℕ). names_of s.entries) e ∙ names_placed old.entries x m))
     (sym (ap (λ (s : WindowSet ℕ). s.reserved) e))
 
+-- replacing the mask of a name that has one leaves the names with space as they are
 pub room_known : (old new : WindowSet ℕ) (x : Label) (m : ℕ)
     → is_some (value_of old.entries x) ≡ true
     → new ≡ record old { entries = with_value old.entries x m }
@@ -129,7 +131,8 @@ roomy_with s x = at (has_name s.roomy x) refl
         ∙ (any_insert (λ y. same_name y x) s.roomy _ x
         ∙ or_left (same_name x x) (has_name s.roomy x) (same_name-same x))
 
--- with one more pair at its place
+-- with space for a name, and a node's pair put at its place, the set has the node marked for the
+-- name
 pub mark_joins : (old new : WindowSet ℕ) (x : Label) (q : ℕ)
     → with_room (marks_of old) x ≡ record
     { marks = marks_in old.entries; roomy = names_of new.entries; reserved = new.reserved }

@@ -51,6 +51,7 @@ module _ {V : Type 0} where
   abbrev pub entries_at : ℕ → List (Row V) → List (Label × V)
   entries_at i rows = entries_from (i + 1) (drop i rows)
 
+  -- the entries from the first row on are all entries
   pub at_start : (rows : List (Row V)) → entries_at 0 rows ≡ entries_from 1 rows
   at_start rows = refl
 
@@ -65,10 +66,11 @@ module _ {V : Type 0} where
       (drop (i + 1) rows)) (sym read)
       ∙ ap (λ (n : ℕ). named (i + 1) (pairs_of row) ++ entries_from n (drop (i + 1) rows)) next)
 
+  -- past the last row there are no entries
   pub at_end : (rows : List (Row V)) (i : ℕ) → length rows ≤ i → entries_at i rows ≡ []
   at_end rows i l = ap (entries_from (i + 1)) (drop_all i rows l)
 
-  -- the number of these entries
+  -- the entries from a row on are as many as the row's pairs and the later entries together
   pub count_at : (rows : List (Row V)) (i : ℕ) (row : Row V) → i < length rows
       → row ≡ get_or rows i row → length (entries_at i rows) ≡ length (pairs_of row) + length
       (entries_at (i + 1) rows)
@@ -77,7 +79,7 @@ module _ {V : Type 0} where
       ∙ (length-append (named (i + 1) (pairs_of row)) (entries_at (i + 1) rows)
       ∙ ap (λ (n : ℕ). n + length (entries_at (i + 1) rows)) (length-map (pairs_of row) _))
 
-  -- the entry at a place within the row
+  -- at a place within a row stands the entry of the row's pair there
   pub entry_within : (rows : List (Row V)) (i : ℕ) (row : Row V) (j : ℕ) → i < length rows
       → row ≡ get_or rows i row → j < length (pairs_of row)
       → slice_get (entries_at i rows) j ≡ option_map (λ p. (name (i + 1) p.0, p.1))
@@ -88,7 +90,7 @@ module _ {V : Type 0} where
       (subst (λ (n : ℕ). j < n) (sym (length-map (pairs_of row) _)) within)
       ∙ slice_get-map (λ p. (name (i + 1) p.0, p.1)) (pairs_of row) j)
 
-  -- the entry at a place after the row
+  -- at a place after a row stands an entry of the later rows
   pub entry_behind : (rows : List (Row V)) (i : ℕ) (row : Row V) (j : ℕ) → i < length rows
       → row ≡ get_or rows i row → length (pairs_of row) ≤ j
       → slice_get (entries_at i rows) j ≡ slice_get (entries_at (i + 1) rows)
@@ -99,7 +101,7 @@ module _ {V : Type 0} where
       (subst (λ (n : ℕ). n ≤ j) (sym (length-map (pairs_of row) _)) behind)
       ∙ ap (λ (n : ℕ). slice_get (entries_at (i + 1) rows) (j - n)) (length-map (pairs_of row) _))
 
-  -- the first entry, if the row has a pair
+  -- if a row has a pair, the first entry from it on is that of its first pair
   pub first_within : (rows : List (Row V)) (i : ℕ) (row : Row V) (p : ℕ × V) → i < length rows
       → row ≡ get_or rows i row → slice_get (pairs_of row) 0 ≡ Some p
       → slice_get (entries_at i rows) 0 ≡ Some (name (i + 1) p.0, p.1)
@@ -111,7 +113,7 @@ module _ {V : Type 0} where
       filled [] e = absurd cc
       filled (q ∷ qs) e = omega arith
 
-  -- the first entry, if the row has none
+  -- if a row has no pair, the first entry from it on is that of the later rows
   pub no_first : (rows : List (Row V)) (i : ℕ) (row : Row V) → i < length rows
       → row ≡ get_or rows i row → slice_get (pairs_of row) 0 ≡ None
       → slice_get (entries_at i rows) 0 ≡ slice_get (entries_at (i + 1) rows) 0
@@ -223,6 +225,7 @@ module _ {V : Type 0} where
       ∙ (number_named (i + 1) (find (λ p. nat_lt x.seq p.0) (pairs_of row))
       ∙ (ap (option_map (name (i + 1))) found ∙ ap (λ (s : ℕ). Some (name s n)) at)))
 
+  -- if the sender's row has no later number, the next name is the first of the later rows
   pub after_missed : (rows : List (Row V)) (x : Label) (i : ℕ) (row : Row V) → i + 1 ≡ x.sender
       → i < length rows → row ≡ get_or rows i row
       → option_map (λ p. p.0) (find (λ p. nat_lt x.seq p.0) (pairs_of row)) ≡ None
@@ -238,6 +241,7 @@ module _ {V : Type 0} where
       (all_entries (i + 1 + 1) (λ (e : Label × V). name_lt x e.0) (drop (i + 1) rows)
       (λ e f. lower_sender_lt x e.0 (omega arith)))))
 
+  -- if the rows end before the name's sender, no entry comes after the name
   pub after_beyond : (rows : List (Row V)) (x : Label) → 1 ≤ x.sender → length rows ≤ x.sender - 1
       → find (λ e. name_lt x e.0) (entries_from 1 rows) ≡ None
   after_beyond rows x one l =
@@ -247,6 +251,7 @@ module _ {V : Type 0} where
 
   -- ---- numbers of the pairs found
 
+  -- if the numbers of pairs rise from above a number, each pair that is read has one above it
   pub pair_over : (k : ℕ) (pairs : List (ℕ × V)) (j : ℕ) (p : ℕ × V) → AreOver k pairs
       → slice_get pairs j ≡ Some p → k < p.0
   pair_over k [] j p o e = absurd cc
@@ -254,6 +259,7 @@ module _ {V : Type 0} where
   pair_over k (q ∷ qs) (suc j) p o e =
       let first : k < q.0 = o.0 in let rest : q.0 < p.0 = pair_over q.0 qs j p o.2 e in omega arith
 
+  -- the number of the first pair found after a number is greater than it
   pub found_over : (pairs : List (ℕ × V)) (m n : ℕ)
       → option_map (λ p. p.0) (find (λ p. nat_lt m p.0) pairs) ≡ Some n → m < n
   found_over [] m n e = absurd cc

@@ -29,6 +29,7 @@ call_events : {T E : Type 0} (r : Result T E) (old new : HouseView) → Counts r
 call_events (Ok done) old new h = h.events
 call_events (Err refused) old new h = same_events old new h
 
+-- the end of a turn adds its number of events to the House's count
 pub ends_count : (old : HouseView) (job : Job) (at : Stage) (new : HouseView) (said : Reply Global)
     (status : Option Status) (settling : Published) (events : ℕ)
     → Ends old job at new said status settling events → new.events ≡ count_after events old.events

@@ -8,6 +8,7 @@ use Rattle.urb_group.specs.Calls.{ComesUp, Commits}
 use Rattle.urb_group.specs.Shown.{GroupView, IsSound}
 use Rattle.urb_group.specs.Step.{Commit, Restart}
 
+-- the node of a receipt that is not refused is at most the number of nodes
 pub committed_node : (old new : GroupView) (receipt : Placed) (done : Done) (n : ℕ) → IsSound old
     → old.size.n ≡ n → Commits old receipt (Ok done) new → receipt.node ≤ n
 committed_node old new receipt done n sound size h =
@@ -18,6 +19,7 @@ committed_node old new receipt done n sound size h =
     let high : receipt.node ≤ old.size.n = bounds.1 in
     omega arith
 
+-- the node of a restart that is not refused is at most the number of nodes
 pub restarted_node : (old new : GroupView) (p : ℕ) (image : List Entry) (n : ℕ) → IsSound old
     → old.size.n ≡ n → ComesUp old p (Restart p image) (Ok tt) new → p ≤ n
 restarted_node old new p image n sound size h =

@@ -53,6 +53,7 @@ module _ {S A : Type 0} (g : Ghosts S A) where
       was : LeavesOf g node before
       was = h.left (gives.trust.clean clean)
 
+  -- a store lasts while its node has the same records, and the same record held or in doubt
   pub stays : (old new : Node) (store : S) → Stays old new → IsLastingOf g old store
       → IsLastingOf g new store
   stays old new store s h = (
@@ -75,6 +76,7 @@ module _ {S A : Type 0} (g : Ghosts S A) where
       left-by-draft g node before after draft answer keeps h.0 up
       (honest-up node before h.1 up (keeps.trust.clean clean)) clean
 
+  -- a store that took the draft lasts beside the node that has the draft's record
   pub keeps-took : (node new : Node) (before after : S) (draft : Placed)
       → Keeps g before draft (Ok tt) after → IsLastingOf g node before → is_down node.state ≡ false
       → new.records ≡ node.records ++ draft.entry ∷ [] → new.state ≡ Ready → IsLastingOf g new after
@@ -119,6 +121,8 @@ module _ {S A : Type 0} (g : Ghosts S A) where
             sure = λ e. absurd (false≢true (sym e ∙ ap is_down down));
           }
 
+  -- a store that failed to take the draft lasts beside its node, which is down and in doubt about
+  -- it
   pub keeps-lost : (node new : Node) (before after : S) (draft : Placed) (fault : StoreFault)
       → Keeps g before draft (Err fault) after → IsLastingOf g node before
       → is_down node.state ≡ false
@@ -142,6 +146,7 @@ module _ {S A : Type 0} (g : Ghosts S A) where
           (sym records)
           (left-by-draft g node before after draft (Err fault) keeps h.0 up (was clean) clean)
 
+  -- a store that gave its records lasts beside the node that was restarted with them
   pub gives-rose : (node new : Node) (before after : S) (image : List Entry)
       → Gives g before (Ok image) after → (MayLeave node image → Rises image new)
       → IsLastingOf g node before → IsLastingOf g new after
@@ -152,6 +157,7 @@ module _ {S A : Type 0} (g : Ghosts S A) where
             (read-honest g before after image gives (lasting-known g node before h.1)),
       )
 
+  -- a store that gave a fault instead of its records lasts beside its node, which is down
   pub gives-unread : (node : Node) (before after : S) (fault : StoreFault)
       → Gives g before (Err fault) after → is_down node.state ≡ true → IsLastingOf g node before
       → IsLastingOf g node after

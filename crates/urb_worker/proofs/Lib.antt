@@ -1,3 +1,16 @@
+-- A worker does the jobs of its node in turns: an event of the House, the store's part, and another
+-- event. Proved here: after each turn the store matches its node, a stop leaves what it may leave,
+-- and what is reported is true.
+-- WaitingNodes comes first: it says what other workers may do to a node meanwhile, which is to
+-- crash it. LastingStores says what each answer of a store leaves of a node and its store.
+-- StoreKeeping puts them together in the main lemmas `turn-keeps` and `turn-leaves`. TurnSteps
+-- makes one turn of its parts (`whole`), and OtherNodes says that other nodes only wait
+-- (`others-wait`).
+-- Then read what is told of a turn. Reported changes have happened (`reported-so`,
+-- ReportedChanges), responses are true (`works_tells`, TrueResponses), and events are counted
+-- (`ends_count`, EventCounts). NodeFeeds is about the jobs of a feed, Pulses about what a datagram
+-- says of certificates, and ServedStores about the order of the stores. The folders `steps` and
+-- `stops` of `urb_group` say what an event and a stop do.
 pub mod EventCounts
 pub mod EventNodes
 pub mod ServedStores

@@ -23,6 +23,7 @@ pub begins_feed : (group : GroupView) (n : ℕ) (feed : FeedView) → IsSound gr
     → ((w : World) → Shows group w → feed ≡ whole_feed w n) → BeginsFeed group n feed
 begins_feed group n feed sound whole = record { sound = sound; whole = whole }
 
+-- a feed that begins in a House that the worker has borrowed is a feed of its node
 pub lends_feed : (lent : HouseView) (n : ℕ) (feed : FeedView) → BeginsFeed lent.group n feed
     → IsFeedOf n feed
 lends_feed lent n feed begins = record { lent = lent; begins = begins }

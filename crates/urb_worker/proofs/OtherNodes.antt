@@ -224,6 +224,8 @@ ends-wait g n m other before after
     (subst (λ (s : Stage). Ends again (job.Status p) s left said status settling count)
     stored.1 ends).0)
 
+-- While a worker holds the House in its turn, nothing happens to other nodes, except that they may
+-- crash.
 pub others-wait : {S A : Type 0} (g : Ghosts S A) (n m : ℕ) (j : Job) (before after : S)
     (came : FinishedView) (turn : IsTurn g j before after came) → runs_at m j ≡ true → n ≢ m
     → Waits n turn.lent.group turn.given_back.group × Waits n turn.lent_again.group turn.left.group
@@ -236,6 +238,7 @@ others-wait g n m j before after came turn runs other = (
 
 -- ---- a stop while the node waits
 
+-- while a node waits, a stop leaves in its store what it may leave of the node
 pub waited-leaves : {S A : Type 0} (g : Ghosts S A) (n : ℕ) (earlier later : GroupView) (store : S)
     → LeavesAt g n earlier store → Waits n earlier later → LeavesAt g n later store
 waited-leaves g n earlier later store h waits =
@@ -252,6 +255,7 @@ waited-leaves g n earlier later store h waits =
 
 -- ---- a stop of all nodes
 
+-- If a stop may leave each of the images, the group goes on from one world with all of them.
 pub all-survive : (group : GroupView) (images : ℕ → List Entry) → IsSound group
     → ((p : ℕ) → (w : World) × Shows group w × MayLeave (w.node p) (images p))
     → (w : World) × Shows group w × GoesOnIn w images
@@ -318,6 +322,7 @@ module _ {S A : Type 0} (g : Ghosts S A) (before after : S) (j : Job) (again lef
   taken-in at t (Ok (taken.Store draft)) e (r, kept, keeps, leads) ends =
       kept-in at t draft r e leads kept keeps (subst StoredAt leads ends)
 
+-- If the reply says that a record is stored, the turn drafted it, and the store has kept it.
 pub stored-in : {S A : Type 0} (g : Ghosts S A) (before after : S) (j : Job)
     (lent given_back again left : HouseView) (at t : Stage) (events count : ℕ)
     (status : Option Status) (settling : Published) (done : Done)

@@ -234,6 +234,7 @@ module _ {S A : Type 0} (g : Ghosts S A) (before after : S) (lent given_back aga
       (n - events) p event lent.group given_back.group r t f.refusal takes
       (subst (λ (s : Stage). Stores g before s after t) is stores) f.is (late r counted f.two) ends)
 
+  -- A change that is reported of a turn has happened in it.
   pub reported-so : (j : Job) (c : Change) → Leads j c
   reported-so (job.Submit p client number payload) c
       (r, takes, counts, is, counted) stores ends told =
@@ -297,6 +298,7 @@ module _ {S A : Type 0} (g : Ghosts S A) (before after : S) (lent given_back aga
   restart-not (Some state.Storing) doubt stores here = not-answered _ doubt stores.1 here
   restart-not None doubt stores here = not-answered _ doubt stores.1 here
 
+  -- A store's failure for a draft is reported, unless the turn is refused as stale.
   pub failure-reported : (j : Job) (doubt : Doubted) → Begins lent j given_back at events
       → Stores g before at after t → Ends again j t left said status settling (n - events)
       → t ≡ stage.Doubtful doubt

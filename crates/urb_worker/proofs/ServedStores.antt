@@ -23,6 +23,7 @@ one_turn g a b c so_far turn = ∥∥₁_elim so_far (hlevel props) (λ s. ∣ W
 pub first_turn : {S A : Type 0} (g : Ghosts S A) (a b : S) → Turns g a b → IsLeftOf g a b
 first_turn g a b turn = one_turn g a a b (not_yet g a) turn
 
+-- a store after two turns is the store before them after a number of turns
 pub two_turns : {S A : Type 0} (g : Ghosts S A) (a b c : S) → Turns g a b → Turns g b c
     → IsLeftOf g a c
 two_turns g a b c first second = one_turn g a b c (first_turn g a b first) second
@@ -71,6 +72,7 @@ served_again g (a ∷ xs) (b ∷ ys) [] before after = absurd after
 served_again g (a ∷ xs) (b ∷ ys) (c ∷ zs) before after =
     (left_again g a b c before.0 after.0, served_again g xs ys zs before.1 after.1)
 
+-- the element at the end of a list comes first in the reversed list
 pub reverse_push : {X Y : Type 0} (f : X → Y) (xs : List X) (x : X)
     → reverse (map f (xs ++ x ∷ [])) ≡ f x ∷ reverse (map f xs)
 reverse_push f xs x = ap reverse (map_push f xs x) ∙ reverse-append (map f xs) (f x ∷ [])

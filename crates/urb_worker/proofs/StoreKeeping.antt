@@ -422,6 +422,8 @@ module _ {S A : Type 0} (g : Ghosts S A) (n : ℕ) where
         → IsStoreAt g n lent.group before → Waits n given_back.group again.group
         → IsStoreAt g n last.group after
 
+    -- After a turn the store matches its node, if nothing but a crash happened to the node
+    -- meanwhile.
     pub turn-keeps : (j : Job) → Keeps_ j
     turn-keeps (job.Submit p client number payload) runs
         (r, takes, counts, is, rest) stores ends h waits =
@@ -542,6 +544,7 @@ module _ {S A : Type 0} (g : Ghosts S A) (n : ℕ) where
               (answer_of r) keeps drafts.store (ap is_down drafts.holds.storing) clean);
         }
 
+    -- A stop inside a turn leaves in the store what it may leave of the node.
     pub turn-leaves : (j : Job) → runs_at n j ≡ true → Begins lent j given_back at events
         → Stores g before at after new → IsStoreAt g n lent.group before
         → LeavesAt g n given_back.group after

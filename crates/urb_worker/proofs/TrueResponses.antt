@@ -386,6 +386,7 @@ outcome_tells false asked p done said status settling is out =
     tells_as p asked said (reply.Refused refusal.BadNode) status None out.0 out.1
     (refused_tells p asked (number_of refusal.BadNode) (detail_of refusal.BadNode))
 
+-- What a desk responds by the result of its worker is true of the desk's node.
 pub works_tells : (before after : DeskView) (asked : Asked) (said : Said)
     → Works before asked said after → Tells before.node asked said
 works_tells before after asked said (inl w) =

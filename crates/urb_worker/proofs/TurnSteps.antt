@@ -35,6 +35,7 @@ goes_still (stage.Unread fault) = refl
 goes_still stage.Asking = refl
 goes_still (stage.Answered reply) = refl
 
+-- a turn has begun once its first call was made
 pub just_begun : (old new : HouseView) (j : Job) (at : Stage) (events : ℕ) → IsSound old.group
     → Begins old j new at events → HasBegun j at
 just_begun old new j at events sound begins = (old, new, at, events, sound, begins, goes_still at)
@@ -77,6 +78,7 @@ module _ {S A : Type 0} (g : Ghosts S A) (before after : S) where
   goes_on (stage.Answered reply) s t goes stores =
       (subst (λ (u : Stage). Stores g before u after t) goes stores).1
 
+  -- a turn that has begun still has after the store did its part
   pub begun_on : (j : Job) (s t : Stage) → HasBegun j s → Stores g before s after t → HasBegun j t
   begun_on j s t begun stores =
       (begun.0, begun.1, begun.2, begun.3, begun.4, begun.5, goes_on begun.2 s t begun.6 stores)
@@ -94,6 +96,7 @@ module _ {S A : Type 0} (g : Ghosts S A) (before after : S) where
 
 -- ---- the end
 
+-- a turn that has begun, and then ended, came to the results that it ended with
 pub came_on : (old new : HouseView) (j : Job) (at : Stage) (said : Reply Global)
     (status : Option Status) (settling : Published) (events : ℕ) → IsSound old.group → HasBegun j at
     → Ends old j at new said status settling events → CameOf j said status settling
@@ -101,6 +104,7 @@ came_on old new j at said status settling events sound begun ends =
     (at, old, new, events, sound, begun, ends)
 
 module _ {S A : Type 0} (g : Ghosts S A) (n : ℕ) where
+  -- A turn that began, did its store's part, and finished is a whole turn at its node.
   pub whole : (j : Job) (before after : S) (done : FinishedView)
       (lent given_back again left : HouseView) (begun stored : TurnView) → runs_at n j ≡ true
       → stored.job ≡ j → stored.events ≡ begun.events → IsSound left.group

@@ -80,6 +80,7 @@ down-commits w n draft o there down =
     reply-at w n (commits w.size.n n draft.pos draft.entry (w.node n) (w.node n).state) there
     ∙ ap (λ (s : State). (commits w.size.n n draft.pos draft.entry (w.node n) s).0) down
 
+-- a node that is down refuses a failure as down
 pub down-fails : (w : World) (n : ℕ) (o : Option Entry) → is_node w.size.n n ≡ true
     → (w.node n).state ≡ Down o → (step w (Fail n)).0 ≡ Refused refusal.Down
 unfolding step
@@ -94,6 +95,7 @@ pub record FellWith (old new : Node) (draft : Placed) : Type 0 where
   pub records : new.records ≡ old.records
   pub down : new.state ≡ Down (Some draft.entry)
 
+-- a node that holds a draft, and crashes, goes down with the draft in doubt
 pub crash-held : (w : World) (n : ℕ) (draft : Placed) → HoldsAt w n draft
     → FellWith (w.node n) ((step w (Crash n)).1.node n) draft
 unfolding step
@@ -125,9 +127,11 @@ crash-down w n down =
 
 -- ---- a node that waited
 
+-- a node stays as it is
 pub unchanged : (node : Node) → Stays node node
 unchanged node = record { records = refl; doubt = inr refl; up = λ e. e }
 
+-- a node that waited has the same records, and is up only if it was
 pub waited-stays : (n : ℕ) (w : World) (later : GroupView) (h : HasWaited n w later)
     → Stays (w.node n) (h.world.node n)
 waited-stays n w later h =
@@ -135,6 +139,7 @@ waited-stays n w later h =
     (λ e. subst (λ (node : Node). Stays (w.node n) node) (sym e) (quiet-stays w (Crash n) tt n))
     h.node
 
+-- a node of the group is still one after it waited
 pub waited-there : (n : ℕ) (w : World) (later : GroupView) (h : HasWaited n w later)
     → is_node w.size.n n ≡ true → is_node h.world.size.n n ≡ true
 waited-there n w later h there = subst (λ (l : Limits). is_node l.n n ≡ true) (sym h.size) there
@@ -218,6 +223,7 @@ crash-alike n v w size e = at (is_node w.size.n n) refl
         (cond-false (is_node w.size.n n) (world_after w n (crashes n (w.node n)))
         (Refused refusal.BadNode, w) none)))
 
+-- a node that waited twice, one time after the other, waited all along
 pub waits-on : (n : ℕ) (first second third : GroupView) → Waits n first second
     → Waits n second third → Waits n first third
 waits-on n first second third earlier later w shows =
@@ -261,6 +267,7 @@ waits-event n old new event IsTold apart steps w shows =
       node = inl (step-elsewhere w event n apart);
     }
 
+-- each node waits while any node crashes
 pub waits-crash : (n p : ℕ) (old new : GroupView) (IsTold : Reply → Type 0)
     → Steps old (Crash p) IsTold new → Waits n old new
 waits-crash n p old new IsTold steps = at (n == p) refl
@@ -280,5 +287,6 @@ waits-crash n p old new IsTold steps = at (n == p) refl
     at false apart = waits-event n old new (Crash p) IsTold apart steps
     at true same = here same
 
+-- a node waits from a group to an equal group
 pub waits-same : (n : ℕ) (old new : GroupView) → new ≡ old → Waits n old new
 waits-same n old new e = subst (λ (group : GroupView). Waits n old group) (sym e) (waits-none n old)

@@ -35,7 +35,7 @@ pub(crate) fn publish_command<'a>(alloc: Global) -> Result<Command<'a>, AllocErr
 {
     let about = "Sends messages to a node, one after the other, and numbers them";
     client_command(alloc, "publish", about)?
-        .after_help("Example: printf 'one\ntwo\n' | urbd publish --port 7411 --client 7")
+        .after_help("Example: printf 'one\\ntwo\\n' | urbd publish --port 7411 --client 7")
         .arg(number_option(alloc, "client", CLIENT_HELP, 1, 65_535))?
         .arg(optional_word(
             alloc,

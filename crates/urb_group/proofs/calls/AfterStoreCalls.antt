@@ -89,6 +89,7 @@ lost-tied old new p q stores drafts places draft after reply tied held steps fre
     (stored-tied old new p (length stores) drafts draft (Fail draft.node)
     (λ told. told ≡ reply) tied held refl steps free))
 
+-- if the armed store of a held draft fails, the cluster fails that draft, and the other stores stay
 pub lost-fails : (old : Clustered Memory) (new : GroupView) (p q : ℕ)
     (drafts : List (Option Placed)) (draft : Placed) (before after : Memory) (failure : Failure)
     (reply : Reply)
@@ -122,6 +123,8 @@ unstored-fails old p failure r h =
     subst (λ (o : Option Placed). FailsHeld old p o failure (Refused r) old) (sym h.0) (h.1, refl)
 
 module _ {S A : Type 0} (g : Ghosts S A) where
+  -- once a store was asked to keep a draft and the draft's place is emptied, the places have what
+  -- nodes hold
   pub kept-tied : (old new : GroupView) (p q : ℕ) (stores : List S)
       (drafts places : List (Option Placed)) (draft : Placed) (before after : S) (reply : Reply)
       → IsTied old (length stores) drafts → held_draft old p ≡ Some draft
@@ -134,6 +137,8 @@ module _ {S A : Type 0} (g : Ghosts S A) where
       (stored-tied old new p (length stores) drafts draft (stored_as draft kept.answer)
       (λ told. told ≡ reply) tied held (stored-at draft kept.answer) kept.event free))
 
+  -- if a node's store was asked to keep its held draft, the cluster stores it, and the other stores
+  -- stay
   pub kept-stores : (old : Clustered S) (new : GroupView) (p q : ℕ) (drafts : List (Option Placed))
       (draft : Placed) (before after : S) (reply : Reply)
       → IsTied old.group (length old.stores) drafts → held_draft old.group p ≡ Some draft → q ≡ p
@@ -174,6 +179,7 @@ module _ {S A : Type 0} (g : Ghosts S A) where
   returned-tied old new p stores drafts (Err fault) reply tied h before after =
       refused-tied old new stores drafts tied h.1
 
+  -- if a node holds no draft while its store is asked for records, the places have what nodes hold
   pub read-tied : (old new : GroupView) (p q : ℕ) (stores : List S) (drafts : List (Option Placed))
       (before after : S) (reply : Reply)
       → IsTied old (length stores) drafts → Reads g old before p reply new after
@@ -184,6 +190,8 @@ module _ {S A : Type 0} (g : Ghosts S A) where
       (returned-tied old new p (length stores)
       drafts reads.answer reply tied reads.returns here there)
 
+  -- if the store of a node that is down was asked for its records, the cluster restarts the node by
+  -- its answer
   pub read-restarts : (old : Clustered S) (new : GroupView) (p q : ℕ)
       (drafts : List (Option Placed)) (before after : S) (reply : Reply)
       → IsTied old.group (length old.stores) drafts → is_fallen old.group p ≡ true → q ≡ p

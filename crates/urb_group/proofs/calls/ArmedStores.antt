@@ -77,6 +77,7 @@ opened-tied group size images stores drafts sound s count e =
           ∙ (no-places size.n p ∙ sym (none-opened group size images p s));
     }
 
+-- in a new group no node holds a draft, and all places for drafts are empty
 pub started-tied : (group : GroupView) (size : Limits) (stores : ℕ) (drafts : List (Option Placed))
     → Shows group (started size) → stores ≡ size.n → drafts ≡ replicate size.n None
     → IsTied group stores drafts

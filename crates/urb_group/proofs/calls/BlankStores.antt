@@ -15,6 +15,7 @@ blank m e =
       rest = λ honest records c. subst (λ (m : Memory). IsContents m.certain m.doubt records) e c;
     }
 
+-- empty stores in memory have no record, and none in doubt
 pub all-blank : {A : Type 0} (stores : List Memory) → All (λ m. m ≡ empty_memory) stores
     → All (IsBlank (in_memory A)) stores
 all-blank stores h k d less = blank (slice_index_or stores k d) (h k d less)

@@ -26,6 +26,7 @@ use Rattle.urb_stable.specs.Placed.{Placed}
 
 -- ---- a refusal leaves the places
 
+-- after a refusal the places still have the drafts that nodes hold
 pub refused-tied : (old new : GroupView) (stores : ℕ) (drafts : List (Option Placed))
     → IsTied old stores drafts → new ≡ old → IsTied new stores drafts
 refused-tied old new stores drafts tied e =
@@ -33,6 +34,7 @@ refused-tied old new stores drafts tied e =
 
 -- ---- which nodes there are
 
+-- the number of a node is at least 1 and at most n
 pub node-bounds : (n p : ℕ) → is_node n p ≡ true → (0 < p) × (p ≤ n)
 node-bounds n p h =
     let parts = and_parts (nat_lt 0 p) (nat_lt p (suc n)) h in
@@ -82,6 +84,7 @@ module _ (old new : GroupView) (p : ℕ) (event : Event) (e : event_node event �
       let count : length drafts ≡ old.size.n = tied.all_places in
       (omega arith, omega arith)
 
+  -- a draft that a submit or an arrival returns belongs to a node that has a place
   pub takes-within : {A : Type 0} (result : Result (Taken A) Refusal) → Takes old p event result new
       → IsWithin (length drafts) result
   takes-within (Ok (taken.Same answer)) h = tt
@@ -89,6 +92,7 @@ module _ (old new : GroupView) (p : ℕ) (event : Event) (e : event_node event �
       subst (λ (i : ℕ). (0 < i) × (i ≤ length drafts)) (sym h.1) (taken-bounds draft h.0)
   takes-within (Err r) h = tt
 
+  -- after a submit or an arrival, with its draft noted, the places have the drafts that nodes hold
   pub takes-tied : {A : Type 0} (result : Result (Taken A) Refusal) → Takes old p event result new
       → IsTied new stores (noted_in drafts result)
   takes-tied (Ok (taken.Same answer)) h =
@@ -111,6 +115,7 @@ module _ (old new : GroupView) (p : ℕ) (event : Event) (e : event_node event �
       (λ told. told ≡ Drafted (name_of draft.entry) draft.pos) tied.sound h.0)) is)))
   takes-tied (Err r) h = refused-tied old new stores drafts tied h.1
 
+  -- the result of a submit or an arrival is the event with the reply that it tells
   pub takes-reacts : {A : Type 0} (result : Result (Taken A) Refusal) → Takes old p event result new
       → Reacts old event (told_of result) new
   takes-reacts (Ok (taken.Same answer)) h = h
@@ -119,6 +124,7 @@ module _ (old new : GroupView) (p : ℕ) (event : Event) (e : event_node event �
 
 -- ---- ticks
 
+-- after a tick the places still have the drafts that nodes hold
 pub ticks-tied : (old new : GroupView) (p stores : ℕ) (drafts : List (Option Placed))
     → IsTied old stores drafts → (result : Result (List Carried) Refusal)
     → Ticks old (Tick p) result new → IsTied new stores drafts
@@ -132,6 +138,7 @@ ticks-tied old new p stores drafts tied (Err r) h = refused-tied old new stores 
 module _ (old new : GroupView) (p : ℕ) (event : Event) (e : event_node event ≡ p) (stores : ℕ)
     (drafts : List (Option Placed)) (tied : IsTied old stores drafts)
     (steps : Steps old event (λ reply. reply ≡ WentDown p) new) where
+  -- a node that goes down has a place
   pub down-bounds : (0 < p) × (p ≤ length drafts)
   down-bounds =
       let bounds =
@@ -142,6 +149,7 @@ module _ (old new : GroupView) (p : ℕ) (event : Event) (e : event_node event �
       let count : length drafts ≡ old.size.n = tied.all_places in
       (omega arith, omega arith)
 
+  -- once a node went down and its place is emptied, the places have the drafts that nodes hold
   pub down-tied : IsTied new stores (slice_set drafts (p - 1) None)
   down-tied =
       let low : 0 < p = down-bounds.0 in
@@ -154,6 +162,7 @@ module _ (old new : GroupView) (p : ℕ) (event : Event) (e : event_node event �
 
 -- ---- a node that holds no draft
 
+-- an event of a node that holds no draft, before and after, leaves the places as the nodes' drafts
 pub reacts-tied : (old new : GroupView) (event : Event) (stores : ℕ) (drafts : List (Option Placed))
     → IsTied old stores drafts → (reply : Reply) → Reacts old event reply new
     → held_draft old (event_node event) ≡ None → held_draft new (event_node event) ≡ None

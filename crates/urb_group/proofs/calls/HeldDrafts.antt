@@ -74,9 +74,11 @@ module _ (old new : GroupView) (event : Event) (IsTold : Reply → Type 0) (soun
   happens : Happens event IsTold new sound.world
   happens = steps sound.world sound.shows
 
+  -- a sound group is sound after an event
   pub steps-sound : IsSound new
   steps-sound = sound-step old new event sound (λ v s. (steps v s).shows)
 
+  -- an event leaves the limits of the group
   pub steps-size : new.size ≡ old.size
   steps-size = happens.shows.size ∙ step-size sound.world event ∙ sym sound.shows.size
 

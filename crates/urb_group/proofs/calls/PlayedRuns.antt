@@ -53,7 +53,9 @@ own-refusal r why other h = h
 
 -- the event, in one world
 record Moved (w : World) (event : Event) (r : told.Reply) (new : GroupView) : Type 0 where
+  -- the event has this reply
   pub reply : (step w event).0 ≡ r
+  -- the group shows the world after it
   pub shows : Shows new (step w event).1
 
 steps-moved : (old new : GroupView) (event : Event) (r : told.Reply)
@@ -83,7 +85,9 @@ reacts-sound old new event r h sound = steps-sound old new event _ sound h
 -- what a command was, in one world: an event, or nothing
 record IsPlayed {A : Type 0} (w : World) (old : GroupView) (command : Command A) (r : told.Reply)
     (new : GroupView) : Type 0 where
+  -- the group is sound afterwards
   pub sound : IsSound new
+  -- the command was an event, or a restart whose store gave a fault, which changes nothing
   pub was : ((event : Event) × IsEventOf command event × Moved w event r new)
       ⊎ (IsUnread command r × (new ≡ old))
 
@@ -224,12 +228,19 @@ module _ {S A : Type 0} (g : Ghosts S A) where
   -- what the commands were, in one world
   pub record IsRun (w : World) (commands : List (Command A)) (replies : List (Reply A))
       (new : GroupView) : Type 0 where
+    -- the group is sound at the end
     pub sound : IsSound new
+    -- the commands that are events
     pub events : List Event
+    -- their replies
     pub seen : List told.Reply
+    -- the world at the end
     pub after : World
+    -- the commands with their replies are these events with theirs
     pub are : AreEvents commands (map reply_of replies) events seen
+    -- the events lead to the world at the end
     pub ran : Run w events seen after
+    -- the group shows that world
     pub shows : Shows new after
 
   not_short : (r : Reply A) → is_no_memory r ≡ false → IsTold (reply_of r)
@@ -340,6 +351,7 @@ module _ {S A : Type 0} (g : Ghosts S A) where
       ⊎_elim (λ e. ap (λ (c : Clustered S). c.group) e)
       (λ h. applied-refused early.last new early.command refusal.NoMemory h sound) early.refused
 
+  -- commands that were played are a run of events, from any world that the group showed
   pub plays-runs : (old new : Clustered S) (commands : List (Command A))
       (result : Result (Vec (Reply A) A) (Vec (Reply A) A × NoMemory))
       → Plays g old commands result new → IsSound old.group
@@ -353,6 +365,7 @@ module _ {S A : Type 0} (g : Ghosts S A) where
       (sym (last-group old new commands e.0.items h is.sound))
       (runs-of old.group h.last.group commands e.0.items w (sound-kept old.group w sound s) is)
 
+  -- a sound group is sound after the commands that were played
   pub plays-sound : (old new : Clustered S) (commands : List (Command A))
       (result : Result (Vec (Reply A) A) (Vec (Reply A) A × NoMemory))
       → Plays g old commands result new → IsSound old.group → IsSound new.group

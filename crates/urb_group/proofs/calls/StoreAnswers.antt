@@ -89,6 +89,7 @@ module _ (group : GroupView) (p : ℕ) (w : World) (shows : Shows group w) where
 
 -- ---- why a store is not asked
 
+-- the state of a node says whether it holds a draft, or why a failed store of it is refused
 pub unstored-is : (group : GroupView) (p : ℕ) (result : Option State) → IsSound group
     → Answers (λ w. Some (state_of (w.node p).state)) group p result
     → IsUnstored group p (unstored_in result)
@@ -118,6 +119,7 @@ unstored-is group p result sound h =
       (λ w shows. fail-reply group p w shows (part.Down d) e f, refl),
     )
 
+-- the state of a node says whether it is down, or why a restart of it is refused
 pub unfallen-is : (group : GroupView) (p : ℕ) (result : Option State) → IsSound group
     → Answers (λ w. Some (state_of (w.node p).state)) group p result
     → IsUnfallen group p (unfallen_in result)
@@ -154,12 +156,18 @@ unfallen-is group p result sound h =
 
 -- if a draft is held, it is the draft of the state
 pub record IsHeldAs (group : GroupView) (p : ℕ) (draft : Placed) : Type 0 where
+  -- the group has such a node
   pub there : is_node group.size.n p ≡ true
+  -- the draft is this node's
   pub node : draft.node ≡ p
+  -- the packet that caused it, if there is one
   pub cause : Option Cause
+  -- the node holds the draft's record
   pub state : (view_of group p).state ≡ part.Storing draft.entry cause
+  -- the draft is for the next position
   pub position : draft.pos ≡ suc (view_of group p).count
 
+-- the draft that a node of the group holds is that of its state
 pub held-as : (group : GroupView) (p : ℕ) (draft : Placed) → held_draft group p ≡ Some draft
     → IsHeldAs group p draft
 held-as group p draft h = at (is_node group.size.n p) (view_of group p).state refl refl h

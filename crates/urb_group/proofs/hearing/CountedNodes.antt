@@ -21,7 +21,7 @@ acked-stays acks x q y z h =
     cond_both (acked acks x q) acks ((x, q) ∷ acks) (λ a. acked a y z ≡ true) (λ _. h)
     (λ _. or_right (same_name x y && (q == z)) (acked acks y z) h)
 
--- the node is counted
+-- a node is counted once its acknowledgement is added
 pub acked-itself : (acks : List (Label × ℕ)) (x : Label) (q : ℕ)
     → acked (with_ack acks x q) x q ≡ true
 acked-itself acks x q =

@@ -46,10 +46,14 @@ IsWhole doubtful = Unit {0}
 -- What a node has heard is true. While it is up, it counts itself for each pair. If it is alone, it
 -- holds no pair without its certificate.
 pub record NodeLive (n : ℕ) (images : ℕ → List Entry) (p : ℕ) (node : Node) : Type 0 where
+  -- each certificate that the node has heard is stored at the node that it is of
   pub heard : HeardTrue images node.heard
+  -- so is the certificate that came with the packet that caused its draft
   pub draft : DraftTrue images node.state
+  -- a node that is up has counted itself for each pair that it has stored
   pub counts : is_down node.state ≡ false → (x : Label) (m : Content)
       → has_pair (pend node.records) x m ≡ true → acked node.acks x p ≡ true
+  -- if the node is alone, it holds or doubts no pair without its certificate
   pub whole : n ≡ 1 → IsWhole (doubt node.state)
 
 abbrev pub LeadsLive : ℕ → (ℕ → List Entry) → ℕ → Reply × Node → Type 0
@@ -65,6 +69,7 @@ draft-grows old new g (Storing r None) h = tt
 draft-grows old new g (Storing r (Some cause)) h = λ e. g cause.source (name_of r) (h e)
 draft-grows old new g (Down doubtful) h = tt
 
+-- a live node stays live if nodes store more certificates
 pub live-grows : (n : ℕ) (old new : ℕ → List Entry) (p : ℕ) (node : Node)
     → ((q : ℕ) (x : Label) → has_name (cert (old q)) x ≡ true → has_name (cert (new q)) x ≡ true)
     → NodeLive n old p node → NodeLive n new p node
@@ -77,6 +82,7 @@ live-grows n old new p node g h =
       whole = h.whole;
     }
 
+-- a node that was just opened is live
 pub live-opened : (n : ℕ) (images : ℕ → List Entry) (p : ℕ) (records : List Entry)
     → NodeLive n images p (opened_node p records)
 live-opened n images p records =
@@ -91,6 +97,8 @@ live-opened n images p records =
 module _ (size : Limits) (images : ℕ → List Entry) (p : ℕ) where
   -- ---- a submit
 
+  -- a live node that is up stays live when it drafts a record, if the certificate that its cause
+  -- reports is stored
   pub live-drafts : (node : Node) (r : Entry) (cause : Option Cause) → NodeLive size.n images p node
       → is_down node.state ≡ false → CauseTrue images (name_of r) cause
       → (size.n ≡ 1 → IsWhole (Some r))
@@ -152,6 +160,8 @@ module _ (size : Limits) (images : ℕ → List Entry) (p : ℕ) where
     live-answers m (Some f) node h =
         cond_both f.heard _ _ (LeadsLive size.n images p) (λ _. h) (λ _. h)
 
+    -- a live node that is up stays live when a packet arrives, if the certificate that it reports
+    -- is stored
     pub live-arrives : (m : Content) (node : Node) → NodeLive size.n images p node
         → is_down node.state ≡ false → (size.n ≡ 1
         → majority_passes size.n (λ z. (z == p) || (z == q)) ≡ true)
@@ -227,6 +237,8 @@ module _ (size : Limits) (images : ℕ → List Entry) (p : ℕ) where
           h x m (subst (λ (ps : List (Label × Content)). has_pair ps x m ≡ true)
           (append-nil (pend records)) e)
 
+  -- a live node that is up stays live when its record is stored, if the certificate that its cause
+  -- reports is stored
   pub live-stored : (r : Entry) (cause : Option Cause) (node : Node) → NodeLive size.n images p node
       → is_down node.state ≡ false → CauseTrue images (name_of r) cause
       → NodeLive size.n images p (keeps_record p r cause node)
@@ -241,6 +253,7 @@ module _ (size : Limits) (images : ℕ → List Entry) (p : ℕ) where
 
   -- ---- a node that goes down, and comes up
 
+  -- a live node stays live when it goes down
   pub live-down : (node : Node) → NodeLive size.n images p node
       → NodeLive size.n images p (record node
       { state = Down (doubt node.state); acks = []; heard = [] })
@@ -252,6 +265,7 @@ module _ (size : Limits) (images : ℕ → List Entry) (p : ℕ) where
     whole = h.whole;
   }
 
+  -- a node that has just restarted is live
   pub live-up : (records : List Entry) (messages : List Content)
       → NodeLive size.n images p (record (opened_node p records) { broadcast = messages })
   live-up records messages =

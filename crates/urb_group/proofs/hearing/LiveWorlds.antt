@@ -21,7 +21,9 @@ use Rattle.urb_group.specs.Delivering.{event_node}
 
 -- each node of the world is live, and there is no node 0
 pub record WorldLive (w : World) : Type 0 where
+  -- each node is live
   pub nodes : (p : ℕ) → NodeLive w.size.n (stored w) p (w.node p)
+  -- no records belong to a node 0
   pub none : stored w 0 ≡ []
 
 -- ---- one step
@@ -105,6 +107,7 @@ module _ (w : World) (live : WorldLive w) where
                 (broadcast_after p r node.broadcast);
           }
 
+-- a live world is live after any event
 pub step-live : (w : World) (event : Event) → WorldLive w → WorldLive (step w event).1
 step-live w event live =
     let old = live-old w live event in
@@ -119,16 +122,19 @@ step-live w event live =
 
 -- ---- any run
 
+-- a live world is live after any run
 pub run-live : (w : World) (events : List Event) → WorldLive w → WorldLive (run w events).1
 unfolding run
 run-live w [] live = live
 run-live w (event ∷ events) live = run-live (step w event).1 events (step-live w event live)
 
+-- each world in which a run may begin is live
 pub start-live : (w : World) → IsStart w → WorldLive w
 start-live w (Of_new size) = record { nodes = λ p. live-opened size.n (λ q. []) p []; none = refl }
 start-live w (Of_images size images are fits) =
     record { nodes = λ p. live-opened size.n _ p _; none = refl }
 
+-- every world of a run is live
 pub reached-live : (w : World) → IsReached w → WorldLive w
 reached-live w r =
     subst (λ (v : List Reply × World). WorldLive v.1) r.ran

@@ -81,6 +81,8 @@ module _ (w : World) (kept : NodesKept w) (p : ℕ) (m : Content) (x : Label) wh
                 (has_pair-found (pend node.records) (name p (suc place)) first found),
           )
 
+  -- if a submit is accepted at once, its message was stored before, as the node's own and under
+  -- that name
   pub accepted-stored : (step w (Submit p m)).0 ≡ Same (Accepted x) → HasStored w p x m
   accepted-stored =
       step-cases (λ o. o.0 ≡ Same (Accepted x) → HasStored w p x m) w (Submit p m) (λ _ f. cc)
@@ -167,6 +169,7 @@ module _ (w : World) (p position : ℕ) (entry : Entry) (told : Done) where
           )).1 p entry d) g
           (pair-stored held cause e (ap (λ (d : Done). d.accepted) g ∙ a))
 
+  -- if a receipt accepts a message, the node has stored it as its own, under the name in the reply
   pub committed-stored : (step w (Commit p position entry)).0 ≡ Stored told → told.accepted ≡ true
       → StoresOwn (step w (Commit p position entry)).1 p entry told
   unfolding step

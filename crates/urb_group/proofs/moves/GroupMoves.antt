@@ -52,6 +52,7 @@ module _ {A : Type 0} {size : Limits} {places new : List (Place A)}
               leads,
         )
 
+    -- a submit or an arrival that moves the node in one place moves the group by the same event
     pub takes : (r : Result (Taken A) Refusal)
         → ((n : Node) → ShowsAt node n
         → Leads (outcome (memory_in node).limits (memory_in node).node n) node
@@ -94,30 +95,36 @@ module _ {A : Type 0} {size : Limits} {places new : List (Place A)}
 
   -- ---- the calls
 
+  -- a submit that moves the node in one place moves the group, which stays sound
   pub submit-moved : (m : Content) (result : Result (Taken A) Refusal)
       → SubmitsAt node m (moved, result)
       → Takes (shown size places) p (Submit p m) result (shown size new) × IsGroup size new
   submit-moved m =
       takes (Submit p m) (λ l q n. submits l q m n) (λ w s. step-outcome w (Submit p m) tt)
 
+  -- a failed store that moves the node in one place moves the group, which stays sound
   pub fail-moved : (result : Result (Unit {0}) Refusal) → FailsAt node (moved, result)
       → GoesDown (shown size places) p (Fail p) result (shown size new) × IsGroup size new
   fail-moved = goes_down (Fail p) fails_as (λ w s. step-outcome w (Fail p) tt)
 
+  -- a crash that moves the node in one place moves the group, which stays sound
   pub crash-moved : (result : Result (Unit {0}) Refusal) → CrashesAt node (moved, result)
       → GoesDown (shown size places) p (Crash p) result (shown size new) × IsGroup size new
   crash-moved = goes_down (Crash p) crashes_as (λ w s. step-outcome w (Crash p) tt)
 
+  -- a tick that moves the node in one place moves the group, which stays sound
   pub tick-moved : (result : Result (List Carried) Refusal) → TicksAt node (moved, result)
       → Ticks (shown size places) (Tick p) result (shown size new) × IsGroup size new
   tick-moved = ticks (Tick p) ticks_as (λ w s. step-outcome w (Tick p) tt)
 
+  -- a restart that moves the node in one place moves the group, which stays sound
   pub restart-moved : (image : List Entry) (result : Result (Unit {0}) Refusal)
       → RestartsAt node image (moved, result)
       → ComesUp (shown size places) p (Restart p image) result (shown size new) × IsGroup size new
   restart-moved image =
       comes_up (Restart p image) (restarts_as image) (λ w s. step-outcome w (Restart p image) tt)
 
+  -- a receipt that moves the node in one place moves the group, which stays sound
   pub commit-moved : (receipt : Placed) → receipt.node ≡ p
       → (result : Result Done (Placed × Refusal))
       → CommitsAt node receipt (moved, result)

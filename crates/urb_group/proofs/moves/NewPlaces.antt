@@ -19,6 +19,7 @@ abbrev pub first_places : {A : Type 0} → Limits → ℕ → List (Place A)
 first_places size zero = []
 first_places size (suc k) = first_places size k ++ place.Ready (new_memory size (suc k)) ∷ []
 
+-- one more element makes a list longer by one
 pub one_longer : {X : Type 0} (xs : List X) (y : X) → length (xs ++ y ∷ []) ≡ suc (length xs)
 one_longer [] y = refl
 one_longer (x ∷ xs) y = ap suc (one_longer xs y)
@@ -70,7 +71,7 @@ first-group A size =
       sound = sound-new (shown size (first_places {A = A} size size.n)) size (first-shows A size);
     }
 
--- one more of them
+-- the place of one more new node makes the places of the first n nodes those of n + 1
 pub next-places : (A : Type 0) (size : Limits) (n : ℕ) (places new : List (Place A)) (a : Memory)
     → places ≡ first_places size n → a ≡ new_memory size (suc n)
     → new ≡ places ++ place.Ready a ∷ [] → new ≡ first_places size (suc n)

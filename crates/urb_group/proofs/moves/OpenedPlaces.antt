@@ -28,18 +28,25 @@ use Rattle.urb_group.specs.declared.node_moves.Node.TheVariants as place
 -- a node in a place of the group shows the node that is opened from its image
 pub record IsOpened {A : Type 0} (size : Limits) (images : List (List Entry)) (i : ℕ)
     (node : Place A) : Type 0 where
+  -- it has the number of its place, and the group's limits
   pub numbered : IsNumbered size i node
+  -- it shows the node that is opened from its image
   pub shows : ShowsAt node (opened_node (suc i) (slice_index_or images i []))
 
 -- the nodes of the first images have their places
 pub record HasOpened {T A : Type 0} (items : T → List Entry) (size : Limits)
     (images yielded left : List T) (number : ℕ) (places : List (Place A)) : Type 0 where
+  -- the images are those that were opened and those that are left
   pub all : images ≡ yielded ++ left
+  -- the number counts those that were opened
   pub taken : number ≡ length yielded
+  -- there is a place for each image that was opened
   pub count : length places ≡ length yielded
+  -- the node in each place is opened from its image
   pub each : (i : ℕ) (node : Place A) → slice_get places i ≡ Some node
       → IsOpened size (map items images) i node
 
+-- before the first image is opened, there are no places
 pub none-opened : {T A : Type 0} (items : T → List Entry) (size : Limits) (images : List T)
     → HasOpened {A = A} items size images [] images 0 []
 none-opened items size images =
@@ -74,6 +81,7 @@ module _ {T A : Type 0} {items : T → List Entry} {size : Limits} {images yield
       (subst (λ (n : ℕ). suc n ≤ length (yielded ++ image ∷ left)) (sym h.taken)
       (behind-less yielded left image))
 
+  -- if all images fit together, the next one keeps the rules that concern its node alone
   pub next-keeps : AreImages size (map items images)
       → first_misfit size (image_of (map items images)) ≡ None
       → KeepsOwn size (suc number) [] (items image)
@@ -81,7 +89,7 @@ module _ {T A : Type 0} {items : T → List Entry} {size : Limits} {images yield
       subst (λ (records : List Entry). KeepsOwn size (suc number) [] records) next-image
       (opened-own size (map items images) are none (suc number))
 
-  -- one more node
+  -- once the next node is opened from its image, one more image has its place
   pub more-opened : {new : List (Place A)} {a : Memory} → a.limits ≡ size → a.node ≡ suc number
       → ShowsReady a (opened_node (suc number) (items image)) → new ≡ places ++ place.Ready a ∷ []
       → HasOpened items size images (yielded ++ image ∷ []) left (suc number) new
@@ -147,6 +155,7 @@ module _ {T A : Type 0} {items : T → List Entry} {size : Limits} {images yield
           (opened_node (suc i) (slice_index_or (map items images) i [])))
           one.numbered.number one.shows))
 
+  -- once all images are opened that fit together, the nodes in their places are a sound group
   pub all-group : AreImages size (map items images)
       → first_misfit size (image_of (map items images)) ≡ None → IsGroup size places
   all-group are none =
@@ -160,6 +169,8 @@ module _ {T A : Type 0} {items : T → List Entry} {size : Limits} {images yield
             (no_misfit-fits size (image_of (map items images)) none) all-show;
       }
 
+  -- once all images are opened that fit together, the group shows the world that is opened from
+  -- them
   pub all-opens : first_misfit size (image_of (map items images)) ≡ None
       → Opens size (map items images) (Ok (shown size places))
   all-opens none = (no_misfit-fits size (image_of (map items images)) none, all-show)

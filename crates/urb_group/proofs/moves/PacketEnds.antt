@@ -6,12 +6,14 @@ use Rattle.urb_names.specs.Nodes.{is_node}
 use Rattle.urb_group.specs.internal.Reaching.{AreEnds, is_for_node}
 use Rattle.urb_group.proofs.shown.ShownWorlds.{is-node, no-node}
 
+-- a packet with another target is not for the node
 pub not_target : (n p : ℕ) (packet : Carried) → (packet.target == p) ≡ false
     → is_for_node n p packet ≡ false
 not_target n p packet h =
     ap (λ b. b && is_node n p) (and_right (is_node n packet.source && is_node n packet.name.sender)
     (packet.target == p) h)
 
+-- a packet whose sender's number is above n is for none of n nodes
 pub not_sender : (n p : ℕ) (packet : Carried) → n < packet.name.sender
     → is_for_node n p packet ≡ false
 not_sender n p packet h =
@@ -19,11 +21,13 @@ not_sender n p packet h =
     (and_right (is_node n packet.source) (is_node n packet.name.sender)
     (no-node n packet.name.sender h))
 
+-- a packet whose source's number is above n is for none of n nodes
 pub not_source : (n p : ℕ) (packet : Carried) → n < packet.source → is_for_node n p packet ≡ false
 not_source n p packet h =
     ap (λ b. ((b && is_node n packet.name.sender) && (packet.target == p)) && is_node n p)
     (no-node n packet.source h)
 
+-- no packet is for a number above n
 pub not_node : (n p : ℕ) (packet : Carried) → n < p → is_for_node n p packet ≡ false
 not_node n p packet h =
     and_right ((is_node n packet.source && is_node n packet.name.sender) && (packet.target == p))
@@ -33,6 +37,8 @@ not_node n p packet h =
 is_one : (n p i : ℕ) → (i < n) × (p ≡ suc i) → is_node n p ≡ true
 is_one n p i h = subst (λ (k : ℕ). is_node n k ≡ true) (sym h.1) (is-node n i h.0)
 
+-- if the sender, the source and the target have places, the packet is for the target, from the
+-- source's place
 pub ends_are : (n p : ℕ) (packet : Carried) (sender source at : ℕ) → packet.target ≡ p
     → (sender < n) × (packet.name.sender ≡ suc sender) → (source < n) × (packet.source ≡ suc source)
     → (at < n) × (p ≡ suc at)

@@ -42,6 +42,8 @@ use Rattle.urb_group.proofs.steps.ConfirmedPackets.{borne-pair}
 same_some : (m o : Content) → Some m ≡ Some o → m ≡ o
 same_some m o e = cc
 
+-- a node that has a message under the packet's name holds the packet's pair exactly if the messages
+-- are equal
 pub some_pair : {A : Type 0} (node : Place A) (packet : Carried) (m : Content) (result : Bool)
     → FindsMessage (ShowsAt node) packet.name (Some m)
     → MatchBool result (m ≡ packet.message) (¬ (m ≡ packet.message))
@@ -64,6 +66,7 @@ some_pair node packet m result finds same n s =
         (finds n s ∙ own-unique (memory_in node).limits
         (memory_in node).node n.records s.rules packet.name packet.message e)))
 
+-- a node that has no message under the packet's name doesn't hold the packet's pair
 pub no_pair_held : {A : Type 0} (node : Place A) (packet : Carried)
     → FindsMessage (ShowsAt node) packet.name None → HoldsPair node packet false
 no_pair_held node packet finds n s = at (has_pair (pend n.records) packet.name packet.message) refl
@@ -94,6 +97,7 @@ no_truth node packet pair n s =
 
 -- ---- refused before it reaches the node
 
+-- bytes that are no packet are refused with the fault that they have
 pub arrive-fault : (group : GroupView) (p : ℕ) (bytes : Result Carried PacketFault)
     (fault : PacketFault) → Err fault ≡ bytes
     → IsRefused group (Arrive p bytes) (refusal.Packet fault) group
@@ -114,6 +118,7 @@ elsewhere true true x w e = absurd cc
 elsewhere true false x w e = refl
 elsewhere false b x w e = refl
 
+-- a packet that is not for the node is refused as BadNode
 pub arrive-elsewhere : {A : Type 0} (size : Limits) (places : List (Place A)) (p : ℕ)
     (bytes : Result Carried PacketFault) (packet : Carried) → Ok packet ≡ bytes
     → is_for_node size.n p packet ≡ false
@@ -187,6 +192,7 @@ module _ {A : Type 0} {size : Limits} {places : List (Place A)} (group : IsGroup
                 (suc i) view.pairs packet.name packet.message) v meets));
           }
 
+  -- a packet that moves its target's place moves the group, which stays sound
   pub arrive-moved : {new : List (Place A)} {node : Place A} (moved : Place A)
       (bytes : Result Carried PacketFault) → Ok packet ≡ bytes → slice_get places i ≡ Some node
       → new ≡ set places i moved → (result : Result (Taken A) Refusal)

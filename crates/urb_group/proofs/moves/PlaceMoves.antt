@@ -50,6 +50,7 @@ step-leads A outcome a (Ok (step.Store storing draft)) h =
     (record { told = h.0; shows = h.1; same = h.2 }, h.3)
 step-leads A outcome a (Err e) h = ((h.0, ap place.Ready h.1), tt)
 
+-- a ready node in its place takes a submit as the definition says
 pub submit_at : {A : Type 0} (node : Place A) (a : Memory) (m : Content)
     (r : Result (Step A) (Memory × Refusal)) → node ≡ place.Ready a → Submits a m r
     → SubmitsAt node m (after_step r)
@@ -67,6 +68,7 @@ ready-arrives packet b size p node e t =
     ∙ (cond-false (is_storing node.state) _ _ (ap is_storing (sym e))
     ∙ cond-false (not b) _ _ (ap not t))
 
+-- a ready node in its place takes a truthful packet as the definition says
 pub arrive_at : {A : Type 0} (node : Place A) (a : Memory) (packet : Carried) (b : Bool)
     (r : Result (Step A) (Memory × Refusal)) → node ≡ place.Ready a → b ≡ true
     → Arrives a packet.source packet.name packet.message packet.flags r
@@ -116,6 +118,7 @@ abbrev pub after_confirm : {A : Type 0} → Result (Memory × Done) (Holding × 
 after_confirm (Ok r) = (place.Ready r.0, Ok r.1)
 after_confirm (Err e) = (place.Storing e.0, Err (e.1, refusal.Stale))
 
+-- a node that holds a draft takes a receipt in its place as the definition says
 pub confirm_at : (A : Type 0) (node : Place A) (h : Holding) (receipt : Placed)
     (r : Result (Memory × Done) (Holding × Placed)) → node ≡ place.Storing h → Confirms h receipt r
     → CommitsAt node receipt (after_confirm {A = A} r)
@@ -129,18 +132,21 @@ confirm_at A node h receipt r e c =
 
 -- ---- failures, crashes, ticks
 
+-- a node that holds a draft goes down in its place when its store fails, as the definition says
 pub fail_at : (A : Type 0) (node : Place A) (h : Holding) (f : Fallen) → node ≡ place.Storing h
     → Fails h f → FailsAt node (place.Down f, Ok tt)
 fail_at A node h f e c =
     subst (λ (p : Place A). FailsAt p (at_down A f, Ok tt)) (sym e)
     (λ n s. record { told = (c.1 n s).0; shows = (c.1 n s).1; same = c.0 })
 
+-- a ready node goes down in its place when it crashes, as the definition says
 pub crash_ready_at : (A : Type 0) (node : Place A) (a : Memory) (f : Fallen) → node ≡ place.Ready a
     → Crashes (ShowsReady a) a f → CrashesAt node (place.Down f, Ok tt)
 crash_ready_at A node a f e c =
     subst (λ (p : Place A). CrashesAt p (at_down A f, Ok tt)) (sym e)
     (λ n s. record { told = (c.1 n s).0; shows = (c.1 n s).1; same = c.0 })
 
+-- a node that holds a draft goes down in its place when it crashes, as the definition says
 pub crash_storing_at : (A : Type 0) (node : Place A) (h : Holding) (f : Fallen)
     → node ≡ place.Storing h → Crashes (ShowsStoring h) h.memory f
     → CrashesAt node (place.Down f, Ok tt)
@@ -154,6 +160,7 @@ abbrev pub after_tick : {A : Type 0} → Memory × Result (List Carried) NoMemor
 after_tick (a, Ok packets) = (place.Ready a, Ok packets)
 after_tick (a, Err e) = (place.Ready a, Err refusal.NoMemory)
 
+-- a ready node in its place ticks as the definition says
 pub tick_at : (A : Type 0) (node : Place A) (a : Memory)
     (r : Memory × Result (List Carried) NoMemory) → node ≡ place.Ready a → Ticks a r
     → TicksAt node (after_tick {A = A} r)
@@ -177,6 +184,7 @@ abbrev pub after_restart : {A : Type 0} → Result Memory (Fallen × Refusal)
 after_restart (Ok a) = (place.Ready a, Ok tt)
 after_restart (Err e) = (place.Down e.0, Err e.1)
 
+-- a node that is down restarts in its place as the definition says
 pub restart_at : (A : Type 0) (node : Place A) (f : Fallen) (image : List Entry)
     (r : Result Memory (Fallen × Refusal)) → node ≡ place.Down f → Restarts f image r
     → RestartsAt node image (after_restart {A = A} r)

@@ -45,6 +45,7 @@ count-all test first count h =
         (filter test (numbers_from (suc first) count)) (h first (omega arith) (omega arith)))
         ∙ ap suc (passes (suc first) count (λ q l u. h q (omega arith) (omega arith)))
 
+-- a test that every node passes holds for a majority
 pub all-majority : (n : ℕ) (test : ℕ → Bool) → 0 < n
     → ((q : ℕ) → is_node n q ≡ true → test q ≡ true) → majority_passes n test ≡ true
 all-majority n test l h =
@@ -179,9 +180,12 @@ module _ (v : World) (calm : Calm v) (free : IsNotStranded v) where
 
 -- ---- any world of a run
 
+-- every world of a run is sound
 pub reached-sound : (w : World) → IsReached w → Sound w
 reached-sound w r = record { kept = (reached-keeps w r).0; live = reached-live w r }
 
+-- from every world of a run that isn't stranded, the recovery delivers every stored message at
+-- every node
 pub can-deliver : (w : World) → IsReached w → IsNotStranded w → CanDeliver w
 can-deliver w r free keeps_doubtful =
     record {

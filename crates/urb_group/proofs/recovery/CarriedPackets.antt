@@ -34,11 +34,16 @@ use Rattle.urb_stable.specs.Entries.{Entry}
 
 -- from one world to the other node q becomes this one; the others stay, and more may be sent
 pub record Moved (w : World) (q : ℕ) (node : Node) (v : World) : Type 0 where
+  -- the limits stay
   pub size : v.size ≡ w.size
+  -- node q is this one now
   pub here : v.node q ≡ node
+  -- each other node stays
   pub there : (p : ℕ) → (p == q) ≡ false → v.node p ≡ w.node p
+  -- each packet that was sent stays among those sent
   pub sent : Begins w.sent v.sent
 
+-- the outcome of an event at a node changes that node alone
 pub moved-after : (w : World) (q : ℕ) (outcome : Reply × Node)
     → Moved w q outcome.1 (world_after w q outcome).1
 moved-after w q outcome =
@@ -50,6 +55,7 @@ moved-after w q outcome =
       sent = (packets_in outcome.0, refl);
     }
 
+-- one move of a node after another is a move
 pub moved-twice : (u v w : World) (q : ℕ) (a b : Node) → Moved u q a v → Moved v q b w
     → Moved u q b w
 moved-twice u v w q a b h k =
@@ -117,15 +123,22 @@ stores-reaches u q node (Storing entry cause) e f up is =
 -- a packet that may be carried: it was sent and is truthful, goes between nodes, and has a node's
 -- name
 pub record Carriable (w : World) (packet : Carried) : Type 0 where
+  -- its source is a node of the group
   pub source : is_node w.size.n packet.source ≡ true
+  -- its target is a node of the group
   pub target : is_node w.size.n packet.target ≡ true
+  -- its name's sender is a node of the group
   pub sender : is_node w.size.n packet.name.sender ≡ true
+  -- it is truthful
   pub truth : truthful w packet ≡ true
+  -- it was sent
   pub sent : WasSent w packet
 
 -- its target knows its name, and has counted its source or certified the name
 pub record IsToldBy (packet : Carried) (v : World) : Type 0 where
+  -- the target knows the packet's name
   pub known : knows (stored v packet.target) packet.name ≡ true
+  -- the target has counted the packet's source, or certified the name
   pub counted : CountsAt v packet.target packet.name packet.source
 
 module _ (w : World) (calm : Calm w) (packet : Carried) (may : Carriable w packet) where
@@ -135,6 +148,7 @@ module _ (w : World) (calm : Calm w) (packet : Carried) (may : Carriable w packe
   abbrev outcome : Reply × Node
   outcome = arrives w.size q packet.source packet.name packet.message packet.flags (w.node q)
 
+  -- a packet that may be carried has its outcome at its target, for it isn't refused
   pub arrive-is : step w (Arrive q (Ok packet)) ≡ world_after w q outcome
   unfolding step
   arrive-is =
@@ -241,11 +255,14 @@ module _ (w : World) (calm : Calm w) (packet : Carried) (may : Carriable w packe
             packet.source) (sym here) took.settles.told);
       }
 
+  -- a packet can be carried: its target then knows the name, and has counted the source or
+  -- certified the name
   pub carries-reaches : Reaches (λ u. Calm u × Onward w u × IsToldBy packet u) w (carries packet w)
   carries-reaches = record { goes = moves.goes; leads = (calm-after, onward, told) }
 
 -- ---- many packets
 
+-- a packet that may be carried may be carried later too
 pub carriable-stays : (packet : Carried) (v w : World) → Onward v w → Carriable v packet
     → Carriable w packet
 carriable-stays packet v w o h =

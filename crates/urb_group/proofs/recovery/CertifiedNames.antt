@@ -54,6 +54,7 @@ module _ (z : World) (sound : Sound z) (q s : ℕ) where
   abbrev messages : List Content
   messages = (z.node s).broadcast
 
+  -- node q's log has the sender's first messages, in FIFO order
   pub in_order : IsInOrder z q s
   in_order = (safe z sound.kept.nodes).in_order q s
 
@@ -121,11 +122,15 @@ module _ (z : World) (sound : Sound z) (q s : ℕ) where
 
 -- each node is ready, and what a node knows is certified at each
 pub record AllCertified (w : World) : Type 0 where
+  -- the world is sound
   pub sound : Sound w
+  -- each node is ready
   pub ready : (p : ℕ) → is_node w.size.n p ≡ true → (w.node p).state ≡ Ready
+  -- each node has certified each name that some node knows
   pub certified : (p q : ℕ) → is_node w.size.n p ≡ true → is_node w.size.n q ≡ true → (x : Label)
       → knows (stored w p) x ≡ true → has_name (cert (stored w q)) x ≡ true
 
+-- if all nodes have certified all names that nodes know, everything is delivered
 pub certified-delivered : (z : World) → AllCertified z → AllDelivered z
 certified-delivered z c q is =
     record {

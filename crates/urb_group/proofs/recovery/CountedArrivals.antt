@@ -38,16 +38,23 @@ knows records x = is_some (message_of (pend records) x)
 -- nodes that it has counted are no majority yet.
 pub record Counts (n : ℕ) (records : List Entry) (acks : List (Label × ℕ)) (x : Label)
     (z : ℕ) : Type 0 where
+  -- unless the name is certified, the node is counted for it
   pub counted : has_name (cert records) x ≡ false → acked acks x z ≡ true
+  -- unless the name is certified, the counted nodes are no majority
   pub few : has_name (cert records) x ≡ false → majority_passes n (acked acks x) ≡ false
 
 -- a node with these records and acknowledgements took a packet of the name from p
 pub record Settles (n : ℕ) (x : Label) (p : ℕ) (records : List Entry) (acks : List (Label × ℕ))
     (new : Node) : Type 0 where
+  -- the node is ready
   pub ready : new.state ≡ Ready
+  -- it knows the name
   pub known : knows new.records x ≡ true
+  -- it has counted p for the name, or certified the name
   pub told : Counts n new.records new.acks x p
+  -- each node that was counted for a name still is, or the name is certified
   pub others : (y : Label) (z : ℕ) → Counts n records acks y z → Counts n new.records new.acks y z
+  -- it knows no other name than before
   pub only : (y : Label) → knows new.records y ≡ true → (knows records y ≡ true) ⊎ (x ≡ y)
 
 -- ---- records that grow
@@ -66,6 +73,7 @@ module _ (records : List Entry) (r : Entry) where
       subst (λ (xs : List Label). has_name xs x ≡ true) (sym (cert-append records (r ∷ [])))
       (any_right _ (cert records) (cert (r ∷ [])) h)
 
+-- a name is in the list that has only this name
 pub certifies-itself : (x : Label) → has_name (x ∷ []) x ≡ true
 certifies-itself x = or_left (same_name x x) false (same_name-same x)
 
@@ -73,6 +81,7 @@ known-joined : (ps : List (Label × Content)) (x : Label) (m : Content) → mess
     → is_some (message_of (ps ++ (x, m) ∷ []) x) ≡ true
 known-joined ps x m e = ap is_some (message_of-new ps x m e)
 
+-- a name that has a pair once a pair is added had one before, or is the added pair's
 pub only-joined : (ps : List (Label × Content)) (x y : Label) (m : Content)
     → is_some (message_of (ps ++ (x, m) ∷ []) y) ≡ true
     → (is_some (message_of ps y) ≡ true) ⊎ (x ≡ y)
@@ -118,6 +127,7 @@ settles n x p records acks new ready known told certified more new_acks only =
                 (sym other ∙ subst (λ (v : Label). same_name x v ≡ true) k (same_name-same x))))
                 (new_acks y q h)
 
+-- a certified name needs no more counting
 pub certified-counts : (n : ℕ) (records : List Entry) (acks : List (Label × ℕ)) (x : Label) (z : ℕ)
     → has_name (cert records) x ≡ true → Counts n records acks x z
 certified-counts n records acks x z h =
@@ -137,8 +147,11 @@ settled q node (Down doubtful) = node
 
 pub record Took (n : ℕ) (q : ℕ) (x : Label) (p : ℕ) (records : List Entry) (acks : List (Label × ℕ))
     (outcome : Reply × Node) : Type 0 where
+  -- the packet isn't refused
   pub done : IsDone outcome.0
+  -- the node stays up
   pub up : is_down outcome.1.state ≡ false
+  -- once the record that it may draft is stored, it has taken the packet
   pub settles : Settles n x p records acks (settled q outcome.1 outcome.1.state)
 
 module _ (size : Limits) (q p : ℕ) (x : Label) (m : Content) (flags : Option Flags) where
@@ -168,6 +181,7 @@ module _ (size : Limits) (q p : ℕ) (x : Label) (m : Content) (flags : Option F
         → (acked node.acks y z ≡ true) ⊎ (x ≡ y)
     counted-only y z h = ⊎_elim (λ e. inl e) (λ e. inr e.0) (counted-cases y z h)
 
+    -- if p and q are no majority, the nodes that are counted for a new name are no majority
     pub few : majority_passes size.n (λ z. (z == q) || (z == p)) ≡ false
         → has_name (cert node.records) x ≡ false → majority_passes size.n (acked counted x) ≡ false
     few none e =
@@ -183,6 +197,7 @@ module _ (size : Limits) (q p : ℕ) (x : Label) (m : Content) (flags : Option F
             unknown : (o : Content) → message_of (pend node.records) x ≡ Some o → ⊥
             unknown o f = let g : None ≡ Some o = sym new ∙ f in cc
 
+    -- a node that stores the pair, and counts itself and the source, has taken the packet
     pub pair_settles : (r : Entry) (heard : List (Label × ℕ)) (broadcast : List Content)
         → pend (r ∷ []) ≡ (x, m) ∷ []
         → (has_name (cert (node.records ++ r ∷ [])) x ≡ false

@@ -62,6 +62,7 @@ step-free w event live free one =
           joined = λ image r e f. whole-joined node.records r (whole (Down (Some r)) f) h;
         }
 
+-- a live world that isn't stranded isn't stranded after any events
 pub run-free : (w : World) (events : List Event) → WorldLive w → IsNotStranded w
     → IsNotStranded (run w events).1
 unfolding run
@@ -69,12 +70,14 @@ run-free w [] live free = free
 run-free w (event ∷ events) live free =
     run-free (step w event).1 events (step-live w event live) (step-free w event live free)
 
+-- if a world of a run isn't stranded, no later world of the run is
 pub stays-free : (old new : World) (events : List Event) (replies : List Reply) → IsReached old
     → IsNotStranded old → Run old events replies new → IsNotStranded new
 stays-free old new events replies r free ran =
     subst (λ (v : List Reply × World). IsNotStranded v.1) ran
     (run-free old events (reached-live old r) free)
 
+-- no run of a new group leads to a stranded world
 pub new-free : (size : Limits) (events : List Event) (replies : List Reply) (w : World)
     → Run (started size) events replies w → IsNotStranded w
 new-free size events replies w ran =

@@ -24,6 +24,7 @@ use Rattle.urb_stable.specs.Records.{cert}
 
 -- ---- nodes
 
+-- each number of a range is in the list of the range's numbers
 pub in-numbers : (first count q : ℕ) → first ≤ q → q < first + count
     → IsIn q (numbers_from first count)
 in-numbers first zero q l u = absurd (omega arith)
@@ -39,22 +40,26 @@ numbers-in first (suc count) q h =
     (λ k. let l = numbers-in (suc first) count q k in (omega (arith, l.0), omega (arith, l.1)))
     h
 
+-- each node of the group is in the list of nodes
 pub in-nodes : (n q : ℕ) → is_node n q ≡ true → IsIn q (nodes n)
 in-nodes n q h =
     let parts = and_parts (nat_lt 0 q) (nat_lt q (suc n)) h in
     in-numbers 1 n q (ltb-true 0 q parts.0) (let l = ltb-true q (suc n) parts.1 in omega (arith, l))
 
+-- each number in the list of nodes is a node of the group
 pub nodes-in : (n q : ℕ) → IsIn q (nodes n) → is_node n q ≡ true
 nodes-in n q h =
     let l = numbers-in 1 n q h in
     and_from (nat_lt 0 q) _ (lt-ltb 0 q l.0) (lt-ltb q (suc n) (omega (arith, l.1)))
 
+-- each node other than p is in the list of the others
 pub in-others : (n p q : ℕ) → is_node n q ≡ true → (q == p) ≡ false → IsIn q (others n p)
 in-others n p q is other =
     in-filter (λ i. not (i == p)) q (nodes n) (ap not other) (in-nodes n q is)
 
 -- ---- the packets of a tick go to nodes
 
+-- an element of a filtered list is an element of the list
 pub filtered-in : {A : Type 0} (test : A → Bool) (x : A) (xs : List A) → IsIn x (filter test xs)
     → IsIn x xs
 filtered-in test x [] h = h
@@ -73,6 +78,7 @@ packets-to_nodes n p flags pair [] h = tt
 packets-to_nodes n p flags pair (q ∷ targets) h =
     (h q (inl refl), packets-to_nodes n p flags pair targets (λ i k. h i (inr k)))
 
+-- packets that a tick resends go to nodes of the group
 pub resent-to_nodes : (n p : ℕ) (node : Node) (pairs : List (Label × Content))
     → AllByRecursion (ToNode n) (resent_packets n p node pairs)
 resent-to_nodes n p node [] = tt
@@ -113,6 +119,7 @@ packet-in w p q x m other unheard there pairs h =
 
 -- ---- a name's sender is a node
 
+-- the sender of a name that a node knows is a node of the group
 pub sender-node : (w : World) → Sound w → (p : ℕ) (x : Label) → knows (stored w p) x ≡ true
     → is_node w.size.n x.sender ≡ true
 sender-node w sound p x h =

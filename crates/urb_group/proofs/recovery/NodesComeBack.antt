@@ -73,6 +73,7 @@ Whole records =
     (x : Label) (m : Content) → has_pair (pend records) x m ≡ true
     → has_name (cert records) x ≡ true
 
+-- pairs that are all certified stay so with one more record, if it certifies its own pair
 pub whole-joined : (records : List Entry) (r : Entry) → IsWhole (Some r) → Whole records
     → Whole (records ++ r ∷ [])
 whole-joined records r w h x m k =
@@ -96,8 +97,11 @@ whole-joined records r w h x m k =
 -- The event is done, and the node is ready after it. If each stored pair was certified before, and
 -- the held or doubtful record certifies its pair too, each stored pair is certified after it.
 pub record Up (old : Node) (outcome : Reply × Node) : Type 0 where
+  -- the event isn't refused
   pub done : IsDone outcome.0
+  -- the node is ready
   pub ready : outcome.1.state ≡ Ready
+  -- if the held or doubtful record certifies its pair, then each stored pair stays certified
   pub whole : IsWhole (doubt old.state) → Whole old.records → Whole outcome.1.records
 
 restart-up : (keeps_doubtful : Bool) (p : ℕ) (node : Node) (d : Option Entry) → node.state ≡ Down d
@@ -131,8 +135,11 @@ restart-up keeps_doubtful p node (Some r) e =
 -- ---- the world goes back to work
 
 pub record Back (w v : World) : Type 0 where
+  -- the limits stay
   pub size : v.size ≡ w.size
+  -- a node that is ready stays ready
   pub ready : (p : ℕ) → (w.node p).state ≡ Ready → (v.node p).state ≡ Ready
+  -- a group that isn't stranded doesn't become so
   pub whole : IsNotStranded w → IsNotStranded v
 
 back-still : (w : World) → Sound w → Back w w
@@ -219,6 +226,7 @@ module _ (keeps_doubtful : ℕ → Bool) where
         after = λ p v w b h. b.ready p h;
       }
 
+  -- all nodes can come back: then each is ready, and a group that wasn't stranded isn't
   pub all-back : (w : World) → Sound w
       → Reaches (λ v. Calm v × (v.size ≡ w.size) × (IsNotStranded w → IsNotStranded v)) w
       (all_back keeps_doubtful w)

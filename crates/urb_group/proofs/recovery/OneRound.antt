@@ -42,6 +42,7 @@ use Rattle.urb_group.proofs.recovery.NodeLists.{sender-node}
 -- ---- the ticks
 
 module _ (w : World) (calm : Calm w) (p : ℕ) (is : is_node w.size.n p ≡ true) (count : ℕ) where
+  -- p can tick this often, and it sends its due pairs in their turn
   pub ticks : Ticks p count (w.node p) w
   ticks = ticks-go p count (w.node p) w refl (calm.ready p is) is
 
@@ -64,6 +65,7 @@ module _ (w : World) (calm : Calm w) (p : ℕ) (is : is_node w.size.n p ≡ true
       moved-each w p (record (w.node p) { cursor = cursor_after count (w.node p).cursor due })
       v ticks.moved
 
+  -- the world after the ticks goes on from the world before
   pub onward-ticks : Onward w v
   onward-ticks =
       record {
@@ -82,6 +84,7 @@ module _ (w : World) (calm : Calm w) (p : ℕ) (is : is_node w.size.n p ≡ true
             (λ i h. known-sender w calm.sound i x h) q;
       }
 
+  -- all nodes are ready after the ticks
   pub calm-ticks : Calm v
   calm-ticks =
       record {
@@ -98,6 +101,7 @@ module _ (w : World) (calm : Calm w) (p : ℕ) (is : is_node w.size.n p ≡ true
       (in_due (pend (stored w p)) w.size.n p (w.node p).heard (rising (pend (stored w p)))
       (in_rising (pend (stored w p)) (pend (stored w p)) (in_itself (pend (stored w p)))))
 
+  -- each packet of the ticks may be carried
   pub may-carry : AllByRecursion (Carriable v) packets
   may-carry = all-in (Carriable v) packets one
     where
@@ -191,13 +195,17 @@ count_of w p = length (pend (stored w p))
 module _ (K : ℕ → Label → Type 0) where
   -- p is a node, and knows its names
   pub record KnowsNames (p : ℕ) (w : World) : Type 0 where
+    -- p is a node of the group
     pub node : is_node w.size.n p ≡ true
+    -- p knows each of its names
     pub names : (x : Label) → K p x → knows (stored w p) x ≡ true
 
   -- every node knows them, and every other node has counted p for each name or certified it
   pub record HasTold (p : ℕ) (v : World) : Type 0 where
+    -- every node knows each of p's names
     pub known : (q : ℕ) → is_node v.size.n q ≡ true → (x : Label) → K p x
         → knows (stored v q) x ≡ true
+    -- every other node has counted p for each of these names, or certified the name
     pub counted : (q : ℕ) → is_node v.size.n q ≡ true → (q == p) ≡ false → (x : Label) → K p x
         → CountsAt v q x p
 

@@ -34,6 +34,7 @@ Pairs = List (Label × Content)
 
 -- ---- rising names are no more than the list that has all of them
 
+-- if all elements of a list pass a test, each element passes it
 pub in-list_all : {A : Type 0} (test : A → Bool) (x : A) (xs : List A) → list_all test xs ≡ true
     → IsIn x xs → test x ≡ true
 in-list_all test x [] h k = absurd k
@@ -41,6 +42,7 @@ in-list_all test x (y ∷ xs) h k =
     let parts = and_parts (test y) (list_all test xs) h in
     ⊎_elim (λ e. sym (ap test e) ∙ parts.0) (λ e. in-list_all test x xs parts.1 e) k
 
+-- a name that is in a list stays in it if another name is taken out
 pub in-without : (x y : Label) (us vs : List Label) → (y ≡ x → ⊥) → IsIn x (us ++ y ∷ vs)
     → IsIn x (us ++ vs)
 in-without x y [] vs differs h = ⊎_elim (λ e. absurd (differs e)) (λ k. k) h
@@ -118,6 +120,7 @@ numbered size images p rs h =
 
 -- ---- how many are taken
 
+-- there are as many names as their numbers
 pub length-names : (s first count : ℕ) → length (map (name s) (numbers_from first count)) ≡ count
 length-names s first zero = refl
 length-names s first (suc count) = ap suc (length-names s (suc first) count)
@@ -172,6 +175,7 @@ module _ (w : World) (sound : Sound w) where
           known-in d.0 (known d.0 (knows-pair rs d.0 d.1
           (sym (has_pair-rising (pend rs) d.0 d.1) ∙ in-has d (rising (pend rs)) h)))
 
+  -- a node has at most as many names pending as the storages of all nodes took messages
   pub pending-taken : (p : ℕ) → length (pend (stored w p)) ≤ taken w
   pending-taken p =
       names-taken w.size (stored w) p (stored w p) (sound.kept.nodes p).kept

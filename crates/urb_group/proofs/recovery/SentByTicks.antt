@@ -34,12 +34,16 @@ tick_events p k = replicate k (Tick p)
 
 -- k ticks of p, which is this node in the world
 pub record Ticks (p k : ℕ) (node : Node) (w : World) : Type 0 where
+  -- the ticks succeed
   pub goes : Goes w (tick_events p k)
+  -- they send the due pairs in their turn
   pub packets : packets_of w (tick_events p k) ≡ resent_packets w.size.n p node
       (turns k node.cursor (due_pairs w.size.n p node))
+  -- only the node's cursor moves
   pub moved : Moved w p (record node
       { cursor = cursor_after k node.cursor (due_pairs w.size.n p node) })
       (after w (tick_events p k))
+  -- their packets are added to those that were sent
   pub sent : (after w (tick_events p k)).sent ≡ w.sent ++ packets_of w (tick_events p k)
 
 tick-is : (w : World) (p : ℕ) (node : Node) → w.node p ≡ node → node.state ≡ Ready
@@ -52,6 +56,7 @@ tick-is w p node e ready is =
     ∙ (cond-false (is_down node.state) _ _ (ap is_down ready)
     ∙ cond-false (is_storing node.state) _ _ (ap is_storing ready)))
 
+-- a ready node can tick k times, and sends the pairs that are due in their turn
 pub ticks-go : (p k : ℕ) (node : Node) (w : World) → w.node p ≡ node → node.state ≡ Ready
     → is_node w.size.n p ≡ true → Ticks p k node w
 unfolding run

@@ -260,6 +260,8 @@ run-stuck x w [] stuck h = stuck
 run-stuck x w (event ∷ events) stuck h =
     run-stuck x (step w event).1 events (step-stuck x w stuck event h.0) h.1
 
+-- a node that is alone never certifies a pair that its image has without a certificate, if no
+-- forged packet comes
 pub stays-stranded : (size : Limits) (images : List (List Entry)) → AreImages size images
     → Fits size (image_of images) → size.n ≡ 1 → (x : Label) (m : Content)
     → has_pair (pend (image_of images 1)) x m ≡ true

@@ -26,15 +26,20 @@ use Rattle.urb_stable.specs.Records.{pend}
 
 -- what every world of a run keeps
 pub record Sound (w : World) : Type 0 where
+  -- the world keeps the rules and the limit on payloads
   pub kept : IsKept w
+  -- each node of the world is live
   pub live : WorldLive w
 
+-- a sound world is sound after any events
 pub run-sound : (w : World) (events : List Event) → Sound w → Sound (after w events)
 run-sound w events s = record { kept = run-kept w events s.kept; live = run-live w events s.live }
 
 -- such a world, all of whose nodes are ready
 pub record Calm (w : World) : Type 0 where
+  -- the world is sound
   pub sound : Sound w
+  -- each node is ready
   pub ready : (p : ℕ) → is_node w.size.n p ≡ true → (w.node p).state ≡ Ready
 
 -- node p has counted z for the name, or has certified it
@@ -43,10 +48,15 @@ CountsAt w p x z = Counts w.size.n (w.node p).records (w.node p).acks x z
 
 -- The second world goes on from the first: more is stored, counted and sent, and no name is new.
 pub record Onward (w v : World) : Type 0 where
+  -- the limits stay
   pub size : v.size ≡ w.size
+  -- each node's records only grow at their end
   pub records : (p : ℕ) → Begins (stored w p) (stored v p)
+  -- each node that was counted for a name still is, or the name is certified
   pub counts : (p : ℕ) (x : Label) (z : ℕ) → CountsAt w p x z → CountsAt v p x z
+  -- each packet that was sent stays among those sent
   pub sent : Begins w.sent v.sent
+  -- a name that a node knows was known to the name's sender before
   pub only : (p : ℕ) (x : Label) → knows (stored v p) x ≡ true → knows (stored w x.sender) x ≡ true
 
 -- if a pair of a name is stored, the name is known
@@ -73,6 +83,7 @@ known-sender w s p x h =
     knows-pair (stored w x.sender) x pair.0
     (to_sender w.size (stored w) (all_kept w s.kept.nodes) p x pair.0 pair.1)
 
+-- a world whose nodes are ready goes on from itself
 pub onward-still : (w : World) → Calm w → Onward w w
 onward-still w c = record {
   size = refl;
@@ -83,6 +94,7 @@ onward-still w c = record {
   only = known-sender w c.sound;
 }
 
+-- a world that goes on from a second, which goes on from a first, goes on from the first
 pub onward-further : (u v w : World) → Onward u v → Onward v w → Onward u w
 onward-further u v w a b =
     record {
@@ -96,6 +108,7 @@ onward-further u v w a b =
 
 -- ---- what stays
 
+-- a message that is found in a prefix of some records is found in all of them
 pub found-begins : (xs ys : List Entry) → Begins xs ys → (x : Label) (m : Content)
     → message_of (pend xs) x ≡ Some m → message_of (pend ys) x ≡ Some m
 found-begins xs ys b x m e =
@@ -115,6 +128,7 @@ get-begins xs ys b i a e =
     subst (λ (zs : List _). slice_get zs i ≡ Some a) b.1 (get-left xs b.0 i a e)
 
 module _ (v w : World) (o : Onward v w) where
+  -- a truthful packet stays truthful
   pub truth-stays : (packet : Carried) → truthful v packet ≡ true → truthful w packet ≡ true
   truth-stays packet t =
       let more = o.records packet.source in
@@ -124,13 +138,16 @@ module _ (v w : World) (o : Onward v w) where
       (λ e. certificate-begins (stored v packet.source) (stored w packet.source) more packet.name
       (borne-certificate (stored v packet.source) packet t e))
 
+  -- a node of the group stays one
   pub node-stays : (p : ℕ) → is_node v.size.n p ≡ true → is_node w.size.n p ≡ true
   node-stays p h = subst (λ (size : _). is_node size.n p ≡ true) (sym o.size) h
 
+  -- a name that a node knows stays known there
   pub known-stays : (p : ℕ) (x : Label) → knows (stored v p) x ≡ true → knows (stored w p) x ≡ true
   known-stays p x h =
       let found = some_found (message_of (pend (stored v p)) x) h in
       ap is_some (found-begins (stored v p) (stored w p) (o.records p) x found.0 found.1)
 
+  -- a packet that was sent stays among those sent
   pub sent-stays : (packet : Carried) → WasSent v packet → WasSent w packet
   sent-stays packet h = (h.0, get-begins v.sent w.sent o.sent h.0 packet h.1)

@@ -1,5 +1,5 @@
--- The cases of what an event counts as in a round: nothing, a new message, a failure, an arrival, or
--- a tick.
+-- The cases of what an event counts as in a round: nothing, a new message, a failure, an arrival,
+-- or a tick.
 use Rattle.std.proofs.Common.{Err, List, Ok, Result, [], refl, ℕ, ◌∷◌, ◌≡◌}
 use Rattle.urb_group.proofs.rounds.TicksAmongEvents.{resent_by}
 use Rattle.urb_group.specs.Delivering.{event_node}

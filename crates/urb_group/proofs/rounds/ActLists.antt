@@ -22,6 +22,7 @@ use Rattle.urb_group.proofs.rounds.ActCases.{act-cases}
 
 -- ---- acts of lists behind one another
 
+-- two lists of events count as the acts of the first, followed by those of the second
 pub acts-append : (w : World) (xs ys : List Event)
     → acts_of w (xs ++ ys) ≡ acts_of w xs ++ acts_of (after w xs) ys
 unfolding step run
@@ -36,6 +37,7 @@ acts-append w (event ∷ xs) ys =
     (acts_of (after (step w event).1 xs) ys))
     ∙ ap (λ (ls : List Act). ls ++ acts_of (after w (event ∷ xs)) ys) (sym (acts-more w event xs))))
 
+-- two lists of events send the packets of the first, followed by those of the second
 pub packets-append : (w : World) (xs ys : List Event)
     → packets_of w (xs ++ ys) ≡ packets_of w xs ++ packets_of (after w xs) ys
 unfolding run
@@ -99,6 +101,7 @@ quiet-calm w (Restart p image) q =
     gentle-world w p _ (restart-gentle p image (w.node p) (w.node p).state)
 quiet-calm w event q = absurd q
 
+-- events that proceed quietly count as no failure and no new message
 pub proceeds-calm : (events : List Event) (w : World) → ProceedsQuietly w events
     → IsUndisturbed (acts_of w events)
 proceeds-calm [] w h = subst IsUndisturbed (sym (acts-none w)) tt
@@ -113,6 +116,7 @@ harmless-quiet w (Fail p) h = h
 harmless-quiet w (Crash p) h = h
 harmless-quiet w event h = tt
 
+-- harmless events that aren't refused proceed quietly
 pub goes-quietly : (events : List Event) (w : World) → Goes w events → ProceedsQuietly w events
 goes-quietly [] w h = tt
 goes-quietly (event ∷ events) w h =

@@ -46,6 +46,7 @@ answers_in (Arrives packet answers ∷ acts) = answers ++ answers_in acts
 answers_in (Adds ∷ acts) = answers_in acts
 answers_in (Breaks ∷ acts) = answers_in acts
 
+-- the answers in two lists of acts are those in the first, followed by those in the second
 pub answers-append : (xs ys : List Act) → answers_in (xs ++ ys) ≡ answers_in xs ++ answers_in ys
 answers-append [] ys = refl
 answers-append (Ticks p packets ∷ xs) ys = answers-append xs ys
@@ -154,7 +155,7 @@ tick-silent : (p : ℕ) (reply : Reply) → answers_in (tick_by p reply) ≡ []
 tick-silent p (Sent packets) = refl
 tick-silent p reply = refl
 
--- ticks
+-- ticks bring no answers to packets
 pub ticks-silent : (events : List Event) (w : World) → AreTicks events
     → answers_in (acts_of w events) ≡ []
 ticks-silent [] w are = silent-none w
@@ -173,7 +174,7 @@ readied-silent kept p node (Down doubtful) w =
     (no-answers (step w (Restart p (image_with kept node.records doubtful))).0)
     (silent-none (step w (Restart p (image_with kept node.records doubtful))).1)
 
--- nodes that come back
+-- nodes that come back bring no answers to packets
 pub back-silent : (kept : ℕ → Bool) (ps : List ℕ) (w : World)
     → answers_in (acts_of w (each (comes_back kept) ps w)) ≡ []
 back-silent kept [] w = silent-none w
@@ -277,6 +278,7 @@ module _ (Q R : Carried → Type 0)
 
   -- ---- the answers to many packets
 
+  -- each answer to packets that are carried may be carried too, and says what such an answer says
   pub all-answered : (packets : List Carried) (w : World) → Calm w
       → AllByRecursion (Carriable w) packets → AllByRecursion Q packets
       → AllByRecursion (Answer (after w (each carries packets w)))

@@ -1,6 +1,6 @@
--- Busy rounds among nodes that are up. After one round, what one of them knew or held is known to all
--- of them, or held. After the next it is certified. So two rounds deliver, once the records that are
--- held then are stored.
+-- Busy rounds among nodes that are up. After one round, what one of them knew or held is known to
+-- all of them, or held. After the next it is certified. So two rounds deliver, once the records
+-- that are held then are stored.
 use Rattle.std.proofs.Common.{Bool, List, Some, ap, arith, eqb-true, false, length, ltb-true}
 use Rattle.std.proofs.Common.{map, nat_lt, refl, subst, suc, sym, take, true, zero, ℕ}
 use Rattle.std.proofs.Common.{⊎_elim, ◌*◌, ◌+◌, ◌++◌, ◌-◌, ◌==◌, ◌∙◌, ◌≡◌, ◌≤◌}
@@ -235,6 +235,8 @@ module _ (among : ℕ → Bool) (w : World) (sound : Sound w) (free : IsNotStran
         known zero low high = absurd (omega (arith, low))
         known (suc j) low high = (s, sender, own-known w sound s s j (omega (arith, high)))
 
+        -- after two busy rounds, a ready node's log begins, for each sender, with the names that
+        -- the sender had stored before
         pub stored-names : Begins (names s (length old)) part
         stored-names = begins s (length old) known
 
@@ -247,6 +249,7 @@ module _ (among : ℕ → Bool) (w : World) (sound : Sound w) (free : IsNotStran
         abbrev behind : List Content
         behind = take (length part - length old) more.0
 
+        -- these names have the sender's messages in the log
         pub stored-messages : Begins (map Some old) (map (message_of (pend (stored v q))) part)
         stored-messages = (
           map Some behind,

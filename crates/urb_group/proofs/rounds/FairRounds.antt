@@ -1,5 +1,5 @@
--- The laws of rounds. Two busy rounds deliver what was stored before them. Two rounds in which nothing
--- is submitted deliver everything, because no name is new.
+-- The laws of rounds. Two busy rounds deliver what was stored before them. Two rounds in which
+-- nothing is submitted deliver everything, because no name is new.
 use Rattle.std.proofs.Common.{Bool, List, arith, ltb-true, nat_lt, subst, suc, sym, true, ℕ}
 use Rattle.std.proofs.Common.{◌∙◌, ◌≡◌}
 use Rattle.std.proofs.lemmas.Bool.{and_parts}
@@ -149,6 +149,8 @@ module _ (among : ℕ → Bool) (w : World) (first second : List Event) (reached
     abbrev last : World
     last = after (after w first) second
 
+    -- after two busy rounds among a majority, each of its ready nodes has delivered, for each
+    -- sender, the first messages that they had stored
     pub busy-among : (q : ℕ) → among q ≡ true → (last.node q).state ≡ Ready
         → HasDeliveredHeld among w last q
     busy-among q to =
@@ -172,6 +174,8 @@ module _ (among : ℕ → Bool) (w : World) (first second : List Event) (reached
               onward b q to ready s (all s is);
         })
 
+-- after two busy rounds of all nodes, each ready node has delivered all messages that were stored
+-- before
 pub two-busy-rounds : (w : World) (first second : List Event) → IsReached w → IsNotStranded w
     → AllUp w → IsBusyRound w first → IsBusyRound (after w first) second
     → ReadyHaveDelivered w (after (after w first) second)
@@ -182,6 +186,8 @@ two-busy-rounds w first second reached free up one two q is ready =
     (after (after w first) second)) (run-size first w) two)
     q is ready (λ s at. at)
 
+-- after two rounds among a majority, each of its nodes has delivered, for each sender, the first
+-- messages that they had stored
 pub two-among : (among : ℕ → Bool) (w : World) (first second : List Event) → IsReached w
     → IsNotStranded w → majority_passes w.size.n among ≡ true → AreUp among w
     → IsRoundAmong among (acts_of w first) (after w first)
@@ -193,6 +199,7 @@ two-among among w first second reached free most up one two q to =
     (round-busy among (acts_of (after w first) second) (after (after w first) second) two)
     q to (two.settled q to)
 
+-- after two rounds of all nodes, each node has certified each name that some node knows
 pub two-rounds-certify : (w : World) (first second : List Event) → IsReached w → IsNotStranded w
     → AllUp w → IsRound w first → IsRound (after w first) second
     → AllCertified (after (after w first) second)
@@ -209,6 +216,7 @@ two-rounds-certify w first second reached free up one two =
         subst (λ (size : Limits). IsRoundAmong (is_node size.n) (acts_of (after w first) second)
         (after (after w first) second)) (run-size first w) two
 
+-- after two rounds of all nodes, each node has delivered all messages that storages took
 pub two-rounds : (w : World) (first second : List Event) → IsReached w → IsNotStranded w → AllUp w
     → IsRound w first → IsRound (after w first) second → AllDelivered (after (after w first) second)
 two-rounds w first second reached free up one two =

@@ -119,6 +119,7 @@ all-answers-true (packet ∷ packets) acts h =
     and_parts (does_arrive packet acts) (list_all (λ one. does_arrive one acts) packets) h in
     (arrive-true packet acts parts.0, all-answers-true packets acts parts.1)
 
+-- if the test says that each answer arrives later, it does
 pub answers-true : (acts : List Act) → answers_arrive acts ≡ true → AnswersArrive acts
 answers-true [] h = tt
 answers-true (Ticks p packets ∷ acts) h = answers-true acts h
@@ -134,6 +135,7 @@ pub of-nodes : (n : ℕ) (test : ℕ → Bool) → list_all test (nodes n) ≡ t
     → is_node n p ≡ true → test p ≡ true
 of-nodes n test h p is = in-list_all test p (nodes n) h (in-nodes n p is)
 
+-- acts that are judged to be a round of n nodes are one
 pub judged-among : (n : ℕ) (acts : List Act) (end : World) → judged_acts n acts end ≡ a_round
     → IsRoundAmong (is_node n) acts end
 judged-among n acts end h =
@@ -151,9 +153,11 @@ judged-among n acts end h =
           (of-nodes n (λ i. is_ready (end.node i).state) (ap (λ (v : Verdict). v.settled) h) p is);
     }
 
+-- events that are judged to be a round are one
 pub judged-round : (w : World) (events : List Event) → judged w events ≡ a_round → IsRound w events
 judged-round w events h = judged-among w.size.n (acts_of w events) (after w events) h
 
+-- events that are judged to be a busy round are one
 pub judged-busy : (w : World) (events : List Event) → judged_busy w events ≡ a_busy_round
     → IsBusyRound w events
 judged-busy w events h =

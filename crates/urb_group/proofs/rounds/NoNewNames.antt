@@ -89,8 +89,11 @@ module _ (w : World) (sound : Sound w) (p : ℕ) (x : Label) where
 module _ (Known : Label → Type 0) where
   -- each node is up, and the names that it knows, also by the record that it holds, are among these
   pub record Names (u : World) : Type 0 where
+    -- the world is sound
     pub sound : Sound u
+    -- each node is up
     pub up : (p : ℕ) → is_node u.size.n p ≡ true → is_down (u.node p).state ≡ false
+    -- each name that a node knows, also by the record that it holds, is among these
     pub only : (p : ℕ) → is_node u.size.n p ≡ true → (x : Label)
         → knows (whole p (u.node p)).records x ≡ true → Known x
 
@@ -165,6 +168,7 @@ module _ (Known : Label → Type 0) where
           (λ f. n.only p is x (subst (λ (node : Node). knows (whole p node).records x ≡ true)
           (step-elsewhere u event p f) k)) (cases_Bool (p == event_node event))
 
+  -- events that proceed quietly bring nodes that are up no names but these
   pub run-names : (events : List Event) (u : World) → Names u → ProceedsQuietly u events
       → Names (after u events)
   unfolding run

@@ -47,6 +47,7 @@ module _ (among : ℕ → Bool) (q : ℕ) where
       at : AtMost (suc first) count → Other ⊎ AtMost first (suc count)
       at few = ⊎_elim (with-first few) (without few) (cases_Bool (among first))
 
+  -- a majority of n nodes has a node other than q, or n is at most 1
   pub another : (n : ℕ) → majority_passes n among ≡ true → Other ⊎ (n ≤ 1)
   another n most =
       let l : n < 2 * count_by among (nodes n) = ltb-true n (2 * count_by among (nodes n)) most in

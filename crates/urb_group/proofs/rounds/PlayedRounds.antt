@@ -89,6 +89,7 @@ module _ {A : Type 0} where
       ends =
           ap (λ (v : World). after v two.events) at ∙ leads one.after second answers last two
 
+      -- after two rounds that are played, each node has delivered all messages that storages took
       pub played-deliver : IsReached w → IsNotStranded w → AllUp w → IsPlayedRound first told one.after
           → IsPlayedRound second answers two.after → AllDelivered two.after
       played-deliver reached free up a b =
@@ -98,6 +99,8 @@ module _ {A : Type 0} where
           (subst (λ (v : World). IsRound v two.events) (sym at)
           (played one.after second answers last two IsRoundAmong b)))
 
+      -- after two busy rounds that are played, each ready node has delivered all messages that were
+      -- stored before
       pub played-busy : IsReached w → IsNotStranded w → AllUp w
           → IsPlayedBusyRound first told one.after → IsPlayedBusyRound second answers two.after
           → ReadyHaveDelivered w two.after

@@ -34,6 +34,7 @@ IsQuiet (Fail p) = ⊥
 IsQuiet (Crash p) = ⊥
 IsQuiet event = Unit {0}
 
+-- an event that is no submit, no crash and no failed store is no failure
 pub quiet-no_failure : (event : Event) → IsQuiet event → IsNoFailure event
 quiet-no_failure (Fail p) h = h
 quiet-no_failure (Crash p) h = h
@@ -51,21 +52,25 @@ ProceedsQuietly w [] = Unit {0}
 ProceedsQuietly w (event ∷ events) =
     IsQuiet event × IsDone (step w event).0 × ProceedsQuietly (step w event).1 events
 
+-- events that proceed quietly proceed
 pub quietly-proceeds : (events : List Event) (w : World) → ProceedsQuietly w events
     → Proceeds w events
 quietly-proceeds [] w h = tt
 quietly-proceeds (event ∷ events) w h =
     (quiet-no_failure event h.0, h.1, quietly-proceeds events (step w event).1 h.2)
 
+-- no events count as no acts
 pub acts-none : (w : World) → acts_of w [] ≡ []
 unfolding run
 acts-none w = refl
 
+-- an event and those behind it count as its own acts, followed by theirs
 pub acts-more : (w : World) (event : Event) (events : List Event)
     → acts_of w (event ∷ events) ≡ act_of event (step w event).0 ++ acts_of (step w event).1 events
 unfolding run
 acts-more w event events = refl
 
+-- an event and those behind it lead to the world to which these lead from the event's step
 pub after-more : (w : World) (event : Event) (events : List Event)
     → after w (event ∷ events) ≡ after (step w event).1 events
 unfolding run
@@ -219,10 +224,15 @@ idle-or-moves w event u = quiet-moves w event tt
 -- The events of these that proceed: they lead to the same world, and count for the same. If nothing
 -- disturbs, they proceed quietly.
 pub record Proceeding (w : World) (events : List Event) : Type 0 where
+  -- the events that are left
   pub list : List Event
+  -- they proceed
   pub proceeds : Proceeds w list
+  -- they lead to the same world
   pub leads : after w list ≡ after w events
+  -- they count as the same acts
   pub acts : acts_of w list ≡ acts_of w events
+  -- if nothing disturbs, they proceed quietly
   pub quietly : IsUndisturbed (acts_of w events) → ProceedsQuietly w list
 
 -- with one more event in front
@@ -272,6 +282,7 @@ one-more w event events u rest = ⊎_elim idle moves (idle-or-moves w event u)
           );
         }
 
+-- for events without a failure, there are events that proceed to the same world, with the same acts
 pub proceeding : (events : List Event) (w : World) → IsUnbroken (acts_of w events)
     → Proceeding w events
 proceeding [] w u =

@@ -118,6 +118,8 @@ module _ (among : ℕ → Bool) where
   all-sent (packet ∷ packets) events w g h =
       (λ e. does-arrive packet events w g (h.0 e), all-sent packets events w g h.1)
 
+  -- if all that ticks of these nodes send each other arrives later, the later events have these
+  -- arrivals
   pub all-arrive : (events : List Event) (w : World) → Proceeds w events
       → TicksArrive among (acts_of w events) → AllArrive w events
   all-arrive [] w g h = tt

@@ -1,6 +1,6 @@
--- There is a round from every world of a run, also one whose answers arrive. All nodes come back. They
--- tick, one after the other, as often as there are messages. Then each packet arrives, and the record
--- that it may draft is stored. Then the answers arrive, and then the answers to these.
+-- There is a round from every world of a run, also one whose answers arrive. All nodes come back.
+-- They tick, one after the other, as often as there are messages. Then each packet arrives, and the
+-- record that it may draft is stored. Then the answers arrive, and then the answers to these.
 use Rattle.std.proofs.Common.{Bool, List, [], ap, append-nil, arith, false, length, subst, sym, true}
 use Rattle.std.proofs.Common.{ℕ, ◌++◌, ◌∙◌, ◌∷◌, ◌≡◌, ◌≤◌}
 use Rattle.std.specs.List.{AllByRecursion}
@@ -295,6 +295,7 @@ module _ (w : World) (sound : Sound w) where
       (subst AnswersArrive (append-nil (acts_of b lasts))
       (answers-then (acts_of b lasts) [] (λ answer i. absurd (silent answer i)) tt))))))
 
+-- from every world of a run there is a round in which all answers arrive
 pub round-exists : (w : World) → IsReached w
     → (events : List Event) × IsRound w events × AnswersArrive (acts_of w events)
 round-exists w reached =

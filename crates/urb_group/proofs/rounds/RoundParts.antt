@@ -84,6 +84,7 @@ ticks-are : (p count : ℕ) → AreTicks (tick_events p count)
 ticks-are p zero = tt
 ticks-are p (suc count) = ((p, refl), ticks-are p count)
 
+-- a plan in which nodes tick has only ticks
 pub all-are : (count : ℕ) (ps : List ℕ) (w : World) → AreTicks (each (ticking count) ps w)
 all-are count [] w = tt
 all-are count (p ∷ ps) w =
@@ -110,6 +111,7 @@ among-ticks p (suc count) =
     cond-true (p == p) (suc (ticks_among p (tick_events p count))) _ (eq-eqb p p refl)
     ∙ ap suc (among-ticks p count)
 
+-- if each of these nodes ticks `count` times in turn, each of them ticks at least that often
 pub often-enough : (count p : ℕ) (ps : List ℕ) (w : World) → IsIn p ps
     → count ≤ ticks_among p (each (ticking count) ps w)
 often-enough count p [] w h = absurd h
@@ -137,6 +139,7 @@ often-enough count p (q ∷ ps) w h =
 
 -- ---- what ticks send arrives
 
+-- a packet that arrives in the second of two lists of acts arrives in both together
 pub arrive-behind : (packet : Carried) (ls bs : List Act) → DoesArrive packet bs
     → DoesArrive packet (ls ++ bs)
 arrive-behind packet [] bs h = h
@@ -145,6 +148,7 @@ arrive-behind packet (Arrives other answers ∷ ls) bs h = inr (arrive-behind pa
 arrive-behind packet (Adds ∷ ls) bs h = arrive-behind packet ls bs h
 arrive-behind packet (Breaks ∷ ls) bs h = arrive-behind packet ls bs h
 
+-- a packet that arrives in the first of two lists of acts arrives in both together
 pub arrive-before : (packet : Carried) (ls bs : List Act) → DoesArrive packet ls
     → DoesArrive packet (ls ++ bs)
 arrive-before packet [] bs h = absurd h
@@ -274,6 +278,7 @@ receipt-no_tick p node Ready = tt
 receipt-no_tick p node (Storing entry cause) = (tt, tt)
 receipt-no_tick p node (Down doubtful) = tt
 
+-- no node ticks while packets are carried
 pub carries-no_tick : (packets : List Carried) (w : World)
     → AllByRecursion IsNoTick (each carries packets w)
 carries-no_tick [] w = tt
@@ -291,6 +296,7 @@ readied-no_tick kept p node Ready = tt
 readied-no_tick kept p node (Storing entry cause) = (tt, tt)
 readied-no_tick kept p node (Down doubtful) = (tt, tt)
 
+-- no node ticks while nodes come back
 pub back-no_tick : (kept : ℕ → Bool) (ps : List ℕ) (w : World)
     → AllByRecursion IsNoTick (each (comes_back kept) ps w)
 back-no_tick kept [] w = tt

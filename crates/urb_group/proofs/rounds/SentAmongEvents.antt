@@ -47,17 +47,24 @@ Pairs = List (Label × Content)
 -- p ticks, and sends the pair to q, among events that proceed
 pub record Sends (p q : ℕ) (x : Label) (m : Content) (w : World)
     (events : List Event) : Type 0 where
+  -- the world is sound
   pub sound : Sound w
+  -- the tick and the events after it proceed
   pub goes : Proceeds w (Tick p ∷ events)
+  -- q is a node of the group
   pub there : is_node w.size.n q ≡ true
+  -- p is up
   pub up : is_down (w.node p).state ≡ false
+  -- the tick sends the pair to q
   pub sent : IsIn (packet_to w p q x m) (resent_in (step w (Tick p)).0)
 
 -- A claim that follows from sending. It holds when p sends. If it holds for the events after a
 -- first event, it holds for all of them.
 pub record Comes (p q : ℕ) (x : Label) (m : Content)
     (Claim : World → List Event → Type 0) : Type 0 where
+  -- it holds if the first event is a tick of p that sends the pair to q
   pub sends : (w : World) (events : List Event) → Sends p q x m w events → Claim w (Tick p ∷ events)
+  -- it holds if it holds for the events after the first one
   pub later : (w : World) (event : Event) (events : List Event) → Claim (step w event).1 events
       → Claim w (event ∷ events)
 
@@ -67,16 +74,27 @@ module _ (all : Pairs) (rises : are_rising all ≡ true) (p q : ℕ) (x : Label)
   -- often enough. All that is due at its ticks is among these pairs. q's certificate of the name
   -- isn't heard even at the end.
   pub record Begun (w : World) (events : List Event) : Type 0 where
+    -- the world is sound
     pub sound : Sound w
+    -- the events proceed
     pub goes : Proceeds w events
+    -- q is a node of the group
     pub there : is_node w.size.n q ≡ true
+    -- p is up
     pub up : is_down (w.node p).state ≡ false
+    -- p has the pair, perhaps in the record that it holds
     pub held : has_pair (pend (whole p (w.node p)).records) x m ≡ true
+    -- the pairs that are due at p's ticks are among all pairs
     pub within : AllByRecursion (AreAmong all) (dues_among p w events)
+    -- p hasn't heard q's certificate of the name even at the end
     pub unheard : acked ((after w events).node p).heard x q ≡ false
+    -- the pairs before it in cyclic order
     pub us : Pairs
+    -- the pairs behind it
     pub vs : Pairs
+    -- cyclic order has the pair between these
     pub at : cyclic (w.node p).cursor all ≡ us ++ (x, m) ∷ vs
+    -- p ticks often enough to pass the pairs before it
     pub less : length us < NAMES_PER_TICK * ticks_among p events
 
   -- q's certificate isn't heard at any time before
@@ -270,6 +288,7 @@ Stores p x m events w =
     → has_pair (pend (whole p (w.node p)).records) x m ≡ true → 1 ≤ ticks_among p events
     → has_pair (pend (stored (after w events) p)) x m ≡ true
 
+-- a pair that p has, perhaps in the record that it holds, is stored after events in which p ticks
 pub stored-then : (p : ℕ) (x : Label) (m : Content) (events : List Event) (w : World)
     → Stores p x m events w
 stored-then p x m [] w sound goes up held l = absurd (omega (arith, l))

@@ -1,5 +1,5 @@
--- What a node that is up keeps through an event that is no failure and not refused. It stays up, and
--- still has heard what it heard. Its cursor stays, except at its own ticks.
+-- What a node that is up keeps through an event that is no failure and not refused. It stays up,
+-- and still has heard what it heard. Its cursor stays, except at its own ticks.
 use Rattle.std.proofs.Common.{List, [], None, Option, Some, ap, eq-eqb, eqb-true, false, is_none}
 use Rattle.std.proofs.Common.{not, refl, subst, sym, true, ℕ, ⊎_elim, ◌==◌, ◌||◌, ◌∙◌, ◌∷◌, ◌≡◌}
 use Rattle.std.proofs.lemmas.Bool.{cases_Bool, cond_both, false≢true}
@@ -32,8 +32,11 @@ use Rattle.urb_group.proofs.hearing.CountedNodes.{acked-stays}
 
 -- what is kept
 pub record Stays (old new : Node) : Type 0 where
+  -- the cursor stays
   pub cursor : new.cursor ≡ old.cursor
+  -- the node is up
   pub up : is_down new.state ≡ false
+  -- each certificate that it had heard it still has heard
   pub heard : (x : Label) (q : ℕ) → acked old.heard x q ≡ true → acked new.heard x q ≡ true
 
 still : (node : Node) → is_down node.state ≡ false → Stays node node
@@ -161,13 +164,14 @@ tick-ready w p =
     (λ _. ticks-cases (λ o. IsDone o.0 → (w.node p).state ≡ Ready) w.size.n p (w.node p)
     (λ r h. absurd h) (λ ready h. ready))
 
--- the node after it
+-- a tick that isn't refused makes its node resend
 pub tick-node : (w : World) (p : ℕ) → IsDone (step w (Tick p)).0
     → (step w (Tick p)).1.node p ≡ (resends w.size.n p (w.node p)).1
 tick-node w p h =
     ap (λ (o : Reply × World). o.1.node p) (tick-done w p h)
     ∙ updated-at w.node p (resends w.size.n p (w.node p)).1
 
+-- an event that passes the test for a tick of p is one
 pub tick-of : (p : ℕ) (event : Event) → is_tick_of p event ≡ true → event ≡ Tick p
 tick-of p (Tick q) h = ap Tick (eqb-true q p h)
 tick-of p event h = absurd (false≢true h)
@@ -176,9 +180,12 @@ tick-of p event h = absurd (false≢true h)
 
 -- a node that is up stays so, and what it heard it has heard
 pub record Hears (old new : Node) : Type 0 where
+  -- the node is up
   pub up : is_down new.state ≡ false
+  -- each certificate that it had heard it still has heard
   pub heard : (x : Label) (q : ℕ) → acked old.heard x q ≡ true → acked new.heard x q ≡ true
 
+-- a node that is up stays up and forgets no certificate in an event that is done and no failure
 pub step-hears : (w : World) (event : Event) (p : ℕ) → IsNoFailure event → IsDone (step w event).0
     → is_down (w.node p).state ≡ false → Hears (w.node p) ((step w event).1.node p)
 step-hears w event p h done e = ⊎_elim ticking other (cases_Bool (is_tick_of p event))
@@ -194,6 +201,7 @@ step-hears w event p h done e = ⊎_elim ticking other (cases_Bool (is_tick_of p
         (sym (tick-node w p (subst (λ (v : Event). IsDone (step w v).0) same done)))
         (record { up = e; heard = λ x q k. k }))
 
+-- a node that is up stays up and forgets no certificate while events proceed
 pub run-hears : (w : World) (events : List Event) (p : ℕ) → Proceeds w events
     → is_down (w.node p).state ≡ false → Hears (w.node p) ((after w events).node p)
 unfolding run

@@ -32,13 +32,20 @@ use Rattle.urb_group.proofs.steps.StepCases.{packet-cases}
 -- ---- an arrival
 
 pub record Arrived (w : World) (p : ℕ) (packet : Carried) (o : Reply × World) : Type 0 where
+  -- node p is ready
   pub ready : (w.node p).state ≡ Ready
+  -- the packet's source is a node of the group
   pub source : is_node w.size.n packet.source ≡ true
+  -- the packet is truthful
   pub truth : truthful w packet ≡ true
+  -- the packet is for p
   pub target : packet.target ≡ p
+  -- the arrival has the definition's outcome at p
   pub is : o ≡ world_after w p (arrives w.size p packet.source packet.name packet.message
       packet.flags (w.node p))
 
+-- a packet that isn't refused is truthful, comes from a node of the group, and reaches a ready
+-- target
 pub arrive-done : (w : World) (p : ℕ) (packet : Carried) → IsDone (step w (Arrive p (Ok packet))).0
     → Arrived w p packet (step w (Arrive p (Ok packet)))
 unfolding step
@@ -72,9 +79,11 @@ module _ (w : World) (sound : Sound w) (p : ℕ) (packet : Carried)
   abbrev pub outcome : Reply × Node
   outcome = arrives w.size p packet.source packet.name packet.message packet.flags (w.node p)
 
+  -- the node after the arrival is that of the outcome
   pub node-is : (step w (Arrive p (Ok packet))).1.node p ≡ outcome.1
   node-is = ap (λ (o : Reply × World). o.1.node p) arrived.is ∙ updated-at w.node p outcome.1
 
+  -- the node takes the packet
   pub took : Took w.size.n p packet.name packet.source (stored w p) (w.node p).acks outcome
   took =
       arrives-settles w.size (stored w) p packet.source packet.name packet.message packet.flags
@@ -166,6 +175,7 @@ cursor-further n p node c (Storing entry cause) =
 cursor-further n p node c (Down doubtful) =
     record { counts = λ x z h. h; records = begins-itself node.records }
 
+-- a node that is up refuses a restart
 pub restart-not : (p : ℕ) (image : List Entry) (node : Node) (s : State) → is_down s ≡ false
     → IsDone (restarts p image node s).0 → ⊥
 restart-not p image node Ready e h = h
@@ -199,6 +209,7 @@ here-further w sound (Restart p image) h d up =
     (λ k. absurd (restart-not p image (w.node p) (w.node p).state up k)) d
 here-further w sound event h d up = absurd h
 
+-- a node that is up keeps what it knows and has counted in an event that is done and no failure
 pub step-further : (w : World) → Sound w → (event : Event) (p : ℕ) → IsNoFailure event
     → IsDone (step w event).0 → is_down (w.node p).state ≡ false
     → Further w.size.n (whole p (w.node p)) (whole p ((step w event).1.node p))
@@ -208,6 +219,7 @@ step-further w sound event p h d up =
     (subst (λ (i : ℕ). is_down (w.node i).state ≡ false) same up))
     (further-itself w.size.n (whole p (w.node p)))
 
+-- a node that is up keeps what it knows and has counted while events proceed
 pub run-further : (events : List Event) (w : World) → Sound w → (p : ℕ) → Proceeds w events
     → is_down (w.node p).state ≡ false
     → Further w.size.n (whole p (w.node p)) (whole p ((after w events).node p))
@@ -222,6 +234,7 @@ run-further (event ∷ events) w sound p goes up =
     (run-further events (step w event).1 (run-sound w (event ∷ []) sound) p goes.2
     (step-hears w event p goes.0 goes.1 up).up))
 
+-- a receipt that isn't refused leaves the node as it was with its held record taken as stored
 pub commit-whole : (n p position : ℕ) (entry : Entry) (node : Node)
     → IsDone (commits n p position entry node node.state).0
     → whole p (commits n p position entry node node.state).1 ≡ whole p node
@@ -231,17 +244,22 @@ commit-whole n p position entry node h =
 
 -- ---- any world of a run
 
+-- events leave the limits of the group
 pub run-size : (events : List Event) (w : World) → (after w events).size ≡ w.size
 unfolding run
 run-size [] w = refl
 run-size (event ∷ events) w = run-size events (step w event).1 ∙ step-size w event
 
--- Node p knows the name, with the record that it holds. It has certified it, or it has counted z for
--- it, and all that it has counted are no majority yet.
+-- Node p knows the name, with the record that it holds. It has certified it, or it has counted z
+-- for it, and all that it has counted are no majority yet.
 pub record IsCountedAt (w : World) (p : ℕ) (x : Label) (z : ℕ) : Type 0 where
+  -- the node knows the name, perhaps by the record that it holds
   pub known : knows (whole p (w.node p)).records x ≡ true
+  -- it has counted z for the name, or certified the name
   pub counts : Counts w.size.n (whole p (w.node p)).records (whole p (w.node p)).acks x z
 
+-- if a packet arrives and events proceed, its target has counted its source or certified the name
+-- at the end
 pub sound-counted : (w : World) (p : ℕ) (packet : Carried) (events : List Event) → Sound w
     → Proceeds w (Arrive p (Ok packet) ∷ events)
     → IsCountedAt (after w (Arrive p (Ok packet) ∷ events)) p packet.name packet.source

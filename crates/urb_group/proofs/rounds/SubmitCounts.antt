@@ -1,5 +1,5 @@
--- A submit that is drafted: with the new record taken as stored, the node has counted what it had, and
--- itself for the new name.
+-- A submit that is drafted: with the new record taken as stored, the node has counted what it had,
+-- and itself for the new name.
 use Rattle.std.proofs.Common.{List, None, Some, [], arith, eq-eqb, eqb-true, false}
 use Rattle.std.proofs.Common.{length, ltb-true, nat_lt, refl, subst, suc, sym, true, ℕ}
 use Rattle.std.proofs.Common.{⊎_elim, ◌++◌, ◌==◌, ◌||◌, ◌∙◌, ◌∷◌, ◌≡◌}

@@ -56,7 +56,9 @@ use Rattle.urb_group.proofs.rounds.ActCases.{act-cases}
 
 -- a node's records and state stay
 pub record Rests (old new : Node) : Type 0 where
+  -- the records stay
   pub records : new.records ≡ old.records
+  -- the state stays
   pub state : new.state ≡ old.state
 
 rests-itself : (node : Node) → Rests node node
@@ -65,8 +67,12 @@ rests-itself node = record { records = refl; state = refl }
 -- A packet of a name that its target has certified. It is answered, unless it says that the
 -- certificate was heard, or is of version one. A certificate that it reports is heard.
 pub record Answers (p : ℕ) (packet : Carried) (old : Node) (o : Reply × Node) : Type 0 where
+  -- the node's records and state stay
   pub rests : Rests old o.1
+  -- the node has then heard the certificate that the packet reports
   pub heard : says_certified packet.flags ≡ true → acked o.1.heard packet.name packet.source ≡ true
+  -- the answer reports the node's certificate, if the packet doesn't say that the certificate was
+  -- heard
   pub answer : (certified : Bool)
       → packet.flags ≡ Some (record { certified = certified; heard = false })
       → (flags : Flags) × (flags.certified ≡ true)
@@ -493,6 +499,8 @@ run-silent (event ∷ events) w c goes heard =
 
 -- ---- three rounds, and what comes behind them
 
+-- after two rounds, and a third whose answers arrive, no name is due, and ticks are silent until
+-- something disturbs
 pub three-rounds : (w : World) (first second third later : List Event) → IsReached w
     → IsNotStranded w → AllUp w → IsRound w first → IsRound (after w first) second
     → IsRound (after (after w first) second) third

@@ -1,4 +1,5 @@
--- A node with the record that it holds taken as stored: what it knows, has certified and has counted.
+-- A node with the record that it holds taken as stored: what it knows, has certified and has
+-- counted.
 use Rattle.std.proofs.Common.{List, Option, ap, append-nil, arith, is_some, length, refl, subst}
 use Rattle.std.proofs.Common.{sym, true, ℕ, ◌++◌, ◌≡◌, ◌≤◌}
 use Rattle.std.proofs.lemmas.List.{length-append}
@@ -28,8 +29,10 @@ whole p node = settled p node node.state
 
 -- what the old node has counted and knows, the new one has too
 pub record Further (n : ℕ) (old new : Node) : Type 0 where
+  -- each node that was counted for a name still is, or the name is certified
   pub counts : (x : Label) (z : ℕ) → Counts n old.records old.acks x z
       → Counts n new.records new.acks x z
+  -- the records only grow at their end
   pub records : Begins old.records new.records
 
 -- what is known stays so
@@ -39,9 +42,12 @@ knows-begins xs ys b x h =
     let found = some_found (message_of (pend xs) x) h in
     ap is_some (found-begins xs ys b x found.0 found.1)
 
+-- each node has what it has
 pub further-itself : (n : ℕ) (node : Node) → Further n node node
 further-itself n node = record { counts = λ x z h. h; records = begins-itself node.records }
 
+-- if a node has what a second one had, which had what a first one had, it has what the first one
+-- had
 pub further-trans : (n : ℕ) (a b c : Node) → Further n a b → Further n b c → Further n a c
 further-trans n a b c f g = record {
   counts = λ x z h. g.counts x z (f.counts x z h);
@@ -49,11 +55,13 @@ further-trans n a b c f g = record {
       begins-trans a.records b.records c.records f.records g.records;
 }
 
+-- a node's records are a prefix of those with its held record
 pub begins-whole : (p : ℕ) (node : Node) (s : State) → Begins node.records (settled p node s).records
 begins-whole p node Ready = begins-itself node.records
 begins-whole p node (Storing entry cause) = begins-push node.records entry
 begins-whole p node (Down doubtful) = begins-itself node.records
 
+-- a name that a node knows it also knows with its held record taken as stored
 pub whole-knows : (p : ℕ) (node : Node) (s : State) (x : Label) → knows node.records x ≡ true
     → knows (settled p node s).records x ≡ true
 whole-knows p node s x h =

@@ -45,7 +45,7 @@ begins-take (suc k) (suc l) (x ∷ xs) h =
 same_cons : {A : Type 0} (x y : A) (xs ys : List A) → x ≡ y → xs ≡ ys → x ∷ xs ≡ y ∷ ys
 same_cons x y xs ys e f = ap₂ (λ v vs. v ∷ vs) e f
 
--- two prefixes of one list
+-- of two prefixes of one list, one is a prefix of the other
 pub both_begin : {A : Type 0} (xs ys zs : List A) → Begins xs zs → Begins ys zs → OneBegins xs ys
 both_begin [] ys zs h k = inl (ys, refl)
 both_begin (x ∷ xs) [] zs h k = inr (x ∷ xs, refl)
@@ -100,7 +100,7 @@ entries-are w p s h =
     ∙ (numbered-row (message_of (pend (stored w p))) s 1 (reached w p s)
     ∙ ap (numbered s 1) (ap (map (message_of (pend (stored w p)))) (sym h.numbers) ∙ h.messages))
 
--- in one world
+-- in a safe world, for each sender, of what two nodes deliver, one is a prefix of the other
 pub agree-now : (w : World) → Safe w → (p q s : ℕ)
     → OneBegins (entries_of s (stored w p)) (entries_of s (stored w q))
 agree-now w safe p q s =
@@ -170,6 +170,8 @@ entries-grow old new a b g p s =
         (sym broadcast) (begins-take (reached old p s) (reached new p s)
         (new.node s).broadcast no_fewer)
 
+-- for each sender, of what one node delivered earlier and what another delivers later, one is a
+-- prefix of the other
 pub agree-later : (old new : World) → Safe old → Safe new → GoesOn old new → AgreeInTime old new
 agree-later old new a b g p q s =
     ⊎_elim (λ h. inl (begins-trans _ _ _ (entries-grow old new a b g p s) h))
@@ -211,5 +213,6 @@ module _ (w : World) (safe : Safe w) (p : ℕ) (behind : List Entry)
       (begins-map (told behind) (log (stored w p)) (log behind)
       (log-begins (stored w p) behind begins))
 
+-- what a node delivered earlier, with its messages, is a prefix of what it delivers later
 pub entries-all_grow : (old new : World) → Safe old → GoesOn old new → EntriesGrow old new
 entries-all_grow old new safe goes p = entries-begin old safe p (stored new p) (goes.records p)

@@ -38,12 +38,14 @@ arrival-answers P w p packet none some =
         (is_node w.size.n packet.source && is_node w.size.n packet.name.sender)
         (packet.target == p) fits).1) some
 
+-- a packet that says that its target's certificate was heard gets no answer
 pub heard-unanswered : (w : World) (p : ℕ) (packet : Carried) → says_heard packet.flags ≡ true
     → answers_to w p packet ≡ []
 heard-unanswered w p packet e =
     arrival-answers (λ packets. packets ≡ []) w p packet refl
     (heard-silent w.size packet (w.node p) e)
 
+-- a packet of version one gets no answer
 pub first_version-unanswered : (w : World) (p : ℕ) (packet : Carried) → packet.flags ≡ None
     → answers_to w p packet ≡ []
 first_version-unanswered w p packet e =

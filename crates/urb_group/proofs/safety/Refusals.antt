@@ -21,6 +21,7 @@ Quiet node outcome = (r : Refusal) → outcome.0 ≡ Refused r → outcome.1 ≡
 abbrev QuietWorld : World → Reply × World → Type 0
 QuietWorld w outcome = (r : Refusal) → outcome.0 ≡ Refused r → outcome.1 ≡ w
 
+-- writing the value that a place has already changes nothing
 pub same_nodes : (f : ℕ → Node) (p : ℕ) (v : Node) → v ≡ f p → updated f p v ≡ f
 same_nodes f p v h = fun_ext (λ q. at q (q == p) refl)
   where

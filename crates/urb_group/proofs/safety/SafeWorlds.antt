@@ -78,6 +78,8 @@ module _ (w : World) (inv : NodesKept w) where
             ∙ ap (λ k. map Some (take k (w.node s).broadcast)) (sym l));
       }
 
+  -- logs are in FIFO order, without creation or duplication, and a majority holds each delivered
+  -- message
   pub safe : Safe w
   safe = record {
     in_order = in_order;
@@ -86,5 +88,6 @@ module _ (w : World) (inv : NodesKept w) where
         delivered;
   }
 
+  -- no two nodes store different messages under one name
   pub one_message : OneMessage w
   one_message = agree w.size (stored w) all

@@ -24,7 +24,7 @@ use Rattle.urb_group.specs.Delivering.{event_node}
 abbrev Stays : Node → Reply × Node → Type 0
 Stays node outcome = outcome.1.records ≡ node.records
 
--- no node's records change
+-- an event that stores no record changes no node's records
 pub step-stored : (w : World) (event : Event) → StoresNothing event → (q : ℕ)
     → stored (step w event).1 q ≡ stored w q
 step-stored w event quiet =
@@ -81,6 +81,7 @@ module _ (told : Done) where
           let longer = ap length grown.1 in
           omega (arith, released, longer, length-append (log node.records) grown.0)
 
+  -- a stored record adds exactly as many names to its node's log as the reply says
   pub commit-released : (w : World) (p position : ℕ) (entry : Entry)
       → (step w (Commit p position entry)).0 ≡ Stored told
       → length (log (stored (step w (Commit p position entry)).1 p)) ≡ length

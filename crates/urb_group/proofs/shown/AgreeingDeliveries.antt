@@ -207,6 +207,8 @@ module _ (group : GroupView) (sound : IsSound group) (limits : IsLimits group.si
       below-bound (suc MAX_NODES) MAX_CAP delivered part-short in
       omega (arith, same, all, bound)
 
+-- what a sound group's nodes have delivered agrees: for each sender, one of two lists is a prefix
+-- of the other
 pub deliveries-agree : (group : GroupView) → IsSound group → IsLimits group.size
     → Agree (delivered_at group)
 deliveries-agree group sound limits = record {

@@ -41,6 +41,8 @@ found-known f g (x ∷ xs) h =
     let rest = found-known f g xs (λ y e. h y (or_right (same_name x y) _ e)) in
     rw (here.1, here.2) (ap (λ (es : List (Label × Option Content)). (x, Some here.0) ∷ es) rest)
 
+-- what a node has delivered by its memory is its log, with the messages, in every world that the
+-- group shows
 pub deliveries-known : (group : GroupView) (w : World) (p : ℕ) → IsSound group → Shows group w
     → map known (delivered_at group p) ≡ entries (stored w p)
 deliveries-known group w p sound shows =
@@ -53,6 +55,8 @@ deliveries-known group w p sound shows =
     (λ x h. let held = (safe w (sound-kept group w sound shows).nodes).uniform p x h in
     (held.0, shown-found w.size p view (w.node p) s x ∙ held.1, held.1)))
 
+-- in any two worlds that a sound group shows, a node has delivered the same names with the same
+-- messages
 pub entries-alike : (group : GroupView) (v w : World) (p : ℕ) → IsSound group → Shows group v
     → Shows group w → entries (stored v p) ≡ entries (stored w p)
 entries-alike group v w p sound one other =
@@ -67,6 +71,7 @@ same_delivery d e h =
     let m : d.1 ≡ e.1 = cc in
     ap₂ (λ (y : Label) (o : Content). (y, o)) x m
 
+-- if a list of deliveries is a prefix of another in the form of entries, it is a prefix
 pub known-begins : (xs ys : List Delivery) → Begins (map known xs) (map known ys) → Begins xs ys
 known-begins [] ys h = (ys, refl)
 known-begins (x ∷ xs) [] h = (let e = h.1 in cc)
@@ -103,6 +108,7 @@ module _ (old new : GroupView) (event : Event) (sound : IsSound old)
   shown-after : Shows new after
   shown-after = follows sound.world sound.shows
 
+  -- a sound group is sound after an event
   pub sound-after : IsSound new
   sound-after = sound-step old new event sound follows
 
@@ -112,6 +118,7 @@ module _ (old new : GroupView) (event : Event) (sound : IsSound old)
   after-known : (p : ℕ) → map known (delivered_at new p) ≡ entries (stored after p)
   after-known p = deliveries-known new after p sound-after shown-after
 
+  -- what a node has delivered before an event is a prefix of what it has delivered after it
   pub deliveries-grow : (p : ℕ) → Begins (delivered_at old p) (delivered_at new p)
   deliveries-grow p =
       known-begins (delivered_at old p) (delivered_at new p)
@@ -127,15 +134,18 @@ module _ (old new : GroupView) (event : Event) (sound : IsSound old)
       known-same (delivered_at new p) (delivered_at old p)
       (after-known p ∙ (ap entries e ∙ sym (before-known p)))
 
+  -- an event at another node doesn't change what a node has delivered
   pub deliveries-elsewhere : (p : ℕ) → event_node event ≢ p
       → delivered_at new p ≡ delivered_at old p
   deliveries-elsewhere p away =
       deliveries-stay p (ap (λ (n : Node). n.records)
       (step-elsewhere before event p (ne_eqb p (event_node event) (λ e. away (sym e)))))
 
+  -- an event that stores no record doesn't change what a node has delivered
   pub deliveries-nothing : StoresNothing event → (p : ℕ) → delivered_at new p ≡ delivered_at old p
   deliveries-nothing quiet p = deliveries-stay p (step-stored before event quiet p)
 
+-- a node has delivered as many messages as its log has names
 pub length-known : (group : GroupView) (w : World) (p : ℕ) → IsSound group → Shows group w
     → length (delivered_at group p) ≡ length (log (stored w p))
 length-known group w p sound shows =
@@ -143,6 +153,7 @@ length-known group w p sound shows =
     ∙ (ap length (deliveries-known group w p sound shows)
     ∙ length-map (log (stored w p)) (λ x. (x, message_of (pend (stored w p)) x)))
 
+-- a stored record makes its node deliver exactly as many messages as the reply says
 pub deliveries-released : (old new : GroupView) (p position : ℕ) (entry : Entry) (done : Done)
     → IsSound old → Steps old (Commit p position entry) (λ reply. reply ≡ Stored done) new
     → length (delivered_at new p) ≡ length (delivered_at old p) + done.released

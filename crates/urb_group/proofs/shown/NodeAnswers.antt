@@ -23,6 +23,7 @@ was_read xs i n x e low at =
 
 module _ {A : Type 0} {size : Limits} {places : List (Place A)} (group : IsGroup size places)
     {T : Type 0} (of_node : Node → Option T) where
+  -- what the node in a place answers, the group answers about it in every world that it shows
   pub answered : {i p : ℕ} (node : Place A) (value : Option T) → node ≡ slice_index_or places i node
       → i < size.n → p ≡ suc i → ((n : Node) → ShowsAt node n → value ≡ of_node n)
       → Answers (λ w. of_node (w.node p)) (shown size places) p value
@@ -34,6 +35,7 @@ module _ {A : Type 0} {size : Limits} {places : List (Place A)} (group : IsGroup
       ∙ sym (cond-true (is_node w.size.n (suc i)) (of_node (w.node (suc i))) None
       (is-node w.size.n i (subst (λ (l : Limits). i < l.n) s.size low))))
 
+  -- a question about a number above the group's size gets no answer
   pub unanswered : (p : ℕ) → size.n < p
       → Answers (λ w. of_node (w.node p)) (shown size places) p None
   unanswered p past w s =

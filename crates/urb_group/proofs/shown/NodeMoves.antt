@@ -138,6 +138,8 @@ module _ {A : Type 0} (size : Limits) (places : List (Place A)) (group : IsGroup
         subst (λ (o : Reply × World). Shows (shown size (set places i moved)) o.1)
         (sym (step_is w s)) (moved_shows w (outcome_in w) s l.same l.shows)
 
+    -- if the node in one place moves as the event's outcome says, the event happens in every world
+    -- that the group shows
     pub lifted : (told : Told) → LeadsAt outcome node told moved
         → StepsTo (shown size places) event told (shown size (set places i moved))
     lifted (Ok reply) leads = λ w s.
@@ -159,6 +161,7 @@ module _ {A : Type 0} (size : Limits) (places : List (Place A)) (group : IsGroup
     sound_after (Err r) leads =
         subst (λ (ps : List (Place A)). IsSound (shown size ps)) (sym (unmoved r leads)) group.sound
 
+    -- the group is sound after the move, with each node in its place
     pub still_group : (told : Told) → LeadsAt outcome node told moved
         → IsGroup size (set places i moved)
     still_group told leads = record {

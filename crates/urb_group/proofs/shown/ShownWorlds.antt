@@ -45,19 +45,22 @@ sound-new group size s = record { world = started size; shows = s; kept = new-ke
 
 -- ---- one changed node
 
--- a node of the group
+-- the node of each place below n is one of n nodes
 pub is-node : (n i : ℕ) → i < n → is_node n (suc i) ≡ true
 is-node n i h =
     and_from (nat_lt 0 (suc i)) (nat_lt (suc i) (suc n)) (lt-ltb 0 (suc i) (omega arith))
     (lt-ltb (suc i) (suc n) (omega arith))
 
+-- a number above n is none of n nodes
 pub no-node : (n p : ℕ) → n < p → is_node n p ≡ false
 no-node n p h = and_right (nat_lt 0 p) (nat_lt p (suc n)) (le-ltb p (suc n) (omega arith))
 
+-- an event at a number above the group's size is refused as BadNode, and the world stays
 pub at_no_node : (w : World) (p : ℕ) (outcome : Reply × Node) → w.size.n < p
     → at_node w p outcome ≡ (Refused refusal.BadNode, w)
 at_no_node w p outcome h = cond-false (is_node w.size.n p) _ _ (no-node w.size.n p h)
 
+-- an event at a node of the group has that node's outcome
 pub at_some_node : (w : World) (i : ℕ) (outcome : Reply × Node) → i < w.size.n
     → at_node w (suc i) outcome ≡ world_after w (suc i) outcome
 at_some_node w i outcome h = cond-true (is_node w.size.n (suc i)) _ _ (is-node w.size.n i h)
@@ -106,6 +109,7 @@ all_same zero j = refl
 all_same (suc n) zero = refl
 all_same (suc n) (suc j) = all_same n j
 
+-- views that hold nothing, one for each node, show the world of a new group
 pub shows-new : (size : Limits)
     → Shows (record { size = size; nodes = replicate size.n no_view }) (started size)
 shows-new size = record { size = refl; nodes = each }

@@ -31,13 +31,19 @@ use Rattle.urb_stable.specs.declared.record.Record.TheVariants.{Cert, Pend, Pend
 
 -- the two don't differ in what a group holds in memory
 pub record Alike (size : Limits) (p : ℕ) (a b : Node) : Type 0 where
+  -- both have the same pending pairs
   pub pairs : (x : Label) (m : Content)
       → has_pair (pend a.records) x m ≡ has_pair (pend b.records) x m
+  -- both have certified the same names
   pub certified : (x : Label) → has_name (cert a.records) x ≡ has_name (cert b.records) x
+  -- both are in the same state
   pub state : a.state ≡ b.state
+  -- both have counted the same nodes for each name that is not certified
   pub acks : (x : Label) (q : ℕ) → has_name (cert b.records) x ≡ false
       → acked a.acks x q ≡ acked b.acks x q
+  -- the second node's records keep the rules that concern its own image alone
   pub rules : KeepsOwn size p [] b.records
+  -- the second node's broadcasts are its own pending messages
   pub broadcast : b.broadcast ≡ own p (pend b.records)
 
 module _ (size : Limits) (node new : ℕ → Node) (alike : (p : ℕ) → Alike size p (node p) (new p))

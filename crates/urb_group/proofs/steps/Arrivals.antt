@@ -166,6 +166,7 @@ module _ (size : Limits) (images : ℕ → List Entry) (all : AllKept size image
             with_record-grows (Cert x) z x o
             (subst (λ (v : Content). has_pair (pend (images z)) x v ≡ true) f k.2)
 
+-- the arrival of a message that the packet's source has stored preserves the rules
 pub leads-arrives : (size : Limits) (images : ℕ → List Entry) → AllKept size images
     → (p q : ℕ) (x : Label) (m : Content) (flags : Option Flags) (node : Node)
     → images p ≡ node.records → NodeKept size images p node

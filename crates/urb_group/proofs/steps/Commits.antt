@@ -14,6 +14,8 @@ use Rattle.urb_node.specs.Steps.{broadcast_after, comes_up, done, doubt, goes_do
 use Rattle.urb_stable.specs.Entries.{Entry}
 use Rattle.urb_node.specs.declared.cause.Cause.{Cause}
 
+-- storing the held record preserves the rules, if the record meets them and the node that caused it
+-- holds its pair
 pub leads-stored : (size : Limits) (images : ℕ → List Entry) (p : ℕ) (node : Node) (r : Entry)
     (cause : Option Cause) → images p ≡ node.records → NodeKept size images p node
     → MayJoin size images p node.records r → IsCaused images r cause
@@ -39,6 +41,8 @@ doubt-kept size images p records Ready h = tt
 doubt-kept size images p records (Storing r cause) h = h.0
 doubt-kept size images p records (Down doubtful) h = h
 
+-- a failed store or a crash preserves the rules: a held record becomes doubtful and still meets
+-- them
 pub leads-goes_down : (size : Limits) (images : ℕ → List Entry) (p : ℕ) (node : Node)
     → images p ≡ node.records → NodeKept size images p node → Leads size images p (goes_down p node)
 leads-goes_down size images p node e k =
@@ -54,6 +58,7 @@ leads-goes_down size images p node e k =
 
 -- ---- restart
 
+-- a restart with the records that were stored preserves the rules
 pub leads-up_same : (size : Limits) (images : ℕ → List Entry) (p : ℕ) (node : Node)
     → images p ≡ node.records → NodeKept size images p node
     → Leads size images p (comes_up p node.records node.broadcast)
@@ -67,6 +72,7 @@ leads-up_same size images p node e k =
       broadcast = k.broadcast;
     }) tt
 
+-- a restart that counts the doubtful record as stored preserves the rules
 pub leads-up_joined : (size : Limits) (images : ℕ → List Entry) (p : ℕ) (node : Node)
     → images p ≡ node.records → NodeKept size images p node → (r : Entry)
     → MayJoin size images p node.records r

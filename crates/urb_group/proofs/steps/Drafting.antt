@@ -44,10 +44,12 @@ agree size images all p q x m o h k =
 
 -- ---- refusals and drafts
 
+-- a node that refuses an event preserves the rules
 pub leads-refuses : (size : Limits) (images : ℕ → List Entry) (p : ℕ) (node : Node) (r : Refusal)
     → images p ≡ node.records → NodeKept size images p node → Leads size images p (refuses node r)
 leads-refuses size images p node r e k = leads-same size images p (refuses node r) e k tt
 
+-- a node that drafts a record preserves the rules, if the record would meet them once stored
 pub leads-drafts : (size : Limits) (images : ℕ → List Entry) (p : ℕ) (node : Node) (r : Entry)
     (cause : Option Cause) → images p ≡ node.records → NodeKept size images p node
     → MayJoin size images p node.records r → IsCaused images r cause

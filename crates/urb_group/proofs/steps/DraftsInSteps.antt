@@ -16,7 +16,7 @@ use Rattle.urb_group.proofs.steps.StepCases.{step-cases, step-here}
 
 -- ---- the other nodes, and the limits
 
--- the other nodes stay
+-- an event changes no other node than its own
 pub step-elsewhere : (w : World) (event : Event) (q : ℕ) → (q == event_node event) ≡ false
     → (step w event).1.node q ≡ w.node q
 step-elsewhere w event q e =

@@ -26,13 +26,16 @@ use Rattle.urb_stable.specs.declared.record.Record.TheVariants.{Cert, Pend, Pend
 use Rattle.urb_group.proofs.steps.StepCases.{OutcomeCases, node_of, outcome-cases, step-nodes}
 use Rattle.urb_group.specs.Delivering.{event_node}
 
+-- a list is a prefix of itself
 pub begins-itself : {A : Type 0} (xs : List A) → Begins xs xs
 begins-itself xs = ([], append-nil xs)
 
+-- a prefix of a prefix of a list is a prefix of that list
 pub begins-trans : {A : Type 0} (xs ys zs : List A) → Begins xs ys → Begins ys zs → Begins xs zs
 begins-trans xs ys zs h k =
     (h.0 ++ k.0, sym (append_assoc xs h.0 k.0) ∙ (ap (λ ws. ws ++ k.0) h.1 ∙ k.1))
 
+-- a list is a prefix of itself with one more element at its end
 pub begins-push : {A : Type 0} (xs : List A) (x : A) → Begins xs (xs ++ x ∷ [])
 begins-push xs x = (x ∷ [], refl)
 
@@ -48,6 +51,7 @@ released-behind (x ∷ newer) older =
       refl,
     )
 
+-- the log of a prefix of some records is a prefix of the log of all of them
 pub log-begins : (xs ys : List Entry) → Begins xs ys → Begins (log xs) (log ys)
 log-begins xs ys h =
     subst (λ (zs : List Entry). Begins (log xs) (log zs)) h.1
@@ -55,6 +59,7 @@ log-begins xs ys h =
     (sym (ap reverse (cert-append xs h.0) ∙ reverse-append (cert xs) (cert h.0)))
     (released-behind (reverse (cert h.0)) (reverse (cert xs))))
 
+-- a pair that is pending in a prefix of some records is pending in all of them
 pub pair-begins : (xs ys : List Entry) → Begins xs ys → (x : Label) (m : Content)
     → has_pair (pend xs) x m ≡ true → has_pair (pend ys) x m ≡ true
 pair-begins xs ys h x m k =
@@ -62,6 +67,7 @@ pair-begins xs ys h x m k =
     (subst (λ (ps : List (Label × Content)). has_pair ps x m ≡ true) (sym (pend-append xs h.0))
     (has_pair-left (pend xs) (pend h.0) x m k))
 
+-- a name that is certified in a prefix of some records is certified in all of them
 pub certificate-begins : (xs ys : List Entry) → Begins xs ys → (x : Label)
     → has_name (cert xs) x ≡ true → has_name (cert ys) x ≡ true
 certificate-begins xs ys h x k =
@@ -72,7 +78,9 @@ certificate-begins xs ys h x k =
 -- ---- one node
 
 pub record Extends (old new : Node) : Type 0 where
+  -- the old records are a prefix of the new ones
   pub records : Begins old.records new.records
+  -- the old broadcasts are a prefix of the new ones
   pub broadcast : Begins old.broadcast new.broadcast
 
 -- an outcome with the same records and broadcasts
@@ -158,6 +166,8 @@ step-extends w event =
               };
         }
 
+-- an event adds only at the end of what each node stores, broadcasts and delivers, and truthful
+-- packets stay truthful
 pub step-goes_on : (w : World) (event : Event) → GoesOn w (step w event).1
 step-goes_on w event = goes_on w (step w event).1 (step-extends w event)
 
@@ -177,6 +187,8 @@ run-extends w (event ∷ events) q =
           ((step w event).1.node q).broadcast _ one.broadcast rest.broadcast;
     }
 
+-- a run adds only at the end of what each node stores, broadcasts and delivers, and truthful
+-- packets stay truthful
 pub run-goes_on : (old new : World) (events : List Event) (replies : List Reply)
     → Run old events replies new → GoesOn old new
 run-goes_on old new events replies r =

@@ -68,6 +68,7 @@ own_acked (pair ∷ ps) p x q h = at (own_acked ps p x q) (same_name pair.0 x) h
     )
     at ih false e = ih e
 
+-- a node's own acknowledgements of its pending names are true: it has stored these messages
 pub own_acks-kept : (images : ℕ → List Entry) (p : ℕ) (records : List Entry) → images p ≡ records
     → AcksKept images records (own_acks p records)
 own_acks-kept images p records here x q c h =
@@ -95,6 +96,7 @@ module _ (size : Limits) (images : ℕ → List Entry) (p : ℕ) (node : Node)
       (sym (pend-append node.records (r ∷ [])))
       (has_pair-left (pend node.records) (pend (r ∷ [])) x m h)
 
+  -- each pair that the node had stored is still stored once the record is added
   pub joined-grows : (x : Label) (m : Content) → has_pair (pend (images p)) x m ≡ true
       → has_pair (pend joined) x m ≡ true
   joined-grows x m h =
@@ -110,7 +112,7 @@ module _ (size : Limits) (images : ℕ → List Entry) (p : ℕ) (node : Node)
           (eqb-true q p e) h)
       at false e h = h
 
-  -- a certificate stays
+  -- each name that the node had certified is still certified once the record is added
   pub joined-certified : (x : Label) → has_name (cert (images p)) x ≡ true
       → has_name (cert joined) x ≡ true
   joined-certified x h =
@@ -118,6 +120,7 @@ module _ (size : Limits) (images : ℕ → List Entry) (p : ℕ) (node : Node)
       (any_left _ (cert node.records) (cert (r ∷ []))
       (subst (λ (rs : List Entry). has_name (cert rs) x ≡ true) here h))
 
+  -- the node's records meet the rules once a record is added that may join them
   pub joined-kept : Kept size after p [] joined
   joined-kept =
       kept-push size after p [] node.records r
@@ -207,6 +210,7 @@ caused-by_certified : (images : ℕ → List Entry) (x : Label) (m : Content) (c
 caused-by_certified images x m None h = tt
 caused-by_certified images x m (Some i) h = h
 
+-- once the record is stored, the node's broadcasts are still its own pending messages in order
 pub joined-broadcast : (size : Limits) (images : ℕ → List Entry) (p : ℕ) (node : Node)
     → images p ≡ node.records → NodeKept size images p node → (r : Entry)
     → MayJoin size images p node.records r
@@ -221,6 +225,7 @@ joined-broadcast size images p node e k (Cert x) j =
     k.broadcast ∙ ap (own p) (sym
     (pend-append node.records (Cert x ∷ []) ∙ append-nil (pend node.records)))
 
+-- once the record is stored, each node that is counted for a name holds the pending message
 pub joined-acks : (size : Limits) (images : ℕ → List Entry) (p : ℕ) (node : Node)
     → images p ≡ node.records → NodeKept size images p node → (r : Entry) (cause : Option Cause)
     → MayJoin size images p node.records r
@@ -244,6 +249,7 @@ last-certified records x m =
     (sym (cert-append records (PendCert x m ∷ [])))
     (any_right _ (cert records) (x ∷ []) (or_left (same_name x x) false (same_name-same x)))
 
+-- the packets of a stored record carry only pairs and certificates that the node has stored
 pub joined-sent : (size : Limits) (images : ℕ → List Entry) (p : ℕ) (node : Node)
     → images p ≡ node.records → NodeKept size images p node → (r : Entry) (cause : Option Cause)
     → MayJoin size images p node.records r

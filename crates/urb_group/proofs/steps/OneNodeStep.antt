@@ -23,11 +23,14 @@ use Rattle.urb_node.specs.declared.cause.Cause.{Cause}
 
 -- the nodes after a step, and the packets that it hands out
 pub record StepKept (outcome : Reply × World) : Type 0 where
+  -- all nodes meet the rules after the step
   pub nodes : NodesKept outcome.1
+  -- each packet of the reply is truthful after the step
   pub told : AllByRecursion (λ packet. truthful outcome.1 packet ≡ true) (packets_in outcome.0)
 
 -- ---- growing images
 
+-- an updated function has the new value at the updated place
 pub updated-at : {A : Type 0} (f : ℕ → A) (p : ℕ) (v : A) → updated f p v p ≡ v
 updated-at f p v = cond-true (p == p) _ _ (eq-eqb p p refl)
 
@@ -47,6 +50,7 @@ may_join-grows size old new p records r g h =
     (updated new p (records ++ r ∷ [])) p records r
     (updated-grows old new p (records ++ r ∷ []) g) h
 
+-- if the node that caused a record holds its pair, it still does once nodes have stored more
 pub caused-grows : (old new : ℕ → List Entry) (r : Entry) (cause : Option Cause) → Grows old new
     → IsCaused old r cause → IsCaused new r cause
 caused-grows old new r None g h = tt
@@ -87,14 +91,18 @@ node-grows size old new p node g h =
 -- stored pairs
 pub record Leads (size : Limits) (images : ℕ → List Entry) (p : ℕ)
     (outcome : Reply × Node) : Type 0 where
+  -- no stored pair is lost
   pub grows : (x : Label) (m : Content) → has_pair (pend (images p)) x m ≡ true
       → has_pair (pend outcome.1.records) x m ≡ true
+  -- no stored certificate is lost
   pub certified : (x : Label) → has_name (cert (images p)) x ≡ true
       → has_name (cert outcome.1.records) x ≡ true
+  -- the node meets the rules after the outcome
   pub kept : NodeKept size (updated images p outcome.1.records) p outcome.1
+  -- each packet of the reply carries what the node has stored by then
   pub sent : AreFrom p (pend outcome.1.records) (cert outcome.1.records) (packets_in outcome.0)
 
--- if the records stay
+-- an outcome that leaves the records preserves the rules, if the node then meets them
 pub leads-same : (size : Limits) (images : ℕ → List Entry) (p : ℕ) (outcome : Reply × Node)
     → images p ≡ outcome.1.records → NodeKept size images p outcome.1
     → AreFrom p (pend outcome.1.records) (cert outcome.1.records) (packets_in outcome.0)

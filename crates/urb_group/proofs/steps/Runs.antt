@@ -39,9 +39,11 @@ use Rattle.urb_group.specs.Delivering.{event_node}
 
 -- ---- one step
 
+-- if all nodes of a world meet the rules, the stored records of each node meet them
 pub all_kept : (w : World) → NodesKept w → AllKept w.size (stored w)
 all_kept w kept q = (kept q).kept
 
+-- after an event all nodes still meet the rules, and each packet of the reply is truthful
 pub step-keeps : (w : World) (event : Event) → NodesKept w → StepKept (step w event)
 step-keeps w event kept =
     step-cases StepKept w event (λ r. record { nodes = kept; told = tt })
@@ -82,6 +84,7 @@ step-keeps w event kept =
 
 -- ---- what was sent
 
+-- an event adds the packets of its reply to the packets ever sent
 pub step-sends : (w : World) (event : Event)
     → (step w event).1.sent ≡ w.sent ++ packets_in (step w event).0
 step-sends w event =
@@ -130,6 +133,7 @@ run-tells w (event ∷ events) kept = (
 
 -- ---- the start
 
+-- nodes that are opened from records that meet the rules meet the rules
 pub opened-keeps : (size : Limits) (images : ℕ → List Entry) → AllKept size images
     → NodesKept (opened size images)
 opened-keeps size images all p =
@@ -203,6 +207,7 @@ node-kept size images fits p low high =
     (each_node (λ p. misfits_behind size images p [] (images p)) 1 size.n fits p low
     (omega (arith, high)))
 
+-- images that fit together meet the rules
 pub fitting-kept : (size : Limits) (images : List (List Entry)) → length images ≡ size.n
     → Fits size (image_of images) → AllKept size (image_of images)
 fitting-kept size images e fits zero = tt
@@ -214,6 +219,7 @@ fitting-kept size images e fits (suc i) =
 
 -- ---- any run
 
+-- the world of a new group keeps the rules and the limit on payloads
 pub new-kept : (size : Limits) → IsKept (started size)
 new-kept size = record {
   nodes = opened-keeps size (λ p. []) (λ q. tt);
@@ -221,6 +227,7 @@ new-kept size = record {
       opened-short size (λ p. []) (λ p x m h. absurd (false≢true h));
 }
 
+-- the world that is opened from images that fit together keeps the rules and the limit on payloads
 pub opened-kept : (size : Limits) (images : List (List Entry)) → AreImages size images
     → Fits size (image_of images) → IsKept (opened size (image_of images))
 opened-kept size images are fits =
@@ -233,10 +240,13 @@ start-keeps : (w : World) → IsStart w → IsKept w × AllTruthful w
 start-keeps w (Of_new size) = (new-kept size, tt)
 start-keeps w (Of_images size images are fits) = (opened-kept size images are fits, tt)
 
+-- a world that keeps the rules and the limit on payloads keeps them after any run
 pub run-kept : (w : World) (events : List Event) → IsKept w → IsKept (run w events).1
 run-kept w events kept = record
     { nodes = run-keeps w events kept.nodes; short = run-short w events kept.short }
 
+-- every world of a run keeps the rules and the limit on payloads, and all packets ever sent are
+-- truthful
 pub reached-keeps : (w : World) → IsReached w → IsKept w × AllTruthful w
 reached-keeps w r =
     let s = start-keeps r.start r.is_start in
@@ -275,6 +285,7 @@ no_misfits : (f : ℕ → List Misfit) → ((p : ℕ) → f p ≡ []) → (ps : 
 no_misfits f h [] = refl
 no_misfits f h (p ∷ ps) = ap₂ (λ xs ys. xs ++ ys) (h p) (no_misfits f h ps)
 
+-- images that meet the rules fit together
 pub kept-fits : (size : Limits) (images : ℕ → List Entry) → AllKept size images → Fits size images
 kept-fits size images all =
     no_misfits (λ p. misfits_behind size images p [] (images p))

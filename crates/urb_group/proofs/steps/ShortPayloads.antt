@@ -30,7 +30,7 @@ use Rattle.urb_node.proofs.SubmitCases.{next_name}
 
 -- ---- records
 
--- the pairs of both lists
+-- if the payloads of two lists of records are within the limit, so are those of both together
 pub short-append : (xs ys : List Entry) → AreShort (pend xs) → AreShort (pend ys)
     → AreShort (pend (xs ++ ys))
 short-append xs ys h k x m e =
@@ -107,6 +107,7 @@ arrive-short size p q x m flags node l =
 
 -- ---- the world
 
+-- an event leaves every payload that is stored, held or doubtful within the limit
 pub step-short : (w : World) (event : Event) → NodesShort w → NodesShort (step w event).1
 step-short w event short =
     step-nodes (λ q n. NodeShort n) w event short
@@ -138,6 +139,7 @@ step-short w event short =
           joined = λ image r e f h. joins node _ r (ap doubt f) refl refl h;
         }
 
+-- a run leaves every payload that is stored, held or doubtful within the limit
 pub run-short : (w : World) (events : List Event) → NodesShort w → NodesShort (run w events).1
 unfolding run
 run-short w [] short = short
@@ -145,10 +147,12 @@ run-short w (event ∷ events) short = run-short (step w event).1 events (step-s
 
 -- ---- an opened group
 
+-- nodes that are opened from records with payloads within the limit hold only such payloads
 pub opened-short : (size : Limits) (images : ℕ → List Entry)
     → ((p : ℕ) → AreShort (pend (images p))) → NodesShort (opened size images)
 opened-short size images h p = record { stored = h p; doubtful = tt }
 
+-- images whose records are within their limits have only payloads within the limit
 pub images-short : (images : List (List Entry)) → All (All IsEntry) images → (p : ℕ)
     → AreShort (pend (image_of images p))
 images-short images h = each images (recursion_from_All (All IsEntry) images h)

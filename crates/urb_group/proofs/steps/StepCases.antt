@@ -82,7 +82,8 @@ step-nodes P w event before here q =
         subst (λ (i : ℕ). P i (outcome_of w event).1) (sym (eqb-true q (event_node event) e)) here
     at false e = before q
 
--- the reply, and the event's node
+-- what holds for refusals and for the event's outcome holds for the reply and the event's node
+-- after it
 pub step-here : (P : Reply × Node → Type 0) (w : World) (event : Event)
     → ((r : Refusal) → P (refuses (node_of w event) r)) → P (outcome_of w event)
     → P ((step w event).0, (step w event).1.node (event_node event))
@@ -116,19 +117,26 @@ ticks-cases P n p node refused ticked =
 
 -- The property holds for each outcome that the event may have.
 pub record OutcomeCases (P : Reply × Node → Type 0) (w : World) (event : Event) : Type 0 where
+  -- the event is refused, and the node stays as it was
   pub refused : (r : Refusal) → P (refuses (node_of w event) r)
+  -- a ready node accepted the submitted message before, and says so again
   pub again : (x : Label) → (node_of w event).state ≡ Ready → P (Same (Accepted x), node_of w event)
+  -- a node that is alone drafts a new message together with its certificate
   pub alone : (m : Content) → IsNew w.size m (node_of w event) → (w.size.n == 1) ≡ true
       → P (drafts (node_of w event)
       (PendCert (next_name (event_node event) (node_of w event)) m) None)
+  -- one of several nodes drafts a new message as pending
   pub among : (m : Content) → IsNew w.size m (node_of w event) → (w.size.n == 1) ≡ false
       → P (drafts (node_of w event) (Pend (next_name (event_node event) (node_of w event)) m) None)
+  -- a truthful packet arrives at a ready node
   pub arrived : (packet : Carried) → event ≡ Arrive (event_node event) (Ok packet)
       → (node_of w event).state ≡ Ready → truthful w packet ≡ true
       → P (arrives w.size (event_node event) packet.source packet.name packet.message packet.flags
       (node_of w event))
+  -- a ready node ticks and resends
   pub ticked : event ≡ Tick (event_node event) → (node_of w event).state ≡ Ready
       → P (resends w.size.n (event_node event) (node_of w event))
+  -- the record that the node holds is stored
   pub stored : (position : ℕ) (entry held : Entry) (cause : Option Cause)
       → event ≡ Commit (event_node event) position entry
       → (node_of w event).state ≡ Storing held cause
@@ -136,16 +144,20 @@ pub record OutcomeCases (P : Reply × Node → Type 0) (w : World) (event : Even
         Stored (done w.size.n (event_node event) held cause (node_of w event)),
         keeps_record (event_node event) held cause (node_of w event),
       )
+  -- a node that is up goes down, because of a failed store or a crash
   pub down : (event ≡ Fail (event_node event)) ⊎ (event ≡ Crash (event_node event))
       → is_down (node_of w event).state ≡ false → P (goes_down (event_node event) (node_of w event))
+  -- a node that is down restarts with its records
   pub up : (image : List Entry) (doubtful : Option Entry) → event ≡ Restart (event_node event) image
       → (node_of w event).state ≡ Down doubtful
       → P (comes_up (event_node event) (node_of w event).records (node_of w event).broadcast)
+  -- a node that is down restarts, and its doubtful record counts as stored
   pub joined : (image : List Entry) (r : Entry) → event ≡ Restart (event_node event) image
       → (node_of w event).state ≡ Down (Some r)
       → P (comes_up (event_node event) ((node_of w event).records ++ r ∷ [])
       (broadcast_after (event_node event) r (node_of w event).broadcast))
 
+-- what holds in each of these cases holds for the outcome of the event
 pub outcome-cases : (P : Reply × Node → Type 0) (w : World) (event : Event) → OutcomeCases P w event
     → P (outcome_of w event)
 outcome-cases P w (Submit p m) c =

@@ -91,6 +91,7 @@ module _ (size : Limits) (images : ℕ → List Entry) (p : ℕ) (records : List
 module _ (size : Limits) (images : ℕ → List Entry) (p : ℕ) (m : Content) (node : Node)
     (e : images p ≡ node.records) (is : is_node size.n p ≡ true) (k : NodeKept size images p node)
     (new : IsNew size m node) where
+  -- drafting a new message as pending preserves the rules
   pub leads-among : Leads size images p (drafts node (Pend (next_name p node) m) None)
   leads-among =
       leads-drafts size images p node _ None e k
@@ -101,6 +102,8 @@ module _ (size : Limits) (images : ℕ → List Entry) (p : ℕ) (m : Content) (
       (λ number room. joins-own size images p node.records k.kept is m room number)
       new.number new.room) tt
 
+  -- at a node that is alone, drafting a new message together with its certificate preserves the
+  -- rules
   pub leads-alone : (size.n == 1) ≡ true
       → Leads size images p (drafts node (PendCert (next_name p node) m) None)
   leads-alone one =

@@ -10,6 +10,7 @@ use Rattle.urb_node.specs.Steps.{due, resends}
 use Rattle.urb_stable.specs.Entries.{Entry}
 use Rattle.urb_stable.specs.Records.{cert, pend}
 
+-- a tick of a ready node preserves the rules
 pub leads-resends : (size : Limits) (images : ℕ → List Entry) (p : ℕ) (node : Node)
     → images p ≡ node.records → NodeKept size images p node
     → Leads size images p (resends size.n p node)

@@ -14,14 +14,22 @@ use Rattle.urb_group.specs.Reopening.{AllGive, FirstFails}
 -- the first stores gave these lists, and the others are as they were
 pub record HasAsked {S A : Type 0} (g : Ghosts S A) (stores now : List S)
     (images : List (List Entry)) (index : ℕ) : Type 0 where
+  -- the stores that were asked
   pub earlier : List S
+  -- these stores after that
   pub gave : List S
+  -- the stores that were not asked
   pub later : List S
+  -- each store that was asked gave its list
   pub given : AllGive g earlier images gave
+  -- as many stores were asked as the index says
   pub count : length gave ≡ index
+  -- all stores at the beginning
   pub were : stores ≡ earlier ++ later
+  -- all stores now
   pub are : now ≡ gave ++ later
 
+-- at the beginning no store was asked
 pub none-asked : {S A : Type 0} (g : Ghosts S A) (stores : List S) → HasAsked g stores stores [] 0
 none-asked g stores = record {
   earlier = [];
@@ -47,8 +55,11 @@ put-behind (x ∷ xs) ys y z = ap (λ zs. x ∷ zs) (put-behind xs ys y z)
 
 -- the next of some more elements
 record HasNext {S : Type 0} (later : List S) : Type 0 where
+  -- the next element
   pub next : S
+  -- the elements behind it
   pub rest : List S
+  -- the list is made of these
   pub is : later ≡ next ∷ rest
 
 next-of : {S : Type 0} (gave later : List S) → length gave < length (gave ++ later) → HasNext later

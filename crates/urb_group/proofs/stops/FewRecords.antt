@@ -130,7 +130,9 @@ in-seconds (Cert y ∷ records) x h =
 
 -- each of these names occurs once, and the group may have it
 record AreAllowed (size : Limits) (xs : List Label) : Type 0 where
+  -- no name occurs twice
   pub once : Once xs
+  -- the group may have each name
   pub range : (x : Label) → IsIn x xs → in_range size x ≡ true
 
 allowed-push : (size : Limits) (xs : List Label) (x : Label) → AreAllowed size xs → (IsIn x xs → ⊥)
@@ -244,6 +246,7 @@ kept-few size images p records limits kept =
     (λ x k. in-allowed size x (all.1.range x k)) in
     omega (arith, both-counted records, first, second, few-allowed size limits)
 
+-- a node of a sound group within its limits has stored at most 16,000,016 records
 pub few-records : (group : GroupView) (w : World) (p : ℕ) → IsSound group → IsLimits group.size
     → Shows group w → length (w.node p).records ≤ 16000016
 few-records group w p sound limits shows =

@@ -58,6 +58,8 @@ sure-place g node store pos h up position few honest =
     in-place (g.is_doubtful store) (length (g.certain store) + 1) pos (h.sure up)
     (omega (arith, count, position)) (omega (arith, count, few))
 
+-- an honest store of a node that is up keeps the node's draft, or fails because of memory or its
+-- device
 pub node-in-place : {S A : Type 0} (g : Ghosts S A) (node : Node) (before after : S)
     (draft : Placed) (answer : Result (Unit {0}) StoreFault) → Keeps g before draft answer after
     → IsStoreOf g node before
@@ -105,6 +107,7 @@ module _ {S A : Type 0} (g : Ghosts S A) (old new : Clustered S) (sound : IsSoun
       held : HoldsIn h.world draft
       held = holds-in old.group h.world p draft h.shows e
 
+  -- a draft that a command gives to an honest store of a stocked cluster is in place
   pub applies-in-place : (command : Command A) (reply : Reply) → Applies g old command reply new
       → AppliesInPlace g old command reply new
   applies-in-place (command.Store p) reply stores =
@@ -113,6 +116,7 @@ module _ {S A : Type 0} (g : Ghosts S A) (old new : Clustered S) (sound : IsSoun
 
 -- ---- a failure that is asked for
 
+-- a held draft whose store in memory is armed to fail is in place
 pub fails-in-place : {A : Type 0} (old new : Clustered Memory) → IsSound old.group
     → IsLimits old.group.size → IsStocked (in_memory A) old
     → (p : ℕ) (failure : Failure) (reply : Reply)

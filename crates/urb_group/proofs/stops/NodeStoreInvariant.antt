@@ -35,8 +35,11 @@ use Rattle.urb_group.specs.declared.command.Command.TheVariants as command
 use Rattle.urb_node.specs.declared.cause.Cause.{Cause}
 
 pub record Beside {S : Type 0} (P : Node → S → Type 0) (cluster : Clustered S) : Type 0 where
+  -- a world
   pub world : World
+  -- the group shows it
   pub shows : Shows cluster.group world
+  -- each store has the property with its node of that world
   pub stores : (i : ℕ) (store : S) → slice_get cluster.stores i ≡ Some store
       → P (world.node (suc i)) store
 
@@ -44,16 +47,21 @@ pub record Beside {S : Type 0} (P : Node → S → Type 0) (cluster : Clustered 
 -- The cases: the node stays; the store took its draft, or didn't; the store gave its records, or
 -- didn't.
 pub record Lasts {S A : Type 0} (g : Ghosts S A) (P : Node → S → Type 0) : Type 0 where
+  -- it lasts if the node stores nothing and doesn't come up, and the store isn't asked
   pub stays : (old new : Node) (store : S) → Stays old new → P old store → P new store
+  -- it lasts if the store keeps the draft of a node that is up, and the node becomes ready
   pub took : (node new : Node) (before after : S) (draft : Placed)
       → Keeps g before draft (Ok tt) after → P node before → is_down node.state ≡ false
       → new.records ≡ node.records ++ draft.entry ∷ [] → new.state ≡ Ready → P new after
+  -- it lasts if the store fails to keep the draft of a node, and the node goes down
   pub lost : (node new : Node) (before after : S) (draft : Placed) (fault : StoreFault)
       → Keeps g before draft (Err fault) after → P node before → is_down node.state ≡ false
       → new.records ≡ node.records → new.state ≡ Down (Some draft.entry) → P new after
+  -- it lasts if the store gives its records, and the node rises with them
   pub rose : (node new : Node) (before after : S) (image : List Entry)
       → Gives g before (Ok image) after → (MayLeave node image → Rises image new) → P node before
       → P new after
+  -- it lasts if the store gives a fault in place of its records, and the node stays down
   pub unread : (node : Node) (before after : S) (fault : StoreFault)
       → Gives g before (Err fault) after → is_down node.state ≡ true → P node before → P node after
 
@@ -85,12 +93,18 @@ set-cases (z ∷ xs) (suc j) y (suc i) x e =
 
 -- a node of this world holds the draft
 pub record HoldsIn (w : World) (draft : Placed) : Type 0 where
+  -- the packet that caused the draft, if there is one
   pub cause : Option Cause
+  -- the draft's node is not 0
   pub positive : 0 < draft.node
+  -- the group has this node
   pub there : is_node w.size.n draft.node ≡ true
+  -- the node holds the draft's record
   pub storing : (w.node draft.node).state ≡ Storing draft.entry cause
+  -- the draft is for the node's next position
   pub position : draft.pos ≡ suc (length (w.node draft.node).records)
 
+-- a draft that a group holds is held by its node in each world that the group shows
 pub holds-in : (group : GroupView) (w : World) (p : ℕ) (draft : Placed) → Shows group w
     → held_draft group p ≡ Some draft → HoldsIn w draft
 holds-in group w p draft shows there =
@@ -328,6 +342,7 @@ module _ {S A : Type 0} (g : Ghosts S A) (P : Node → S → Type 0) (rules : La
 
   -- ---- a command
 
+  -- a lasting property that each node has with its store holds again after any command
   pub applies-beside : (old new : Clustered S) (command : Command A) (reply : Reply)
       → Applies g old command reply new → Beside P old → Beside P new
   applies-beside old new (command.Submit p client number payload) reply h beside =

@@ -43,6 +43,7 @@ use Rattle.urb_group.specs.World.{World, opened}
 
 -- ---- stores that were asked one after the other
 
+-- if some stores gave their lists, and one more store gives its list, then all of them gave theirs
 pub give-more : {S A : Type 0} (g : Ghosts S A) (stores : List S) (images : List (List Entry))
     (asked : List S) (before after : S) (image : List Entry) → AllGive g stores images asked
     → Gives g before (Ok image) after
@@ -52,6 +53,7 @@ give-more g (s ∷ stores) (i ∷ images) (a ∷ asked) before after image h one
     (h.0, give-more g stores images asked before after image h.1 one)
 give-more g _ _ _ before after image h one = absurd h
 
+-- stores that gave their lists gave one list each
 pub given-count : {S A : Type 0} (g : Ghosts S A) (stores : List S) (images : List (List Entry))
     (asked : List S) → AllGive g stores images asked → length images ≡ length stores
 given-count g [] [] [] h = refl
@@ -117,6 +119,7 @@ given-store g p image before after gives =
         subst (λ (o : Option Entry). IsContents (g.certain after) o records) gives.settled.clear.1 c
         ∙ (gives.retrieved honest).given.0
 
+-- a cluster that is opened over stores is stocked
 pub opens-stocked : {S A : Type 0} (g : Ghosts S A) (size : Limits) (stores : List S)
     (result : Result (Clustered S) (Vec S A × Refusal)) → OpensStores g size stores result
     → IfOk result (λ cluster. IsStocked g cluster)
@@ -135,7 +138,9 @@ opens-stocked g size stores (Err e) h = tt
 -- If the store holds what a stop may leave of a node, it still does after the call. A stop inside
 -- the call leaves in it what a stop before the call might have left.
 record StaysOf {S A : Type 0} (g : Ghosts S A) (before after : S) : Type 0 where
+  -- if all that the store may hold is what a stop may leave of a node, this stays so
   pub holds : (node : Node) → HoldsOf g node before → HoldsOf g node after
+  -- a stop during the call leaves what a stop may leave of the node, if a stop before the call did
   pub leaves : (node : Node) → HoldsOf g node before → (g.is_honest before → LeavesOf g node before)
       → g.is_honest before → g.is_clean after → LeavesOf g node after
 
@@ -171,8 +176,11 @@ failed-stays g before after fault gives =
 -- each store in its place stays like this
 record StayIn {S A : Type 0} (g : Ghosts S A) (stores asked : List S) (i : ℕ)
     (store : S) : Type 0 where
+  -- the store before it was asked
   pub before : S
+  -- it had the same place
   pub was : slice_get stores i ≡ Some before
+  -- what it may hold stays
   pub stays : StaysOf g before store
 
 AllStay : {S A : Type 0} → Ghosts S A → List S → List S → Type 0
@@ -266,6 +274,7 @@ open-stays g size stores (Err e) h =
     ⊎_elim (λ k. refused-stay g stores e.0.items e.1 k)
     (λ k. all-given-stay g stores k.images e.0.items k.given) h
 
+-- a stop during an opening leaves in each honest store what a stop may leave of the world's node
 pub opens-leaves : {S A : Type 0} (g : Ghosts S A) (size : Limits) (stores : List S)
     (result : Result (Clustered S) (Vec S A × Refusal)) → OpensStores g size stores result
     → (w : World) → AllHold g w stores → RestLeaves g w stores
@@ -412,6 +421,8 @@ module _ {S A : Type 0} (g : Ghosts S A) (old : GroupView) (w : World) (size : L
       (given-honest g stores images asked given (recursion_from_All (IsKnown g) stores known)
       (recursion_from_All g.is_clean asked clean))
 
+  -- over honest stores, a cluster opened after a stop goes on from the stopped world, and a refused
+  -- opening can be tried again
   pub opens-goes_on : length stores ≡ size.n → (result : Result (Clustered S) (Vec S A × Refusal))
       → OpensStores g size stores result → Continues g old w size stores result
   opens-goes_on count (Ok new) h = goes-on-from count new h

@@ -45,6 +45,7 @@ beside-secured g cluster h = record {
       λ i store got. (h.stocked.stores i store got, h.lasting i store got);
 }
 
+-- a cluster is secured if each store belongs to its node in a world that the group shows, and lasts
 pub secured-beside : {S A : Type 0} (g : Ghosts S A) (cluster : Clustered S)
     → Beside (IsLastingOf g) cluster → IsSecured g cluster
 secured-beside g cluster h =
@@ -74,6 +75,7 @@ honest-up : {S A : Type 0} (g : Ghosts S A) (node : Node) (store : S) → IsLast
 honest-up g node store h up clean =
     ⊎_elim (λ honest. honest) (λ shut. absurd (false≢true (sym up ∙ shut.1))) (h.known clean)
 
+-- a store that lasts is honest or shut, if its storage has returned what was written
 pub lasting-known : {S A : Type 0} (g : Ghosts S A) (node : Node) (store : S)
     → IsLasting g node store → IsKnown g store
 lasting-known g node store h clean =
@@ -190,6 +192,7 @@ secured-lasts g = record {
   unread = lasting-unread g;
 }
 
+-- a secured cluster is secured after any command
 pub applies-secured : {S A : Type 0} (g : Ghosts S A) (old new : Clustered S) (command : Command A)
     (reply : Reply) → Applies g old command reply new → IsSecured g old → IsSecured g new
 applies-secured g old new command reply h secured =
@@ -273,6 +276,8 @@ module _ {S A : Type 0} (g : Ghosts S A) (old new : Clustered S) (h : IsSecured 
   restarts-left p reply true e asks = asked-would p reply e asks
   restarts-left p reply false e alone = alone-left (alone []).1
 
+  -- after a command, a stop leaves in each clean store what it may leave of the node before the
+  -- command
   pub applies-left : (command : Command A) (reply : Reply) → Applies g old command reply new
       → WouldLeave g h.stocked.world new.stores
   applies-left (command.Store p) reply stores =

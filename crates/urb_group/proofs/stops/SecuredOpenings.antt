@@ -22,6 +22,7 @@ use Rattle.urb_group.specs.Reopening.{OpensStores}
 use Rattle.urb_group.specs.Stocked.{IsGenuine, IsKnown, IsSecured}
 use Rattle.urb_group.specs.World.{image_of, opened, started}
 
+-- a new cluster over blank stores is secured, if each store is honest while its storage is clean
 pub starts-secured : {S A T : Type 0} (g : Ghosts S A) (size : Limits) (stores : List S)
     (passed : T) (result : Result (Clustered S) (T × NoMemory)) → All (IsBlank g) stores
     → All (IsGenuine g) stores → Starts size stores passed result
@@ -43,6 +44,7 @@ starts-secured {S} g size stores passed (Ok cluster) blank genuine h =
               i store was),
         )
 
+-- an opened cluster is secured, if each store is honest or shut while its storage is clean
 pub opens-secured : {S A : Type 0} (g : Ghosts S A) (size : Limits) (stores : List S)
     (result : Result (Clustered S) (Vec S A × Refusal)) → OpensStores g size stores result
     → All (IsKnown g) stores

@@ -1,5 +1,5 @@
--- Images of a group fit together under other limits if the cap and the majorities allow it, and only
--- then.
+-- Images of a group fit together under other limits if the cap and the majorities allow it, and
+-- only then.
 use Rattle.std.proofs.Common.{List, Some, [], ap, ap₂, arith, eq-eqb, false}
 use Rattle.std.proofs.Common.{length, lt-ltb, ltb-true, nat_lt, refl, slice_get, subst, suc, sym, true}
 use Rattle.std.proofs.Common.{ℕ, ⊎_elim, ◌++◌, ◌<◌, ◌∙◌, ◌∷◌, ◌≡◌, ◌≤◌}
@@ -125,6 +125,7 @@ module _ (old new : Limits) (images : ℕ → List Entry) (all : AllKept old ima
       (λ e r was rules ranges. keeps_own-push new p [] e r (was (before e r ranges))
       (still-new e r ranges rules.a) rules.b) [] (images p) (λ ranges. tt) (all p) (in-new p)
 
+  -- images that meet the rules meet them under new limits, if the cap and the majorities allow it
   pub kept-under : AllKept new images
   kept-under p =
       to_kept new images p (images p) (kept-known old images p (images p) (all p))
@@ -145,6 +146,7 @@ fitting-all size images are fits p = ⊎_elim inside outside (cases_Bool (is_nod
     outside : is_node size.n p ≡ false → Kept size images p [] (images p)
     outside is = subst (λ (rs : List Entry). Kept size images p [] rs) (sym (are p is)) tt
 
+-- images that fit together fit under new limits, if the cap and the majorities allow it
 pub fits-under : (old new : Limits) (images : ℕ → List Entry) → old.n ≤ new.n
     → AreOfGroup old.n images → Fits old images → AreWithinCap new.cap images
     → HaveMajorities new.n images → Fits new images
@@ -152,6 +154,7 @@ fits-under old new images more are fits within majorities =
     kept-fits new images
     (kept-under old new images (fitting-all old images are fits) more within majorities)
 
+-- images fit together under new limits only if the cap and the majorities allow it
 pub fits-only : (old new : Limits) (images : ℕ → List Entry) → old.n ≤ new.n
     → AreOfGroup old.n images → Fits new images
     → AreWithinCap new.cap images × HaveMajorities new.n images
@@ -183,6 +186,8 @@ fits-more old new images same more are fits =
 
 -- ---- what a stop leaves
 
+-- whatever a stop leaves of a world meets the rules under limits with which the group may start
+-- again
 pub starts-kept : (w : World) → IsKept w → (size : Limits) → MayStartWith size w
     → (images : ℕ → List Entry) → ((p : ℕ) → MayLeave (w.node p) (images p)) → AllKept size images
 starts-kept w kept size may images left =
@@ -201,6 +206,8 @@ starts-kept w kept size may images left =
         ⊎_elim (λ same. subst (λ (n : ℕ). HaveMajorities n images) same
         (have-majorities w.size images all)) (λ always. always images left) may.majorities
 
+-- whatever a stop leaves opens a group that goes on, under limits with which the group may start
+-- again
 pub starts-on : (w : World) → IsKept w → (size : Limits) → MayStartWith size w
     → AlwaysLeaves w (GoesOnUnder size w)
 starts-on w kept size may images left =

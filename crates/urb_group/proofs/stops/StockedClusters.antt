@@ -27,6 +27,7 @@ abbrev pub beside-stocked : {S A : Type 0} (g : Ghosts S A) (cluster : Clustered
     → IsStocked g cluster → Beside (IsStoreOf g) cluster
 beside-stocked g cluster h = record { world = h.world; shows = h.shows; stores = h.stores }
 
+-- a cluster is stocked if each store belongs to its node in a world that the group shows
 pub stocked-beside : {S A : Type 0} (g : Ghosts S A) (cluster : Clustered S)
     → Beside (IsStoreOf g) cluster → IsStocked g cluster
 stocked-beside g cluster h = record { world = h.world; shows = h.shows; stores = h.stores }
@@ -214,6 +215,7 @@ unread g node before after fault gives store =
 
 -- ---- a command
 
+-- that a store belongs to its node lasts
 pub stock-lasts : {S A : Type 0} (g : Ghosts S A) → Lasts g (IsStoreOf g)
 stock-lasts g =
     record {
@@ -225,6 +227,7 @@ stock-lasts g =
           λ node before after fault gives fell store. unread g node before after fault gives store;
     }
 
+-- a stocked cluster is stocked after any command
 pub applies-stocked : {S A : Type 0} (g : Ghosts S A) (old new : Clustered S) (command : Command A)
     (reply : Reply) → Applies g old command reply new → IsStocked g old → IsStocked g new
 applies-stocked g old new command reply h stocked =

@@ -21,7 +21,9 @@ use Rattle.urb_stable.specs.declared.memory.Failure.TheVariants as failure
 
 -- what is certain stays, and the store has the record in doubt, or nothing of it
 pub record Leaves (before after : Memory) (entry : Entry) : Type 0 where
+  -- what is certain stays
   pub certain : after.certain ≡ before.certain
+  -- if no record was in doubt, then this record is in doubt, or none is
   pub doubt : before.doubt ≡ None → (after.doubt ≡ None) ⊎ (after.doubt ≡ Some entry)
 
 -- what is certain and what is in doubt stays
@@ -32,6 +34,7 @@ as-before m n entry after e certain doubt = record {
   doubt = λ none. inl (ap (λ (a : Memory). a.doubt) e ∙ (doubt ∙ none));
 }
 
+-- a failure on request leaves the certain records, with this record in doubt, or nothing of it
 pub breaks-leaves : (out : Bool) (failure : Failure) (m : Memory) (entry : Entry) (after : Memory)
     → Breaks out failure m entry after → Leaves m after entry
 breaks-leaves true failure m entry after h = as-before m m entry after h refl refl
@@ -74,6 +77,7 @@ fails-draft {A} old new p draft failure reply there fails h =
     down)
     (beside-stocked (in_memory A) old h))
 
+-- a stocked cluster is stocked after the failure of a store on request
 pub fails-stocked : {A : Type 0} (old new : Clustered Memory) (p : ℕ) (failure : Failure)
     (reply : Reply) → FailsHeld old p (held_draft old.group p) failure reply new
     → IsStocked (in_memory A) old → IsStocked (in_memory A) new

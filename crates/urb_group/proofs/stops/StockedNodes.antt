@@ -72,7 +72,7 @@ commit-node w p position entry cause there held at =
         (and_from (position == next_position (w.node p)) _
         (eq-eqb position (next_position (w.node p)) at) (same_record-same entry))
 
--- the node's store failed
+-- a failed store leaves the node's records, and brings it down with the held record in doubt
 pub fail-node : (w : World) (p : ℕ) (entry : Entry) (cause : Option Cause)
     → is_node w.size.n p ≡ true → (w.node p).state ≡ Storing entry cause
     → (((step w (Fail p)).1.node p).records ≡ (w.node p).records)
@@ -93,7 +93,9 @@ fail-node w p entry cause there held =
 -- A node that is down gets an image that a stop may leave. The image is then what the node may
 -- leave. If the node is up, it is what the node has stored.
 pub record Rises (image : List Entry) (new : Node) : Type 0 where
+  -- a stop may leave the image of the node
   pub may : MayLeave new image
+  -- if the node is up, it has stored exactly the image
   pub up : is_down new.state ≡ false → image ≡ new.records
 
 stays-down : (image : List Entry) (node : Node) (doubtful : Option Entry)
@@ -133,6 +135,8 @@ rises p image node (Some r) down may =
     either : (image ≡ node.records) ⊎ (image ≡ node.records ++ r ∷ [])
     either = subst (λ (s : State). IsContents node.records (doubt s) image) down may
 
+-- after a restart with an image that a stop may leave, a stop may still leave it, and a node that
+-- is up has stored it
 pub restart-node : (w : World) (p : ℕ) (image : List Entry) (doubtful : Option Entry)
     → is_node w.size.n p ≡ true → (w.node p).state ≡ Down doubtful → MayLeave (w.node p) image
     → Rises image ((step w (Restart p image)).1.node p)

@@ -35,6 +35,7 @@ use Rattle.urb_group.proofs.stops.StoppedWorlds.{survives}
 
 -- ---- a new cluster
 
+-- what holds for all stores holds for the store in each place
 pub all-at : {S : Type 0} (P : S → Type 0) (stores : List S) → AllByRecursion P stores
     → (i : ℕ) (store : S) → slice_get stores i ≡ Some store → P store
 all-at P [] h i store e = absurd (cc)
@@ -61,6 +62,7 @@ blank-store g size p store blank =
       sure = λ e. blank.doubtful;
     }
 
+-- a group that shows a new world is stocked with blank stores
 pub new-stocked : {S A : Type 0} (g : Ghosts S A) (size : Limits) (stores : List S)
     (cluster : Clustered S) → All (IsBlank g) stores → Shows cluster.group (started size)
     → cluster.stores ≡ stores → IsStocked g cluster
@@ -74,6 +76,7 @@ new-stocked g size stores cluster blank shows same =
           (subst (λ xs. slice_get xs i ≡ Some store) same got));
     }
 
+-- a new cluster over blank stores is stocked
 pub starts-stocked : {S A T : Type 0} (g : Ghosts S A) (size : Limits) (stores : List S)
     (passed : T) (result : Result (Clustered S) (T × NoMemory)) → All (IsBlank g) stores
     → Starts size stores passed result → IfOk result (λ cluster. IsStocked g cluster)
@@ -155,6 +158,8 @@ held-fits g group w stores sound shows hold places images chosen =
     survives w (sound-kept group w sound shows) (image_of images)
     (chosen-left g group w stores images shows hold (omega (arith, places)) chosen)
 
+-- whatever the honest stores of a stocked cluster may hold fits together, and opens a group that
+-- goes on
 pub stocked-fits : {S A : Type 0} (g : Ghosts S A) (cluster : Clustered S) → IsSound cluster.group
     → length cluster.stores ≡ length cluster.group.nodes → IsStocked g cluster
     → ContentsFit g cluster

@@ -19,8 +19,11 @@ use Rattle.urb_stable.specs.declared.stable.Stable.{Ghosts}
 -- The node has the same records. If anything was held or in doubt, it still is. The node isn't up
 -- if it was down.
 pub record Stays (old new : Node) : Type 0 where
+  -- the stored records stay
   pub records : new.records ≡ old.records
+  -- the record in doubt stays, unless there was none
   pub doubt : (doubt old.state ≡ None) ⊎ (doubt new.state ≡ doubt old.state)
+  -- a node that is up afterwards was up before
   pub up : is_down new.state ≡ false → is_down old.state ≡ false
 
 abbrev Leaves : Node → Reply × Node → Type 0
@@ -35,6 +38,7 @@ IsQuiet (Commit p position entry) = ⊥
 IsQuiet (Restart p image) = ⊥
 IsQuiet event = Unit {0}
 
+-- an event other than a receipt or a restart stores no record and brings no node up
 pub quiet-stays : (w : World) (event : Event) → IsQuiet event → (q : ℕ)
     → Stays (w.node q) ((step w event).1.node q)
 quiet-stays w event quiet =
@@ -85,6 +89,7 @@ leaves-more old new s records may =
     grown None e = e ∙ sym s.records
     grown (Some r) e = inl (e ∙ sym s.records)
 
+-- if a stop leaves in the store what it may leave of the node, this stays so
 pub leaves-stay : {S A : Type 0} (g : Ghosts S A) (old new : Node) (store : S) → Stays old new
     → LeavesOf g old store → LeavesOf g new store
 leaves-stay g old new store s l =
@@ -96,6 +101,7 @@ leaves-stay g old new store s l =
           λ records c. leaves-more old new s records (l.may records c);
     }
 
+-- a store that belongs to the node before belongs to it afterwards
 pub store-stays : {S A : Type 0} (g : Ghosts S A) (old new : Node) (store : S) → Stays old new
     → IsStoreOf g old store → IsStoreOf g new store
 store-stays g old new store s h =

@@ -128,6 +128,7 @@ restarts-leaves g old new p reply false e alone h = alone-leaves g old new (alon
 
 -- ---- a command
 
+-- a stop during a command leaves in each honest store what it may leave of the store's node
 pub applies-leaves : {S A : Type 0} (g : Ghosts S A) (old new : Clustered S) (command : Command A)
     (reply : Reply) → Applies g old command reply new → (h : IsStocked g old)
     → StopLeaves g h.world old.stores new.stores
@@ -164,6 +165,7 @@ broke-leaves {A} node before after draft failure breaks store up held =
         (subst (λ (o : Option Entry). IsContents after.certain o records) some c))
         (left.doubt (store.up tt up).1)
 
+-- a stop during a failure on request leaves in each store what it may leave of the store's node
 pub fails-leaves : {A : Type 0} (old new : Clustered Memory) (p : ℕ) (failure : Failure)
     (reply : Reply) → FailsHeld old p (held_draft old.group p) failure reply new
     → (h : IsStocked (in_memory A) old) → StopLeaves (in_memory A) h.world old.stores new.stores

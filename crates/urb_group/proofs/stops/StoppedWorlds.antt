@@ -37,6 +37,7 @@ use Rattle.urb_stable.specs.Entries.{Entry}
 use Rattle.urb_stable.specs.Fitting.{Kept}
 use Rattle.urb_stable.specs.Records.{pend}
 
+-- whatever a stop leaves of a world that meets the rules meets them
 pub left-kept : (w : World) (inv : NodesKept w) (images : ℕ → List Entry)
     → ((p : ℕ) → MayLeave (w.node p) (images p)) → AllKept w.size images
 left-kept w inv images left p =
@@ -169,6 +170,7 @@ goes-on-under w kept size more images left all =
         and_from (nat_lt 0 p) (nat_lt p (suc size.n)) parts.0
         (lt-ltb p (suc size.n) (omega (arith, low, more)))
 
+-- whatever a stop leaves of a world that keeps the rules opens a group that goes on from it
 pub survives : (w : World) → IsKept w → SurvivesStop w
 survives w kept images left =
     goes-on-under w kept w.size (omega arith) images left (left-kept w kept.nodes images left)

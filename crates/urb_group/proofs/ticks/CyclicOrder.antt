@@ -206,7 +206,7 @@ turn cursor ps q rest h e =
     ∙ (cyclic_at at.front q at.back (subst (λ qs. are_rising qs ≡ true) at.whole h)
     ∙ (sym (append_assoc at.back at.front (q ∷ [])) ∙ ap (λ qs. qs ++ q ∷ []) (sym at.turned)))
 
--- all pairs are there
+-- cyclic order keeps the number of pairs
 pub length-cyclic : (cursor : Option Label) (ps : Pairs) → length (cyclic cursor ps) ≡ length ps
 length-cyclic cursor ps =
     length-append (filter (λ p. is_after cursor p.0) ps)

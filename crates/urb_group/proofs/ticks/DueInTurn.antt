@@ -50,12 +50,14 @@ filter-same f g (p ∷ ps) h =
     ap (λ b. cond b (p ∷ filter f ps) (filter f ps)) (h p (inl refl))
     ∙ ap (λ qs. cond (g p) (p ∷ qs) qs) (filter-same f g ps (λ d k. h d (inr k)))
 
+-- an element of a list of pairs is found there by its name and message
 pub in-has : (d : Label × Content) (ps : Pairs) → IsIn d ps → has_pair ps d.0 d.1 ≡ true
 in-has d [] h = absurd h
 in-has d (p ∷ ps) h =
     ⊎_elim (λ e. subst (λ (v : Label × Content). has_pair (p ∷ ps) v.0 v.1 ≡ true) e
     (has_pair-head p ps)) (λ e. has_pair-behind p ps d.0 d.1 (in-has d ps e)) h
 
+-- an element of a filtered list is an element of the list
 pub in-unfilter : (test : Label × Content → Bool) (d : Label × Content) (ps : Pairs)
     → IsIn d (filter test ps) → IsIn d ps
 in-unfilter test d [] h = h
@@ -205,6 +207,7 @@ module _ (all : Pairs) (rises : are_rising all ≡ true) (x : Label) (m : Conten
       (λ d i. in-pairs all d.0 d.1 (in-all
       (λ (pair : Label × Content). has_pair all pair.0 pair.1 ≡ true) d due h.among i))
 
+  -- a tick sends the due pair, or it passes at least NAMES_PER_TICK of the pairs before it
   pub due-passes : (due : Pairs) → IsDueAmong all x m due → (cursor : Option Label) (us vs : Pairs)
       → cyclic cursor all ≡ us ++ (x, m) ∷ vs
       → IsIn (x, m) (resent cursor due) ⊎ Nearer all (cursor_next cursor due) (x, m) (length us)
@@ -297,11 +300,16 @@ module _ (all : Pairs) (rises : are_rising all ≡ true) (x : Label) (m : Conten
 
   -- the pair is at the place that its turn gives
   pub record AtTurn (cursor : Option Label) : Type 0 where
+    -- the pairs before it in cyclic order
     pub us : Pairs
+    -- the pairs behind it
     pub vs : Pairs
+    -- cyclic order has the pair between these
     pub at : cyclic cursor all ≡ us ++ (x, m) ∷ vs
+    -- its turn is the number of pairs before it
     pub count : turn_of all cursor x ≡ length us
 
+  -- a pair of the list is at the place in cyclic order that its turn gives
   pub at-turn : (cursor : Option Label) → AtTurn cursor
   at-turn cursor =
       go (first-of other (cyclic cursor all) (x, m) (in-cyclic cursor (x, m) all there) itself)
@@ -321,6 +329,7 @@ module _ (all : Pairs) (rises : are_rising all ≡ true) (x : Label) (m : Conten
             count = f.count;
           }
 
+  -- a tick sends the due pair, or the pair's turn falls by at least NAMES_PER_TICK
   pub tick-passes : (cursor : Option Label) (due : Pairs) → IsDueAmong all x m due
       → (has_pair (resent cursor due) x m ≡ true)
       ⊎ (turn_of all (cursor_next cursor due) x + NAMES_PER_TICK ≤ turn_of all cursor x)
@@ -337,6 +346,8 @@ module _ (all : Pairs) (rises : are_rising all ≡ true) (x : Label) (m : Conten
           (prefix-short other n.us (x, m) n.vs itself) in
           omega (arith, short, n.less, at.count)
 
+  -- a pair that is due at each of these ticks is sent if the ticks, times NAMES_PER_TICK, are more
+  -- than its turn
   pub turn-comes-over : (cursor : Option Label) (dues : List Pairs)
       → AllByRecursion (IsDueAmong all x m) dues
       → turn_of all cursor x < NAMES_PER_TICK * length dues

@@ -34,6 +34,7 @@ rises-test x (p ∷ ps) h =
     and_from (name_lt x p.0) _ (h p.0 p.1 (has_pair-head p ps))
     (rises-test x ps (λ y m k. h y m (has_pair-behind p ps y m k)))
 
+-- pairs whose names rise pass the test of rising order
 pub rises-rising : (ps : Pairs) → Rises ps → are_rising ps ≡ true
 rises-rising [] h = refl
 rises-rising (p ∷ ps) h =
@@ -88,6 +89,7 @@ rises-records size images p rs h =
                 no_pair (pend e) x o fresh (subst (λ (z : Label). has_pair (pend e) z o ≡ true)
                 (same_name-true y x f) (sym (has_pair-rising (pend e) y o) ∙ k))
 
+-- the pairs that are due at a node whose records meet the rules are in rising order
 pub due-rises : (size : Limits) (images : ℕ → List Entry) (p : ℕ) (rs : List Entry)
     → Kept size images p [] rs → (n q : ℕ) (heard : List (Label × ℕ))
     → are_rising (due_of n q heard (rising (pend rs))) ≡ true
@@ -104,6 +106,7 @@ length-inserted p (q ∷ ps) =
     cond_both (name_lt q.0 p.0) (q ∷ inserted p ps) (p ∷ q ∷ ps)
     (λ qs. length qs ≡ suc (suc (length ps))) (λ _. ap suc (length-inserted p ps)) (λ _. refl)
 
+-- putting pairs in rising order keeps their number
 pub length-rising : (ps : Pairs) → length (rising ps) ≡ length ps
 length-rising [] = refl
 length-rising (p ∷ ps) = length-inserted p (rising ps) ∙ ap suc (length-rising ps)
@@ -115,6 +118,7 @@ length-fewer test (p ∷ ps) =
     (λ _. let l = length-fewer test ps in omega (arith, l))
     (λ _. let l = length-fewer test ps in omega (arith, l))
 
+-- no more pairs are due than there are pairs
 pub due-few : (n q : ℕ) (heard : List (Label × ℕ)) (ps : Pairs)
     → length (due_of n q heard (rising ps)) ≤ length ps
 due-few n q heard ps =

@@ -15,18 +15,22 @@ abbrev pub IsIn : {A : Type 0} → A → List A → Type 0
 IsIn x [] = ⊥
 IsIn x (y ∷ ys) = (y ≡ x) ⊎ IsIn x ys
 
+-- an element of the first of two lists is in both lists together
 pub in-left : {A : Type 0} (x : A) (xs ys : List A) → IsIn x xs → IsIn x (xs ++ ys)
 in-left x [] ys h = absurd h
 in-left x (y ∷ xs) ys h = ⊎_elim (λ e. inl e) (λ e. inr (in-left x xs ys e)) h
 
+-- an element of the second of two lists is in both lists together
 pub in-right : {A : Type 0} (x : A) (xs ys : List A) → IsIn x ys → IsIn x (xs ++ ys)
 in-right x [] ys h = h
 in-right x (y ∷ xs) ys h = inr (in-right x xs ys h)
 
+-- the function's value for an element of a list is in the mapped list
 pub in-map : {A B : Type 0} (f : A → B) (x : A) (xs : List A) → IsIn x xs → IsIn (f x) (map f xs)
 in-map f x [] h = absurd h
 in-map f x (y ∷ xs) h = ⊎_elim (λ e. inl (ap f e)) (λ e. inr (in-map f x xs e)) h
 
+-- an element that passes the test is in the filtered list
 pub in-filter : {A : Type 0} (test : A → Bool) (x : A) (xs : List A) → test x ≡ true → IsIn x xs
     → IsIn x (filter test xs)
 in-filter test x [] e h = absurd h
@@ -36,6 +40,7 @@ in-filter test x (y ∷ xs) e h =
     (λ f. cond_both (test y) (y ∷ filter test xs) (filter test xs) (IsIn x)
     (λ _. inr (in-filter test x xs e f)) (λ _. in-filter test x xs e f)) h
 
+-- each element of the list that the function gives for an element is in the flattened list
 pub in-flat_map : {A B : Type 0} (f : A → List B) (x : A) (xs : List A) (y : B) → IsIn x xs
     → IsIn y (f x) → IsIn y (flat_map f xs)
 in-flat_map f x [] y h k = absurd h
@@ -78,6 +83,7 @@ in-take (suc n) (u ∷ us) x vs l = inr (in-take n us x vs (omega arith))
 
 -- ---- pairs
 
+-- a pair that is found by its name and message is an element of the list
 pub in-pairs : (pairs : List (Label × Content)) (x : Label) (m : Content)
     → has_pair pairs x m ≡ true → IsIn (x, m) pairs
 in-pairs [] x m h = absurd (false≢true h)
@@ -98,6 +104,7 @@ in-inserted p d (q ∷ ps) h =
     (λ _. ⊎_elim (λ e. inr (in-inserted p d ps (inl e)))
     (λ k. ⊎_elim (λ e. inl e) (λ e. inr (in-inserted p d ps (inr e))) k) h) (λ _. h)
 
+-- a pair of the list is in the list in rising order
 pub in-rising : (d : Label × Content) (ps : List (Label × Content)) → IsIn d ps → IsIn d (rising ps)
 in-rising d [] h = h
 in-rising d (p ∷ ps) h =

@@ -117,11 +117,16 @@ firsts-of test (suc k) (p ∷ ps) l =
 -- the place of the pair once a tick left it out: at least NAMES_PER_TICK fewer are before it
 pub record Nearer (all : Pairs) (cursor : Option Label) (d : Label × Content)
     (before : ℕ) : Type 0 where
+  -- the pairs that are before it now
   pub us : Pairs
+  -- the pairs that are behind it now
   pub vs : Pairs
+  -- cyclic order has the pair between these
   pub at : cyclic cursor all ≡ us ++ d ∷ vs
+  -- at least NAMES_PER_TICK fewer pairs are before it now
   pub less : length us + NAMES_PER_TICK ≤ before
 
+-- a tick sends a due pair, or it passes at least NAMES_PER_TICK of the pairs before it
 pub passes : (all : Pairs) → are_rising all ≡ true
     → (test : Label × Content → Bool) (cursor : Option Label) (us : Pairs) (d : Label × Content)
     (vs : Pairs)
