@@ -7,10 +7,10 @@
 -- binary search (`found_is`, `absent_is`). From `urb_names` come the order of names and the reach.
 -- Read the files in the order of the list below: sorted lists first, then the two parts, then a new
 -- name.
-pub mod Sets
-pub mod Orders
-pub mod Sorted
-pub mod Members
-pub mod Reaches
-pub mod Kept
-pub mod Same
+pub mod RisingSets
+pub mod NameOrder
+pub mod BinarySearches
+pub mod PartMembers
+pub mod SenderReaches
+pub mod CertifiedParts
+pub mod EqualParts

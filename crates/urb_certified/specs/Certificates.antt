@@ -1,8 +1,8 @@
 -- Certified names, as contracts see them.
 use Rattle.std.specs.Prelude.{Bool, IsTrue, if◌then◌else◌, List}
-use Rattle.urb_names.specs.Naming.{Label}
+use Rattle.urb_names.specs.LabelsAndContents.{Label}
 use Rattle.urb_names.specs.Names.{has_name, name_lt}
-use Rattle.urb_names.specs.Ordered.{is_rising, placed}
+use Rattle.urb_names.specs.RisingLists.{is_rising, placed}
 
 -- the certified names in order, and whether there is space for any one more
 pub record Certificates : Type 0 where

@@ -1,5 +1,5 @@
-pub mod Sets
+pub mod ListSets
 pub mod Certificates
 pub mod Parts
-pub mod Fields
+pub mod CertificateFields
 pub mod internal

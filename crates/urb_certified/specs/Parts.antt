@@ -1,6 +1,6 @@
 -- The names of the two parts that hold certified names: those without a gap, and those above it.
 use Rattle.std.specs.Prelude.{ℕ, suc, ◌+◌, List, [], ◌∷◌, ◌++◌}
-use Rattle.urb_names.specs.Naming.{Label}
+use Rattle.urb_names.specs.LabelsAndContents.{Label}
 use Rattle.urb_names.specs.Names.{names}
 
 -- for each sender from the first on, its names 1 to k; the list has the k of each sender

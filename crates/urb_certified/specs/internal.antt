@@ -1,3 +1,3 @@
-pub mod Sets
-pub mod Parts
-pub mod Room
+pub mod StrictOrders
+pub mod PartInvariant
+pub mod FieldInvariant

@@ -27,8 +27,8 @@ impl<A: Allocator> Model for Certified<A> {
 
     ghost Value = { Certificates };
 
-    ghost use Rattle.urb_certified.specs.Fields.{view_of};
-    ghost use Rattle.urb_certified.specs.internal.Room.{IsKept};
+    ghost use Rattle.urb_certified.specs.CertificateFields.{view_of};
+    ghost use Rattle.urb_certified.specs.internal.FieldInvariant.{IsKept};
 
     ghost view = { view_of };
 

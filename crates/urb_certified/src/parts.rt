@@ -2,13 +2,13 @@
 
 ghost use Rattle.std.specs.Prelude.{◌≡◌, ◌+◌, ◌-◌, ◌<◌, ◌≤◌, true, false, ◌∷◌, filter, length};
 ghost use Rattle.std.specs.Prelude.{vec_len, vec_capacity, OnOk, OnErr, IsOk, IsTrue};
-ghost use Rattle.urb_names.specs.Naming.{Label};
+ghost use Rattle.urb_names.specs.LabelsAndContents.{Label};
 ghost use Rattle.urb_names.specs.Names.{has_name, name_lt, same_name};
-ghost use Rattle.urb_names.specs.Ordered.{is_rising, placed};
+ghost use Rattle.urb_names.specs.RisingLists.{is_rising, placed};
 ghost use Rattle.urb_names.specs.Release.{beginning};
 ghost use Rattle.urb_certified.specs.Parts.{all_names};
-ghost use Rattle.urb_certified.specs.internal.Parts.{IsJoined, IsParts, is_left, low_of};
-ghost use Rattle.urb_certified.specs.Sets.{set_of};
+ghost use Rattle.urb_certified.specs.internal.PartInvariant.{IsJoined, IsParts, is_left, low_of};
+ghost use Rattle.urb_certified.specs.ListSets.{set_of};
 
 use crate::row::{drop_to, holds, place_of, run_end};
 use std::alloc::Allocator;

@@ -5,8 +5,8 @@ ghost use Rattle.std.specs.Prelude.{◌==◌, IsTrue, length, filter, vec_len, v
 ghost use Rattle.std.specs.Bool.{Decides};
 ghost use Rattle.std.specs.List.{prefix_len};
 ghost use Rattle.urb_names.specs.Names.{has_name, name, name_lt};
-ghost use Rattle.urb_names.specs.Ordered.{is_rising};
-ghost use Rattle.urb_certified.specs.internal.Parts.{is_left};
+ghost use Rattle.urb_names.specs.RisingLists.{is_rising};
+ghost use Rattle.urb_certified.specs.internal.PartInvariant.{is_left};
 
 use std::alloc::Allocator;
 use urb_names::{Name, NodeId};

@@ -1,6 +1,6 @@
 -- The responses that a follower prints, one after the other.
 use Rattle.std.proofs.Common.{◌≡◌, ℕ, ◌+◌, ◌<◌, List, [], ◌∷◌, ◌++◌, length, Option, arith}
-use Rattle.urb_names.specs.Naming.{Label, Content}
+use Rattle.urb_names.specs.LabelsAndContents.{Label, Content}
 use Rattle.urb_client.specs.Requests.{Asked}
 use Rattle.urb_client.specs.Responses.{Said, Accepted, Listing, Status, Done, Refused}
 use Rattle.urb_cli.specs.Following.{Follows, IsFollowed, Prints, Reader}

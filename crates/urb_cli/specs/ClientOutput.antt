@@ -6,9 +6,9 @@ use Rattle.urb_cli.specs.Addresses.{Address, address_text}
 use Rattle.urb_cli.specs.Advice.{explained_refusal}
 use Rattle.urb_client.specs.declared.response.NodeState.{NodeState}
 use Rattle.urb_client.specs.declared.response.NodeState.TheVariants as state
-use Rattle.urb_names.specs.Naming.{Label, Content}
+use Rattle.urb_names.specs.LabelsAndContents.{Label, Content}
 use Rattle.urb_client.specs.Responses.{Said, encoding}
-use Rattle.urb_client.specs.ReceivedResponses.{HasNoResponse}
+use Rattle.urb_client.specs.MissingResponses.{HasNoResponse}
 use Rattle.urb_cli.specs.declared.client.printed.Printed.{Printed}
 use Rattle.urb_client.specs.Responses as said
 

@@ -3,7 +3,7 @@ use Rattle.std.specs.Prelude.{ℕ, ◌==◌, ◌&&◌, ◌||◌, not, nat_le, na
 use Rattle.std.specs.Prelude.{flat_map, if◌then◌else◌, codes}
 use Rattle.std.specs.Fmt.{decimal}
 use Rattle.std.specs.Str.{is_utf8}
-use Rattle.urb_names.specs.Naming.{Label, Content}
+use Rattle.urb_names.specs.LabelsAndContents.{Label, Content}
 use Rattle.urb_cli.specs.ClientOutput.{entry_line, hex_byte, hex_payload}
 use Rattle.urb_cli.specs.declared.client.entry_form_kind.EntryForm.{EntryForm}
 use Rattle.urb_cli.specs.declared.client.entry_form_kind.EntryForm.TheVariants.{Text, Hex, Json}

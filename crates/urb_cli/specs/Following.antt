@@ -1,7 +1,7 @@
 -- What `urbd follow` does.
 use Rattle.std.specs.Prelude.{◌≡◌, ℕ, ◌+◌, List, [], ◌∷◌, length, flat_map, Option, Some, None}
 use Rattle.std.specs.Io.KnownBytes.{Appends}
-use Rattle.urb_names.specs.Naming.{Label, Content}
+use Rattle.urb_names.specs.LabelsAndContents.{Label, Content}
 use Rattle.urb_client.specs.Requests.{Asked, Read, Wait}
 use Rattle.urb_client.specs.Responses.{Said, Listing, Refused}
 use Rattle.urb_cli.specs.Advice.{explained_refusal}

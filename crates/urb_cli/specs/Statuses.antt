@@ -1,6 +1,6 @@
 -- The program's status after a run of a script, a response, or a client's command.
 use Rattle.std.specs.Prelude.{ℕ, Err, Ok, Result, ◌≡◌, ◌⊎◌}
-use Rattle.urb_names.specs.Refusing.{detail_of, number_of}
+use Rattle.urb_names.specs.RefusalReports.{detail_of, number_of}
 use Rattle.urb_names.specs.declared.refusal.Refusal.{Refusal}
 use Rattle.urb_names.specs.declared.refusal.Refusal.TheVariants as refusal
 use Rattle.urb_cli.specs.declared.faults.Fault.{Fault}

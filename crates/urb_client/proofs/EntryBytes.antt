@@ -3,7 +3,7 @@ use Rattle.std.proofs.Common.{◌≡◌, ℕ, suc, ◌+◌, ◌<◌, List, ◌�
 use Rattle.std.proofs.Common.{◌∙◌, append_assoc, add-one, drop-cons}
 use Rattle.std.specs.List.{flat_map}
 use Rattle.std.proofs.lemmas.List.Concat.{flat_map-cons}
-use Rattle.urb_names.specs.Naming.{Label, Content}
+use Rattle.urb_names.specs.LabelsAndContents.{Label, Content}
 use Rattle.urb_client.specs.Listings.{entry_bytes}
 
 -- once the next entry is pushed, the bytes and those of the later entries are still the whole

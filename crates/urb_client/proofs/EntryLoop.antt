@@ -2,7 +2,7 @@
 use Rattle.std.proofs.Common.{◌≡◌, ℕ, suc, ◌-◌, ◌+◌, ◌≤◌, ◌<◌, List, [], ◌∷◌, ◌++◌, Option, Some}
 use Rattle.std.proofs.Common.{None, refl, sym, ap, ◌∙◌, append_assoc, arith}
 use Rattle.std.proofs.lemmas.List.{append-nil}
-use Rattle.urb_names.specs.Naming.{Label, Content}
+use Rattle.urb_names.specs.LabelsAndContents.{Label, Content}
 use Rattle.urb_client.specs.internal.ParsedResponses.{◌>>=◌, entry_at, entries_at}
 
 -- what was read before, and what is still read

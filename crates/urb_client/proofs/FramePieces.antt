@@ -9,7 +9,7 @@ use Rattle.std.proofs.lemmas.List.{append-nil, nil_from_length, length-drop}
 use Rattle.byteorder.specs.Endian.{big_number, big_bytes}
 use Rattle.urb_client.specs.Responses.{frame}
 use Rattle.urb_client.specs.Sessions.{IsBroken}
-use Rattle.urb_client.specs.internal.Sessions.{PartRead, ReadsUnder}
+use Rattle.urb_client.specs.internal.SessionPieces.{PartRead, ReadsUnder}
 use Rattle.urb_client.proofs.ResponseParts.{IsBytes, two}
 use Rattle.urb_client.specs.declared.format.TheConstants.{LONGEST_REQUEST}
 

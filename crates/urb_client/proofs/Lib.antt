@@ -9,7 +9,7 @@
 -- about one loop of the code.
 pub mod FullReads
 pub mod EntryLoop
-pub mod ReadOnce
+pub mod SingleReading
 pub mod EntryBytes
 pub mod ResponseParts
 pub mod FramePieces

@@ -7,7 +7,7 @@ use Rattle.std.proofs.lemmas.Bool.{cases_lt}
 use Rattle.std.proofs.lemmas.List.{append-nil, length-take-le, nil_from_length, take-append-drop}
 use Rattle.std.proofs.lemmas.List.{take-take, take_all, take_more}
 use Rattle.std.proofs.lemmas.List.Concat.{flat_map-append, flat_map-cons}
-use Rattle.urb_names.specs.Naming.{Label, Content}
+use Rattle.urb_names.specs.LabelsAndContents.{Label, Content}
 use Rattle.urb_client.specs.declared.format.TheConstants.{LONGEST_FRAME, LISTING_HEAD, ENTRY_HEAD}
 use Rattle.urb_client.specs.Pages.{IsReadWhole, ListsPage}
 use Rattle.urb_client.specs.Listings.{entry_bytes, entry_head, listing_body}

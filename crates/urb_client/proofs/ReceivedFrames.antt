@@ -8,9 +8,9 @@ use Rattle.std.proofs.KnownBytes.{Consumes-trans}
 use Rattle.byteorder.specs.Endian.{big_bytes}
 use Rattle.urb_client.specs.Responses.{Said, IsSaid, Accepted, Listing, Status, Done, Refused}
 use Rattle.urb_client.specs.Responses.{frame, response_body}
-use Rattle.urb_client.specs.ReceivedResponses.{HasNoResponse}
-use Rattle.urb_client.specs.internal.ReceivedResponses.{HasNoFrame}
-use Rattle.urb_client.proofs.ReadOnce.{one_length}
+use Rattle.urb_client.specs.MissingResponses.{HasNoResponse}
+use Rattle.urb_client.specs.internal.MissingFrames.{HasNoFrame}
+use Rattle.urb_client.proofs.SingleReading.{one_length}
 use Rattle.urb_client.proofs.ResponseLimits.{said_fits}
 
 -- a length that was read whole

@@ -11,7 +11,7 @@ use Rattle.std.proofs.lemmas.Nat.{be_bytes_2, be_bytes_4}
 use Rattle.std.proofs.lemmas.Option.{cond_some}
 use Rattle.byteorder.specs.Endian.{big_number, big_bytes}
 use Rattle.byteorder.specs.Numbers.{big_number-reads_back, big_from-lt}
-use Rattle.urb_names.specs.Naming.{Label, Content, IsLabel, IsContent}
+use Rattle.urb_names.specs.LabelsAndContents.{Label, Content, IsLabel, IsContent}
 use Rattle.urb_names.specs.Nodes.{is_node}
 use Rattle.urb_names.specs.declared.limits.TheConstants.{MAX_NODES, MAX_PAYLOAD}
 use Rattle.urb_client.specs.Listings.{entry_bytes, IsEntry}

@@ -13,7 +13,7 @@ use Rattle.urb_client.specs.Requests.{Asked, request_of}
 use Rattle.urb_client.specs.Responses.{Said, Refused, encoding, frame}
 use Rattle.urb_client.specs.Sessions.{Event, Asks, Fault, Says, Begins, IsBroken, Replies}
 use Rattle.urb_client.specs.Sessions.{WholeSession, Served, Leaves, Meets, TakesFrame, BreaksOff}
-use Rattle.urb_client.specs.internal.Sessions.{Answers, GoesUnanswered, PartRead}
+use Rattle.urb_client.specs.internal.SessionPieces.{Answers, GoesUnanswered, PartRead}
 
 -- a whole frame is taken, and this holds for it
 whole_taken : (P : Event → Type 0) (known left : Option (List ℕ)) (body : List ℕ) (event : Event)

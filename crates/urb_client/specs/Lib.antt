@@ -3,5 +3,5 @@ pub mod Listings
 pub mod Responses
 pub mod Pages
 pub mod Sessions
-pub mod ReceivedResponses
+pub mod MissingResponses
 pub mod internal

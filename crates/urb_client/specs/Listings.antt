@@ -2,7 +2,7 @@
 use Rattle.std.specs.Prelude.{ℕ, List, ◌∷◌, ◌++◌, length}
 use Rattle.std.specs.List.{flat_map}
 use Rattle.byteorder.specs.Endian.{big_bytes}
-use Rattle.urb_names.specs.Naming.{Label, Content, IsLabel, IsContent}
+use Rattle.urb_names.specs.LabelsAndContents.{Label, Content, IsLabel, IsContent}
 use Rattle.urb_client.specs.declared.format.TheConstants.{SAY_ENTRIES}
 
 -- an entry of a log: a name and its message

@@ -2,7 +2,7 @@
 -- for.
 use Rattle.std.specs.Prelude.{◌≡◌, ◌<◌, ◌≤◌, ◌++◌, ℕ, List, [], ◌∷◌, length, take, drop}
 use Rattle.std.specs.List.{flat_map}
-use Rattle.urb_names.specs.Naming.{Label, Content}
+use Rattle.urb_names.specs.LabelsAndContents.{Label, Content}
 use Rattle.urb_client.specs.declared.format.TheConstants.{LONGEST_FRAME}
 use Rattle.urb_client.specs.Listings.{listing_body}
 use Rattle.urb_client.specs.Responses.{Said, Listing}

@@ -1,3 +1,3 @@
 pub mod ParsedResponses
-pub mod Sessions
-pub mod ReceivedResponses
+pub mod SessionPieces
+pub mod MissingFrames

@@ -2,7 +2,7 @@
 
 ghost use Rattle.std.specs.Prelude.{◌<◌, ◌≤◌, take, length, IfOk, OnErr};
 ghost use Rattle.std.specs.Io.KnownBytes.{Consumes, IsAtEnd};
-ghost use Rattle.urb_client.specs.internal.Sessions.{ReadsUnder};
+ghost use Rattle.urb_client.specs.internal.SessionPieces.{ReadsUnder};
 
 use std::io::{ErrorKind, Read};
 

@@ -27,7 +27,7 @@ pub struct Entries<A: Allocator = Global> {
 
 impl<A: Allocator> Model for Entries<A> {
     ghost use Rattle.std.specs.Prelude.{◌≤◌, List, length, vec_len};
-    ghost use Rattle.urb_names.specs.Naming.{Label, Content};
+    ghost use Rattle.urb_names.specs.LabelsAndContents.{Label, Content};
     ghost use Rattle.urb_client.specs.Listings.{listing_body};
     ghost use Rattle.urb_client.specs.declared.format.TheConstants.{LONGEST_FRAME, MOST_ENTRIES};
 
@@ -113,7 +113,7 @@ pub enum Response<A: Allocator = Global> {
 
 impl<A: Allocator> Response<A> {
     ghost use Rattle.std.specs.Prelude.{◌≡◌, ◌≤◌, vec_len, IsOkAnd};
-    ghost use Rattle.urb_names.specs.Refusing.{number_of, detail_of};
+    ghost use Rattle.urb_names.specs.RefusalReports.{number_of, detail_of};
     ghost use Rattle.urb_client.specs.Responses.{Refused};
 
     /// Returns the response to a read, with a page of at most `MOST_ENTRIES` entries. It lists as

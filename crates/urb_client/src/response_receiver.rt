@@ -3,8 +3,8 @@
 ghost use Rattle.std.specs.Prelude.{◌≡◌, ◌≢◌, ◌<◌, ◌^◌, IfOk, IfErr, IfSome, IfNone, Err, length};
 ghost use Rattle.std.specs.Io.KnownBytes.{Consumes};
 ghost use Rattle.urb_client.specs.Responses.{frame, encoding, said_by};
-ghost use Rattle.urb_client.specs.ReceivedResponses.{HasNoResponse};
-ghost use Rattle.urb_client.specs.internal.ReceivedResponses.{HasNoFrame};
+ghost use Rattle.urb_client.specs.MissingResponses.{HasNoResponse};
+ghost use Rattle.urb_client.specs.internal.MissingFrames.{HasNoFrame};
 
 use crate::full_read::{ReadFailed, read_full};
 use crate::sessions::length_of;

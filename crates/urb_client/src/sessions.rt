@@ -5,7 +5,7 @@ ghost use Rattle.std.specs.Io.KnownBytes.{Appends};
 ghost use Rattle.byteorder.specs.Endian.{big_bytes};
 ghost use Rattle.urb_client.specs.Requests.{Asked, IsAsked, asked_by, request_of};
 ghost use Rattle.urb_client.specs.Responses.{Said, said_by, encoding};
-ghost use Rattle.urb_client.specs.internal.Sessions.{ReadsPiece, PartRead, Answers, GoesUnanswered};
+ghost use Rattle.urb_client.specs.internal.SessionPieces.{ReadsPiece, PartRead, Answers, GoesUnanswered};
 ghost use Rattle.urb_client.specs.Sessions.{WholeSession, BreaksOff, IsReadOnce};
 
 use crate::format::{BAD_LENGTH, CUT, LONGEST_REQUEST};

@@ -3,13 +3,13 @@ use Rattle.std.proofs.Common.{Bool, Err, None, Ok, Option, Result, Some, List, a
 use Rattle.std.proofs.Common.{◌≡◌, []}
 use Rattle.urb_node.specs.Replies.{Drafted, Refused, Reply, Same, Sent, Stored, Up, WentDown}
 use Rattle.urb_stable.specs.Entries.{Entry}
-use Rattle.urb_stable.specs.Placed.{Placed}
+use Rattle.urb_stable.specs.PlacedRecords.{Placed}
 use Rattle.urb_stable.specs.declared.stable.Stable.{Ghosts}
 use Rattle.urb_stable.specs.declared.stable.StoreFault.{StoreFault}
-use Rattle.urb_group.specs.Clustered.{Clustered, held_draft}
-use Rattle.urb_group.specs.Clusters.{Applies, Reacts, RestartsBy, Returns, StoresHeld, is_fallen}
-use Rattle.urb_group.specs.Clusters.{stored_as}
-use Rattle.urb_group.specs.Shown.{GroupView, IsSound}
+use Rattle.urb_group.specs.GroupStores.{Clustered, held_draft}
+use Rattle.urb_group.specs.ClusterCalls.{Applies, Reacts, RestartsBy, Returns, StoresHeld, is_fallen}
+use Rattle.urb_group.specs.ClusterCalls.{stored_as}
+use Rattle.urb_group.specs.GroupViews.{GroupView, IsSound}
 use Rattle.urb_group.specs.Step.{Event, Restart}
 use Rattle.urb_group.specs.declared.command.Command.{Command}
 use Rattle.urb_group.specs.declared.command.Command.TheVariants as command

@@ -4,16 +4,16 @@ use Rattle.std.proofs.Common.{suc, sym, zero, ℕ, ◌++◌, ◌∷◌, ◌≡�
 use Rattle.std.specs.List.{AllByRecursion}
 use Rattle.sqlite.specs.State.{State, HasCleanDisk}
 use Rattle.urb_stable.specs.declared.stable.Stable.{Ghosts}
-use Rattle.urb_group.specs.Reopening.{AllGive}
+use Rattle.urb_group.specs.StoreOpenings.{AllGive}
 use Rattle.urb_stable.specs.Entries.{Entry}
-use Rattle.urb_stable.specs.Storing.{IsContents}
-use Rattle.urb_group.specs.Stocked.{IsGenuine}
-use Rattle.urb_group.specs.Stopping.{MayLeave}
+use Rattle.urb_stable.specs.StableStorage.{IsContents}
+use Rattle.urb_group.specs.StoreContents.{IsGenuine}
+use Rattle.urb_group.specs.ProcessStops.{MayLeave}
 use Rattle.urb_node.specs.Part.{Node}
 use Rattle.urb_sqlite.specs.OpenJournal.{IsHonestJournal, LeavesOnly}
-use Rattle.urb_sqlite.specs.Reading.{records_of}
-use Rattle.urb_cluster_stop.specs.internal.ClusterStops.{AreReopened}
-use Rattle.urb_sqlite.specs.Stops.{IsReopened}
+use Rattle.urb_sqlite.specs.RowReadings.{records_of}
+use Rattle.urb_cluster_stop.specs.internal.ReopenedStores.{AreReopened}
+use Rattle.urb_sqlite.specs.ReopenedJournals.{IsReopened}
 
 -- one more journal was opened again, after those that were
 pub one_more_reopened : {S : Type 0} (before after : List S) (old new : S) (at : S → State)

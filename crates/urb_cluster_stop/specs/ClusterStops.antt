@@ -2,11 +2,11 @@
 use Rattle.std.specs.Prelude.{List}
 use Rattle.std.specs.List.{All}
 use Rattle.urb_stable.specs.declared.stable.Stable.{Ghosts}
-use Rattle.urb_group.specs.Clustered.{Clustered}
-use Rattle.urb_group.specs.Clusters.{Applies}
-use Rattle.urb_group.specs.Reopening.{ContinuesFrom}
-use Rattle.urb_group.specs.Shown.{GroupView}
-use Rattle.urb_group.specs.Stocked.{IsSecured}
+use Rattle.urb_group.specs.GroupStores.{Clustered}
+use Rattle.urb_group.specs.ClusterCalls.{Applies}
+use Rattle.urb_group.specs.StoreOpenings.{ContinuesFrom}
+use Rattle.urb_group.specs.GroupViews.{GroupView}
+use Rattle.urb_group.specs.StoreContents.{IsSecured}
 use Rattle.urb_group.specs.World.{World}
 use Rattle.urb_group.specs.declared.command.Command.{Command}
 use Rattle.urb_node.specs.Replies.{Reply}

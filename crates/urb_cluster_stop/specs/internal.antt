@@ -1,1 +1,1 @@
-pub mod ClusterStops
+pub mod ReopenedStores

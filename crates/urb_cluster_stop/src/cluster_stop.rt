@@ -3,14 +3,14 @@
 ghost use Rattle.std.specs.List.{All};
 ghost use Rattle.std.specs.Prelude.{◌≡◌, List, length, IfOk};
 ghost use Rattle.sqlite.specs.Files.{file_state};
-ghost use Rattle.urb_group.specs.Clusters.{Applies};
+ghost use Rattle.urb_group.specs.ClusterCalls.{Applies};
 ghost use Rattle.urb_group.specs.Commands.{reply_of};
-ghost use Rattle.urb_group.specs.Reopening.{ContinuesFrom, HasStopped};
-ghost use Rattle.urb_group.specs.Shown.{GroupView, IsSound, Shows};
-ghost use Rattle.urb_group.specs.Stocked.{IsGenuine, IsKnown, IsSecured, WouldLeave};
+ghost use Rattle.urb_group.specs.StoreOpenings.{ContinuesFrom, HasStopped};
+ghost use Rattle.urb_group.specs.GroupViews.{GroupView, IsSound, Shows};
+ghost use Rattle.urb_group.specs.StoreContents.{IsGenuine, IsKnown, IsSecured, WouldLeave};
 ghost use Rattle.urb_group.specs.World.{World};
 ghost use Rattle.urb_cluster_stop.specs.ClusterStops.{GoesOnBehind, GoesOnFrom, IsContinuation};
-ghost use Rattle.urb_cluster_stop.specs.internal.ClusterStops.{AreReopened};
+ghost use Rattle.urb_cluster_stop.specs.internal.ReopenedStores.{AreReopened};
 
 use sqlite::{FileStore, Options};
 use sqlite_disk::Crash;

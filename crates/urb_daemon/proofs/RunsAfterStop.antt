@@ -1,18 +1,18 @@
 -- How a run of a group ends, also over stores that a stop had left.
 use Rattle.std.proofs.Common.{Bool, Err, List, None, Ok, Option, Result, Some, false, inl, inr}
 use Rattle.std.proofs.Common.{refl, subst, sym, true, ℕ, ◌≡◌}
-use Rattle.urb_names.specs.Naming.{Limits}
+use Rattle.urb_names.specs.LabelsAndContents.{Limits}
 use Rattle.urb_names.specs.declared.refusal.Refusal.{Refusal}
 use Rattle.urb_stable.specs.declared.stable.Stable.{Ghosts}
-use Rattle.urb_group.specs.Reopening.{HasStopped}
-use Rattle.urb_group.specs.Shown.{GroupView}
+use Rattle.urb_group.specs.StoreOpenings.{HasStopped}
+use Rattle.urb_group.specs.GroupViews.{GroupView}
 use Rattle.urb_group.specs.World.{World}
 use Rattle.urb_worker.specs.ServedStores.{AreServed}
 use Rattle.urb_daemon.specs.declared.serve_fault.ServeFault.{ServeFault}
 use Rattle.urb_daemon.specs.declared.serve_fault.ServeFault.TheVariants.{Network, Unopened}
 use Rattle.urb_daemon.specs.declared.network_fault.NetworkFault.{NetworkFault}
 use Rattle.urb_folder.specs.GroupsAfterStop.{ContinuesTogether}
-use Rattle.urb_folder.specs.StoresAsked.{OpensTogether}
+use Rattle.urb_folder.specs.AskedStores.{OpensTogether}
 use Rattle.urb_daemon.specs.RunsAfterStop.{EndsAfterStop}
 use Rattle.urb_daemon.specs.Runs.{EndsAs, EndsFrom}
 use Rattle.urb_daemon.specs.internal.Runs.{end_of}

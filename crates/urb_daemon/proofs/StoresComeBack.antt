@@ -1,18 +1,18 @@
 -- Stores that were asked for their records, and how a run over them ends.
 use Rattle.std.proofs.Common.{Err, List, Ok, Result, [], inl, inr, refl, ◌∷◌}
 use Rattle.std.specs.Prelude.{Vec}
-use Rattle.urb_names.specs.Naming.{Limits}
+use Rattle.urb_names.specs.LabelsAndContents.{Limits}
 use Rattle.urb_names.specs.declared.refusal.Refusal.{Refusal}
 use Rattle.urb_stable.specs.Entries.{Entry}
 use Rattle.urb_stable.specs.declared.stable.Stable.{Ghosts}
 use Rattle.urb_stable.specs.declared.stable.StoreFault.{StoreFault}
-use Rattle.urb_group.specs.Reopening.{AllGive}
-use Rattle.urb_group.specs.Shown.{GroupView}
+use Rattle.urb_group.specs.StoreOpenings.{AllGive}
+use Rattle.urb_group.specs.GroupViews.{GroupView}
 use Rattle.urb_worker.proofs.ServedStores.{unserved}
 use Rattle.urb_worker.specs.ServedStores.{AreServed}
 use Rattle.urb_daemon.specs.Runs.{ComeBack, MayAllBeAsked}
-use Rattle.urb_folder.specs.StoresAsked.{AllAnswer, AreRefusedTogether, OpensTogether}
-use Rattle.urb_stable.specs.Storing.{list_in}
+use Rattle.urb_folder.specs.AskedStores.{AllAnswer, AreRefusedTogether, OpensTogether}
+use Rattle.urb_stable.specs.StableStorage.{list_in}
 
 -- stores that were not asked
 unasked : {S A : Type 0} (g : Ghosts S A) (stores : List S) → MayAllBeAsked g stores stores

@@ -1,5 +1,5 @@
 -- What the program reports if the folder of a group can't be opened.
-use Rattle.urb_stable.specs.Storing.{refusal_of}
+use Rattle.urb_stable.specs.StableStorage.{refusal_of}
 use Rattle.urb_cli.specs.Statuses.{fault_of_refusal}
 use Rattle.urb_cli.specs.declared.faults.Fault.{Fault}
 use Rattle.urb_cli.specs.declared.faults.Fault.TheVariants as fault

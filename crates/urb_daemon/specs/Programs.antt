@@ -2,12 +2,12 @@
 use Rattle.std.specs.Prelude.{Bool, List, Option, Result, Some, length, ℕ, ◌≡◌, ◌⊎◌}
 use Rattle.clap.specs.Words.{Text, subcommand_of}
 use Rattle.sqlite_wal.specs.Recovery.{Image}
-use Rattle.urb_names.specs.Naming.{Limits}
+use Rattle.urb_names.specs.LabelsAndContents.{Limits}
 use Rattle.urb_stable.specs.declared.stable.Stable.{Ghosts}
-use Rattle.urb_group.specs.Reopening.{HasStopped}
-use Rattle.urb_group.specs.Shown.{GroupView}
+use Rattle.urb_group.specs.StoreOpenings.{HasStopped}
+use Rattle.urb_group.specs.GroupViews.{GroupView}
 use Rattle.urb_group.specs.World.{World}
-use Rattle.urb_sqlite.specs.Nodes.{AreFoundIn}
+use Rattle.urb_sqlite.specs.FoundJournals.{AreFoundIn}
 use Rattle.urb_cli.specs.CommandLine.{urbd_app}
 use Rattle.urb_cli.specs.Statuses.{IsErrandsEnd}
 use Rattle.urb_cli.specs.Tasks.{IsRefused, task_named, task_of}

@@ -1,18 +1,18 @@
 -- How a run of a group ends, and its stores after it.
 use Rattle.std.specs.Prelude.{Bool, Err, List, Ok, Result, [], false, true, ℕ, ◌∷◌, ◌≡◌, ◌⊎◌}
-use Rattle.urb_names.specs.Naming.{Limits}
+use Rattle.urb_names.specs.LabelsAndContents.{Limits}
 use Rattle.urb_names.specs.declared.refusal.Refusal.{Refusal}
 use Rattle.urb_stable.specs.Entries.{Entry}
 use Rattle.urb_stable.specs.declared.stable.Stable.{Ghosts}
 use Rattle.urb_stable.specs.declared.stable.StoreFault.{StoreFault}
-use Rattle.urb_group.specs.Asked.{Gives}
-use Rattle.urb_group.specs.Shown.{GroupView}
+use Rattle.urb_group.specs.StoreQuestions.{Gives}
+use Rattle.urb_group.specs.GroupViews.{GroupView}
 use Rattle.urb_worker.specs.ServedStores.{AreServed}
 use Rattle.urb_cli.specs.declared.command_line.options.ServeOptions.{ServeOptions}
 use Rattle.urb_daemon.specs.declared.serve_fault.ServeFault.{ServeFault}
 use Rattle.urb_daemon.specs.declared.serve_fault.ServeFault.TheVariants.{Network, NoMemory, Unopened}
 use Rattle.urb_daemon.specs.declared.serve_fault.ServeFault.TheVariants.{Untold}
-use Rattle.urb_folder.specs.StoresAsked.{OpensTogether}
+use Rattle.urb_folder.specs.AskedStores.{OpensTogether}
 
 -- the limits of the group in these settings
 abbrev pub limits_of : ServeOptions → Limits

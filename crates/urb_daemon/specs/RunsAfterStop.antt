@@ -1,17 +1,17 @@
 -- How a run ends if its group was opened over stores that a stop had left.
 use Rattle.std.specs.Prelude.{Bool, Err, List, Ok, Result, ℕ, ◌≡◌, ◌⊎◌}
 use Rattle.std.specs.List.{All}
-use Rattle.urb_names.specs.Naming.{Limits}
+use Rattle.urb_names.specs.LabelsAndContents.{Limits}
 use Rattle.urb_names.specs.declared.refusal.Refusal.{Refusal}
 use Rattle.urb_stable.specs.declared.stable.Stable.{Ghosts}
-use Rattle.urb_group.specs.Reopening.{ContinuesFrom}
-use Rattle.urb_group.specs.Shown.{GroupView}
+use Rattle.urb_group.specs.StoreOpenings.{ContinuesFrom}
+use Rattle.urb_group.specs.GroupViews.{GroupView}
 use Rattle.urb_group.specs.World.{World}
 use Rattle.urb_worker.specs.ServedStores.{AreServed}
 use Rattle.urb_daemon.specs.declared.serve_fault.ServeFault.{ServeFault}
 use Rattle.urb_daemon.specs.declared.serve_fault.ServeFault.TheVariants.{Unopened}
 use Rattle.urb_folder.specs.GroupsAfterStop.{ContinuesTogether}
-use Rattle.urb_folder.specs.StoresAsked.{OpensTogether}
+use Rattle.urb_folder.specs.AskedStores.{OpensTogether}
 use Rattle.urb_daemon.specs.Runs.{EndsAs}
 
 module _ {S A : Type 0} (g : Ghosts S A) where

@@ -1,7 +1,7 @@
 //! The program, from its command line to its status.
 
 ghost use Rattle.std.specs.Prelude.{◌≡◌, map, vec_len};
-ghost use Rattle.urb_sqlite.specs.Nodes.{AreFoundIn};
+ghost use Rattle.urb_sqlite.specs.FoundJournals.{AreFoundIn};
 ghost use Rattle.urb_folder.specs.OpenedJournals.{AreOfNodes};
 ghost use Rattle.urb_daemon.specs.Programs.{EndsProgram, EndsServing, EndsWords, RanFolder};
 ghost use Rattle.urb_daemon.specs.Runs.{limits_of};

@@ -2,8 +2,8 @@
 
 ghost use Rattle.std.specs.Prelude.{◌≡◌, OnOk, vec_len};
 ghost use Rattle.std.specs.Io.KnownBytes.{Appends};
-ghost use Rattle.urb_group.specs.Reopening.{HasStopped};
-ghost use Rattle.urb_group.specs.Shown.{GroupView};
+ghost use Rattle.urb_group.specs.StoreOpenings.{HasStopped};
+ghost use Rattle.urb_group.specs.GroupViews.{GroupView};
 ghost use Rattle.urb_group.specs.World.{World};
 ghost use Rattle.urb_worker.specs.ServedStores.{AreServed};
 ghost use Rattle.urb_daemon.specs.Endings.{ShowsEnd, closed_line};

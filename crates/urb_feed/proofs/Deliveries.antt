@@ -5,9 +5,9 @@ use Rattle.std.proofs.Common.{◌==◌, ◌∙◌, ◌∷◌, ◌≡◌, ◌≤�
 use Rattle.std.proofs.lemmas.Bool.{cases_lt, le-ltb}
 use Rattle.std.proofs.lemmas.List.Elements.{filter-append}
 use Rattle.std.proofs.lemmas.List.{length-append}
-use Rattle.urb_names.proofs.Released.{has-row, has-row-not, has_name-part}
+use Rattle.urb_names.proofs.LogRows.{has-row, has-row-not, has_name-part}
 use Rattle.urb_names.specs.Names.{has_name, name, names}
-use Rattle.urb_names.specs.Naming.{Label}
+use Rattle.urb_names.specs.LabelsAndContents.{Label}
 use Rattle.urb_names.specs.Nodes.{numbers_from}
 use Rattle.urb_names.specs.Release.{part_of}
 

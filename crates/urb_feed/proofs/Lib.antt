@@ -8,9 +8,9 @@
 -- Portions puts all together (`is_portion`). The safety of worlds, which `urb_group` proves, gives
 -- the order of the names in a log.
 pub mod Deliveries
-pub mod Greatest
-pub mod Numbered
+pub mod GreatestValues
+pub mod NumberedLists
 pub mod Portions
-pub mod Rows
-pub mod Skipped
-pub mod Tests
+pub mod LogRows
+pub mod SkippedNumbers
+pub mod LackConditions

@@ -2,17 +2,17 @@
 use Rattle.std.proofs.Common.{Bool, List, None, Option, Some, [], ap, arith, cond, false, inl, inr}
 use Rattle.std.proofs.Common.{length, refl, suc, true, ℕ, ◌-◌, ◌<◌, ◌==◌, ◌∙◌, ◌≡◌, ◌≤◌, ◌⊎◌}
 use Rattle.std.proofs.lemmas.Bool.{cases_lt}
-use Rattle.urb_feed.proofs.Numbered.{bounded}
-use Rattle.urb_feed.proofs.Skipped.{skips}
-use Rattle.urb_feed.specs.Feeding.{IsPortion}
-use Rattle.urb_feed.specs.Lacking.{carrying, lacks, needed, needed_from, needed_of, offer, offers}
+use Rattle.urb_feed.proofs.NumberedLists.{bounded}
+use Rattle.urb_feed.proofs.SkippedNumbers.{skips}
+use Rattle.urb_feed.specs.Feeds.{IsPortion}
+use Rattle.urb_feed.specs.MissingNames.{carrying, lacks, needed, needed_from, needed_of, offer, offers}
 use Rattle.urb_feed.specs.declared.feed.TheConstants.{MOST_PACKETS, PORTION}
-use Rattle.urb_feed.specs.internal.Rows.{HasWorld, LacksNoneUpTo}
-use Rattle.urb_group.specs.Shown.{GroupView, Shows}
+use Rattle.urb_feed.specs.internal.SenderRows.{HasWorld, LacksNoneUpTo}
+use Rattle.urb_group.specs.GroupViews.{GroupView, Shows}
 use Rattle.urb_group.specs.World.{World, stored}
-use Rattle.urb_names.specs.Carried.{Carried}
+use Rattle.urb_names.specs.CarriedPackets.{Carried}
 use Rattle.urb_names.specs.Names.{name}
-use Rattle.urb_names.specs.Naming.{Content, Label}
+use Rattle.urb_names.specs.LabelsAndContents.{Content, Label}
 use Rattle.urb_names.specs.Pairs.{message_of}
 use Rattle.urb_names.specs.declared.limits.TheConstants.{MAX_NODES}
 use Rattle.urb_stable.specs.Records.{pend}

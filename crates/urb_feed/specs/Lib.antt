@@ -1,3 +1,3 @@
-pub mod Lacking
-pub mod Feeding
+pub mod MissingNames
+pub mod Feeds
 pub mod internal

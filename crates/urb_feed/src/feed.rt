@@ -1,11 +1,11 @@
 //! A feed of one node, in portions.
 
 ghost use Rattle.std.specs.Prelude.{◌≡◌, ◌≤◌, ◌==◌, ◌-◌, ◌<◌, IfOk, OnErr, suc};
-ghost use Rattle.urb_group.specs.Shown.{Shows};
+ghost use Rattle.urb_group.specs.GroupViews.{Shows};
 ghost use Rattle.urb_group.specs.World.{World};
-ghost use Rattle.urb_feed.specs.Feeding.{IsPortion, most_broadcast, whole_feed};
-ghost use Rattle.urb_feed.specs.Lacking.{needed_from};
-ghost use Rattle.urb_feed.specs.internal.Rows.{HasWorld, IsRow, LacksNoneUpTo};
+ghost use Rattle.urb_feed.specs.Feeds.{IsPortion, most_broadcast, whole_feed};
+ghost use Rattle.urb_feed.specs.MissingNames.{needed_from};
+ghost use Rattle.urb_feed.specs.internal.SenderRows.{HasWorld, IsRow, LacksNoneUpTo};
 
 use crate::delivered::delivered_of;
 use crate::offers::{Row, push_needed_of};
@@ -30,7 +30,7 @@ pub struct Feed {
 
 impl Model for Feed {
     ghost use Rattle.std.specs.Prelude.{◌≤◌};
-    ghost use Rattle.urb_feed.specs.Feeding.{FeedView};
+    ghost use Rattle.urb_feed.specs.Feeds.{FeedView};
 
     ghost Value = { FeedView };
 

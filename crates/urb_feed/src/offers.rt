@@ -1,10 +1,10 @@
 //! The packets in which nodes offer a name to a node that lacks it.
 
 ghost use Rattle.std.specs.Prelude.{◌≡◌, ◌≤◌, ◌-◌, ◌++◌, OnOk, suc};
-ghost use Rattle.urb_group.specs.Shown.{Shows};
+ghost use Rattle.urb_group.specs.GroupViews.{Shows};
 ghost use Rattle.urb_group.specs.World.{World};
-ghost use Rattle.urb_feed.specs.Lacking.{needed_of, offer, offers};
-ghost use Rattle.urb_feed.specs.internal.Rows.{IsRow};
+ghost use Rattle.urb_feed.specs.MissingNames.{needed_of, offer, offers};
+ghost use Rattle.urb_feed.specs.internal.SenderRows.{IsRow};
 
 use std::alloc::Allocator;
 use urb_group::Group;

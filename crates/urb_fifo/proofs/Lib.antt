@@ -7,7 +7,7 @@
 -- sender (`part-released`), and what one more certificate releases (`released-more`). Read the
 -- files in the order of the list below: rows of names, the release, lengths, and the invariant with
 -- its space.
-pub mod Rows
-pub mod Release
-pub mod Lengths
-pub mod Rooms
+pub mod NameRows
+pub mod LogReleases
+pub mod LogLengths
+pub mod PromisedSpace

@@ -1,9 +1,9 @@
 -- The certified names and the log, as contracts see them, and their invariant.
 use Rattle.std.specs.Prelude.{◌≡◌, ℕ, ◌*◌, ◌≤◌, true, IsTrue, List, length, Option}
 use Rattle.urb_names.specs.declared.limits.TheConstants.{MAX_NODES}
-use Rattle.urb_names.specs.Naming.{Limits, IsLimits, Label, IsLabel}
+use Rattle.urb_names.specs.LabelsAndContents.{Limits, IsLimits, Label, IsLabel}
 use Rattle.urb_names.specs.Names.{has_name, name_lt}
-use Rattle.urb_names.specs.Ordered.{is_rising}
+use Rattle.urb_names.specs.RisingLists.{is_rising}
 use Rattle.urb_names.specs.Release.{beginning, part_of, released}
 
 -- the certified names in order, the log in its order, and the name for which space is reserved

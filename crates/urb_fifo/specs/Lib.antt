@@ -1,4 +1,4 @@
 pub mod Delivery
-pub mod Releasing
-pub mod Fields
+pub mod NewReleases
+pub mod LogFields
 pub mod internal

@@ -6,11 +6,11 @@ ghost use Rattle.std.specs.Prelude.{vec_capacity, List, IsOk, IfOk, OnOk, OnErr}
 ghost use Rattle.std.specs.Bool.{Decides};
 ghost use Rattle.urb_names.specs.Nodes.{numbers_from};
 ghost use Rattle.urb_names.specs.Names.{has_name, name};
-ghost use Rattle.urb_names.specs.Naming.{IsLabel, Label};
-ghost use Rattle.urb_names.specs.Ordered.{reserved_for};
+ghost use Rattle.urb_names.specs.LabelsAndContents.{IsLabel, Label};
+ghost use Rattle.urb_names.specs.RisingLists.{reserved_for};
 ghost use Rattle.urb_names.specs.Release.{part_of};
 ghost use Rattle.urb_fifo.specs.Delivery.{IsDelivery, IsReleaseOf};
-ghost use Rattle.urb_fifo.specs.Releasing.{certifying, newly_released};
+ghost use Rattle.urb_fifo.specs.NewReleases.{certifying, newly_released};
 
 use std::alloc::{Allocator, Global};
 use std::marker::Model;
@@ -34,8 +34,8 @@ impl<A: Allocator> Model for Fifo<A> {
 
     ghost Value = { Delivery };
 
-    ghost use Rattle.urb_fifo.specs.Fields.{view_of};
-    ghost use Rattle.urb_fifo.specs.internal.Room.{IsKept};
+    ghost use Rattle.urb_fifo.specs.LogFields.{view_of};
+    ghost use Rattle.urb_fifo.specs.internal.LogInvariant.{IsKept};
 
     ghost view = { view_of };
 
@@ -58,7 +58,7 @@ fn are_same(first: &[Name], second: &[Name]) -> bool
     first == second
 }
 
-#[tactic(auto, using(crate::proofs::Rows::row_next, crate::proofs::Rows::row_none))]
+#[tactic(auto, using(crate::proofs::NameRows::row_next, crate::proofs::NameRows::row_none))]
 // Appends a sender's names with the numbers `from + 1` to `end`.
 fn release<A: Allocator>(log: &mut Vec<Name, A>, sender: NodeId, from: u32, end: u32)
     requires range { from ≤ end }

@@ -8,8 +8,8 @@
 -- secured (`secured-together`). They use the folder `stops` of `urb_group`. SendableFiles says what
 -- may go to a thread. EmptiedLists and RecordCounts have one small lemma each.
 mod EmptiedLists
-mod GroupsAfterStop
+mod ContinuedGroups
 mod PlacesInOrder
 mod RecordCounts
 pub mod SendableFiles
-mod StoresAsked
+mod AnswerLists

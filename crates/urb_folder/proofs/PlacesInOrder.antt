@@ -5,7 +5,7 @@ use Rattle.std.proofs.Common.{inr, length, refl, slice_get, slice_index_or, slic
 use Rattle.std.proofs.Common.{sym, zero, ℕ, ◌++◌, ◌+◌, ◌<◌, ◌∷◌, ◌≡◌, ◌≤◌}
 use Rattle.std.proofs.lemmas.List.{length-append}
 use Rattle.urb_folder.specs.internal.OpenedPlaces.{AreOpened}
-use Rattle.urb_stable.proofs.Indexed.{read_more}
+use Rattle.urb_stable.proofs.IndexGrowth.{read_more}
 
 -- what is after a place stays there when that place is set
 pub unset : {X : Type 0} (xs : List X) (i at : ℕ) (y it : X) → i < at

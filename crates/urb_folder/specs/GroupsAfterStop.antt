@@ -2,15 +2,15 @@
 -- stop.
 use Rattle.std.specs.Prelude.{Err, List, Ok, Result, ◌≡◌, ◌⊎◌}
 use Rattle.std.specs.List.{All}
-use Rattle.urb_names.specs.Naming.{Limits}
+use Rattle.urb_names.specs.LabelsAndContents.{Limits}
 use Rattle.urb_names.specs.declared.refusal.Refusal.{Refusal}
 use Rattle.urb_names.specs.declared.refusal.Refusal.TheVariants as refusal
 use Rattle.urb_stable.specs.declared.stable.Stable.{Ghosts}
-use Rattle.urb_group.specs.Clustered.{Clustered}
-use Rattle.urb_group.specs.Reopening.{ContinuesFrom, HasStopped}
-use Rattle.urb_group.specs.Shown.{GroupView}
+use Rattle.urb_group.specs.GroupStores.{Clustered}
+use Rattle.urb_group.specs.StoreOpenings.{ContinuesFrom, HasStopped}
+use Rattle.urb_group.specs.GroupViews.{GroupView}
 use Rattle.urb_group.specs.StartLimits.{MayStartWith}
-use Rattle.urb_group.specs.Stocked.{IsKnown}
+use Rattle.urb_group.specs.StoreContents.{IsKnown}
 use Rattle.urb_group.specs.World.{World}
 
 -- a group with the stores of its nodes, in order of node

@@ -1,5 +1,5 @@
 pub mod GroupsAfterStop
 pub mod OpenedJournals
-pub mod Outcomes
-pub mod StoresAsked
+pub mod ParallelOutcomes
+pub mod AskedStores
 pub mod internal

@@ -1,6 +1,6 @@
 -- Which nodes a list of journals belongs to, and the faults of opening the journals.
 use Rattle.std.specs.Prelude.{List, Some, false, slice_get, suc, ℕ, ◌<◌, ◌≡◌}
-use Rattle.urb_stable.specs.Storing.{is_place}
+use Rattle.urb_stable.specs.StableStorage.{is_place}
 use Rattle.urb_folder.specs.declared.folder_fault.FolderFault.{FolderFault}
 use Rattle.urb_folder.specs.declared.folder_fault.FolderFault.TheVariants.{ForeignRecords, Journal, NoMemory}
 

@@ -1,4 +1,4 @@
 pub mod ForeignJournals
-pub mod OpenedJournals
+pub mod JournalOutcomes
 pub mod OpenedPlaces
-pub mod StoresAsked
+pub mod RetrievedImages

@@ -2,7 +2,7 @@
 
 ghost use Rattle.std.specs.Prelude.{◌≡◌, ◌⊎◌, Ok, IfErr, IfOk, MatchOption, map};
 ghost use Rattle.std.specs.List.{All};
-ghost use Rattle.urb_folder.specs.Outcomes.{FailsFirst, IsOpen};
+ghost use Rattle.urb_folder.specs.ParallelOutcomes.{FailsFirst, IsOpen};
 
 use std::alloc::Global;
 use urb_stable::StoreFault;

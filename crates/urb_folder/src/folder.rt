@@ -1,7 +1,7 @@
 //! The folder of a group's journals: opens all of them, and closes them.
 
 ghost use Rattle.std.specs.Prelude.{◌≡◌, IfErr, IfOk, vec_len};
-ghost use Rattle.urb_sqlite.specs.Nodes.{AreFoundIn};
+ghost use Rattle.urb_sqlite.specs.FoundJournals.{AreFoundIn};
 ghost use Rattle.urb_folder.specs.OpenedJournals.{AreOfNodes, IsOfOpening};
 
 use crate::folder_fault::FolderFault;

@@ -2,7 +2,7 @@
 
 ghost use Rattle.std.specs.Prelude.{◌≡◌, false, IfErr, IfOk, IfSome, IsTrue};
 ghost use Rattle.sqlite_disk.specs.Memory.{memory_bytes, memory_is_usable};
-ghost use Rattle.urb_stable.specs.Storing.{is_place};
+ghost use Rattle.urb_stable.specs.StableStorage.{is_place};
 ghost use Rattle.urb_folder.specs.OpenedJournals.{IsOfOpening};
 ghost use Rattle.urb_folder.specs.internal.ForeignJournals.{TellsRecords};
 

@@ -2,13 +2,13 @@
 
 ghost use Rattle.std.specs.List.{All};
 ghost use Rattle.std.specs.Prelude.{◌≡◌, IfOk, vec_len};
-ghost use Rattle.urb_group.specs.Reopening.{HasStopped};
-ghost use Rattle.urb_group.specs.Shown.{GroupView};
-ghost use Rattle.urb_group.specs.Stocked.{AllHold, IsKnown, IsSecured, IsStocked, RestLeaves};
-ghost use Rattle.urb_group.specs.Stocked.{StopLeaves};
+ghost use Rattle.urb_group.specs.StoreOpenings.{HasStopped};
+ghost use Rattle.urb_group.specs.GroupViews.{GroupView};
+ghost use Rattle.urb_group.specs.StoreContents.{AllHold, IsKnown, IsSecured, IsStocked, RestLeaves};
+ghost use Rattle.urb_group.specs.StoreContents.{StopLeaves};
 ghost use Rattle.urb_group.specs.World.{World};
 ghost use Rattle.urb_folder.specs.GroupsAfterStop.{ContinuesTogether, beside_stores};
-ghost use Rattle.urb_folder.specs.StoresAsked.{OpensTogether};
+ghost use Rattle.urb_folder.specs.AskedStores.{OpensTogether};
 
 use crate::images::retrieve_images;
 use std::alloc::Global;

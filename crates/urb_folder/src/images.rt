@@ -1,10 +1,10 @@
 //! Asks the stores in parallel for the records that they hold.
 
 ghost use Rattle.std.specs.Prelude.{◌≡◌, ◌≤◌, IfErr, IfOk, map, vec_capacity, vec_len};
-ghost use Rattle.urb_group.specs.Asked.{Gives};
-ghost use Rattle.urb_folder.specs.StoresAsked.{AllAnswer};
-ghost use Rattle.urb_stable.specs.Storing.{list_in};
-ghost use Rattle.urb_folder.specs.internal.StoresAsked.{RetrievesTogether};
+ghost use Rattle.urb_group.specs.StoreQuestions.{Gives};
+ghost use Rattle.urb_folder.specs.AskedStores.{AllAnswer};
+ghost use Rattle.urb_stable.specs.StableStorage.{list_in};
+ghost use Rattle.urb_folder.specs.internal.RetrievedImages.{RetrievesTogether};
 
 use crate::first_fault::{Outcomes, collect_opened};
 use std::alloc::Global;

@@ -2,9 +2,9 @@
 
 ghost use Rattle.std.specs.Prelude.{◌≡◌, suc, false, true, length, IfErr, IfOk, IfSome};
 ghost use Rattle.std.specs.Fs.{asks_create_new, asks_write};
-ghost use Rattle.urb_stable.specs.Storing.{is_place};
-ghost use Rattle.urb_sqlite.specs.Nodes.{IsFoundIn};
-ghost use Rattle.urb_folder.specs.internal.OpenedJournals.{OpensIn};
+ghost use Rattle.urb_stable.specs.StableStorage.{is_place};
+ghost use Rattle.urb_sqlite.specs.FoundJournals.{IsFoundIn};
+ghost use Rattle.urb_folder.specs.internal.JournalOutcomes.{OpensIn};
 ghost use Rattle.urb_folder.specs.internal.OpenedPlaces.{AreOpened};
 
 use crate::journal::{FileId, Journal};

@@ -3,7 +3,7 @@
 
 ghost use Rattle.std.specs.Prelude.{◌≡◌, ◌⊎◌, ◌<◌, ◌≤◌, ◌/◌, IfErr, IfOk, IfSome, MatchOption};
 ghost use Rattle.std.specs.Prelude.{length, vec_capacity, vec_len};
-ghost use Rattle.urb_folder.specs.internal.OpenedJournals.{FailsAtNode, OpensIn};
+ghost use Rattle.urb_folder.specs.internal.JournalOutcomes.{FailsAtNode, OpensIn};
 ghost use Rattle.urb_folder.specs.internal.OpenedPlaces.{AreFound, AreOpened, FailsAfter};
 
 use crate::folder_fault::FolderFault;

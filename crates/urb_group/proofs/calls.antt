@@ -1,11 +1,11 @@
 -- What the calls of a cluster do to held drafts, to the places for drafts, and to the stores. A
 -- list of commands that are applied one after the other is a run of events. Other folders use
 -- `steps-node` and `reacts-tied` (DraftsInCalls), `held-as` (StoreAnswers), and `lost-tied`
--- (AfterStoreCalls). This folder uses the folders steps, safety and shown.
+-- (StoreCallEffects). This folder uses the folders steps, safety and shown.
 pub mod HeldDrafts
 pub mod DraftsInCalls
 pub mod StoreAnswers
-pub mod AfterStoreCalls
+pub mod StoreCallEffects
 pub mod PlayedRuns
 pub mod ArmedStores
 pub mod BlankStores

@@ -7,4 +7,4 @@ pub mod AgreeingLogs
 pub mod RunsOfKeptWorlds
 pub mod Refusals
 pub mod StoredRecords
-pub mod AnswersStop
+pub mod AnswerChains

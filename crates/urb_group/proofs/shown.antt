@@ -1,9 +1,9 @@
 -- A group in memory and the worlds that it shows: what holds for one of them holds for each. If one
 -- node moves, the group takes a step in each world that it shows. Other folders use `sound-kept`
--- and `sound-step` (ShownWorldsAgree), `shows-after` (ShownWorlds), and `lifted` (NodeMoves). This
+-- and `sound-step` (AgreeingWorlds), `shows-after` (ShownWorlds), and `lifted` (NodeMoves). This
 -- folder uses the folders steps and safety.
 pub mod ShownWorlds
-pub mod ShownWorldsAgree
+pub mod AgreeingWorlds
 pub mod SoundConditions
 pub mod ReplacedElements
 pub mod NodeMoves

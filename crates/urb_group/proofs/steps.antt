@@ -3,10 +3,10 @@
 -- `step-keeps` (Runs), `run-goes_on` (Growth), and `step-calm` (DraftsInSteps), which says what a
 -- step does to the drafts that the nodes hold. This folder uses no other folder.
 pub mod ConfirmedPackets
-pub mod ArriveCases
+pub mod ArrivalCases
 pub mod StepCases
 pub mod OneNodeStep
-pub mod Drafting
+pub mod DraftedRecords
 pub mod ShortPayloads
 pub mod Growth
 pub mod Runs

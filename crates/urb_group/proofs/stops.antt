@@ -1,10 +1,10 @@
 -- What a stop may leave in the stores, and how a cluster goes on when it is opened over them.
 -- Whatever a command does, a cluster that is stocked (or secured) stays so. Other folders use
 -- `applies-stocked` (StockedClusters), `applies-secured` (SecuredClusters), `opens-leaves`
--- (Reopened) and `survives` (StoppedWorlds). This folder uses the folders steps, ticks, safety,
--- shown, recovery, moves and calls.
+-- (OpenedClusters) and `survives` (StoppedWorlds). This folder uses the folders steps, ticks,
+-- safety, shown, recovery, moves and calls.
 pub mod StoppedWorlds
-pub mod StartLimits
+pub mod LimitChanges
 pub mod StockedSteps
 pub mod StockedNodes
 pub mod NodeStoreInvariant
@@ -14,7 +14,7 @@ pub mod StockedFailures
 pub mod StoppedCalls
 pub mod SecuredClusters
 pub mod SecuredOpenings
-pub mod Reopened
+pub mod OpenedClusters
 pub mod AskedStores
-pub mod InPlace
-mod FewRecords
+pub mod DraftPositions
+mod RecordCounts

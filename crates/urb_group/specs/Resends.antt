@@ -2,9 +2,9 @@
 -- and moves the cursor on.
 use Rattle.std.specs.Prelude.{Option, List, [], not, ℕ, ◌++◌, ◌∷◌, ◌≡◌, true}
 use Rattle.std.specs.List.{AllByRecursion, prefix_len}
-use Rattle.urb_names.specs.Cyclic.{are_rising, cyclic, last_name, resent}
+use Rattle.urb_names.specs.CyclicOrder.{are_rising, cyclic, last_name, resent}
 use Rattle.urb_names.specs.Names.{same_name}
-use Rattle.urb_names.specs.Naming.{Content, Label}
+use Rattle.urb_names.specs.LabelsAndContents.{Content, Label}
 use Rattle.urb_names.specs.Pairs.{has_pair}
 
 -- the cursor after a tick, if these pairs were due

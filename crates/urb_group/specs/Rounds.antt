@@ -6,15 +6,15 @@ use Rattle.std.specs.Prelude.{Bool, Err, List, Ok, Result, Some, [], false, if�
 use Rattle.std.specs.Prelude.{is_some, length, map, suc, true, ℕ, ◌&&◌, ◌*◌, ◌++◌, ◌==◌, ◌∷◌, ◌≡◌, ◌≤◌, ◌⊎◌}
 use Rattle.std.specs.List.{AllByRecursion, sum_by}
 use Rattle.urb_names.specs.declared.limits.TheConstants.{NAMES_PER_TICK}
-use Rattle.urb_group.specs.Recovering.{after}
+use Rattle.urb_group.specs.RecoveryPlans.{after}
 use Rattle.urb_group.specs.Scenes.{held_by}
 use Rattle.urb_group.specs.Step.{Arrive, Commit, Crash, Event, Fail, Restart, Submit, Tick, run}
 use Rattle.urb_group.specs.World.{World, stored}
-use Rattle.urb_names.specs.Beginnings.{Begins}
-use Rattle.urb_names.specs.Carried.{Carried, due_of}
-use Rattle.urb_names.specs.Cyclic.{rising}
+use Rattle.urb_names.specs.ListPrefixes.{Begins}
+use Rattle.urb_names.specs.CarriedPackets.{Carried, due_of}
+use Rattle.urb_names.specs.CyclicOrder.{rising}
 use Rattle.urb_names.specs.Names.{name, names}
-use Rattle.urb_names.specs.Naming.{Label}
+use Rattle.urb_names.specs.LabelsAndContents.{Label}
 use Rattle.urb_names.specs.Nodes.{is_node, nodes}
 use Rattle.urb_names.specs.Pairs.{message_of}
 use Rattle.urb_names.specs.Release.{part_of}
@@ -23,7 +23,7 @@ use Rattle.urb_node.specs.Part.{Ready}
 use Rattle.urb_node.specs.Replies.{Drafted, Refused, Reply, Same, Sent, Stored, Up, WentDown}
 use Rattle.urb_node.specs.Replies.{packets_with}
 use Rattle.urb_node.specs.Steps.{is_down}
-use Rattle.urb_stable.specs.Log.{log}
+use Rattle.urb_stable.specs.DeliveredLogs.{log}
 use Rattle.urb_stable.specs.Records.{pend}
 
 -- ---- what counts

@@ -4,7 +4,7 @@ use Rattle.std.specs.Prelude.{◌==◌, ◌||◌, ◌∷◌}
 use Rattle.urb_group.specs.Step.{Commit, Event}
 use Rattle.urb_group.specs.World.{World, updated}
 use Rattle.urb_names.specs.Names.{name}
-use Rattle.urb_names.specs.Naming.{Content}
+use Rattle.urb_names.specs.LabelsAndContents.{Content}
 use Rattle.urb_names.specs.declared.flags.Flags.{Flags}
 use Rattle.urb_names.specs.declared.limits.TheConstants.{MAX_PLAIN_PAYLOAD}
 use Rattle.urb_node.specs.Part.{Down, Node, Ready, State, Storing}

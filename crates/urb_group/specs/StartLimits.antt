@@ -1,9 +1,9 @@
 -- With which limits a group may start again.
 use Rattle.std.specs.Prelude.{IsTrue, List, [], false, length, ℕ, ◌≡◌, ◌≤◌, ◌⊎◌}
-use Rattle.urb_group.specs.Stopping.{AlwaysLeaves}
+use Rattle.urb_group.specs.ProcessStops.{AlwaysLeaves}
 use Rattle.urb_group.specs.World.{World}
 use Rattle.urb_names.specs.Names.{has_name}
-use Rattle.urb_names.specs.Naming.{Content, Label, Limits}
+use Rattle.urb_names.specs.LabelsAndContents.{Content, Label, Limits}
 use Rattle.urb_names.specs.Nodes.{is_node}
 use Rattle.urb_names.specs.Pairs.{has_pair, own}
 use Rattle.urb_stable.specs.Entries.{Entry}

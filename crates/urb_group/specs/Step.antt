@@ -1,8 +1,8 @@
 -- One step of the group, and a whole run.
 use Rattle.std.specs.Prelude.{Bool, Err, List, Ok, Result, [], if◌then◌else◌, not, ℕ, ◌&&◌, ◌++◌, ◌==◌, ◌∷◌, ◌≡◌}
 use Rattle.urb_group.specs.World.{AreImages, World, image_of, opened, started, truthful, updated}
-use Rattle.urb_names.specs.Carried.{Carried}
-use Rattle.urb_names.specs.Naming.{Content, Limits}
+use Rattle.urb_names.specs.CarriedPackets.{Carried}
+use Rattle.urb_names.specs.LabelsAndContents.{Content, Limits}
 use Rattle.urb_names.specs.Nodes.{is_node}
 use Rattle.urb_names.specs.declared.refusal.PacketFault.{PacketFault}
 use Rattle.urb_node.specs.Part.{Node}

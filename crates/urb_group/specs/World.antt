@@ -1,9 +1,9 @@
 -- The world: all nodes, and every packet ever sent.
 use Rattle.std.specs.Prelude.{Bool, List, [], if◌then◌else◌, length, not, ℕ, ◌&&◌, ◌==◌, ◌||◌, ◌≡◌}
 use Rattle.std.specs.List.{All}
-use Rattle.urb_names.specs.Carried.{Carried, says_certified}
+use Rattle.urb_names.specs.CarriedPackets.{Carried, says_certified}
 use Rattle.urb_names.specs.Names.{has_name}
-use Rattle.urb_names.specs.Naming.{Limits}
+use Rattle.urb_names.specs.LabelsAndContents.{Limits}
 use Rattle.urb_names.specs.Pairs.{has_pair}
 use Rattle.urb_node.specs.Part.{Node, opened_node}
 use Rattle.urb_stable.specs.Entries.{Entry, IsEntry}

@@ -1,10 +1,10 @@
-pub mod Places
-pub mod Moving
-pub mod Reaching
-pub mod Clustered
-pub mod Drafts
+pub mod PlaceInvariant
+pub mod PlaceCalls
+pub mod PacketTargets
+pub mod ClusterTies
+pub mod CallReplies
 pub mod Examples
 pub mod Scripts
-pub mod Reopening
-pub mod Recoveries
+pub mod StoreRetrievals
+pub mod RecoveryExamples
 pub mod RoundExamples

@@ -2,17 +2,17 @@
 
 ghost use Rattle.std.specs.List.{All};
 ghost use Rattle.std.specs.Prelude.{◌≡◌, length, IfOk};
-ghost use Rattle.urb_names.specs.Packets.{packet_of};
-ghost use Rattle.urb_group.specs.Asked.{IsBlank};
-ghost use Rattle.urb_group.specs.Clustered.{held_draft};
-ghost use Rattle.urb_group.specs.Clusters.{Alone, Applies, FailsHeld, RestartsBy, Starts};
-ghost use Rattle.urb_group.specs.Clusters.{StoresHeld, is_fallen};
+ghost use Rattle.urb_names.specs.PacketGrammar.{packet_of};
+ghost use Rattle.urb_group.specs.StoreQuestions.{IsBlank};
+ghost use Rattle.urb_group.specs.GroupStores.{held_draft};
+ghost use Rattle.urb_group.specs.ClusterCalls.{Alone, Applies, FailsHeld, RestartsBy, Starts};
+ghost use Rattle.urb_group.specs.ClusterCalls.{StoresHeld, is_fallen};
 ghost use Rattle.urb_group.specs.Commands.{reply_of};
-ghost use Rattle.urb_group.specs.InMemory.{in_memory};
-ghost use Rattle.urb_group.specs.InPlace.{AppliesInPlace, FailsInPlace};
-ghost use Rattle.urb_group.specs.Shown.{IsSound};
-ghost use Rattle.urb_group.specs.Stocked.{ContentsFit, IsGenuine, IsSecured, IsStocked, StopLeaves};
-ghost use Rattle.urb_group.specs.Stocked.{WouldLeave};
+ghost use Rattle.urb_group.specs.MemoryStores.{in_memory};
+ghost use Rattle.urb_group.specs.InPlaceDrafts.{AppliesInPlace, FailsInPlace};
+ghost use Rattle.urb_group.specs.GroupViews.{IsSound};
+ghost use Rattle.urb_group.specs.StoreContents.{ContentsFit, IsGenuine, IsSecured, IsStocked, StopLeaves};
+ghost use Rattle.urb_group.specs.StoreContents.{WouldLeave};
 ghost use Rattle.urb_group.specs.Step.{Arrive, Crash, Submit, Tick};
 
 use crate::held_drafts::{drop_draft, hold_draft, no_drafts, take_draft};
@@ -35,8 +35,8 @@ pub struct Cluster<S: Stable> {
 
 impl<S: Stable> Model for Cluster<S> {
     ghost use Rattle.std.specs.Prelude.{length};
-    ghost use Rattle.urb_group.specs.Clustered.{Clustered};
-    ghost use Rattle.urb_group.specs.internal.Clustered.{IsTied};
+    ghost use Rattle.urb_group.specs.GroupStores.{Clustered};
+    ghost use Rattle.urb_group.specs.internal.ClusterTies.{IsTied};
 
     ghost Value = { Clustered S };
 

@@ -2,9 +2,9 @@
 
 ghost use Rattle.std.specs.Prelude.{◌≡◌, is_some};
 ghost use Rattle.urb_group.specs.Commands.{is_no_memory};
-ghost use Rattle.urb_group.specs.Plays.{IsPromised, Plays, Runs, told_in};
-ghost use Rattle.urb_group.specs.Shown.{Shows};
-ghost use Rattle.urb_group.specs.Stocked.{IsSecured, IsStocked};
+ghost use Rattle.urb_group.specs.PlayedCommands.{IsPromised, Plays, Runs, told_in};
+ghost use Rattle.urb_group.specs.GroupViews.{Shows};
+ghost use Rattle.urb_group.specs.StoreContents.{IsSecured, IsStocked};
 ghost use Rattle.urb_group.specs.World.{World};
 
 use crate::{Cluster, Command, Reply};

@@ -4,15 +4,15 @@
 //! of `Group` state what every group promises.
 
 ghost use Rattle.std.specs.Prelude.{◌≡◌, ◌≢◌, ◌+◌, ℕ, length, map};
-ghost use Rattle.urb_names.specs.Beginnings.{Begins};
-ghost use Rattle.urb_names.specs.Naming.{IsLimits};
+ghost use Rattle.urb_names.specs.ListPrefixes.{Begins};
+ghost use Rattle.urb_names.specs.LabelsAndContents.{IsLimits};
 ghost use Rattle.urb_node.specs.Replies.{Done, Stored};
 ghost use Rattle.urb_stable.specs.Entries.{Entry};
-ghost use Rattle.urb_stable.specs.Log.{entries, log};
-ghost use Rattle.urb_group.specs.Calls.{Steps};
-ghost use Rattle.urb_group.specs.Delivering.{Agree, Follows, StoresNothing, delivered_at};
-ghost use Rattle.urb_group.specs.Delivering.{event_node, known};
-ghost use Rattle.urb_group.specs.Shown.{GroupView, IsSound, Shows};
+ghost use Rattle.urb_stable.specs.DeliveredLogs.{entries, log};
+ghost use Rattle.urb_group.specs.GroupCalls.{Steps};
+ghost use Rattle.urb_group.specs.DeliveredMessages.{Agree, Follows, StoresNothing, delivered_at};
+ghost use Rattle.urb_group.specs.DeliveredMessages.{event_node, known};
+ghost use Rattle.urb_group.specs.GroupViews.{GroupView, IsSound, Shows};
 ghost use Rattle.urb_group.specs.Step.{Commit, Event, step};
 ghost use Rattle.urb_group.specs.World.{World, stored};
 

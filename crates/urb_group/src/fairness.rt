@@ -8,12 +8,12 @@ ghost use Rattle.std.specs.Prelude.{◌≡◌, Bool, List, Option, true, ℕ, �
 ghost use Rattle.std.specs.Prelude.{length};
 ghost use Rattle.std.specs.List.{AllByRecursion};
 ghost use Rattle.urb_names.specs.declared.limits.TheConstants.{NAMES_PER_TICK};
-ghost use Rattle.urb_names.specs.Cyclic.{are_rising, resent};
-ghost use Rattle.urb_names.specs.Naming.{Content, Label};
+ghost use Rattle.urb_names.specs.CyclicOrder.{are_rising, resent};
+ghost use Rattle.urb_names.specs.LabelsAndContents.{Content, Label};
 ghost use Rattle.urb_names.specs.Nodes.{is_node, majority_passes};
 ghost use Rattle.urb_names.specs.Pairs.{has_pair};
-ghost use Rattle.urb_group.specs.Recovered.{AllDelivered, IsNotStranded};
-ghost use Rattle.urb_group.specs.Recovering.{after};
+ghost use Rattle.urb_group.specs.RecoveredWorlds.{AllDelivered, IsNotStranded};
+ghost use Rattle.urb_group.specs.RecoveryPlans.{after};
 ghost use Rattle.urb_group.specs.Resends.{IsDueAmong, cursor_next, resent_over, turn_of};
 ghost use Rattle.urb_group.specs.Rounds.{Act, AllUp, AnswersArrive, AreUp, HasDeliveredHeld};
 ghost use Rattle.urb_group.specs.Rounds.{HaveDeliveredHeld, IsBusyRound, IsBusyRoundAmong, IsRound};
@@ -21,8 +21,8 @@ ghost use Rattle.urb_group.specs.Rounds.{IsRoundAmong, IsUndisturbed, NoneDue, R
 ghost use Rattle.urb_group.specs.Rounds.{TickAtLeast, TicksAreSilent, acts_of, taken, ticks_of};
 ghost use Rattle.urb_group.specs.Step.{Event, IsReached};
 ghost use Rattle.urb_group.specs.PlayedRounds.{IsPlayedBusyRound, IsPlayedRound};
-ghost use Rattle.urb_group.specs.Plays.{Runs};
-ghost use Rattle.urb_group.specs.Shown.{GroupView};
+ghost use Rattle.urb_group.specs.PlayedCommands.{Runs};
+ghost use Rattle.urb_group.specs.GroupViews.{GroupView};
 ghost use Rattle.urb_group.specs.World.{World, stored};
 ghost use Rattle.urb_group.specs.declared.command.Command.{Command};
 ghost use Rattle.urb_node.specs.Part.{Ready};

@@ -1,8 +1,8 @@
 //! A group has all nodes in one process. Each call is one event at one node.
 
 ghost use Rattle.std.specs.Prelude.{IfOk};
-ghost use Rattle.urb_group.specs.Calls.{ComesUp, Commits, GoesDown, Takes, Ticks};
-ghost use Rattle.urb_group.specs.Shown.{Shows};
+ghost use Rattle.urb_group.specs.GroupCalls.{ComesUp, Commits, GoesDown, Takes, Ticks};
+ghost use Rattle.urb_group.specs.GroupViews.{Shows};
 ghost use Rattle.urb_group.specs.Step.{Crash, Fail, Restart, Submit, Tick};
 ghost use Rattle.urb_group.specs.World.{started};
 
@@ -28,9 +28,9 @@ pub struct Group<A: Allocator = Global> {
 }
 
 impl<A: Allocator> Model for Group<A> {
-    ghost use Rattle.urb_group.specs.Places.{shown};
-    ghost use Rattle.urb_group.specs.internal.Places.{IsGroup};
-    ghost use Rattle.urb_group.specs.Shown.{GroupView};
+    ghost use Rattle.urb_group.specs.PlaceViews.{shown};
+    ghost use Rattle.urb_group.specs.internal.PlaceInvariant.{IsGroup};
+    ghost use Rattle.urb_group.specs.GroupViews.{GroupView};
 
     ghost Value = { GroupView };
 

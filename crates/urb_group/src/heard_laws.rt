@@ -6,7 +6,7 @@ ghost use Rattle.urb_stable.specs.Entries.{Entry};
 ghost use Rattle.urb_node.specs.Replies.{Done, Stored};
 ghost use Rattle.urb_group.specs.World.{World};
 ghost use Rattle.urb_group.specs.Step.{Commit, step, IsReached};
-ghost use Rattle.urb_group.specs.Hearing.{HearsOfPending, SaysWhatWasHeard};
+ghost use Rattle.urb_group.specs.HeardCertificates.{HearsOfPending, SaysWhatWasHeard};
 
 /// In every world of a run, each certificate that a node has heard belongs to a name that is
 /// pending there. So when a node stores a pair, only the packet that caused it can have reported a

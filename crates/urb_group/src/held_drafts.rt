@@ -2,10 +2,10 @@
 
 ghost use Rattle.std.specs.Prelude.{◌≡◌, ◌<◌, ◌≤◌, ◌-◌, IfOk, None, Some, length, replicate};
 ghost use Rattle.std.specs.Prelude.{slice_set};
-ghost use Rattle.urb_stable.specs.Placed.{Placed};
-ghost use Rattle.urb_group.specs.internal.Clustered.{draft_at};
+ghost use Rattle.urb_stable.specs.PlacedRecords.{Placed};
+ghost use Rattle.urb_group.specs.internal.ClusterTies.{draft_at};
 ghost use Rattle.urb_group.specs.Commands.{reply_of};
-ghost use Rattle.urb_group.specs.internal.Drafts.{IsWithin, noted_in, told_of};
+ghost use Rattle.urb_group.specs.internal.CallReplies.{IsWithin, noted_in, told_of};
 
 use crate::{Reply, Taken};
 use std::alloc::Allocator;

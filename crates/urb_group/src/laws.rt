@@ -5,29 +5,29 @@
 //! S. Toueg, A Modular Approach to Fault-Tolerant Broadcasts and Related Problems (1994).
 
 ghost use Rattle.std.specs.Prelude.{◌≡◌, ◌+◌, ℕ, IsTrue, List, None, Some, [], false, length, true};
-ghost use Rattle.urb_names.specs.Carried.{Carried};
+ghost use Rattle.urb_names.specs.CarriedPackets.{Carried};
 ghost use Rattle.std.specs.List.{AllByRecursion};
-ghost use Rattle.urb_names.specs.Naming.{IsLimits, Limits, Label, Content};
+ghost use Rattle.urb_names.specs.LabelsAndContents.{IsLimits, Limits, Label, Content};
 ghost use Rattle.urb_names.specs.declared.refusal.Refusal.{Refusal};
 ghost use Rattle.urb_stable.specs.Entries.{Entry};
 ghost use Rattle.urb_stable.specs.Fitting.{Fits};
-ghost use Rattle.urb_stable.specs.Log.{DeliversExactly};
-ghost use Rattle.urb_stable.specs.Placed.{Placed};
-ghost use Rattle.urb_stable.specs.Storing.{is_out_of_place};
+ghost use Rattle.urb_stable.specs.DeliveredLogs.{DeliversExactly};
+ghost use Rattle.urb_stable.specs.PlacedRecords.{Placed};
+ghost use Rattle.urb_stable.specs.StableStorage.{is_out_of_place};
 ghost use Rattle.urb_node.specs.Replies.{Reply, Done, Same, Stored, Refused};
 ghost use Rattle.urb_node.specs.Steps.{says_heard};
 ghost use Rattle.urb_node.specs.declared.answer.Answer.TheVariants.{Accepted};
 ghost use Rattle.urb_group.specs.World.{World, AreImages, image_of, opened, started};
 ghost use Rattle.urb_group.specs.Step.{Event, Submit, Commit, step, Run, IsReached};
-ghost use Rattle.urb_group.specs.Safe.{Safe, OneMessage};
-ghost use Rattle.urb_group.specs.Answering.{answers_to};
-ghost use Rattle.urb_group.specs.Truth.{AreTruthful, AllTruthful, ToldTruth};
-ghost use Rattle.urb_group.specs.Growing.{GoesOn, EntriesGrow, AgreeInTime};
-ghost use Rattle.urb_group.specs.Accepting.{HasStored, StoresOwn};
-ghost use Rattle.urb_group.specs.Stopping.{SurvivesStop};
-ghost use Rattle.urb_group.specs.Shown.{GroupView, Shows, IsSound};
-ghost use Rattle.urb_group.specs.Clustered.{held_draft};
-ghost use Rattle.urb_group.specs.Stocked.{IsStoreOf};
+ghost use Rattle.urb_group.specs.SafetyProperties.{Safe, OneMessage};
+ghost use Rattle.urb_group.specs.PromptAnswers.{answers_to};
+ghost use Rattle.urb_group.specs.TruthfulPackets.{AreTruthful, AllTruthful, ToldTruth};
+ghost use Rattle.urb_group.specs.RunMoments.{GoesOn, EntriesGrow, AgreeInTime};
+ghost use Rattle.urb_group.specs.Acceptance.{HasStored, StoresOwn};
+ghost use Rattle.urb_group.specs.ProcessStops.{SurvivesStop};
+ghost use Rattle.urb_group.specs.GroupViews.{GroupView, Shows, IsSound};
+ghost use Rattle.urb_group.specs.GroupStores.{held_draft};
+ghost use Rattle.urb_group.specs.StoreContents.{IsStoreOf};
 
 use urb_stable::Stable;
 

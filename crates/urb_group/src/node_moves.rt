@@ -2,9 +2,9 @@
 
 ghost use Rattle.std.specs.Prelude.{◌<◌, ◌≡◌, Some, length, slice_get, suc};
 ghost use Rattle.std.specs.Option.{ForSome, MatchOption};
-ghost use Rattle.urb_group.specs.internal.Moving.{ArrivesAt, CommitsAt, CrashesAt, FailsAt};
-ghost use Rattle.urb_group.specs.internal.Moving.{MayReach, MovesNode};
-ghost use Rattle.urb_group.specs.internal.Moving.{RestartsAt, SubmitsAt, TicksAt, after_step};
+ghost use Rattle.urb_group.specs.internal.PlaceCalls.{ArrivesAt, CommitsAt, CrashesAt, FailsAt};
+ghost use Rattle.urb_group.specs.internal.PlaceCalls.{MayReach, MovesNode};
+ghost use Rattle.urb_group.specs.internal.PlaceCalls.{RestartsAt, SubmitsAt, TicksAt, after_step};
 
 use crate::Taken;
 use std::alloc::{Allocator, Global};

@@ -5,7 +5,7 @@ ghost use Rattle.std.specs.List.{All};
 ghost use Rattle.urb_stable.specs.Entries.{IsEntry};
 ghost use Rattle.urb_stable.specs.Fitting.{first_misfit};
 ghost use Rattle.urb_stable.specs.Images.{image_of};
-ghost use Rattle.urb_group.specs.Calls.{Opens};
+ghost use Rattle.urb_group.specs.GroupCalls.{Opens};
 
 use crate::Group;
 use crate::node_moves::Node;

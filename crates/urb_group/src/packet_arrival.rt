@@ -3,11 +3,11 @@
 ghost use Rattle.std.specs.Prelude.{◌≡◌, false, is_some, MatchOption};
 ghost use Rattle.std.specs.Bool.{MatchBool};
 ghost use Rattle.std.specs.Option.{ForSome};
-ghost use Rattle.urb_names.specs.Packets.{packet_of};
-ghost use Rattle.urb_group.specs.Calls.{Takes};
-ghost use Rattle.urb_group.specs.internal.Moving.{ArrivesAt, MayReach};
-ghost use Rattle.urb_group.specs.internal.Reaching.{AreEnds, HoldsPair, IsAsCertified, TellsTruth};
-ghost use Rattle.urb_group.specs.internal.Reaching.{is_for_node};
+ghost use Rattle.urb_names.specs.PacketGrammar.{packet_of};
+ghost use Rattle.urb_group.specs.GroupCalls.{Takes};
+ghost use Rattle.urb_group.specs.internal.PlaceCalls.{ArrivesAt, MayReach};
+ghost use Rattle.urb_group.specs.internal.PacketTargets.{AreEnds, HoldsPair, IsAsCertified, TellsTruth};
+ghost use Rattle.urb_group.specs.internal.PacketTargets.{is_for_node};
 ghost use Rattle.urb_group.specs.Step.{Arrive};
 
 use crate::node_moves::{Node, arrive_at, move_node, place_of};

@@ -1,12 +1,12 @@
 //! Queries about a node of a group, whatever state the node is in.
 
 ghost use Rattle.std.specs.Prelude.{◌≡◌, Some, option_map};
-ghost use Rattle.urb_node.specs.Moves.{CountsOwn as CountsOwnAt, FindsMessage as FindsMessageAt};
-ghost use Rattle.urb_node.specs.Moves.{IsCertified, TellsLog as TellsLogAt};
-ghost use Rattle.urb_group.specs.Calls.{Answers, CountsOwn, FindsMessage, Holds, TellsLog};
-ghost use Rattle.urb_group.specs.Places.{state_in};
-ghost use Rattle.urb_group.specs.internal.Places.{ShowsAt};
-ghost use Rattle.urb_group.specs.States.{state_of};
+ghost use Rattle.urb_node.specs.CallEffects.{CountsOwn as CountsOwnAt, FindsMessage as FindsMessageAt};
+ghost use Rattle.urb_node.specs.CallEffects.{IsCertified, TellsLog as TellsLogAt};
+ghost use Rattle.urb_group.specs.GroupCalls.{Answers, CountsOwn, FindsMessage, Holds, TellsLog};
+ghost use Rattle.urb_group.specs.PlaceViews.{state_in};
+ghost use Rattle.urb_group.specs.internal.PlaceInvariant.{ShowsAt};
+ghost use Rattle.urb_group.specs.ReportedStates.{state_of};
 
 use crate::node_moves::{Node, place_of};
 use crate::{Group, State};

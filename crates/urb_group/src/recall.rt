@@ -1,15 +1,15 @@
 //! What holds for every group, whatever calls led to it.
 
 ghost use Rattle.std.specs.Prelude.{◌≡◌, ℕ, length};
-ghost use Rattle.urb_names.specs.Naming.{Content, Label};
+ghost use Rattle.urb_names.specs.LabelsAndContents.{Content, Label};
 ghost use Rattle.urb_node.specs.Replies.{Same};
 ghost use Rattle.urb_node.specs.declared.answer.Answer.TheVariants.{Accepted};
-ghost use Rattle.urb_group.specs.Accepting.{HasStored};
-ghost use Rattle.urb_group.specs.Growing.{AgreeInTime};
-ghost use Rattle.urb_group.specs.Safe.{OneMessage, Safe};
-ghost use Rattle.urb_group.specs.Shown.{IsSound, Shows};
+ghost use Rattle.urb_group.specs.Acceptance.{HasStored};
+ghost use Rattle.urb_group.specs.RunMoments.{AgreeInTime};
+ghost use Rattle.urb_group.specs.SafetyProperties.{OneMessage, Safe};
+ghost use Rattle.urb_group.specs.GroupViews.{IsSound, Shows};
 ghost use Rattle.urb_group.specs.Step.{Submit, step};
-ghost use Rattle.urb_group.specs.Stopping.{SurvivesStop};
+ghost use Rattle.urb_group.specs.ProcessStops.{SurvivesStop};
 ghost use Rattle.urb_group.specs.World.{World};
 
 use crate::Group;

@@ -5,14 +5,14 @@
 
 ghost use Rattle.std.specs.Prelude.{◌≡◌, List, false, true};
 ghost use Rattle.urb_names.specs.Names.{has_name};
-ghost use Rattle.urb_names.specs.Naming.{Content, Label, Limits};
+ghost use Rattle.urb_names.specs.LabelsAndContents.{Content, Label, Limits};
 ghost use Rattle.urb_names.specs.Pairs.{has_pair};
 ghost use Rattle.urb_stable.specs.Entries.{Entry};
 ghost use Rattle.urb_stable.specs.Fitting.{Fits};
 ghost use Rattle.urb_stable.specs.Records.{cert, pend};
 ghost use Rattle.urb_node.specs.Replies.{Reply};
-ghost use Rattle.urb_group.specs.Recovered.{AreAsSent, CanDeliver, IsNotStranded};
-ghost use Rattle.urb_group.specs.Recovering.{after};
+ghost use Rattle.urb_group.specs.RecoveredWorlds.{AreAsSent, CanDeliver, IsNotStranded};
+ghost use Rattle.urb_group.specs.RecoveryPlans.{after};
 ghost use Rattle.urb_group.specs.Step.{Event, IsReached, Run};
 ghost use Rattle.urb_group.specs.World.{AreImages, World, image_of, opened, started, stored};
 

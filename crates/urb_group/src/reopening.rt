@@ -2,12 +2,12 @@
 
 ghost use Rattle.std.specs.Prelude.{◌≡◌, IfOk, length};
 ghost use Rattle.std.specs.List.{All};
-ghost use Rattle.urb_group.specs.Reopening.{Continues, HasStopped, OpensFrom, OpensStores};
-ghost use Rattle.urb_group.specs.Reopening.{stores_in};
-ghost use Rattle.urb_group.specs.internal.Reopening.{RetrievesAll};
-ghost use Rattle.urb_group.specs.Shown.{GroupView};
-ghost use Rattle.urb_group.specs.Stocked.{AllHold, IsKnown, IsSecured, IsStocked, RestLeaves};
-ghost use Rattle.urb_group.specs.Stocked.{StopLeaves};
+ghost use Rattle.urb_group.specs.StoreOpenings.{Continues, HasStopped, OpensFrom, OpensStores};
+ghost use Rattle.urb_group.specs.StoreOpenings.{stores_in};
+ghost use Rattle.urb_group.specs.internal.StoreRetrievals.{RetrievesAll};
+ghost use Rattle.urb_group.specs.GroupViews.{GroupView};
+ghost use Rattle.urb_group.specs.StoreContents.{AllHold, IsKnown, IsSecured, IsStocked, RestLeaves};
+ghost use Rattle.urb_group.specs.StoreContents.{StopLeaves};
 ghost use Rattle.urb_group.specs.World.{World};
 
 use crate::held_drafts::no_drafts;

@@ -3,7 +3,7 @@
 ghost use Rattle.std.specs.Prelude.{◌≡◌, ◌≤◌, [], IfOk};
 ghost use Rattle.std.specs.Option.{ForSome};
 ghost use Rattle.urb_node.specs.Part.{opened_node};
-ghost use Rattle.urb_node.specs.Values.{ShowsReady};
+ghost use Rattle.urb_node.specs.NodeMemories.{ShowsReady};
 ghost use Rattle.urb_stable.specs.Fitting.{KeepsOwn};
 
 use crate::node_moves::Node;

@@ -3,14 +3,14 @@
 //! Each law is the contract of a function that does nothing.
 
 ghost use Rattle.std.specs.Prelude.{◌≡◌, ◌<◌, ◌≤◌, List, ℕ};
-ghost use Rattle.urb_names.specs.Naming.{Limits};
+ghost use Rattle.urb_names.specs.LabelsAndContents.{Limits};
 ghost use Rattle.urb_stable.specs.Entries.{Entry};
 ghost use Rattle.urb_stable.specs.Fitting.{Fits};
-ghost use Rattle.urb_group.specs.Recovered.{IsNotStranded};
+ghost use Rattle.urb_group.specs.RecoveredWorlds.{IsNotStranded};
 ghost use Rattle.urb_group.specs.StartLimits.{AreOfGroup, AreWithinCap, HaveMajorities};
 ghost use Rattle.urb_group.specs.StartLimits.{MayStartWith};
 ghost use Rattle.urb_group.specs.Step.{IsReached};
-ghost use Rattle.urb_group.specs.Stopping.{AlwaysLeaves, GoesOnUnder};
+ghost use Rattle.urb_group.specs.ProcessStops.{AlwaysLeaves, GoesOnUnder};
 ghost use Rattle.urb_group.specs.World.{World, opened};
 
 /// Says which limits fit images that fit together under other limits. The new limits have as many

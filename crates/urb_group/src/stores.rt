@@ -1,13 +1,13 @@
 //! What a group and the store of one node do together.
 
 ghost use Rattle.std.specs.Prelude.{◌≡◌, None, Some};
-ghost use Rattle.urb_stable.specs.Placed.{Placed};
-ghost use Rattle.urb_group.specs.Calls.{Steps};
-ghost use Rattle.urb_group.specs.Clustered.{held_draft};
-ghost use Rattle.urb_group.specs.Clusters.{BreaksArmed, Reacts, Reads, Stores};
+ghost use Rattle.urb_stable.specs.PlacedRecords.{Placed};
+ghost use Rattle.urb_group.specs.GroupCalls.{Steps};
+ghost use Rattle.urb_group.specs.GroupStores.{held_draft};
+ghost use Rattle.urb_group.specs.ClusterCalls.{BreaksArmed, Reacts, Reads, Stores};
 ghost use Rattle.urb_group.specs.Commands.{reply_of};
-ghost use Rattle.urb_group.specs.internal.Drafts.{IsUnfallen, IsUnstored, unfallen_in, unstored_in};
-ghost use Rattle.urb_group.specs.Shown.{IsSound};
+ghost use Rattle.urb_group.specs.internal.CallReplies.{IsUnfallen, IsUnstored, unfallen_in, unstored_in};
+ghost use Rattle.urb_group.specs.GroupViews.{IsSound};
 ghost use Rattle.urb_group.specs.Step.{Commit, Fail, Restart};
 
 use crate::{Group, Reply, State};

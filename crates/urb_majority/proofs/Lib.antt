@@ -8,5 +8,5 @@
 -- (`any_insert`). Read the files in the order of the list below: majorities, the promised space,
 -- and what callers find.
 pub mod Majorities
-pub mod Rooms
-pub mod Joined
+pub mod PromisedSpace
+pub mod AddedAcks

@@ -3,15 +3,15 @@ use Rattle.std.proofs.Common.{◌≡◌, ℕ, suc, ◌+◌, ◌<◌, ◌≤◌, 
 use Rattle.std.proofs.Common.{◌∷◌, count_by, ne_eqb, not, refl, ap, ◌∙◌, arith}
 use Rattle.std.specs.Prelude.{if◌then◌else◌}
 use Rattle.std.proofs.lemmas.Bool.{cond-true, cond-false, cond_both, and_from, and_left, and_right}
-use Rattle.urb_names.specs.Naming.{Label}
+use Rattle.urb_names.specs.LabelsAndContents.{Label}
 use Rattle.urb_names.specs.Names.{same_name}
 use Rattle.urb_names.specs.Nodes.{nodes, is_majority}
-use Rattle.urb_names.specs.Acknowledged.{acked}
+use Rattle.urb_names.specs.Acknowledgements.{acked}
 use Rattle.urb_names.proofs.SameNames.{same_name-same}
 use Rattle.urb_majority.specs.Acks.{AckSet}
-use Rattle.urb_majority.specs.Counting.{answer_of, has_majority, has_majority_with}
+use Rattle.urb_majority.specs.AckOutcomes.{answer_of, has_majority, has_majority_with}
 use Rattle.urb_majority.specs.declared.acks.Noted.TheVariants.{Again, Counted, Reached}
-use Rattle.urb_window.proofs.Counts.{count_alike, count_one_more}
+use Rattle.urb_window.proofs.NodeCounts.{count_alike, count_one_more}
 
 -- counting a new node of the group for a name raises its count by one
 pub count_with : (acks : List (Label × ℕ)) (x : Label) (q n : ℕ) → 0 < q → q ≤ n

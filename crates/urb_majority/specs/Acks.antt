@@ -1,9 +1,9 @@
 -- Acknowledgements and certificates, as contracts see them.
 use Rattle.std.specs.Prelude.{ℕ, IsTrue, List, Option}
-use Rattle.urb_names.specs.Naming.{Limits, Label}
+use Rattle.urb_names.specs.LabelsAndContents.{Limits, Label}
 use Rattle.urb_names.specs.Names.{name_lt}
-pub use Rattle.urb_names.specs.Acknowledged.{ack_lt}
-use Rattle.urb_names.specs.Ordered.{is_rising}
+pub use Rattle.urb_names.specs.Acknowledgements.{ack_lt}
+use Rattle.urb_names.specs.RisingLists.{is_rising}
 
 -- the counted pairs of a name and a node, the certified names, and the name for which space is
 -- reserved

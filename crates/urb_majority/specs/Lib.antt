@@ -1,4 +1,4 @@
-pub mod Counting
+pub mod AckOutcomes
 pub mod Acks
-pub mod Fields
+pub mod AckFields
 pub mod internal

@@ -2,11 +2,11 @@
 
 ghost use Rattle.std.specs.Prelude.{◌≡◌, true, [], None, Some, IsOk, IfOk, OnOk, OnErr};
 ghost use Rattle.urb_names.specs.Names.{has_name};
-ghost use Rattle.urb_names.specs.Acknowledged.{acked};
-ghost use Rattle.urb_names.specs.Ordered.{reserved_for};
+ghost use Rattle.urb_names.specs.Acknowledgements.{acked};
+ghost use Rattle.urb_names.specs.RisingLists.{reserved_for};
 ghost use Rattle.urb_majority.specs.Acks.{IsAckSet};
-ghost use Rattle.urb_majority.specs.Counting.{answer_of, certifying, counting, has_majority};
-ghost use Rattle.urb_majority.specs.Counting.{has_majority_with};
+ghost use Rattle.urb_majority.specs.AckOutcomes.{answer_of, certifying, counting, has_majority};
+ghost use Rattle.urb_majority.specs.AckOutcomes.{has_majority_with};
 
 use std::alloc::{Allocator, Global};
 use std::marker::Model;
@@ -42,8 +42,8 @@ impl<A: Allocator> Model for Acks<A> {
 
     ghost Value = { AckSet };
 
-    ghost use Rattle.urb_majority.specs.Fields.{view_of};
-    ghost use Rattle.urb_majority.specs.internal.Room.{IsKept};
+    ghost use Rattle.urb_majority.specs.AckFields.{view_of};
+    ghost use Rattle.urb_majority.specs.internal.SpaceInvariant.{IsKept};
 
     ghost view = { view_of };
 

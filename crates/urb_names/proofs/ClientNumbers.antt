@@ -10,7 +10,7 @@ use Rattle.std.proofs.lemmas.List.Sums.{sum_by-append}
 use Rattle.std.specs.List.{list_any, position_or_len}
 use Rattle.std.specs.Option.{option_or}
 use Rattle.urb_names.proofs.Places.{get_front, get_last, get_past}
-use Rattle.urb_names.specs.Naming.{Content}
+use Rattle.urb_names.specs.LabelsAndContents.{Content}
 use Rattle.urb_names.specs.Pairs.{is_numbered}
 
 count-push : (p : Content → Bool) (ms : List Content) (m : Content)

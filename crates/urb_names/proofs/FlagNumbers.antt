@@ -1,7 +1,7 @@
 -- Flags and their numbers, both ways.
 use Rattle.std.proofs.Common.{◌≡◌, ◌<◌, ℕ, suc, zero, Bool, true, false, ap, arith, refl, sym, ◌∙◌}
 use Rattle.urb_names.specs.declared.flags.Flags.{Flags}
-use Rattle.urb_names.specs.Packets.{flags_number, flags_said}
+use Rattle.urb_names.specs.PacketGrammar.{flags_number, flags_said}
 
 -- a number of at most three is the number of the flags that it encodes
 pub number_again : (number : ℕ) → number < 4 → number ≡ flags_number (flags_said number)

@@ -8,18 +8,18 @@
 -- SentPairs on the packets of a tick. Lists: Places, ClientNumbers, and the file of
 -- `rising_placed`. Logs: the file of `part-released`, then that of `released-exactly`. No lemma of
 -- another crate of this repository is used.
-pub mod Numbers
+pub mod NumberBytes
 pub mod FlagNumbers
-pub mod Judged
-pub mod Spelled
-pub mod Parsed
+pub mod FieldJudgements
+pub mod FieldSpellings
+pub mod JudgedBytes
 pub mod ClientNumbers
 pub mod FoundPairs
-pub mod Ordered
+pub mod ElementPlaces
 pub mod OrderedPairs
 pub mod Places
-pub mod Reached
-pub mod Released
+pub mod CertificateReaches
+pub mod LogRows
 pub mod RisingPairs
 pub mod SameNames
 pub mod SentPairs

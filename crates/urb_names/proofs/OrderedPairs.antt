@@ -7,9 +7,9 @@ use Rattle.std.specs.List.{list_all}
 use Rattle.urb_names.proofs.RisingPairs.{name_lt-one_way, name_lt-other_way, name_lt-trans}
 use Rattle.urb_names.proofs.SameNames.{same_message-same, same_message-true, same_name-same}
 use Rattle.urb_names.proofs.SameNames.{same_name-true}
-use Rattle.urb_names.specs.Cyclic.{are_rising, inserted}
+use Rattle.urb_names.specs.CyclicOrder.{are_rising, inserted}
 use Rattle.urb_names.specs.Names.{name_lt, same_message, same_name}
-use Rattle.urb_names.specs.Naming.{Content, Label}
+use Rattle.urb_names.specs.LabelsAndContents.{Content, Label}
 use Rattle.urb_names.specs.Pairs.{has_pair, own}
 
 -- each name comes before all later names

@@ -4,9 +4,9 @@ use Rattle.std.proofs.Common.{inl, inr, lt-ltb, ltb-true, nat_lt, refl, sym, tru
 use Rattle.std.proofs.Common.{◌++◌, ◌<◌, ◌==◌, ◌∙◌, ◌∷◌, ◌≡◌, ◌⊎◌}
 use Rattle.std.proofs.lemmas.Bool.{and_from, and_parts, cases_Bool, cases_order, cond-false}
 use Rattle.std.proofs.lemmas.Bool.{cond-true, false≢true, or_cases, or_left, or_right}
-use Rattle.urb_names.specs.Cyclic.{inserted, rising}
+use Rattle.urb_names.specs.CyclicOrder.{inserted, rising}
 use Rattle.urb_names.specs.Names.{name_lt, same_name}
-use Rattle.urb_names.specs.Naming.{Content, Label}
+use Rattle.urb_names.specs.LabelsAndContents.{Content, Label}
 use Rattle.urb_names.specs.Pairs.{message_of}
 
 -- x comes before y

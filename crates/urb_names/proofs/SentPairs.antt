@@ -4,12 +4,12 @@ use Rattle.std.proofs.Common.{suc, take, true, zero, ℕ, ◌++◌, ◌∷◌, �
 use Rattle.std.proofs.lemmas.Bool.{cond_both}
 use Rattle.std.specs.List.{AllByRecursion}
 use Rattle.urb_names.proofs.OrderedPairs.{has_pair-behind, has_pair-head}
-use Rattle.urb_names.specs.Acknowledged.{acked}
-use Rattle.urb_names.specs.Carried.{AreFrom, IsFrom, due_of, is_due, is_heard_of, others}
-use Rattle.urb_names.specs.Carried.{packets_to, to_others, to_unheard}
-use Rattle.urb_names.specs.Cyclic.{cyclic, inserted, is_after, resent, rising}
+use Rattle.urb_names.specs.Acknowledgements.{acked}
+use Rattle.urb_names.specs.CarriedPackets.{AreFrom, IsFrom, due_of, is_due, is_heard_of, others}
+use Rattle.urb_names.specs.CarriedPackets.{packets_to, to_others, to_unheard}
+use Rattle.urb_names.specs.CyclicOrder.{cyclic, inserted, is_after, resent, rising}
 use Rattle.urb_names.specs.Names.{has_name, name_lt}
-use Rattle.urb_names.specs.Naming.{Content, Label}
+use Rattle.urb_names.specs.LabelsAndContents.{Content, Label}
 use Rattle.urb_names.specs.Pairs.{has_pair}
 use Rattle.urb_names.specs.declared.flags.Flags.{Flags}
 

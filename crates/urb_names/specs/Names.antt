@@ -1,7 +1,7 @@
 -- Names and messages: their order, and when two are the same.
 use Rattle.std.specs.Prelude.{ℕ, Bool, ◌&&◌, ◌||◌, ◌==◌, nat_lt, List, map, bytes_eq}
 use Rattle.std.specs.List.{list_any}
-use Rattle.urb_names.specs.Naming.{Label, Content}
+use Rattle.urb_names.specs.LabelsAndContents.{Label, Content}
 use Rattle.urb_names.specs.Nodes.{numbers_from}
 
 -- the name with this sender and number

@@ -2,7 +2,7 @@
 use Rattle.std.specs.Prelude.{ℕ, suc, Bool, ◌&&◌, ◌==◌, if◌then◌else◌, List, [], ◌∷◌, count_by}
 use Rattle.std.specs.Prelude.{Option, Some, None}
 use Rattle.std.specs.List.{list_any}
-use Rattle.urb_names.specs.Naming.{Label, Content}
+use Rattle.urb_names.specs.LabelsAndContents.{Label, Content}
 use Rattle.urb_names.specs.Names.{same_name, same_message}
 
 -- whether the pair of this name and message is in the list

@@ -1,6 +1,6 @@
 -- Release by number: what certificates deliver, in the order in which they came.
 use Rattle.std.specs.Prelude.{ℕ, not, ◌==◌, List, [], ◌∷◌, ◌++◌, length, filter, take_while}
-use Rattle.urb_names.specs.Naming.{Label}
+use Rattle.urb_names.specs.LabelsAndContents.{Label}
 use Rattle.urb_names.specs.Names.{names, has_name}
 
 -- the names of one sender in a list

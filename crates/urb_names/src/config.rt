@@ -16,7 +16,7 @@ pub struct Config {
 
 impl Model for Config {
     ghost use Rattle.std.specs.Prelude.{◌<◌, ◌≤◌};
-    ghost use Rattle.urb_names.specs.Naming.{Limits};
+    ghost use Rattle.urb_names.specs.LabelsAndContents.{Limits};
     ghost use Rattle.urb_names.specs.declared.limits.TheConstants.{MAX_CAP, MAX_NODES};
 
     ghost Value = { Limits };
@@ -29,7 +29,7 @@ impl Model for Config {
 }
 
 impl Config {
-    ghost use Rattle.urb_names.specs.Naming.{IsLimits};
+    ghost use Rattle.urb_names.specs.LabelsAndContents.{IsLimits};
 
     /// A group of `n` nodes, 1 to `MAX_NODES`, each of which may broadcast `cap` messages, 1 to
     /// `MAX_CAP`. `None` if either is out of range.

@@ -1,7 +1,7 @@
 //! What a packet's source says about certificates.
 ghost use Rattle.std.specs.Prelude.{◌≡◌, ◌<◌, IfSome};
 ghost use Rattle.std.specs.Option.{SomeIff};
-ghost use Rattle.urb_names.specs.Packets.{flags_number, flags_said};
+ghost use Rattle.urb_names.specs.PacketGrammar.{flags_number, flags_said};
 
 /// What a packet of version two says about certificates, beside its message.
 #[derive(Clone, Copy, Debug, PartialEq, Eq)]

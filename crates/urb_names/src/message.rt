@@ -1,7 +1,7 @@
 //! Client messages.
 ghost use Rattle.std.specs.Prelude.{◌≡◌, ◌≤◌, ◌<◌, IfOk, length, vec_len};
 ghost use Rattle.std.specs.Bool.{MatchBool};
-ghost use Rattle.urb_names.specs.Naming.{IsContent};
+ghost use Rattle.urb_names.specs.LabelsAndContents.{IsContent};
 
 use crate::{ClientId, MAX_PAYLOAD, NoMemory, Payload};
 use std::alloc::{Allocator, Global};
@@ -21,7 +21,7 @@ pub struct Message<A: Allocator = Global> {
 impl<A: Allocator> Model for Message<A> {
     ghost use Rattle.std.specs.Prelude.{◌<◌, ◌≤◌, vec_len};
     ghost use Rattle.std.specs.Arc.{arc_value};
-    ghost use Rattle.urb_names.specs.Naming.{Content};
+    ghost use Rattle.urb_names.specs.LabelsAndContents.{Content};
     ghost use Rattle.urb_names.specs.declared.limits.TheConstants.{MAX_PAYLOAD};
 
     ghost Value = { Content };

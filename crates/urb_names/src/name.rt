@@ -1,6 +1,6 @@
 //! Names of messages, and their order.
 ghost use Rattle.std.specs.Prelude.{◌≡◌};
-ghost use Rattle.urb_names.specs.Naming.{IsLabel};
+ghost use Rattle.urb_names.specs.LabelsAndContents.{IsLabel};
 ghost use Rattle.urb_names.specs.Names.{name_lt};
 
 use crate::NodeId;
@@ -19,7 +19,7 @@ pub struct Name {
 
 impl Model for Name {
     ghost use Rattle.std.specs.Prelude.{◌<◌};
-    ghost use Rattle.urb_names.specs.Naming.{Label};
+    ghost use Rattle.urb_names.specs.LabelsAndContents.{Label};
 
     ghost Value = { Label };
 

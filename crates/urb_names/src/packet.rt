@@ -1,6 +1,6 @@
 //! Packets: what one node sends to another.
 ghost use Rattle.std.specs.Prelude.{◌≡◌, ◌≢◌};
-ghost use Rattle.urb_names.specs.Packets.{IsPacket, FitsVersion};
+ghost use Rattle.urb_names.specs.PacketGrammar.{IsPacket, FitsVersion};
 
 use crate::{Flags, Message, Name, NodeId};
 use std::alloc::{Allocator, Global};
@@ -20,8 +20,8 @@ pub struct Packet<A: Allocator = Global> {
 
 impl<A: Allocator> Model for Packet<A> {
     ghost use Rattle.std.specs.Prelude.{◌≢◌};
-    ghost use Rattle.urb_names.specs.Carried.{Carried};
-    ghost use Rattle.urb_names.specs.Packets.{FitsVersion};
+    ghost use Rattle.urb_names.specs.CarriedPackets.{Carried};
+    ghost use Rattle.urb_names.specs.PacketGrammar.{FitsVersion};
 
     ghost Value = { Carried };
 

@@ -1,6 +1,6 @@
 //! Packets whose payload is borrowed.
 ghost use Rattle.std.specs.Prelude.{◌≡◌, ◌≢◌, ◌<◌, ◌≤◌, length, IfOk};
-ghost use Rattle.urb_names.specs.Packets.{IsPacket};
+ghost use Rattle.urb_names.specs.PacketGrammar.{IsPacket};
 
 use crate::{ClientId, Flags, MAX_PAYLOAD, Message, Name, NoMemory, NodeId, Packet};
 use std::alloc::Allocator;
@@ -20,8 +20,8 @@ pub struct PacketView<'a> {
 
 impl<'a> Model for PacketView<'a> {
     ghost use Rattle.std.specs.Prelude.{◌≢◌, ◌<◌, ◌≤◌, length};
-    ghost use Rattle.urb_names.specs.Carried.{Carried};
-    ghost use Rattle.urb_names.specs.Packets.{FitsVersion};
+    ghost use Rattle.urb_names.specs.CarriedPackets.{Carried};
+    ghost use Rattle.urb_names.specs.PacketGrammar.{FitsVersion};
     ghost use Rattle.urb_names.specs.declared.limits.TheConstants.{MAX_PAYLOAD};
 
     ghost Value = { Carried };

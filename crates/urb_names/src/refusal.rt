@@ -1,6 +1,6 @@
 //! Why a call was refused.
 ghost use Rattle.std.specs.Prelude.{◌≡◌, ◌≢◌, MatchOption};
-ghost use Rattle.urb_names.specs.Refusing.{number_of, detail_of};
+ghost use Rattle.urb_names.specs.RefusalReports.{number_of, detail_of};
 
 use crate::{Name, NodeId};
 use std::alloc::{AllocError, AllocFailed};

@@ -2,11 +2,11 @@
 ghost use Rattle.std.specs.Prelude.{◌≡◌, ◌≤◌, ◌⊎◌, length, Ok, Err, Some, None, IfNone, IfOk};
 ghost use Rattle.std.specs.Prelude.{IfErr, OnOk, MatchResult, if◌then◌else◌, [], ◌∷◌, ◌++◌};
 ghost use Rattle.byteorder.specs.Endian.{big_bytes};
-ghost use Rattle.urb_names.specs.Carried.{Carried};
-ghost use Rattle.urb_names.specs.Packets.{IsPacket, IsFirstFault, are_flags, begins_with_flags};
-ghost use Rattle.urb_names.specs.Packets.{carried_of, fields_at, fields_with, flags_of};
-ghost use Rattle.urb_names.specs.Packets.{header_length, is_in_range, judged, longest_payload};
-ghost use Rattle.urb_names.specs.Packets.{packet_of, spelling, version_of};
+ghost use Rattle.urb_names.specs.CarriedPackets.{Carried};
+ghost use Rattle.urb_names.specs.PacketGrammar.{IsPacket, IsFirstFault, are_flags, begins_with_flags};
+ghost use Rattle.urb_names.specs.PacketGrammar.{carried_of, fields_at, fields_with, flags_of};
+ghost use Rattle.urb_names.specs.PacketGrammar.{header_length, is_in_range, judged, longest_payload};
+ghost use Rattle.urb_names.specs.PacketGrammar.{packet_of, spelling, version_of};
 
 use crate::{
     ClientId, Flags, MAX_PAYLOAD, MAX_PLAIN_PAYLOAD, Name, NoMemory, NodeId, Packet, PacketFault,
@@ -55,7 +55,7 @@ struct Fields<'a> {
 }
 
 impl<'a> Model for Fields<'a> {
-    ghost use Rattle.urb_names.specs.Packets.{Fields as Values};
+    ghost use Rattle.urb_names.specs.PacketGrammar.{Fields as Values};
 
     ghost Value = { Values };
 

@@ -1,6 +1,6 @@
 //! Worked examples of the packet grammar, and refused allocations.
 ghost use Rattle.std.specs.Prelude.{◌≡◌, ◌≢◌, ◌≤◌, length, IfSome};
-ghost use Rattle.urb_names.specs.Packets.{FitsVersion};
+ghost use Rattle.urb_names.specs.PacketGrammar.{FitsVersion};
 
 mod faults;
 mod growth;

@@ -4,21 +4,21 @@ use Rattle.std.proofs.Common.{true, map, ◌&&◌, ◌||◌, ◌∷◌}
 use Rattle.std.specs.Bool.{Decides}
 use Rattle.std.specs.List.{list_all}
 use Rattle.std.proofs.lemmas.Bool.{and_from, and_parts, false≢true}
-use Rattle.urb_names.specs.Naming.{Content, Label}
+use Rattle.urb_names.specs.LabelsAndContents.{Content, Label}
 use Rattle.urb_names.specs.Names.{has_name, name_lt, same_message, same_name}
-use Rattle.urb_names.specs.Ordered.{is_rising}
+use Rattle.urb_names.specs.RisingLists.{is_rising}
 use Rattle.urb_names.specs.Pairs.{has_pair}
 use Rattle.urb_names.proofs.OrderedPairs.{rises-same, rising-rises}
-use Rattle.urb_names.proofs.Reached.{reversed-back, reversed-same}
+use Rattle.urb_names.proofs.CertificateReaches.{reversed-back, reversed-same}
 use Rattle.urb_names.proofs.SameNames.{same_name-same, same_name-true}
 use Rattle.urb_fifo.specs.Delivery.{Delivery, IsDelivery, IsReleaseOf}
 use Rattle.urb_stable.proofs.OwnRules.{both_ways}
 use Rattle.urb_stable.specs.Entries.{Entry}
-use Rattle.urb_stable.specs.Log.{log}
+use Rattle.urb_stable.specs.DeliveredLogs.{log}
 use Rattle.urb_stable.specs.Records.{cert}
 use Rattle.urb_node.specs.Steps.{same_list, same_names}
 use Rattle.urb_node.proofs.ShownNodes.{all_named, from_named}
-use Rattle.urb_node.proofs.Wanted.{paired_rising}
+use Rattle.urb_node.proofs.HoldableDrafts.{paired_rising}
 
 -- ---- lists of names
 

@@ -6,8 +6,8 @@ use Rattle.std.specs.List.{list_all}
 use Rattle.std.proofs.lemmas.Bool.{or_left}
 use Rattle.std.proofs.lemmas.List.{map-append, reverse-append, take-append-drop}
 use Rattle.std.proofs.lemmas.List.Folds.{list_all-append, list_any-append}
-use Rattle.urb_names.specs.Acknowledged.{acked}
-use Rattle.urb_names.specs.Naming.{Content, Label}
+use Rattle.urb_names.specs.Acknowledgements.{acked}
+use Rattle.urb_names.specs.LabelsAndContents.{Content, Label}
 use Rattle.urb_names.specs.Names.{has_name, same_message, same_name}
 use Rattle.urb_names.proofs.SameNames.{any_left, any_right, same_name-same}
 use Rattle.urb_names.specs.Pairs.{has_pair}
@@ -16,9 +16,9 @@ use Rattle.urb_stable.specs.Entries.{Entry}
 use Rattle.urb_stable.proofs.JoinedRecords.{cert-append}
 use Rattle.urb_stable.specs.Records.{cert, pend}
 use Rattle.urb_stable.specs.declared.record.Record.TheVariants.{Cert, Pend, PendCert}
-use Rattle.urb_node.specs.internal.Layers.{counted_with}
+use Rattle.urb_node.specs.internal.LayerAdditions.{counted_with}
 use Rattle.urb_node.specs.Part.{self_acks}
-use Rattle.urb_node.proofs.ArriveOutcomes.{counted-with}
+use Rattle.urb_node.proofs.ArrivalOutcomes.{counted-with}
 use Rattle.urb_node.proofs.ShownNodes.{acked-with}
 
 -- a pair is in the memory or in a doubtful record

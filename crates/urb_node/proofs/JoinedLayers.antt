@@ -8,32 +8,32 @@ use Rattle.std.proofs.lemmas.List.Edits.{length-insert}
 use Rattle.std.proofs.lemmas.List.Sums.{prefix_len-le-length}
 use Rattle.std.specs.List.{prefix_len}
 use Rattle.std.specs.Option.{ForSome}
-use Rattle.urb_names.specs.Naming.{Label, Content}
+use Rattle.urb_names.specs.LabelsAndContents.{Label, Content}
 use Rattle.urb_names.specs.Names.{has_name, name_lt, same_name, same_message}
 use Rattle.urb_names.specs.Pairs.{has_pair, message_of}
-use Rattle.urb_names.specs.Cyclic.{inserted}
-use Rattle.urb_names.specs.Ordered.{placed, reserved_for}
+use Rattle.urb_names.specs.CyclicOrder.{inserted}
+use Rattle.urb_names.specs.RisingLists.{placed, reserved_for}
 use Rattle.urb_names.proofs.FoundPairs.{has_pair-found, some_found}
-use Rattle.urb_names.proofs.Ordered.{any_insert}
+use Rattle.urb_names.proofs.ElementPlaces.{any_insert}
 use Rattle.urb_names.proofs.OrderedPairs.{has_pair-inserted}
 use Rattle.urb_names.proofs.SameNames.{same_name-same, same_name-true, same_message-same}
 use Rattle.urb_pending.specs.PendingSet.{PendingSet, added}
-use Rattle.urb_stubborn.specs.Resending.{Resending}
+use Rattle.urb_stubborn.specs.Resends.{Resending}
 use Rattle.urb_certified.specs.Certificates.{with_name}
 use Rattle.urb_majority.specs.Acks.{AckSet}
-use Rattle.urb_majority.specs.Counting.{certifying as acks_certifying}
+use Rattle.urb_majority.specs.AckOutcomes.{certifying as acks_certifying}
 use Rattle.urb_fifo.specs.Delivery.{Delivery}
-use Rattle.urb_fifo.specs.Releasing.{certifying as fifo_certifying, newly_released}
+use Rattle.urb_fifo.specs.NewReleases.{certifying as fifo_certifying, newly_released}
 use Rattle.urb_stable.specs.Entries.{Entry}
 use Rattle.urb_node.specs.declared.held.Held.{Held}
-use Rattle.urb_node.specs.internal.Held.{IsFallen, IsHeld, IsNextHeld}
-use Rattle.urb_node.specs.Moves.{Fails}
+use Rattle.urb_node.specs.internal.HeldLayers.{IsFallen, IsHeld, IsNextHeld}
+use Rattle.urb_node.specs.CallEffects.{Fails}
 use Rattle.urb_node.specs.Part.{State, Storing, Down}
 use Rattle.urb_node.specs.Replies.{WentDown}
 use Rattle.urb_node.specs.Steps.{fails}
-use Rattle.urb_node.specs.Values.{Memory, Holding, ShowsDown, view_in}
-use Rattle.urb_node.specs.internal.Layers.{certified_with}
-use Rattle.urb_node.proofs.Drafts.{down-shows}
+use Rattle.urb_node.specs.NodeMemories.{Memory, Holding, ShowsDown, view_in}
+use Rattle.urb_node.specs.internal.LayerAdditions.{certified_with}
+use Rattle.urb_node.proofs.MemoryChanges.{down-shows}
 
 -- ---- what is pending
 

@@ -3,25 +3,25 @@ use Rattle.std.proofs.Common.{Bool, List, None, Option, Some, [], ap, ap₂, app
 use Rattle.std.proofs.Common.{false, length, length-append, refl, reverse, subst, suc, sym, true, ℕ}
 use Rattle.std.proofs.Common.{◌++◌, ◌+◌, ◌-◌, ◌==◌, ◌||◌, ◌∙◌, ◌∷◌, ◌≡◌}
 use Rattle.urb_names.proofs.FoundPairs.{own-other, own-push}
-use Rattle.urb_names.specs.Acknowledged.{acked, with_ack}
-use Rattle.urb_names.specs.Cyclic.{are_rising}
+use Rattle.urb_names.specs.Acknowledgements.{acked, with_ack}
+use Rattle.urb_names.specs.CyclicOrder.{are_rising}
 use Rattle.urb_names.specs.Names.{has_name}
-use Rattle.urb_names.specs.Naming.{Content, Label, Limits}
+use Rattle.urb_names.specs.LabelsAndContents.{Content, Label, Limits}
 use Rattle.urb_names.specs.Pairs.{has_pair, own}
 use Rattle.urb_names.specs.Release.{released}
 use Rattle.urb_node.proofs.NextRecords.{next-keeps}
 use Rattle.urb_node.proofs.ShownNodes.{shown-self, with-same}
-use Rattle.urb_node.specs.Next.{IsNext}
+use Rattle.urb_node.specs.RecordAdmission.{IsNext}
 use Rattle.urb_node.specs.Part.{Node, Ready, own_acks, self_acks}
-use Rattle.urb_node.specs.Shown.{NodeView, ShowsNode}
+use Rattle.urb_node.specs.NodeViews.{NodeView, ShowsNode}
 use Rattle.urb_node.specs.Steps.{acks_after, broadcast_after, comes_up, done, heard_after, heard_of}
 use Rattle.urb_node.specs.Steps.{is_accepted, keeps_record, packets_of, with_cause, with_heard}
 use Rattle.urb_stable.proofs.JoinedRecords.{cert-append, pend-append}
-use Rattle.urb_stable.proofs.Logs.{released-joined}
+use Rattle.urb_stable.proofs.LogGrowth.{released-joined}
 use Rattle.urb_stable.proofs.OwnRules.{keeps_own-push, names-joined, pairs-joined}
 use Rattle.urb_stable.specs.Entries.{Entry, name_of}
 use Rattle.urb_stable.specs.Fitting.{KeepsOwn}
-use Rattle.urb_stable.specs.Log.{log}
+use Rattle.urb_stable.specs.DeliveredLogs.{log}
 use Rattle.urb_stable.specs.Records.{cert, pend}
 use Rattle.urb_stable.specs.declared.record.Record.TheVariants.{Cert, Pend, PendCert}
 use Rattle.urb_node.specs.declared.cause.Cause.{Cause}

@@ -5,16 +5,16 @@ use Rattle.std.proofs.Common.{not, refl, subst, suc, sym, true, ℕ, ⊎_elim, �
 use Rattle.std.proofs.Common.{◌==◌, ◌∙◌, ◌∷◌, ◌≡◌, ◌≤◌}
 use Rattle.std.proofs.lemmas.Bool.{and_from, cases_Bool, cond-false, cond-true, false≢true}
 use Rattle.urb_names.proofs.FoundPairs.{no_pair}
-use Rattle.urb_names.proofs.Released.{has-row-not, has_name-part}
-use Rattle.urb_names.specs.Cyclic.{are_rising}
+use Rattle.urb_names.proofs.LogRows.{has-row-not, has_name-part}
+use Rattle.urb_names.specs.CyclicOrder.{are_rising}
 use Rattle.urb_names.specs.Names.{has_name, name, names, same_name}
-use Rattle.urb_names.specs.Naming.{Content, Label, Limits}
+use Rattle.urb_names.specs.LabelsAndContents.{Content, Label, Limits}
 use Rattle.urb_names.specs.Pairs.{message_of, next_number, own}
 use Rattle.urb_names.specs.Release.{part_of}
 use Rattle.urb_node.proofs.ShownNodes.{shown-broadcast, shown-found}
-use Rattle.urb_node.specs.Next.{IsNext, MayArrive}
+use Rattle.urb_node.specs.RecordAdmission.{IsNext, MayArrive}
 use Rattle.urb_node.specs.Part.{Node}
-use Rattle.urb_node.specs.Shown.{NodeView, ShowsNode}
+use Rattle.urb_node.specs.NodeViews.{NodeView, ShowsNode}
 use Rattle.urb_stable.specs.Entries.{Entry}
 use Rattle.urb_stable.specs.Fitting.{KeepsOwn, in_range, is_in_turn, is_new_to, is_next_own}
 use Rattle.urb_stable.specs.Fitting.{keeps_a, keeps_b}

@@ -1,19 +1,19 @@
 -- A node opened from its image.
 use Rattle.std.proofs.Common.{List, None, [], ap, false, length, refl, subst, true, ℕ, ◌++◌, ◌∷◌}
 use Rattle.std.proofs.Common.{◌≡◌}
-use Rattle.urb_names.specs.Acknowledged.{acked}
-use Rattle.urb_names.specs.Cyclic.{are_rising}
+use Rattle.urb_names.specs.Acknowledgements.{acked}
+use Rattle.urb_names.specs.CyclicOrder.{are_rising}
 use Rattle.urb_names.specs.Names.{has_name}
-use Rattle.urb_names.specs.Naming.{Content, Label, Limits}
+use Rattle.urb_names.specs.LabelsAndContents.{Content, Label, Limits}
 use Rattle.urb_names.specs.Pairs.{has_pair, own}
 use Rattle.urb_node.proofs.JoinedMemory.{SaysMore, own-after, up-joined-shows}
 use Rattle.urb_node.proofs.NextRecords.{keeps-next, own-parts}
-use Rattle.urb_node.specs.Next.{IsNext}
+use Rattle.urb_node.specs.RecordAdmission.{IsNext}
 use Rattle.urb_node.specs.Part.{Ready, opened_node, own_acks, self_acks}
-use Rattle.urb_node.specs.Shown.{NodeView, ShowsNode, no_view}
+use Rattle.urb_node.specs.NodeViews.{NodeView, ShowsNode, no_view}
 use Rattle.urb_stable.specs.Entries.{Entry}
 use Rattle.urb_stable.specs.Fitting.{KeepsOwn}
-use Rattle.urb_stable.specs.Log.{log}
+use Rattle.urb_stable.specs.DeliveredLogs.{log}
 use Rattle.urb_stable.specs.Records.{cert, pend}
 
 -- to show the node opened from an image, a memory only has to say what it holds of the image

@@ -2,24 +2,24 @@
 use Rattle.std.proofs.Common.{Bool, List, None, [], ap, append-nil, append_assoc, cond, false, refl}
 use Rattle.std.proofs.Common.{subst, sym, true, ℕ, ◌&&◌, ◌++◌, ◌==◌, ◌||◌, ◌∙◌, ◌∷◌, ◌≡◌}
 use Rattle.urb_fifo.specs.Delivery.{IsDelivery}
-use Rattle.urb_names.specs.Acknowledged.{acked}
-use Rattle.urb_names.specs.Cyclic.{inserted}
+use Rattle.urb_names.specs.Acknowledgements.{acked}
+use Rattle.urb_names.specs.CyclicOrder.{inserted}
 use Rattle.urb_names.specs.Names.{has_name, name_lt, same_name}
-use Rattle.urb_names.specs.Naming.{Content, Label, Limits}
-use Rattle.urb_node.proofs.ArriveOutcomes.{counted-with}
-use Rattle.urb_node.proofs.ConfirmLeads.{first_held, released_held}
+use Rattle.urb_names.specs.LabelsAndContents.{Content, Label, Limits}
+use Rattle.urb_node.proofs.ArrivalOutcomes.{counted-with}
+use Rattle.urb_node.proofs.ReceiptResults.{first_held, released_held}
 use Rattle.urb_node.proofs.JoinedMemory.{SaysMore}
 use Rattle.urb_node.proofs.NextRecords.{keeps-next, own-parts}
 use Rattle.urb_node.proofs.Openings.{nothing-shows, opened-more}
 use Rattle.urb_node.proofs.RecordOutcomes.{record-more, same_limits}
 use Rattle.urb_node.proofs.ShownNodes.{acked-with, shown-self}
-use Rattle.urb_node.specs.Fields.{memory_of}
-use Rattle.urb_node.specs.internal.Held.{IsHeld, IsNextHeld}
-use Rattle.urb_node.specs.internal.Layers.{with_record}
+use Rattle.urb_node.specs.LayerFields.{memory_of}
+use Rattle.urb_node.specs.internal.HeldLayers.{IsHeld, IsNextHeld}
+use Rattle.urb_node.specs.internal.LayerAdditions.{with_record}
 use Rattle.urb_node.specs.Part.{Ready, opened_node, self_acks}
-use Rattle.urb_node.specs.Shown.{ShowsNode}
-use Rattle.urb_node.specs.Values.{Memory, ShowsReady, new_memory}
-use Rattle.urb_node.specs.internal.Values.{ready_view}
+use Rattle.urb_node.specs.NodeViews.{ShowsNode}
+use Rattle.urb_node.specs.NodeMemories.{Memory, ShowsReady, new_memory}
+use Rattle.urb_node.specs.internal.ReadyViews.{ready_view}
 use Rattle.urb_node.specs.declared.held.Held.{Held}
 use Rattle.urb_pending.specs.PendingSet.{IsPendingSet}
 use Rattle.urb_stable.specs.Entries.{Entry}

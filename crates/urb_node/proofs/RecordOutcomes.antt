@@ -4,35 +4,35 @@ use Rattle.std.proofs.Common.{◌++◌, length, filter, Option, Some, None, refl
 use Rattle.std.proofs.Common.{subst, eq-eqb}
 use Rattle.std.specs.Prelude.{if◌then◌else◌}
 use Rattle.std.proofs.lemmas.Bool.{and_from, cond-true}
-use Rattle.urb_names.specs.Naming.{Label, Limits}
+use Rattle.urb_names.specs.LabelsAndContents.{Label, Limits}
 use Rattle.urb_names.specs.Names.{has_name, name_lt, same_name, same_message}
 use Rattle.urb_names.specs.Pairs.{has_pair}
-use Rattle.urb_names.specs.Cyclic.{are_rising}
-use Rattle.urb_names.specs.Acknowledged.{acked, with_ack}
-use Rattle.urb_names.specs.Ordered.{placed}
+use Rattle.urb_names.specs.CyclicOrder.{are_rising}
+use Rattle.urb_names.specs.Acknowledgements.{acked, with_ack}
+use Rattle.urb_names.specs.RisingLists.{placed}
 use Rattle.urb_names.specs.Release.{beginning, released}
 use Rattle.urb_names.proofs.OrderedPairs.{has_pair-inserted}
-use Rattle.urb_names.proofs.Ordered.{any_insert}
-use Rattle.urb_names.proofs.Released.{row, beginning_is}
-use Rattle.urb_names.proofs.Reached.{reach-same}
-use Rattle.urb_fifo.specs.Releasing.{newly_released}
+use Rattle.urb_names.proofs.ElementPlaces.{any_insert}
+use Rattle.urb_names.proofs.LogRows.{row, beginning_is}
+use Rattle.urb_names.proofs.CertificateReaches.{reach-same}
+use Rattle.urb_fifo.specs.NewReleases.{newly_released}
 use Rattle.urb_stable.specs.Entries.{Entry, name_of}
 use Rattle.urb_stable.specs.declared.record.Record.TheVariants.{Pend, PendCert, Cert}
 use Rattle.urb_node.specs.Part.{Node, State, Ready, Storing}
-use Rattle.urb_node.specs.Next.{IsNext}
+use Rattle.urb_node.specs.RecordAdmission.{IsNext}
 use Rattle.urb_node.specs.Replies.{Done, Reply, Stored}
-use Rattle.urb_node.specs.Shown.{NodeView, ShowsNode}
+use Rattle.urb_node.specs.NodeViews.{NodeView, ShowsNode}
 use Rattle.urb_node.specs.Steps.{acks_after, commits, done, heard_after, heard_of, is_accepted}
 use Rattle.urb_node.specs.Steps.{keeps_record, packets_of, same_record, with_heard}
-use Rattle.urb_node.specs.Values.{Memory, Holding, ShowsReady, ShowsStoring, view_in}
-use Rattle.urb_node.specs.internal.Values.{ready_view}
-use Rattle.urb_node.specs.internal.Layers.{counted_with, certified_with, delivered_with, heard_with}
-use Rattle.urb_node.specs.internal.Layers.{with_record}
-use Rattle.urb_node.proofs.Calls.{same_record-same}
+use Rattle.urb_node.specs.NodeMemories.{Memory, Holding, ShowsReady, ShowsStoring, view_in}
+use Rattle.urb_node.specs.internal.ReadyViews.{ready_view}
+use Rattle.urb_node.specs.internal.LayerAdditions.{counted_with, certified_with, delivered_with, heard_with}
+use Rattle.urb_node.specs.internal.LayerAdditions.{with_record}
+use Rattle.urb_node.proofs.RestartReplies.{same_record-same}
 use Rattle.urb_node.proofs.ShownNodes.{with-same}
 use Rattle.urb_node.proofs.JoinedMemory.{SaysMore, confirm-shows, done-shown, log-stays}
 use Rattle.urb_node.proofs.JoinedMemory.{log-released}
-use Rattle.urb_node.proofs.ArriveOutcomes.{counted-with}
+use Rattle.urb_node.proofs.ArrivalOutcomes.{counted-with}
 use Rattle.urb_node.specs.declared.cause.Cause.{Cause}
 
 -- the log is the release of certificates, the newest first, and exactly these names are certified

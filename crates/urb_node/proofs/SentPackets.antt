@@ -4,27 +4,27 @@ use Rattle.std.proofs.Common.{subst, sym, true, ℕ, ◌∙◌, ◌∷◌, ◌�
 use Rattle.std.proofs.lemmas.Bool.{false≢true, or_left}
 use Rattle.std.specs.Prelude.{IfOk, if◌then◌else◌}
 use Rattle.urb_names.proofs.FoundPairs.{has_pair-found}
-use Rattle.urb_names.proofs.Ordered.{any_insert}
+use Rattle.urb_names.proofs.ElementPlaces.{any_insert}
 use Rattle.urb_names.proofs.OrderedPairs.{has_pair-head, has_pair-inserted}
 use Rattle.urb_names.proofs.SameNames.{same_name-same}
 use Rattle.urb_names.proofs.SentPairs.{all_weaker, resent-from, to_others-from}
-use Rattle.urb_names.specs.Acknowledged.{acked, with_ack}
-use Rattle.urb_names.specs.Carried.{AreFrom, Carried, IsFrom, says_certified}
-use Rattle.urb_names.specs.Cyclic.{inserted}
+use Rattle.urb_names.specs.Acknowledgements.{acked, with_ack}
+use Rattle.urb_names.specs.CarriedPackets.{AreFrom, Carried, IsFrom, says_certified}
+use Rattle.urb_names.specs.CyclicOrder.{inserted}
 use Rattle.urb_names.specs.Names.{has_name, name_lt, same_name}
-use Rattle.urb_names.specs.Naming.{Content, Label}
+use Rattle.urb_names.specs.LabelsAndContents.{Content, Label}
 use Rattle.urb_names.specs.Nodes.{majority_passes}
-use Rattle.urb_names.specs.Ordered.{placed}
+use Rattle.urb_names.specs.RisingLists.{placed}
 use Rattle.urb_names.specs.Pairs.{has_pair, message_of}
 use Rattle.urb_names.specs.declared.flags.Flags.{Flags}
 use Rattle.urb_names.specs.declared.refusal.NoMemory.{NoMemory}
 use Rattle.urb_stable.specs.Entries.{Entry}
 use Rattle.urb_stable.specs.declared.record.Record.TheVariants.{Cert, Pend, PendCert}
-use Rattle.urb_stubborn.specs.Resending.{Resending, tick_packets}
-use Rattle.urb_node.specs.internal.Found.{Finds, step_from}
-use Rattle.urb_node.specs.internal.Layers.{certified_with, with_record}
-use Rattle.urb_node.specs.Moves.{AnswersFrom, AnswersOfStored, AreOfStored}
-use Rattle.urb_node.specs.Answers.{answer_with}
+use Rattle.urb_stubborn.specs.Resends.{Resending, tick_packets}
+use Rattle.urb_node.specs.internal.OutcomeSteps.{Finds, step_from}
+use Rattle.urb_node.specs.internal.LayerAdditions.{certified_with, with_record}
+use Rattle.urb_node.specs.CallEffects.{AnswersFrom, AnswersOfStored, AreOfStored}
+use Rattle.urb_node.specs.AnswerPackets.{answer_with}
 use Rattle.urb_node.specs.internal.Outcomes.{Answers, Outcome, Refuses, Wants, arrive_outcome}
 use Rattle.urb_node.specs.internal.Outcomes.{certified_outcome, counted_outcome, hearing}
 use Rattle.urb_node.specs.internal.Outcomes.{pending_outcome, wants_answer, with_counted}
@@ -32,7 +32,7 @@ use Rattle.urb_node.specs.Part.{Ready, State, packet_from}
 use Rattle.urb_node.specs.Replies.{packets_with}
 use Rattle.urb_node.proofs.RecordOutcomes.{same_limits}
 use Rattle.urb_node.specs.Steps.{heard_of, packets_of}
-use Rattle.urb_node.specs.Values.{Memory, ShowsIn}
+use Rattle.urb_node.specs.NodeMemories.{Memory, ShowsIn}
 use Rattle.urb_node.specs.declared.answer.Answer.TheVariants as answer
 use Rattle.urb_node.specs.declared.cause.Cause.{Cause}
 use Rattle.urb_node.specs.declared.call_outcomes.Found.{Found}

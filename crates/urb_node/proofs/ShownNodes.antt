@@ -8,19 +8,19 @@ use Rattle.std.specs.List.{list_all}
 use Rattle.urb_names.proofs.FoundPairs.{Unique, has_pair-found, same_found}
 use Rattle.urb_names.proofs.OrderedPairs.{has_pair-behind, has_pair-first, has_pair-head}
 use Rattle.urb_names.proofs.SameNames.{same_name-same, same_name-true}
-use Rattle.urb_names.specs.Acknowledged.{acked, with_ack}
-use Rattle.urb_names.specs.Cyclic.{are_rising, rising}
+use Rattle.urb_names.specs.Acknowledgements.{acked, with_ack}
+use Rattle.urb_names.specs.CyclicOrder.{are_rising, rising}
 use Rattle.urb_names.specs.Names.{has_name, same_message, same_name}
-use Rattle.urb_names.specs.Naming.{Content, Label, Limits}
+use Rattle.urb_names.specs.LabelsAndContents.{Content, Label, Limits}
 use Rattle.urb_names.specs.Nodes.{majority_passes}
 use Rattle.urb_names.specs.Pairs.{has_pair, message_of, own}
 use Rattle.urb_node.specs.Part.{Node, own_acks, self_acks}
-use Rattle.urb_node.specs.Shown.{NodeView, ShowsNode}
+use Rattle.urb_node.specs.NodeViews.{NodeView, ShowsNode}
 use Rattle.urb_node.specs.Steps.{next_position, same_list, same_names, same_pairs, says, tells}
 use Rattle.urb_stable.proofs.OwnRules.{both_ways, own-unique}
 use Rattle.urb_stable.proofs.RisingRecords.{own-records, rising-records}
 use Rattle.urb_stable.specs.Entries.{Entry}
-use Rattle.urb_stable.specs.Log.{log}
+use Rattle.urb_stable.specs.DeliveredLogs.{log}
 use Rattle.urb_stable.specs.Records.{cert, pend}
 
 -- ---- pairs

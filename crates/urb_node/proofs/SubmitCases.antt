@@ -7,7 +7,7 @@ use Rattle.std.proofs.lemmas.Bool.{cond_both, false≢true, ltb-false, not-false
 use Rattle.std.specs.Prelude.{if◌then◌else◌}
 use Rattle.std.specs.List.{position_or_len}
 use Rattle.urb_names.specs.Names.{name}
-use Rattle.urb_names.specs.Naming.{Content, Label, Limits}
+use Rattle.urb_names.specs.LabelsAndContents.{Content, Label, Limits}
 use Rattle.urb_names.specs.Pairs.{is_numbered, next_number}
 use Rattle.urb_names.specs.declared.limits.TheConstants.{MAX_PAYLOAD}
 use Rattle.urb_names.specs.declared.refusal.Refusal.{Refusal}

@@ -4,11 +4,11 @@ use Rattle.std.proofs.Common.{nat_lt, List, [], ◌∷◌, length, find, bytes_e
 use Rattle.std.proofs.Common.{slice_get, refl, sym, ap, ◌∙◌, subst, arith, ne_eqb, le-ltb}
 use Rattle.std.specs.Prelude.{option_map, if◌then◌else◌}
 use Rattle.std.specs.List.{position_or_len, prefix_len}
-use Rattle.urb_names.specs.Naming.{Label, Content}
+use Rattle.urb_names.specs.LabelsAndContents.{Label, Content}
 use Rattle.urb_names.specs.Names.{name}
 use Rattle.urb_names.specs.Nodes.{is_majority}
 use Rattle.urb_names.specs.Pairs.{message_of, is_numbered, next_number}
-use Rattle.urb_names.specs.Cyclic.{are_rising}
+use Rattle.urb_names.specs.CyclicOrder.{are_rising}
 use Rattle.urb_names.specs.declared.limits.TheConstants.{MAX_PAYLOAD}
 use Rattle.urb_names.specs.declared.refusal.Refusal.TheVariants as refusal
 use Rattle.urb_stable.specs.Entries.{Entry, name_of}
@@ -20,14 +20,14 @@ use Rattle.urb_node.specs.Replies.{Drafted, Same}
 use Rattle.urb_node.specs.declared.answer.Answer.TheVariants as answer
 use Rattle.urb_node.specs.Steps.{is_down, is_storing, submits, submits_by_number, submits_new}
 use Rattle.urb_node.specs.Steps.{submits_again, drafts, refuses}
-use Rattle.urb_node.specs.Values.{Memory, ShowsReady, view_in}
-use Rattle.urb_node.specs.internal.Values.{ready_view}
+use Rattle.urb_node.specs.NodeMemories.{Memory, ShowsReady, view_in}
+use Rattle.urb_node.specs.internal.ReadyViews.{ready_view}
 use Rattle.urb_node.specs.internal.Outcomes.{Answers, Refuses, Wants, own_of, own_record}
 use Rattle.urb_node.specs.internal.Outcomes.{fresh_outcome}
 use Rattle.urb_node.specs.internal.Outcomes.{numbered_outcome, repeat_outcome, submit_outcome}
 use Rattle.urb_node.proofs.ShownNodes.{shown-found, shown-broadcast}
-use Rattle.urb_node.proofs.Drafts.{draft-shows}
-use Rattle.urb_node.proofs.Told.{Says}
+use Rattle.urb_node.proofs.MemoryChanges.{draft-shows}
+use Rattle.urb_node.proofs.OutcomeAgreement.{Says}
 use Rattle.urb_node.specs.declared.cause.Cause.{Cause}
 
 -- what `find` finds is at its place

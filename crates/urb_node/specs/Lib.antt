@@ -1,10 +1,10 @@
 pub mod Replies
 pub mod Steps
 pub mod Part
-pub mod Shown
-pub mod Next
-pub mod Values
-pub mod Answers
-pub mod Fields
-pub mod Moves
+pub mod NodeViews
+pub mod RecordAdmission
+pub mod NodeMemories
+pub mod AnswerPackets
+pub mod LayerFields
+pub mod CallEffects
 pub mod internal

@@ -1,6 +1,6 @@
 -- One node's part of the world: what it has stored, its state, and what else it holds.
 use Rattle.std.specs.Prelude.{Bool, List, None, Option, [], map, ℕ}
-use Rattle.urb_names.specs.Naming.{Content, Label}
+use Rattle.urb_names.specs.LabelsAndContents.{Content, Label}
 use Rattle.urb_names.specs.Pairs.{own}
 use Rattle.urb_node.specs.declared.cause.Cause.{Cause}
 use Rattle.urb_stable.specs.Entries.{Entry}

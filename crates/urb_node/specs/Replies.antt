@@ -1,7 +1,7 @@
 -- The replies to events at a node.
 use Rattle.std.specs.Prelude.{Bool, List, [], ℕ}
-use Rattle.urb_names.specs.Carried.{Carried}
-use Rattle.urb_names.specs.Naming.{Label}
+use Rattle.urb_names.specs.CarriedPackets.{Carried}
+use Rattle.urb_names.specs.LabelsAndContents.{Label}
 use Rattle.urb_names.specs.declared.refusal.Refusal.{Refusal}
 use Rattle.urb_node.specs.declared.answer.Answer.{Answer}
 use Rattle.urb_node.specs.declared.answer.Answer.TheVariants as answer

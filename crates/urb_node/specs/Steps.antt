@@ -3,11 +3,11 @@ use Rattle.std.specs.List.{list_all, position_or_len}
 use Rattle.std.specs.Prelude.{Bool, List, None, Option, Some, [], bytes_eq, false, find, flat_map}
 use Rattle.std.specs.Prelude.{if◌then◌else◌, is_none, length, nat_lt, not, suc, true, ℕ, ◌&&◌, ◌++◌}
 use Rattle.std.specs.Prelude.{◌-◌, ◌==◌, ◌||◌, ◌∷◌}
-use Rattle.urb_names.specs.Acknowledged.{acked, with_ack}
-use Rattle.urb_names.specs.Carried.{Carried, due_of, says_certified, to_others, to_unheard}
-use Rattle.urb_names.specs.Cyclic.{last_name, resent, rising}
+use Rattle.urb_names.specs.Acknowledgements.{acked, with_ack}
+use Rattle.urb_names.specs.CarriedPackets.{Carried, due_of, says_certified, to_others, to_unheard}
+use Rattle.urb_names.specs.CyclicOrder.{last_name, resent, rising}
 use Rattle.urb_names.specs.Names.{has_name, name, same_message, same_name}
-use Rattle.urb_names.specs.Naming.{Content, Label, Limits}
+use Rattle.urb_names.specs.LabelsAndContents.{Content, Label, Limits}
 use Rattle.urb_names.specs.Nodes.{majority_passes}
 use Rattle.urb_names.specs.Pairs.{has_pair, is_numbered, message_of, next_number}
 use Rattle.urb_names.specs.declared.flags.Flags.{Flags}
@@ -19,7 +19,7 @@ use Rattle.urb_node.specs.Replies.{packets_in}
 use Rattle.urb_node.specs.declared.cause.Cause.{Cause}
 use Rattle.urb_node.specs.declared.answer.Answer.TheVariants.{Accepted, Again, Answered, Noted}
 use Rattle.urb_stable.specs.Entries.{Entry, name_of}
-use Rattle.urb_stable.specs.Log.{log}
+use Rattle.urb_stable.specs.DeliveredLogs.{log}
 use Rattle.urb_stable.specs.Records.{cert, pend}
 use Rattle.urb_stable.specs.declared.record.Record.TheVariants.{Cert, Pend, PendCert}
 use Rattle.urb_names.specs.declared.refusal.Refusal.TheVariants as refusal

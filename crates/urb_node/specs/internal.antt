@@ -1,6 +1,6 @@
-pub mod Values
-pub mod Layers
+pub mod ReadyViews
+pub mod LayerAdditions
 pub mod Outcomes
-pub mod Held
-pub mod Found
+pub mod HeldLayers
+pub mod OutcomeSteps
 pub mod ImageVerdicts

@@ -1,7 +1,7 @@
 //! The packet that caused a draft.
 
 ghost use Rattle.std.specs.Prelude.{◌≡◌};
-ghost use Rattle.urb_names.specs.Carried.{says_certified};
+ghost use Rattle.urb_names.specs.CarriedPackets.{says_certified};
 ghost use Rattle.urb_node.specs.Part.{packet_from};
 ghost use Rattle.urb_node.specs.Steps.{heard_of};
 

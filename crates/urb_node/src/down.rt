@@ -2,10 +2,10 @@
 
 ghost use Rattle.std.specs.Prelude.{◌≡◌, [], None, Option};
 ghost use Rattle.std.specs.Option.{ForSome};
-ghost use Rattle.urb_node.specs.Fields.{memory_of};
-ghost use Rattle.urb_node.specs.internal.Held.{HasRoom, IsFallen, IsHeld, IsNextHeld};
-ghost use Rattle.urb_node.specs.internal.Layers.{with_doubtful};
-ghost use Rattle.urb_node.specs.Moves.{Restarts};
+ghost use Rattle.urb_node.specs.LayerFields.{memory_of};
+ghost use Rattle.urb_node.specs.internal.HeldLayers.{HasRoom, IsFallen, IsHeld, IsNextHeld};
+ghost use Rattle.urb_node.specs.internal.LayerAdditions.{with_doubtful};
+ghost use Rattle.urb_node.specs.CallEffects.{Restarts};
 
 use crate::Ready;
 use crate::held::Held;
@@ -28,9 +28,9 @@ pub struct Down<A: Allocator = Global> {
 
 impl<A: Allocator> Model for Down<A> {
     ghost use Rattle.std.specs.Prelude.{[]};
-    ghost use Rattle.urb_node.specs.Fields.{memory_of};
-    ghost use Rattle.urb_node.specs.internal.Held.{IsDown};
-    ghost use Rattle.urb_node.specs.Values.{Fallen};
+    ghost use Rattle.urb_node.specs.LayerFields.{memory_of};
+    ghost use Rattle.urb_node.specs.internal.HeldLayers.{IsDown};
+    ghost use Rattle.urb_node.specs.NodeMemories.{Fallen};
 
     ghost Value = { Fallen };
 

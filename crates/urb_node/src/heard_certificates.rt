@@ -1,12 +1,12 @@
 //! Recording what a node hears about other nodes' certificates.
 
 ghost use Rattle.std.specs.Prelude.{◌≡◌, true, is_some};
-ghost use Rattle.urb_names.specs.Carried.{says_certified};
+ghost use Rattle.urb_names.specs.CarriedPackets.{says_certified};
 ghost use Rattle.urb_names.specs.Names.{has_name};
 ghost use Rattle.urb_names.specs.Pairs.{message_of};
-ghost use Rattle.urb_node.specs.Fields.{memory_of};
-ghost use Rattle.urb_node.specs.internal.Held.{IsHeld};
-ghost use Rattle.urb_node.specs.internal.Layers.{heard_with};
+ghost use Rattle.urb_node.specs.LayerFields.{memory_of};
+ghost use Rattle.urb_node.specs.internal.HeldLayers.{IsHeld};
+ghost use Rattle.urb_node.specs.internal.LayerAdditions.{heard_with};
 ghost use Rattle.urb_node.specs.internal.Outcomes.{hearing};
 
 use crate::held::Held;

@@ -1,7 +1,7 @@
 //! What a node keeps in memory in each of its states.
 
 ghost use Rattle.std.specs.Prelude.{◌≡◌, length, true};
-ghost use Rattle.urb_names.specs.Cyclic.{are_rising};
+ghost use Rattle.urb_names.specs.CyclicOrder.{are_rising};
 ghost use Rattle.urb_names.specs.Pairs.{own};
 
 use std::alloc::{Allocator, Global};

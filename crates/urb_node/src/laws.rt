@@ -3,14 +3,14 @@
 ghost use Rattle.std.specs.Prelude.{◌≡◌, ◌<◌, ◌≤◌, ◌∷◌, [], ℕ, Bool, suc, true, false, List};
 ghost use Rattle.std.specs.Prelude.{Option, None, flat_map, is_some, length};
 ghost use Rattle.std.specs.List.{AllByRecursion};
-ghost use Rattle.urb_names.specs.Naming.{Content, Label, Limits};
+ghost use Rattle.urb_names.specs.LabelsAndContents.{Content, Label, Limits};
 ghost use Rattle.urb_names.specs.Names.{has_name, name};
 ghost use Rattle.urb_names.specs.Pairs.{has_pair, message_of, next_number, own};
-ghost use Rattle.urb_names.specs.Carried.{AreFrom, Carried, due_of, to_others, to_unheard};
-ghost use Rattle.urb_names.specs.Cyclic.{resent};
+ghost use Rattle.urb_names.specs.CarriedPackets.{AreFrom, Carried, due_of, to_others, to_unheard};
+ghost use Rattle.urb_names.specs.CyclicOrder.{resent};
 ghost use Rattle.urb_stable.specs.declared.record.Record.TheVariants.{Cert, Pend, PendCert};
-ghost use Rattle.urb_node.specs.Next.{IsNext, MayArrive};
-ghost use Rattle.urb_node.specs.Answers.{answer_with};
+ghost use Rattle.urb_node.specs.RecordAdmission.{IsNext, MayArrive};
+ghost use Rattle.urb_node.specs.AnswerPackets.{answer_with};
 ghost use Rattle.urb_node.specs.Part.{Node};
 ghost use Rattle.urb_node.specs.Steps.{answers_of, says_heard};
 

@@ -2,11 +2,11 @@
 
 ghost use Rattle.std.specs.Prelude.{◌≡◌, ◌≤◌, [], None, IfOk};
 ghost use Rattle.urb_stable.specs.Fitting.{KeepsOwn};
-ghost use Rattle.urb_node.specs.Fields.{memory_of};
-ghost use Rattle.urb_node.specs.internal.Held.{IsHeld, IsNextHeld};
-ghost use Rattle.urb_node.specs.internal.Layers.{with_record};
+ghost use Rattle.urb_node.specs.LayerFields.{memory_of};
+ghost use Rattle.urb_node.specs.internal.HeldLayers.{IsHeld, IsNextHeld};
+ghost use Rattle.urb_node.specs.internal.LayerAdditions.{with_record};
 ghost use Rattle.urb_node.specs.Part.{opened_node};
-ghost use Rattle.urb_node.specs.Values.{ShowsReady};
+ghost use Rattle.urb_node.specs.NodeMemories.{ShowsReady};
 
 use crate::Ready;
 use crate::call_outcomes::make_room_for;

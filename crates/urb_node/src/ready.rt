@@ -2,15 +2,15 @@
 
 ghost use Rattle.std.specs.Prelude.{◌≡◌, ◌≤◌, [], IfErr, IfOk, OnErr, OnOk};
 ghost use Rattle.std.specs.Option.{ForSome};
-ghost use Rattle.urb_names.specs.Carried.{AreFrom};
-ghost use Rattle.urb_stubborn.specs.Resending.{tick_packets, ticked};
-ghost use Rattle.urb_node.specs.Fields.{memory_of};
-ghost use Rattle.urb_node.specs.internal.Held.{IsHeld};
-ghost use Rattle.urb_node.specs.internal.Found.{IsFoundIn, step_from};
-ghost use Rattle.urb_node.specs.Moves.{AnswersFrom, AnswersOfStored, Arrives, AreOfStored, Crashes};
-ghost use Rattle.urb_node.specs.Moves.{IsForNode, Submits, Ticks};
+ghost use Rattle.urb_names.specs.CarriedPackets.{AreFrom};
+ghost use Rattle.urb_stubborn.specs.Resends.{tick_packets, ticked};
+ghost use Rattle.urb_node.specs.LayerFields.{memory_of};
+ghost use Rattle.urb_node.specs.internal.HeldLayers.{IsHeld};
+ghost use Rattle.urb_node.specs.internal.OutcomeSteps.{IsFoundIn, step_from};
+ghost use Rattle.urb_node.specs.CallEffects.{AnswersFrom, AnswersOfStored, Arrives, AreOfStored, Crashes};
+ghost use Rattle.urb_node.specs.CallEffects.{IsForNode, Submits, Ticks};
 ghost use Rattle.urb_node.specs.Part.{opened_node};
-ghost use Rattle.urb_node.specs.Values.{ShowsReady, new_memory};
+ghost use Rattle.urb_node.specs.NodeMemories.{ShowsReady, new_memory};
 
 use crate::call_outcomes::{Found, judge_packet, judge_submit};
 use crate::down::take_down;
@@ -33,9 +33,9 @@ pub struct Ready<A: Allocator = Global> {
 }
 
 impl<A: Allocator> Model for Ready<A> {
-    ghost use Rattle.urb_node.specs.Fields.{memory_of};
-    ghost use Rattle.urb_node.specs.internal.Held.{IsHeld};
-    ghost use Rattle.urb_node.specs.Values.{Memory};
+    ghost use Rattle.urb_node.specs.LayerFields.{memory_of};
+    ghost use Rattle.urb_node.specs.internal.HeldLayers.{IsHeld};
+    ghost use Rattle.urb_node.specs.NodeMemories.{Memory};
 
     ghost Value = { Memory };
 

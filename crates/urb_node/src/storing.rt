@@ -3,17 +3,17 @@
 ghost use Rattle.std.specs.Prelude.{◌≡◌, ◌≤◌, ◌<◌, ◌+◌, ◌^◌, true, false, length, is_some, IfOk};
 ghost use Rattle.std.specs.Prelude.{Some};
 ghost use Rattle.std.specs.Bool.{MatchBool};
-ghost use Rattle.urb_names.specs.Carried.{AreFrom};
+ghost use Rattle.urb_names.specs.CarriedPackets.{AreFrom};
 ghost use Rattle.urb_names.specs.Names.{has_name};
 ghost use Rattle.urb_names.specs.Pairs.{message_of};
 ghost use Rattle.urb_stable.specs.declared.record.Record.TheVariants.{Pend};
-ghost use Rattle.urb_node.specs.Fields.{memory_of};
-ghost use Rattle.urb_node.specs.internal.Held.{HasRoom, IsHeld, IsNextHeld};
-ghost use Rattle.urb_node.specs.internal.Layers.{counted_cause, counted_with, with_certificate};
-ghost use Rattle.urb_node.specs.internal.Layers.{with_pair, with_record};
-ghost use Rattle.urb_node.specs.Moves.{AreOfStored, Confirms, Crashes, Fails};
+ghost use Rattle.urb_node.specs.LayerFields.{memory_of};
+ghost use Rattle.urb_node.specs.internal.HeldLayers.{HasRoom, IsHeld, IsNextHeld};
+ghost use Rattle.urb_node.specs.internal.LayerAdditions.{counted_cause, counted_with, with_certificate};
+ghost use Rattle.urb_node.specs.internal.LayerAdditions.{with_pair, with_record};
+ghost use Rattle.urb_node.specs.CallEffects.{AreOfStored, Confirms, Crashes, Fails};
 ghost use Rattle.urb_node.specs.Steps.{is_accepted};
-ghost use Rattle.urb_node.specs.Values.{ShowsReady, ShowsStoring};
+ghost use Rattle.urb_node.specs.NodeMemories.{ShowsReady, ShowsStoring};
 
 use crate::call_outcomes::note;
 use crate::cause::{Cause, certified_source};
@@ -40,9 +40,9 @@ pub struct Storing<A: Allocator = Global> {
 }
 
 impl<A: Allocator> Model for Storing<A> {
-    ghost use Rattle.urb_node.specs.Fields.{memory_of};
-    ghost use Rattle.urb_node.specs.internal.Held.{IsDrafted};
-    ghost use Rattle.urb_node.specs.Values.{Holding};
+    ghost use Rattle.urb_node.specs.LayerFields.{memory_of};
+    ghost use Rattle.urb_node.specs.internal.HeldLayers.{IsDrafted};
+    ghost use Rattle.urb_node.specs.NodeMemories.{Holding};
 
     ghost Value = { Holding };
 

@@ -7,13 +7,13 @@
 -- rests on the order of names and on rising lists, both in `urb_names`. Read the files in the order
 -- of the list below. Five are about pairs, the next three about the rows of clients, and the last
 -- two about what calls find and add.
-pub mod Ordered
-pub mod Mine
-pub mod Bounded
-pub mod Turned
-pub mod Kept
-pub mod Rows
-pub mod Index
-pub mod Changed
-pub mod Looked
-pub mod Indexed
+pub mod InsertedPairs
+pub mod OwnPairs
+pub mod PairLimits
+pub mod NextNames
+pub mod PreservedSets
+pub mod ClientRowPlaces
+pub mod IndexGrowth
+pub mod ClientRowChanges
+pub mod PairSearches
+pub mod PreservedFields

@@ -1,3 +1,3 @@
 pub mod PendingSet
-pub mod Fields
+pub mod PendingFields
 pub mod internal

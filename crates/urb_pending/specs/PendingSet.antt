@@ -2,12 +2,12 @@
 use Rattle.std.specs.Prelude.{◌≡◌, ◌≤◌, ℕ, suc, Bool, ◌&&◌, nat_le, IsTrue, List, [], ◌∷◌, length}
 use Rattle.std.specs.Prelude.{map, find, Option, Some, None, option_map}
 use Rattle.std.specs.List.{list_all, position_or_len}
-use Rattle.urb_names.specs.Naming.{Limits, Label, Content, IsLimits}
+use Rattle.urb_names.specs.LabelsAndContents.{Limits, Label, Content, IsLimits}
 use Rattle.urb_names.specs.Nodes.{is_node}
 use Rattle.urb_names.specs.Names.{name, names}
 use Rattle.urb_names.specs.Release.{part_of}
 use Rattle.urb_names.specs.Pairs.{own, is_numbered}
-use Rattle.urb_names.specs.Cyclic.{are_rising, inserted}
+use Rattle.urb_names.specs.CyclicOrder.{are_rising, inserted}
 
 -- the pending pairs of a node, in order of name, and the name and client for which space is
 -- reserved

@@ -1,3 +1,3 @@
-pub mod Rows
+pub mod ClientRows
 pub mod ClientIndex
-pub mod Kept
+pub mod FieldInvariant

@@ -4,7 +4,7 @@ ghost use Rattle.std.specs.Prelude.{◌≡◌, ◌+◌, ◌<◌, ◌≤◌, ◌&
 ghost use Rattle.std.specs.Prelude.{IsOk, OnOk, [], ◌∷◌, ◌++◌, length, if◌then◌else◌, Some};
 ghost use Rattle.std.specs.Prelude.{None, option_map, is_some};
 ghost use Rattle.std.specs.List.{prefix_len};
-ghost use Rattle.urb_pending.specs.internal.Rows.{row_of, are_in_order};
+ghost use Rattle.urb_pending.specs.internal.ClientRows.{row_of, are_in_order};
 ghost use Rattle.urb_pending.specs.internal.ClientIndex.{given_to, has_room, nth};
 
 use crate::row::ClientRow;
@@ -21,7 +21,7 @@ pub(crate) struct Clients<A: Allocator = Global> {
 
 impl<A: Allocator> Model for Clients<A> {
     ghost use Rattle.std.specs.Prelude.{List, IsTrue};
-    ghost use Rattle.urb_pending.specs.internal.Rows.{Row, are_in_order};
+    ghost use Rattle.urb_pending.specs.internal.ClientRows.{Row, are_in_order};
 
     ghost Value = { List Row };
 

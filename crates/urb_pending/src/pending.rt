@@ -3,7 +3,7 @@
 ghost use Rattle.std.specs.Prelude.{◌≡◌, ◌≤◌, ◌+◌, ◌*◌, ◌==◌, [], length, IsOk, OnOk, OnErr};
 ghost use Rattle.std.specs.Prelude.{IfErr, None, Some, option_map, slice_get, filter};
 ghost use Rattle.urb_names.specs.Pairs.{has_pair, message_of, own, next_number};
-ghost use Rattle.urb_names.specs.Cyclic.{cyclic, is_after};
+ghost use Rattle.urb_names.specs.CyclicOrder.{cyclic, is_after};
 ghost use Rattle.urb_window.specs.Entries.{above_of, low_of, window_of};
 ghost use Rattle.urb_pending.specs.PendingSet.{IsPendingSet, added, name_given, first_name};
 
@@ -30,8 +30,8 @@ impl<A: Allocator> Model for Pending<A> {
 
     ghost Value = { PendingSet };
 
-    ghost use Rattle.urb_pending.specs.Fields.{view_of};
-    ghost use Rattle.urb_pending.specs.internal.Kept.{IsKept};
+    ghost use Rattle.urb_pending.specs.PendingFields.{view_of};
+    ghost use Rattle.urb_pending.specs.internal.FieldInvariant.{IsKept};
 
     ghost view = { view_of };
 

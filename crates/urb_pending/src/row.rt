@@ -1,7 +1,7 @@
 //! A client's row: the numbers of the names that the node gave to its messages, in order.
 
 ghost use Rattle.std.specs.Prelude.{◌≡◌, ◌++◌, ◌∷◌, [], nat_lt, true, IsOk, OnOk, OnErr};
-ghost use Rattle.urb_pending.specs.internal.Rows.{Row};
+ghost use Rattle.urb_pending.specs.internal.ClientRows.{Row};
 
 use std::alloc::{Allocator, Global};
 use std::marker::Model;
@@ -18,7 +18,7 @@ pub(crate) struct ClientRow<A: Allocator = Global> {
 
 impl<A: Allocator> Model for ClientRow<A> {
     ghost use Rattle.std.specs.Prelude.{vec_len, vec_capacity, nat_lt};
-    ghost use Rattle.urb_pending.specs.internal.Rows.{Row};
+    ghost use Rattle.urb_pending.specs.internal.ClientRows.{Row};
 
     ghost Value = { Row };
 

@@ -1,1 +1,1 @@
-pub mod Fuses
+pub mod FuseCounts

@@ -12,7 +12,7 @@ pub struct Fuse {
 
 impl Fuse {
     ghost use Rattle.urb_refusing.specs.Fuses.{IsLast, IsMet};
-    ghost use Rattle.urb_refusing.specs.internal.Fuses.{one_more};
+    ghost use Rattle.urb_refusing.specs.internal.FuseCounts.{one_more};
 
     /// A counter with no call requested yet.
     pub fn new(refused: u64) -> Fuse

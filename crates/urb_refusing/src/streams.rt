@@ -6,7 +6,7 @@ ghost use Rattle.std.specs.Io.{ReadsAtMost, WritesAtMost};
 ghost use Rattle.std.specs.Io.KnownBytes.{Keeps, ReadConsumes, WriteAppends};
 ghost use Rattle.std.specs.IoError.{error_kind};
 ghost use Rattle.urb_refusing.specs.Fuses.{IsLast, IsMet};
-ghost use Rattle.urb_refusing.specs.internal.Fuses.{one_more};
+ghost use Rattle.urb_refusing.specs.internal.FuseCounts.{one_more};
 
 use crate::fuse::Fuse;
 use std::io;

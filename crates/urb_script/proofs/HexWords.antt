@@ -6,8 +6,8 @@ use Rattle.std.specs.List.{AllByRecursion}
 use Rattle.std.specs.Prelude.{IsTrue}
 use Rattle.std.proofs.lemmas.Bool.Decides.{nat_tests}
 use Rattle.std.proofs.lemmas.List.{drop_more}
-use Rattle.urb_script.specs.Hex.{IsDigit, AreDigits, IsHexWord}
-use Rattle.urb_script.specs.internal.Hex.{IsHexDigit, digit_value, byte_of, bytes_of, ArePairs}
+use Rattle.urb_script.specs.ByteWords.{IsDigit, AreDigits, IsHexWord}
+use Rattle.urb_script.specs.internal.HexDigits.{IsHexDigit, digit_value, byte_of, bytes_of, ArePairs}
 
 -- ---- one digit
 

@@ -8,18 +8,18 @@
 -- The laws of all scripts come last: one outcome if no store is refused memory (`one_outcome`), and
 -- what logs show (`logs_are_safe`, `logs_agree`). They use that each line keeps the rules of a
 -- scene (`takes_kept`), and the safety of worlds, which `urb_group` proves.
-pub mod Applying
+pub mod ClusterAnswers
 pub mod HexWords
-pub mod LogLines
+pub mod LogLaws
 pub mod NameWords
-pub mod Numbers
+pub mod NumberWords
 pub mod Outcomes
-pub mod Parts
+pub mod LinesAndWords
 pub mod Progress
-pub mod Reopening
-pub mod SceneKept
+pub mod ReopenedClusters
+pub mod SceneRules
 pub mod SceneSteps
-pub mod Staging
-pub mod Shown
+pub mod ClusterScenes
+pub mod ListTexts
 pub mod Spellings
-pub mod Telling
+pub mod LogTexts

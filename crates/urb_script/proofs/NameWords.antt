@@ -4,8 +4,8 @@ use Rattle.std.proofs.Common.{get_or, take, drop, sym, ap, ◌∙◌, arith}
 use Rattle.std.specs.Fmt.{decimal}
 use Rattle.std.proofs.lemmas.Fmt.{decimal_digit}
 use Rattle.std.proofs.lemmas.List.{take_all}
-use Rattle.urb_names.specs.Naming.{Label, IsLabel}
-use Rattle.urb_script.specs.Wording.{name_text}
+use Rattle.urb_names.specs.LabelsAndContents.{Label, IsLabel}
+use Rattle.urb_script.specs.ValueWords.{name_text}
 
 -- a name's word
 spelled : (x : Label) → IsLabel x → name_text x ≡ (48 + x.sender) ∷ 46 ∷ decimal x.seq

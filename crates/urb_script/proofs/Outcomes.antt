@@ -7,14 +7,14 @@ use Rattle.std.proofs.lemmas.Fmt.{decimal_injective}
 use Rattle.std.specs.Str.{bytes_eq}
 use Rattle.std.specs.Prelude.{codes}
 use Rattle.urb_names.proofs.FlagNumbers.{number_below, same_flags}
-use Rattle.urb_names.specs.Naming.{Label, IsLabel}
-use Rattle.urb_names.specs.Packets.{flags_number}
+use Rattle.urb_names.specs.LabelsAndContents.{Label, IsLabel}
+use Rattle.urb_names.specs.PacketGrammar.{flags_number}
 use Rattle.urb_names.specs.declared.flags.Flags.{Flags}
 use Rattle.urb_stable.specs.declared.memory.Failure.{Failure}
 use Rattle.urb_stable.specs.declared.memory.Failure.TheVariants.{Old, New}
 use Rattle.urb_script.specs.Lines.{words_of}
-use Rattle.urb_script.specs.Hex.{IsHexWord}
-use Rattle.urb_script.specs.Wording.{IsNodeNumber, HasWord, payload_word, failure_word, name_text}
+use Rattle.urb_script.specs.ByteWords.{IsHexWord}
+use Rattle.urb_script.specs.ValueWords.{IsNodeNumber, HasWord, payload_word, failure_word, name_text}
 use Rattle.urb_script.proofs.HexWords.{same_bytes}
 use Rattle.urb_script.proofs.NameWords.{name_sender, name_seq}
 use Rattle.urb_script.proofs.Spellings.{test}

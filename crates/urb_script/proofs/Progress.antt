@@ -9,17 +9,17 @@ use Rattle.std.proofs.KnownBytes.{Appends-nil, Appends-trans}
 use Rattle.urb_script.specs.declared.input.LineRead.TheVariants as read
 use Rattle.urb_script.specs.declared.runs.Ended.TheVariants.{Whole, BadLine}
 use Rattle.urb_script.specs.Lines.{lines_of, IsOneLine}
-use Rattle.urb_script.specs.internal.Lines.{ReadsLine, TookPart}
+use Rattle.urb_script.specs.internal.LineReads.{ReadsLine, TookPart}
 use Rattle.urb_script.specs.declared.runs.RunFault.{RunFault}
 use Rattle.urb_script.specs.declared.runs.RunFault.TheVariants as faults
-use Rattle.urb_names.specs.Naming.{Limits}
+use Rattle.urb_names.specs.LabelsAndContents.{Limits}
 use Rattle.urb_script.specs.Commands.{Command, Group, Spells}
 use Rattle.urb_group.specs.Scenes.{Scene}
 use Rattle.urb_script.specs.Steps.{Takes}
 use Rattle.urb_script.specs.Scripts.{Answers, IsBad, bad_line, WholeScript, StopsAfter, BrokenOff}
 use Rattle.urb_script.specs.Scripts.{BreaksOff}
-use Rattle.urb_script.specs.internal.Scripts.{Answered, AnsweredFrom, OpensWith, ShowsSome}
-use Rattle.urb_script.specs.internal.Scripts.{TakesFrom}
+use Rattle.urb_script.specs.internal.LineAnswers.{Answered, AnsweredFrom, OpensWith, ShowsSome}
+use Rattle.urb_script.specs.internal.LineAnswers.{TakesFrom}
 
 record Progress (input : List ℕ) (before after known : Option (List ℕ)) (count : ℕ)
     (state : Option Scene) : Type 0 where

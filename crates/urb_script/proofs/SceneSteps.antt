@@ -3,23 +3,23 @@ use Rattle.std.proofs.Common.{◌≡◌, ◌⊎◌, inl, inr, ℕ, Bool, true, f
 use Rattle.std.proofs.Common.{◌∷◌, ◌++◌, length, Option, Some, None, refl, sym, ap, ◌∙◌, subst}
 use Rattle.std.proofs.Common.{arith, eqb-true, length-append}
 use Rattle.std.proofs.lemmas.Bool.{cond_both, false≢true}
-use Rattle.urb_names.specs.Naming.{Content}
+use Rattle.urb_names.specs.LabelsAndContents.{Content}
 use Rattle.urb_stable.specs.Entries.{Entry}
-use Rattle.urb_stable.specs.Memory.{Memory, with_doubt}
+use Rattle.urb_stable.specs.MemoryStores.{Memory, with_doubt}
 use Rattle.urb_stable.specs.Records.{cert, pend}
-use Rattle.urb_stable.specs.Log.{log}
-use Rattle.urb_stable.specs.Storing.{IsContents}
+use Rattle.urb_stable.specs.DeliveredLogs.{log}
+use Rattle.urb_stable.specs.StableStorage.{IsContents}
 use Rattle.urb_node.specs.Part.{Down, Node, State}
 use Rattle.urb_node.specs.Replies.{Reply}
 use Rattle.urb_node.specs.Steps.{broadcast_after, comes_up, doubt, is_down, keeps_record}
 use Rattle.urb_node.specs.Steps.{restarts_with, same_list, same_names, same_pairs, says, takes}
 use Rattle.urb_group.specs.World.{World}
 use Rattle.urb_group.specs.Step.{Arrive, Commit, Crash, Event, Fail, Restart, Submit, Tick, step}
-use Rattle.urb_script.specs.internal.Staged.{IsHeldBy}
+use Rattle.urb_script.specs.internal.ShownScenes.{IsHeldBy}
 use Rattle.urb_node.specs.declared.cause.Cause.{Cause}
 use Rattle.urb_group.proofs.steps.StepCases.{OutcomeCases, node_of, outcome-cases, step-nodes}
-use Rattle.urb_group.proofs.steps.ArriveCases.{arrive-cases}
-use Rattle.urb_group.specs.Delivering.{event_node}
+use Rattle.urb_group.proofs.steps.ArrivalCases.{arrive-cases}
+use Rattle.urb_group.specs.DeliveredMessages.{event_node}
 
 -- ---- events that leave storage as it is
 

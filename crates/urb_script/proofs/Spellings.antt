@@ -11,15 +11,15 @@ use Rattle.std.proofs.lemmas.List.Splits.{length-slice_split}
 use Rattle.std.proofs.lemmas.Slice.Eq.{bytes_eq-Decides}
 use Rattle.urb_names.specs.declared.flags.Flags.{Flags}
 use Rattle.urb_names.specs.declared.limits.TheConstants.{MAX_NODES}
-use Rattle.urb_names.specs.Naming.{Label, Limits}
+use Rattle.urb_names.specs.LabelsAndContents.{Label, Limits}
 use Rattle.urb_stable.specs.declared.memory.Failure.{Failure}
 use Rattle.urb_script.specs.Lines.{words_of}
-use Rattle.urb_script.specs.internal.Lines.{words_left}
-use Rattle.urb_script.specs.Wording.{IsNodeNumber}
+use Rattle.urb_script.specs.internal.LineReads.{words_left}
+use Rattle.urb_script.specs.ValueWords.{IsNodeNumber}
 use Rattle.urb_script.specs.Commands.{Command, Arrive, ArriveFlagged, Crash, Fail, Group, Held, Log}
 use Rattle.urb_script.specs.Commands.{Raw, Reopen, Restart, Stored, Submit, Tick, AreArguments}
 use Rattle.urb_script.specs.Commands.{IsSpelled, InRange, keyword}
-use Rattle.urb_script.specs.internal.Commands.{HasNodeAlone, command}
+use Rattle.urb_script.specs.internal.CommandLines.{HasNodeAlone, command}
 use Rattle.urb_script.specs.declared.commands.CommandLine.{CommandLine}
 
 -- a text has a word

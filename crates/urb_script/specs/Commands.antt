@@ -1,13 +1,13 @@
 -- What a line of a script asks for, and how it is written.
 use Rattle.std.specs.Prelude.{◌≡◌, ◌≢◌, ℕ, ◌≤◌, List, [], ◌∷◌, length, codes}
 use Rattle.std.specs.Fmt.{decimal}
-use Rattle.urb_names.specs.Naming.{Limits, IsLimits, Label, IsLabel}
-use Rattle.urb_names.specs.Packets.{flags_number}
+use Rattle.urb_names.specs.LabelsAndContents.{Limits, IsLimits, Label, IsLabel}
+use Rattle.urb_names.specs.PacketGrammar.{flags_number}
 use Rattle.urb_names.specs.declared.flags.Flags.{Flags}
 use Rattle.urb_stable.specs.declared.memory.Failure.{Failure}
-use Rattle.urb_script.specs.Hex.{IsHexWord}
+use Rattle.urb_script.specs.ByteWords.{IsHexWord}
 use Rattle.urb_script.specs.Lines.{words_of}
-use Rattle.urb_script.specs.Wording.{IsNodeNumber, HasWord, payload_word, failure_word, name_text}
+use Rattle.urb_script.specs.ValueWords.{IsNodeNumber, HasWord, payload_word, failure_word, name_text}
 use Rattle.urb_script.specs.declared.input.TheConstants.{LONGEST_LINE}
 
 -- A command of a script. Make the group. Submit a client's message at a node. Store the record that

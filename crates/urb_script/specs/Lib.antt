@@ -1,6 +1,6 @@
 pub mod Lines
-pub mod Hex
-pub mod Wording
+pub mod ByteWords
+pub mod ValueWords
 pub mod Commands
 pub mod Texts
 pub mod Steps

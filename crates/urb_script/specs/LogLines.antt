@@ -1,8 +1,8 @@
 -- What the log lines of a script show.
 use Rattle.std.specs.Prelude.{◌≡◌, ℕ, List, ◌∷◌, ◌++◌, Option, Some, None}
-use Rattle.urb_names.specs.Beginnings.{OneBegins}
-use Rattle.urb_stable.specs.Log.{entries_of}
-use Rattle.urb_group.specs.Safe.{Safe}
+use Rattle.urb_names.specs.ListPrefixes.{OneBegins}
+use Rattle.urb_stable.specs.DeliveredLogs.{entries_of}
+use Rattle.urb_group.specs.SafetyProperties.{Safe}
 use Rattle.urb_group.specs.Scenes.{Scene}
 use Rattle.urb_group.specs.World.{stored}
 use Rattle.urb_script.specs.Commands.{Log, Spells}

@@ -1,10 +1,10 @@
 -- What each command does in a scene, and its answer.
 use Rattle.std.specs.Prelude.{◌≡◌, ◌⊎◌, ℕ, if◌then◌else◌, List, [], Option, Some, None, Ok, filter}
 use Rattle.std.specs.Prelude.{is_some}
-use Rattle.urb_names.specs.Carried.{Carried}
-use Rattle.urb_names.specs.Naming.{Content, Limits, Label}
+use Rattle.urb_names.specs.CarriedPackets.{Carried}
+use Rattle.urb_names.specs.LabelsAndContents.{Content, Limits, Label}
 use Rattle.urb_names.specs.Nodes.{is_node, nodes}
-use Rattle.urb_names.specs.Packets.{packet_of}
+use Rattle.urb_names.specs.PacketGrammar.{packet_of}
 use Rattle.urb_names.specs.Pairs.{message_of}
 use Rattle.urb_names.specs.declared.flags.Flags.{Flags}
 use Rattle.urb_names.specs.declared.refusal.Refusal.TheVariants as refusal

@@ -1,6 +1,6 @@
-pub mod Lines
-pub mod Hex
-pub mod Commands
-pub mod Texts
-pub mod Staged
-pub mod Scripts
+pub mod LineReads
+pub mod HexDigits
+pub mod CommandLines
+pub mod ReplyTexts
+pub mod ShownScenes
+pub mod LineAnswers

@@ -43,7 +43,7 @@ pub enum FixedAnswer {
 pub struct NameWord(pub Name);
 
 impl fmt::Display for NameWord {
-    ghost use Rattle.urb_script.specs.Wording.{name_text};
+    ghost use Rattle.urb_script.specs.ValueWords.{name_text};
     ghost use Rattle.std.specs.Prelude.{Some};
 
     ghost output = { λ word. Some (name_text word.0) };

@@ -3,16 +3,16 @@
 ghost use Rattle.std.specs.Prelude.{◌≡◌, ◌≢◌, ℕ, ◌∷◌, List, codes, IfSome, IfNone, IsTrue, ◌↔◌};
 ghost use Rattle.std.specs.List.{AllByRecursion};
 ghost use Rattle.std.specs.Fmt.{decimal};
-ghost use Rattle.urb_names.specs.Naming.{Limits, Label, IsLabel};
+ghost use Rattle.urb_names.specs.LabelsAndContents.{Limits, Label, IsLabel};
 ghost use Rattle.urb_names.specs.declared.flags.Flags.{Flags};
 ghost use Rattle.urb_stable.specs.declared.memory.Failure.{Failure};
-ghost use Rattle.urb_script.specs.internal.Lines.{words_left};
-ghost use Rattle.urb_script.specs.Wording.{HasWord, IsPrinted, payload_word};
-ghost use Rattle.urb_script.specs.Wording.{failure_word, name_text};
+ghost use Rattle.urb_script.specs.internal.LineReads.{words_left};
+ghost use Rattle.urb_script.specs.ValueWords.{HasWord, IsPrinted, payload_word};
+ghost use Rattle.urb_script.specs.ValueWords.{failure_word, name_text};
 ghost use Rattle.urb_script.specs.Commands.{Command, AreArguments, IsRoute, InRange, IsSpelled};
 ghost use Rattle.urb_script.specs.Commands.{Spells, Group, Submit, Fail, Reopen, Arrive};
 ghost use Rattle.urb_script.specs.Commands.{ArriveFlagged, Raw, Held};
-ghost use Rattle.urb_script.specs.internal.Commands.{command, HasNodeAlone};
+ghost use Rattle.urb_script.specs.internal.CommandLines.{command, HasNodeAlone};
 
 use crate::hex::HexBytes;
 use crate::input::LONGEST_LINE;

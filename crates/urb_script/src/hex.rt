@@ -2,8 +2,8 @@
 
 ghost use Rattle.std.specs.Prelude.{◌≡◌, ◌≤◌, ℕ, List, IfOk, IfSome, IfNone, IsTrue, ◌↔◌};
 ghost use Rattle.std.specs.List.{AllByRecursion};
-ghost use Rattle.urb_script.specs.Hex.{IsHexWord};
-ghost use Rattle.urb_script.specs.internal.Hex.{IsHexDigit, digit_value, byte_of};
+ghost use Rattle.urb_script.specs.ByteWords.{IsHexWord};
+ghost use Rattle.urb_script.specs.internal.HexDigits.{IsHexDigit, digit_value, byte_of};
 
 use std::alloc::Allocator;
 use std::marker::Model;
@@ -17,7 +17,7 @@ pub struct HexBytes<'a> {
 
 impl<'a> Model for HexBytes<'a> {
     ghost use Rattle.std.specs.Prelude.{List, ℕ};
-    ghost use Rattle.urb_script.specs.internal.Hex.{bytes_of, ArePairs};
+    ghost use Rattle.urb_script.specs.internal.HexDigits.{bytes_of, ArePairs};
 
     ghost Value = { List ℕ };
 

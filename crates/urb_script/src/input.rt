@@ -4,7 +4,7 @@ ghost use Rattle.std.specs.Prelude.{◌≡◌, ◌<◌, ◌≤◌, IfOk, None, o
 ghost use Rattle.std.specs.Prelude.{vec_capacity, OnOk, OnErr};
 ghost use Rattle.std.specs.Io.KnownBytes.{Consumes, IsAtEnd, Keeps};
 ghost use Rattle.urb_script.specs.Lines.{IsOneLine, IsPlain};
-ghost use Rattle.urb_script.specs.internal.Lines.{ReadsLine, TookPart};
+ghost use Rattle.urb_script.specs.internal.LineReads.{ReadsLine, TookPart};
 
 use std::alloc::Allocator;
 use std::io::{ErrorKind, Read};

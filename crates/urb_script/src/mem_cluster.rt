@@ -2,21 +2,21 @@
 
 ghost use Rattle.std.specs.Prelude.{◌≡◌, ◌≢◌, [], ◌∷◌, ◌++◌, All, IfOk, Ok, OnOk, flat_map};
 ghost use Rattle.std.specs.Prelude.{if◌then◌else◌, is_some, length, map, option_map};
-ghost use Rattle.urb_names.specs.Packets.{FitsVersion, packet_of};
+ghost use Rattle.urb_names.specs.PacketGrammar.{FitsVersion, packet_of};
 ghost use Rattle.urb_names.specs.Pairs.{message_of};
-ghost use Rattle.urb_stable.specs.Memory.{empty_memory};
+ghost use Rattle.urb_stable.specs.MemoryStores.{empty_memory};
 ghost use Rattle.urb_stable.specs.Records.{pend};
-ghost use Rattle.urb_group.specs.InMemory.{in_memory};
+ghost use Rattle.urb_group.specs.MemoryStores.{in_memory};
 ghost use Rattle.urb_group.specs.Scenes.{flags_with, or_nothing};
-ghost use Rattle.urb_group.specs.Stocked.{IsStocked};
+ghost use Rattle.urb_group.specs.StoreContents.{IsStocked};
 ghost use Rattle.urb_group.specs.World.{World, stored};
-ghost use Rattle.urb_group.specs.Shown.{Shows};
+ghost use Rattle.urb_group.specs.GroupViews.{Shows};
 ghost use Rattle.std.specs.Fmt.{decimal};
 ghost use Rattle.urb_script.specs.Commands.{Fail, InRange, Raw, Reopen, Submit};
-ghost use Rattle.urb_script.specs.internal.Commands.{arrival, command, line_of};
-ghost use Rattle.urb_script.specs.internal.Scripts.{TakesFrom};
-ghost use Rattle.urb_script.specs.internal.Staged.{Shown, ShowsScene, StoresAsAsked, TellsAt};
-ghost use Rattle.urb_script.specs.internal.Staged.{TellsOf};
+ghost use Rattle.urb_script.specs.internal.CommandLines.{arrival, command, line_of};
+ghost use Rattle.urb_script.specs.internal.LineAnswers.{TakesFrom};
+ghost use Rattle.urb_script.specs.internal.ShownScenes.{Shown, ShowsScene, StoresAsAsked, TellsAt};
+ghost use Rattle.urb_script.specs.internal.ShownScenes.{TellsOf};
 ghost use Rattle.urb_script.specs.Steps.{IsLater, holders, shown_holders, shown_log};
 ghost use Rattle.urb_script.specs.Texts.{entry_text};
 

@@ -6,8 +6,8 @@ ghost use Rattle.urb_node.specs.Replies.{Same, Sent};
 ghost use Rattle.urb_group.specs.Commands.{reply_of};
 ghost use Rattle.urb_script.specs.Texts.{answer_text, done_text, entry_text, packet_text};
 ghost use Rattle.urb_script.specs.Texts.{reply_text};
-ghost use Rattle.urb_script.specs.internal.Texts.{IsToldAs};
-ghost use Rattle.urb_script.specs.Wording.{name_text, payload_word};
+ghost use Rattle.urb_script.specs.internal.ReplyTexts.{IsToldAs};
+ghost use Rattle.urb_script.specs.ValueWords.{name_text, payload_word};
 
 use crate::answer_words::{FixedAnswer, NameWord, push_told, refused_write};
 use std::alloc::Allocator;

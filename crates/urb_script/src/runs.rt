@@ -3,13 +3,13 @@
 ghost use Rattle.std.specs.Prelude.{◌≡◌, [], Some, None, IfOk, IfErr, OnOk, IfSome, IsSomeAnd, ◌⊎◌};
 ghost use Rattle.std.specs.Io.KnownBytes.{Appends};
 ghost use Rattle.urb_script.specs.Commands.{Group, InRange};
-ghost use Rattle.urb_script.specs.internal.Commands.{command};
+ghost use Rattle.urb_script.specs.internal.CommandLines.{command};
 ghost use Rattle.urb_group.specs.Scenes.{Scene};
 ghost use Rattle.urb_script.specs.Steps.{IsLater, Takes};
 ghost use Rattle.urb_script.specs.LogLines.{LogsAgree, LogsAreSafe};
 ghost use Rattle.urb_script.specs.Scripts.{WholeScript, BreaksOff, StaysSafe, HasOneOutcome};
 ghost use Rattle.urb_script.specs.Scripts.{bad_line};
-ghost use Rattle.urb_script.specs.internal.Scripts.{AnsweredFrom, OpensWith, TakesFrom};
+ghost use Rattle.urb_script.specs.internal.LineAnswers.{AnsweredFrom, OpensWith, TakesFrom};
 
 use crate::commands::{CommandLine, parse_command};
 use crate::input::{InputFailed, LineRead, TOO_LONG, read_line};

@@ -4,8 +4,8 @@ ghost use Rattle.std.specs.Prelude.{◌≡◌, ◌≢◌, ℕ, ◌^◌, ◌<◌,
 ghost use Rattle.std.specs.Prelude.{IsTrue, position, ◌==◌, ◌↔◌};
 ghost use Rattle.std.specs.Fmt.{decimal};
 ghost use Rattle.urb_script.specs.Lines.{words_of};
-ghost use Rattle.urb_script.specs.internal.Lines.{words_left};
-ghost use Rattle.urb_script.specs.Wording.{IsNodeNumber};
+ghost use Rattle.urb_script.specs.internal.LineReads.{words_left};
+ghost use Rattle.urb_script.specs.ValueWords.{IsNodeNumber};
 
 use urb_names::{MAX_NODES, NodeId};
 

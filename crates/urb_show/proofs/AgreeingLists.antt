@@ -2,7 +2,7 @@
 use Rattle.std.proofs.Common.{List, [], ap, arith, inl, inr, length, map, refl, slice_index_or}
 use Rattle.std.proofs.Common.{subst, suc, sym, zero, ℕ, ⊎_elim, ◌++◌, ◌<◌, ◌==◌, ◌∙◌, ◌∷◌, ◌≡◌, ◌⊎◌}
 use Rattle.std.proofs.lemmas.List.Elements.{filter-append}
-use Rattle.urb_group.specs.Delivering.{Delivery, sent_by}
+use Rattle.urb_group.specs.DeliveredMessages.{Delivery, sent_by}
 use Rattle.urb_names.specs.Nodes.{numbers_from}
 use Rattle.urb_show.proofs.Prefixes.{prefix_length, prefix_trans}
 use Rattle.urb_show.proofs.ListBeginnings.{begins_self, begins_trans}

@@ -5,7 +5,7 @@ use Rattle.std.proofs.Common.{◌-◌, ◌<◌, ◌==◌, ◌∙◌, ◌∷◌, 
 use Rattle.std.proofs.lemmas.List.{take-append-drop}
 use Rattle.std.proofs.lemmas.Bool.Decides.{nat_tests}
 use Rattle.std.proofs.lemmas.List.Elements.{Contains-append_left, Contains-append_right}
-use Rattle.urb_group.specs.Delivering.{Delivery, sent_by}
+use Rattle.urb_group.specs.DeliveredMessages.{Delivery, sent_by}
 use Rattle.urb_names.specs.Nodes.{numbers_from}
 use Rattle.urb_show.proofs.AgreeingLists.{agree_begins, earlier_across, goes_on_begins}
 use Rattle.urb_show.specs.Readers.{AreOfOneHistory, GoesOn, ReaderView}

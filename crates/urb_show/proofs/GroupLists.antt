@@ -4,20 +4,20 @@ use Rattle.std.proofs.Common.{slice_index_or, subst, suc, sym, zero, ℕ, ◌-�
 use Rattle.std.proofs.Common.{◌⊎◌}
 use Rattle.urb_group.proofs.steps.DraftsInSteps.{step-size}
 use Rattle.urb_group.proofs.shown.Deliveries.{deliveries-grow, sound-after}
-use Rattle.urb_group.specs.Calls.{ComesUp, Commits, GoesDown, Takes, Ticks}
-use Rattle.urb_group.specs.Delivering.{Agree as AgreeAll, Delivery, Follows, deliveries}
-use Rattle.urb_group.specs.Delivering.{delivered_at, sent_by}
-use Rattle.urb_group.specs.Shown.{GroupView, IsSound}
+use Rattle.urb_group.specs.GroupCalls.{ComesUp, Commits, GoesDown, Takes, Ticks}
+use Rattle.urb_group.specs.DeliveredMessages.{Agree as AgreeAll, Delivery, Follows, deliveries}
+use Rattle.urb_group.specs.DeliveredMessages.{delivered_at, sent_by}
+use Rattle.urb_group.specs.GroupViews.{GroupView, IsSound}
 use Rattle.urb_group.specs.Step.{Commit, Event}
 use Rattle.urb_group.specs.declared.taken.Taken.TheVariants as taken
 use Rattle.urb_group.specs.declared.taken.Taken.{Taken}
-use Rattle.urb_names.specs.Beginnings.{OneBegins}
-use Rattle.urb_names.specs.Carried.{Carried}
+use Rattle.urb_names.specs.ListPrefixes.{OneBegins}
+use Rattle.urb_names.specs.CarriedPackets.{Carried}
 use Rattle.urb_names.specs.Nodes.{numbers_from}
 use Rattle.urb_names.specs.declared.refusal.Refusal.{Refusal}
 use Rattle.urb_node.specs.Replies.{Done}
-use Rattle.urb_node.specs.Shown.{NodeView, no_view}
-use Rattle.urb_stable.specs.Placed.{Placed}
+use Rattle.urb_node.specs.NodeViews.{NodeView, no_view}
+use Rattle.urb_stable.specs.PlacedRecords.{Placed}
 use Rattle.urb_show.proofs.AgreeingLists.{map_prefix}
 use Rattle.urb_show.proofs.ListBeginnings.{begins_trans}
 use Rattle.urb_show.specs.Lists.{Agree, Begins, Lists, delivery_of, entry_of, list_at, lists_in}

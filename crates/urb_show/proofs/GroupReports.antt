@@ -5,17 +5,17 @@ use Rattle.std.proofs.Common.{zero, ℕ, ◌-◌, ◌<◌, ◌^◌, ◌∙◌, �
 use Rattle.std.proofs.lemmas.Bool.{and_from}
 use Rattle.std.proofs.lemmas.List.{length-map}
 use Rattle.urb_group.proofs.shown.Deliveries.{deliveries-known, length-known}
-use Rattle.urb_group.specs.Calls.{FindsMessage, TellsLog}
-use Rattle.urb_group.specs.Delivering.{Agree as AgreeAll, Delivery, delivered_at, known}
-use Rattle.urb_group.specs.Shown.{GroupView, IsSound}
+use Rattle.urb_group.specs.GroupCalls.{FindsMessage, TellsLog}
+use Rattle.urb_group.specs.DeliveredMessages.{Agree as AgreeAll, Delivery, delivered_at, known}
+use Rattle.urb_group.specs.GroupViews.{GroupView, IsSound}
 use Rattle.urb_group.specs.World.{World, stored}
-use Rattle.urb_names.specs.Naming.{Content, Label}
+use Rattle.urb_names.specs.LabelsAndContents.{Content, Label}
 use Rattle.urb_names.specs.Nodes.{is_node}
 use Rattle.urb_names.specs.Pairs.{message_of}
 use Rattle.urb_show.proofs.GroupLists.{list_of}
 use Rattle.urb_show.specs.Lists.{entry_of, list_at, lists_in}
 use Rattle.urb_show.specs.declared.entry.Entry.{Entry}
-use Rattle.urb_stable.specs.Log.{log}
+use Rattle.urb_stable.specs.DeliveredLogs.{log}
 use Rattle.urb_stable.specs.Records.{pend}
 
 -- the entry at a place, from the name there and its message

@@ -6,9 +6,9 @@ use Rattle.std.proofs.lemmas.List.{get_or-map, length-map}
 use Rattle.std.proofs.lemmas.List.Sums.{fold-append}
 use Rattle.urb_show.specs.declared.entry.Entry.{Entry}
 use Rattle.urb_show.specs.declared.entry.Addition.{Addition}
-use Rattle.urb_group.specs.Shown.{GroupView, IsSound}
+use Rattle.urb_group.specs.GroupViews.{GroupView, IsSound}
 use Rattle.urb_show.specs.Lists.{Begins, Lists, add_at, entry_of, list_at, lists_in}
-use Rattle.urb_group.specs.Delivering.{deliveries}
+use Rattle.urb_group.specs.DeliveredMessages.{deliveries}
 use Rattle.urb_show.proofs.ListBeginnings.{begins_self}
 use Rattle.urb_show.specs.Additions.{lists_of}
 use Rattle.urb_show.specs.internal.PreparedLists.{IsHouse}

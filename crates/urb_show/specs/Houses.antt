@@ -1,7 +1,7 @@
 -- What a house is, and what its calls do to it.
 use Rattle.std.specs.Prelude.{if◌then◌else◌, ℕ, ◌+◌, ◌-◌, ◌==◌, ◌^◌, ◌≡◌, ◌≢◌}
 use Rattle.logbook.specs.Pages.{Book}
-use Rattle.urb_group.specs.Shown.{GroupView}
+use Rattle.urb_group.specs.GroupViews.{GroupView}
 use Rattle.urb_show.specs.Lists.{Lists, list_at, lists_in}
 
 -- The group, the lists that are published, the lists that were prepared for the next settling, and

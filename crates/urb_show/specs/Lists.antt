@@ -1,9 +1,9 @@
 -- Lists of entries, one for each node: when they are prefixes of others, when they agree, and the
 -- lists of a group.
 use Rattle.std.specs.Prelude.{List, [], map, slice_index_or, suc, zero, ℕ, ◌++◌, ◌∷◌, ◌⊎◌}
-use Rattle.urb_names.specs.Beginnings.{Begins as IsBeginning, OneBegins}
-use Rattle.urb_group.specs.Delivering.{Agree as AgreeAll, Delivery, deliveries, sent_by}
-use Rattle.urb_group.specs.Shown.{GroupView}
+use Rattle.urb_names.specs.ListPrefixes.{Begins as IsBeginning, OneBegins}
+use Rattle.urb_group.specs.DeliveredMessages.{Agree as AgreeAll, Delivery, deliveries, sent_by}
+use Rattle.urb_group.specs.GroupViews.{GroupView}
 use Rattle.urb_show.specs.declared.entry.Entry.{Entry}
 
 -- a list of entries for each of the nodes 1, 2, ..

@@ -1,10 +1,10 @@
 -- What a house reports about a node at one moment.
 use Rattle.std.specs.Prelude.{Option, Some, length, ℕ}
-use Rattle.urb_group.specs.Calls.{Answers}
-use Rattle.urb_group.specs.Shown.{GroupView}
-use Rattle.urb_group.specs.States.{state_of}
+use Rattle.urb_group.specs.GroupCalls.{Answers}
+use Rattle.urb_group.specs.GroupViews.{GroupView}
+use Rattle.urb_group.specs.ReportedStates.{state_of}
 use Rattle.urb_group.specs.World.{World, stored}
-use Rattle.urb_stable.specs.Log.{log}
+use Rattle.urb_stable.specs.DeliveredLogs.{log}
 use Rattle.urb_show.specs.declared.status.Status.{Status}
 
 -- the node's state, how many messages it has broadcast, and how many names it has delivered

@@ -1,6 +1,6 @@
 //! The House: the group together with its published logs.
 ghost use Rattle.std.specs.Prelude.{◌≡◌, ◌<◌, ◌≤◌, ◌-◌, length, MatchBool, MatchResult};
-ghost use Rattle.urb_group.specs.Shown.{IsSound};
+ghost use Rattle.urb_group.specs.GroupViews.{IsSound};
 ghost use Rattle.urb_show.specs.Lists.{Agree, Begins, list_at, lists_in};
 ghost use Rattle.urb_show.specs.Houses.{Grew, Settled};
 ghost use Rattle.urb_show.specs.internal.PreparedLists.{GrewByOne, Lacks};

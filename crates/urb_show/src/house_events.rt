@@ -1,7 +1,7 @@
 //! The events of a house: the group's calls. Each call that is not refused is counted.
 ghost use Rattle.std.specs.Prelude.{◌≡◌, if◌then◌else◌, is_ok, length, MatchResult};
-ghost use Rattle.urb_names.specs.Packets.{packet_of};
-ghost use Rattle.urb_group.specs.Calls.{ComesUp, Commits, GoesDown, Takes, Ticks};
+ghost use Rattle.urb_names.specs.PacketGrammar.{packet_of};
+ghost use Rattle.urb_group.specs.GroupCalls.{ComesUp, Commits, GoesDown, Takes, Ticks};
 ghost use Rattle.urb_group.specs.Step.{Arrive, Crash, Fail, Restart, Submit, Tick};
 ghost use Rattle.urb_show.specs.Houses.{IsEvent, next_count};
 

@@ -1,7 +1,7 @@
 //! What a house reports about its nodes.
 ghost use Rattle.std.specs.Prelude.{◌≡◌, Some, option_map};
-ghost use Rattle.urb_group.specs.Calls.{Answers, CountsOwn, FindsMessage, Holds, TellsLog};
-ghost use Rattle.urb_group.specs.States.{state_of};
+ghost use Rattle.urb_group.specs.GroupCalls.{Answers, CountsOwn, FindsMessage, Holds, TellsLog};
+ghost use Rattle.urb_group.specs.ReportedStates.{state_of};
 ghost use Rattle.urb_show.specs.Statuses.{TellsStatus};
 
 use crate::history::tokens::HouseName;

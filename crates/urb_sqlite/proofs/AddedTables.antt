@@ -14,7 +14,7 @@ use Rattle.sqlite_schema.specs.Names.{same_name, table_named}
 use Rattle.sqlite.specs.Change.{next_tree, past_views}
 use Rattle.sqlite_catalog.specs.Change.{KeepsRows}
 use Rattle.sqlite_catalog.specs.Listing.{IsSound, IsTableRow}
-use Rattle.urb_sqlite.specs.Journal.{record_table, table_of, tree_of, Lacks, HasTable}
+use Rattle.urb_sqlite.specs.JournalTables.{record_table, table_of, tree_of, Lacks, HasTable}
 use Rattle.urb_sqlite.proofs.StatementTexts.{found_at}
 
 -- ---- lists with one more

@@ -28,7 +28,7 @@ use Rattle.sqlite.specs.State.{text_of}
 use Rattle.sqlite_resolve.specs.declared.error.CompileError.TheVariants.{NoSuchTable, Misuse}
 use Rattle.sqlite_resolve.specs.declared.error.CompileError.TheVariants.{Exists, Unsupported}
 use Rattle.sqlite_schema.specs.declared.command.Returning.{Returning}
-use Rattle.urb_sqlite.specs.Journal.{HasTable}
+use Rattle.urb_sqlite.specs.JournalTables.{HasTable}
 use Rattle.urb_sqlite.proofs.StatementTexts.{Puts, Selects, Makes, found_at}
 
 -- if a checked step gave a value, each of its parts gave one

@@ -17,11 +17,11 @@ use Rattle.sqlite.specs.Does.{Tally, Does, lacks_sequence, sequence_text}
 use Rattle.sqlite.specs.Effect.{Database}
 use Rattle.sqlite_schema.specs.Names.{same_name, table_named, index_named, view_named}
 use Rattle.sqlite.specs.State.{State, mode_of, IsUnchanged, Executes, ExecutesIn, CommitsBy}
-use Rattle.urb_sqlite.specs.Journal.{create_text, journal_name, second_name, record_table, table_of}
-use Rattle.urb_sqlite.specs.Journal.{tree_of, Lacks, HasTable}
-use Rattle.urb_sqlite.specs.Shape.{is_journal, has_table}
+use Rattle.urb_sqlite.specs.JournalTables.{create_text, journal_name, second_name, record_table, table_of}
+use Rattle.urb_sqlite.specs.JournalTables.{tree_of, Lacks, HasTable}
+use Rattle.urb_sqlite.specs.TableShapes.{is_journal, has_table}
 use Rattle.urb_sqlite.specs.OpenJournal.{AddsTable, AddsOne, IsLonger}
-use Rattle.urb_sqlite.specs.internal.OpenJournal.{IsMade}
+use Rattle.urb_sqlite.specs.internal.JournalChanges.{IsMade}
 use Rattle.urb_sqlite.proofs.InsertStatement.{went, same_value}
 use Rattle.urb_sqlite.proofs.StatementTexts.{Makes}
 use Rattle.sqlite_resolve.specs.Compile.{table_defined_by}

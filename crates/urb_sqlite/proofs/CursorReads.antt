@@ -18,21 +18,21 @@ use Rattle.sqlite.specs.State.{Begins, FailsToQuery, HasCleanDisk, Survives, Com
 use Rattle.sqlite.proofs.StateLemmas.{survives_weaker}
 use Rattle.sqlite.proofs.Callers.{command_of, EndsIn, given_begin, begins_shown}
 use Rattle.urb_stable.specs.Entries.{Entry}
-use Rattle.urb_stable.specs.Storing.{is_bad_row}
+use Rattle.urb_stable.specs.StableStorage.{is_bad_row}
 use Rattle.urb_stable.specs.declared.stable.StoreFault.{StoreFault}
 use Rattle.urb_stable.specs.declared.stable.StoreFault.TheVariants.{NoMemory, Device, BadRow, Place}
 use Rattle.urb_names.specs.declared.limits.TheConstants.{MAX_PAYLOAD}
 use Rattle.urb_sqlite.specs.declared.sql.Part.{Part}
-use Rattle.urb_sqlite.specs.Journal.{limit_of, tree_of, HasTable}
-use Rattle.urb_sqlite.specs.internal.Journal.{select_of, name_of}
-use Rattle.urb_sqlite.specs.Rows.{table_rows, IsInOrder, IsFirstBad}
-use Rattle.urb_sqlite.specs.Reading.{record_at, joined, extended, read_from}
+use Rattle.urb_sqlite.specs.JournalTables.{limit_of, tree_of, HasTable}
+use Rattle.urb_sqlite.specs.internal.JournalStatements.{select_of, name_of}
+use Rattle.urb_sqlite.specs.RecordRows.{table_rows, IsInOrder, IsFirstBad}
+use Rattle.urb_sqlite.specs.RowReadings.{record_at, joined, extended, read_from}
 use Rattle.urb_sqlite.proofs.StatementTexts.{select_parsed, select_is}
 use Rattle.urb_sqlite.proofs.AnySchema.{reads_in_any}
 use Rattle.urb_sqlite.proofs.SpelledRows.{went_on, first_bad}
 use Rattle.urb_sqlite.proofs.KeptRecords.{left_by_query, select_commits_nothing, shown_if_read}
 use Rattle.urb_sqlite.proofs.KeptRecords.{in_order}
-use Rattle.urb_sqlite.proofs.BothTables.{unchanged_then}
+use Rattle.urb_sqlite.proofs.TableReadings.{unchanged_then}
 
 -- ---- rows behind others
 

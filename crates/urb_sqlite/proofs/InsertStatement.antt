@@ -30,9 +30,9 @@ use Rattle.sqlite_schema.specs.declared.schema.Keys.TheVariants.{Enforced}
 use Rattle.sqlite_schema.specs.Rules.{ParentKey, parent_key}
 use Rattle.sqlite_rules.specs.declared.action.Deed.{Deed}
 use Rattle.sqlite_rules.specs.Action.{works, work_by, work_for, deed_for}
-use Rattle.urb_sqlite.specs.Journal.{record_table, tree_of, HasTable}
-use Rattle.urb_sqlite.specs.Rows.{columns_of}
-use Rattle.urb_sqlite.specs.internal.Rows.{kept_row}
+use Rattle.urb_sqlite.specs.JournalTables.{record_table, tree_of, HasTable}
+use Rattle.urb_sqlite.specs.RecordRows.{columns_of}
+use Rattle.urb_sqlite.specs.internal.TreeRows.{kept_row}
 use Rattle.urb_sqlite.proofs.StatementTexts.{Puts, terms, insert_is}
 
 either : (b : Bool) (x : Value) → cond b x x ≡ x

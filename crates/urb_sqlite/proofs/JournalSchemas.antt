@@ -13,13 +13,13 @@ use Rattle.sqlite_catalog.specs.Listing.{IsSound, IsTableRow, IsIndexRow, IsView
 use Rattle.sqlite_catalog.specs.Listing.{is_index_row, is_view_row}
 use Rattle.sqlite.specs.Effect.{Database}
 use Rattle.sqlite.specs.State.{State, IsLive, Opens}
-use Rattle.urb_sqlite.specs.Journal.{record_table, table_of, tree_of, journal_name, second_name}
-use Rattle.urb_sqlite.specs.Journal.{Lacks, HasTable, MayTake, IsAdoptable}
-use Rattle.urb_sqlite.specs.internal.Journal.{no_schema}
+use Rattle.urb_sqlite.specs.JournalTables.{record_table, table_of, tree_of, journal_name, second_name}
+use Rattle.urb_sqlite.specs.JournalTables.{Lacks, HasTable, MayTake, IsAdoptable}
+use Rattle.urb_sqlite.specs.internal.JournalStatements.{no_schema}
 use Rattle.sqlite.specs.Files.{AreFoundIn, IsNothing}
 use Rattle.sqlite_wal.specs.Recovery.{Image}
-use Rattle.urb_sqlite.specs.Rows.{table_rows, StandsFor}
-use Rattle.urb_sqlite.specs.Reading.{records_of}
+use Rattle.urb_sqlite.specs.RecordRows.{table_rows, StandsFor}
+use Rattle.urb_sqlite.specs.RowReadings.{records_of}
 use Rattle.urb_sqlite.specs.OpenJournal.{IsBare, IsBase, IsHonestJournal, IsJournal, base_of}
 use Rattle.urb_sqlite.specs.OpenJournal.{database_of}
 use Rattle.std.proofs.lemmas.Grind.{not_there}

@@ -22,16 +22,16 @@ use Rattle.sqlite.specs.State.{State, HasCleanDisk}
 use Rattle.sqlite.specs.Held.{Held, AreDatabases}
 use Rattle.sqlite.specs.Files.{HoldsDatabase, file_state}
 use Rattle.sqlite.proofs.Theorems.{opens_again}
-use Rattle.urb_names.specs.Naming.{Label, Content}
+use Rattle.urb_names.specs.LabelsAndContents.{Label, Content}
 use Rattle.urb_stable.specs.Entries.{Entry}
-use Rattle.urb_stable.specs.Storing.{IsContents}
+use Rattle.urb_stable.specs.StableStorage.{IsContents}
 use Rattle.urb_stable.specs.declared.record.Record.TheVariants.{Pend, PendCert, Cert}
 use Rattle.sqlite_schema.specs.contracts.schema.Table as table
-use Rattle.urb_sqlite.specs.Rows.{StandsFor}
-use Rattle.urb_sqlite.specs.Reading.{records_of}
+use Rattle.urb_sqlite.specs.RecordRows.{StandsFor}
+use Rattle.urb_sqlite.specs.RowReadings.{records_of}
 use Rattle.urb_sqlite.specs.OpenJournal.{IsHonestJournal, IsJournal, IsSafeAtRest, LeavesOnly}
 use Rattle.urb_sqlite.specs.OpenJournal.{database_of}
-use Rattle.urb_sqlite.specs.Stops.{IsFoundAfter}
+use Rattle.urb_sqlite.specs.ReopenedJournals.{IsFoundAfter}
 use Rattle.urb_sqlite.proofs.StoredRows.{records_are}
 
 -- a store is clean if both of its files are clean

@@ -22,13 +22,13 @@ use Rattle.sqlite.specs.State.{Executes, ExecutesIn, IsNotRun, IsUnchanged, IsRo
 use Rattle.sqlite.specs.State.{KeepsCommit, shows_rows, Shown, Survives, CommitsBy, CommitsShowing}
 use Rattle.sqlite.specs.State.{FailsToQuery}
 use Rattle.urb_stable.specs.Entries.{Entry, IsEntry}
-use Rattle.urb_stable.specs.Storing.{is_bad_row}
+use Rattle.urb_stable.specs.StableStorage.{is_bad_row}
 use Rattle.urb_stable.specs.declared.stable.StoreFault.{StoreFault}
 use Rattle.urb_stable.specs.declared.stable.StoreFault.TheVariants.{BadRow, Device, NoMemory, Place}
 use Rattle.urb_stable.specs.declared.record.Record.TheVariants.{Pend, PendCert, Cert}
-use Rattle.urb_sqlite.specs.Journal.{limit_of, tree_of, HasTable, HasBoth, journal_name}
-use Rattle.urb_sqlite.specs.Journal.{second_name}
-use Rattle.urb_sqlite.specs.internal.Journal.{insert_text, select_of, name_of}
+use Rattle.urb_sqlite.specs.JournalTables.{limit_of, tree_of, HasTable, HasBoth, journal_name}
+use Rattle.urb_sqlite.specs.JournalTables.{second_name}
+use Rattle.urb_sqlite.specs.internal.JournalStatements.{insert_text, select_of, name_of}
 use Rattle.urb_sqlite.specs.declared.sql.Part.{Part}
 use Rattle.urb_sqlite.specs.declared.sql.Part.TheVariants.{Second}
 use Rattle.std.specs.List.{AllByRecursion}
@@ -37,11 +37,11 @@ use Rattle.urb_sqlite.specs.OpenJournal.{IsJournal, database_of, IsHonestJournal
 use Rattle.urb_sqlite.specs.OpenJournal.{IsShutJournal, LeavesOnly}
 use Rattle.sqlite_catalog.specs.Listing.{IsSound}
 use Rattle.urb_sqlite.proofs.StatementTexts.{insert_parsed, select_parsed, found_at}
-use Rattle.urb_sqlite.specs.Rows.{row_of, rows_in, by_pos, shown, IsWithin, IsInOrder, table_rows}
-use Rattle.urb_sqlite.specs.Rows.{StandsFor}
-use Rattle.urb_sqlite.specs.internal.Rows.{kept_of}
-use Rattle.urb_sqlite.specs.Reading.{read_from, records_of}
-use Rattle.urb_sqlite.specs.internal.OpenJournal.{IsCounted, IsKept, IsInStep, IsAppended, IsLeft}
+use Rattle.urb_sqlite.specs.RecordRows.{row_of, rows_in, by_pos, shown, IsWithin, IsInOrder, table_rows}
+use Rattle.urb_sqlite.specs.RecordRows.{StandsFor}
+use Rattle.urb_sqlite.specs.internal.TreeRows.{kept_of}
+use Rattle.urb_sqlite.specs.RowReadings.{read_from, records_of}
+use Rattle.urb_sqlite.specs.internal.JournalChanges.{IsCounted, IsKept, IsInStep, IsAppended, IsLeft}
 use Rattle.urb_sqlite.proofs.InsertStatement.{IsPut, HasPut, inserts, commits_put, went, same_value}
 use Rattle.urb_sqlite.proofs.AnySchema.{inserts_in_any, reads_in_any}
 use Rattle.urb_sqlite.proofs.SortOrder.{sort_is}

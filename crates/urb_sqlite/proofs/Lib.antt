@@ -21,11 +21,11 @@ pub mod AnySchema
 pub mod SpelledRows
 pub mod StoredRows
 pub mod KeptRecords
-pub mod BothTables
+pub mod TableReadings
 pub mod OpenedTables
-pub mod OneTable
-pub mod TakenOver
-pub mod GivenBack
+pub mod TableOpenings
+pub mod AcceptedOpenings
+pub mod RefusedOpenings
 pub mod CreateStatement
 pub mod JournalSchemas
 pub mod JournalStops

@@ -9,10 +9,10 @@ use Rattle.sqlite.specs.Start.{FindsIn}
 use Rattle.sqlite.specs.State.{State, HasCleanDisk, IsLive, Opens}
 use Rattle.urb_names.specs.declared.limits.TheConstants.{MAX_NODES}
 use Rattle.urb_stable.specs.Entries.{Entry}
-use Rattle.urb_sqlite.specs.Journal.{journal_name, second_name, Lacks}
-use Rattle.urb_sqlite.specs.Nodes.{IsFoundIf, IsFoundIn}
+use Rattle.urb_sqlite.specs.JournalTables.{journal_name, second_name, Lacks}
+use Rattle.urb_sqlite.specs.FoundJournals.{IsFoundIf, IsFoundIn}
 use Rattle.urb_sqlite.specs.OpenJournal.{IsHonestJournal, IsTakenOver}
-use Rattle.urb_sqlite.specs.Reading.{records_of}
+use Rattle.urb_sqlite.specs.RowReadings.{records_of}
 use Rattle.urb_sqlite.proofs.JournalSchemas.{empty_is_nothing, finds_bare, finds_base}
 use Rattle.urb_sqlite.proofs.JournalSchemas.{finds_journal, finds_nothing}
 use Rattle.urb_sqlite.proofs.KeptRecords.{earlier_clean}

@@ -4,10 +4,10 @@ use Rattle.std.proofs.Common.{◌≡◌, ℕ, ◌+◌, List, [], ◌++◌, lengt
 use Rattle.sqlite.specs.Effect.{Database}
 use Rattle.sqlite.specs.Order.{Row}
 use Rattle.urb_stable.specs.Entries.{Entry}
-use Rattle.urb_sqlite.specs.Journal.{limit_of, journal_name, second_name, Lacks, HasTable}
+use Rattle.urb_sqlite.specs.JournalTables.{limit_of, journal_name, second_name, Lacks, HasTable}
 use Rattle.urb_sqlite.specs.declared.sql.Part.TheVariants.{First, Second}
-use Rattle.urb_sqlite.specs.Rows.{by_pos, shown, table_rows, StandsFor}
-use Rattle.urb_sqlite.specs.Reading.{read_from, records_of}
+use Rattle.urb_sqlite.specs.RecordRows.{by_pos, shown, table_rows, StandsFor}
+use Rattle.urb_sqlite.specs.RowReadings.{read_from, records_of}
 use Rattle.sqlite_keyed.specs.Lists.{sort_by}
 use Rattle.std.proofs.Common.{map}
 use Rattle.urb_sqlite.specs.OpenJournal.{AddsTable}

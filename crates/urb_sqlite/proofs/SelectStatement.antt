@@ -15,8 +15,8 @@ use Rattle.sqlite.specs.Query.{IsAnswer, Output, output, output_cmp}
 use Rattle.sqlite.specs.Program.{overlay}
 use Rattle.sqlite.specs.State.{State, Shown}
 use Rattle.sqlite.proofs.Callers.{reads_as}
-use Rattle.urb_sqlite.specs.Journal.{tree_of, HasTable}
-use Rattle.urb_sqlite.specs.Rows.{shown, by_pos}
+use Rattle.urb_sqlite.specs.JournalTables.{tree_of, HasTable}
+use Rattle.urb_sqlite.specs.RecordRows.{shown, by_pos}
 use Rattle.urb_sqlite.proofs.StatementTexts.{Selects, query, select_is}
 
 -- what a row is sorted by, and what it shows

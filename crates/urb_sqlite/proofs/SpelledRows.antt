@@ -9,15 +9,15 @@ use Rattle.std.proofs.lemmas.List.Elements.{recursion_from_All, All-from_recursi
 use Rattle.sqlite.specs.declared.types.Value.{Value}
 use Rattle.sqlite.specs.declared.types.Value.TheVariants.{Null, Int, Real, Text, Blob}
 use Rattle.sqlite.specs.Order.{Row, column}
-use Rattle.urb_names.specs.Naming.{Label, Content, IsLabel, IsContent}
+use Rattle.urb_names.specs.LabelsAndContents.{Label, Content, IsLabel, IsContent}
 use Rattle.urb_stable.specs.Entries.{Entry}
 use Rattle.urb_stable.specs.declared.record.Record.TheVariants.{Pend, PendCert, Cert}
 use Rattle.urb_sqlite.specs.declared.rows.Columns.{Columns}
-use Rattle.urb_sqlite.specs.Rows.{columns_of, row_of, rows_of, columns_in, IsWithin, Spells}
-use Rattle.urb_sqlite.specs.Rows.{IsFirstBad}
-use Rattle.urb_sqlite.specs.Reading.{word_in, number_in, bytes_in, numbers_in, is_name, is_message}
-use Rattle.urb_sqlite.specs.Reading.{is_bare, name_in, message_in, record_by, record_in, record_at}
-use Rattle.urb_sqlite.specs.Reading.{joined, read_from}
+use Rattle.urb_sqlite.specs.RecordRows.{columns_of, row_of, rows_of, columns_in, IsWithin, Spells}
+use Rattle.urb_sqlite.specs.RecordRows.{IsFirstBad}
+use Rattle.urb_sqlite.specs.RowReadings.{word_in, number_in, bytes_in, numbers_in, is_name, is_message}
+use Rattle.urb_sqlite.specs.RowReadings.{is_bare, name_in, message_in, record_by, record_in, record_at}
+use Rattle.urb_sqlite.specs.RowReadings.{joined, read_from}
 use Rattle.urb_names.specs.declared.limits.TheConstants.{MAX_NODES, MAX_PAYLOAD}
 
 -- ---- the columns of a row

@@ -30,8 +30,8 @@ use Rattle.sqlite.specs.Command.{Command}
 use Rattle.sqlite_schema.specs.declared.command.Returning.{Returning}
 use Rattle.sqlite.specs.State.{text_of}
 use Rattle.sqlite_resolve.specs.declared.scope.Output.{Output}
-use Rattle.urb_sqlite.specs.Journal.{second_name, record_table, integer, tree_of, HasTable}
-use Rattle.urb_sqlite.specs.internal.Journal.{create_of, insert_text, select_of, name_of}
+use Rattle.urb_sqlite.specs.JournalTables.{second_name, record_table, integer, tree_of, HasTable}
+use Rattle.urb_sqlite.specs.internal.JournalStatements.{create_of, insert_text, select_of, name_of}
 use Rattle.sqlite_resolve.specs.Lowering.{max_budget, nothing}
 use Rattle.sqlite_resolve.specs.Body.{outputs}
 use Rattle.sqlite_resolve.specs.Expr.{lower}

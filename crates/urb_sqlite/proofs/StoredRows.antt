@@ -24,13 +24,13 @@ use Rattle.urb_stable.specs.Entries.{Entry}
 use Rattle.urb_stable.specs.declared.record.Record.TheVariants.{Pend, PendCert, Cert}
 use Rattle.sqlite.specs.Table.{Table}
 use Rattle.urb_sqlite.specs.declared.sql.Part.TheVariants.{First, Second}
-use Rattle.urb_sqlite.specs.Journal.{journal_name, second_name, limit_of, table_of, tree_of, Lacks}
-use Rattle.urb_sqlite.specs.Journal.{HasTable, HasBoth}
-use Rattle.urb_sqlite.specs.Rows.{shown, by_pos, rows_in, row_of, IsWithin, Spells, table_rows}
-use Rattle.urb_sqlite.specs.Rows.{StandsFor}
-use Rattle.urb_sqlite.specs.internal.Rows.{kept_of}
-use Rattle.urb_sqlite.specs.Reading.{record_at, joined, extended, read_from, followed, read_both}
-use Rattle.urb_sqlite.specs.Reading.{ok_or_none, records_of}
+use Rattle.urb_sqlite.specs.JournalTables.{journal_name, second_name, limit_of, table_of, tree_of, Lacks}
+use Rattle.urb_sqlite.specs.JournalTables.{HasTable, HasBoth}
+use Rattle.urb_sqlite.specs.RecordRows.{shown, by_pos, rows_in, row_of, IsWithin, Spells, table_rows}
+use Rattle.urb_sqlite.specs.RecordRows.{StandsFor}
+use Rattle.urb_sqlite.specs.internal.TreeRows.{kept_of}
+use Rattle.urb_sqlite.specs.RowReadings.{record_at, joined, extended, read_from, followed, read_both}
+use Rattle.urb_sqlite.specs.RowReadings.{ok_or_none, records_of}
 use Rattle.urb_sqlite.proofs.SortOrder.{sort_is}
 use Rattle.urb_sqlite.proofs.SpelledRows.{at_place, went_on, is_read_as, spells_if_read}
 use Rattle.urb_sqlite.proofs.SpelledRows.{read_if_spelled}
@@ -163,7 +163,7 @@ module _ (limit tree : ℕ) where
       (rw last (is_read_as limit place (row_of place r) r low valid (columns_same place r)))
     where
       columns_same : (place : ℕ) (r : Entry)
-          → Rattle.urb_sqlite.specs.Rows.columns_in (row_of place r) ≡ row_of place r
+          → Rattle.urb_sqlite.specs.RecordRows.columns_in (row_of place r) ≡ row_of place r
       columns_same place (Pend name m) = refl
       columns_same place (PendCert name m) = refl
       columns_same place (Cert name) = refl

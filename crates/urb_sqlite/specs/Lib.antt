@@ -1,9 +1,9 @@
-pub mod Journal
-pub mod Rows
-pub mod Reading
+pub mod JournalTables
+pub mod RecordRows
+pub mod RowReadings
 pub mod OpenJournal
-pub mod Stops
-pub mod Shape
-pub mod Nodes
-pub mod Closed
+pub mod ReopenedJournals
+pub mod TableShapes
+pub mod FoundJournals
+pub mod ClosedFiles
 pub mod internal

@@ -5,7 +5,7 @@ use Rattle.sqlite.specs.Held.{Held, held_code}
 use Rattle.std.specs.List.{AllByRecursion}
 use Rattle.sqlite.specs.State.{State, HasCleanDisk, KeepsCommit, CommitsBy, Survives}
 use Rattle.sqlite.specs.Table.{Table}
-use Rattle.urb_stable.specs.Storing.{is_place, is_bad_row}
+use Rattle.urb_stable.specs.StableStorage.{is_place, is_bad_row}
 use Rattle.urb_stable.specs.declared.stable.StoreFault.{StoreFault}
 use Rattle.urb_stable.specs.declared.stable.StoreFault.TheVariants.{BadRow}
 use Rattle.sqlite.specs.Tree.{Trees}
@@ -17,11 +17,11 @@ use Rattle.sqlite.specs.Effect.{Database}
 use Rattle.sqlite_catalog.specs.Listing.{IsSound}
 use Rattle.urb_stable.specs.Entries.{Entry}
 use Rattle.sqlite.specs.Schema.{Schema}
-use Rattle.urb_sqlite.specs.Journal.{create_text, journal_name, second_name, tree_of, HasTable}
-use Rattle.urb_sqlite.specs.Journal.{HasBoth, HasJournal, IsAdoptable, Lacks}
-use Rattle.urb_sqlite.specs.Rows.{StandsFor, IsFirstBadOf}
-use Rattle.urb_sqlite.specs.Reading.{records_of}
-use Rattle.urb_sqlite.specs.Shape.{has_table}
+use Rattle.urb_sqlite.specs.JournalTables.{create_text, journal_name, second_name, tree_of, HasTable}
+use Rattle.urb_sqlite.specs.JournalTables.{HasBoth, HasJournal, IsAdoptable, Lacks}
+use Rattle.urb_sqlite.specs.RecordRows.{StandsFor, IsFirstBadOf}
+use Rattle.urb_sqlite.specs.RowReadings.{records_of}
+use Rattle.urb_sqlite.specs.TableShapes.{has_table}
 
 -- The connection, the next position, whether a store has failed since the last retrieve, and how
 -- often the device has failed.

@@ -1,7 +1,7 @@
-pub mod Journal
-pub mod Rows
-pub mod OpenJournal
+pub mod JournalStatements
+pub mod TreeRows
+pub mod JournalChanges
 pub mod PartOpening
 pub mod Blame
-pub mod Nodes
-pub mod Closed
+pub mod LogLengths
+pub mod StandaloneDatabases

@@ -7,11 +7,11 @@ ghost use Rattle.sqlite.specs.State.{HasCleanDisk, IsUnchanged, Shown, Begins, S
 ghost use Rattle.sqlite.specs.Held.{state};
 ghost use Rattle.urb_names.specs.declared.limits.TheConstants.{MAX_PAYLOAD};
 ghost use Rattle.urb_stable.specs.Entries.{Entry};
-ghost use Rattle.urb_sqlite.specs.Journal.{HasTable};
-ghost use Rattle.urb_sqlite.specs.internal.Journal.{select_of, name_of};
-ghost use Rattle.urb_sqlite.specs.internal.OpenJournal.{RollsBackAtMost};
+ghost use Rattle.urb_sqlite.specs.JournalTables.{HasTable};
+ghost use Rattle.urb_sqlite.specs.internal.JournalStatements.{select_of, name_of};
+ghost use Rattle.urb_sqlite.specs.internal.JournalChanges.{RollsBackAtMost};
 ghost use Rattle.urb_sqlite.specs.internal.PartOpening.{IsRead, ReadsPart};
-ghost use Rattle.urb_sqlite.specs.Reading.{read_from};
+ghost use Rattle.urb_sqlite.specs.RowReadings.{read_from};
 
 use crate::records::{fault_of, limit_of};
 use crate::rows::{ReadFault, record_at};

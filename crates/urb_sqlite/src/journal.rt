@@ -4,10 +4,10 @@ ghost use Rattle.std.specs.Prelude.{◌≡◌, ◌<◌, ◌+◌, None, Some, fal
 ghost use Rattle.std.specs.Prelude.{IsTrue, Ok, Err};
 ghost use Rattle.sqlite.specs.State.{HasCleanDisk};
 ghost use Rattle.sqlite.specs.Held.{state};
-ghost use Rattle.urb_sqlite.specs.Reading.{records_of};
+ghost use Rattle.urb_sqlite.specs.RowReadings.{records_of};
 ghost use Rattle.urb_sqlite.specs.OpenJournal.{OpenJournal, IsHonestJournal, IsTakenOver};
 ghost use Rattle.urb_sqlite.specs.OpenJournal.{IsGivenBack, IsSafeAtRest, LeavesOnly};
-ghost use Rattle.urb_sqlite.specs.internal.OpenJournal.{IsInStep};
+ghost use Rattle.urb_sqlite.specs.internal.JournalChanges.{IsInStep};
 
 use crate::{MessagePool, records};
 use sqlite::{Alter, Connection, FileStore};
@@ -36,7 +36,7 @@ pub struct SqlStable<S: Alter> {
 impl<S: Alter> Model for SqlStable<S> {
     ghost use Rattle.sqlite.specs.Held.{state};
     ghost use Rattle.urb_sqlite.specs.OpenJournal.{OpenJournal, open_code};
-    ghost use Rattle.urb_sqlite.specs.internal.OpenJournal.{IsInStep};
+    ghost use Rattle.urb_sqlite.specs.internal.JournalChanges.{IsInStep};
 
     ghost Value = { OpenJournal S };
 
@@ -146,7 +146,7 @@ impl<S: Alter> Stable for SqlStable<S> {
     ghost use Rattle.std.specs.Prelude.{None};
     ghost use Rattle.sqlite.specs.Held.{state};
     ghost use Rattle.sqlite.specs.State.{HasCleanDisk};
-    ghost use Rattle.urb_sqlite.specs.Reading.{records_of};
+    ghost use Rattle.urb_sqlite.specs.RowReadings.{records_of};
     ghost use Rattle.urb_sqlite.specs.OpenJournal.{IsHonestJournal, IsShutJournal, LeavesOnly};
 
     type Alloc = Global;

@@ -4,7 +4,7 @@ ghost use Rattle.std.specs.Prelude.{◌≡◌, ◌⊎◌, IfOk, IfErr, IsTrue};
 ghost use Rattle.sqlite.specs.Closing.{IsCopied};
 ghost use Rattle.sqlite.specs.Files.{file_state};
 ghost use Rattle.sqlite_wal.specs.Reads.{AreClean};
-ghost use Rattle.urb_sqlite.specs.Closed.{LeavesNoMore};
+ghost use Rattle.urb_sqlite.specs.ClosedFiles.{LeavesNoMore};
 
 use crate::SqlStable;
 use crate::journal_open::fault_of;
@@ -24,7 +24,7 @@ pub struct Copied<D: Disk> {
 impl<D: Disk> Model for Copied<D> {
     ghost use Rattle.sqlite_disk.specs.declared.Files.{Files};
     ghost use Rattle.sqlite_wal.specs.Reads.{AreClean};
-    ghost use Rattle.urb_sqlite.specs.internal.Closed.{StandsAlone};
+    ghost use Rattle.urb_sqlite.specs.internal.StandaloneDatabases.{StandsAlone};
 
     ghost Value = { Files D };
 

@@ -5,11 +5,11 @@ ghost use Rattle.sqlite.specs.State.{HasCleanDisk};
 ghost use Rattle.sqlite.specs.Files.{file_state, image_of, IsNothing};
 ghost use Rattle.sqlite.specs.WalFiles.{image_at};
 ghost use Rattle.sqlite_wal.specs.Reads.{AreClean};
-ghost use Rattle.urb_stable.specs.Storing.{is_place};
+ghost use Rattle.urb_stable.specs.StableStorage.{is_place};
 ghost use Rattle.urb_sqlite.specs.internal.Blame.{blamed};
-ghost use Rattle.urb_sqlite.specs.Reading.{records_of};
+ghost use Rattle.urb_sqlite.specs.RowReadings.{records_of};
 ghost use Rattle.urb_sqlite.specs.OpenJournal.{IsHonestJournal, IsSafeAtRest, IsTakenOver};
-ghost use Rattle.urb_sqlite.specs.Nodes.{IsFoundIf, IsFoundIn};
+ghost use Rattle.urb_sqlite.specs.FoundJournals.{IsFoundIf, IsFoundIn};
 
 use crate::{SqlStable, new_file, records};
 use sqlite::{Connection, Error, File, FileFrom, FileStore, Files, Options, Start, Unknown};

@@ -4,9 +4,9 @@
 ghost use Rattle.std.specs.Prelude.{IfOk};
 ghost use Rattle.sqlite.specs.State.{HasCleanDisk};
 ghost use Rattle.sqlite.specs.Files.{file_state};
-ghost use Rattle.urb_sqlite.specs.Reading.{records_of};
+ghost use Rattle.urb_sqlite.specs.RowReadings.{records_of};
 ghost use Rattle.urb_sqlite.specs.OpenJournal.{IsHonestJournal};
-ghost use Rattle.urb_sqlite.specs.Stops.{IsFoundAfter, IsReopened};
+ghost use Rattle.urb_sqlite.specs.ReopenedJournals.{IsFoundAfter, IsReopened};
 
 use crate::SqlStable;
 use sqlite::{FileStore, Files, Options};

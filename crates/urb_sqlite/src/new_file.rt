@@ -11,8 +11,8 @@ ghost use Rattle.sqlite_wal.specs.Reads.{AreClean, OnlyReads};
 ghost use Rattle.sqlite.specs.Files.{file_state, image_of, HoldsDatabase};
 ghost use Rattle.sqlite.specs.State.{HasCleanDisk};
 ghost use Rattle.sqlite.specs.Steps.{IsFresh};
-ghost use Rattle.urb_stable.specs.Storing.{is_place};
-ghost use Rattle.urb_sqlite.specs.internal.Journal.{no_schema};
+ghost use Rattle.urb_stable.specs.StableStorage.{is_place};
+ghost use Rattle.urb_sqlite.specs.internal.JournalStatements.{no_schema};
 
 use crate::journal_open::fault_of;
 use sqlite::{Connection, FileStore, Files, Options};

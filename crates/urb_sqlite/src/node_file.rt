@@ -7,7 +7,7 @@ ghost use Rattle.std.proofs.Common.{inl};
 ghost use Rattle.sqlite.specs.Files.{image_of};
 ghost use Rattle.sqlite_wal.specs.Files.{image_at};
 ghost use Rattle.sqlite_wal.specs.Recovery.{Image};
-ghost use Rattle.urb_sqlite.specs.Nodes.{held_by};
+ghost use Rattle.urb_sqlite.specs.FoundJournals.{held_by};
 
 use sqlite::{FileFrom, Files, Start};
 use sqlite_disk::{Disk, Tally};

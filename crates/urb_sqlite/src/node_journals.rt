@@ -5,9 +5,9 @@ ghost use Rattle.sqlite_wal.specs.Format.{be32};
 ghost use Rattle.sqlite_wal.specs.PageSize.{size_in_file};
 ghost use Rattle.sqlite_wal.specs.Reads.{AreClean, OnlyReads};
 ghost use Rattle.sqlite_wal.specs.Recovery.{IsIgnored};
-ghost use Rattle.urb_stable.specs.Storing.{is_place};
-ghost use Rattle.urb_sqlite.specs.Nodes.{AreFoundIn, IsFoundIn};
-ghost use Rattle.urb_sqlite.specs.internal.Nodes.{AreLogPages};
+ghost use Rattle.urb_stable.specs.StableStorage.{is_place};
+ghost use Rattle.urb_sqlite.specs.FoundJournals.{AreFoundIn, IsFoundIn};
+ghost use Rattle.urb_sqlite.specs.internal.LogLengths.{AreLogPages};
 
 use crate::journal_close::close_and_remove_log;
 use crate::{NodeDisk, SqlStable};

@@ -6,9 +6,9 @@ ghost use Rattle.sqlite.specs.State.{HasCleanDisk, IsUnchanged, IsRolledBack, Sh
 ghost use Rattle.sqlite.specs.State.{Survives};
 ghost use Rattle.sqlite.specs.Held.{state};
 ghost use Rattle.sqlite.specs.Order.{column};
-ghost use Rattle.urb_sqlite.specs.internal.Journal.{select_of};
-ghost use Rattle.urb_sqlite.specs.Reading as reading;
-ghost use Rattle.urb_sqlite.specs.Reading.{read_from};
+ghost use Rattle.urb_sqlite.specs.internal.JournalStatements.{select_of};
+ghost use Rattle.urb_sqlite.specs.RowReadings as reading;
+ghost use Rattle.urb_sqlite.specs.RowReadings.{read_from};
 ghost use Rattle.urb_names.specs.declared.limits.TheConstants.{MAX_PAYLOAD};
 
 use crate::sql::Part;

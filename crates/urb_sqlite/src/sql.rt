@@ -3,8 +3,8 @@
 ghost use Rattle.std.specs.Prelude.{◌≡◌, []};
 ghost use Rattle.sqlite.specs.State.{HasCleanDisk, Executes, Survives, CommitsBy};
 ghost use Rattle.sqlite.specs.Held.{state};
-ghost use Rattle.urb_sqlite.specs.internal.Journal.{create_of, insert_text, select_of};
-ghost use Rattle.urb_sqlite.specs.Rows.{columns_of, row_of};
+ghost use Rattle.urb_sqlite.specs.internal.JournalStatements.{create_of, insert_text, select_of};
+ghost use Rattle.urb_sqlite.specs.RecordRows.{columns_of, row_of};
 
 use crate::rows::Columns;
 use sqlite::{Alter, Connection, Error, params};

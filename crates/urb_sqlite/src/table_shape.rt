@@ -3,7 +3,7 @@
 
 ghost use Rattle.std.specs.Prelude.{◌≡◌, ◌==◌, length};
 ghost use Rattle.sqlite_schema.specs.Names.{is_key};
-ghost use Rattle.urb_sqlite.specs.Shape as shape;
+ghost use Rattle.urb_sqlite.specs.TableShapes as shape;
 
 use sqlite_schema::code::Terms;
 use sqlite_schema::schema::{Column, Kind, Schema, Table};

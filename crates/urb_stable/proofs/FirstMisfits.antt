@@ -8,7 +8,7 @@ use Rattle.std.proofs.lemmas.List.{drop_all}
 use Rattle.std.specs.Option.{SomeIff, option_or}
 use Rattle.std.specs.Prelude.{filter, find, flat_map, option_map}
 use Rattle.urb_names.specs.Names.{has_name}
-use Rattle.urb_names.specs.Naming.{Content, Label, Limits}
+use Rattle.urb_names.specs.LabelsAndContents.{Content, Label, Limits}
 use Rattle.urb_names.specs.Nodes.{numbers_from}
 use Rattle.urb_names.specs.Pairs.{message_of, own}
 use Rattle.urb_names.specs.declared.refusal.Rule.{Rule}
@@ -17,7 +17,7 @@ use Rattle.urb_stable.specs.internal.EarlierRecords.{client_count, same_client}
 use Rattle.urb_stable.specs.Entries.{Entry, name_of}
 use Rattle.urb_stable.specs.Fitting.{broken, first_of_all, in_range, is_next_own, keeps, keeps_a}
 use Rattle.urb_stable.specs.Fitting.{keeps_b, misfits_behind}
-use Rattle.urb_stable.specs.internal.Fitting.{first_broken}
+use Rattle.urb_stable.specs.internal.BrokenRules.{first_broken}
 use Rattle.urb_stable.specs.Images.{image_of}
 use Rattle.urb_stable.specs.declared.fitting.Misfit.{Misfit}
 use Rattle.urb_stable.specs.Records.{cert, pend}

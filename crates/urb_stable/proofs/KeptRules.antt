@@ -11,7 +11,7 @@ use Rattle.urb_names.proofs.FoundPairs.{message_of-other, none_found, own-other,
 use Rattle.urb_names.proofs.Places.{get_front, get_last, get_none, get_past, get_some}
 use Rattle.urb_names.proofs.SameNames.{majority_grows}
 use Rattle.urb_names.specs.Names.{has_name, name}
-use Rattle.urb_names.specs.Naming.{Content, Label, Limits}
+use Rattle.urb_names.specs.LabelsAndContents.{Content, Label, Limits}
 use Rattle.urb_names.specs.Pairs.{has_pair, message_of, own}
 use Rattle.urb_stable.proofs.JoinedRecords.{cert-append, pend-append}
 use Rattle.urb_stable.specs.Entries.{Entry}

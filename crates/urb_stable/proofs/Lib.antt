@@ -9,16 +9,16 @@
 -- JoinedRecords, KeptRules, OwnRules, RisingRecords, and the file of `delivers`. Then read the
 -- search: FirstMisfits, the file of `count-images`, and the last four of the list below, on the
 -- index. Contents and the file of `whole` are about what one store holds.
-pub mod Kept
+pub mod AppendedElements
 pub mod Contents
 pub mod JoinedRecords
 pub mod KeptRules
-pub mod Logs
+pub mod LogGrowth
 pub mod OwnRules
 pub mod RisingRecords
-pub mod FoundRecords
+pub mod ImageCounts
 pub mod FirstMisfits
-pub mod Indexed
-mod Walks
-mod Told
+pub mod IndexGrowth
+mod RecordWalks
+mod EarlierFacts
 mod ReadImages

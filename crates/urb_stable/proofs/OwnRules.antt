@@ -11,7 +11,7 @@ use Rattle.urb_names.proofs.FoundPairs.{Unique, has_pair-found, has_pair-last, h
 use Rattle.urb_names.proofs.FoundPairs.{has_pair-right, own-other, own-push, some_found}
 use Rattle.urb_names.proofs.SameNames.{any_right, same_message-same, same_name-same}
 use Rattle.urb_names.specs.Names.{has_name, same_message, same_name}
-use Rattle.urb_names.specs.Naming.{Content, Label, Limits}
+use Rattle.urb_names.specs.LabelsAndContents.{Content, Label, Limits}
 use Rattle.urb_names.specs.Nodes.{majority_passes, nodes, numbers_from}
 use Rattle.urb_names.specs.Pairs.{has_pair, message_of, own}
 use Rattle.urb_stable.proofs.JoinedRecords.{cert-append, pend-append}

@@ -3,9 +3,9 @@ use Rattle.std.proofs.Common.{List, Some, [], ap, arith, length, map, slice_get,
 use Rattle.std.proofs.Common.{suc, sym, take, ℕ, ⊎_elim, ◌++◌, ◌+◌, ◌<◌, ◌∙◌, ◌∷◌, ◌≡◌, ◌≤◌}
 use Rattle.std.proofs.Math.Seq.{take-suc}
 use Rattle.std.proofs.lemmas.List.{map-append, take_all}
-use Rattle.urb_stable.proofs.Indexed.{one_longer, read_more}
+use Rattle.urb_stable.proofs.IndexGrowth.{one_longer, read_more}
 use Rattle.urb_stable.specs.Entries.{Entry}
-use Rattle.urb_stable.specs.internal.NodeImages.{AreNumbered, NodeImage}
+use Rattle.urb_stable.specs.internal.NumberedImages.{AreNumbered, NodeImage}
 
 -- the first n images are read
 pub record AreRead {X : Type 0} (items : X → List Entry) (images : List X) (n : ℕ)

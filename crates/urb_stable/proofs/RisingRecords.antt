@@ -10,9 +10,9 @@ use Rattle.urb_names.proofs.OrderedPairs.{own-inserted_other, rises-inserted, ri
 use Rattle.urb_names.proofs.OrderedPairs.{rising-rises}
 use Rattle.urb_names.proofs.RisingPairs.{rising-push}
 use Rattle.urb_names.proofs.SameNames.{same_name-true}
-use Rattle.urb_names.specs.Cyclic.{are_rising, inserted, rising}
+use Rattle.urb_names.specs.CyclicOrder.{are_rising, inserted, rising}
 use Rattle.urb_names.specs.Names.{name_lt, same_message, same_name}
-use Rattle.urb_names.specs.Naming.{Content, Label, Limits}
+use Rattle.urb_names.specs.LabelsAndContents.{Content, Label, Limits}
 use Rattle.urb_names.specs.Pairs.{has_pair, message_of, own}
 use Rattle.urb_stable.proofs.KeptRules.{PairRules, pairs-all}
 use Rattle.urb_stable.proofs.OwnRules.{own-kept}

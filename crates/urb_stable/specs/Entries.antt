@@ -1,5 +1,5 @@
 -- A record, as contracts see it.
-use Rattle.urb_names.specs.Naming.{Label, Content, IsLabel, IsContent}
+use Rattle.urb_names.specs.LabelsAndContents.{Label, Content, IsLabel, IsContent}
 use Rattle.urb_stable.specs.declared.record.Record.{Record}
 use Rattle.urb_stable.specs.declared.record.Record.TheVariants.{Pend, PendCert, Cert}
 

@@ -3,7 +3,7 @@ use Rattle.std.specs.Prelude.{Bool, List, None, Option, Some, [], false, filter,
 use Rattle.std.specs.Prelude.{if◌then◌else◌, is_none, is_some, length, map, nat_lt, not, suc, true}
 use Rattle.std.specs.Prelude.{ℕ, ◌&&◌, ◌++◌, ◌==◌, ◌∷◌, ◌≡◌}
 use Rattle.urb_names.specs.Names.{has_name}
-use Rattle.urb_names.specs.Naming.{Content, Label, Limits}
+use Rattle.urb_names.specs.LabelsAndContents.{Content, Label, Limits}
 use Rattle.urb_names.specs.Nodes.{majority_passes, nodes}
 use Rattle.urb_names.specs.Pairs.{has_pair, message_of, next_number, own}
 use Rattle.urb_names.specs.declared.refusal.Rule.{Rule}

@@ -1,6 +1,6 @@
 -- What a list of records says: its pending pairs and its certificates.
 use Rattle.std.specs.Prelude.{List, [], ◌∷◌}
-use Rattle.urb_names.specs.Naming.{Label, Content}
+use Rattle.urb_names.specs.LabelsAndContents.{Label, Content}
 use Rattle.urb_stable.specs.Entries.{Entry}
 use Rattle.urb_stable.specs.declared.record.Record.TheVariants.{Pend, PendCert, Cert}
 

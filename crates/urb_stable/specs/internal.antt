@@ -1,6 +1,6 @@
-pub mod Memory
-pub mod IsMemory
-pub mod Fitting
+pub mod MemoryCalls
+pub mod MemoryInvariant
+pub mod BrokenRules
 pub mod Indexes
 pub mod EarlierRecords
-pub mod NodeImages
+pub mod NumberedImages

@@ -15,7 +15,7 @@ pub struct Doubt {
 }
 
 impl Model for Doubt {
-    ghost use Rattle.urb_stable.specs.Doubted.{Doubted};
+    ghost use Rattle.urb_stable.specs.Doubts.{Doubted};
 
     ghost Value = { Doubted };
 

@@ -1,7 +1,7 @@
 //! Drafts: records that a node wants stored.
 ghost use Rattle.std.specs.Prelude.{◌≡◌, ◌<◌, MatchResult};
-ghost use Rattle.urb_stable.specs.Answering.{answer_of};
-ghost use Rattle.urb_stable.specs.Keeping.{Keeps};
+ghost use Rattle.urb_stable.specs.StoreAnswers.{answer_of};
+ghost use Rattle.urb_stable.specs.KeptDrafts.{Keeps};
 
 use crate::{Doubt, Receipt, Record, Stable, StoreFault};
 use std::alloc::{Allocator, Global};
@@ -20,7 +20,7 @@ pub struct Draft<A: Allocator = Global> {
 
 impl<A: Allocator> Model for Draft<A> {
     ghost use Rattle.std.specs.Prelude.{◌<◌};
-    ghost use Rattle.urb_stable.specs.Placed.{Placed};
+    ghost use Rattle.urb_stable.specs.PlacedRecords.{Placed};
 
     ghost Value = { Placed };
 

@@ -5,7 +5,7 @@
 ghost use Rattle.std.specs.Prelude.{◌≡◌, ◌≤◌, ◌<◌, ◌+◌, ◌^◌, ◌∷◌, ◌++◌, [], length, take, IfOk, OnOk};
 ghost use Rattle.std.specs.Prelude.{List, ℕ};
 ghost use Rattle.std.specs.BTreeMap.{get};
-ghost use Rattle.urb_names.specs.Naming.{Content};
+ghost use Rattle.urb_names.specs.LabelsAndContents.{Content};
 ghost use Rattle.urb_names.specs.Pairs.{own};
 ghost use Rattle.urb_stable.specs.internal.EarlierRecords.{AreBefore, HasTold, IsBefore, IsCount};
 ghost use Rattle.urb_stable.specs.internal.EarlierRecords.{IsSetOf, by_client, number_found};

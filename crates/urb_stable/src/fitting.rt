@@ -2,7 +2,7 @@
 
 ghost use Rattle.std.specs.Prelude.{◌≡◌, ◌+◌, ◌<◌, ◌≤◌, [], ◌∷◌, ◌++◌, length, map, is_some};
 ghost use Rattle.std.specs.Prelude.{count_by, option_map, slice_get, take, IfOk, List, OnOk, Some};
-ghost use Rattle.urb_names.specs.Naming.{Content};
+ghost use Rattle.urb_names.specs.LabelsAndContents.{Content};
 ghost use Rattle.urb_names.specs.Nodes.{nodes};
 ghost use Rattle.urb_names.specs.Pairs.{has_pair, message_of};
 ghost use Rattle.urb_stable.specs.internal.EarlierRecords.{client_count};
@@ -10,7 +10,7 @@ ghost use Rattle.urb_stable.specs.Entries.{name_of};
 ghost use Rattle.urb_stable.specs.Fitting.{first_misfit, first_of_all, held_by_majority, in_range};
 ghost use Rattle.urb_stable.specs.Fitting.{is_next_own, keeps_a, keeps_b, keeps_c, keeps_d};
 ghost use Rattle.urb_stable.specs.Fitting.{misfits_behind};
-ghost use Rattle.urb_stable.specs.internal.Fitting.{first_broken};
+ghost use Rattle.urb_stable.specs.internal.BrokenRules.{first_broken};
 ghost use Rattle.urb_stable.specs.Images.{image_of};
 ghost use Rattle.urb_stable.specs.Records.{pend};
 
@@ -41,7 +41,7 @@ pub struct Images<'r, A: Allocator> {
 impl<'r, A: Allocator> Model for Images<'r, A> {
     ghost use Rattle.std.specs.Prelude.{List, map};
     ghost use Rattle.urb_stable.specs.Entries.{Entry};
-    ghost use Rattle.urb_stable.specs.internal.NodeImages.{AreNumbered};
+    ghost use Rattle.urb_stable.specs.internal.NumberedImages.{AreNumbered};
 
     ghost Value = { List (List Entry) };
 

@@ -24,7 +24,7 @@ pub(crate) struct Image<'r, A: Allocator> {
 impl<'r, A: Allocator> Model for Image<'r, A> {
     ghost use Rattle.std.specs.Prelude.{length};
     ghost use Rattle.urb_stable.specs.internal.EarlierRecords.{AreBefore};
-    ghost use Rattle.urb_stable.specs.internal.NodeImages.{NodeImage};
+    ghost use Rattle.urb_stable.specs.internal.NumberedImages.{NodeImage};
 
     ghost Value = { NodeImage };
 

@@ -1,12 +1,12 @@
 //! A store in memory.
 ghost use Rattle.std.specs.Prelude.{◌≡◌, ◌+◌, List, [], ◌∷◌, ◌++◌, false, length, IsTrue, OnOk};
 ghost use Rattle.std.specs.Prelude.{OnErr, IfOk, IfErr};
-ghost use Rattle.urb_stable.specs.Memory.{empty_memory, armed_with, Retrieves, Stores};
-ghost use Rattle.urb_stable.specs.internal.Memory.{StoresInMemory, retrieved};
+ghost use Rattle.urb_stable.specs.MemoryStores.{empty_memory, armed_with, Retrieves, Stores};
+ghost use Rattle.urb_stable.specs.internal.MemoryCalls.{StoresInMemory, retrieved};
 ghost use Rattle.urb_stable.specs.Entries.{Entry};
-ghost use Rattle.urb_stable.specs.Storing.{IsContents, IsContentsOr, is_out_of_place, is_place};
-ghost use Rattle.urb_stable.specs.Storing.{is_bad_row, IsPlaced, IsAppended, LeavesDoubt};
-ghost use Rattle.urb_stable.specs.Storing.{CountsFailures, list_in, IsRetrieved, SettlesDoubt};
+ghost use Rattle.urb_stable.specs.StableStorage.{IsContents, IsContentsOr, is_out_of_place, is_place};
+ghost use Rattle.urb_stable.specs.StableStorage.{is_bad_row, IsPlaced, IsAppended, LeavesDoubt};
+ghost use Rattle.urb_stable.specs.StableStorage.{CountsFailures, list_in, IsRetrieved, SettlesDoubt};
 
 use crate::{Record, Stable, StoreFault};
 use std::alloc::{Allocator, Global};
@@ -40,8 +40,8 @@ pub struct MemStable<A: Allocator = Global> {
 
 impl<A: Allocator> Model for MemStable<A> {
     ghost use Rattle.std.specs.Prelude.{take, slice_get};
-    ghost use Rattle.urb_stable.specs.Memory.{Memory};
-    ghost use Rattle.urb_stable.specs.internal.IsMemory.{IsMemory};
+    ghost use Rattle.urb_stable.specs.MemoryStores.{Memory};
+    ghost use Rattle.urb_stable.specs.internal.MemoryInvariant.{IsMemory};
 
     ghost Value = { Memory };
 

@@ -16,7 +16,7 @@ pub struct Receipt<A: Allocator = Global> {
 }
 
 impl<A: Allocator> Model for Receipt<A> {
-    ghost use Rattle.urb_stable.specs.Placed.{Placed};
+    ghost use Rattle.urb_stable.specs.PlacedRecords.{Placed};
 
     ghost Value = { Placed };
 

@@ -2,10 +2,10 @@
 ghost use Rattle.std.specs.Prelude.{◌≡◌, ◌+◌, List, ℕ, Bool, Option, Result, length, IsTrue};
 ghost use Rattle.urb_stable.specs.Entries.{Entry};
 ghost use Rattle.urb_stable.specs.declared.stable.StoreFault.{StoreFault as Fault};
-ghost use Rattle.urb_stable.specs.Storing.{refusal_of, is_out_of_place, IsContents, IsContentsOr};
-ghost use Rattle.urb_stable.specs.Storing.{IsPlaced, IsAppended, LeavesDoubt, CountsFailures};
-ghost use Rattle.urb_stable.specs.Storing.{KeepsTrust, list_in, IsRetrieved, SettlesDoubt};
-ghost use Rattle.urb_stable.specs.Storing.{IsAllowedFault, StaysShut, LeavesNoMore};
+ghost use Rattle.urb_stable.specs.StableStorage.{refusal_of, is_out_of_place, IsContents, IsContentsOr};
+ghost use Rattle.urb_stable.specs.StableStorage.{IsPlaced, IsAppended, LeavesDoubt, CountsFailures};
+ghost use Rattle.urb_stable.specs.StableStorage.{KeepsTrust, list_in, IsRetrieved, SettlesDoubt};
+ghost use Rattle.urb_stable.specs.StableStorage.{IsAllowedFault, StaysShut, LeavesNoMore};
 
 use crate::Record;
 use std::alloc::{AllocError, AllocFailed, Allocator};

@@ -7,10 +7,10 @@
 -- `urb_pending`. Read the files in the order of the list below. The first two are about packets and
 -- due names. The next three are about the names that a tick visits, and the last two about a whole
 -- tick.
-pub mod Sent
-pub mod Unheard
-pub mod Behind
-pub mod Settle
-pub mod Between
-pub mod Round
-pub mod Alone
+pub mod SentPackets
+pub mod DueNames
+pub mod PairsAfterCursor
+pub mod SettledCounts
+pub mod PairRanges
+pub mod TickProgress
+pub mod LoneNodes

@@ -1,3 +1,3 @@
-pub mod Resending
-pub mod Fields
+pub mod Resends
+pub mod ResendFields
 pub mod internal

@@ -1,2 +1,2 @@
-pub mod Settled
-pub mod Walking
+pub mod SettledInvariant
+pub mod TickWalks

@@ -1,8 +1,8 @@
 //! Which names are due: a name is due if some other node's certificate of it has not been heard.
 
 ghost use Rattle.std.specs.Prelude.{◌≡◌, ◌==◌, ◌&&◌, ℕ, ◌<◌, ◌≤◌, false, not};
-ghost use Rattle.urb_names.specs.Acknowledged.{acked};
-ghost use Rattle.urb_names.specs.Carried.{is_due};
+ghost use Rattle.urb_names.specs.Acknowledgements.{acked};
+ghost use Rattle.urb_names.specs.CarriedPackets.{is_due};
 ghost use Rattle.urb_names.specs.Names.{name};
 
 use std::alloc::Allocator;

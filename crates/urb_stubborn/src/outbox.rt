@@ -2,8 +2,8 @@
 
 ghost use Rattle.std.specs.Prelude.{◌≡◌, ◌≤◌, ◌∷◌, ◌++◌, false, filter, not, [], length, slice_get};
 ghost use Rattle.std.specs.Prelude.{option_map, vec_len, IfOk, OnOk};
-ghost use Rattle.urb_names.specs.Acknowledged.{acked};
-ghost use Rattle.urb_names.specs.Carried.{is_heard_of, others, packets_to, to_others};
+ghost use Rattle.urb_names.specs.Acknowledgements.{acked};
+ghost use Rattle.urb_names.specs.CarriedPackets.{is_heard_of, others, packets_to, to_others};
 
 use crate::due::is_unheard;
 use std::alloc::{Allocator, Global};
@@ -36,8 +36,8 @@ pub struct Outbox<A: Allocator = Global> {
 
 impl<A: Allocator> Model for Outbox<A> {
     ghost use Rattle.std.specs.Prelude.{◌≤◌, List, vec_len};
-    ghost use Rattle.urb_names.specs.Acknowledged.{acked};
-    ghost use Rattle.urb_names.specs.Carried.{Carried};
+    ghost use Rattle.urb_names.specs.Acknowledgements.{acked};
+    ghost use Rattle.urb_names.specs.CarriedPackets.{Carried};
     ghost use Rattle.urb_stubborn.specs.declared.outbox.TheConstants.{OUTBOX_MAX};
 
     ghost Value = { List Carried };

@@ -3,13 +3,13 @@
 ghost use Rattle.std.specs.Prelude.{◌≡◌, ◌≤◌, true, [], None, IfNone, IfOk, IfSome, OnOk, OnErr};
 ghost use Rattle.std.specs.Prelude.{take};
 ghost use Rattle.urb_certified.specs.Certificates.{with_name};
-ghost use Rattle.urb_names.specs.Acknowledged.{acked};
+ghost use Rattle.urb_names.specs.Acknowledgements.{acked};
 ghost use Rattle.urb_names.specs.Names.{has_name};
-ghost use Rattle.urb_names.specs.Carried.{is_due};
+ghost use Rattle.urb_names.specs.CarriedPackets.{is_due};
 ghost use Rattle.urb_pending.specs.PendingSet.{first_name};
-ghost use Rattle.urb_stubborn.specs.Resending.{hearing, tick_packets, ticked};
-ghost use Rattle.urb_stubborn.specs.internal.Walking.{IsPassed, IsTick, IsWalked, behind, between};
-ghost use Rattle.urb_stubborn.specs.internal.Walking.{due_pairs, is_within};
+ghost use Rattle.urb_stubborn.specs.Resends.{hearing, tick_packets, ticked};
+ghost use Rattle.urb_stubborn.specs.internal.TickWalks.{IsPassed, IsTick, IsWalked, behind, between};
+ghost use Rattle.urb_stubborn.specs.internal.TickWalks.{due_pairs, is_within};
 
 use crate::Outbox;
 use crate::due::{is_due, settle_from};
@@ -49,12 +49,12 @@ pub struct Resend<A: Allocator = Global> {
 }
 
 impl<A: Allocator> Model for Resend<A> {
-    ghost use Rattle.urb_stubborn.specs.Resending.{Resending};
+    ghost use Rattle.urb_stubborn.specs.Resends.{Resending};
 
     ghost Value = { Resending };
 
-    ghost use Rattle.urb_stubborn.specs.Fields.{view_of};
-    ghost use Rattle.urb_stubborn.specs.internal.Settled.{IsKept};
+    ghost use Rattle.urb_stubborn.specs.ResendFields.{view_of};
+    ghost use Rattle.urb_stubborn.specs.internal.SettledInvariant.{IsKept};
 
     ghost view = { view_of };
 

@@ -3,12 +3,12 @@ use Rattle.std.proofs.Common.{◌≡◌, ℕ, ◌<◌, Bool, true, false, ◌&&�
 use Rattle.std.proofs.Common.{◌⊎◌, ⊎_elim, arith, eq-eqb, ltb-true, lt-ltb, nat_lt}
 use Rattle.std.proofs.lemmas.Bool.{and_from, and_parts, cases_Bool, cases_order, false≢true}
 use Rattle.std.proofs.lemmas.Bool.{or_left, or_right, or_cases}
-use Rattle.urb_names.specs.Naming.{Label}
+use Rattle.urb_names.specs.LabelsAndContents.{Label}
 use Rattle.urb_names.specs.Names.{name_lt, same_name}
 use Rattle.urb_names.proofs.SameNames.{same_name-same, same_name-true}
 use Rattle.urb_names.proofs.RisingPairs.{name_lt-trans, name_lt-one_way}
-use Rattle.urb_names.proofs.Ordered.{IsStrictOrder}
-use Rattle.urb_names.specs.Acknowledged.{ack_lt}
+use Rattle.urb_names.proofs.ElementPlaces.{IsStrictOrder}
+use Rattle.urb_names.specs.Acknowledgements.{ack_lt}
 
 -- whether two acknowledgements are the same
 abbrev pub same_ack : Label × ℕ → Label × ℕ → Bool

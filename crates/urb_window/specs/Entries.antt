@@ -1,7 +1,7 @@
 -- Entries, each a name with its value, in order of name.
 use Rattle.std.specs.Prelude.{ℕ, Bool, ◌&&◌, ◌==◌, nat_le, nat_lt, if◌then◌else◌, List, [], ◌∷◌}
 use Rattle.std.specs.Prelude.{length, map, filter, count_by, Option, Some, None}
-use Rattle.urb_names.specs.Naming.{Label}
+use Rattle.urb_names.specs.LabelsAndContents.{Label}
 use Rattle.urb_names.specs.Names.{name_lt, same_name}
 use Rattle.urb_names.specs.Release.{beginning}
 

@@ -1,8 +1,8 @@
 pub mod Entries
 pub mod WindowSet
 pub mod Row
-pub mod Rows
-pub mod Fields
-pub mod Masks
+pub mod RowEntries
+pub mod WindowFields
+pub mod NodeMasks
 pub mod Marks
 pub mod internal

@@ -1,11 +1,11 @@
 -- Marks as contracts see them: which nodes are marked for which names.
 use Rattle.std.specs.Prelude.{ℕ, IsTrue, if◌then◌else◌, List, Option, None}
-use Rattle.urb_names.specs.Acknowledged.{ack_lt}
-use Rattle.urb_names.specs.Naming.{Label}
+use Rattle.urb_names.specs.Acknowledgements.{ack_lt}
+use Rattle.urb_names.specs.LabelsAndContents.{Label}
 use Rattle.urb_names.specs.Names.{has_name, name_lt}
-use Rattle.urb_names.specs.Ordered.{is_rising, placed}
+use Rattle.urb_names.specs.RisingLists.{is_rising, placed}
 use Rattle.urb_window.specs.Entries.{names_of}
-use Rattle.urb_window.specs.Masks.{marks_in}
+use Rattle.urb_window.specs.NodeMasks.{marks_in}
 use Rattle.urb_window.specs.WindowSet.{WindowSet}
 use Rattle.urb_window.specs.declared.marks.Marks.TheInside.{Inside}
 

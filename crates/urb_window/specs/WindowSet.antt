@@ -1,9 +1,9 @@
 -- Windows, as contracts see them.
 use Rattle.std.specs.Prelude.{◌≡◌, true, IsTrue, List, Option, None, refl}
 use Rattle.std.specs.Coded.{Coded, code_by, coded×, coded_ℕ, coded_list, coded_option}
-use Rattle.urb_names.specs.Naming.{Label, IsLabel}
+use Rattle.urb_names.specs.LabelsAndContents.{Label, IsLabel}
 use Rattle.urb_names.specs.Names.{has_name}
-use Rattle.urb_names.specs.Ordered.{is_rising, placed}
+use Rattle.urb_names.specs.RisingLists.{is_rising, placed}
 use Rattle.urb_window.specs.Entries.{entry_lt, names_of}
 
 -- the entries in order of name, and the name for which space is reserved

@@ -1,5 +1,5 @@
-pub mod Row
-pub mod Rows
-pub mod Room
-pub mod Kept
-pub mod Masks
+pub mod RowOperations
+pub mod SenderRows
+pub mod RowInvariant
+pub mod WindowInvariant
+pub mod EntryMasks

@@ -3,13 +3,13 @@
 ghost use Rattle.std.specs.Prelude.{◌≡◌, ◌<◌, ◌≤◌, false, [], None, Some, IsOk, OnOk, OnErr};
 ghost use Rattle.std.specs.Prelude.{count_by, is_some, option_map, slice_get};
 ghost use Rattle.urb_names.specs.declared.limits.TheConstants.{MAX_NODES};
-ghost use Rattle.urb_names.specs.Acknowledged.{acked};
+ghost use Rattle.urb_names.specs.Acknowledgements.{acked};
 ghost use Rattle.urb_names.specs.Names.{has_name};
 ghost use Rattle.urb_names.specs.Nodes.{nodes};
 ghost use Rattle.urb_window.specs.Entries.{names_of, value_of};
 ghost use Rattle.urb_window.specs.Marks.{IsMarkSet, marks_of, with_mark, with_room};
-ghost use Rattle.urb_window.specs.Masks.{marks_in};
-ghost use Rattle.urb_window.specs.internal.Masks.{mask_of};
+ghost use Rattle.urb_window.specs.NodeMasks.{marks_in};
+ghost use Rattle.urb_window.specs.internal.EntryMasks.{mask_of};
 
 use crate::Windows;
 use crate::mask::{bits_up_to, has_bit, with_bit};

@@ -2,7 +2,7 @@
 
 ghost use Rattle.std.specs.Prelude.{◌≡◌, ◌<◌, ◌≤◌, ◌+◌, ◌-◌, ◌^◌, false, count_by};
 ghost use Rattle.urb_names.specs.Nodes.{nodes};
-ghost use Rattle.urb_window.specs.Masks.{has_bit};
+ghost use Rattle.urb_window.specs.NodeMasks.{has_bit};
 
 use urb_names::MAX_NODES;
 

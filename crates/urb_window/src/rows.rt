@@ -4,9 +4,9 @@ ghost use Rattle.std.specs.Prelude.{◌≡◌, ◌+◌, ◌-◌, ◌≤◌, ◌<
 ghost use Rattle.std.specs.Prelude.{length, find, option_map, slice_get, drop};
 ghost use Rattle.std.specs.List.{AllByRecursion};
 ghost use Rattle.urb_names.specs.Names.{name_lt};
-ghost use Rattle.urb_window.specs.internal.Row.{IsRow};
-ghost use Rattle.urb_window.specs.Rows.{entries_from};
-ghost use Rattle.urb_window.specs.internal.Rows.{no_row, row_at};
+ghost use Rattle.urb_window.specs.internal.RowOperations.{IsRow};
+ghost use Rattle.urb_window.specs.RowEntries.{entries_from};
+ghost use Rattle.urb_window.specs.internal.SenderRows.{no_row, row_at};
 
 use crate::window::Window;
 use std::alloc::Allocator;

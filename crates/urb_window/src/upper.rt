@@ -3,7 +3,7 @@
 ghost use Rattle.std.specs.Prelude.{◌≡◌, ◌<◌, ◌≤◌, ◌+◌, ◌∷◌, IfSome, IfNone, length, nat_lt, false};
 ghost use Rattle.std.specs.VecDeque.{deque_len, deque_capacity};
 ghost use Rattle.std.specs.List.{prefix_len};
-ghost use Rattle.urb_window.specs.internal.Row.{AreOver, holds_at};
+ghost use Rattle.urb_window.specs.internal.RowOperations.{AreOver, holds_at};
 
 use std::alloc::{AllocFailed, Allocator};
 use std::collections::VecDeque;

@@ -5,10 +5,10 @@ ghost use Rattle.std.specs.Prelude.{OnOk, OnErr, length, find, option_map, slice
 ghost use Rattle.std.specs.Prelude.{vec_len, vec_capacity};
 ghost use Rattle.std.specs.Bool.{Decides};
 ghost use Rattle.std.specs.VecDeque.{deque_len, deque_capacity};
-ghost use Rattle.urb_names.specs.Ordered.{placed};
+ghost use Rattle.urb_names.specs.RisingLists.{placed};
 ghost use Rattle.urb_window.specs.Row.{counted_from, pairs_of};
-ghost use Rattle.urb_window.specs.internal.Row.{AreOver, IsInserted, IsReplaced, IsRow, number_lt};
-ghost use Rattle.urb_window.specs.internal.Row.{numbered};
+ghost use Rattle.urb_window.specs.internal.RowOperations.{AreOver, IsInserted, IsReplaced, IsRow, number_lt};
+ghost use Rattle.urb_window.specs.internal.RowOperations.{numbered};
 
 use crate::upper::{is_at, place_of, take_first};
 use std::alloc::{Allocator, Global};
@@ -28,13 +28,13 @@ pub(crate) struct Window<T, A: Allocator = Global> {
 
 impl<T, A: Allocator> Model for Window<T, A> {
     ghost use Rattle.urb_window.specs.Row.{Row};
-    ghost use Rattle.urb_window.specs.internal.Row.{row_code};
+    ghost use Rattle.urb_window.specs.internal.RowOperations.{row_code};
 
     ghost Value = { Row T };
 
     ghost coded = { row_code T.code };
 
-    ghost use Rattle.urb_window.specs.internal.Room.{row_of, IsRoomy};
+    ghost use Rattle.urb_window.specs.internal.RowInvariant.{row_of, IsRoomy};
 
     ghost view = { row_of };
 

@@ -28,8 +28,8 @@ impl<T, A: Allocator> Model for Windows<T, A> {
 
     ghost coded = { set_code T.code };
 
-    ghost use Rattle.urb_window.specs.Fields.{view_of};
-    ghost use Rattle.urb_window.specs.internal.Kept.{IsKept};
+    ghost use Rattle.urb_window.specs.WindowFields.{view_of};
+    ghost use Rattle.urb_window.specs.internal.WindowInvariant.{IsKept};
 
     ghost view = { view_of };
 

@@ -1,11 +1,11 @@
 -- The jobs of a feed.
 use Rattle.std.proofs.Common.{Bool, List, None, Option, Some, [], arith, false, if◌then◌else◌}
 use Rattle.std.proofs.Common.{length, refl, subst, true, ℕ, ◌<◌, ◌≡◌, ◌∷◌}
-use Rattle.urb_feed.specs.Feeding.{FeedView, IsPortion, whole_feed}
-use Rattle.urb_group.specs.Shown.{GroupView, IsSound, Shows}
+use Rattle.urb_feed.specs.Feeds.{FeedView, IsPortion, whole_feed}
+use Rattle.urb_group.specs.GroupViews.{GroupView, IsSound, Shows}
 use Rattle.urb_group.specs.World.{World}
-use Rattle.urb_names.specs.Carried.{Carried}
-use Rattle.urb_names.specs.Packets.{spelling}
+use Rattle.urb_names.specs.CarriedPackets.{Carried}
+use Rattle.urb_names.specs.PacketGrammar.{spelling}
 use Rattle.urb_worker.specs.Changes.{change_of}
 use Rattle.urb_show.specs.Houses.{HouseView}
 use Rattle.urb_worker.specs.NodeFeeds.{BeginsFeed}

@@ -3,14 +3,14 @@ use Rattle.std.proofs.Common.{Err, List, None, Ok, Option, Result, Some, Vec, ap
 use Rattle.std.proofs.Common.{refl, subst, sym, true, ℕ, ◌++◌, ◌-◌, ◌==◌, ◌∙◌, ◌∷◌, [], ◌≡◌, ◌≢◌}
 use Rattle.std.proofs.lemmas.Bool.{ne_eqb}
 use Rattle.std.specs.declared.alloc.Global.{Global}
-use Rattle.urb_group.proofs.shown.ShownWorldsAgree.{sound-kept}
+use Rattle.urb_group.proofs.shown.AgreeingWorlds.{sound-kept}
 use Rattle.urb_group.proofs.steps.DraftsInSteps.{event_node}
 use Rattle.urb_group.proofs.stops.StockedSteps.{leaves-stay}
 use Rattle.urb_group.proofs.stops.StoppedWorlds.{survives}
-use Rattle.urb_group.specs.Calls.{ComesUp, Commits, GoesDown, Takes}
-use Rattle.urb_group.specs.Shown.{GroupView, IsSound, Shows, view_of}
+use Rattle.urb_group.specs.GroupCalls.{ComesUp, Commits, GoesDown, Takes}
+use Rattle.urb_group.specs.GroupViews.{GroupView, IsSound, Shows, view_of}
 use Rattle.urb_group.specs.Step.{Arrive, Commit, Crash, Event, Fail, Restart, Submit, Tick}
-use Rattle.urb_group.specs.Stopping.{GoesOnIn, MayLeave}
+use Rattle.urb_group.specs.ProcessStops.{GoesOnIn, MayLeave}
 use Rattle.urb_group.specs.World.{World}
 use Rattle.urb_group.specs.declared.reply.Reply.{Reply}
 use Rattle.urb_group.specs.declared.reply.Reply.TheVariants as reply
@@ -18,20 +18,20 @@ use Rattle.urb_group.specs.declared.state.State.{State}
 use Rattle.urb_group.specs.declared.state.State.TheVariants as state
 use Rattle.urb_group.specs.declared.taken.Taken.{Taken}
 use Rattle.urb_group.specs.declared.taken.Taken.TheVariants as taken
-use Rattle.urb_names.specs.Naming.{Limits}
-use Rattle.urb_names.specs.Packets.{packet_of}
+use Rattle.urb_names.specs.LabelsAndContents.{Limits}
+use Rattle.urb_names.specs.PacketGrammar.{packet_of}
 use Rattle.urb_names.specs.declared.refusal.Refusal.{Refusal}
 use Rattle.urb_names.specs.declared.refusal.Refusal.TheVariants as refusal
 use Rattle.urb_node.specs.Replies.{Done}
-use Rattle.urb_node.specs.Shown.{ShowsNode}
+use Rattle.urb_node.specs.NodeViews.{ShowsNode}
 use Rattle.urb_show.specs.Houses.{HouseView}
 use Rattle.urb_show.specs.declared.status.Status.{Status}
-use Rattle.urb_stable.specs.Answering.{answer_of}
-use Rattle.urb_stable.specs.Doubted.{Doubted}
+use Rattle.urb_stable.specs.StoreAnswers.{answer_of}
+use Rattle.urb_stable.specs.Doubts.{Doubted}
 use Rattle.urb_stable.specs.Entries.{Entry}
-use Rattle.urb_stable.specs.Keeping.{Keeps}
-use Rattle.urb_stable.specs.Placed.{Placed}
-use Rattle.urb_stable.specs.Storing.{refusal_of}
+use Rattle.urb_stable.specs.KeptDrafts.{Keeps}
+use Rattle.urb_stable.specs.PlacedRecords.{Placed}
+use Rattle.urb_stable.specs.StableStorage.{refusal_of}
 use Rattle.urb_stable.specs.declared.stable.Stable.{Ghosts}
 use Rattle.urb_stable.specs.declared.stable.StoreFault.{StoreFault}
 use Rattle.urb_worker.proofs.StoreKeeping.{settled_group}

@@ -1,7 +1,7 @@
 -- What a datagram says of certificates.
 use Rattle.std.proofs.Common.{Err, List, Ok, Result, false, subst, refl, ℕ, ◌≡◌}
-use Rattle.urb_names.specs.Carried.{Carried}
-use Rattle.urb_names.specs.Packets.{packet_of}
+use Rattle.urb_names.specs.CarriedPackets.{Carried}
+use Rattle.urb_names.specs.PacketGrammar.{packet_of}
 use Rattle.urb_names.specs.declared.refusal.PacketFault.{PacketFault}
 use Rattle.urb_node.specs.Steps.{says_heard}
 use Rattle.urb_worker.specs.internal.Pulses.{says_so, tells_heard}

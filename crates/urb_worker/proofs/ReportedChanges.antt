@@ -3,8 +3,8 @@ use Rattle.std.proofs.Common.{Bool, Err, List, None, Ok, Option, Result, Some, V
 use Rattle.std.proofs.Common.{false, if◌then◌else◌, refl, subst, sym, true, ℕ, ◌-◌, ◌==◌, ◌∙◌, ◌≡◌}
 use Rattle.std.proofs.Common.{◌≢◌, ◌≤◌}
 use Rattle.std.specs.declared.alloc.Global.{Global}
-use Rattle.urb_group.specs.Calls.{ComesUp, GoesDown, Takes}
-use Rattle.urb_group.specs.Shown.{GroupView}
+use Rattle.urb_group.specs.GroupCalls.{ComesUp, GoesDown, Takes}
+use Rattle.urb_group.specs.GroupViews.{GroupView}
 use Rattle.urb_group.specs.Step.{Arrive, Event, Fail, Restart, Submit}
 use Rattle.urb_group.specs.declared.reply.Reply.{Reply}
 use Rattle.urb_group.specs.declared.reply.Reply.TheVariants as reply
@@ -12,15 +12,15 @@ use Rattle.urb_group.specs.declared.state.State.{State}
 use Rattle.urb_group.specs.declared.state.State.TheVariants as state
 use Rattle.urb_group.specs.declared.taken.Taken.{Taken}
 use Rattle.urb_group.specs.declared.taken.Taken.TheVariants as taken
-use Rattle.urb_names.specs.Packets.{packet_of}
+use Rattle.urb_names.specs.PacketGrammar.{packet_of}
 use Rattle.urb_names.specs.declared.refusal.Refusal.{Refusal}
 use Rattle.urb_names.specs.declared.refusal.Refusal.TheVariants as refusal
 use Rattle.urb_show.specs.Houses.{HouseView}
 use Rattle.urb_show.specs.declared.status.Status.{Status}
-use Rattle.urb_stable.specs.Doubted.{Doubted}
+use Rattle.urb_stable.specs.Doubts.{Doubted}
 use Rattle.urb_stable.specs.Entries.{Entry}
-use Rattle.urb_stable.specs.Placed.{Placed}
-use Rattle.urb_stable.specs.Storing.{refusal_of}
+use Rattle.urb_stable.specs.PlacedRecords.{Placed}
+use Rattle.urb_stable.specs.StableStorage.{refusal_of}
 use Rattle.urb_stable.specs.declared.stable.Stable.{Ghosts}
 use Rattle.urb_stable.specs.declared.stable.StoreFault.{StoreFault}
 use Rattle.urb_worker.proofs.StoreKeeping.{settled_group}

@@ -10,12 +10,12 @@ use Rattle.urb_group.proofs.stops.StockedNodes.{commit-node, fail-node, restart-
 use Rattle.urb_group.proofs.stops.StockedSteps.{IsQuiet, quiet-stays}
 use Rattle.urb_group.proofs.stops.StoppedCalls.{leaves-draft}
 use Rattle.urb_group.proofs.calls.StoreAnswers.{refused-as}
-use Rattle.urb_group.specs.Asked.{Gives}
-use Rattle.urb_group.specs.Calls.{ComesUp, Commits, GoesDown, HoldsDraft, Steps, Takes}
-use Rattle.urb_group.specs.Shown.{GroupView, Shows, view_of}
-use Rattle.urb_group.specs.States.{state_of}
+use Rattle.urb_group.specs.StoreQuestions.{Gives}
+use Rattle.urb_group.specs.GroupCalls.{ComesUp, Commits, GoesDown, HoldsDraft, Steps, Takes}
+use Rattle.urb_group.specs.GroupViews.{GroupView, Shows, view_of}
+use Rattle.urb_group.specs.ReportedStates.{state_of}
 use Rattle.urb_group.specs.Step.{Arrive, Commit, Crash, Event, Fail, Restart, Submit, Tick, step}
-use Rattle.urb_group.specs.Stocked.{LeavesOf}
+use Rattle.urb_group.specs.StoreContents.{LeavesOf}
 use Rattle.urb_group.specs.World.{World}
 use Rattle.urb_group.specs.declared.reply.Reply.{Reply as Told}
 use Rattle.urb_group.specs.declared.state.State.{State}
@@ -23,22 +23,22 @@ use Rattle.urb_group.specs.declared.state.State.TheVariants as state
 use Rattle.urb_group.specs.declared.taken.Taken.{Taken}
 use Rattle.urb_group.specs.declared.taken.Taken.TheVariants as taken
 use Rattle.urb_names.specs.Nodes.{is_node}
-use Rattle.urb_names.specs.Packets.{packet_of}
+use Rattle.urb_names.specs.PacketGrammar.{packet_of}
 use Rattle.urb_names.specs.declared.refusal.Refusal.{Refusal}
 use Rattle.urb_names.specs.declared.refusal.Refusal.TheVariants as refusal
-use Rattle.urb_node.specs.Moves.{IsRefusedAs, MayGrow}
+use Rattle.urb_node.specs.CallEffects.{IsRefusedAs, MayGrow}
 use Rattle.urb_node.specs.Part as part
 use Rattle.urb_node.specs.Part.{Node}
 use Rattle.urb_node.specs.Replies.{Done, Drafted, Refused, Reply, Stored, WentDown}
 use Rattle.urb_node.specs.Steps.{doubt, is_down}
 use Rattle.urb_show.specs.Houses.{HouseView}
 use Rattle.urb_show.specs.declared.status.Status.{Status}
-use Rattle.urb_stable.specs.Answering.{answer_of}
-use Rattle.urb_stable.specs.Doubted.{Doubted}
+use Rattle.urb_stable.specs.StoreAnswers.{answer_of}
+use Rattle.urb_stable.specs.Doubts.{Doubted}
 use Rattle.urb_stable.specs.Entries.{Entry, name_of}
-use Rattle.urb_stable.specs.Keeping.{Keeps}
-use Rattle.urb_stable.specs.Placed.{Placed}
-use Rattle.urb_stable.specs.Storing.{list_in}
+use Rattle.urb_stable.specs.KeptDrafts.{Keeps}
+use Rattle.urb_stable.specs.PlacedRecords.{Placed}
+use Rattle.urb_stable.specs.StableStorage.{list_in}
 use Rattle.urb_stable.specs.declared.stable.Stable.{Ghosts}
 use Rattle.urb_stable.specs.declared.stable.StoreFault.{StoreFault}
 use Rattle.urb_worker.proofs.LastingStores.{asked-still, gives-rose, gives-unread, keeps-late}

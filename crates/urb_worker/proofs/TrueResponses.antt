@@ -7,10 +7,10 @@ use Rattle.urb_client.specs.Requests.{Asked, Crash as IsCrash, Read, Restart as 
 use Rattle.urb_client.specs.Requests.{Status as IsStatus, Submit, Wait}
 use Rattle.urb_client.specs.Responses.{Refused as IsRefused, Said}
 use Rattle.urb_group.proofs.moves.AcceptedSubmits.{accepted-stored, committed-stored}
-use Rattle.urb_group.proofs.shown.ShownWorldsAgree.{sound-kept, sound-step}
-use Rattle.urb_group.specs.Accepting.{HasStored, StoresOwn}
-use Rattle.urb_group.specs.Calls.{ComesUp, Commits, GoesDown, Happens, HoldsDraft, Steps, Takes}
-use Rattle.urb_group.specs.Shown.{GroupView, IsSound, Shows, view_of}
+use Rattle.urb_group.proofs.shown.AgreeingWorlds.{sound-kept, sound-step}
+use Rattle.urb_group.specs.Acceptance.{HasStored, StoresOwn}
+use Rattle.urb_group.specs.GroupCalls.{ComesUp, Commits, GoesDown, Happens, HoldsDraft, Steps, Takes}
+use Rattle.urb_group.specs.GroupViews.{GroupView, IsSound, Shows, view_of}
 use Rattle.urb_group.specs.Step.{Commit, Crash as CrashOf, Event, Restart as RestartOf}
 use Rattle.urb_group.specs.Step.{Submit as SubmitOf, step}
 use Rattle.urb_group.specs.World.{World, stored}
@@ -21,11 +21,11 @@ use Rattle.urb_group.specs.declared.state.State.TheVariants as state
 use Rattle.urb_group.specs.declared.taken.Taken.{Taken}
 use Rattle.urb_group.specs.declared.taken.Taken.TheVariants as taken
 use Rattle.urb_names.proofs.OrderedPairs.{has_pair-first}
-use Rattle.urb_names.specs.Carried.{Carried}
+use Rattle.urb_names.specs.CarriedPackets.{Carried}
 use Rattle.urb_names.specs.Names.{name}
-use Rattle.urb_names.specs.Naming.{Content, Label}
+use Rattle.urb_names.specs.LabelsAndContents.{Content, Label}
 use Rattle.urb_names.specs.Pairs.{has_pair}
-use Rattle.urb_names.specs.Refusing.{detail_of, number_of}
+use Rattle.urb_names.specs.RefusalReports.{detail_of, number_of}
 use Rattle.urb_names.specs.declared.refusal.Refusal.{Refusal}
 use Rattle.urb_names.specs.declared.refusal.Refusal.TheVariants as refusal
 use Rattle.urb_node.specs.Part as part
@@ -37,11 +37,11 @@ use Rattle.urb_node.specs.declared.cause.Cause.{Cause}
 use Rattle.urb_show.specs.Houses.{HouseView}
 use Rattle.urb_show.specs.Statuses.{TellsStatus}
 use Rattle.urb_show.specs.declared.status.Status.{Status}
-use Rattle.urb_stable.specs.Doubted.{Doubted}
+use Rattle.urb_stable.specs.Doubts.{Doubted}
 use Rattle.urb_stable.specs.Entries.{Entry, name_of}
-use Rattle.urb_stable.specs.Placed.{Placed}
+use Rattle.urb_stable.specs.PlacedRecords.{Placed}
 use Rattle.urb_stable.specs.Records.{pend}
-use Rattle.urb_stable.specs.Storing.{refusal_of}
+use Rattle.urb_stable.specs.StableStorage.{refusal_of}
 use Rattle.urb_stable.specs.declared.record.Record.TheVariants.{Cert, Pend, PendCert}
 use Rattle.urb_stable.specs.declared.stable.StoreFault.{StoreFault}
 use Rattle.urb_worker.specs.Desks.{DeskView, HasAccepted, IsJobOf, Tells, Works, told_of}

@@ -3,11 +3,11 @@ use Rattle.std.proofs.Common.{Bool, Err, Ok, Option, false, inl, inr, refl, subs
 use Rattle.std.proofs.Common.{true, ℕ, ◌-◌, ◌≡◌}
 use Rattle.std.proofs.lemmas.Bool.{false≢true}
 use Rattle.std.specs.declared.alloc.Global.{Global}
-use Rattle.urb_group.specs.Shown.{IsSound}
+use Rattle.urb_group.specs.GroupViews.{IsSound}
 use Rattle.urb_group.specs.declared.reply.Reply.{Reply}
 use Rattle.urb_show.specs.Houses.{HouseView}
 use Rattle.urb_show.specs.declared.status.Status.{Status}
-use Rattle.urb_stable.specs.Placed.{Placed}
+use Rattle.urb_stable.specs.PlacedRecords.{Placed}
 use Rattle.urb_stable.specs.declared.stable.Stable.{Ghosts}
 use Rattle.urb_worker.proofs.StoreKeeping.{turn-keeps, turn-leaves}
 use Rattle.urb_worker.specs.Jobs.{runs_at}

@@ -6,21 +6,21 @@ use Rattle.std.proofs.lemmas.Bool.{and_from, cond-false, cond-true, cond_both}
 use Rattle.urb_group.proofs.steps.DraftsInSteps.{event_node, step-elsewhere, step-size}
 use Rattle.urb_group.proofs.steps.OneNodeStep.{updated-at}
 use Rattle.urb_group.proofs.stops.StockedSteps.{Stays, quiet-stays}
-use Rattle.urb_group.specs.Calls.{Steps}
-use Rattle.urb_group.specs.Shown.{GroupView}
+use Rattle.urb_group.specs.GroupCalls.{Steps}
+use Rattle.urb_group.specs.GroupViews.{GroupView}
 use Rattle.urb_group.specs.Step.{Commit, Crash, Event, Fail, at_node, step, world_after}
 use Rattle.urb_group.specs.World.{World}
-use Rattle.urb_names.specs.Naming.{Limits}
+use Rattle.urb_names.specs.LabelsAndContents.{Limits}
 use Rattle.urb_names.specs.Nodes.{is_node}
 use Rattle.urb_names.specs.declared.refusal.Refusal.TheVariants as refusal
-use Rattle.urb_node.proofs.Calls.{same_record-same}
+use Rattle.urb_node.proofs.RestartReplies.{same_record-same}
 use Rattle.urb_node.specs.Part.{Down, Node, State, Storing}
 use Rattle.urb_node.specs.Replies.{Done, Refused, Reply, Stored, WentDown}
 use Rattle.urb_node.specs.Steps.{commits, crashes, done, doubt, fails, goes_down, is_down}
 use Rattle.urb_node.specs.Steps.{keeps_record, next_position, refuses, same_record}
 use Rattle.urb_node.specs.declared.cause.Cause.{Cause}
 use Rattle.urb_stable.specs.Entries.{Entry}
-use Rattle.urb_stable.specs.Placed.{Placed}
+use Rattle.urb_stable.specs.PlacedRecords.{Placed}
 use Rattle.urb_worker.specs.WholeTurns.{HasWaited, Waits}
 
 -- ---- what one event says about its node

@@ -2,10 +2,10 @@
 use Rattle.std.specs.Prelude.{List, None, Ok, Option, Some, if◌then◌else◌, ℕ, ◌==◌, ◌≡◌}
 use Rattle.std.specs.declared.alloc.Global.{Global}
 use Rattle.urb_stable.specs.Entries.{Entry}
-use Rattle.urb_stable.specs.Storing.{refusal_of}
+use Rattle.urb_stable.specs.StableStorage.{refusal_of}
 use Rattle.urb_stable.specs.declared.stable.StoreFault.{StoreFault}
-use Rattle.urb_group.specs.Calls.{ComesUp, GoesDown}
-use Rattle.urb_group.specs.Shown.{GroupView}
+use Rattle.urb_group.specs.GroupCalls.{ComesUp, GoesDown}
+use Rattle.urb_group.specs.GroupViews.{GroupView}
 use Rattle.urb_group.specs.Step.{Crash, Fail, Restart}
 use Rattle.urb_group.specs.declared.reply.Reply.{Reply}
 use Rattle.urb_group.specs.declared.reply.Reply.TheVariants as reply

@@ -3,8 +3,8 @@ use Rattle.std.specs.Prelude.{Bool, List, if◌then◌else◌, None, Ok, Option,
 use Rattle.std.specs.Prelude.{◌-◌, ◌≡◌, ◌⊎◌}
 use Rattle.std.specs.declared.alloc.Global.{Global}
 use Rattle.urb_names.specs.Names.{name}
-use Rattle.urb_names.specs.Naming.{Content, Label}
-use Rattle.urb_names.specs.Refusing.{detail_of, number_of}
+use Rattle.urb_names.specs.LabelsAndContents.{Content, Label}
+use Rattle.urb_names.specs.RefusalReports.{detail_of, number_of}
 use Rattle.urb_client.specs.Requests.{Asked, Crash as IsCrash, Read, Restart as IsRestart}
 use Rattle.urb_client.specs.Requests.{Status as IsStatus, Submit, Wait}
 use Rattle.urb_client.specs.Pages.{SaysPage}
@@ -13,9 +13,9 @@ use Rattle.urb_client.specs.declared.response.NodeState.{NodeState}
 use Rattle.urb_client.specs.declared.response.NodeState.TheVariants as told
 use Rattle.urb_node.specs.declared.answer.Answer.TheVariants as answer
 use Rattle.urb_stable.specs.Entries.{Entry as Record}
-use Rattle.urb_group.specs.Accepting.{HasStored}
-use Rattle.urb_group.specs.Calls.{ComesUp, GoesDown}
-use Rattle.urb_group.specs.Shown.{GroupView, IsSound, Shows}
+use Rattle.urb_group.specs.Acceptance.{HasStored}
+use Rattle.urb_group.specs.GroupCalls.{ComesUp, GoesDown}
+use Rattle.urb_group.specs.GroupViews.{GroupView, IsSound, Shows}
 use Rattle.urb_group.specs.Step.{Crash as CrashOf, Restart as RestartOf}
 use Rattle.urb_group.specs.World.{World}
 use Rattle.urb_group.specs.declared.reply.Reply.{Reply}

@@ -1,9 +1,9 @@
 -- A node's feed, and its portions, of the group in a House.
 use Rattle.std.specs.Prelude.{List, ℕ, ◌≡◌}
-use Rattle.urb_feed.specs.Feeding.{FeedView, IsPortion, whole_feed}
-use Rattle.urb_group.specs.Shown.{GroupView, IsSound, Shows}
+use Rattle.urb_feed.specs.Feeds.{FeedView, IsPortion, whole_feed}
+use Rattle.urb_group.specs.GroupViews.{GroupView, IsSound, Shows}
 use Rattle.urb_group.specs.World.{World}
-use Rattle.urb_names.specs.Carried.{Carried}
+use Rattle.urb_names.specs.CarriedPackets.{Carried}
 use Rattle.urb_show.specs.Houses.{HouseView}
 
 -- a feed of node n that has done nothing, and will go through all names of this group

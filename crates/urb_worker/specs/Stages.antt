@@ -1,13 +1,13 @@
 -- The stages of a turn.
 use Rattle.std.specs.Prelude.{Bool, List, Result, Ok, Err, Option, Some, None, Vec, true, false, ℕ}
 use Rattle.std.specs.declared.alloc.Global.{Global}
-use Rattle.urb_names.specs.Carried.{Carried}
+use Rattle.urb_names.specs.CarriedPackets.{Carried}
 use Rattle.urb_names.specs.declared.refusal.Refusal.{Refusal}
 use Rattle.urb_names.specs.declared.refusal.Refusal.TheVariants as refusal
-use Rattle.urb_stable.specs.Doubted.{Doubted}
+use Rattle.urb_stable.specs.Doubts.{Doubted}
 use Rattle.urb_stable.specs.Entries.{Entry}
-use Rattle.urb_stable.specs.Placed.{Placed}
-use Rattle.urb_stable.specs.Storing.{refusal_of}
+use Rattle.urb_stable.specs.PlacedRecords.{Placed}
+use Rattle.urb_stable.specs.StableStorage.{refusal_of}
 use Rattle.urb_stable.specs.declared.stable.StoreFault.{StoreFault}
 use Rattle.urb_node.specs.Replies.{Done}
 use Rattle.urb_group.specs.declared.reply.Reply.{Reply}

@@ -2,23 +2,23 @@
 use Rattle.std.specs.Prelude.{Bool, Err, List, MatchResult, None, Ok, Option, Result, Some, Vec}
 use Rattle.std.specs.Prelude.{false, length, true, ℕ, ◌-◌, ◌≡◌, ◌⊎◌, ltb}
 use Rattle.std.specs.declared.alloc.Global.{Global}
-use Rattle.urb_names.specs.Carried.{Carried}
-use Rattle.urb_names.specs.Packets.{packet_of}
+use Rattle.urb_names.specs.CarriedPackets.{Carried}
+use Rattle.urb_names.specs.PacketGrammar.{packet_of}
 use Rattle.urb_names.specs.declared.refusal.Refusal.{Refusal}
 use Rattle.urb_names.specs.declared.refusal.Refusal.TheVariants as refusal
-use Rattle.urb_stable.specs.Answering.{answer_of}
-use Rattle.urb_stable.specs.Doubted.{Doubted}
+use Rattle.urb_stable.specs.StoreAnswers.{answer_of}
+use Rattle.urb_stable.specs.Doubts.{Doubted}
 use Rattle.urb_stable.specs.Entries.{Entry}
-use Rattle.urb_stable.specs.Keeping.{Keeps}
-use Rattle.urb_stable.specs.Placed.{Placed}
-use Rattle.urb_stable.specs.Storing.{list_in, refusal_of}
+use Rattle.urb_stable.specs.KeptDrafts.{Keeps}
+use Rattle.urb_stable.specs.PlacedRecords.{Placed}
+use Rattle.urb_stable.specs.StableStorage.{list_in, refusal_of}
 use Rattle.urb_stable.specs.declared.stable.Stable.{Ghosts}
 use Rattle.urb_stable.specs.declared.stable.StoreFault.{StoreFault}
 use Rattle.urb_node.specs.Replies.{Done}
-use Rattle.urb_group.specs.Asked.{Gives}
-use Rattle.urb_group.specs.Calls.{Answers, ComesUp, Commits, GoesDown, Takes, Ticks}
-use Rattle.urb_group.specs.Shown.{GroupView, IsSound, view_of}
-use Rattle.urb_group.specs.States.{state_of}
+use Rattle.urb_group.specs.StoreQuestions.{Gives}
+use Rattle.urb_group.specs.GroupCalls.{Answers, ComesUp, Commits, GoesDown, Takes, Ticks}
+use Rattle.urb_group.specs.GroupViews.{GroupView, IsSound, view_of}
+use Rattle.urb_group.specs.ReportedStates.{state_of}
 use Rattle.urb_group.specs.Step.{Arrive, Crash, Fail, Restart, Submit, Tick}
 use Rattle.urb_group.specs.declared.reply.Reply.{Reply}
 use Rattle.urb_group.specs.declared.reply.Reply.TheVariants as reply

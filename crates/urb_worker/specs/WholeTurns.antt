@@ -2,9 +2,9 @@
 use Rattle.std.specs.Prelude.{Bool, None, false, true, ℕ, ◌≡◌, ◌⊎◌}
 use Rattle.urb_names.specs.declared.refusal.Refusal.TheVariants as refusal
 use Rattle.urb_stable.specs.declared.stable.Stable.{Ghosts}
-use Rattle.urb_group.specs.Shown.{GroupView, IsSound, Shows}
+use Rattle.urb_group.specs.GroupViews.{GroupView, IsSound, Shows}
 use Rattle.urb_group.specs.Step.{Crash, step}
-use Rattle.urb_group.specs.Stocked.{IsLasting, IsStoreOf, LeavesOf}
+use Rattle.urb_group.specs.StoreContents.{IsLasting, IsStoreOf, LeavesOf}
 use Rattle.urb_group.specs.World.{World}
 use Rattle.urb_group.specs.declared.reply.Reply.TheVariants as reply
 use Rattle.urb_show.specs.Houses.{HouseView}

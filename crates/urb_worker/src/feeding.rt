@@ -2,7 +2,7 @@
 
 ghost use Rattle.std.specs.Prelude.{◌≡◌, ◌++◌, [], IfOk, OnErr, OnOk, length};
 ghost use Rattle.std.specs.Prelude.{option_to_list, ◌&&◌, ◌==◌};
-ghost use Rattle.urb_names.specs.Packets.{spelling};
+ghost use Rattle.urb_names.specs.PacketGrammar.{spelling};
 ghost use Rattle.urb_worker.specs.NodeFeeds.{IsFeedOf, IsNextPortion};
 ghost use Rattle.urb_worker.specs.internal.OwnJobs.{Comes};
 ghost use Rattle.urb_worker.specs.internal.Arrivals.{IsArrival};

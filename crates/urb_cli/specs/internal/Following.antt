@@ -1,7 +1,7 @@
 -- The parts of a run of `urbd follow`. Only proofs need them.
 use Rattle.std.specs.Prelude.{◌≡◌, ℕ, ◌+◌, List, [], length, flat_map, Option, Some, None}
 use Rattle.std.specs.Io.KnownBytes.{Appends}
-use Rattle.urb_names.specs.Naming.{Label, Content}
+use Rattle.urb_names.specs.LabelsAndContents.{Label, Content}
 use Rattle.urb_client.specs.Requests.{Asked}
 use Rattle.urb_client.specs.Responses.{Said, Listing, Refused}
 use Rattle.urb_cli.specs.Advice.{explained_refusal}

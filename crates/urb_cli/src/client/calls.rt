@@ -4,7 +4,7 @@ ghost use Rattle.std.specs.Prelude.{◌≡◌, Err, IfOk, IfErr, IfSome, OnOk};
 ghost use Rattle.std.specs.Io.KnownBytes.{Appends, Consumes};
 ghost use Rattle.urb_client.specs.Requests.{IsAsked, IsShort, asked_by, request_body};
 ghost use Rattle.urb_client.specs.Responses.{encoding, frame, said_by};
-ghost use Rattle.urb_client.specs.ReceivedResponses.{HasNoResponse};
+ghost use Rattle.urb_client.specs.MissingResponses.{HasNoResponse};
 
 use crate::client::call_fault::CallFault;
 use crate::client::node_address::NodeAddress;

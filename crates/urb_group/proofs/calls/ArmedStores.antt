@@ -6,17 +6,17 @@ use Rattle.std.specs.Prelude.{replicate}
 use Rattle.std.proofs.lemmas.Bool.{cases_lt, cond_both}
 use Rattle.std.proofs.lemmas.List.{length-replicate}
 use Rattle.urb_group.proofs.shown.ShownWorlds.{sound-new}
-use Rattle.urb_group.specs.Clustered.{held_draft, held_in}
-use Rattle.urb_group.specs.internal.Clustered.{IsTied, draft_at}
-use Rattle.urb_group.specs.Clusters.{Breaks}
-use Rattle.urb_group.specs.Shown.{GroupView, IsSound, Shows, view_of}
+use Rattle.urb_group.specs.GroupStores.{held_draft, held_in}
+use Rattle.urb_group.specs.internal.ClusterTies.{IsTied, draft_at}
+use Rattle.urb_group.specs.ClusterCalls.{Breaks}
+use Rattle.urb_group.specs.GroupViews.{GroupView, IsSound, Shows, view_of}
 use Rattle.urb_group.specs.World.{opened, started}
-use Rattle.urb_names.specs.Naming.{Limits}
+use Rattle.urb_names.specs.LabelsAndContents.{Limits}
 use Rattle.urb_names.specs.Nodes.{is_node}
 use Rattle.urb_node.specs.Part.{State}
 use Rattle.urb_stable.specs.Entries.{Entry}
-use Rattle.urb_stable.specs.Memory.{Memory, after_failure, without_memory}
-use Rattle.urb_stable.specs.Placed.{Placed}
+use Rattle.urb_stable.specs.MemoryStores.{Memory, after_failure, without_memory}
+use Rattle.urb_stable.specs.PlacedRecords.{Placed}
 use Rattle.urb_stable.specs.declared.memory.Failure.{Failure}
 use Rattle.urb_stable.specs.declared.memory.Failure.TheVariants as failure
 use Rattle.urb_stable.specs.declared.stable.StoreFault.{StoreFault}

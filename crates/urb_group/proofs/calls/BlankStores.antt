@@ -1,10 +1,10 @@
 -- New stores in memory have no record.
 use Rattle.std.proofs.Common.{List, ap, slice_index_or, subst, ◌≡◌}
 use Rattle.std.specs.List.{All}
-use Rattle.urb_group.specs.Asked.{IsBlank}
-use Rattle.urb_group.specs.InMemory.{in_memory}
-use Rattle.urb_stable.specs.Memory.{Memory, empty_memory}
-use Rattle.urb_stable.specs.Storing.{IsContents}
+use Rattle.urb_group.specs.StoreQuestions.{IsBlank}
+use Rattle.urb_group.specs.MemoryStores.{in_memory}
+use Rattle.urb_stable.specs.MemoryStores.{Memory, empty_memory}
+use Rattle.urb_stable.specs.StableStorage.{IsContents}
 
 blank : {A : Type 0} (m : Memory) → m ≡ empty_memory → IsBlank (in_memory A) m
 blank m e =

@@ -6,23 +6,23 @@ use Rattle.std.specs.Prelude.{slice_set}
 use Rattle.std.proofs.lemmas.Bool.{and_parts, cond-true}
 use Rattle.urb_group.proofs.steps.DraftsInSteps.{event_node, step-at}
 use Rattle.urb_group.proofs.calls.HeldDrafts.{steps-calm, steps-size, tied-kept, tied-set}
-use Rattle.urb_group.specs.Calls.{HoldsDraft, Steps, Takes, Ticks}
-use Rattle.urb_group.specs.Clustered.{held_draft, held_in}
-use Rattle.urb_group.specs.internal.Clustered.{IsTied}
-use Rattle.urb_group.specs.Clusters.{Reacts}
-use Rattle.urb_group.specs.internal.Drafts.{IsWithin, noted_in, told_of}
-use Rattle.urb_group.specs.Shown.{GroupView, IsSound, view_of}
+use Rattle.urb_group.specs.GroupCalls.{HoldsDraft, Steps, Takes, Ticks}
+use Rattle.urb_group.specs.GroupStores.{held_draft, held_in}
+use Rattle.urb_group.specs.internal.ClusterTies.{IsTied}
+use Rattle.urb_group.specs.ClusterCalls.{Reacts}
+use Rattle.urb_group.specs.internal.CallReplies.{IsWithin, noted_in, told_of}
+use Rattle.urb_group.specs.GroupViews.{GroupView, IsSound, view_of}
 use Rattle.urb_group.specs.Step.{Event, Tick, step}
 use Rattle.urb_group.specs.declared.taken.Taken.{Taken}
 use Rattle.urb_group.specs.declared.taken.Taken.TheVariants as taken
-use Rattle.urb_names.specs.Carried.{Carried}
-use Rattle.urb_names.specs.Naming.{Limits}
+use Rattle.urb_names.specs.CarriedPackets.{Carried}
+use Rattle.urb_names.specs.LabelsAndContents.{Limits}
 use Rattle.urb_names.specs.Nodes.{is_node}
 use Rattle.urb_names.specs.declared.refusal.Refusal.{Refusal}
 use Rattle.urb_node.specs.Part.{State}
 use Rattle.urb_node.specs.Replies.{Drafted, Refused, Reply, Same, Sent, WentDown}
 use Rattle.urb_stable.specs.Entries.{name_of}
-use Rattle.urb_stable.specs.Placed.{Placed}
+use Rattle.urb_stable.specs.PlacedRecords.{Placed}
 
 -- ---- a refusal leaves the places
 

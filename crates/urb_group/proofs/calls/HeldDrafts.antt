@@ -4,21 +4,21 @@ use Rattle.std.proofs.Common.{false, length, length-set, refl, subst, suc, sym, 
 use Rattle.std.proofs.Common.{◌<◌, ◌==◌, ◌∙◌, ◌≡◌, ◌≢◌, get_or-set_same, get_or-set_other}
 use Rattle.std.specs.Prelude.{slice_index_or, slice_set}
 use Rattle.std.proofs.lemmas.Bool.{cond_both}
-use Rattle.urb_group.proofs.shown.ShownWorldsAgree.{sound-step}
+use Rattle.urb_group.proofs.shown.AgreeingWorlds.{sound-step}
 use Rattle.urb_group.proofs.steps.DraftsInSteps.{CalmAs, event_node, step-calm, step-elsewhere}
 use Rattle.urb_group.proofs.steps.DraftsInSteps.{step-size}
-use Rattle.urb_group.specs.Calls.{Happens, Steps}
-use Rattle.urb_group.specs.Clustered.{held_draft, held_in}
-use Rattle.urb_group.specs.internal.Clustered.{IsTied, draft_at}
-use Rattle.urb_group.specs.Shown.{GroupView, IsSound, Shows}
+use Rattle.urb_group.specs.GroupCalls.{Happens, Steps}
+use Rattle.urb_group.specs.GroupStores.{held_draft, held_in}
+use Rattle.urb_group.specs.internal.ClusterTies.{IsTied, draft_at}
+use Rattle.urb_group.specs.GroupViews.{GroupView, IsSound, Shows}
 use Rattle.urb_group.specs.Step.{Event, step}
 use Rattle.urb_group.specs.World.{World}
-use Rattle.urb_names.specs.Naming.{Limits}
+use Rattle.urb_names.specs.LabelsAndContents.{Limits}
 use Rattle.urb_names.specs.Nodes.{is_node}
 use Rattle.urb_node.specs.Part.{Down, Node, Ready, State, Storing}
 use Rattle.urb_node.specs.Replies.{Drafted, Refused, Reply, Same, Sent}
 use Rattle.urb_node.specs.Steps.{is_storing}
-use Rattle.urb_stable.specs.Placed.{Placed}
+use Rattle.urb_stable.specs.PlacedRecords.{Placed}
 
 -- ---- the drafts that a group's nodes hold are those that a shown world's hold
 

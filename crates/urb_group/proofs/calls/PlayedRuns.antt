@@ -5,24 +5,24 @@ use Rattle.std.proofs.Common.{◌∙◌, ◌∷◌, ◌≡◌, ◌⊎◌, ⊎_el
 use Rattle.std.specs.Prelude.{drop, slice_get, take, ◌<◌}
 use Rattle.std.proofs.lemmas.List.{length-take-le, take-append-drop, take_more}
 use Rattle.std.proofs.lemmas.Option.{slice_get_read}
-use Rattle.urb_group.proofs.shown.ShownWorldsAgree.{sound-kept}
+use Rattle.urb_group.proofs.shown.AgreeingWorlds.{sound-kept}
 use Rattle.urb_group.proofs.calls.HeldDrafts.{steps-sound}
 use Rattle.urb_group.proofs.safety.RunsOfKeptWorlds.{kept-agree, kept-grow, kept-told}
 use Rattle.urb_group.proofs.safety.Refusals.{refused-stays}
 use Rattle.urb_group.proofs.safety.SafeWorlds.{one_message, safe}
-use Rattle.urb_group.proofs.calls.AfterStoreCalls.{held-self}
+use Rattle.urb_group.proofs.calls.StoreCallEffects.{held-self}
 use Rattle.urb_group.proofs.calls.StoreAnswers.{commit-stored, fail-down, held-as}
-use Rattle.urb_group.specs.Calls.{Steps}
-use Rattle.urb_group.specs.Clustered.{Clustered, held_draft}
-use Rattle.urb_group.specs.Clusters.{Applies, Reacts, RestartsBy, Returns, StoresHeld, is_fallen}
-use Rattle.urb_group.specs.Clusters.{stored_as}
+use Rattle.urb_group.specs.GroupCalls.{Steps}
+use Rattle.urb_group.specs.GroupStores.{Clustered, held_draft}
+use Rattle.urb_group.specs.ClusterCalls.{Applies, Reacts, RestartsBy, Returns, StoresHeld, is_fallen}
+use Rattle.urb_group.specs.ClusterCalls.{stored_as}
 use Rattle.urb_group.specs.Commands.{AreEvents, At_end, By_event, By_none, IsEventOf, IsUnread}
 use Rattle.urb_group.specs.Commands.{is_no_memory, reply_of}
-use Rattle.urb_group.specs.Invariant.{IsKept}
-use Rattle.urb_group.specs.Plays.{Follows, IsPromised, Plays, Runs, EndsEarly, told_in}
-use Rattle.urb_group.specs.Shown.{GroupView, IsSound, Shows}
+use Rattle.urb_group.specs.RunInvariant.{IsKept}
+use Rattle.urb_group.specs.PlayedCommands.{Follows, IsPromised, Plays, Runs, EndsEarly, told_in}
+use Rattle.urb_group.specs.GroupViews.{GroupView, IsSound, Shows}
 use Rattle.urb_group.specs.Step.{Commit, Event, Fail, Restart, Run, run, step}
-use Rattle.urb_group.specs.Truth.{AreTruthful, ToldTruth}
+use Rattle.urb_group.specs.TruthfulPackets.{AreTruthful, ToldTruth}
 use Rattle.urb_group.specs.World.{World}
 use Rattle.urb_group.specs.declared.command.Command.{Command}
 use Rattle.urb_group.specs.declared.command.Command.TheVariants as command
@@ -31,11 +31,11 @@ use Rattle.urb_group.specs.declared.reply.Reply.TheVariants as reply
 use Rattle.urb_names.specs.declared.refusal.NoMemory.{NoMemory}
 use Rattle.urb_names.specs.declared.refusal.Refusal.{Refusal}
 use Rattle.urb_names.specs.declared.refusal.Refusal.TheVariants as refusal
-use Rattle.urb_node.specs.Moves.{IsRefusedAs}
+use Rattle.urb_node.specs.CallEffects.{IsRefusedAs}
 use Rattle.urb_node.specs.Replies as told
 use Rattle.urb_node.specs.Replies.{packets_in}
 use Rattle.urb_stable.specs.Entries.{Entry}
-use Rattle.urb_stable.specs.Placed.{Placed}
+use Rattle.urb_stable.specs.PlacedRecords.{Placed}
 use Rattle.urb_stable.specs.declared.stable.Stable.{Ghosts}
 use Rattle.urb_stable.specs.declared.stable.StoreFault.{StoreFault}
 

@@ -3,29 +3,29 @@ use Rattle.std.proofs.Common.{Bool, Err, List, None, Ok, Option, Result, Some, a
 use Rattle.std.proofs.Common.{eq-eqb, false, refl, subst, suc, sym, true, ℕ, ◌&&◌, ◌==◌, ◌∙◌, ◌≡◌}
 use Rattle.std.proofs.Common.{◌⊎◌, IsOk, IsTrue, inl, inr}
 use Rattle.std.proofs.lemmas.Bool.{and_from, cond-false, cond-true}
-use Rattle.urb_group.specs.Calls.{Answers, Commits, GoesDown, Happens, Steps}
-use Rattle.urb_group.specs.Clustered.{held_draft, held_in}
-use Rattle.urb_group.specs.internal.Drafts.{IsUnfallen, IsUnstored, unfallen_in, unstored_in}
-use Rattle.urb_group.specs.Shown.{GroupView, IsSound, Shows, view_of}
-use Rattle.urb_group.specs.States.{state_of}
+use Rattle.urb_group.specs.GroupCalls.{Answers, Commits, GoesDown, Happens, Steps}
+use Rattle.urb_group.specs.GroupStores.{held_draft, held_in}
+use Rattle.urb_group.specs.internal.CallReplies.{IsUnfallen, IsUnstored, unfallen_in, unstored_in}
+use Rattle.urb_group.specs.GroupViews.{GroupView, IsSound, Shows, view_of}
+use Rattle.urb_group.specs.ReportedStates.{state_of}
 use Rattle.urb_group.specs.Step.{Commit, Crash, Event, Fail, Restart, at_node, step, world_after}
-use Rattle.urb_group.specs.Truth.{AreTruthful}
+use Rattle.urb_group.specs.TruthfulPackets.{AreTruthful}
 use Rattle.urb_group.specs.World.{World, truthful}
-use Rattle.urb_names.specs.Carried.{Carried}
+use Rattle.urb_names.specs.CarriedPackets.{Carried}
 use Rattle.urb_group.specs.declared.state.State.{State}
-use Rattle.urb_names.specs.Naming.{Limits}
+use Rattle.urb_names.specs.LabelsAndContents.{Limits}
 use Rattle.urb_names.specs.Nodes.{is_node}
 use Rattle.urb_names.specs.declared.refusal.Refusal.{Refusal}
 use Rattle.urb_names.specs.declared.refusal.Refusal.TheVariants as refusal
-use Rattle.urb_node.proofs.Calls.{same_record-same}
-use Rattle.urb_node.specs.Moves.{IsRefusedAs, MayGrow}
+use Rattle.urb_node.proofs.RestartReplies.{same_record-same}
+use Rattle.urb_node.specs.CallEffects.{IsRefusedAs, MayGrow}
 use Rattle.urb_node.specs.Part as part
 use Rattle.urb_node.specs.Part.{Node}
 use Rattle.urb_node.specs.Replies.{Done, Refused, Reply, Stored, WentDown, packets_in}
 use Rattle.urb_node.specs.Steps.{commits, done, fails, goes_down, is_down, keeps_record}
 use Rattle.urb_node.specs.Steps.{next_position, refuses, restarts, same_record}
 use Rattle.urb_stable.specs.Entries.{Entry}
-use Rattle.urb_stable.specs.Placed.{Placed}
+use Rattle.urb_stable.specs.PlacedRecords.{Placed}
 use Rattle.urb_node.specs.declared.cause.Cause.{Cause}
 
 -- ---- replies by what the group holds

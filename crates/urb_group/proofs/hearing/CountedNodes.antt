@@ -4,9 +4,9 @@ use Rattle.std.proofs.Common.{ℕ, ⊎_elim, ◌&&◌, ◌==◌, ◌||◌, ◌�
 use Rattle.std.proofs.lemmas.Bool.{and_from, and_parts, cond_both, false≢true, or_cases, or_left}
 use Rattle.std.proofs.lemmas.Bool.{or_right}
 use Rattle.urb_names.proofs.SameNames.{same_name-same, same_name-true}
-use Rattle.urb_names.specs.Acknowledged.{acked, with_ack}
+use Rattle.urb_names.specs.Acknowledgements.{acked, with_ack}
 use Rattle.urb_names.specs.Names.{same_message, same_name}
-use Rattle.urb_names.specs.Naming.{Content, Label}
+use Rattle.urb_names.specs.LabelsAndContents.{Content, Label}
 use Rattle.urb_names.specs.Pairs.{has_pair}
 use Rattle.urb_node.specs.Part.{self_acks}
 use Rattle.urb_node.specs.Steps.{with_cause, with_heard}

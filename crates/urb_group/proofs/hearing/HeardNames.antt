@@ -7,16 +7,16 @@ use Rattle.std.proofs.lemmas.Bool.{and_parts, cond-true, cond_both, false_from_n
 use Rattle.std.specs.List.{AllByRecursion}
 use Rattle.urb_group.proofs.hearing.CountedNodes.{acked-cases, acked-itself, heard-cases}
 use Rattle.urb_group.proofs.steps.Runs.{reached-keeps}
-use Rattle.urb_group.specs.Hearing.{HearsOfPending, SaysWhatWasHeard}
-use Rattle.urb_group.specs.Invariant.{StateKept}
+use Rattle.urb_group.specs.HeardCertificates.{HearsOfPending, SaysWhatWasHeard}
+use Rattle.urb_group.specs.RunInvariant.{StateKept}
 use Rattle.urb_group.specs.Step.{Commit, Event, IsReached, IsStart, Of_images, Of_new, at_node, run}
 use Rattle.urb_group.specs.Step.{step, world_after}
 use Rattle.urb_group.specs.World.{World, image_of, stored}
 use Rattle.urb_names.proofs.FoundPairs.{message_of-more, message_of-new}
-use Rattle.urb_names.specs.Acknowledged.{acked, with_ack}
-use Rattle.urb_names.specs.Carried.{Carried, is_heard_of, others, says_certified}
+use Rattle.urb_names.specs.Acknowledgements.{acked, with_ack}
+use Rattle.urb_names.specs.CarriedPackets.{Carried, is_heard_of, others, says_certified}
 use Rattle.urb_names.specs.Names.{has_name}
-use Rattle.urb_names.specs.Naming.{Content, Label, Limits}
+use Rattle.urb_names.specs.LabelsAndContents.{Content, Label, Limits}
 use Rattle.urb_names.specs.Nodes.{is_node, majority_passes}
 use Rattle.urb_names.specs.Pairs.{message_of}
 use Rattle.urb_names.specs.declared.flags.Flags.{Flags}
@@ -33,7 +33,7 @@ use Rattle.urb_stable.specs.Records.{cert, pend}
 use Rattle.urb_stable.specs.declared.record.Record.TheVariants.{Cert, Pend, PendCert}
 use Rattle.urb_names.specs.declared.refusal.Refusal.TheVariants as refusal
 use Rattle.urb_group.proofs.steps.StepCases.{OutcomeCases, node_of, outcome-cases, step-nodes}
-use Rattle.urb_group.specs.Delivering.{event_node}
+use Rattle.urb_group.specs.DeliveredMessages.{event_node}
 
 -- ---- pending names
 

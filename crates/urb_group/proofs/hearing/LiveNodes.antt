@@ -5,10 +5,10 @@ use Rattle.std.proofs.lemmas.Bool.{cond_both, false≢true}
 use Rattle.urb_group.proofs.hearing.CountedNodes.{acked-cases, acked-itself, acked-stays}
 use Rattle.urb_group.proofs.hearing.CountedNodes.{cause-stays, heard-cases, itself-acked}
 use Rattle.urb_names.proofs.FoundPairs.{has_pair-last}
-use Rattle.urb_names.specs.Acknowledged.{acked, with_ack}
-use Rattle.urb_names.specs.Carried.{says_certified}
+use Rattle.urb_names.specs.Acknowledgements.{acked, with_ack}
+use Rattle.urb_names.specs.CarriedPackets.{says_certified}
 use Rattle.urb_names.specs.Names.{has_name}
-use Rattle.urb_names.specs.Naming.{Content, Label, Limits}
+use Rattle.urb_names.specs.LabelsAndContents.{Content, Label, Limits}
 use Rattle.urb_names.specs.Nodes.{majority_passes}
 use Rattle.urb_names.specs.Pairs.{has_pair, message_of}
 use Rattle.urb_names.specs.declared.flags.Flags.{Flags}

@@ -17,7 +17,7 @@ use Rattle.urb_node.specs.Replies.{Reply}
 use Rattle.urb_node.specs.Steps.{is_down, broadcast_after}
 use Rattle.urb_group.proofs.steps.StepCases.{OutcomeCases, node_of, outcome-cases, outcome_of}
 use Rattle.urb_group.proofs.steps.StepCases.{step-cases}
-use Rattle.urb_group.specs.Delivering.{event_node}
+use Rattle.urb_group.specs.DeliveredMessages.{event_node}
 
 -- each node of the world is live, and there is no node 0
 pub record WorldLive (w : World) : Type 0 where

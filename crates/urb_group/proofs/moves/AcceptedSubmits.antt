@@ -5,15 +5,15 @@ use Rattle.std.proofs.lemmas.Bool.{and_from, and_parts, cond_both, false≢true}
 use Rattle.std.proofs.lemmas.List.Folds.{find_at}
 use Rattle.std.specs.List.{position_or_len}
 use Rattle.urb_group.proofs.steps.OneNodeStep.{updated-at}
-use Rattle.urb_group.specs.Accepting.{HasStored, StoresOwn}
-use Rattle.urb_group.specs.Invariant.{NodesKept}
+use Rattle.urb_group.specs.Acceptance.{HasStored, StoresOwn}
+use Rattle.urb_group.specs.RunInvariant.{NodesKept}
 use Rattle.urb_group.specs.Step.{Commit, Submit, step, world_after}
 use Rattle.urb_group.specs.World.{World, stored}
 use Rattle.urb_names.proofs.FoundPairs.{has_pair-found, has_pair-right}
 use Rattle.urb_names.proofs.OrderedPairs.{has_pair-head}
 use Rattle.urb_names.proofs.SameNames.{same_message-true}
 use Rattle.urb_names.specs.Names.{name}
-use Rattle.urb_names.specs.Naming.{Content, Label}
+use Rattle.urb_names.specs.LabelsAndContents.{Content, Label}
 use Rattle.urb_names.specs.Nodes.{is_node}
 use Rattle.urb_names.specs.Pairs.{has_pair, is_numbered, message_of}
 use Rattle.urb_node.specs.Part.{Down, Node, Ready, State, Storing}
@@ -28,7 +28,7 @@ use Rattle.urb_stable.specs.Records.{pend}
 use Rattle.urb_stable.specs.declared.record.Record.TheVariants.{Cert, Pend, PendCert}
 use Rattle.urb_names.specs.declared.refusal.Refusal.TheVariants as refusal
 use Rattle.urb_node.specs.declared.cause.Cause.{Cause}
-use Rattle.urb_node.proofs.Calls.{same_record-true}
+use Rattle.urb_node.proofs.RestartReplies.{same_record-true}
 use Rattle.urb_node.proofs.SubmitCases.{IsAgain, first_name, submits-cases}
 use Rattle.urb_group.proofs.steps.StepCases.{step-cases}
 

@@ -4,13 +4,13 @@ use Rattle.std.proofs.Common.{List, None, Some, [], arith, length, refl, slice_i
 use Rattle.std.proofs.Common.{sym, zero, ℕ, ⊎_elim, ◌<◌, ◌∷◌, ◌≡◌, ◌≤◌, ◌⊎◌}
 use Rattle.std.proofs.lemmas.Bool.{cases_lt}
 use Rattle.urb_group.proofs.shown.SoundConditions.{fitting-own}
-use Rattle.urb_group.specs.Shown.{GroupView, Shows, view_of}
+use Rattle.urb_group.specs.GroupViews.{GroupView, Shows, view_of}
 use Rattle.urb_group.specs.World.{AreImages, opened}
-use Rattle.urb_names.specs.Naming.{Limits}
+use Rattle.urb_names.specs.LabelsAndContents.{Limits}
 use Rattle.urb_group.proofs.steps.Runs.{past_end}
 use Rattle.urb_node.proofs.Openings.{nothing-shows}
 use Rattle.urb_node.specs.Part.{opened_node}
-use Rattle.urb_node.specs.Shown.{NodeView, ShowsNode, no_view}
+use Rattle.urb_node.specs.NodeViews.{NodeView, ShowsNode, no_view}
 use Rattle.urb_stable.specs.Entries.{Entry}
 use Rattle.urb_stable.specs.Fitting.{Fits, KeepsOwn, first_misfit, first_of_all, misfits}
 use Rattle.urb_stable.specs.Images.{image_of}

@@ -1,23 +1,23 @@
 -- What each call of a group says, once one of its nodes has moved.
 use Rattle.std.proofs.Common.{Err, List, Ok, Result, Some, ap, set, subst, suc, sym, ℕ, ◌∙◌, ◌≡◌}
 use Rattle.std.specs.Prelude.{slice_get}
-use Rattle.urb_names.specs.Carried.{Carried}
-use Rattle.urb_names.specs.Naming.{Content, Limits}
+use Rattle.urb_names.specs.CarriedPackets.{Carried}
+use Rattle.urb_names.specs.LabelsAndContents.{Content, Limits}
 use Rattle.urb_names.specs.declared.refusal.Refusal.{Refusal}
 use Rattle.urb_stable.specs.Entries.{Entry}
-use Rattle.urb_stable.specs.Placed.{Placed}
+use Rattle.urb_stable.specs.PlacedRecords.{Placed}
 use Rattle.urb_node.specs.Part.{Node}
 use Rattle.urb_node.specs.Replies.{Done, Same, Sent, Stored, Up, WentDown}
 use Rattle.urb_node.specs.Steps.{submits}
-use Rattle.urb_group.specs.Calls.{ComesUp, Commits, GoesDown, HoldsDraft, Takes, Ticks}
-use Rattle.urb_group.specs.internal.Moving.{CommitsAt, CrashesAt, FailsAt, HandsBack, HoldsAt}
-use Rattle.urb_group.specs.internal.Moving.{Leads, LeadsAt, Outcomes, RestartsAt, SubmitsAt}
-use Rattle.urb_group.specs.internal.Moving.{TicksAt, Told, commits_as, crashes_as, fails_as}
-use Rattle.urb_group.specs.internal.Moving.{restarts_as, ticks_as, told_down, told_sent}
-use Rattle.urb_group.specs.internal.Moving.{told_stored, told_taken, told_up}
-use Rattle.urb_group.specs.Places.{memory_in, shown}
-use Rattle.urb_group.specs.internal.Places.{IsGroup, ShowsAt}
-use Rattle.urb_group.specs.Shown.{Shows}
+use Rattle.urb_group.specs.GroupCalls.{ComesUp, Commits, GoesDown, HoldsDraft, Takes, Ticks}
+use Rattle.urb_group.specs.internal.PlaceCalls.{CommitsAt, CrashesAt, FailsAt, HandsBack, HoldsAt}
+use Rattle.urb_group.specs.internal.PlaceCalls.{Leads, LeadsAt, Outcomes, RestartsAt, SubmitsAt}
+use Rattle.urb_group.specs.internal.PlaceCalls.{TicksAt, Told, commits_as, crashes_as, fails_as}
+use Rattle.urb_group.specs.internal.PlaceCalls.{restarts_as, ticks_as, told_down, told_sent}
+use Rattle.urb_group.specs.internal.PlaceCalls.{told_stored, told_taken, told_up}
+use Rattle.urb_group.specs.PlaceViews.{memory_in, shown}
+use Rattle.urb_group.specs.internal.PlaceInvariant.{IsGroup, ShowsAt}
+use Rattle.urb_group.specs.GroupViews.{Shows}
 use Rattle.urb_group.specs.Step.{Commit, Crash, Event, Fail, Restart, Submit, Tick, at_node, step}
 use Rattle.urb_group.specs.World.{World}
 use Rattle.urb_group.specs.declared.node_moves.Node.{Node as Place}

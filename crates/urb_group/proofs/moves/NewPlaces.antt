@@ -2,17 +2,17 @@
 use Rattle.std.proofs.Common.{IsSome, List, None, Option, Some, SomeIff, [], ap, length, map, refl}
 use Rattle.std.proofs.Common.{replicate, subst, suc, sym, zero, ℕ, ⊎_elim, ◌++◌, ◌∙◌, ◌∷◌, ◌≡◌}
 use Rattle.std.specs.Prelude.{slice_get}
-use Rattle.urb_names.specs.Naming.{Limits}
-use Rattle.urb_node.specs.Shown.{NodeView, no_view}
-use Rattle.urb_node.specs.Values.{Memory, new_memory}
-use Rattle.urb_group.specs.Places.{shown, view_at}
-use Rattle.urb_group.specs.internal.Places.{IsGroup, IsNumbered}
-use Rattle.urb_group.specs.Shown.{Shows}
+use Rattle.urb_names.specs.LabelsAndContents.{Limits}
+use Rattle.urb_node.specs.NodeViews.{NodeView, no_view}
+use Rattle.urb_node.specs.NodeMemories.{Memory, new_memory}
+use Rattle.urb_group.specs.PlaceViews.{shown, view_at}
+use Rattle.urb_group.specs.internal.PlaceInvariant.{IsGroup, IsNumbered}
+use Rattle.urb_group.specs.GroupViews.{Shows}
 use Rattle.urb_group.specs.World.{started}
 use Rattle.urb_group.specs.declared.node_moves.Node.{Node as Place}
 use Rattle.urb_group.specs.declared.node_moves.Node.TheVariants as place
 use Rattle.urb_group.proofs.shown.ShownWorlds.{shows-new, sound-new}
-use Rattle.urb_stable.proofs.Indexed.{read_more}
+use Rattle.urb_stable.proofs.IndexGrowth.{read_more}
 
 -- the places of the nodes 1 to k, which have stored nothing
 abbrev pub first_places : {A : Type 0} → Limits → ℕ → List (Place A)

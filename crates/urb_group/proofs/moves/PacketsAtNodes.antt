@@ -5,9 +5,9 @@ use Rattle.std.proofs.Common.{◌&&◌, ◌||◌, ◌∙◌, ◌≡◌, ◌≤�
 use Rattle.std.proofs.lemmas.Bool.{and_parts, cond-true}
 use Rattle.std.specs.Prelude.{slice_get}
 use Rattle.urb_names.proofs.FoundPairs.{has_pair-found}
-use Rattle.urb_names.specs.Carried.{Carried, says_certified}
+use Rattle.urb_names.specs.CarriedPackets.{Carried, says_certified}
 use Rattle.urb_names.specs.Names.{has_name}
-use Rattle.urb_names.specs.Naming.{Content, Label, Limits}
+use Rattle.urb_names.specs.LabelsAndContents.{Content, Label, Limits}
 use Rattle.urb_names.specs.Nodes.{is_node}
 use Rattle.urb_names.specs.Pairs.{has_pair}
 use Rattle.urb_names.specs.declared.refusal.PacketFault.{PacketFault}
@@ -15,17 +15,17 @@ use Rattle.urb_names.specs.declared.refusal.Refusal.{Refusal}
 use Rattle.urb_names.specs.declared.refusal.Refusal.TheVariants as refusal
 use Rattle.urb_stable.proofs.OwnRules.{own-unique}
 use Rattle.urb_stable.specs.Records.{cert, pend}
-use Rattle.urb_node.specs.Moves.{FindsMessage}
-use Rattle.urb_node.specs.Next.{MayArrive}
+use Rattle.urb_node.specs.CallEffects.{FindsMessage}
+use Rattle.urb_node.specs.RecordAdmission.{MayArrive}
 use Rattle.urb_node.specs.Replies.{Refused, Reply}
-use Rattle.urb_node.specs.Shown.{NodeView, no_view}
-use Rattle.urb_group.specs.Calls.{IsRefused, Takes}
-use Rattle.urb_group.specs.internal.Moving.{ArrivesAt, MayReach, arrives_as}
-use Rattle.urb_group.specs.Places.{memory_in, shown, view_at}
-use Rattle.urb_group.specs.internal.Places.{IsGroup, ShowsAt}
-use Rattle.urb_group.specs.internal.Reaching.{AreEnds, HoldsPair, IsAsCertified, TellsTruth}
-use Rattle.urb_group.specs.internal.Reaching.{is_for_node}
-use Rattle.urb_group.specs.Shown.{GroupView, Shows, view_of}
+use Rattle.urb_node.specs.NodeViews.{NodeView, no_view}
+use Rattle.urb_group.specs.GroupCalls.{IsRefused, Takes}
+use Rattle.urb_group.specs.internal.PlaceCalls.{ArrivesAt, MayReach, arrives_as}
+use Rattle.urb_group.specs.PlaceViews.{memory_in, shown, view_at}
+use Rattle.urb_group.specs.internal.PlaceInvariant.{IsGroup, ShowsAt}
+use Rattle.urb_group.specs.internal.PacketTargets.{AreEnds, HoldsPair, IsAsCertified, TellsTruth}
+use Rattle.urb_group.specs.internal.PacketTargets.{is_for_node}
+use Rattle.urb_group.specs.GroupViews.{GroupView, Shows, view_of}
 use Rattle.urb_group.specs.Step.{Arrive, at_node, is_for, step}
 use Rattle.urb_group.specs.World.{World, bears_out, stored, truthful}
 use Rattle.urb_group.specs.declared.node_moves.Node.{Node as Place}

@@ -2,28 +2,28 @@
 use Rattle.std.proofs.Common.{Bool, Err, List, Ok, Result, ap, eqb-true, false, not, refl, subst}
 use Rattle.std.proofs.Common.{suc, sym, true, ℕ, ◌&&◌, ◌==◌, ◌∙◌, ◌≡◌}
 use Rattle.std.proofs.lemmas.Bool.{and_parts, cond-false}
-use Rattle.urb_names.specs.Carried.{Carried}
-use Rattle.urb_names.specs.Naming.{Content, Limits}
+use Rattle.urb_names.specs.CarriedPackets.{Carried}
+use Rattle.urb_names.specs.LabelsAndContents.{Content, Limits}
 use Rattle.urb_names.specs.declared.refusal.NoMemory.{NoMemory}
 use Rattle.urb_names.specs.declared.refusal.Refusal.{Refusal}
 use Rattle.urb_names.specs.declared.refusal.Refusal.TheVariants as refusal
 use Rattle.urb_stable.specs.Entries.{Entry}
-use Rattle.urb_stable.specs.Placed.{Placed}
-use Rattle.urb_node.specs.Moves.{Arrives, Confirms, Crashes, Fails, IsRefusedAs, LeadsTo, Restarts}
-use Rattle.urb_node.specs.Moves.{Submits, Ticks}
+use Rattle.urb_stable.specs.PlacedRecords.{Placed}
+use Rattle.urb_node.specs.CallEffects.{Arrives, Confirms, Crashes, Fails, IsRefusedAs, LeadsTo, Restarts}
+use Rattle.urb_node.specs.CallEffects.{Submits, Ticks}
 use Rattle.urb_node.specs.Part.{Node, Ready, State}
 use Rattle.urb_node.specs.Replies.{Done, Refused, Reply}
 use Rattle.urb_node.specs.Steps.{arrives, commits, is_down, is_storing, next_position, same_record}
 use Rattle.urb_node.specs.Steps.{submits, ticks}
-use Rattle.urb_node.specs.Values.{Fallen, Holding, Memory, ShowsReady, ShowsStoring, draft_of}
+use Rattle.urb_node.specs.NodeMemories.{Fallen, Holding, Memory, ShowsReady, ShowsStoring, draft_of}
 use Rattle.urb_node.specs.declared.step.Step.{Step}
 use Rattle.urb_node.specs.declared.step.Step.TheVariants as step
-use Rattle.urb_group.specs.internal.Moving.{ArrivesAt, CommitsAt, CrashesAt, FailsAt, HoldsAt}
-use Rattle.urb_group.specs.internal.Moving.{Leads, RestartsAt, SubmitsAt, TicksAt, after_step}
-use Rattle.urb_group.specs.internal.Moving.{arrives_as, told_taken}
+use Rattle.urb_group.specs.internal.PlaceCalls.{ArrivesAt, CommitsAt, CrashesAt, FailsAt, HoldsAt}
+use Rattle.urb_group.specs.internal.PlaceCalls.{Leads, RestartsAt, SubmitsAt, TicksAt, after_step}
+use Rattle.urb_group.specs.internal.PlaceCalls.{arrives_as, told_taken}
 use Rattle.urb_group.specs.declared.node_moves.Node.{Node as Place}
 use Rattle.urb_group.specs.declared.node_moves.Node.TheVariants as place
-use Rattle.urb_node.proofs.Calls.{same_record-true}
+use Rattle.urb_node.proofs.RestartReplies.{same_record-true}
 
 -- a client's message, by its parts
 abbrev pub content : ℕ → ℕ → List ℕ → Content

@@ -7,22 +7,22 @@ use Rattle.std.proofs.lemmas.Bool.{not_from_true}
 use Rattle.std.specs.List.{AllByRecursion}
 use Rattle.urb_group.proofs.steps.Growth.{begins-itself, begins-trans, run-goes_on}
 use Rattle.urb_group.proofs.steps.OneNodeStep.{updated-at}
-use Rattle.urb_group.proofs.recovery.WorldsGoOn.{Calm, CountsAt, Onward, known-sender, known-stays}
-use Rattle.urb_group.proofs.recovery.WorldsGoOn.{knows-pair, node-stays, onward-further}
-use Rattle.urb_group.proofs.recovery.WorldsGoOn.{onward-still, run-sound, sent-stays, truth-stays}
+use Rattle.urb_group.proofs.recovery.ContinuedWorlds.{Calm, CountsAt, Onward, known-sender, known-stays}
+use Rattle.urb_group.proofs.recovery.ContinuedWorlds.{knows-pair, node-stays, onward-further}
+use Rattle.urb_group.proofs.recovery.ContinuedWorlds.{onward-still, run-sound, sent-stays, truth-stays}
 use Rattle.urb_group.proofs.recovery.EventPlans.{Course, Reaches, reaches-append, reaches-each}
 use Rattle.urb_group.proofs.recovery.EventPlans.{reaches-none, reaches-one, reaches-weaker}
 use Rattle.urb_group.proofs.recovery.CountedArrivals.{Counts, Took, arrives-settles, knows, settled}
 use Rattle.urb_group.proofs.steps.ConfirmedPackets.{borne-pair}
-use Rattle.urb_group.specs.Recovered.{IsDone, WasSent}
-use Rattle.urb_group.specs.Recovering.{after, carries, each, receipt_of, stores}
+use Rattle.urb_group.specs.RecoveredWorlds.{IsDone, WasSent}
+use Rattle.urb_group.specs.RecoveryPlans.{after, carries, each, receipt_of, stores}
 use Rattle.urb_group.specs.Step.{Arrive, Commit, is_for, run, step, world_after}
 use Rattle.urb_group.specs.World.{World, stored, truthful}
-use Rattle.urb_names.specs.Beginnings.{Begins}
-use Rattle.urb_names.specs.Carried.{Carried}
-use Rattle.urb_names.specs.Naming.{Label, Limits}
+use Rattle.urb_names.specs.ListPrefixes.{Begins}
+use Rattle.urb_names.specs.CarriedPackets.{Carried}
+use Rattle.urb_names.specs.LabelsAndContents.{Label, Limits}
 use Rattle.urb_names.specs.Nodes.{is_node}
-use Rattle.urb_node.proofs.Calls.{same_record-same}
+use Rattle.urb_node.proofs.RestartReplies.{same_record-same}
 use Rattle.urb_node.specs.Part.{Down, Node, Ready, State, Storing}
 use Rattle.urb_node.specs.Replies.{Reply, Stored, packets_in}
 use Rattle.urb_node.specs.Steps.{arrives, commits, done, is_down, is_storing, keeps_record}

@@ -6,23 +6,23 @@ use Rattle.std.proofs.Common.{◌+◌, ◌<◌, ◌==◌, ◌∙◌, ◌∷◌, 
 use Rattle.std.proofs.lemmas.Bool.{and_parts, cases_lt, false≢true, or_cases}
 use Rattle.std.proofs.lemmas.List.{length-map}
 use Rattle.urb_group.proofs.recovery.NodeLists.{sender-node}
-use Rattle.urb_group.proofs.recovery.WorldsGoOn.{Sound, known-sender}
+use Rattle.urb_group.proofs.recovery.ContinuedWorlds.{Sound, known-sender}
 use Rattle.urb_group.proofs.safety.SafeWorlds.{safe}
 use Rattle.urb_group.proofs.recovery.CountedArrivals.{knows}
-use Rattle.urb_group.specs.Recovered.{AllDelivered}
-use Rattle.urb_group.specs.Safe.{IsInOrder}
+use Rattle.urb_group.specs.RecoveredWorlds.{AllDelivered}
+use Rattle.urb_group.specs.SafetyProperties.{IsInOrder}
 use Rattle.urb_group.specs.World.{World, stored}
-use Rattle.urb_names.proofs.Released.{has_name-part}
+use Rattle.urb_names.proofs.LogRows.{has_name-part}
 use Rattle.urb_names.specs.Names.{has_name, name, names}
-use Rattle.urb_names.specs.Naming.{Content, Label}
+use Rattle.urb_names.specs.LabelsAndContents.{Content, Label}
 use Rattle.urb_names.specs.Nodes.{is_node, numbers_from}
 use Rattle.urb_names.specs.Pairs.{message_of}
 use Rattle.urb_names.proofs.Places.{get_some}
 use Rattle.urb_names.specs.Release.{part_of}
 use Rattle.urb_node.specs.Part.{Ready}
 use Rattle.urb_stable.proofs.KeptRules.{kept-numbered}
-use Rattle.urb_stable.proofs.Logs.{delivers}
-use Rattle.urb_stable.specs.Log.{log}
+use Rattle.urb_stable.proofs.LogGrowth.{delivers}
+use Rattle.urb_stable.specs.DeliveredLogs.{log}
 use Rattle.urb_stable.specs.Records.{cert, pend}
 
 -- ---- names of a sender, by number

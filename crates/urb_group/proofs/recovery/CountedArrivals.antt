@@ -5,17 +5,17 @@ use Rattle.std.proofs.Common.{inl, inr, is_none, is_some, not, refl, subst, sym,
 use Rattle.std.proofs.Common.{◌++◌, ◌==◌, ◌||◌, ◌∙◌, ◌∷◌, ◌≡◌, ◌⊎◌}
 use Rattle.std.proofs.lemmas.Bool.{cases_Bool, cond_both, false_from_ne_true, false≢true, not-false}
 use Rattle.std.proofs.lemmas.Bool.{or_left, or_right}
-use Rattle.urb_group.proofs.steps.ArriveCases.{any-heard}
+use Rattle.urb_group.proofs.steps.ArrivalCases.{any-heard}
 use Rattle.urb_group.proofs.hearing.CountedNodes.{acked-cases, acked-itself, acked-stays}
-use Rattle.urb_group.specs.Invariant.{AcksKept}
-use Rattle.urb_group.specs.Recovered.{IsDone}
+use Rattle.urb_group.specs.RunInvariant.{AcksKept}
+use Rattle.urb_group.specs.RecoveredWorlds.{IsDone}
 use Rattle.urb_names.proofs.FoundPairs.{message_of-new, message_of-other, none_found}
 use Rattle.urb_names.proofs.SameNames.{any_left, any_right, majority_grows, same_name-same}
 use Rattle.urb_names.proofs.SameNames.{same_name-true}
-use Rattle.urb_names.specs.Acknowledged.{acked, with_ack}
-use Rattle.urb_names.specs.Carried.{Carried, says_certified}
+use Rattle.urb_names.specs.Acknowledgements.{acked, with_ack}
+use Rattle.urb_names.specs.CarriedPackets.{Carried, says_certified}
 use Rattle.urb_names.specs.Names.{has_name, same_name}
-use Rattle.urb_names.specs.Naming.{Content, Label, Limits}
+use Rattle.urb_names.specs.LabelsAndContents.{Content, Label, Limits}
 use Rattle.urb_names.specs.Nodes.{majority_passes}
 use Rattle.urb_names.specs.Pairs.{message_of}
 use Rattle.urb_names.specs.declared.flags.Flags.{Flags}

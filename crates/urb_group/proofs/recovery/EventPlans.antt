@@ -1,8 +1,8 @@
 -- Lists of events that succeed, one after the other, and what they lead to.
 use Rattle.std.proofs.Common.{List, [], refl, subst, sym, ◌++◌, ◌∷◌, ◌≡◌}
 use Rattle.std.specs.List.{AllByRecursion}
-use Rattle.urb_group.specs.Recovered.{Goes, IsDone, IsHarmless}
-use Rattle.urb_group.specs.Recovering.{Plan, after, both, each}
+use Rattle.urb_group.specs.RecoveredWorlds.{Goes, IsDone, IsHarmless}
+use Rattle.urb_group.specs.RecoveryPlans.{Plan, after, both, each}
 use Rattle.urb_group.specs.Step.{Event, run, step}
 use Rattle.urb_group.specs.World.{World}
 

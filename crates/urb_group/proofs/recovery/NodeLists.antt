@@ -5,16 +5,16 @@ use Rattle.std.proofs.Common.{not, refl, suc, sym, true, zero, ℕ, ⊎_elim, �
 use Rattle.std.proofs.Common.{◌≡◌, ◌≤◌, inl, inr}
 use Rattle.std.proofs.lemmas.Bool.{and_from, and_parts, cases_eq, cond_both, false≢true}
 use Rattle.std.specs.List.{AllByRecursion}
-use Rattle.urb_group.proofs.recovery.WorldsGoOn.{Sound, known-pair, known-sender}
+use Rattle.urb_group.proofs.recovery.ContinuedWorlds.{Sound, known-pair, known-sender}
 use Rattle.urb_group.proofs.recovery.CountedArrivals.{knows}
 use Rattle.urb_group.proofs.ticks.Membership.{IsIn, in-filter, in-flat_map, in-map}
-use Rattle.urb_group.proofs.recovery.SentByTicks.{resent_packets}
+use Rattle.urb_group.proofs.recovery.TickPackets.{resent_packets}
 use Rattle.urb_group.specs.World.{World, stored}
 use Rattle.urb_names.proofs.SentPairs.{all_append}
-use Rattle.urb_names.specs.Acknowledged.{acked}
-use Rattle.urb_names.specs.Carried.{Carried, others, packets_to, to_unheard}
+use Rattle.urb_names.specs.Acknowledgements.{acked}
+use Rattle.urb_names.specs.CarriedPackets.{Carried, others, packets_to, to_unheard}
 use Rattle.urb_names.specs.Names.{has_name}
-use Rattle.urb_names.specs.Naming.{Content, Label}
+use Rattle.urb_names.specs.LabelsAndContents.{Content, Label}
 use Rattle.urb_names.specs.Nodes.{is_node, nodes, numbers_from}
 use Rattle.urb_names.specs.declared.flags.Flags.{Flags}
 use Rattle.urb_node.specs.Part.{Node}

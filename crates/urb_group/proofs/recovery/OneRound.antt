@@ -8,28 +8,28 @@ use Rattle.std.specs.List.{AllByRecursion}
 use Rattle.urb_group.proofs.recovery.CarriedPackets.{Carriable, IsToldBy, all-carried, moved-each}
 use Rattle.urb_group.proofs.ticks.DuePairs.{due-few, due-rises, in-due}
 use Rattle.urb_group.proofs.steps.Growth.{run-goes_on}
-use Rattle.urb_group.proofs.recovery.WorldsGoOn.{Calm, CountsAt, Onward, known-pair, known-sender}
-use Rattle.urb_group.proofs.recovery.WorldsGoOn.{known-stays, knows-pair, node-stays}
-use Rattle.urb_group.proofs.recovery.WorldsGoOn.{onward-further, onward-still, run-sound}
-use Rattle.urb_group.proofs.recovery.WorldsGoOn.{truth-stays}
+use Rattle.urb_group.proofs.recovery.ContinuedWorlds.{Calm, CountsAt, Onward, known-pair, known-sender}
+use Rattle.urb_group.proofs.recovery.ContinuedWorlds.{known-stays, knows-pair, node-stays}
+use Rattle.urb_group.proofs.recovery.ContinuedWorlds.{onward-further, onward-still, run-sound}
+use Rattle.urb_group.proofs.recovery.ContinuedWorlds.{truth-stays}
 use Rattle.urb_group.proofs.recovery.EventPlans.{Course, Reaches, reaches-append, reaches-each}
 use Rattle.urb_group.proofs.recovery.EventPlans.{reaches-weaker}
 use Rattle.urb_group.proofs.recovery.CountedArrivals.{Counts, certified-counts, knows}
 use Rattle.urb_group.proofs.ticks.Membership.{IsIn, all-in, in-all}
 use Rattle.urb_group.proofs.ticks.Membership.{in-place, in-right}
-use Rattle.urb_group.proofs.recovery.SentByTicks.{Ticks, due_pairs, resent_packets, tick_events}
-use Rattle.urb_group.proofs.recovery.SentByTicks.{ticks-go}
+use Rattle.urb_group.proofs.recovery.TickPackets.{Ticks, due_pairs, resent_packets, tick_events}
+use Rattle.urb_group.proofs.recovery.TickPackets.{ticks-go}
 use Rattle.urb_group.proofs.steps.ConfirmedPackets.{to_borne}
-use Rattle.urb_group.proofs.ticks.TicksReachEach.{all-turn, cursor_after, in-turns, turns}
-use Rattle.urb_group.specs.Recovering.{after, carries, each, packets_of, round_of, rounds}
+use Rattle.urb_group.proofs.ticks.TickCoverage.{all-turn, cursor_after, in-turns, turns}
+use Rattle.urb_group.specs.RecoveryPlans.{after, carries, each, packets_of, round_of, rounds}
 use Rattle.urb_group.specs.Step.{run}
 use Rattle.urb_group.specs.World.{World, bears_out, stored}
 use Rattle.urb_names.proofs.SentPairs.{AllIn, all-from, in_due, in_itself, in_rising}
-use Rattle.urb_names.specs.Acknowledged.{acked}
-use Rattle.urb_names.specs.Carried.{Carried, IsFrom}
-use Rattle.urb_names.specs.Cyclic.{rising}
+use Rattle.urb_names.specs.Acknowledgements.{acked}
+use Rattle.urb_names.specs.CarriedPackets.{Carried, IsFrom}
+use Rattle.urb_names.specs.CyclicOrder.{rising}
 use Rattle.urb_names.specs.Names.{has_name}
-use Rattle.urb_names.specs.Naming.{Content, Label, Limits}
+use Rattle.urb_names.specs.LabelsAndContents.{Content, Label, Limits}
 use Rattle.urb_names.specs.Nodes.{is_node, nodes}
 use Rattle.urb_names.specs.Pairs.{has_pair}
 use Rattle.urb_node.specs.Part.{Node, Ready}

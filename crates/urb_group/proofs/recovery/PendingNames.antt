@@ -7,11 +7,11 @@ use Rattle.std.proofs.lemmas.Bool.{and_parts, cases_Bool, false≢true}
 use Rattle.std.proofs.lemmas.List.Concat.{length-flat_map}
 use Rattle.std.proofs.lemmas.List.{length-append}
 use Rattle.std.specs.List.{list_all, sum_by}
-use Rattle.urb_group.proofs.ticks.DueInTurn.{in-has}
+use Rattle.urb_group.proofs.ticks.DueTurns.{in-has}
 use Rattle.urb_group.proofs.ticks.DuePairs.{has_pair-rising, length-rising, rises-records}
 use Rattle.urb_group.proofs.ticks.DuePairs.{rises-rising}
 use Rattle.urb_group.proofs.recovery.NodeLists.{in-nodes, in-numbers, sender-node}
-use Rattle.urb_group.proofs.recovery.WorldsGoOn.{Sound, known-pair, known-sender, knows-pair}
+use Rattle.urb_group.proofs.recovery.ContinuedWorlds.{Sound, known-pair, known-sender, knows-pair}
 use Rattle.urb_group.proofs.recovery.CountedArrivals.{knows}
 use Rattle.urb_group.proofs.ticks.Membership.{IsIn, in-flat_map, in-map}
 use Rattle.urb_group.proofs.ticks.Membership.{in-split}
@@ -19,9 +19,9 @@ use Rattle.urb_group.proofs.ticks.CyclicOrder.{not_before_itself}
 use Rattle.urb_group.specs.Rounds.{taken}
 use Rattle.urb_group.specs.World.{World, stored}
 use Rattle.urb_names.proofs.FoundPairs.{has_pair-last, own-other, own-push}
-use Rattle.urb_names.specs.Cyclic.{are_rising, rising}
+use Rattle.urb_names.specs.CyclicOrder.{are_rising, rising}
 use Rattle.urb_names.specs.Names.{name, name_lt, names}
-use Rattle.urb_names.specs.Naming.{Content, Label, Limits}
+use Rattle.urb_names.specs.LabelsAndContents.{Content, Label, Limits}
 use Rattle.urb_names.specs.Nodes.{nodes, numbers_from}
 use Rattle.urb_names.specs.Pairs.{has_pair, own}
 use Rattle.urb_stable.proofs.KeptRules.{PairRules, pairs-all}

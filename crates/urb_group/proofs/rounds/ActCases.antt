@@ -1,11 +1,11 @@
 -- The cases of what an event counts as in a round: nothing, a new message, a failure, an arrival,
 -- or a tick.
 use Rattle.std.proofs.Common.{Err, List, Ok, Result, [], refl, ℕ, ◌∷◌, ◌≡◌}
-use Rattle.urb_group.proofs.rounds.TicksAmongEvents.{resent_by}
-use Rattle.urb_group.specs.Delivering.{event_node}
+use Rattle.urb_group.proofs.rounds.EventTicks.{resent_by}
+use Rattle.urb_group.specs.DeliveredMessages.{event_node}
 use Rattle.urb_group.specs.Rounds.{Act, Adds, Arrives, Breaks, Ticks, act_of, disturbance}
 use Rattle.urb_group.specs.Step.{Arrive, Event, Tick}
-use Rattle.urb_names.specs.Carried.{Carried}
+use Rattle.urb_names.specs.CarriedPackets.{Carried}
 use Rattle.urb_names.specs.declared.refusal.PacketFault.{PacketFault}
 use Rattle.urb_node.specs.Replies.{Drafted, Reply, Same, Sent, WentDown}
 

@@ -3,15 +3,15 @@ use Rattle.std.proofs.Common.{List, None, Some, [], ap, append_assoc, refl, subs
 use Rattle.std.proofs.Common.{◌++◌, ◌==◌, ◌∙◌, ◌∷◌, ◌≡◌}
 use Rattle.std.proofs.lemmas.Bool.{cond_both}
 use Rattle.urb_group.proofs.recovery.EventPlans.{after-none}
-use Rattle.urb_group.proofs.rounds.Proceeding.{IsQuiet, ProceedsQuietly, acts-more, acts-none}
-use Rattle.urb_group.specs.Recovered.{Goes, IsHarmless}
-use Rattle.urb_group.specs.Recovering.{after, packets_of}
+use Rattle.urb_group.proofs.rounds.ProceedingEvents.{IsQuiet, ProceedsQuietly, acts-more, acts-none}
+use Rattle.urb_group.specs.RecoveredWorlds.{Goes, IsHarmless}
+use Rattle.urb_group.specs.RecoveryPlans.{after, packets_of}
 use Rattle.urb_group.specs.Rounds.{Act, Adds, Arrives, Breaks, IsUndisturbed, Ticks as Ticking, act_of}
 use Rattle.urb_group.specs.Rounds.{acts_of, disturbance}
 use Rattle.urb_group.specs.Step.{Arrive, Commit, Crash, Event, Fail, Restart, Submit, Tick, at_node}
 use Rattle.urb_group.specs.Step.{run, step, world_after}
 use Rattle.urb_group.specs.World.{World}
-use Rattle.urb_names.specs.Carried.{Carried}
+use Rattle.urb_names.specs.CarriedPackets.{Carried}
 use Rattle.urb_names.specs.Nodes.{is_node}
 use Rattle.urb_names.specs.declared.refusal.Refusal.TheVariants as refusal
 use Rattle.urb_node.specs.Part.{Down, Node, Ready, State, Storing}

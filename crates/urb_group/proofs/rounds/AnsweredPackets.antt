@@ -7,28 +7,28 @@ use Rattle.std.specs.List.{AllByRecursion}
 use Rattle.urb_group.proofs.recovery.CarriedPackets.{Carriable, all-carried, arrive-is}
 use Rattle.urb_group.proofs.recovery.CarriedPackets.{carriable-stays, carries-reaches}
 use Rattle.urb_group.proofs.recovery.EventPlans.{after-append}
-use Rattle.urb_group.proofs.recovery.WorldsGoOn.{Calm, Onward, node-stays}
+use Rattle.urb_group.proofs.recovery.ContinuedWorlds.{Calm, Onward, node-stays}
 use Rattle.urb_group.proofs.rounds.ActCases.{disturbance-cases}
 use Rattle.urb_group.proofs.rounds.ActLists.{acts-append}
 use Rattle.urb_group.proofs.rounds.RoundParts.{AreTicks}
-use Rattle.urb_group.proofs.rounds.Proceeding.{acts-more, acts-none}
-use Rattle.urb_group.proofs.steps.ArriveCases.{any-heard}
+use Rattle.urb_group.proofs.rounds.ProceedingEvents.{acts-more, acts-none}
+use Rattle.urb_group.proofs.steps.ArrivalCases.{any-heard}
 use Rattle.urb_group.proofs.steps.Growth.{begins-itself, begins-trans}
 use Rattle.urb_group.proofs.steps.Runs.{run-tells, step-sends}
 use Rattle.urb_group.proofs.ticks.Membership.{IsIn, all-in, in-all, in-left, in-place, in-right}
-use Rattle.urb_group.specs.Invariant.{NodesKept}
-use Rattle.urb_group.specs.Recovering.{after, carries, comes_back, each, image_with, readied}
-use Rattle.urb_group.specs.Recovering.{receipt_of, stores}
+use Rattle.urb_group.specs.RunInvariant.{NodesKept}
+use Rattle.urb_group.specs.RecoveryPlans.{after, carries, comes_back, each, image_with, readied}
+use Rattle.urb_group.specs.RecoveryPlans.{receipt_of, stores}
 use Rattle.urb_group.specs.Rounds.{Act, Adds, Arrives, Breaks, Ticks, act_of, acts_of, arrival_by}
 use Rattle.urb_group.specs.Rounds.{disturbance, tick_by}
 use Rattle.urb_group.specs.Step.{Arrive, Commit, Event, Restart, run, step}
 use Rattle.urb_group.specs.World.{World, truthful}
 use Rattle.urb_names.proofs.SentPairs.{all_append, all_weaker}
-use Rattle.urb_names.specs.Acknowledged.{acked, with_ack}
-use Rattle.urb_names.specs.Beginnings.{Begins}
-use Rattle.urb_names.specs.Carried.{Carried}
+use Rattle.urb_names.specs.Acknowledgements.{acked, with_ack}
+use Rattle.urb_names.specs.ListPrefixes.{Begins}
+use Rattle.urb_names.specs.CarriedPackets.{Carried}
 use Rattle.urb_names.specs.Names.{has_name}
-use Rattle.urb_names.specs.Naming.{Label, Limits}
+use Rattle.urb_names.specs.LabelsAndContents.{Label, Limits}
 use Rattle.urb_names.specs.Nodes.{is_node, majority_passes}
 use Rattle.urb_names.specs.Pairs.{message_of}
 use Rattle.urb_names.specs.declared.flags.Flags.{Flags}

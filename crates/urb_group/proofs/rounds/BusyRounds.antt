@@ -10,36 +10,36 @@ use Rattle.std.proofs.lemmas.List.{map-append}
 use Rattle.urb_names.specs.declared.limits.TheConstants.{NAMES_PER_TICK}
 use Rattle.urb_group.proofs.recovery.CertifiedNames.{in_order, own-known, reaches-number}
 use Rattle.urb_group.proofs.recovery.CountedArrivals.{knows}
-use Rattle.urb_group.proofs.recovery.NeverStranded.{run-free}
-use Rattle.urb_group.proofs.recovery.WorldsGoOn.{Sound, known-pair, knows-pair, run-sound}
-use Rattle.urb_group.proofs.rounds.HeardInRound.{sound-tells}
+use Rattle.urb_group.proofs.recovery.UnstrandedGroups.{run-free}
+use Rattle.urb_group.proofs.recovery.ContinuedWorlds.{Sound, known-pair, knows-pair, run-sound}
+use Rattle.urb_group.proofs.rounds.RoundArrivals.{sound-tells}
 use Rattle.urb_group.proofs.rounds.OtherNodes.{Other, another}
-use Rattle.urb_group.proofs.rounds.Proceeding.{Proceeds, undisturbed-unbroken}
+use Rattle.urb_group.proofs.rounds.ProceedingEvents.{Proceeds, undisturbed-unbroken}
 use Rattle.urb_group.proofs.rounds.RoundActs.{all-arrive, ticks-counted}
-use Rattle.urb_group.proofs.rounds.SentAmongEvents.{TicksEnough, stored-at-end}
-use Rattle.urb_group.proofs.rounds.StayingUp.{run-hears}
-use Rattle.urb_group.proofs.rounds.StaysCounted.{IsCountedAt, run-size}
+use Rattle.urb_group.proofs.rounds.SentPairs.{TicksEnough, stored-at-end}
+use Rattle.urb_group.proofs.rounds.UpNodes.{run-hears}
+use Rattle.urb_group.proofs.rounds.LastingCounts.{IsCountedAt, run-size}
 use Rattle.urb_group.proofs.rounds.WholeNodes.{whole, whole-acked, whole-certified}
 use Rattle.urb_group.proofs.rounds.WholeNodes.{whole-knows, whole-ready, whole-records}
 use Rattle.urb_group.proofs.steps.Growth.{begins-trans, run-goes_on}
-use Rattle.urb_group.specs.Recovered.{IsNotStranded}
-use Rattle.urb_group.specs.Recovering.{after}
+use Rattle.urb_group.specs.RecoveredWorlds.{IsNotStranded}
+use Rattle.urb_group.specs.RecoveryPlans.{after}
 use Rattle.urb_group.specs.Rounds.{Act, AreUp, HasDeliveredHeld, IsBusyRoundAmong, IsHeldAmong}
 use Rattle.urb_group.specs.Rounds.{IsRoundAmong, acts_of, ticks_of}
 use Rattle.urb_group.specs.Step.{Event, run}
 use Rattle.urb_group.specs.World.{World, stored}
-use Rattle.urb_names.proofs.Released.{row, row-split}
+use Rattle.urb_names.proofs.LogRows.{row, row-split}
 use Rattle.urb_names.proofs.SameNames.{majority_grows}
-use Rattle.urb_names.specs.Acknowledged.{acked}
-use Rattle.urb_names.specs.Beginnings.{Begins}
+use Rattle.urb_names.specs.Acknowledgements.{acked}
+use Rattle.urb_names.specs.ListPrefixes.{Begins}
 use Rattle.urb_names.specs.Names.{has_name, name, names}
-use Rattle.urb_names.specs.Naming.{Content, Label, Limits}
+use Rattle.urb_names.specs.LabelsAndContents.{Content, Label, Limits}
 use Rattle.urb_names.specs.Nodes.{is_node, majority_passes}
 use Rattle.urb_names.specs.Pairs.{has_pair, message_of}
 use Rattle.urb_names.specs.Release.{part_of}
 use Rattle.urb_node.specs.Part.{Node, Ready}
 use Rattle.urb_stable.specs.Entries.{Entry}
-use Rattle.urb_stable.specs.Log.{log}
+use Rattle.urb_stable.specs.DeliveredLogs.{log}
 use Rattle.urb_stable.specs.Records.{cert, pend}
 
 -- a round is a busy one

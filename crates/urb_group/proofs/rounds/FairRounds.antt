@@ -3,20 +3,20 @@
 use Rattle.std.proofs.Common.{Bool, List, arith, ltb-true, nat_lt, subst, suc, sym, true, ℕ}
 use Rattle.std.proofs.Common.{◌∙◌, ◌≡◌}
 use Rattle.std.proofs.lemmas.Bool.{and_parts}
-use Rattle.urb_group.proofs.recovery.AllDelivered.{all-majority, reached-sound}
+use Rattle.urb_group.proofs.recovery.FullDelivery.{all-majority, reached-sound}
 use Rattle.urb_group.proofs.recovery.CertifiedNames.{AllCertified, certified-delivered}
 use Rattle.urb_group.proofs.recovery.CountedArrivals.{knows}
 use Rattle.urb_group.proofs.recovery.NodeLists.{sender-node}
-use Rattle.urb_group.proofs.recovery.WorldsGoOn.{Sound, known-sender, run-sound}
+use Rattle.urb_group.proofs.recovery.ContinuedWorlds.{Sound, known-sender, run-sound}
 use Rattle.urb_group.proofs.rounds.BusyRounds.{certified-at, held-delivered, round-busy}
 use Rattle.urb_group.proofs.rounds.BusyRounds.{stored-messages, stored-names}
-use Rattle.urb_group.proofs.rounds.NoNewNames.{Names, run-names, whole-sender}
-use Rattle.urb_group.proofs.rounds.Proceeding.{Proceeding, Proceeds, ProceedsQuietly, proceeding}
-use Rattle.urb_group.proofs.rounds.Proceeding.{quietly-proceeds, undisturbed-unbroken}
-use Rattle.urb_group.proofs.rounds.StaysCounted.{run-size}
+use Rattle.urb_group.proofs.rounds.KnownNames.{Names, run-names, whole-sender}
+use Rattle.urb_group.proofs.rounds.ProceedingEvents.{Proceeding, Proceeds, ProceedsQuietly, proceeding}
+use Rattle.urb_group.proofs.rounds.ProceedingEvents.{quietly-proceeds, undisturbed-unbroken}
+use Rattle.urb_group.proofs.rounds.LastingCounts.{run-size}
 use Rattle.urb_group.proofs.rounds.WholeNodes.{whole, whole-knows}
-use Rattle.urb_group.specs.Recovered.{AllDelivered, IsNotStranded}
-use Rattle.urb_group.specs.Recovering.{after}
+use Rattle.urb_group.specs.RecoveredWorlds.{AllDelivered, IsNotStranded}
+use Rattle.urb_group.specs.RecoveryPlans.{after}
 use Rattle.urb_group.specs.Rounds.{Act, AllUp, AreUp, HasDeliveredHeld, HasDeliveredStored}
 use Rattle.urb_group.specs.Rounds.{HaveDeliveredHeld, IsBusyRound, IsBusyRoundAmong, IsRound}
 use Rattle.urb_group.specs.Rounds.{IsRoundAmong, IsUnbroken, IsUndisturbed, ReadyHaveDelivered}
@@ -24,7 +24,7 @@ use Rattle.urb_group.specs.Rounds.{acts_of}
 use Rattle.urb_group.specs.Step.{Event, IsReached}
 use Rattle.urb_group.specs.World.{World, stored}
 use Rattle.urb_names.specs.Names.{has_name}
-use Rattle.urb_names.specs.Naming.{Label, Limits}
+use Rattle.urb_names.specs.LabelsAndContents.{Label, Limits}
 use Rattle.urb_names.specs.Nodes.{is_node, majority_passes}
 use Rattle.urb_node.specs.Part.{Ready}
 use Rattle.urb_stable.specs.Records.{cert}

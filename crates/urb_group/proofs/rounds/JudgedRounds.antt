@@ -7,7 +7,7 @@ use Rattle.std.specs.List.{AllByRecursion, list_all}
 use Rattle.urb_names.specs.declared.limits.TheConstants.{NAMES_PER_TICK}
 use Rattle.urb_group.proofs.recovery.PendingNames.{in-list_all}
 use Rattle.urb_group.proofs.recovery.NodeLists.{in-nodes}
-use Rattle.urb_group.specs.Recovering.{after}
+use Rattle.urb_group.specs.RecoveryPlans.{after}
 use Rattle.urb_group.specs.internal.RoundExamples.{BusyVerdict, Verdict, a_busy_round, a_round}
 use Rattle.urb_group.specs.internal.RoundExamples.{answers_arrive, does_arrive, is_ready}
 use Rattle.urb_group.specs.internal.RoundExamples.{is_unbroken, is_undisturbed, judged, judged_acts}
@@ -20,9 +20,9 @@ use Rattle.urb_group.specs.Scenes.{held_by}
 use Rattle.urb_group.specs.Step.{Event}
 use Rattle.urb_group.specs.World.{World, stored}
 use Rattle.urb_names.proofs.SameNames.{same_message-true, same_name-true}
-use Rattle.urb_names.specs.Carried.{Carried}
+use Rattle.urb_names.specs.CarriedPackets.{Carried}
 use Rattle.urb_names.specs.Names.{same_message, same_name}
-use Rattle.urb_names.specs.Naming.{Content, Label}
+use Rattle.urb_names.specs.LabelsAndContents.{Content, Label}
 use Rattle.urb_names.specs.Nodes.{is_node, nodes}
 use Rattle.urb_names.specs.declared.flags.Flags.{Flags}
 use Rattle.urb_node.specs.Part.{Down, Ready, State, Storing}

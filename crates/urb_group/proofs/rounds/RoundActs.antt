@@ -2,20 +2,20 @@
 use Rattle.std.proofs.Common.{Bool, List, Ok, Result, [], ap, if◌then◌else◌, inl, inr, refl, subst}
 use Rattle.std.proofs.Common.{suc, sym, true, ℕ, ⊎_elim, ◌&&◌, ◌++◌, ◌∙◌, ◌∷◌, ◌≡◌, ◌⊎◌}
 use Rattle.std.specs.List.{AllByRecursion}
-use Rattle.urb_group.proofs.rounds.StaysCounted.{arrive-done}
-use Rattle.urb_group.proofs.rounds.Proceeding.{Proceeds, acts-more, acts-none}
-use Rattle.urb_group.proofs.rounds.StayingUp.{tick-done}
-use Rattle.urb_group.proofs.rounds.TicksAmongEvents.{IsAmong, is_tick_of, resent_by, ticks_among}
-use Rattle.urb_group.specs.Recovered.{IsDone}
+use Rattle.urb_group.proofs.rounds.LastingCounts.{arrive-done}
+use Rattle.urb_group.proofs.rounds.ProceedingEvents.{Proceeds, acts-more, acts-none}
+use Rattle.urb_group.proofs.rounds.UpNodes.{tick-done}
+use Rattle.urb_group.proofs.rounds.EventTicks.{IsAmong, is_tick_of, resent_by, ticks_among}
+use Rattle.urb_group.specs.RecoveredWorlds.{IsDone}
 use Rattle.urb_group.specs.Rounds.{Act, DoArrive, DoesArrive, TicksArrive, act_of, acts_of}
 use Rattle.urb_group.specs.Rounds.{arrival_by, disturbance, tick_by, ticks_of}
 use Rattle.urb_group.specs.Step.{Arrive, Event, Tick, step}
 use Rattle.urb_group.specs.World.{World}
-use Rattle.urb_names.specs.Carried.{Carried}
+use Rattle.urb_names.specs.CarriedPackets.{Carried}
 use Rattle.urb_names.specs.declared.refusal.PacketFault.{PacketFault}
 use Rattle.urb_node.specs.Replies.{Reply}
 use Rattle.urb_group.proofs.rounds.ActCases.{act-cases, disturbance-cases}
-use Rattle.urb_group.specs.Delivering.{event_node}
+use Rattle.urb_group.specs.DeliveredMessages.{event_node}
 
 -- ---- ticks
 

@@ -6,31 +6,31 @@ use Rattle.std.proofs.Common.{zero, ℕ, ⊎_elim, ◌&&◌, ◌+◌, ◌++◌, 
 use Rattle.std.proofs.lemmas.Bool.{cond-false, cond-true, cond_both}
 use Rattle.std.specs.List.{AllByRecursion}
 use Rattle.urb_group.proofs.rounds.ActLists.{acts-append, goes-quietly, packets-append}
-use Rattle.urb_group.proofs.steps.ArriveCases.{arrive-cases}
+use Rattle.urb_group.proofs.steps.ArrivalCases.{arrive-cases}
 use Rattle.urb_group.proofs.recovery.CarriedPackets.{Carriable}
 use Rattle.urb_group.proofs.recovery.CarriedPackets.{carriable-stays}
-use Rattle.urb_group.proofs.rounds.StaysCounted.{arrive-done}
-use Rattle.urb_group.proofs.rounds.TicksAmongEvents.{is_tick_of, ticks_among}
-use Rattle.urb_group.proofs.recovery.WorldsGoOn.{Calm, Onward, onward-further, onward-still}
+use Rattle.urb_group.proofs.rounds.LastingCounts.{arrive-done}
+use Rattle.urb_group.proofs.rounds.EventTicks.{is_tick_of, ticks_among}
+use Rattle.urb_group.proofs.recovery.ContinuedWorlds.{Calm, Onward, onward-further, onward-still}
 use Rattle.urb_group.proofs.recovery.EventPlans.{Reaches, after-none}
 use Rattle.urb_group.proofs.recovery.EventPlans.{reaches-append, reaches-none, reaches-weaker}
-use Rattle.urb_group.proofs.rounds.Proceeding.{Proceeds, acts-more, acts-none}
-use Rattle.urb_group.proofs.rounds.Proceeding.{after-more, quietly-proceeds}
+use Rattle.urb_group.proofs.rounds.ProceedingEvents.{Proceeds, acts-more, acts-none}
+use Rattle.urb_group.proofs.rounds.ProceedingEvents.{after-more, quietly-proceeds}
 use Rattle.urb_group.proofs.recovery.OneRound.{calm-ticks, may-carry, onward-ticks, ticks}
 use Rattle.urb_group.proofs.ticks.Membership.{IsIn, all-in, in-all, in-left, in-right}
-use Rattle.urb_group.proofs.rounds.StayingUp.{tick-done}
-use Rattle.urb_group.proofs.recovery.SentByTicks.{tick_events}
-use Rattle.urb_group.specs.Recovered.{Goes, IsDone}
-use Rattle.urb_group.specs.Recovering.{Plan, after, carries, comes_back, each, packets_of}
-use Rattle.urb_group.specs.Recovering.{readied, receipt_of, stores}
+use Rattle.urb_group.proofs.rounds.UpNodes.{tick-done}
+use Rattle.urb_group.proofs.recovery.TickPackets.{tick_events}
+use Rattle.urb_group.specs.RecoveredWorlds.{Goes, IsDone}
+use Rattle.urb_group.specs.RecoveryPlans.{Plan, after, carries, comes_back, each, packets_of}
+use Rattle.urb_group.specs.RecoveryPlans.{readied, receipt_of, stores}
 use Rattle.urb_group.specs.Rounds.{Act, Adds, Arrives, Breaks, DoesArrive}
 use Rattle.urb_group.specs.Rounds.{Ticks as Ticking, TicksArrive, act_of, acts_of, arrival_by}
 use Rattle.urb_group.specs.Rounds.{tick_by}
 use Rattle.urb_group.specs.Step.{Arrive, Event, Tick, run, step, world_after}
 use Rattle.urb_group.specs.World.{World}
 use Rattle.urb_names.proofs.SentPairs.{all_append}
-use Rattle.urb_names.specs.Carried.{Carried}
-use Rattle.urb_names.specs.Naming.{Limits}
+use Rattle.urb_names.specs.CarriedPackets.{Carried}
+use Rattle.urb_names.specs.LabelsAndContents.{Limits}
 use Rattle.urb_names.specs.Nodes.{is_node}
 use Rattle.urb_node.specs.Part.{Down, Node, Ready, State, Storing}
 use Rattle.urb_node.specs.Replies.{Reply, packets_in}

@@ -10,12 +10,12 @@ use Rattle.urb_group.proofs.recovery.CountedArrivals.{counted, few, pair_settles
 use Rattle.urb_group.proofs.rounds.OtherNodes.{another}
 use Rattle.urb_group.proofs.rounds.WholeNodes.{Further, further-itself, whole, whole-ready}
 use Rattle.urb_group.proofs.steps.Growth.{begins-push}
-use Rattle.urb_group.specs.Invariant.{NodeKept}
-use Rattle.urb_group.specs.Recovered.{IsDone}
+use Rattle.urb_group.specs.RunInvariant.{NodeKept}
+use Rattle.urb_group.specs.RecoveredWorlds.{IsDone}
 use Rattle.urb_names.proofs.Places.{get_none}
-use Rattle.urb_names.specs.Acknowledged.{acked, with_ack}
+use Rattle.urb_names.specs.Acknowledgements.{acked, with_ack}
 use Rattle.urb_names.specs.Names.{has_name, name}
-use Rattle.urb_names.specs.Naming.{Content, Label, Limits}
+use Rattle.urb_names.specs.LabelsAndContents.{Content, Label, Limits}
 use Rattle.urb_names.specs.Nodes.{is_node, majority_passes}
 use Rattle.urb_names.specs.Pairs.{message_of, own}
 use Rattle.urb_node.proofs.SubmitCases.{IsNew, next_name, submits-cases}

@@ -5,15 +5,15 @@ use Rattle.std.proofs.Common.{sym, true, ℕ, ◌++◌, ◌≡◌, ◌≤◌}
 use Rattle.std.proofs.lemmas.List.{length-append}
 use Rattle.urb_group.proofs.hearing.CountedNodes.{acked-stays, cause-stays}
 use Rattle.urb_group.proofs.recovery.CountedArrivals.{Counts, knows, settled}
-use Rattle.urb_group.proofs.recovery.WorldsGoOn.{found-begins}
+use Rattle.urb_group.proofs.recovery.ContinuedWorlds.{found-begins}
 use Rattle.urb_group.proofs.steps.Growth.{begins-itself, begins-push, begins-trans}
 use Rattle.urb_group.proofs.steps.Growth.{certificate-begins}
 use Rattle.urb_group.specs.Scenes.{held_by}
 use Rattle.urb_names.proofs.FoundPairs.{some_found}
-use Rattle.urb_names.specs.Acknowledged.{acked}
-use Rattle.urb_names.specs.Beginnings.{Begins}
+use Rattle.urb_names.specs.Acknowledgements.{acked}
+use Rattle.urb_names.specs.ListPrefixes.{Begins}
 use Rattle.urb_names.specs.Names.{has_name}
-use Rattle.urb_names.specs.Naming.{Content, Label}
+use Rattle.urb_names.specs.LabelsAndContents.{Content, Label}
 use Rattle.urb_names.specs.Pairs.{message_of}
 use Rattle.urb_node.specs.Part.{Down, Node, Ready, State, Storing}
 use Rattle.urb_node.specs.Steps.{acks_after}

@@ -7,13 +7,13 @@ use Rattle.std.proofs.lemmas.Bool.{cases_lt, or_left, or_right}
 use Rattle.std.proofs.lemmas.List.{length-map, take-append-le}
 use Rattle.std.proofs.lemmas.List.Elements.{filter-append}
 use Rattle.urb_group.proofs.steps.Growth.{begins-trans, log-begins}
-use Rattle.urb_group.specs.Growing.{AgreeInTime, EntriesGrow, GoesOn}
-use Rattle.urb_group.specs.Safe.{IsInOrder, Safe}
-use Rattle.urb_names.specs.Beginnings.{Begins, OneBegins}
+use Rattle.urb_group.specs.RunMoments.{AgreeInTime, EntriesGrow, GoesOn}
+use Rattle.urb_group.specs.SafetyProperties.{IsInOrder, Safe}
+use Rattle.urb_names.specs.ListPrefixes.{Begins, OneBegins}
 use Rattle.urb_group.specs.World.{World, stored}
-use Rattle.urb_names.proofs.Released.{row}
+use Rattle.urb_names.proofs.LogRows.{row}
 use Rattle.urb_names.specs.Names.{name}
-use Rattle.urb_names.specs.Naming.{Content, Label}
+use Rattle.urb_names.specs.LabelsAndContents.{Content, Label}
 use Rattle.urb_names.specs.Pairs.{message_of}
 use Rattle.urb_names.specs.Release.{part_of}
 use Rattle.urb_names.proofs.FoundPairs.{message_of-more}
@@ -21,7 +21,7 @@ use Rattle.urb_names.proofs.SameNames.{same_name-same}
 use Rattle.urb_names.specs.Names.{has_name, same_name}
 use Rattle.urb_stable.proofs.JoinedRecords.{pend-append}
 use Rattle.urb_stable.specs.Entries.{Entry}
-use Rattle.urb_stable.specs.Log.{entries, entries_of, log}
+use Rattle.urb_stable.specs.DeliveredLogs.{entries, entries_of, log}
 use Rattle.urb_stable.specs.Records.{pend}
 
 -- ---- beginnings

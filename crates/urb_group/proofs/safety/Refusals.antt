@@ -2,16 +2,16 @@
 use Rattle.std.proofs.Common.{Bool, List, ap, append-nil, ap₂, cond, eqb-true, false, refl, sym}
 use Rattle.std.proofs.Common.{true, ℕ, ◌++◌, ◌==◌, ◌∙◌, ◌≡◌}
 use Rattle.std.proofs.Math.Path.{fun_ext}
-use Rattle.urb_group.proofs.steps.ArriveCases.{arrive-cases}
+use Rattle.urb_group.proofs.steps.ArrivalCases.{arrive-cases}
 use Rattle.urb_group.specs.Step.{Event, step}
 use Rattle.urb_group.specs.World.{World, updated}
-use Rattle.urb_names.specs.Carried.{Carried}
+use Rattle.urb_names.specs.CarriedPackets.{Carried}
 use Rattle.urb_names.specs.declared.refusal.Refusal.{Refusal}
 use Rattle.urb_node.specs.Part.{Node}
 use Rattle.urb_node.specs.Replies.{Refused, Reply, packets_in}
 use Rattle.urb_group.proofs.steps.StepCases.{OutcomeCases, node_of, outcome-cases, outcome_of}
 use Rattle.urb_group.proofs.steps.StepCases.{step-cases}
-use Rattle.urb_group.specs.Delivering.{event_node}
+use Rattle.urb_group.specs.DeliveredMessages.{event_node}
 
 -- if it refuses, the node stays
 abbrev Quiet : Node → Reply × Node → Type 0

@@ -5,10 +5,10 @@ use Rattle.urb_group.proofs.safety.AgreeingLogs.{agree-later, entries-all_grow}
 use Rattle.urb_group.proofs.steps.Growth.{run-goes_on}
 use Rattle.urb_group.proofs.steps.Runs.{run-kept, run-tells, run-truthful}
 use Rattle.urb_group.proofs.safety.SafeWorlds.{safe}
-use Rattle.urb_group.specs.Growing.{AgreeInTime, EntriesGrow}
-use Rattle.urb_group.specs.Invariant.{IsKept}
+use Rattle.urb_group.specs.RunMoments.{AgreeInTime, EntriesGrow}
+use Rattle.urb_group.specs.RunInvariant.{IsKept}
 use Rattle.urb_group.specs.Step.{Event, Run}
-use Rattle.urb_group.specs.Truth.{AllTruthful, AreTruthful, ToldTruth}
+use Rattle.urb_group.specs.TruthfulPackets.{AllTruthful, AreTruthful, ToldTruth}
 use Rattle.urb_group.specs.World.{World, truthful}
 use Rattle.urb_names.proofs.SentPairs.{all_weaker}
 use Rattle.urb_node.specs.Replies.{Reply}

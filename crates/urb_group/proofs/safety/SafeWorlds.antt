@@ -2,22 +2,22 @@
 use Rattle.std.proofs.Common.{List, Option, Some, ap, ap₂, arith, drop, length, map, refl, reverse}
 use Rattle.std.proofs.Common.{slice_get, suc, sym, take, true, zero, ℕ, ◌+◌, ◌<◌, ◌∙◌, ◌∷◌, ◌≡◌}
 use Rattle.std.proofs.Common.{◌≤◌}
-use Rattle.urb_group.proofs.steps.Drafting.{AllKept, agree, to_sender}
+use Rattle.urb_group.proofs.steps.DraftedRecords.{AllKept, agree, to_sender}
 use Rattle.urb_group.proofs.steps.Runs.{all_kept}
-use Rattle.urb_group.specs.Invariant.{NodesKept}
-use Rattle.urb_group.specs.Safe.{IsInOrder, OneMessage, Safe}
+use Rattle.urb_group.specs.RunInvariant.{NodesKept}
+use Rattle.urb_group.specs.SafetyProperties.{IsInOrder, OneMessage, Safe}
 use Rattle.urb_group.specs.World.{World, stored}
 use Rattle.urb_names.proofs.FoundPairs.{has_pair-found}
 use Rattle.urb_names.proofs.Places.{drop_get}
-use Rattle.urb_names.proofs.Released.{has-row, has_name-part, length-row, no_name_twice}
-use Rattle.urb_names.proofs.Released.{part-released, reach, row}
+use Rattle.urb_names.proofs.LogRows.{has-row, has_name-part, length-row, no_name_twice}
+use Rattle.urb_names.proofs.LogRows.{part-released, reach, row}
 use Rattle.urb_names.specs.Names.{has_name, name}
-use Rattle.urb_names.specs.Naming.{Content, Label}
+use Rattle.urb_names.specs.LabelsAndContents.{Content, Label}
 use Rattle.urb_names.specs.Pairs.{has_pair, message_of}
 use Rattle.urb_names.specs.Release.{part_of}
 use Rattle.urb_stable.proofs.KeptRules.{IsHeld, kept-held, kept-numbered, kept-unique}
-use Rattle.urb_stable.proofs.Logs.{logged_certified}
-use Rattle.urb_stable.specs.Log.{log}
+use Rattle.urb_stable.proofs.LogGrowth.{logged_certified}
+use Rattle.urb_stable.specs.DeliveredLogs.{log}
 use Rattle.urb_stable.specs.Records.{cert, pend}
 
 row_messages : (f : Label → Option Content) (s a k : ℕ) (messages : List Content)

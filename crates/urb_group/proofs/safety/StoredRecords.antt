@@ -2,10 +2,10 @@
 use Rattle.std.proofs.Common.{[], ap, arith, length, length-append, refl, subst, sym, ℕ, ◌&&◌, ◌++◌}
 use Rattle.std.proofs.Common.{◌+◌, ◌==◌, ◌∷◌, ◌≡◌}
 use Rattle.std.proofs.lemmas.Bool.{cond_both}
-use Rattle.urb_group.proofs.steps.ArriveCases.{arrive-cases}
+use Rattle.urb_group.proofs.steps.ArrivalCases.{arrive-cases}
 use Rattle.urb_group.proofs.steps.Growth.{log-begins}
 use Rattle.urb_group.proofs.steps.OneNodeStep.{updated-at}
-use Rattle.urb_group.specs.Delivering.{StoresNothing}
+use Rattle.urb_group.specs.DeliveredMessages.{StoresNothing}
 use Rattle.urb_group.specs.Step.{Commit, Event, step, world_after}
 use Rattle.urb_group.specs.World.{World, stored}
 use Rattle.urb_names.specs.Nodes.{is_node}
@@ -14,9 +14,9 @@ use Rattle.urb_node.specs.Part.{Down, Node, Ready, State, Storing}
 use Rattle.urb_node.specs.Replies.{Done, Refused, Reply, Stored}
 use Rattle.urb_node.specs.Steps.{commits, done, keeps_record, next_position, same_record}
 use Rattle.urb_stable.specs.Entries.{Entry}
-use Rattle.urb_stable.specs.Log.{log}
+use Rattle.urb_stable.specs.DeliveredLogs.{log}
 use Rattle.urb_group.proofs.steps.StepCases.{OutcomeCases, node_of, outcome-cases, step-nodes}
-use Rattle.urb_group.specs.Delivering.{event_node}
+use Rattle.urb_group.specs.DeliveredMessages.{event_node}
 
 -- ---- events that store nothing
 

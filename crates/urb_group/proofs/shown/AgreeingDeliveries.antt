@@ -10,22 +10,22 @@ use Rattle.urb_group.proofs.safety.AgreeingLogs.{agree-now}
 use Rattle.urb_group.proofs.shown.Deliveries.{deliveries-known, known-begins, length-known}
 use Rattle.urb_group.proofs.steps.Runs.{all_kept}
 use Rattle.urb_group.proofs.safety.SafeWorlds.{safe}
-use Rattle.urb_group.specs.Delivering.{Agree, delivered_at, known, sent_by}
-use Rattle.urb_group.specs.Safe.{Safe}
-use Rattle.urb_group.specs.Shown.{GroupView, IsSound}
+use Rattle.urb_group.specs.DeliveredMessages.{Agree, delivered_at, known, sent_by}
+use Rattle.urb_group.specs.SafetyProperties.{Safe}
+use Rattle.urb_group.specs.GroupViews.{GroupView, IsSound}
 use Rattle.urb_group.specs.World.{World, stored}
 use Rattle.urb_names.proofs.FoundPairs.{has_pair-found}
-use Rattle.urb_names.proofs.Released.{has-row, has_name-part}
+use Rattle.urb_names.proofs.LogRows.{has-row, has_name-part}
 use Rattle.urb_names.proofs.SameNames.{same_name-same}
-use Rattle.urb_names.specs.Beginnings.{OneBegins}
+use Rattle.urb_names.specs.ListPrefixes.{OneBegins}
 use Rattle.urb_names.specs.Names.{has_name, name, names, same_name}
-use Rattle.urb_names.specs.Naming.{Content, IsLimits, Label}
+use Rattle.urb_names.specs.LabelsAndContents.{Content, IsLimits, Label}
 use Rattle.urb_names.specs.Nodes.{numbers_from}
 use Rattle.urb_names.specs.Pairs.{message_of}
 use Rattle.urb_names.specs.Release.{part_of}
 use Rattle.urb_stable.proofs.KeptRules.{kept-range}
 use Rattle.urb_stable.specs.Fitting.{in_range}
-use Rattle.urb_stable.specs.Log.{entries_of, log}
+use Rattle.urb_stable.specs.DeliveredLogs.{entries_of, log}
 use Rattle.urb_stable.specs.Records.{pend}
 
 -- ---- one sender's deliveries

@@ -6,27 +6,27 @@ use Rattle.std.proofs.Common.{◌≢◌, ◌+◌}
 use Rattle.std.proofs.lemmas.Bool.{or_left, or_right}
 use Rattle.std.proofs.lemmas.List.{length-map}
 use Rattle.urb_group.proofs.safety.AgreeingLogs.{entries-all_grow}
-use Rattle.urb_group.proofs.shown.ShownWorldsAgree.{sound-kept, sound-step}
+use Rattle.urb_group.proofs.shown.AgreeingWorlds.{sound-kept, sound-step}
 use Rattle.urb_group.proofs.steps.DraftsInSteps.{step-elsewhere}
 use Rattle.urb_group.proofs.steps.Growth.{step-goes_on}
 use Rattle.urb_group.proofs.safety.SafeWorlds.{safe}
 use Rattle.urb_group.proofs.safety.StoredRecords.{commit-released, step-stored}
-use Rattle.urb_group.specs.Calls.{Steps}
-use Rattle.urb_group.specs.Delivering.{Delivery, Follows, StoresNothing, delivered_at, event_node}
-use Rattle.urb_group.specs.Delivering.{known}
-use Rattle.urb_group.specs.Shown.{GroupView, IsSound, Shows, view_of}
+use Rattle.urb_group.specs.GroupCalls.{Steps}
+use Rattle.urb_group.specs.DeliveredMessages.{Delivery, Follows, StoresNothing, delivered_at, event_node}
+use Rattle.urb_group.specs.DeliveredMessages.{known}
+use Rattle.urb_group.specs.GroupViews.{GroupView, IsSound, Shows, view_of}
 use Rattle.urb_group.specs.Step.{Commit, Event, step}
 use Rattle.urb_group.specs.World.{World, stored}
 use Rattle.urb_names.proofs.SameNames.{same_name-same}
-use Rattle.urb_names.specs.Beginnings.{Begins}
+use Rattle.urb_names.specs.ListPrefixes.{Begins}
 use Rattle.urb_names.specs.Names.{has_name, same_name}
-use Rattle.urb_names.specs.Naming.{Content, Label}
+use Rattle.urb_names.specs.LabelsAndContents.{Content, Label}
 use Rattle.urb_names.specs.Pairs.{message_of}
 use Rattle.urb_node.proofs.ShownNodes.{shown-found}
 use Rattle.urb_node.specs.Part.{Node}
 use Rattle.urb_node.specs.Replies.{Done, Stored}
 use Rattle.urb_stable.specs.Entries.{Entry}
-use Rattle.urb_stable.specs.Log.{entries, log}
+use Rattle.urb_stable.specs.DeliveredLogs.{entries, log}
 use Rattle.urb_stable.specs.Records.{pend}
 
 -- ---- what is held is what the worlds have

@@ -5,12 +5,12 @@ use Rattle.std.proofs.Common.{◌∙◌, ◌≡◌}
 use Rattle.std.proofs.lemmas.Bool.{cond-false, cond-true}
 use Rattle.std.proofs.lemmas.Option.{slice_get_read}
 use Rattle.std.specs.Prelude.{slice_get}
-use Rattle.urb_names.specs.Naming.{Limits}
+use Rattle.urb_names.specs.LabelsAndContents.{Limits}
 use Rattle.urb_names.specs.Nodes.{is_node}
 use Rattle.urb_node.specs.Part.{Node}
-use Rattle.urb_group.specs.Calls.{Answers}
-use Rattle.urb_group.specs.Places.{shown}
-use Rattle.urb_group.specs.internal.Places.{IsGroup, ShowsAt}
+use Rattle.urb_group.specs.GroupCalls.{Answers}
+use Rattle.urb_group.specs.PlaceViews.{shown}
+use Rattle.urb_group.specs.internal.PlaceInvariant.{IsGroup, ShowsAt}
 use Rattle.urb_group.specs.declared.node_moves.Node.{Node as Place}
 use Rattle.urb_group.proofs.shown.NodeMoves.{place_shows}
 use Rattle.urb_group.proofs.shown.ShownWorlds.{is-node, no-node}

@@ -4,26 +4,26 @@ use Rattle.std.proofs.Common.{Err, List, Ok, Some, ap, arith, get_or-set_same, l
 use Rattle.std.proofs.Common.{set, slice_index_or, subst, suc, sym, ℕ, ⊎_elim, ◌<◌, ◌∙◌, ◌≡◌}
 use Rattle.std.proofs.lemmas.List.{length-map, length-set, map-set}
 use Rattle.std.specs.Prelude.{slice_get}
-use Rattle.urb_names.specs.Naming.{Limits}
+use Rattle.urb_names.specs.LabelsAndContents.{Limits}
 use Rattle.urb_names.specs.declared.refusal.Refusal.{Refusal}
 use Rattle.urb_names.specs.declared.refusal.Refusal.TheVariants as refusal
-use Rattle.urb_stable.specs.Placed.{Placed}
-use Rattle.urb_node.specs.Moves.{IsRefusedAs}
+use Rattle.urb_stable.specs.PlacedRecords.{Placed}
+use Rattle.urb_node.specs.CallEffects.{IsRefusedAs}
 use Rattle.urb_node.specs.Part.{Node, Storing}
 use Rattle.urb_node.specs.Replies.{Reply}
-use Rattle.urb_node.specs.Shown.{NodeView, ShowsNode, no_view}
-use Rattle.urb_node.specs.Values.{IsSameNode}
-use Rattle.urb_group.specs.Delivering.{event_node}
-use Rattle.urb_group.specs.Calls.{Happens, HoldsDraft, IsRefused, Steps}
-use Rattle.urb_group.specs.internal.Moving.{IsHeldAt, Leads, LeadsAt, Outcomes, Told}
-use Rattle.urb_group.specs.Places.{memory_in, shown, view_at}
-use Rattle.urb_group.specs.internal.Places.{IsGroup, IsNumbered, ShowsAt}
-use Rattle.urb_group.specs.Shown.{GroupView, IsSound, Shows, view_of}
+use Rattle.urb_node.specs.NodeViews.{NodeView, ShowsNode, no_view}
+use Rattle.urb_node.specs.NodeMemories.{IsSameNode}
+use Rattle.urb_group.specs.DeliveredMessages.{event_node}
+use Rattle.urb_group.specs.GroupCalls.{Happens, HoldsDraft, IsRefused, Steps}
+use Rattle.urb_group.specs.internal.PlaceCalls.{IsHeldAt, Leads, LeadsAt, Outcomes, Told}
+use Rattle.urb_group.specs.PlaceViews.{memory_in, shown, view_at}
+use Rattle.urb_group.specs.internal.PlaceInvariant.{IsGroup, IsNumbered, ShowsAt}
+use Rattle.urb_group.specs.GroupViews.{GroupView, IsSound, Shows, view_of}
 use Rattle.urb_group.specs.Step.{Event, at_node, step, world_after}
 use Rattle.urb_group.specs.World.{World}
 use Rattle.urb_group.specs.declared.node_moves.Node.{Node as Place}
 use Rattle.urb_group.specs.declared.node_moves.Node.TheVariants as place
-use Rattle.urb_group.proofs.shown.ShownWorldsAgree.{sound-kept, sound-step}
+use Rattle.urb_group.proofs.shown.AgreeingWorlds.{sound-kept, sound-step}
 use Rattle.urb_group.proofs.steps.Growth.{step-goes_on}
 use Rattle.urb_group.proofs.steps.StepCases.{IsNoArrival, outcome_of, step-outcome}
 use Rattle.urb_group.proofs.shown.ReplacedElements.{read_after_write, read_mapped, read_within}

@@ -5,15 +5,15 @@ use Rattle.std.proofs.Common.{refl, replicate, slice_index_or, slice_set, subst,
 use Rattle.std.proofs.Common.{zero, ℕ, ◌++◌, ◌<◌, ◌==◌, ◌∙◌, ◌∷◌, ◌≡◌, ◌⊎◌}
 use Rattle.std.proofs.lemmas.Bool.{and_from, and_right, cases_eq, cond-false, cond-true}
 use Rattle.urb_group.proofs.steps.Runs.{new-kept, opened-kept}
-use Rattle.urb_group.specs.Shown.{GroupView, IsSound, Shows, view_of}
+use Rattle.urb_group.specs.GroupViews.{GroupView, IsSound, Shows, view_of}
 use Rattle.urb_group.specs.Step.{at_node, world_after}
 use Rattle.urb_group.specs.World.{AreImages, World, image_of, opened, started, updated}
-use Rattle.urb_names.specs.Naming.{Limits}
+use Rattle.urb_names.specs.LabelsAndContents.{Limits}
 use Rattle.urb_names.specs.Nodes.{is_node}
 use Rattle.urb_node.proofs.Openings.{nothing-shows}
 use Rattle.urb_node.specs.Part.{Node, opened_node}
 use Rattle.urb_node.specs.Replies.{Refused, Reply}
-use Rattle.urb_node.specs.Shown.{NodeView, ShowsNode, no_view}
+use Rattle.urb_node.specs.NodeViews.{NodeView, ShowsNode, no_view}
 use Rattle.urb_stable.specs.Entries.{Entry}
 use Rattle.urb_stable.specs.Fitting.{Fits, KeepsOwn, Kept}
 use Rattle.urb_names.specs.declared.refusal.Refusal.TheVariants as refusal

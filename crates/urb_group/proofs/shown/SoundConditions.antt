@@ -2,15 +2,15 @@
 use Rattle.std.proofs.Common.{List, [], arith, ltb-true, nat_lt, subst, suc, sym, true, ℕ, ◌<◌, ◌∙◌}
 use Rattle.std.proofs.Common.{◌≡◌, ◌≤◌}
 use Rattle.std.proofs.lemmas.Bool.{and_parts}
-use Rattle.urb_group.proofs.steps.Drafting.{AllKept, agree, to_sender}
+use Rattle.urb_group.proofs.steps.DraftedRecords.{AllKept, agree, to_sender}
 use Rattle.urb_group.proofs.steps.Runs.{all_kept, fitting-kept}
 use Rattle.urb_group.proofs.shown.ShownWorlds.{kept-own}
-use Rattle.urb_group.specs.Shown.{GroupView, IsSound, view_of}
+use Rattle.urb_group.specs.GroupViews.{GroupView, IsSound, view_of}
 use Rattle.urb_group.specs.World.{AreImages, World, image_of, stored}
 use Rattle.urb_names.proofs.FoundPairs.{has_pair-found}
-use Rattle.urb_names.specs.Naming.{Content, Label, Limits}
+use Rattle.urb_names.specs.LabelsAndContents.{Content, Label, Limits}
 use Rattle.urb_names.specs.Pairs.{has_pair}
-use Rattle.urb_node.specs.Next.{MayArrive}
+use Rattle.urb_node.specs.RecordAdmission.{MayArrive}
 use Rattle.urb_stable.proofs.KeptRules.{kept-range}
 use Rattle.urb_stable.specs.Entries.{Entry}
 use Rattle.urb_stable.specs.Fitting.{Fits, KeepsOwn}

@@ -3,18 +3,18 @@ use Rattle.std.proofs.Common.{Bool, List, None, Option, Some, [], ap, cond, eqb-
 use Rattle.std.proofs.Common.{inr, is_none, is_some, not, refl, subst, sym, true, ℕ, ⊎_elim, ◌&&◌}
 use Rattle.std.proofs.Common.{◌++◌, ◌==◌, ◌||◌, ◌∙◌, ◌∷◌, ◌≡◌, ◌⊎◌}
 use Rattle.std.proofs.lemmas.Bool.{and_from, and_parts, cond_both, not-false, not-true, or_cases}
-use Rattle.urb_group.proofs.steps.ArriveCases.{any-heard, told_node}
-use Rattle.urb_group.proofs.steps.Drafting.{AllKept, agree, leads-drafts, to_sender}
+use Rattle.urb_group.proofs.steps.ArrivalCases.{any-heard, told_node}
+use Rattle.urb_group.proofs.steps.DraftedRecords.{AllKept, agree, leads-drafts, to_sender}
 use Rattle.urb_group.proofs.steps.OneNodeStep.{Leads, leads-same, updated-at}
-use Rattle.urb_group.specs.Invariant.{AcksKept, MayJoin, NodeKept}
+use Rattle.urb_group.specs.RunInvariant.{AcksKept, MayJoin, NodeKept}
 use Rattle.urb_group.specs.World.{updated}
 use Rattle.urb_names.proofs.FoundPairs.{has_pair-found, has_pair-itself, has_pair-left, no_pair}
 use Rattle.urb_names.proofs.FoundPairs.{none_found, some_found}
 use Rattle.urb_names.proofs.SameNames.{majority_grows, same_name-true}
-use Rattle.urb_names.specs.Acknowledged.{acked, with_ack}
-use Rattle.urb_names.specs.Carried.{says_certified}
+use Rattle.urb_names.specs.Acknowledgements.{acked, with_ack}
+use Rattle.urb_names.specs.CarriedPackets.{says_certified}
 use Rattle.urb_names.specs.Names.{has_name, same_name}
-use Rattle.urb_names.specs.Naming.{Content, Label, Limits}
+use Rattle.urb_names.specs.LabelsAndContents.{Content, Label, Limits}
 use Rattle.urb_names.specs.Nodes.{majority_passes}
 use Rattle.urb_names.specs.Pairs.{has_pair, message_of}
 use Rattle.urb_names.specs.declared.flags.Flags.{Flags}

@@ -5,9 +5,9 @@ use Rattle.urb_group.proofs.steps.JoinedRecord.{joined-acks, joined-broadcast, j
 use Rattle.urb_group.proofs.steps.JoinedRecord.{joined-grows, joined-kept, joined-sent}
 use Rattle.urb_group.proofs.steps.JoinedRecord.{own_acks-kept}
 use Rattle.urb_group.proofs.steps.OneNodeStep.{Leads, leads-same, updated-at}
-use Rattle.urb_group.specs.Invariant.{DoubtKept, IsCaused, MayJoin, NodeKept, StateKept}
+use Rattle.urb_group.specs.RunInvariant.{DoubtKept, IsCaused, MayJoin, NodeKept, StateKept}
 use Rattle.urb_group.specs.World.{updated}
-use Rattle.urb_names.specs.Naming.{Limits}
+use Rattle.urb_names.specs.LabelsAndContents.{Limits}
 use Rattle.urb_node.specs.Part.{Down, Node, Ready, State, Storing}
 use Rattle.urb_node.specs.Replies.{Stored}
 use Rattle.urb_node.specs.Steps.{broadcast_after, comes_up, done, doubt, goes_down, keeps_record}

@@ -2,7 +2,7 @@
 use Rattle.std.proofs.Common.{Bool, List, false, not, refl, true, ◌||◌, ◌≡◌}
 use Rattle.std.proofs.lemmas.Bool.{and_from, and_parts, false≢true}
 use Rattle.urb_group.specs.World.{bears_out}
-use Rattle.urb_names.specs.Carried.{Carried, says_certified}
+use Rattle.urb_names.specs.CarriedPackets.{Carried, says_certified}
 use Rattle.urb_names.specs.Names.{has_name}
 use Rattle.urb_names.specs.Pairs.{has_pair}
 use Rattle.urb_stable.specs.Entries.{Entry}

@@ -2,8 +2,8 @@
 use Rattle.std.proofs.Common.{ap, Bool, false, refl, true, ℕ, ◌==◌, ◌≡◌, ◌⊎◌, inl, inr, eqb-true}
 use Rattle.std.proofs.Common.{subst, sym}
 use Rattle.std.proofs.lemmas.Bool.{cond-false}
-use Rattle.urb_group.proofs.steps.ArriveCases.{arrive-cases}
-pub use Rattle.urb_group.specs.Delivering.{event_node}
+use Rattle.urb_group.proofs.steps.ArrivalCases.{arrive-cases}
+pub use Rattle.urb_group.specs.DeliveredMessages.{event_node}
 use Rattle.urb_group.specs.Step.{Event, step}
 use Rattle.urb_group.specs.World.{World}
 use Rattle.urb_names.specs.Nodes.{is_node}

@@ -3,16 +3,16 @@ use Rattle.std.proofs.Common.{List, [], ap, append-nil, append_assoc, filter, no
 use Rattle.std.proofs.Common.{subst, sym, true, ℕ, ◌++◌, ◌==◌, ◌∙◌, ◌∷◌, ◌≡◌}
 use Rattle.std.proofs.lemmas.Bool.{cond_both}
 use Rattle.std.proofs.lemmas.List.{reverse-append}
-use Rattle.urb_group.proofs.steps.ArriveCases.{arrive-cases}
+use Rattle.urb_group.proofs.steps.ArrivalCases.{arrive-cases}
 use Rattle.urb_group.proofs.steps.ConfirmedPackets.{borne-certificate, borne-pair, to_borne}
-use Rattle.urb_group.specs.Growing.{GoesOn}
+use Rattle.urb_group.specs.RunMoments.{GoesOn}
 use Rattle.urb_group.specs.Step.{Event, Run, run, step}
 use Rattle.urb_group.specs.World.{World, stored}
 use Rattle.urb_names.proofs.FoundPairs.{has_pair-left}
 use Rattle.urb_names.proofs.SameNames.{any_left}
-use Rattle.urb_names.specs.Beginnings.{Begins}
+use Rattle.urb_names.specs.ListPrefixes.{Begins}
 use Rattle.urb_names.specs.Names.{has_name}
-use Rattle.urb_names.specs.Naming.{Content, Label}
+use Rattle.urb_names.specs.LabelsAndContents.{Content, Label}
 use Rattle.urb_names.specs.Pairs.{has_pair}
 use Rattle.urb_names.specs.Release.{beginning, released}
 use Rattle.urb_node.specs.Part.{Node}
@@ -20,11 +20,11 @@ use Rattle.urb_node.specs.Replies.{Reply}
 use Rattle.urb_node.specs.Steps.{broadcast_after}
 use Rattle.urb_stable.proofs.JoinedRecords.{cert-append, pend-append}
 use Rattle.urb_stable.specs.Entries.{Entry}
-use Rattle.urb_stable.specs.Log.{log}
+use Rattle.urb_stable.specs.DeliveredLogs.{log}
 use Rattle.urb_stable.specs.Records.{cert, pend}
 use Rattle.urb_stable.specs.declared.record.Record.TheVariants.{Cert, Pend, PendCert}
 use Rattle.urb_group.proofs.steps.StepCases.{OutcomeCases, node_of, outcome-cases, step-nodes}
-use Rattle.urb_group.specs.Delivering.{event_node}
+use Rattle.urb_group.specs.DeliveredMessages.{event_node}
 
 -- a list is a prefix of itself
 pub begins-itself : {A : Type 0} (xs : List A) → Begins xs xs

@@ -4,16 +4,16 @@ use Rattle.std.proofs.Common.{false, is_none, map, refl, subst, sym, true, ℕ, 
 use Rattle.std.proofs.Common.{◌==◌, ◌||◌, ◌∙◌, ◌∷◌, ◌≡◌}
 use Rattle.std.proofs.lemmas.Bool.{and_parts, false_from_ne_true, false≢true, or_cases, or_left}
 use Rattle.urb_group.proofs.steps.OneNodeStep.{updated-at}
-use Rattle.urb_group.specs.Invariant.{AcksKept, IsCaused, MayJoin, NodeKept}
+use Rattle.urb_group.specs.RunInvariant.{AcksKept, IsCaused, MayJoin, NodeKept}
 use Rattle.urb_group.specs.World.{updated}
 use Rattle.urb_names.proofs.FoundPairs.{has_pair-found, has_pair-left, message_of-more}
 use Rattle.urb_names.proofs.FoundPairs.{message_of-new, none_found, own-other, own-push}
 use Rattle.urb_names.proofs.SentPairs.{to_others-from}
 use Rattle.urb_names.proofs.SameNames.{any_left, any_right, same_name-same, same_name-true}
-use Rattle.urb_names.specs.Acknowledged.{acked, with_ack}
-use Rattle.urb_names.specs.Carried.{AreFrom, to_others}
+use Rattle.urb_names.specs.Acknowledgements.{acked, with_ack}
+use Rattle.urb_names.specs.CarriedPackets.{AreFrom, to_others}
 use Rattle.urb_names.specs.Names.{has_name, same_name}
-use Rattle.urb_names.specs.Naming.{Content, Label, Limits}
+use Rattle.urb_names.specs.LabelsAndContents.{Content, Label, Limits}
 use Rattle.urb_names.specs.Pairs.{has_pair, message_of, own}
 use Rattle.urb_node.specs.Part.{Node, own_acks}
 use Rattle.urb_node.specs.Steps.{acks_after, broadcast_after, heard_of, packets_of, with_cause}

@@ -4,14 +4,14 @@ use Rattle.std.proofs.Common.{refl, subst, sym, true, ℕ, ◌++◌, ◌==◌, �
 use Rattle.std.proofs.lemmas.Bool.{cond-true}
 use Rattle.std.specs.List.{AllByRecursion}
 use Rattle.urb_group.proofs.steps.ConfirmedPackets.{to_borne}
-use Rattle.urb_group.specs.Invariant.{AcksKept, DoubtKept, IsCaused, MayJoin, NodeKept, NodesKept}
-use Rattle.urb_group.specs.Invariant.{StateKept}
+use Rattle.urb_group.specs.RunInvariant.{AcksKept, DoubtKept, IsCaused, MayJoin, NodeKept, NodesKept}
+use Rattle.urb_group.specs.RunInvariant.{StateKept}
 use Rattle.urb_group.specs.Step.{world_after}
 use Rattle.urb_group.specs.World.{World, stored, truthful, updated}
 use Rattle.urb_names.proofs.SentPairs.{all_weaker}
-use Rattle.urb_names.specs.Carried.{AreFrom, Carried, IsFrom}
+use Rattle.urb_names.specs.CarriedPackets.{AreFrom, Carried, IsFrom}
 use Rattle.urb_names.specs.Names.{has_name}
-use Rattle.urb_names.specs.Naming.{Content, Label, Limits}
+use Rattle.urb_names.specs.LabelsAndContents.{Content, Label, Limits}
 use Rattle.urb_names.specs.Pairs.{has_pair}
 use Rattle.urb_node.specs.Part.{Down, Node, Ready, State, Storing}
 use Rattle.urb_node.specs.Replies.{Reply, packets_in}

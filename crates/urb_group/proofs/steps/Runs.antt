@@ -5,20 +5,20 @@ use Rattle.std.proofs.Common.{map, not, refl, slice_index_or, subst, suc, sym, t
 use Rattle.std.proofs.Common.{⊎_elim, ◌++◌, ◌+◌, ◌<◌, ◌∷◌, ◌≡◌, ◌≤◌}
 use Rattle.std.proofs.lemmas.Bool.{cases_eq, cases_lt, false≢true}
 use Rattle.std.specs.List.{AllByRecursion}
-use Rattle.urb_group.proofs.steps.Drafting.{AllKept, leads-refuses}
+use Rattle.urb_group.proofs.steps.DraftedRecords.{AllKept, leads-refuses}
 use Rattle.urb_group.proofs.steps.Arrivals.{leads-arrives}
 use Rattle.urb_group.proofs.steps.JoinedRecord.{own_acks-kept}
 use Rattle.urb_group.proofs.steps.ShortPayloads.{images-short, opened-short, run-short}
 use Rattle.urb_group.proofs.steps.Growth.{run-goes_on, step-goes_on}
 use Rattle.urb_group.proofs.steps.OneNodeStep.{Leads, StepKept, nodes-step, leads-same}
 use Rattle.urb_group.proofs.steps.ConfirmedPackets.{borne-pair}
-use Rattle.urb_group.specs.Invariant.{IsKept, NodesKept, StateKept}
-use Rattle.urb_group.specs.Truth.{AllTruthful, ToldTruth}
+use Rattle.urb_group.specs.RunInvariant.{IsKept, NodesKept, StateKept}
+use Rattle.urb_group.specs.TruthfulPackets.{AllTruthful, ToldTruth}
 use Rattle.urb_group.specs.Step.{Event, IsReached, IsStart, Of_images, Of_new, run, step}
 use Rattle.urb_group.specs.World.{AreImages, World, image_of, opened, started, stored, truthful}
 use Rattle.urb_names.proofs.SentPairs.{all_append, all_weaker}
-use Rattle.urb_names.specs.Carried.{Carried}
-use Rattle.urb_names.specs.Naming.{Limits}
+use Rattle.urb_names.specs.CarriedPackets.{Carried}
+use Rattle.urb_names.specs.LabelsAndContents.{Limits}
 use Rattle.urb_names.specs.Nodes.{is_node, nodes, numbers_from}
 use Rattle.urb_names.specs.declared.refusal.Rule.{Rule}
 use Rattle.urb_names.specs.declared.refusal.Rule.TheVariants.{A, B, C, D}
@@ -35,7 +35,7 @@ use Rattle.urb_group.proofs.steps.Commits.{leads-goes_down, leads-stored, leads-
 use Rattle.urb_group.proofs.steps.Commits.{leads-up_same}
 use Rattle.urb_group.proofs.steps.Ticks.{leads-resends}
 use Rattle.urb_node.specs.declared.answer.Answer.TheVariants.{Accepted}
-use Rattle.urb_group.specs.Delivering.{event_node}
+use Rattle.urb_group.specs.DeliveredMessages.{event_node}
 
 -- ---- one step
 

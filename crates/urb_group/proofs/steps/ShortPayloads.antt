@@ -4,14 +4,14 @@ use Rattle.std.proofs.Common.{sym, true, zero, ℕ, ⊎_elim, ◌++◌, ◌∷�
 use Rattle.std.proofs.lemmas.Bool.{false≢true}
 use Rattle.std.proofs.lemmas.List.Elements.{recursion_from_All}
 use Rattle.std.specs.List.{All, AllByRecursion}
-use Rattle.urb_group.proofs.steps.ArriveCases.{arrive-cases, told_node}
+use Rattle.urb_group.proofs.steps.ArrivalCases.{arrive-cases, told_node}
 use Rattle.urb_group.proofs.steps.ConfirmedPackets.{borne-pair}
-use Rattle.urb_group.specs.Invariant.{AreShort, DoubtShort, NodeShort, NodesShort}
+use Rattle.urb_group.specs.RunInvariant.{AreShort, DoubtShort, NodeShort, NodesShort}
 use Rattle.urb_group.specs.Step.{Event, run, step}
 use Rattle.urb_group.specs.World.{World, image_of, opened, stored}
 use Rattle.urb_names.proofs.FoundPairs.{has_pair-cases}
 use Rattle.urb_names.proofs.OrderedPairs.{has_pair-first}
-use Rattle.urb_names.specs.Naming.{Content, Label, Limits}
+use Rattle.urb_names.specs.LabelsAndContents.{Content, Label, Limits}
 use Rattle.urb_names.specs.Pairs.{has_pair}
 use Rattle.urb_names.specs.declared.flags.Flags.{Flags}
 use Rattle.urb_names.specs.declared.limits.TheConstants.{MAX_PAYLOAD}
@@ -25,7 +25,7 @@ use Rattle.urb_stable.specs.Records.{pend}
 use Rattle.urb_stable.specs.declared.record.Record.TheVariants.{Cert, Pend, PendCert}
 use Rattle.urb_node.specs.declared.cause.Cause.{Cause}
 use Rattle.urb_group.proofs.steps.StepCases.{OutcomeCases, node_of, outcome-cases, step-nodes}
-use Rattle.urb_group.specs.Delivering.{event_node}
+use Rattle.urb_group.specs.DeliveredMessages.{event_node}
 use Rattle.urb_node.proofs.SubmitCases.{next_name}
 
 -- ---- records

@@ -3,13 +3,13 @@ use Rattle.std.proofs.Common.{Bool, List, None, [], ap, arith, cond, eq-eqb, eqb
 use Rattle.std.proofs.Common.{length, lt-ltb, ltb-true, nat_lt, refl, slice_get, subst, suc, sym}
 use Rattle.std.proofs.Common.{true, ℕ, ◌&&◌, ◌*◌, ◌++◌, ◌+◌, ◌<◌, ◌==◌, ◌∙◌, ◌∷◌, ◌≡◌}
 use Rattle.std.proofs.lemmas.Bool.{and_from, and_parts, cond-true}
-use Rattle.urb_group.proofs.steps.Drafting.{leads-drafts}
+use Rattle.urb_group.proofs.steps.DraftedRecords.{leads-drafts}
 use Rattle.urb_group.proofs.steps.OneNodeStep.{Leads, updated-at}
-use Rattle.urb_group.specs.Invariant.{MayJoin, NodeKept}
+use Rattle.urb_group.specs.RunInvariant.{MayJoin, NodeKept}
 use Rattle.urb_group.specs.World.{updated}
 use Rattle.urb_names.proofs.FoundPairs.{has_pair-itself}
 use Rattle.urb_names.specs.Names.{name}
-use Rattle.urb_names.specs.Naming.{Content, Label, Limits}
+use Rattle.urb_names.specs.LabelsAndContents.{Content, Label, Limits}
 use Rattle.urb_names.specs.Nodes.{is_node, majority_passes}
 use Rattle.urb_names.specs.Pairs.{has_pair, message_of, next_number, own}
 use Rattle.urb_node.specs.Part.{Node}

@@ -1,10 +1,10 @@
 -- A tick preserves what holds for all nodes, and sends only stored pairs.
 use Rattle.std.proofs.Common.{List, ℕ, ◌≡◌}
 use Rattle.urb_group.proofs.steps.OneNodeStep.{Leads, leads-same}
-use Rattle.urb_group.specs.Invariant.{NodeKept}
+use Rattle.urb_group.specs.RunInvariant.{NodeKept}
 use Rattle.urb_names.proofs.SentPairs.{all-from, in_due, in_itself, in_resent, in_rising}
-use Rattle.urb_names.specs.Cyclic.{rising}
-use Rattle.urb_names.specs.Naming.{Limits}
+use Rattle.urb_names.specs.CyclicOrder.{rising}
+use Rattle.urb_names.specs.LabelsAndContents.{Limits}
 use Rattle.urb_node.specs.Part.{Node}
 use Rattle.urb_node.specs.Steps.{due, resends}
 use Rattle.urb_stable.specs.Entries.{Entry}

@@ -7,9 +7,9 @@ use Rattle.urb_stable.specs.Entries.{Entry}
 use Rattle.urb_stable.specs.declared.stable.Stable.{Ghosts}
 use Rattle.urb_stable.specs.declared.stable.StoreFault.{StoreFault}
 use Rattle.urb_group.proofs.moves.NewPlaces.{one_longer}
-use Rattle.urb_group.proofs.stops.Reopened.{give-more}
-use Rattle.urb_group.specs.Asked.{Gives}
-use Rattle.urb_group.specs.Reopening.{AllGive, FirstFails}
+use Rattle.urb_group.proofs.stops.OpenedClusters.{give-more}
+use Rattle.urb_group.specs.StoreQuestions.{Gives}
+use Rattle.urb_group.specs.StoreOpenings.{AllGive, FirstFails}
 
 -- the first stores gave these lists, and the others are as they were
 pub record HasAsked {S A : Type 0} (g : Ghosts S A) (stores now : List S)

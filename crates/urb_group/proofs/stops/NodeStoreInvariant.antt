@@ -5,14 +5,14 @@ use Rattle.std.proofs.Common.{inl, inr, length, refl, subst, suc, sym, true, zer
 use Rattle.std.proofs.Common.{◌<◌, ◌∙◌, ◌∷◌, ◌≡◌, ◌≢◌, ◌⊎◌, ⊎_elim, ◌++◌, ne_eqb}
 use Rattle.std.specs.Prelude.{slice_get, slice_set}
 use Rattle.std.proofs.lemmas.Bool.{and_parts, false≢true}
-use Rattle.urb_names.specs.Naming.{Limits}
+use Rattle.urb_names.specs.LabelsAndContents.{Limits}
 use Rattle.urb_names.specs.Nodes.{is_node}
 use Rattle.urb_node.specs.Part.{Down, Node, Ready, State, Storing}
 use Rattle.urb_node.specs.Replies.{Refused, Reply}
 use Rattle.urb_node.specs.Steps.{is_down}
 use Rattle.urb_stable.specs.Entries.{Entry}
-use Rattle.urb_stable.specs.Keeping.{Keeps}
-use Rattle.urb_stable.specs.Placed.{Placed}
+use Rattle.urb_stable.specs.KeptDrafts.{Keeps}
+use Rattle.urb_stable.specs.PlacedRecords.{Placed}
 use Rattle.urb_stable.specs.declared.stable.Stable.{Ghosts}
 use Rattle.urb_stable.specs.declared.stable.StoreFault.{StoreFault}
 use Rattle.urb_group.proofs.steps.DraftsInSteps.{event_node, step-elsewhere}
@@ -21,14 +21,14 @@ use Rattle.urb_group.proofs.stops.StockedNodes.{Rises, commit-node, fail-node, r
 use Rattle.urb_group.proofs.stops.StockedNodes.{unfallen-stays}
 use Rattle.urb_group.proofs.stops.StockedSteps.{IsQuiet, Stays, quiet-stays}
 use Rattle.urb_group.proofs.calls.StoreAnswers.{IsHeldAs, held-as}
-use Rattle.urb_group.specs.Asked.{Gives}
-use Rattle.urb_group.specs.Calls.{Steps}
-use Rattle.urb_group.specs.Clustered.{Clustered, held_draft}
-use Rattle.urb_group.specs.Clusters.{Alone, Applies, AsksStore, Reacts, RestartsBy, Returns}
-use Rattle.urb_group.specs.Clusters.{StoreMoves, StoresDraft, StoresHeld, is_fallen, stored_as}
-use Rattle.urb_group.specs.Shown.{GroupView, Shows, view_of}
+use Rattle.urb_group.specs.StoreQuestions.{Gives}
+use Rattle.urb_group.specs.GroupCalls.{Steps}
+use Rattle.urb_group.specs.GroupStores.{Clustered, held_draft}
+use Rattle.urb_group.specs.ClusterCalls.{Alone, Applies, AsksStore, Reacts, RestartsBy, Returns}
+use Rattle.urb_group.specs.ClusterCalls.{StoreMoves, StoresDraft, StoresHeld, is_fallen, stored_as}
+use Rattle.urb_group.specs.GroupViews.{GroupView, Shows, view_of}
 use Rattle.urb_group.specs.Step.{Commit, Crash, Event, Fail, Restart, Tick, step}
-use Rattle.urb_group.specs.Stopping.{MayLeave}
+use Rattle.urb_group.specs.ProcessStops.{MayLeave}
 use Rattle.urb_group.specs.World.{World}
 use Rattle.urb_group.specs.declared.command.Command.{Command}
 use Rattle.urb_group.specs.declared.command.Command.TheVariants as command

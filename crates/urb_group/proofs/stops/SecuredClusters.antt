@@ -9,9 +9,9 @@ use Rattle.urb_node.specs.Part.{Down, Node, Ready}
 use Rattle.urb_node.specs.Replies.{Reply}
 use Rattle.urb_node.specs.Steps.{doubt, is_down}
 use Rattle.urb_stable.specs.Entries.{Entry}
-use Rattle.urb_stable.specs.Keeping.{Keeps}
-use Rattle.urb_stable.specs.Placed.{Placed}
-use Rattle.urb_stable.specs.Storing.{IsContents}
+use Rattle.urb_stable.specs.KeptDrafts.{Keeps}
+use Rattle.urb_stable.specs.PlacedRecords.{Placed}
+use Rattle.urb_stable.specs.StableStorage.{IsContents}
 use Rattle.urb_stable.specs.declared.stable.Stable.{Ghosts}
 use Rattle.urb_stable.specs.declared.stable.StoreFault.{StoreFault}
 use Rattle.urb_group.proofs.stops.NodeStoreInvariant.{Beside, HoldsIn, Lasts, applies-beside}
@@ -21,13 +21,13 @@ use Rattle.urb_group.proofs.stops.StockedClusters.{left-by-draft, lost, rose, to
 use Rattle.urb_group.proofs.stops.StockedNodes.{Rises}
 use Rattle.urb_group.proofs.stops.StockedSteps.{Stays, leaves-stay, store-stays}
 use Rattle.urb_group.proofs.stops.StoppedCalls.{leaves-draft}
-use Rattle.urb_group.specs.Asked.{Gives}
-use Rattle.urb_group.specs.Clustered.{Clustered, held_draft}
-use Rattle.urb_group.specs.Clusters.{Applies, AsksStore, RestartsBy, StoreMoves, StoresDraft}
-use Rattle.urb_group.specs.Clusters.{StoresHeld, is_fallen}
-use Rattle.urb_group.specs.Shown.{view_of}
-use Rattle.urb_group.specs.Stocked.{IsKnown, IsLasting, IsSecured, IsStoreOf, LeavesOf, WouldLeave}
-use Rattle.urb_group.specs.Stopping.{MayLeave}
+use Rattle.urb_group.specs.StoreQuestions.{Gives}
+use Rattle.urb_group.specs.GroupStores.{Clustered, held_draft}
+use Rattle.urb_group.specs.ClusterCalls.{Applies, AsksStore, RestartsBy, StoreMoves, StoresDraft}
+use Rattle.urb_group.specs.ClusterCalls.{StoresHeld, is_fallen}
+use Rattle.urb_group.specs.GroupViews.{view_of}
+use Rattle.urb_group.specs.StoreContents.{IsKnown, IsLasting, IsSecured, IsStoreOf, LeavesOf, WouldLeave}
+use Rattle.urb_group.specs.ProcessStops.{MayLeave}
 use Rattle.urb_group.specs.declared.command.Command.{Command}
 use Rattle.urb_group.specs.declared.command.Command.TheVariants as command
 

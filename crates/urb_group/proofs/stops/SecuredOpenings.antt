@@ -6,20 +6,20 @@ use Rattle.std.specs.Prelude.{Vec, slice_get, slice_index_or}
 use Rattle.std.proofs.lemmas.List.Elements.{recursion_from_All}
 use Rattle.std.proofs.lemmas.Option.{get_or_from_slice_get}
 use Rattle.urb_names.proofs.Places.{get_some}
-use Rattle.urb_names.specs.Naming.{Limits}
+use Rattle.urb_names.specs.LabelsAndContents.{Limits}
 use Rattle.urb_names.specs.declared.refusal.NoMemory.{NoMemory}
 use Rattle.urb_names.specs.declared.refusal.Refusal.{Refusal}
 use Rattle.urb_stable.specs.declared.stable.Stable.{Ghosts}
 use Rattle.urb_node.specs.Part.{opened_node}
-use Rattle.urb_group.proofs.stops.Reopened.{given-at, given-store}
+use Rattle.urb_group.proofs.stops.OpenedClusters.{given-at, given-store}
 use Rattle.urb_group.proofs.stops.SecuredClusters.{IsLastingOf, lasting-honest, lasting-known}
 use Rattle.urb_group.proofs.stops.SecuredClusters.{read-honest, secured-beside}
 use Rattle.urb_group.proofs.stops.StockedPlays.{all-at, blank-store}
-use Rattle.urb_group.specs.Asked.{IsBlank}
-use Rattle.urb_group.specs.Clustered.{Clustered}
-use Rattle.urb_group.specs.Clusters.{Starts}
-use Rattle.urb_group.specs.Reopening.{OpensStores}
-use Rattle.urb_group.specs.Stocked.{IsGenuine, IsKnown, IsSecured}
+use Rattle.urb_group.specs.StoreQuestions.{IsBlank}
+use Rattle.urb_group.specs.GroupStores.{Clustered}
+use Rattle.urb_group.specs.ClusterCalls.{Starts}
+use Rattle.urb_group.specs.StoreOpenings.{OpensStores}
+use Rattle.urb_group.specs.StoreContents.{IsGenuine, IsKnown, IsSecured}
 use Rattle.urb_group.specs.World.{image_of, opened, started}
 
 -- a new cluster over blank stores is secured, if each store is honest while its storage is clean

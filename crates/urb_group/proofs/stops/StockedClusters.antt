@@ -7,19 +7,19 @@ use Rattle.urb_node.specs.Part.{Down, Node, Ready, State}
 use Rattle.urb_node.specs.Replies.{Reply}
 use Rattle.urb_node.specs.Steps.{doubt, is_down}
 use Rattle.urb_stable.specs.Entries.{Entry}
-use Rattle.urb_stable.specs.Keeping.{Keeps}
-use Rattle.urb_stable.specs.Placed.{Placed}
-use Rattle.urb_stable.specs.Storing.{IsContents, IsPlaced, is_out_of_place, is_place}
+use Rattle.urb_stable.specs.KeptDrafts.{Keeps}
+use Rattle.urb_stable.specs.PlacedRecords.{Placed}
+use Rattle.urb_stable.specs.StableStorage.{IsContents, IsPlaced, is_out_of_place, is_place}
 use Rattle.urb_stable.specs.declared.stable.Stable.{Ghosts}
 use Rattle.urb_stable.specs.declared.stable.StoreFault.{StoreFault}
 use Rattle.urb_group.proofs.stops.NodeStoreInvariant.{Beside, Lasts, applies-beside}
 use Rattle.urb_group.proofs.stops.StockedNodes.{Rises}
 use Rattle.urb_group.proofs.stops.StockedSteps.{store-stays}
-use Rattle.urb_group.specs.Asked.{Gives}
-use Rattle.urb_group.specs.Clustered.{Clustered}
-use Rattle.urb_group.specs.Clusters.{Applies}
-use Rattle.urb_group.specs.Stocked.{HoldsOf, IsStocked, IsStoreOf, LeavesOf}
-use Rattle.urb_group.specs.Stopping.{MayLeave}
+use Rattle.urb_group.specs.StoreQuestions.{Gives}
+use Rattle.urb_group.specs.GroupStores.{Clustered}
+use Rattle.urb_group.specs.ClusterCalls.{Applies}
+use Rattle.urb_group.specs.StoreContents.{HoldsOf, IsStocked, IsStoreOf, LeavesOf}
+use Rattle.urb_group.specs.ProcessStops.{MayLeave}
 use Rattle.urb_group.specs.declared.command.Command.{Command}
 
 -- a stocked cluster, stated with a world that its group shows

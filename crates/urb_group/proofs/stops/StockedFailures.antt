@@ -4,18 +4,18 @@ use Rattle.std.proofs.Common.{◌∙◌, ◌≡◌, ◌⊎◌, ⊎_elim, ap}
 use Rattle.urb_group.proofs.stops.NodeStoreInvariant.{fell-beside, quiet-beside}
 use Rattle.urb_group.proofs.stops.StockedClusters.{beside-stocked, fallen, stock-lasts}
 use Rattle.urb_group.proofs.stops.StockedClusters.{stocked-beside}
-use Rattle.urb_group.specs.Clustered.{Clustered, held_draft}
-use Rattle.urb_group.specs.Clusters.{Breaks, BreaksArmed, FailsDraft, FailsHeld}
-use Rattle.urb_group.specs.InMemory.{in_memory}
+use Rattle.urb_group.specs.GroupStores.{Clustered, held_draft}
+use Rattle.urb_group.specs.ClusterCalls.{Breaks, BreaksArmed, FailsDraft, FailsHeld}
+use Rattle.urb_group.specs.MemoryStores.{in_memory}
 use Rattle.urb_group.specs.Step.{Fail}
-use Rattle.urb_group.specs.Stocked.{IsStocked, IsStoreOf}
+use Rattle.urb_group.specs.StoreContents.{IsStocked, IsStoreOf}
 use Rattle.urb_node.specs.Part.{Down, Node}
 use Rattle.urb_node.specs.Replies.{Reply}
 use Rattle.urb_node.specs.Steps.{is_down}
 use Rattle.urb_stable.specs.Entries.{Entry}
-use Rattle.urb_stable.specs.Memory.{Memory, armed_with}
-use Rattle.urb_stable.specs.Placed.{Placed}
-use Rattle.urb_stable.specs.Storing.{is_out_of_place}
+use Rattle.urb_stable.specs.MemoryStores.{Memory, armed_with}
+use Rattle.urb_stable.specs.PlacedRecords.{Placed}
+use Rattle.urb_stable.specs.StableStorage.{is_out_of_place}
 use Rattle.urb_stable.specs.declared.memory.Failure.{Failure}
 use Rattle.urb_stable.specs.declared.memory.Failure.TheVariants as failure
 

@@ -6,7 +6,7 @@ use Rattle.std.proofs.Common.{length-append, refl, subst, suc, sym, true, ℕ, �
 use Rattle.std.proofs.Common.{◌∙◌, ◌∷◌, ◌≡◌, ◌⊎◌, ⊎_elim, eqb-true}
 use Rattle.std.proofs.lemmas.Bool.{and_from, and_parts, cond-false, cond-true, cond_both}
 use Rattle.std.proofs.lemmas.Bool.{false≢true}
-use Rattle.urb_names.specs.Naming.{Content}
+use Rattle.urb_names.specs.LabelsAndContents.{Content}
 use Rattle.urb_names.specs.Nodes.{is_node}
 use Rattle.urb_names.specs.declared.refusal.Refusal.TheVariants as refusal
 use Rattle.urb_node.specs.Part.{Down, Node, Ready, State, Storing}
@@ -14,15 +14,15 @@ use Rattle.urb_node.specs.Replies.{Refused, Reply, Stored}
 use Rattle.urb_node.specs.Steps.{comes_up, commits, done, doubt, fails, is_down, keeps_record}
 use Rattle.urb_node.specs.Steps.{next_position, refuses, restarts, restarts_with, same_list}
 use Rattle.urb_node.specs.Steps.{same_names, same_pairs, same_record, says, broadcast_after}
-use Rattle.urb_node.proofs.Calls.{same_record-same}
-use Rattle.urb_group.proofs.recovery.NodesComeBack.{says-itself}
+use Rattle.urb_node.proofs.RestartReplies.{same_record-same}
+use Rattle.urb_group.proofs.recovery.ReturningNodes.{says-itself}
 use Rattle.urb_stable.specs.Entries.{Entry}
-use Rattle.urb_stable.specs.Log.{log}
+use Rattle.urb_stable.specs.DeliveredLogs.{log}
 use Rattle.urb_stable.specs.Records.{cert, pend}
-use Rattle.urb_stable.specs.Storing.{IsContents}
+use Rattle.urb_stable.specs.StableStorage.{IsContents}
 use Rattle.urb_group.proofs.steps.OneNodeStep.{updated-at}
 use Rattle.urb_group.specs.Step.{Commit, Fail, Restart, at_node, step, world_after}
-use Rattle.urb_group.specs.Stopping.{MayLeave}
+use Rattle.urb_group.specs.ProcessStops.{MayLeave}
 use Rattle.urb_group.specs.World.{World, updated}
 use Rattle.urb_node.specs.declared.cause.Cause.{Cause}
 

@@ -8,29 +8,29 @@ use Rattle.std.proofs.lemmas.Bool.{cases_lt}
 use Rattle.std.proofs.lemmas.List.{get_or_past}
 use Rattle.std.proofs.lemmas.Option.{get_or_from_slice_get}
 use Rattle.urb_names.proofs.Places.{get_some}
-use Rattle.urb_node.specs.Shown.{no_view, NodeView}
+use Rattle.urb_node.specs.NodeViews.{no_view, NodeView}
 use Rattle.std.proofs.lemmas.List.Elements.{recursion_from_All}
-use Rattle.urb_names.specs.Naming.{Limits}
+use Rattle.urb_names.specs.LabelsAndContents.{Limits}
 use Rattle.urb_names.specs.declared.refusal.NoMemory.{NoMemory}
 use Rattle.urb_names.specs.declared.refusal.Refusal.TheVariants as refusal
 use Rattle.urb_node.specs.Part.{State}
 use Rattle.urb_node.specs.Replies as told
 use Rattle.urb_node.specs.Steps.{doubt}
 use Rattle.urb_stable.specs.Entries.{Entry}
-use Rattle.urb_stable.specs.Storing.{IsContents}
+use Rattle.urb_stable.specs.StableStorage.{IsContents}
 use Rattle.urb_stable.specs.declared.stable.Stable.{Ghosts}
-use Rattle.urb_group.specs.Asked.{IsBlank}
-use Rattle.urb_group.specs.Clustered.{Clustered}
-use Rattle.urb_group.specs.Clusters.{Applies, Starts}
+use Rattle.urb_group.specs.StoreQuestions.{IsBlank}
+use Rattle.urb_group.specs.GroupStores.{Clustered}
+use Rattle.urb_group.specs.ClusterCalls.{Applies, Starts}
 use Rattle.urb_group.specs.Commands.{reply_of}
-use Rattle.urb_group.specs.Plays.{Follows, Plays}
-use Rattle.urb_group.specs.Shown.{GroupView, IsSound, Shows, view_of}
-use Rattle.urb_group.specs.Stocked.{AllHold, AreChosen, ContentsFit, IsStocked, IsStoreOf}
-use Rattle.urb_group.specs.Stopping.{GoesOnIn, MayLeave}
+use Rattle.urb_group.specs.PlayedCommands.{Follows, Plays}
+use Rattle.urb_group.specs.GroupViews.{GroupView, IsSound, Shows, view_of}
+use Rattle.urb_group.specs.StoreContents.{AllHold, AreChosen, ContentsFit, IsStocked, IsStoreOf}
+use Rattle.urb_group.specs.ProcessStops.{GoesOnIn, MayLeave}
 use Rattle.urb_group.specs.World.{World, image_of, started}
 use Rattle.urb_group.specs.declared.command.Command.{Command}
 use Rattle.urb_group.specs.declared.reply.Reply.{Reply}
-use Rattle.urb_group.proofs.shown.ShownWorldsAgree.{sound-kept}
+use Rattle.urb_group.proofs.shown.AgreeingWorlds.{sound-kept}
 use Rattle.urb_group.proofs.stops.StoppedWorlds.{survives}
 
 -- ---- a new cluster

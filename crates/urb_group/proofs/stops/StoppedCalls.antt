@@ -9,9 +9,9 @@ use Rattle.urb_node.specs.Part.{Node}
 use Rattle.urb_node.specs.Replies.{Reply}
 use Rattle.urb_node.specs.Steps.{doubt, is_down}
 use Rattle.urb_stable.specs.Entries.{Entry}
-use Rattle.urb_stable.specs.Memory.{Memory, armed_with}
-use Rattle.urb_stable.specs.Placed.{Placed}
-use Rattle.urb_stable.specs.Storing.{IsContents, is_out_of_place}
+use Rattle.urb_stable.specs.MemoryStores.{Memory, armed_with}
+use Rattle.urb_stable.specs.PlacedRecords.{Placed}
+use Rattle.urb_stable.specs.StableStorage.{IsContents, is_out_of_place}
 use Rattle.urb_stable.specs.declared.memory.Failure.{Failure}
 use Rattle.urb_stable.specs.declared.stable.Stable.{Ghosts}
 use Rattle.urb_group.proofs.calls.DraftsInCalls.{node-bounds}
@@ -19,12 +19,12 @@ use Rattle.urb_group.proofs.stops.NodeStoreInvariant.{HoldsIn, holds-in, one-sto
 use Rattle.urb_group.proofs.stops.NodeStoreInvariant.{store-before}
 use Rattle.urb_group.proofs.stops.StockedClusters.{asked-left, beside-stocked, left-by-draft}
 use Rattle.urb_group.proofs.stops.StockedFailures.{breaks-leaves, Leaves}
-use Rattle.urb_group.specs.Clustered.{Clustered, held_draft}
-use Rattle.urb_group.specs.Clusters.{Applies, AsksStore, BreaksArmed, FailsHeld}
-use Rattle.urb_group.specs.Clusters.{RestartsBy, StoreMoves, StoresDraft, StoresHeld, is_fallen}
-use Rattle.urb_group.specs.InMemory.{in_memory}
-use Rattle.urb_group.specs.Shown.{view_of}
-use Rattle.urb_group.specs.Stocked.{IsStocked, IsStoreOf, LeavesOf, StopLeaves}
+use Rattle.urb_group.specs.GroupStores.{Clustered, held_draft}
+use Rattle.urb_group.specs.ClusterCalls.{Applies, AsksStore, BreaksArmed, FailsHeld}
+use Rattle.urb_group.specs.ClusterCalls.{RestartsBy, StoreMoves, StoresDraft, StoresHeld, is_fallen}
+use Rattle.urb_group.specs.MemoryStores.{in_memory}
+use Rattle.urb_group.specs.GroupViews.{view_of}
+use Rattle.urb_group.specs.StoreContents.{IsStocked, IsStoreOf, LeavesOf, StopLeaves}
 use Rattle.urb_group.specs.declared.command.Command.{Command}
 use Rattle.urb_group.specs.declared.command.Command.TheVariants as command
 

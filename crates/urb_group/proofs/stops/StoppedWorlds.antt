@@ -9,18 +9,18 @@ use Rattle.std.proofs.lemmas.Slice.Eq.{bytes_eq-Decides}
 use Rattle.std.specs.List.{position_or_len}
 use Rattle.urb_group.proofs.safety.AgreeingLogs.{entries-begin}
 use Rattle.urb_group.proofs.safety.SafeWorlds.{safe}
-use Rattle.urb_group.proofs.steps.Drafting.{AllKept}
+use Rattle.urb_group.proofs.steps.DraftedRecords.{AllKept}
 use Rattle.urb_group.proofs.steps.Growth.{begins-itself, begins-push, log-begins, pair-begins}
 use Rattle.urb_group.proofs.steps.Runs.{kept-fits}
-use Rattle.urb_group.specs.Invariant.{IsKept, MayJoin, NodesKept, StateKept}
+use Rattle.urb_group.specs.RunInvariant.{IsKept, MayJoin, NodesKept, StateKept}
 use Rattle.urb_group.specs.Step.{Submit, step}
-use Rattle.urb_group.specs.Stopping.{GoesOnUnder, MayLeave, SurvivesStop}
+use Rattle.urb_group.specs.ProcessStops.{GoesOnUnder, MayLeave, SurvivesStop}
 use Rattle.urb_group.specs.World.{World, opened, stored, updated}
 use Rattle.urb_names.proofs.ClientNumbers.{Numbers}
 use Rattle.urb_names.proofs.FoundPairs.{has_pair-left}
-use Rattle.urb_names.specs.Beginnings.{Begins}
+use Rattle.urb_names.specs.ListPrefixes.{Begins}
 use Rattle.urb_names.specs.Names.{name}
-use Rattle.urb_names.specs.Naming.{Content, Label, Limits}
+use Rattle.urb_names.specs.LabelsAndContents.{Content, Label, Limits}
 use Rattle.urb_names.specs.Nodes.{is_node}
 use Rattle.urb_names.specs.Pairs.{has_pair, is_numbered, message_of, own}
 use Rattle.urb_names.specs.declared.limits.TheConstants.{MAX_PAYLOAD}

@@ -8,10 +8,10 @@ use Rattle.std.proofs.lemmas.Bool.{false≢true}
 use Rattle.std.proofs.lemmas.List.Elements.{filter-append}
 use Rattle.std.proofs.lemmas.List.Filters.{length-filter_both}
 use Rattle.std.proofs.lemmas.List.{length-append}
-use Rattle.urb_stubborn.proofs.Between.{all_pass}
-use Rattle.urb_names.specs.Naming.{Label, Content}
+use Rattle.urb_stubborn.proofs.PairRanges.{all_pass}
+use Rattle.urb_names.specs.LabelsAndContents.{Label, Content}
 use Rattle.urb_names.specs.Names.{name_lt}
-use Rattle.urb_names.specs.Cyclic.{are_rising, cyclic, is_after}
+use Rattle.urb_names.specs.CyclicOrder.{are_rising, cyclic, is_after}
 use Rattle.urb_names.proofs.RisingPairs.{name_lt-other_way, name_lt-trans}
 
 abbrev Pairs : Type 0

@@ -10,11 +10,11 @@ use Rattle.urb_names.proofs.OrderedPairs.{Rises, has_pair-behind, has_pair-first
 use Rattle.urb_names.proofs.OrderedPairs.{has_pair-inserted, rises-inserted}
 use Rattle.urb_names.proofs.RisingPairs.{rising-push}
 use Rattle.urb_names.proofs.SameNames.{same_name-true}
-use Rattle.urb_names.specs.Acknowledged.{acked}
-use Rattle.urb_names.specs.Carried.{due_of, is_due, others}
-use Rattle.urb_names.specs.Cyclic.{are_rising, inserted, rising}
+use Rattle.urb_names.specs.Acknowledgements.{acked}
+use Rattle.urb_names.specs.CarriedPackets.{due_of, is_due, others}
+use Rattle.urb_names.specs.CyclicOrder.{are_rising, inserted, rising}
 use Rattle.urb_names.specs.Names.{name_lt, same_message, same_name}
-use Rattle.urb_names.specs.Naming.{Content, Label, Limits}
+use Rattle.urb_names.specs.LabelsAndContents.{Content, Label, Limits}
 use Rattle.urb_names.specs.Pairs.{has_pair, message_of}
 use Rattle.urb_stable.proofs.KeptRules.{pairs-all}
 use Rattle.urb_stable.specs.Entries.{Entry}

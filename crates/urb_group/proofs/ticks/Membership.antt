@@ -5,9 +5,9 @@ use Rattle.std.proofs.Common.{◌∷◌, ◌≡◌, ◌⊎◌, subst, length, ar
 use Rattle.std.proofs.lemmas.Bool.{and_parts, cond-true, cond_both, false≢true, or_cases}
 use Rattle.std.specs.List.{AllByRecursion}
 use Rattle.urb_names.proofs.SameNames.{same_message-true, same_name-true}
-use Rattle.urb_names.specs.Cyclic.{inserted, rising}
+use Rattle.urb_names.specs.CyclicOrder.{inserted, rising}
 use Rattle.urb_names.specs.Names.{name_lt, same_message, same_name}
-use Rattle.urb_names.specs.Naming.{Content, Label}
+use Rattle.urb_names.specs.LabelsAndContents.{Content, Label}
 use Rattle.urb_names.specs.Pairs.{has_pair}
 
 -- the element is in the list

@@ -8,9 +8,9 @@ use Rattle.std.proofs.lemmas.List.Elements.{filter-append}
 use Rattle.std.proofs.lemmas.List.{length-append, take-append-le}
 use Rattle.urb_names.specs.declared.limits.TheConstants.{NAMES_PER_TICK}
 use Rattle.urb_group.proofs.ticks.Membership.{IsIn, in-take}
-use Rattle.urb_group.proofs.ticks.TicksReachEach.{turned}
-use Rattle.urb_names.specs.Cyclic.{are_rising, cyclic, is_after, last_name, resent}
-use Rattle.urb_names.specs.Naming.{Content, Label}
+use Rattle.urb_group.proofs.ticks.TickCoverage.{turned}
+use Rattle.urb_names.specs.CyclicOrder.{are_rising, cyclic, is_after, last_name, resent}
+use Rattle.urb_names.specs.LabelsAndContents.{Content, Label}
 use Rattle.urb_group.specs.Resends.{cursor_next}
 
 abbrev Pairs : Type 0

@@ -1,20 +1,20 @@
 -- Words of the worked examples: records, images and packets.
 use Rattle.std.specs.Prelude.{List, None, Option, Some, false, true, replicate, ℕ, ◌∷◌, [], ◌≡◌}
 use Rattle.std.specs.Prelude.{zero, suc, map}
-use Rattle.urb_group.specs.InMemory.{in_memory}
+use Rattle.urb_group.specs.MemoryStores.{in_memory}
 use Rattle.urb_group.specs.World.{World, image_of, started}
 use Rattle.urb_group.specs.Scenes.{flags_of}
 use Rattle.urb_group.specs.internal.Scripts.{Accepts, Drafts, Line, Told, message, store, submit}
 use Rattle.urb_group.specs.internal.Scripts.{◌⇒◌}
-use Rattle.urb_names.specs.Carried.{Carried}
+use Rattle.urb_names.specs.CarriedPackets.{Carried}
 use Rattle.urb_names.specs.Names.{name}
-use Rattle.urb_names.specs.Naming.{Content, Label, Limits}
+use Rattle.urb_names.specs.LabelsAndContents.{Content, Label, Limits}
 use Rattle.urb_names.specs.Nodes.{numbers_from}
 use Rattle.urb_names.specs.declared.refusal.Rule.{Rule}
 use Rattle.urb_node.specs.Part.{Node, State}
 use Rattle.urb_stable.specs.Entries.{Entry}
 use Rattle.urb_stable.specs.Fitting.{first_misfit}
-use Rattle.urb_stable.specs.Memory.{Memory}
+use Rattle.urb_stable.specs.MemoryStores.{Memory}
 use Rattle.urb_stable.specs.declared.fitting.Misfit.{Misfit}
 use Rattle.urb_stable.specs.declared.record.Record.TheVariants.{Pend, PendCert}
 use Rattle.urb_stable.specs.declared.stable.Stable.{Ghosts}

@@ -4,16 +4,16 @@ use Rattle.std.specs.Prelude.{Bool, List, None, Ok, Option, Some, [], false, len
 use Rattle.std.specs.Prelude.{not, suc, true, ℕ, ◌&&◌, ◌*◌, ◌++◌, ◌==◌, ◌||◌, ◌∷◌, ◌≡◌}
 use Rattle.std.specs.List.{list_all}
 use Rattle.urb_names.specs.declared.limits.TheConstants.{NAMES_PER_TICK}
-use Rattle.urb_group.specs.internal.Recoveries.{logs, scene_after}
-use Rattle.urb_group.specs.Recovering.{Plan, after, both, carries, each, packets_of, stores}
+use Rattle.urb_group.specs.internal.RecoveryExamples.{logs, scene_after}
+use Rattle.urb_group.specs.RecoveryPlans.{Plan, after, both, carries, each, packets_of, stores}
 use Rattle.urb_group.specs.Rounds.{Act, Adds, Arrives, Breaks, Ticks, acts_of, ticks_of}
 use Rattle.urb_group.specs.Scenes.{Scene, held_by}
 use Rattle.urb_group.specs.internal.Scripts.{message, new_group, store, submit}
 use Rattle.urb_group.specs.Step.{Arrive, Event, Submit, Tick}
 use Rattle.urb_group.specs.World.{World, stored}
-use Rattle.urb_names.specs.Carried.{Carried}
+use Rattle.urb_names.specs.CarriedPackets.{Carried}
 use Rattle.urb_names.specs.Names.{same_message, same_name}
-use Rattle.urb_names.specs.Naming.{Label}
+use Rattle.urb_names.specs.LabelsAndContents.{Label}
 use Rattle.urb_names.specs.Nodes.{nodes}
 use Rattle.urb_names.specs.declared.flags.Flags.{Flags}
 use Rattle.urb_node.specs.Part.{Down, Ready, State, Storing}

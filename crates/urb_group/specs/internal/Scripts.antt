@@ -4,9 +4,9 @@ use Rattle.std.specs.Prelude.{Bool, Err, List, None, Ok, Option, Some, [], codes
 use Rattle.std.specs.Prelude.{is_some, length, map, true, ℕ, ◌∷◌, ◌≡◌}
 use Rattle.urb_group.specs.Step.{Arrive, Commit, Crash, Event, Fail, Restart, Submit, Tick, step}
 use Rattle.urb_group.specs.World.{opened, started, stored}
-use Rattle.urb_names.specs.Carried.{Carried}
+use Rattle.urb_names.specs.CarriedPackets.{Carried}
 use Rattle.urb_names.specs.Names.{name}
-use Rattle.urb_names.specs.Naming.{Content, Label, Limits}
+use Rattle.urb_names.specs.LabelsAndContents.{Content, Label, Limits}
 use Rattle.urb_names.specs.Nodes.{nodes}
 use Rattle.urb_names.specs.Pairs.{message_of}
 use Rattle.urb_names.specs.declared.flags.Flags.{Flags}
@@ -19,7 +19,7 @@ use Rattle.urb_node.specs.declared.answer.Answer.TheVariants.{Accepted, Again, A
 use Rattle.urb_node.specs.declared.answer.Answer.{Answer}
 use Rattle.urb_stable.specs.Entries.{Entry}
 use Rattle.urb_stable.specs.Fitting.{first_misfit}
-use Rattle.urb_stable.specs.Log.{entries}
+use Rattle.urb_stable.specs.DeliveredLogs.{entries}
 use Rattle.urb_stable.specs.Records.{pend}
 use Rattle.urb_stable.specs.declared.fitting.Misfit.{Misfit}
 use Rattle.urb_group.specs.Scenes.{Scene, flags_of, flags_with, keeping, or_nothing, receipt}

@@ -3,7 +3,7 @@ ghost use Rattle.std.specs.Prelude.{[], ◌∷◌};
 ghost use Rattle.urb_names.specs.Names.{name};
 ghost use Rattle.urb_stable.specs.declared.record.Record.TheVariants.{Pend};
 ghost use Rattle.urb_group.specs.World.{opened, image_of};
-ghost use Rattle.urb_group.specs.Safe.{Safe, OneMessage};
+ghost use Rattle.urb_group.specs.SafetyProperties.{Safe, OneMessage};
 ghost use Rattle.urb_group.specs.internal.Scripts.{message};
 ghost use Rattle.urb_group.specs.internal.Examples.{pending, certified, limits};
 

@@ -2,7 +2,7 @@
 ghost use Rattle.std.specs.Prelude.{◌≡◌, [], ◌∷◌, None};
 ghost use Rattle.urb_names.specs.Names.{name};
 ghost use Rattle.urb_names.specs.declared.refusal.Rule.TheVariants.{A, B, C, D};
-ghost use Rattle.urb_stable.specs.Log.{log};
+ghost use Rattle.urb_stable.specs.DeliveredLogs.{log};
 ghost use Rattle.urb_stable.specs.declared.record.Record.TheVariants.{Pend, PendCert, Cert};
 ghost use Rattle.urb_node.specs.Part.{Ready};
 ghost use Rattle.urb_group.specs.World.{opened, image_of};

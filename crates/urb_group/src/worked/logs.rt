@@ -1,7 +1,7 @@
 //! The log of small lists of records.
 ghost use Rattle.std.specs.Prelude.{◌≡◌, [], ◌∷◌, Some};
 ghost use Rattle.urb_names.specs.Names.{name};
-ghost use Rattle.urb_stable.specs.Log.{log, entries};
+ghost use Rattle.urb_stable.specs.DeliveredLogs.{log, entries};
 ghost use Rattle.urb_stable.specs.declared.record.Record.TheVariants.{Pend, PendCert, Cert};
 ghost use Rattle.urb_group.specs.internal.Scripts.{message};
 ghost use Rattle.urb_group.specs.internal.Examples.{pending, certified};

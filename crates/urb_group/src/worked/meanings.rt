@@ -1,16 +1,16 @@
 //! What a promised world gives to readers, and what its words are false of.
 ghost use Rattle.std.specs.Prelude.{[], ◌∷◌, ◌≡◌, IsTrue, ℕ};
-ghost use Rattle.urb_names.specs.Beginnings.{OneBegins};
+ghost use Rattle.urb_names.specs.ListPrefixes.{OneBegins};
 ghost use Rattle.urb_names.specs.Names.{name};
-ghost use Rattle.urb_names.specs.Naming.{Content, Label};
+ghost use Rattle.urb_names.specs.LabelsAndContents.{Content, Label};
 ghost use Rattle.urb_names.specs.Pairs.{has_pair};
-ghost use Rattle.urb_stable.specs.Log.{entries_of};
+ghost use Rattle.urb_stable.specs.DeliveredLogs.{entries_of};
 ghost use Rattle.urb_stable.specs.Records.{pend};
 ghost use Rattle.urb_stable.specs.declared.record.Record.TheVariants.{PendCert};
-ghost use Rattle.urb_group.specs.Accepting.{HasStored};
-ghost use Rattle.urb_group.specs.Plays.{IsPromised};
-ghost use Rattle.urb_group.specs.Safe.{Safe};
-ghost use Rattle.urb_group.specs.Stopping.{GoesOnIn};
+ghost use Rattle.urb_group.specs.Acceptance.{HasStored};
+ghost use Rattle.urb_group.specs.PlayedCommands.{IsPromised};
+ghost use Rattle.urb_group.specs.SafetyProperties.{Safe};
+ghost use Rattle.urb_group.specs.ProcessStops.{GoesOnIn};
 ghost use Rattle.urb_group.specs.World.{World, image_of, opened, stored};
 ghost use Rattle.urb_group.specs.internal.Scripts.{message};
 ghost use Rattle.urb_group.specs.internal.Examples.{certified, limits, pending};

@@ -4,20 +4,20 @@
 //! A word that only conclusions use must be false of something. Otherwise a law could say nothing.
 ghost use Rattle.std.specs.Prelude.{[], ◌∷◌, ◌++◌, ◌≡◌, List, Ok, false, map, replicate, true};
 ghost use Rattle.urb_names.specs.Names.{name};
-ghost use Rattle.urb_names.specs.Naming.{Limits};
+ghost use Rattle.urb_names.specs.LabelsAndContents.{Limits};
 ghost use Rattle.urb_names.specs.Nodes.{is_node, majority_passes, nodes};
 ghost use Rattle.urb_stable.specs.Entries.{Entry};
 ghost use Rattle.urb_stable.specs.Fitting.{Fits};
 ghost use Rattle.urb_stable.specs.declared.record.Record.TheVariants.{PendCert};
 ghost use Rattle.urb_node.specs.Replies.{Reply, Sent};
-ghost use Rattle.urb_group.specs.Growing.{AgreeInTime, EntriesGrow, GoesOn};
+ghost use Rattle.urb_group.specs.RunMoments.{AgreeInTime, EntriesGrow, GoesOn};
 ghost use Rattle.urb_group.specs.PlayedRounds.{IsPlayedBusyRound, IsPlayedRound};
-ghost use Rattle.urb_group.specs.Recovered.{AllDelivered, AreAsSent};
+ghost use Rattle.urb_group.specs.RecoveredWorlds.{AllDelivered, AreAsSent};
 ghost use Rattle.urb_group.specs.Resends.{IsDueAmong};
 ghost use Rattle.urb_group.specs.Rounds.{AllUp, AnswersArrive, AreUp, Arrives, HaveDeliveredHeld};
 ghost use Rattle.urb_group.specs.Rounds.{IsHeldAmong, NoneDue, ReadyHaveDelivered, TickAtLeast};
 ghost use Rattle.urb_group.specs.Rounds.{Ticks, TicksAreSilent};
-ghost use Rattle.urb_group.specs.Safe.{IsInOrder};
+ghost use Rattle.urb_group.specs.SafetyProperties.{IsInOrder};
 ghost use Rattle.urb_group.specs.Step.{Arrive, Crash, Event, IsReached, Run, Tick};
 ghost use Rattle.urb_group.specs.World.{AreImages, World, image_of, opened, started};
 ghost use Rattle.urb_group.specs.declared.command.Command.{Command};

@@ -6,8 +6,8 @@ ghost use Rattle.std.specs.Prelude.{[], ◌∷◌, ◌++◌, ◌≡◌, List, Ok
 ghost use Rattle.urb_names.specs.Names.{name, names};
 ghost use Rattle.urb_names.specs.Nodes.{numbers_from};
 ghost use Rattle.urb_group.specs.internal.Examples.{flagged, limits, pending};
-ghost use Rattle.urb_group.specs.internal.Recoveries.{opened_group, scene_after};
-ghost use Rattle.urb_group.specs.Recovering.{both, rounds, stores};
+ghost use Rattle.urb_group.specs.internal.RecoveryExamples.{opened_group, scene_after};
+ghost use Rattle.urb_group.specs.RecoveryPlans.{both, rounds, stores};
 ghost use Rattle.urb_group.specs.internal.RoundExamples.{BusyRoundsCome, RoundsCome, TicksEndBy};
 ghost use Rattle.urb_group.specs.internal.RoundExamples.{a_busy_round, a_round, answers_arrive};
 ghost use Rattle.urb_group.specs.internal.RoundExamples.{as_sent, broadcast_of_two, broken};

@@ -1,7 +1,7 @@
 //! Groups that start again with other limits: a greater cap, a smaller one, or more nodes.
 ghost use Rattle.std.specs.Prelude.{[], ◌∷◌, None, ◌≡◌};
 ghost use Rattle.urb_names.specs.declared.refusal.Rule.TheVariants.{A, D};
-ghost use Rattle.urb_group.specs.Recovered.{IsNotStranded};
+ghost use Rattle.urb_group.specs.RecoveredWorlds.{IsNotStranded};
 ghost use Rattle.urb_group.specs.StartLimits.{AreOfGroup, AreWithinCap, HaveMajorities};
 ghost use Rattle.urb_group.specs.StartLimits.{MayStartWith};
 ghost use Rattle.urb_group.specs.World.{image_of, opened};

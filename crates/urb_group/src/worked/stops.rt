@@ -1,11 +1,11 @@
 //! What a stop of the process may leave of a node's storage.
 ghost use Rattle.std.specs.Prelude.{[], ◌∷◌, None, Some, false};
-ghost use Rattle.urb_stable.specs.Memory.{after_failure, empty_memory};
-ghost use Rattle.urb_stable.specs.internal.Memory.{with_record};
+ghost use Rattle.urb_stable.specs.MemoryStores.{after_failure, empty_memory};
+ghost use Rattle.urb_stable.specs.internal.MemoryCalls.{with_record};
 ghost use Rattle.urb_node.specs.Part.{Ready, Storing, Down, packet_from};
-ghost use Rattle.urb_group.specs.InMemory.{in_memory};
-ghost use Rattle.urb_group.specs.Stocked.{HoldsOf, IsLasting, IsStoreOf, LeavesOf, StopLeaves};
-ghost use Rattle.urb_group.specs.Stopping.{MayLeave};
+ghost use Rattle.urb_group.specs.MemoryStores.{in_memory};
+ghost use Rattle.urb_group.specs.StoreContents.{HoldsOf, IsLasting, IsStoreOf, LeavesOf, StopLeaves};
+ghost use Rattle.urb_group.specs.ProcessStops.{MayLeave};
 ghost use Rattle.urb_group.specs.internal.Examples.{pending, certified, node_in, shut_by_failures};
 ghost use Rattle.urb_group.specs.internal.Examples.{world_of};
 

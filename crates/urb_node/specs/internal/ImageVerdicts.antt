@@ -1,15 +1,15 @@
 -- What an image is compared with: a memory's pairs and certificates, and a doubtful record's.
 use Rattle.std.specs.Prelude.{◌≡◌, ℕ, List, [], ◌∷◌, ◌++◌, Option, None, Some, true, false}
 use Rattle.urb_fifo.specs.Delivery.{Delivery}
-use Rattle.urb_names.specs.Acknowledged.{acked}
-use Rattle.urb_names.specs.Naming.{Label, Content}
+use Rattle.urb_names.specs.Acknowledgements.{acked}
+use Rattle.urb_names.specs.LabelsAndContents.{Label, Content}
 use Rattle.urb_stable.specs.Entries.{Entry}
 use Rattle.urb_stable.specs.Records.{pend}
 use Rattle.urb_stable.specs.declared.record.Record.TheVariants.{Pend, PendCert, Cert}
-use Rattle.urb_node.specs.internal.Layers.{certified_with, delivered_with, with_record}
+use Rattle.urb_node.specs.internal.LayerAdditions.{certified_with, delivered_with, with_record}
 use Rattle.urb_node.specs.Part.{self_acks}
 use Rattle.urb_node.specs.Steps.{tells}
-use Rattle.urb_node.specs.Values.{Memory}
+use Rattle.urb_node.specs.NodeMemories.{Memory}
 use Rattle.urb_node.specs.declared.image_verdict.Verdict.{Verdict}
 use Rattle.urb_node.specs.declared.image_verdict.Verdict.TheVariants.{Stored, WithDoubtful, Neither}
 

@@ -1,12 +1,12 @@
 -- The outcome of a call at a ready node, computed from its memory, with the checks in their order.
 use Rattle.std.specs.Prelude.{ℕ, Bool, suc, not, false, ◌==◌, nat_lt, bytes_eq, if◌then◌else◌}
 use Rattle.std.specs.Prelude.{length, List, [], ◌∷◌, Option, None, Some}
-use Rattle.urb_names.specs.Naming.{Label, Content}
+use Rattle.urb_names.specs.LabelsAndContents.{Label, Content}
 use Rattle.urb_names.specs.Names.{name, has_name}
 use Rattle.urb_names.specs.Nodes.{is_majority, majority_passes}
 use Rattle.urb_names.specs.Pairs.{message_of, own, next_number}
-use Rattle.urb_names.specs.Acknowledged.{acked, with_ack}
-use Rattle.urb_names.specs.Carried.{Carried, says_certified}
+use Rattle.urb_names.specs.Acknowledgements.{acked, with_ack}
+use Rattle.urb_names.specs.CarriedPackets.{Carried, says_certified}
 use Rattle.urb_names.specs.declared.flags.Flags.{Flags}
 use Rattle.urb_names.specs.declared.limits.TheConstants.{MAX_PAYLOAD}
 use Rattle.urb_names.specs.declared.refusal.Refusal.{Refusal}
@@ -18,9 +18,9 @@ use Rattle.urb_node.specs.declared.answer.Answer.{Answer}
 use Rattle.urb_node.specs.declared.answer.Answer.TheVariants as answer
 use Rattle.urb_node.specs.declared.cause.Cause.{Cause}
 use Rattle.urb_node.specs.Part.{packet_from}
-use Rattle.urb_node.specs.Values.{Memory}
-use Rattle.urb_node.specs.internal.Layers.{counted_with}
-use Rattle.urb_node.specs.Answers.{answer_with}
+use Rattle.urb_node.specs.NodeMemories.{Memory}
+use Rattle.urb_node.specs.internal.LayerAdditions.{counted_with}
+use Rattle.urb_node.specs.AnswerPackets.{answer_with}
 
 -- The outcome of a call: an answer, a refusal, or a record to store together with the packet that
 -- caused it; and the memory afterwards.

@@ -3,15 +3,15 @@
 ghost use Rattle.std.specs.Prelude.{◌≡◌, length, option_map};
 ghost use Rattle.urb_names.specs.Names.{has_name};
 ghost use Rattle.urb_names.specs.Pairs.{has_pair, message_of, own};
-ghost use Rattle.urb_node.specs.Moves.{CountsOwn, FindsMessage, Holds, IsCertified, TellsLog};
-ghost use Rattle.urb_node.specs.Values.{ShowsDown};
+ghost use Rattle.urb_node.specs.CallEffects.{CountsOwn, FindsMessage, Holds, IsCertified, TellsLog};
+ghost use Rattle.urb_node.specs.NodeMemories.{ShowsDown};
 
 use crate::Down;
 use std::alloc::Allocator;
 use urb_names::{Message, Name};
 
 impl<A: Allocator + Copy> Down<A> {
-    #[tactic(auto, using(crate::proofs::Telling::holds_says))]
+    #[tactic(auto, using(crate::proofs::QueryAnswers::holds_says))]
     /// Whether the node has stored this message under this name; its doubtful record doesn't count.
     pub fn holds(&self, name: &Name, message: &Message<A>) -> bool
         ensures memory { result ≡ has_pair self.now.memory.pairs name.now message.now }
@@ -20,7 +20,7 @@ impl<A: Allocator + Copy> Down<A> {
         self.held.pending.has(name, message)
     }
 
-    #[tactic(auto, using(crate::proofs::Telling::message_says))]
+    #[tactic(auto, using(crate::proofs::QueryAnswers::message_says))]
     /// The message that the node has stored under a name; its doubtful record doesn't count.
     pub fn message(&self, name: Name) -> Option<&Message<A>>
         ensures memory { option_map (λ m. m.now) result ≡ message_of self.now.memory.pairs name }
@@ -29,7 +29,7 @@ impl<A: Allocator + Copy> Down<A> {
         self.held.pending.message(name)
     }
 
-    #[tactic(auto, using(crate::proofs::Telling::certified_says))]
+    #[tactic(auto, using(crate::proofs::QueryAnswers::certified_says))]
     /// Whether the node has stored a certificate of a name; its doubtful record doesn't count.
     pub fn certified(&self, name: Name) -> bool
         ensures memory { result ≡ has_name self.now.memory.certified name }
@@ -38,7 +38,7 @@ impl<A: Allocator + Copy> Down<A> {
         self.held.acks.certified(name)
     }
 
-    #[tactic(auto, using(crate::proofs::Telling::log_says))]
+    #[tactic(auto, using(crate::proofs::QueryAnswers::log_says))]
     /// The names that the node has delivered, in the order of their delivery.
     pub fn log(&self) -> &[Name]
         ensures memory { result.now ≡ self.now.memory.log }
@@ -47,7 +47,7 @@ impl<A: Allocator + Copy> Down<A> {
         self.held.fifo.log()
     }
 
-    #[tactic(auto, using(crate::proofs::Telling::own_says))]
+    #[tactic(auto, using(crate::proofs::QueryAnswers::own_says))]
     /// The number of its own messages that the node has stored; its doubtful record doesn't count.
     pub fn own_len(&self) -> u32
         ensures memory { result ≡ length (own self.now.memory.node self.now.memory.pairs) }

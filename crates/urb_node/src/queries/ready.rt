@@ -3,8 +3,8 @@
 ghost use Rattle.std.specs.Prelude.{◌≡◌, length, option_map};
 ghost use Rattle.urb_names.specs.Names.{has_name};
 ghost use Rattle.urb_names.specs.Pairs.{has_pair, message_of, own};
-ghost use Rattle.urb_node.specs.Moves.{CountsOwn, FindsMessage, Holds, IsCertified, TellsLog};
-ghost use Rattle.urb_node.specs.Values.{ShowsReady};
+ghost use Rattle.urb_node.specs.CallEffects.{CountsOwn, FindsMessage, Holds, IsCertified, TellsLog};
+ghost use Rattle.urb_node.specs.NodeMemories.{ShowsReady};
 
 use crate::Ready;
 use std::alloc::Allocator;
@@ -18,7 +18,7 @@ impl<A: Allocator + Copy> Ready<A> {
         (self.held.node, self.held.config)
     }
 
-    #[tactic(auto, using(crate::proofs::Telling::holds_says))]
+    #[tactic(auto, using(crate::proofs::QueryAnswers::holds_says))]
     /// Whether the node has stored this message under this name.
     pub fn holds(&self, name: &Name, message: &Message<A>) -> bool
         ensures memory { result ≡ has_pair self.now.pairs name.now message.now }
@@ -27,7 +27,7 @@ impl<A: Allocator + Copy> Ready<A> {
         self.held.pending.has(name, message)
     }
 
-    #[tactic(auto, using(crate::proofs::Telling::message_says))]
+    #[tactic(auto, using(crate::proofs::QueryAnswers::message_says))]
     /// The message that the node has stored under a name.
     pub fn message(&self, name: Name) -> Option<&Message<A>>
         ensures memory { option_map (λ m. m.now) result ≡ message_of self.now.pairs name }
@@ -36,7 +36,7 @@ impl<A: Allocator + Copy> Ready<A> {
         self.held.pending.message(name)
     }
 
-    #[tactic(auto, using(crate::proofs::Telling::certified_says))]
+    #[tactic(auto, using(crate::proofs::QueryAnswers::certified_says))]
     /// Whether the node has stored a certificate of a name.
     pub fn certified(&self, name: Name) -> bool
         ensures memory { result ≡ has_name self.now.certified name }
@@ -45,7 +45,7 @@ impl<A: Allocator + Copy> Ready<A> {
         self.held.acks.certified(name)
     }
 
-    #[tactic(auto, using(crate::proofs::Telling::log_says))]
+    #[tactic(auto, using(crate::proofs::QueryAnswers::log_says))]
     /// The names that the node has delivered, in the order of their delivery.
     pub fn log(&self) -> &[Name]
         ensures memory { result.now ≡ self.now.log }
@@ -54,7 +54,7 @@ impl<A: Allocator + Copy> Ready<A> {
         self.held.fifo.log()
     }
 
-    #[tactic(auto, using(crate::proofs::Telling::own_says))]
+    #[tactic(auto, using(crate::proofs::QueryAnswers::own_says))]
     /// The number of its own messages that the node has broadcast, that is, stored.
     pub fn own_len(&self) -> u32
         ensures memory { result ≡ length (own self.now.node self.now.pairs) }

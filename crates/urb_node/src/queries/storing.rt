@@ -3,15 +3,15 @@
 ghost use Rattle.std.specs.Prelude.{◌≡◌, length, option_map};
 ghost use Rattle.urb_names.specs.Names.{has_name};
 ghost use Rattle.urb_names.specs.Pairs.{has_pair, message_of, own};
-ghost use Rattle.urb_node.specs.Moves.{CountsOwn, FindsMessage, Holds, IsCertified, TellsLog};
-ghost use Rattle.urb_node.specs.Values.{ShowsStoring};
+ghost use Rattle.urb_node.specs.CallEffects.{CountsOwn, FindsMessage, Holds, IsCertified, TellsLog};
+ghost use Rattle.urb_node.specs.NodeMemories.{ShowsStoring};
 
 use crate::Storing;
 use std::alloc::Allocator;
 use urb_names::{Message, Name};
 
 impl<A: Allocator + Copy> Storing<A> {
-    #[tactic(auto, using(crate::proofs::Telling::holds_says))]
+    #[tactic(auto, using(crate::proofs::QueryAnswers::holds_says))]
     /// Whether the node has stored this message under this name; its held record isn't stored.
     pub fn holds(&self, name: &Name, message: &Message<A>) -> bool
         ensures memory { result ≡ has_pair self.now.memory.pairs name.now message.now }
@@ -20,7 +20,7 @@ impl<A: Allocator + Copy> Storing<A> {
         self.held.pending.has(name, message)
     }
 
-    #[tactic(auto, using(crate::proofs::Telling::message_says))]
+    #[tactic(auto, using(crate::proofs::QueryAnswers::message_says))]
     /// The message that the node has stored under a name; its held record isn't stored.
     pub fn message(&self, name: Name) -> Option<&Message<A>>
         ensures memory { option_map (λ m. m.now) result ≡ message_of self.now.memory.pairs name }
@@ -30,7 +30,7 @@ impl<A: Allocator + Copy> Storing<A> {
         self.held.pending.message(name)
     }
 
-    #[tactic(auto, using(crate::proofs::Telling::certified_says))]
+    #[tactic(auto, using(crate::proofs::QueryAnswers::certified_says))]
     /// Whether the node has stored a certificate of a name; its held record doesn't count.
     pub fn certified(&self, name: Name) -> bool
         ensures memory { result ≡ has_name self.now.memory.certified name }
@@ -39,7 +39,7 @@ impl<A: Allocator + Copy> Storing<A> {
         self.held.acks.certified(name)
     }
 
-    #[tactic(auto, using(crate::proofs::Telling::log_says))]
+    #[tactic(auto, using(crate::proofs::QueryAnswers::log_says))]
     /// The names that the node has delivered, in the order of their delivery, without those that
     /// its held record will release.
     pub fn log(&self) -> &[Name]
@@ -49,7 +49,7 @@ impl<A: Allocator + Copy> Storing<A> {
         self.held.fifo.log()
     }
 
-    #[tactic(auto, using(crate::proofs::Telling::own_says))]
+    #[tactic(auto, using(crate::proofs::QueryAnswers::own_says))]
     /// The number of its own messages that the node has stored; its held record doesn't count.
     pub fn own_len(&self) -> u32
         ensures memory { result ≡ length (own self.now.memory.node self.now.memory.pairs) }

@@ -1,8 +1,8 @@
 //! Packets that may arrive at a node under test.
 
 ghost use Rattle.std.specs.Prelude.{◌≡◌, IfSome, IsTrue};
-ghost use Rattle.urb_node.specs.Moves.{IsForNode};
-ghost use Rattle.urb_node.specs.Next.{MayArrive};
+ghost use Rattle.urb_node.specs.CallEffects.{IsForNode};
+ghost use Rattle.urb_node.specs.RecordAdmission.{MayArrive};
 
 use crate::tests::states::State;
 use std::alloc::Allocator;

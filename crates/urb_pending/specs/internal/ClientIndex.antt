@@ -2,9 +2,9 @@
 use Rattle.std.specs.Prelude.{◌≡◌, ℕ, zero, suc, ◌==◌, Bool, false, List, [], length, count_by}
 use Rattle.std.specs.Prelude.{find, Option, Some, None, option_map, slice_get}
 use Rattle.std.specs.List.{position_or_len}
-use Rattle.urb_names.specs.Naming.{Content}
+use Rattle.urb_names.specs.LabelsAndContents.{Content}
 use Rattle.urb_names.specs.Pairs.{is_numbered}
-use Rattle.urb_pending.specs.internal.Rows.{Row, row_of}
+use Rattle.urb_pending.specs.internal.ClientRows.{Row, row_of}
 
 -- the numbers in a row; empty if there is no row
 abbrev pub numbers_in : Option Row → List ℕ

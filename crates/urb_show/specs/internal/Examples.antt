@@ -2,9 +2,9 @@
 use Prim.Native.String.{String}
 use Rattle.std.specs.Prelude.{List, None, [], length, ℕ, ◌∷◌}
 use Rattle.urb_group.specs.internal.Scripts.{message}
-use Rattle.urb_group.specs.Shown.{GroupView}
+use Rattle.urb_group.specs.GroupViews.{GroupView}
 use Rattle.urb_names.specs.Names.{name}
-use Rattle.urb_names.specs.Naming.{Content, Label}
+use Rattle.urb_names.specs.LabelsAndContents.{Content, Label}
 use Rattle.urb_node.specs.Part.{Ready}
 use Rattle.urb_show.specs.declared.entry.Entry.{Entry}
 

@@ -5,17 +5,17 @@ use Rattle.sqlite.specs.Effect.{Database}
 use Rattle.sqlite.specs.Order.{Row}
 use Rattle.sqlite.specs.State.{State, HasCleanDisk, IsLive, IsUnchanged, KeepsCommit, Survives}
 use Rattle.urb_stable.specs.Entries.{Entry}
-use Rattle.urb_stable.specs.Storing.{is_place, is_bad_row}
+use Rattle.urb_stable.specs.StableStorage.{is_place, is_bad_row}
 use Rattle.urb_stable.specs.declared.stable.StoreFault.{StoreFault}
 use Rattle.urb_stable.specs.declared.stable.StoreFault.TheVariants.{BadRow}
 use Rattle.urb_sqlite.specs.declared.sql.Part.{Part}
-use Rattle.urb_sqlite.specs.Journal.{limit_of, tree_of, Lacks, HasTable}
-use Rattle.urb_sqlite.specs.internal.Journal.{name_of}
-use Rattle.urb_sqlite.specs.internal.OpenJournal.{IsMade, MakesAtMost, CommitsAtMost}
-use Rattle.urb_sqlite.specs.internal.OpenJournal.{RollsBackAtMost, FindsNoBadRow}
-use Rattle.urb_sqlite.specs.Reading.{read_from}
-use Rattle.urb_sqlite.specs.Rows.{table_rows, IsInOrder, IsFirstBad}
-use Rattle.urb_sqlite.specs.Shape.{has_table}
+use Rattle.urb_sqlite.specs.JournalTables.{limit_of, tree_of, Lacks, HasTable}
+use Rattle.urb_sqlite.specs.internal.JournalStatements.{name_of}
+use Rattle.urb_sqlite.specs.internal.JournalChanges.{IsMade, MakesAtMost, CommitsAtMost}
+use Rattle.urb_sqlite.specs.internal.JournalChanges.{RollsBackAtMost, FindsNoBadRow}
+use Rattle.urb_sqlite.specs.RowReadings.{read_from}
+use Rattle.urb_sqlite.specs.RecordRows.{table_rows, IsInOrder, IsFirstBad}
+use Rattle.urb_sqlite.specs.TableShapes.{has_table}
 
 -- The rows of this table are records. The first one is at the place `first`, and the next free
 -- place follows the last.

@@ -5,7 +5,7 @@ use Rattle.std.specs.BTreeMap as tree
 use Rattle.std.specs.BTreeSet as set
 use Rattle.std.specs.declared.cmp.Ordering.{Ordering}
 use Rattle.urb_names.specs.Names.{has_name}
-use Rattle.urb_names.specs.Naming.{Content, Label}
+use Rattle.urb_names.specs.LabelsAndContents.{Content, Label}
 use Rattle.urb_names.specs.Pairs.{own}
 use Rattle.urb_names.specs.contracts.client.ClientIdOrd.TheImpl as client_order
 use Rattle.urb_stable.specs.Entries.{Entry, name_of}

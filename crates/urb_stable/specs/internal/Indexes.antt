@@ -4,7 +4,7 @@ use Rattle.std.specs.Prelude.{ℕ, ◌<◌, ◌||◌, ◌∷◌, ◌≡◌}
 use Rattle.std.specs.BTreeMap as tree
 use Rattle.std.specs.Option.{option_or}
 use Rattle.std.specs.declared.cmp.Ordering.{Ordering}
-use Rattle.urb_names.specs.Naming.{Content, Label}
+use Rattle.urb_names.specs.LabelsAndContents.{Content, Label}
 use Rattle.urb_names.specs.Pairs.{has_pair, message_of}
 use Rattle.urb_names.specs.contracts.name.NameOrd.TheImpl as name_order
 use Rattle.urb_stable.specs.Entries.{Entry, name_of}

@@ -1,9 +1,9 @@
 -- What a worker does besides its tickets: it feeds its node, and ticks early.
 use Rattle.std.specs.Prelude.{Bool, List, None, Option, Some, [], false, if◌then◌else◌, length, true}
 use Rattle.std.specs.Prelude.{ℕ, ◌&&◌, ◌==◌, ◌≡◌, ◌∷◌}
-use Rattle.urb_feed.specs.Feeding.{FeedView}
-use Rattle.urb_names.specs.Carried.{Carried}
-use Rattle.urb_names.specs.Packets.{spelling}
+use Rattle.urb_feed.specs.Feeds.{FeedView}
+use Rattle.urb_names.specs.CarriedPackets.{Carried}
+use Rattle.urb_names.specs.PacketGrammar.{spelling}
 use Rattle.urb_worker.specs.Changes.{change_of}
 use Rattle.urb_worker.specs.NodeFeeds.{IsFeedOf, IsNextPortion}
 use Rattle.urb_worker.specs.Views.{FinishedView}

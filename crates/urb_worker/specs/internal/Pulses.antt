@@ -6,8 +6,8 @@ use Rattle.std.specs.declared.alloc.Global.{Global}
 use Rattle.urb_group.specs.Commands.{reply_of}
 use Rattle.urb_group.specs.declared.reply.Reply.{Reply}
 use Rattle.urb_group.specs.declared.reply.Reply.TheVariants as reply
-use Rattle.urb_names.specs.Carried.{Carried}
-use Rattle.urb_names.specs.Packets.{packet_of}
+use Rattle.urb_names.specs.CarriedPackets.{Carried}
+use Rattle.urb_names.specs.PacketGrammar.{packet_of}
 use Rattle.urb_names.specs.declared.refusal.PacketFault.{PacketFault}
 use Rattle.urb_node.specs.Replies.{packets_in}
 use Rattle.urb_node.specs.Steps.{says_heard}

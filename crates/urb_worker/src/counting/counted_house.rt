@@ -1,8 +1,8 @@
 //! The value under a Hub's lock: the House, with the book of its events.
 
 ghost use Rattle.std.specs.Prelude.{◌≡◌, ◌+◌, ◌-◌, ◌<◌, IfOk, OnErr, sum, true, vec_len};
-ghost use Rattle.urb_feed.specs.Feeding.{IsPortion};
-ghost use Rattle.urb_group.specs.Shown.{IsSound};
+ghost use Rattle.urb_feed.specs.Feeds.{IsPortion};
+ghost use Rattle.urb_group.specs.GroupViews.{IsSound};
 ghost use Rattle.urb_worker.specs.Counting.{count_after};
 ghost use Rattle.urb_worker.specs.NodeFeeds.{BeginsFeed};
 ghost use Rattle.urb_worker.specs.Stages.{is_stored};

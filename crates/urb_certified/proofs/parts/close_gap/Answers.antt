@@ -1,9 +1,9 @@
 use Rattle.std.proofs.Common.{rules, sym, subst, ◌≡◌, ◌<◌, ◌≤◌, ◌-◌, ◌^◌, ℕ, suc, true, false, List}
 use Rattle.std.proofs.Common.{filter, slice_set}
-use Rattle.urb_names.specs.Naming.{Label}
+use Rattle.urb_names.specs.LabelsAndContents.{Label}
 use Rattle.urb_names.specs.Names.{has_name, name}
-use Rattle.urb_certified.specs.internal.Parts.{IsJoined, is_left}
-use Rattle.urb_certified.proofs.Kept.{closes}
+use Rattle.urb_certified.specs.internal.PartInvariant.{IsJoined, is_left}
+use Rattle.urb_certified.proofs.CertifiedParts.{closes}
 use Rattle.urb_certified.proofs.parts.close_gap.Goals as goal
 
 pub returns : goal.returns

@@ -1,5 +1,5 @@
 use Rattle.std.proofs.Common.{rules, ◌≤◌}
-use Rattle.urb_certified.proofs.Kept.{all_left}
+use Rattle.urb_certified.proofs.CertifiedParts.{all_left}
 use Rattle.urb_certified.proofs.parts.drop_run.Goals as goal
 
 pub returns-else-name-end : goal.returns-else-name-end

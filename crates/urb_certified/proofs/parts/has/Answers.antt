@@ -1,7 +1,7 @@
 use Rattle.std.proofs.Common.{rules, sym, ◌∙◌, ◌≤◌, ◌<◌}
 use Rattle.std.proofs.lemmas.Bool.{le-leb}
-use Rattle.urb_certified.specs.internal.Parts.{low_of}
-use Rattle.urb_certified.proofs.Members.{all_low, upper_only}
+use Rattle.urb_certified.specs.internal.PartInvariant.{low_of}
+use Rattle.urb_certified.proofs.PartMembers.{all_low, upper_only}
 use Rattle.urb_certified.proofs.parts.has.Goals as goal
 
 pub returns-then-name-low_of : goal.returns-then-name-low_of

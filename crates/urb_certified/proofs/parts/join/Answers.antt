@@ -1,6 +1,6 @@
 use Rattle.std.proofs.Common.{sym, subst}
-use Rattle.urb_certified.specs.internal.Parts.{IsJoined}
-use Rattle.urb_certified.proofs.Kept.{puts}
+use Rattle.urb_certified.specs.internal.PartInvariant.{IsJoined}
+use Rattle.urb_certified.proofs.CertifiedParts.{puts}
 use Rattle.urb_certified.proofs.parts.join.Goals as goal
 
 pub returns-clause-ok : goal.returns-clause-ok

@@ -1,6 +1,6 @@
 use Rattle.std.proofs.Common.{rules, sym, ◌∙◌, ◌≡◌}
-use Rattle.urb_certified.specs.internal.Parts.{low_of}
-use Rattle.urb_certified.proofs.Reaches.{reach_joins, reach_stays}
+use Rattle.urb_certified.specs.internal.PartInvariant.{low_of}
+use Rattle.urb_certified.proofs.SenderReaches.{reach_joins, reach_stays}
 use Rattle.urb_certified.proofs.parts.reach_with.Goals as goal
 
 pub returns-then-is_next : goal.returns-then-is_next

@@ -2,8 +2,8 @@ use Rattle.std.proofs.Common.{rules, ap, sym, ◌∙◌, ◌≡◌, ◌<◌, ◌
 use Rattle.std.specs.List.{prefix_len}
 use Rattle.std.proofs.lemmas.Bool.{le-ltb}
 use Rattle.urb_names.specs.Names.{name_lt, same_name}
-use Rattle.urb_certified.proofs.Orders.{names_in_order}
-use Rattle.urb_certified.proofs.Sorted.{absent_is, found_is}
+use Rattle.urb_certified.proofs.NameOrder.{names_in_order}
+use Rattle.urb_certified.proofs.BinarySearches.{absent_is, found_is}
 use Rattle.urb_certified.proofs.row.holds.Goals as goal
 
 pub returns-then-place-names : goal.returns-then-place-names

@@ -1,8 +1,8 @@
 use Rattle.std.proofs.Common.{rules}
 use Rattle.std.proofs.lemmas.List.Sorted.{IsPartitionPoint-from_clause}
 use Rattle.urb_names.specs.Names.{name_lt, same_name}
-use Rattle.urb_certified.proofs.Orders.{names_in_order}
-use Rattle.urb_certified.proofs.Sorted.{parted, point_is}
+use Rattle.urb_certified.proofs.NameOrder.{names_in_order}
+use Rattle.urb_certified.proofs.BinarySearches.{parted, point_is}
 use Rattle.urb_certified.proofs.row.place_of.Goals as goal
 
 pub returns-clause-place : goal.returns-clause-place

@@ -1,4 +1,4 @@
-use Rattle.urb_client.proofs.ReadOnce.{is_read_once}
+use Rattle.urb_client.proofs.SingleReading.{is_read_once}
 use Rattle.urb_client.proofs.sessions.one_reading.Goals as goal
 
 pub returns : goal.returns

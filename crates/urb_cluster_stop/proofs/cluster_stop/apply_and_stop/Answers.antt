@@ -1,6 +1,6 @@
 use Rattle.std.proofs.Common.{ap, refl, ◌∙◌}
 use Rattle.std.proofs.lemmas.Result.{IfOk-weaker}
-use Rattle.urb_names.specs.Naming.{Limits}
+use Rattle.urb_names.specs.LabelsAndContents.{Limits}
 use Rattle.urb_cluster_stop.proofs.cluster_stop.apply_and_stop.Goals as goal
 
 pub stop_and_reopen-requires : goal.stop_and_reopen-requires

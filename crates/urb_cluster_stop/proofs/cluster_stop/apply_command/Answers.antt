@@ -1,5 +1,5 @@
 use Rattle.std.proofs.Common.{List, subst, sym}
-use Rattle.urb_group.specs.Stocked.{WouldLeave}
+use Rattle.urb_group.specs.StoreContents.{WouldLeave}
 use Rattle.urb_cluster_stop.proofs.AppliedCommands.{applies-size}
 use Rattle.urb_cluster_stop.proofs.cluster_stop.apply_command.Goals as goal
 

@@ -1,7 +1,7 @@
 use Rattle.std.proofs.Common.{[], ap, arith, subst, sym, ◌++◌, ◌∙◌, ◌∷◌, ◌≡◌}
 use Rattle.sqlite.specs.Files.{file_state}
-use Rattle.urb_cluster_stop.specs.internal.ClusterStops.{AreReopened}
-use Rattle.urb_sqlite.specs.Stops.{IsReopened}
+use Rattle.urb_cluster_stop.specs.internal.ReopenedStores.{AreReopened}
+use Rattle.urb_sqlite.specs.ReopenedJournals.{IsReopened}
 use Rattle.urb_cluster_stop.proofs.JournalsReopened.{append-none, moved, none_left, one_more_length}
 use Rattle.urb_cluster_stop.proofs.JournalsReopened.{one_more_reopened}
 use Rattle.urb_cluster_stop.proofs.cluster_stop.reopen_journals.Goals as goal

@@ -1,6 +1,6 @@
 use Rattle.std.proofs.Common.{length, vec_capacity, vec_len, ◌++◌, ◌≡◌, ◌≤◌}
 use Rattle.sqlite.specs.Files.{file_state}
-use Rattle.urb_cluster_stop.specs.internal.ClusterStops.{AreReopened}
+use Rattle.urb_cluster_stop.specs.internal.ReopenedStores.{AreReopened}
 use Rattle.urb_cluster_stop.proofs.cluster_stop.reopen_journals.Given as goal
 
 -- the journals so far are opened again, and there is room for all

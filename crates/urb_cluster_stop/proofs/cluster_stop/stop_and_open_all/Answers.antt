@@ -2,7 +2,7 @@ use Rattle.std.proofs.Common.{ap, arith, inl, suc, sym, ◌∙◌}
 use Rattle.std.proofs.lemmas.List.Elements.{All-from_recursion}
 use Rattle.std.proofs.lemmas.Result.{IfOk-weaker}
 use Rattle.sqlite.specs.Files.{file_state}
-use Rattle.urb_names.specs.Naming.{Limits}
+use Rattle.urb_names.specs.LabelsAndContents.{Limits}
 use Rattle.urb_sqlite.proofs.JournalStops.{both_ok}
 use Rattle.urb_cluster_stop.proofs.JournalsReopened.{all_genuine, all_hold, same_count}
 use Rattle.urb_cluster_stop.proofs.cluster_stop.stop_and_open_all.Goals as goal

@@ -1,6 +1,6 @@
 use Rattle.std.proofs.Common.{List, Some, ap, slice_get, subst, ◌∙◌, ◌≡◌}
 use Rattle.std.proofs.lemmas.Result.{IfOk-weaker}
-use Rattle.urb_names.specs.Naming.{Limits}
+use Rattle.urb_names.specs.LabelsAndContents.{Limits}
 use Rattle.urb_cluster_stop.proofs.cluster_stop.stop_and_reopen.Goals as goal
 
 pub stop_and_open_all-requires : goal.stop_and_open_all-requires

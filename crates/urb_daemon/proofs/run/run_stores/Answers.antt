@@ -6,7 +6,7 @@ use Rattle.urb_daemon.proofs.StoresComeBack.{come_back, come_back_at_once}
 use Rattle.urb_daemon.specs.Runs.{limits_of}
 use Rattle.urb_daemon.specs.declared.serve_fault.ServeFault.TheVariants.{Network, Unopened}
 use Rattle.urb_daemon.specs.internal.Runs.{end_of}
-use Rattle.urb_folder.specs.StoresAsked.{OpensTogether}
+use Rattle.urb_folder.specs.AskedStores.{OpensTogether}
 use Rattle.urb_daemon.proofs.run.run_stores.Goals as goal
 
 pub returns-in-Ok-open_network-clause-order : goal.returns-in-Ok-open_network-clause-order

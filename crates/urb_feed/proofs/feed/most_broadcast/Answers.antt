@@ -1,6 +1,6 @@
 use Rattle.std.proofs.Common.{ap, arith, length, rules, ℕ, ◌+◌, ◌-◌, ◌∙◌, ◌≡◌}
-use Rattle.urb_feed.proofs.Greatest.{greatest_more}
-use Rattle.urb_feed.proofs.Rows.{is_node_of, own_at_node, own_is, own_of}
+use Rattle.urb_feed.proofs.GreatestValues.{greatest_more}
+use Rattle.urb_feed.proofs.LogRows.{is_node_of, own_at_node, own_is, own_of}
 use Rattle.urb_feed.proofs.feed.most_broadcast.Goals as goal
 use Rattle.urb_feed.proofs.feed.most_broadcast.Goals.{else-most-own, then-most-own}
 

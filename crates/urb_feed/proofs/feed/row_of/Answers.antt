@@ -1,5 +1,5 @@
 use Rattle.std.proofs.Common.{sym}
-use Rattle.urb_feed.proofs.Rows.{own_is, row_by_count, told_in_order, told_log}
+use Rattle.urb_feed.proofs.LogRows.{own_is, row_by_count, told_in_order, told_log}
 use Rattle.urb_feed.proofs.feed.row_of.Goals as goal
 
 pub delivered_of-delivered-requires : goal.delivered_of-delivered-requires

@@ -1,5 +1,5 @@
 use Rattle.std.proofs.Common.{arith, inl, inr, rules, ◌≡◌}
-use Rattle.urb_feed.proofs.Skipped.{one_more}
+use Rattle.urb_feed.proofs.SkippedNumbers.{one_more}
 use Rattle.urb_feed.proofs.feed.skip_whole.Goals as goal
 use Rattle.urb_feed.proofs.feed.skip_whole.Goals.{else-done-row, then-done-row+then-done-from}
 use Rattle.urb_feed.proofs.feed.skip_whole.Goals.{else-done-row-via-else-done-row}

@@ -1,6 +1,6 @@
 use Rattle.std.proofs.Common.{◌≤◌}
-use Rattle.urb_feed.specs.internal.Rows.{LacksNoneBelow}
-use Rattle.urb_group.specs.Shown.{Shows}
+use Rattle.urb_feed.specs.internal.SenderRows.{LacksNoneBelow}
+use Rattle.urb_group.specs.GroupViews.{Shows}
 use Rattle.urb_group.specs.World.{World}
 use Rattle.urb_feed.proofs.feed.skip_whole.Given as goal
 

@@ -1,12 +1,12 @@
 use Rattle.std.proofs.Common.{ap, arith, inl, inr, suc, sym, ◌++◌, ◌+◌, ◌-◌, ◌∙◌, ◌≡◌}
-use Rattle.urb_feed.proofs.Numbered.{more, no_more}
-use Rattle.urb_feed.proofs.Skipped.{needs_all, needs_none}
+use Rattle.urb_feed.proofs.NumberedLists.{more, no_more}
+use Rattle.urb_feed.proofs.SkippedNumbers.{needs_all, needs_none}
 use Rattle.urb_feed.proofs.offers.push_needed_of.Goals as goal
 use Rattle.urb_feed.proofs.offers.push_needed_of.Goals.{else-delivered-seq}
 use Rattle.urb_feed.proofs.offers.push_needed_of.Goals.{else-delivered-seq-via-else-delivered-seq}
 use Rattle.urb_feed.proofs.offers.push_needed_of.Goals.{else-delivered-seq-via-then-delivered-seq+else-seq-own}
 use Rattle.urb_feed.proofs.offers.push_needed_of.Goals.{then-delivered-seq+then-seq-own+in_ok-push_offers}
-use Rattle.urb_feed.specs.Lacking.{needed, needed_of, offers}
+use Rattle.urb_feed.specs.MissingNames.{needed, needed_of, offers}
 use Rattle.urb_names.specs.Names.{name}
 
 pub loop-before-preserved : goal.loop-before-preserved

@@ -1,6 +1,6 @@
 use Rattle.std.proofs.Common.{suc, ◌++◌, ◌-◌, ◌≡◌}
-use Rattle.urb_feed.specs.Lacking.{needed_of}
-use Rattle.urb_group.specs.Shown.{Shows}
+use Rattle.urb_feed.specs.MissingNames.{needed_of}
+use Rattle.urb_group.specs.GroupViews.{Shows}
 use Rattle.urb_group.specs.World.{World}
 use Rattle.urb_feed.proofs.offers.push_needed_of.Given as goal
 

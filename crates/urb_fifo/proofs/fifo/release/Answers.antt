@@ -1,5 +1,5 @@
 use Rattle.std.proofs.Common.{arith, append_assoc}
-use Rattle.urb_fifo.proofs.Rows.{row_next}
+use Rattle.urb_fifo.proofs.NameRows.{row_next}
 use Rattle.urb_fifo.proofs.fifo.release.Goals as goal
 
 pub loop-seq-preserved : goal.loop-seq-preserved

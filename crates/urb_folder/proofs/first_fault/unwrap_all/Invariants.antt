@@ -1,6 +1,6 @@
 use Rattle.std.proofs.Common.{◌≡◌, ◌+◌, ◌++◌, ◌≤◌, Ok, length, map, vec_len, vec_capacity}
 use Rattle.std.specs.List.{All}
-use Rattle.urb_folder.specs.Outcomes.{IsOpen}
+use Rattle.urb_folder.specs.ParallelOutcomes.{IsOpen}
 use Rattle.urb_folder.proofs.first_fault.unwrap_all.Given as goal
 
 -- those unwrapped so far come before the others, which are successes too, and there is room for all

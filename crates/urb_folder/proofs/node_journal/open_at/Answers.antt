@@ -1,9 +1,9 @@
 use Rattle.std.proofs.Common.{subst, suc, sym, ◌≡◌}
 use Rattle.sqlite.specs.Files.{file_state}
 use Rattle.sqlite.specs.State.{HasCleanDisk}
-use Rattle.urb_sqlite.specs.Nodes.{IsFoundIn}
+use Rattle.urb_sqlite.specs.FoundJournals.{IsFoundIn}
 use Rattle.urb_sqlite.specs.OpenJournal.{IsHonestJournal}
-use Rattle.urb_sqlite.specs.Reading.{records_of}
+use Rattle.urb_sqlite.specs.RowReadings.{records_of}
 use Rattle.urb_folder.proofs.node_journal.open_at.Goals as goal
 
 pub returns-in-Some-file_of-clause-found : goal.returns-in-Some-file_of-clause-found

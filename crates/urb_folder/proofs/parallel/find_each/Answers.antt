@@ -1,6 +1,6 @@
 use denote.Param.Send.{param_send}
 use Rattle.std.proofs.Common.{IfSome, length, rules, subst, sym, ◌<◌, ◌∙◌, ◌≡◌}
-use Rattle.urb_folder.specs.internal.OpenedJournals.{OpensIn}
+use Rattle.urb_folder.specs.internal.JournalOutcomes.{OpensIn}
 use Rattle.urb_folder.proofs.PlacesInOrder.{none_there, read_there}
 use Rattle.urb_folder.proofs.SendableFiles.{found_send}
 use Rattle.urb_folder.proofs.parallel.find_each.Goals as goal

@@ -1,6 +1,6 @@
 use Rattle.std.proofs.Common.{Some, ap, inl, arith, length, slice_get, subst, ◌∙◌, ◌≡◌}
 use Rattle.urb_group.proofs.stops.AskedStores.{written-back}
-use Rattle.urb_folder.specs.internal.OpenedJournals.{OpensIn}
+use Rattle.urb_folder.specs.internal.JournalOutcomes.{OpensIn}
 use Rattle.urb_folder.specs.internal.OpenedPlaces.{FailsAfter}
 use Rattle.urb_folder.proofs.parallel.open_all.Goals as goal
 

@@ -1,7 +1,7 @@
 use Rattle.std.proofs.Common.{IfSome, Ok, Some, le_refl, rules, length, slice_get, subst, sym}
 use Rattle.std.proofs.Common.{vec_capacity, vec_len, ◌+◌, ◌<◌, ◌∙◌, ◌≡◌, ◌≤◌}
 use Rattle.std.proofs.lemmas.Option.{slice_get_read}
-use Rattle.urb_folder.specs.internal.OpenedJournals.{OpensIn}
+use Rattle.urb_folder.specs.internal.JournalOutcomes.{OpensIn}
 use Rattle.urb_folder.specs.internal.OpenedPlaces.{AreOpened}
 use Rattle.urb_folder.proofs.PlacesInOrder.{before, earlier, ended, has_room, none_yet}
 use Rattle.urb_folder.proofs.PlacesInOrder.{one_more, unset}

@@ -1,5 +1,5 @@
 use Rattle.std.proofs.Common.{IfSome, Some, length, slice_get, vec_capacity, ℕ, ◌≡◌, ◌≤◌}
-use Rattle.urb_folder.specs.internal.OpenedJournals.{OpensIn}
+use Rattle.urb_folder.specs.internal.JournalOutcomes.{OpensIn}
 use Rattle.urb_folder.specs.internal.OpenedPlaces.{AreOpened}
 use Rattle.urb_folder.proofs.parallel.open_in_order.Given as goal
 

@@ -2,7 +2,7 @@ use Rattle.urb_group.proofs.calls.PlayedRuns.{plays-runs, plays-sound, sound-hol
 use Rattle.urb_group.proofs.stops.SecuredClusters.{applies-secured}
 use Rattle.urb_group.proofs.stops.StockedClusters.{applies-stocked}
 use Rattle.urb_group.proofs.stops.StockedPlays.{plays-kept}
-use Rattle.urb_group.specs.Stocked.{IsSecured, IsStocked}
+use Rattle.urb_group.specs.StoreContents.{IsSecured, IsStocked}
 use Rattle.urb_group.proofs.command_list.play.Goals as goal
 
 pub returns-clause-runs : goal.returns-clause-runs

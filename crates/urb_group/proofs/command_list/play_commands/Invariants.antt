@@ -1,5 +1,5 @@
 use Rattle.std.proofs.Common.{length, take, ◌≡◌}
-use Rattle.urb_group.specs.Plays.{Follows}
+use Rattle.urb_group.specs.PlayedCommands.{Follows}
 use Rattle.urb_group.proofs.command_list.play_commands.Given as goal
 
 abbrev pub invariant-loop-command : goal.invariant-loop-command

@@ -1,7 +1,7 @@
 use Rattle.std.proofs.Common.{ne_eqb, sym}
 use Rattle.urb_group.proofs.steps.DraftsInSteps.{step-elsewhere}
 use Rattle.urb_group.proofs.safety.StoredRecords.{step-stored}
-use Rattle.urb_group.specs.Delivering.{event_node}
+use Rattle.urb_group.specs.DeliveredMessages.{event_node}
 use Rattle.urb_group.proofs.delivering.an_event_changes_one_node.Goals as goal
 
 pub returns-clause-others : goal.returns-clause-others

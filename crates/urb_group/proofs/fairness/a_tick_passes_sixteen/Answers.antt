@@ -1,5 +1,5 @@
 -- A tick that leaves out a due pair passes sixteen others.
-use Rattle.urb_group.proofs.ticks.DueInTurn.{due-there, tick-passes}
+use Rattle.urb_group.proofs.ticks.DueTurns.{due-there, tick-passes}
 use Rattle.urb_group.proofs.fairness.a_tick_passes_sixteen.Goals as goal
 
 pub returns : goal.returns

@@ -1,6 +1,6 @@
 -- A node has no more pending than all storages took.
 use Rattle.std.proofs.Common.{arith}
-use Rattle.urb_group.proofs.recovery.AllDelivered.{reached-sound}
+use Rattle.urb_group.proofs.recovery.FullDelivery.{reached-sound}
 use Rattle.urb_group.proofs.recovery.PendingNames.{pending-taken}
 use Rattle.urb_group.proofs.fairness.so_many_ticks_are_enough.Goals as goal
 

@@ -1,5 +1,5 @@
 -- Ticks end after three rounds.
-use Rattle.urb_group.proofs.rounds.TicksEnd.{three-rounds}
+use Rattle.urb_group.proofs.rounds.SilentTicks.{three-rounds}
 use Rattle.urb_group.proofs.fairness.ticks_end.Goals as goal
 
 pub returns : goal.returns

@@ -1,6 +1,6 @@
 -- A pair that stays due gets its turn.
 use Rattle.std.proofs.Common.{arith}
-use Rattle.urb_group.proofs.ticks.DueInTurn.{turn-below, turn-comes-over}
+use Rattle.urb_group.proofs.ticks.DueTurns.{turn-below, turn-comes-over}
 use Rattle.urb_group.proofs.ticks.Membership.{in-pairs}
 use Rattle.urb_group.proofs.fairness.what_stays_due_is_resent.Goals as goal
 

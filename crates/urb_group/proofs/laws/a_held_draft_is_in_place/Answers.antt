@@ -1,4 +1,4 @@
-use Rattle.urb_group.proofs.stops.InPlace.{held-in-place}
+use Rattle.urb_group.proofs.stops.DraftPositions.{held-in-place}
 use Rattle.urb_group.proofs.laws.a_held_draft_is_in_place.Goals as goal
 
 pub returns : goal.returns

@@ -1,4 +1,4 @@
-use Rattle.urb_stable.proofs.Logs.{delivers}
+use Rattle.urb_stable.proofs.LogGrowth.{delivers}
 use Rattle.urb_group.proofs.laws.a_log_is_the_release_of_its_certificates.Goals as goal
 
 pub returns : goal.returns

@@ -1,5 +1,5 @@
-use Rattle.urb_group.proofs.safety.AnswersStop.{first_version-unanswered, heard-unanswered}
-use Rattle.urb_group.proofs.safety.AnswersStop.{third-unanswered}
+use Rattle.urb_group.proofs.safety.AnswerChains.{first_version-unanswered, heard-unanswered}
+use Rattle.urb_group.proofs.safety.AnswerChains.{third-unanswered}
 use Rattle.urb_group.proofs.laws.answers_end.Goals as goal
 
 pub returns-clause-heard : goal.returns-clause-heard

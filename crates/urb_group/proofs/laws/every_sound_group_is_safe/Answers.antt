@@ -1,5 +1,5 @@
 use Rattle.urb_group.proofs.moves.AcceptedSubmits.{accepted-stored}
-use Rattle.urb_group.proofs.shown.ShownWorldsAgree.{sound-kept}
+use Rattle.urb_group.proofs.shown.AgreeingWorlds.{sound-kept}
 use Rattle.urb_group.proofs.safety.SafeWorlds.{one_message, safe}
 use Rattle.urb_group.proofs.stops.StoppedWorlds.{survives}
 use Rattle.urb_group.proofs.laws.every_sound_group_is_safe.Goals as goal

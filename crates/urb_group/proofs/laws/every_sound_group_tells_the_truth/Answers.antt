@@ -1,4 +1,4 @@
-use Rattle.urb_group.proofs.shown.ShownWorldsAgree.{sound-kept}
+use Rattle.urb_group.proofs.shown.AgreeingWorlds.{sound-kept}
 use Rattle.urb_group.proofs.safety.RunsOfKeptWorlds.{kept-sent, kept-told}
 use Rattle.urb_group.proofs.laws.every_sound_group_tells_the_truth.Goals as goal
 

@@ -1,4 +1,4 @@
-use Rattle.urb_group.proofs.shown.ShownWorldsAgree.{sound-kept}
+use Rattle.urb_group.proofs.shown.AgreeingWorlds.{sound-kept}
 use Rattle.urb_group.proofs.safety.RunsOfKeptWorlds.{kept-agree, kept-grow}
 use Rattle.urb_group.proofs.laws.every_sound_groups_logs_agree.Goals as goal
 

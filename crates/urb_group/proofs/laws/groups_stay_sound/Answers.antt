@@ -1,4 +1,4 @@
-use Rattle.urb_group.proofs.shown.ShownWorldsAgree.{sound-step}
+use Rattle.urb_group.proofs.shown.AgreeingWorlds.{sound-step}
 use Rattle.urb_group.proofs.shown.ShownWorlds.{sound-new, sound-opened}
 use Rattle.urb_group.proofs.laws.groups_stay_sound.Goals as goal
 

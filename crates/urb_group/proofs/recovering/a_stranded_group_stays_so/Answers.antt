@@ -1,5 +1,5 @@
 -- Alone, a node hears no packet.
-use Rattle.urb_group.proofs.recovery.StaysStranded.{stays-stranded}
+use Rattle.urb_group.proofs.recovery.StrandedGroups.{stays-stranded}
 use Rattle.urb_group.proofs.recovering.a_stranded_group_stays_so.Goals as goal
 
 pub returns : goal.returns

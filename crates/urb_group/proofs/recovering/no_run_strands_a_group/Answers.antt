@@ -1,5 +1,5 @@
 -- Alone, a node stores no pair without its certificate.
-use Rattle.urb_group.proofs.recovery.NeverStranded.{new-free, stays-free}
+use Rattle.urb_group.proofs.recovery.UnstrandedGroups.{new-free, stays-free}
 use Rattle.urb_group.proofs.recovering.no_run_strands_a_group.Goals as goal
 
 pub returns-clause-new : goal.returns-clause-new

@@ -1,6 +1,6 @@
 use Rattle.std.proofs.Common.{map, sym, ◌∙◌}
 use Rattle.std.proofs.lemmas.List.{length-map}
-use Rattle.urb_group.proofs.stops.Reopened.{given-count, given-opens}
+use Rattle.urb_group.proofs.stops.OpenedClusters.{given-count, given-opens}
 use Rattle.urb_group.proofs.reopening.open_group.Goals as goal
 
 pub open-requires : goal.open-requires

@@ -3,7 +3,7 @@ use Rattle.std.proofs.Common.{ℕ, ◌+◌, ◌++◌, ◌<◌, ◌∙◌, ◌∷
 use Rattle.std.proofs.lemmas.List.{map_push}
 use Rattle.std.specs.Prelude.{slice_index_or, slice_set}
 use Rattle.urb_group.proofs.stops.AskedStores.{HasAsked, next-asked, next-fails, none-asked}
-use Rattle.urb_group.specs.Asked.{Gives}
+use Rattle.urb_group.specs.StoreQuestions.{Gives}
 use Rattle.urb_group.proofs.reopening.retrieve_all.Goals as goal
 
 pub loop-store-init : goal.loop-store-init

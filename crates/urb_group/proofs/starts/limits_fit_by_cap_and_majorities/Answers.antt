@@ -1,5 +1,5 @@
 -- Images keep the rules under other limits exactly if the cap and the majorities allow it.
-use Rattle.urb_group.proofs.stops.StartLimits.{fits-more, fits-only, fits-under}
+use Rattle.urb_group.proofs.stops.LimitChanges.{fits-more, fits-only, fits-under}
 use Rattle.urb_group.proofs.starts.limits_fit_by_cap_and_majorities.Goals as goal
 
 pub returns-clause-fits : goal.returns-clause-fits

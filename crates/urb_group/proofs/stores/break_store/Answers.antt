@@ -1,10 +1,10 @@
 use Rattle.std.proofs.Common.{Err, Some, ap, length, subst, ℕ, ◌+◌, ◌-◌, ◌^◌, ◌∙◌, ◌≡◌, ◌≤◌, Option}
 use Rattle.std.specs.Option.{OnSome}
 use Rattle.urb_group.proofs.calls.ArmedStores.{breaks-so}
-use Rattle.urb_group.specs.Clusters.{Breaks}
+use Rattle.urb_group.specs.ClusterCalls.{Breaks}
 use Rattle.urb_stable.specs.Entries.{Entry}
-use Rattle.urb_stable.specs.Memory.{Memory, without_memory}
-use Rattle.urb_stable.specs.Storing.{is_out_of_place}
+use Rattle.urb_stable.specs.MemoryStores.{Memory, without_memory}
+use Rattle.urb_stable.specs.StableStorage.{is_out_of_place}
 use Rattle.urb_stable.specs.declared.memory.Failure.{Failure}
 use Rattle.urb_stable.specs.declared.stable.StoreFault.TheVariants as fault
 use Rattle.urb_group.proofs.stores.break_store.Goals as goal

@@ -1,6 +1,6 @@
 use Rattle.std.proofs.Common.{Bool, None, Some, ap, drop, if◌then◌else◌, slice_index, ◌∙◌}
 use Rattle.std.proofs.lemmas.List.{take_rest}
-use Rattle.urb_names.specs.Packets.{fields_with}
+use Rattle.urb_names.specs.PacketGrammar.{fields_with}
 use Rattle.urb_names.proofs.spelling.fields_at.Goals as goal
 
 pub returns-else-begins_with_flags : goal.returns-else-begins_with_flags

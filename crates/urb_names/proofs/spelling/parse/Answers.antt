@@ -1,6 +1,6 @@
 use Rattle.std.proofs.Common.{◌∙◌, ap, arith}
-use Rattle.urb_names.specs.Packets.{judged}
-use Rattle.urb_names.proofs.Parsed.{found, only, first_fault}
+use Rattle.urb_names.specs.PacketGrammar.{judged}
+use Rattle.urb_names.proofs.JudgedBytes.{found, only, first_fault}
 use Rattle.urb_names.proofs.spelling.parse.Goals as goal
 
 pub returns-clause-found : goal.returns-clause-found

@@ -1,11 +1,11 @@
 use Rattle.std.proofs.Common.{Option, ap, refl, subst, sym, ℕ, ◌∙◌, ◌≤◌}
 use Rattle.std.specs.Option.{ForSome}
-use Rattle.urb_names.specs.Carried.{to_others}
-use Rattle.urb_names.specs.Naming.{Content}
-use Rattle.urb_node.specs.Values.{Memory}
+use Rattle.urb_names.specs.CarriedPackets.{to_others}
+use Rattle.urb_names.specs.LabelsAndContents.{Content}
+use Rattle.urb_node.specs.NodeMemories.{Memory}
 use Rattle.urb_stable.specs.Entries.{Entry}
-use Rattle.urb_node.specs.internal.Held.{HasRoom, IsDrafted, IsNextHeld}
-use Rattle.urb_node.proofs.Wanted.{made, pending_entry}
+use Rattle.urb_node.specs.internal.HeldLayers.{HasRoom, IsDrafted, IsNextHeld}
+use Rattle.urb_node.proofs.HoldableDrafts.{made, pending_entry}
 use Rattle.urb_node.proofs.call_outcomes.make_wanted.Goals as goal
 
 pub make_room_for-requires-clause-next : goal.make_room_for-requires-clause-next

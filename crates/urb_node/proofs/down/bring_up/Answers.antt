@@ -1,6 +1,6 @@
 use Rattle.std.proofs.Common.{ap}
-use Rattle.urb_stubborn.specs.Resending.{Resending}
-use Rattle.urb_node.proofs.Leads.{resend-kept}
+use Rattle.urb_stubborn.specs.Resends.{Resending}
+use Rattle.urb_node.proofs.OutcomeResults.{resend-kept}
 use Rattle.urb_node.proofs.down.bring_up.Goals as goal
 
 pub invariant_of-result : goal.invariant_of-result

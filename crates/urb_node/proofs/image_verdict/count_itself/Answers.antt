@@ -1,8 +1,8 @@
 use Rattle.std.proofs.Common.{rules, ◌≡◌, ◌<◌, ◌∙◌, [], arith, ap, length, slice_get, Some, None}
-use Rattle.urb_names.specs.Acknowledged.{acked}
+use Rattle.urb_names.specs.Acknowledgements.{acked}
 use Rattle.urb_names.specs.Names.{has_name}
 use Rattle.urb_majority.specs.Acks.{AckSet}
-use Rattle.urb_node.specs.internal.Layers.{counted_with}
+use Rattle.urb_node.specs.internal.LayerAdditions.{counted_with}
 use Rattle.urb_node.proofs.ImagePairs.{counted_more, none_left}
 use Rattle.urb_node.proofs.image_verdict.count_itself.Goals as goal
 use Rattle.urb_node.proofs.image_verdict.count_itself.Goals.{in-Some+in_ok-note, in_default}

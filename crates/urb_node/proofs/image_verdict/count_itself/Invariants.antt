@@ -1,6 +1,6 @@
 use Rattle.std.proofs.Common.{◌≡◌, ℕ, ◌||◌, take}
-use Rattle.urb_names.specs.Acknowledged.{acked}
-use Rattle.urb_names.specs.Naming.{Label}
+use Rattle.urb_names.specs.Acknowledgements.{acked}
+use Rattle.urb_names.specs.LabelsAndContents.{Label}
 use Rattle.urb_node.specs.Part.{self_acks}
 use Rattle.urb_node.proofs.image_verdict.count_itself.Given as goal
 

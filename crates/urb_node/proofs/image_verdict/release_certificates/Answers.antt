@@ -1,7 +1,7 @@
 use Rattle.std.proofs.Common.{rules, ◌≡◌, ◌<◌, arith, length, true, false, refl, reverse, take}
 use Rattle.std.proofs.Common.{slice_get, Some, List, subst, sym}
 use Rattle.std.proofs.lemmas.Option.{slice_get_read}
-use Rattle.urb_names.specs.Naming.{Label}
+use Rattle.urb_names.specs.LabelsAndContents.{Label}
 use Rattle.urb_fifo.specs.Delivery.{IsReleaseOf}
 use Rattle.urb_stable.specs.Records.{cert}
 use Rattle.urb_node.proofs.ImagePairs.{certified_at, certified_to}

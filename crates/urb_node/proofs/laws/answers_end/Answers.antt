@@ -1,4 +1,4 @@
-use Rattle.urb_node.proofs.AnswersEnd.{answers-end, first_version-silent, heard-silent}
+use Rattle.urb_node.proofs.FinalAnswers.{answers-end, first_version-silent, heard-silent}
 use Rattle.urb_node.proofs.laws.answers_end.Goals as goal
 
 pub returns-clause-heard : goal.returns-clause-heard

@@ -1,4 +1,4 @@
-use Rattle.urb_node.proofs.Wanted.{one_more_fits}
+use Rattle.urb_node.proofs.HoldableDrafts.{one_more_fits}
 use Rattle.urb_node.proofs.ready.step_of.Goals as goal
 
 pub overflow_add-held : goal.overflow_add-held

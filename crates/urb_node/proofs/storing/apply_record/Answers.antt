@@ -3,13 +3,13 @@ use Rattle.urb_names.specs.Names.{has_name}
 use Rattle.urb_names.specs.Pairs.{message_of}
 use Rattle.urb_stable.specs.Entries.{Entry}
 use Rattle.urb_stable.specs.declared.record.Record.TheVariants.{Cert, PendCert}
-use Rattle.urb_node.specs.Fields.{memory_of}
-use Rattle.urb_node.specs.internal.Held.{IsNextHeld}
-use Rattle.urb_node.specs.Values.{Memory}
-use Rattle.urb_node.proofs.ConfirmLeads.{certified_pending, first_held}
+use Rattle.urb_node.specs.LayerFields.{memory_of}
+use Rattle.urb_node.specs.internal.HeldLayers.{IsNextHeld}
+use Rattle.urb_node.specs.NodeMemories.{Memory}
+use Rattle.urb_node.proofs.ReceiptResults.{certified_pending, first_held}
 use Rattle.urb_node.proofs.JoinedLayers.{counted-kept, joined-pending}
-use Rattle.urb_node.proofs.Verdicts.{next_range}
-use Rattle.urb_node.proofs.Wanted.{one_more_fits}
+use Rattle.urb_node.proofs.ImageComparisons.{next_range}
+use Rattle.urb_node.proofs.HoldableDrafts.{one_more_fits}
 use Rattle.urb_node.proofs.storing.apply_record.Goals as goal
 
 pub join_pair-requires-clause-fits : goal.join_pair-requires-clause-fits

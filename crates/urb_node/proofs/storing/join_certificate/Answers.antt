@@ -1,6 +1,6 @@
 use Rattle.std.proofs.Common.{rules, ◌≡◌}
-use Rattle.urb_majority.specs.Counting.{certifying as acks_certifying}
-use Rattle.urb_fifo.specs.Releasing.{certifying as fifo_certifying}
+use Rattle.urb_majority.specs.AckOutcomes.{certifying as acks_certifying}
+use Rattle.urb_fifo.specs.NewReleases.{certifying as fifo_certifying}
 use Rattle.urb_node.proofs.JoinedLayers.{certificate-kept}
 use Rattle.urb_node.proofs.storing.join_certificate.Goals as goal
 

@@ -1,5 +1,5 @@
 use Rattle.std.proofs.Common.{ap, rules, sym, ◌∙◌, ◌≡◌}
-use Rattle.urb_stubborn.specs.Resending.{Resending}
+use Rattle.urb_stubborn.specs.Resends.{Resending}
 use Rattle.urb_pending.specs.PendingSet.{added}
 use Rattle.urb_node.proofs.JoinedLayers.{pair-kept}
 use Rattle.urb_node.proofs.storing.join_pair.Goals as goal

@@ -1,5 +1,5 @@
 use Rattle.std.proofs.Common.{rules, sym, ap, ◌∙◌, ◌≡◌, ◌==◌, is_some, le-ltb}
-use Rattle.urb_pending.proofs.Rows.{held_or_not, held_past}
+use Rattle.urb_pending.proofs.ClientRowPlaces.{held_or_not, held_past}
 use Rattle.urb_pending.proofs.clients.is_at.Goals as goal
 
 pub returns-then-place-rows : goal.returns-then-place-rows

@@ -1,6 +1,6 @@
 use Rattle.std.proofs.Common.{rules, [], false}
 use Rattle.std.proofs.lemmas.List.Sorted.{IsPartitionPoint-from_clause}
-use Rattle.urb_pending.proofs.Rows.{parted, point_is, stands_before}
+use Rattle.urb_pending.proofs.ClientRowPlaces.{parted, point_is, stands_before}
 use Rattle.urb_pending.proofs.clients.place_of.Goals as goal
 
 pub returns-clause-place : goal.returns-clause-place

@@ -1,6 +1,6 @@
 use Rattle.std.proofs.Common.{rules, sym, ◌≡◌, ◌<◌, ◌≤◌, ◌==◌, length, get_or, false}
 use Rattle.std.proofs.lemmas.Bool.{eqb-false, eqb-true}
-use Rattle.urb_pending.proofs.Rows.{held_here, held_not, held_past}
+use Rattle.urb_pending.proofs.ClientRowPlaces.{held_here, held_not, held_past}
 use Rattle.urb_pending.proofs.clients.row_of.Goals as goal
 
 pub returns-in_err-row : goal.returns-in_err-row

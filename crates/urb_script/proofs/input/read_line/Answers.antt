@@ -1,7 +1,7 @@
 use Rattle.std.proofs.Common.{rules}
 use Rattle.std.proofs.KnownBytes.{Consumes-trans}
-use Rattle.urb_script.proofs.Parts.{read_whole, read_last, read_long, plain_more, took_last}
-use Rattle.urb_script.proofs.Parts.{took_whole, took_long}
+use Rattle.urb_script.proofs.LinesAndWords.{read_whole, read_last, read_long, plain_more, took_last}
+use Rattle.urb_script.proofs.LinesAndWords.{took_whole, took_long}
 use Rattle.urb_script.proofs.input.read_line.Goals as goal
 
 pub returns-else-is_empty-clause-line : goal.returns-else-is_empty-clause-line

@@ -1,7 +1,7 @@
 use Rattle.std.proofs.Common.{Option, ap, ◌∙◌}
-use Rattle.urb_names.specs.Carried.{Carried}
+use Rattle.urb_names.specs.CarriedPackets.{Carried}
 use Rattle.urb_names.specs.declared.flags.Flags.{Flags}
-use Rattle.urb_script.proofs.Applying.{bytes_spelled}
+use Rattle.urb_script.proofs.ClusterAnswers.{bytes_spelled}
 use Rattle.urb_script.proofs.mem_cluster.encode_packet.Goals as goal
 
 pub returns : goal.returns

@@ -1,6 +1,6 @@
 use Rattle.std.proofs.Common.{rules}
 use Rattle.urb_script.specs.Texts.{packet_text}
-use Rattle.urb_script.proofs.Shown.{one_more}
+use Rattle.urb_script.proofs.ListTexts.{one_more}
 use Rattle.urb_script.proofs.reply_lines.push_packets.Goals as goal
 
 pub loop-at-preserved : goal.loop-at-preserved

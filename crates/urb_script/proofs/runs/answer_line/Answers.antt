@@ -1,5 +1,5 @@
 use Rattle.std.proofs.Common.{rules}
-use Rattle.urb_script.specs.internal.Commands.{command}
+use Rattle.urb_script.specs.internal.CommandLines.{command}
 use Rattle.urb_script.proofs.Progress.{opens_line, plays_line}
 use Rattle.urb_script.proofs.runs.answer_line.Goals as goal
 

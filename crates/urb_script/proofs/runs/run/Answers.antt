@@ -1,4 +1,4 @@
-use Rattle.urb_script.proofs.LogLines.{logs_agree, logs_are_safe, stays_safe}
+use Rattle.urb_script.proofs.LogLaws.{logs_agree, logs_are_safe, stays_safe}
 use Rattle.urb_script.proofs.Outcomes.{one_outcome}
 use Rattle.urb_script.proofs.runs.run.Goals as goal
 

@@ -1,5 +1,5 @@
 use Rattle.std.proofs.Common.{sym}
-use Rattle.urb_script.proofs.Parts.{first_of_words, only_word}
+use Rattle.urb_script.proofs.LinesAndWords.{first_of_words, only_word}
 use Rattle.urb_script.proofs.words.first_word.Goals as goal
 
 pub returns-in-Some : goal.returns-in-Some

@@ -1,5 +1,5 @@
 use Rattle.std.proofs.Common.{ap, arith, slice_index_or, sym, ⊎_elim, ◌≡◌}
-use Rattle.urb_group.specs.Delivering.{Delivery}
+use Rattle.urb_group.specs.DeliveredMessages.{Delivery}
 use Rattle.urb_show.specs.internal.Examples.{told}
 use Rattle.urb_show.specs.Lists.{delivery_of}
 use Rattle.urb_show.proofs.worked.disagreements.Goals as goal

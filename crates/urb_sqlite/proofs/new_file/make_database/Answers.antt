@@ -6,7 +6,7 @@ use Rattle.sqlite_trees.proofs.Doubt.{clean_of}
 use Rattle.sqlite_trees.specs.Objects.{catalog_tree}
 use Rattle.sqlite_trees.specs.Tree.{Trees}
 use Rattle.sqlite_wal.specs.Reads.{are_clean}
-use Rattle.urb_stable.specs.Storing.{is_place}
+use Rattle.urb_stable.specs.StableStorage.{is_place}
 use Rattle.urb_sqlite.proofs.JournalSchemas.{bare_schema}
 use Rattle.urb_sqlite.proofs.new_file.make_database.Goals as goal
 

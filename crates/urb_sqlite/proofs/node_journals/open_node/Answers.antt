@@ -4,9 +4,9 @@ use Rattle.sqlite.proofs.FileLemmas.{same_image}
 use Rattle.sqlite.specs.State.{HasCleanDisk}
 use Rattle.sqlite.specs.Files.{file_state}
 use Rattle.sqlite_wal.specs.Recovery.{Image}
-use Rattle.urb_sqlite.specs.Nodes.{IsFoundIn}
+use Rattle.urb_sqlite.specs.FoundJournals.{IsFoundIn}
 use Rattle.urb_sqlite.specs.OpenJournal.{IsHonestJournal}
-use Rattle.urb_sqlite.specs.Reading.{records_of}
+use Rattle.urb_sqlite.specs.RowReadings.{records_of}
 use Rattle.urb_sqlite.proofs.node_journals.open_node.Goals as goal
 
 pub returns-clause-found : goal.returns-clause-found

@@ -4,7 +4,7 @@ use Rattle.urb_names.specs.declared.limits.TheConstants.{MAX_NODES}
 use Rattle.sqlite.specs.State.{HasCleanDisk}
 use Rattle.sqlite.specs.Files.{file_state}
 use Rattle.urb_sqlite.specs.OpenJournal.{IsHonestJournal}
-use Rattle.urb_sqlite.specs.Reading.{records_of}
+use Rattle.urb_sqlite.specs.RowReadings.{records_of}
 use Rattle.urb_sqlite.proofs.NodeJournals.{made_all, next_node, one_more}
 use Rattle.urb_sqlite.proofs.node_journals.open_nodes.Goals as goal
 

@@ -3,7 +3,7 @@ use Rattle.sqlite.specs.Effect.{Database}
 use Rattle.sqlite.specs.Held.{state}
 use Rattle.sqlite.specs.State.{Executes}
 use Rattle.urb_sqlite.specs.declared.sql.Part.{Part}
-use Rattle.urb_sqlite.specs.internal.Journal.{create_of, name_of}
+use Rattle.urb_sqlite.specs.internal.JournalStatements.{create_of, name_of}
 use Rattle.urb_sqlite.specs.OpenJournal.{AddsTable}
 use Rattle.urb_sqlite.proofs.KeptRecords.{left_by_err, keeps_if_left}
 use Rattle.urb_sqlite.proofs.StatementTexts.{Makes, create_parsed}

@@ -4,7 +4,7 @@ use Rattle.sqlite.specs.State.{HasCleanDisk, IsUnchanged}
 use Rattle.urb_sqlite.specs.declared.sql.Part.{Part}
 use Rattle.urb_sqlite.specs.declared.sql.Part.TheVariants.{First, Second}
 use Rattle.urb_names.specs.declared.limits.TheConstants.{MAX_PAYLOAD}
-use Rattle.urb_sqlite.specs.Journal.{limit_of}
+use Rattle.urb_sqlite.specs.JournalTables.{limit_of}
 use Rattle.urb_sqlite.proofs.KeptRecords.{unchanged_by_select, reads_if_shown}
 use Rattle.urb_sqlite.proofs.CursorReads.{bad_in_table, no_records, no_bad_row}
 use Rattle.urb_sqlite.proofs.records.read_part.Goals as goal

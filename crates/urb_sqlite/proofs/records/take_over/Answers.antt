@@ -2,8 +2,8 @@ use Rattle.std.proofs.Common.{refl}
 use Rattle.std.proofs.lemmas.Result.{IfOk-weaker, err_from_is_err_and}
 use Rattle.sqlite.specs.Held.{state}
 use Rattle.urb_sqlite.specs.OpenJournal.{IsTakenOver}
-use Rattle.urb_sqlite.proofs.TakenOver.{when_ok, kept_over, taken_over}
-use Rattle.urb_sqlite.proofs.GivenBack.{first_given_back, second_given_back, when_both_err}
+use Rattle.urb_sqlite.proofs.AcceptedOpenings.{when_ok, kept_over, taken_over}
+use Rattle.urb_sqlite.proofs.RefusedOpenings.{first_given_back, second_given_back, when_both_err}
 use Rattle.urb_sqlite.proofs.records.take_over.Goals as goal
 
 pub returns-clause-taken : goal.returns-clause-taken

@@ -3,11 +3,11 @@ use Rattle.std.proofs.Common.{Some, refl, sym, ap, ◌∙◌, arith, rules, opti
 use Rattle.sqlite.specs.Order.{Row}
 use Rattle.sqlite.specs.State.{HasCleanDisk, Shown}
 use Rattle.sqlite.specs.Held.{state}
-use Rattle.urb_sqlite.specs.internal.Journal.{select_of}
-use Rattle.urb_sqlite.specs.Reading.{read_from, record_at}
+use Rattle.urb_sqlite.specs.internal.JournalStatements.{select_of}
+use Rattle.urb_sqlite.specs.RowReadings.{read_from, record_at}
 use Rattle.urb_sqlite.specs.declared.rows.ReadFault.TheVariants.{BadRow}
 use Rattle.urb_sqlite.proofs.SpelledRows.{found_in}
-use Rattle.urb_sqlite.proofs.BothTables.{survives_both, earlier}
+use Rattle.urb_sqlite.proofs.TableReadings.{survives_both, earlier}
 use Rattle.urb_sqlite.proofs.CursorReads.{start_stops, reads_none, refused_stops, refused_left}
 use Rattle.urb_sqlite.proofs.CursorReads.{reads_on, meets_bad, reads_all, on_err}
 use Rattle.urb_sqlite.proofs.rows.read_rows.Goals as goal

@@ -1,6 +1,6 @@
 use Rattle.std.proofs.Common.{[], ap, ◌∷◌}
 use Rattle.urb_stable.specs.Records.{cert}
-use Rattle.urb_stable.proofs.Told.{names-kept, names-more, one-name}
+use Rattle.urb_stable.proofs.EarlierFacts.{names-kept, names-more, one-name}
 use Rattle.urb_stable.proofs.earlier_records.certify_next.Goals as goal
 
 pub returns-in-Pend : goal.returns-in-Pend

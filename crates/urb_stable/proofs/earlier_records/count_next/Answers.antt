@@ -1,8 +1,8 @@
 use Rattle.std.proofs.Common.{ap, arith, sym, take, ◌∙◌, ◌≡◌}
-use Rattle.urb_names.specs.Naming.{Label}
+use Rattle.urb_names.specs.LabelsAndContents.{Label}
 use Rattle.urb_names.specs.Pairs.{own}
 use Rattle.urb_stable.specs.Records.{pend}
-use Rattle.urb_stable.proofs.Told.{count-certificate, count-other, count-own, own-room}
+use Rattle.urb_stable.proofs.EarlierFacts.{count-certificate, count-other, count-own, own-room}
 use Rattle.urb_stable.proofs.earlier_records.count_next.Goals as goal
 
 pub count_message-requires-clause-room : goal.count_message-requires-clause-room

@@ -1,6 +1,6 @@
 use Rattle.std.proofs.Common.{length, refl, take}
 use Rattle.std.proofs.lemmas.Option.{slice_get_read}
-use Rattle.urb_stable.proofs.Told.{has-told, names-next, told-more}
+use Rattle.urb_stable.proofs.EarlierFacts.{has-told, names-next, told-more}
 use Rattle.urb_stable.proofs.earlier_records.tell_next.Goals as goal
 
 pub returns : goal.returns

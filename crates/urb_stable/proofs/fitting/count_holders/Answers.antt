@@ -3,9 +3,9 @@ use Rattle.std.proofs.lemmas.Iterator.{YieldsList-from_slice}
 use Rattle.std.proofs.lemmas.Iterator.Consumers.{YieldsList-from_filter, count_from_yields_List}
 use Rattle.std.proofs.lemmas.List.Sums.{length-filter}
 use Rattle.urb_names.specs.Pairs.{has_pair}
-use Rattle.urb_stable.specs.internal.NodeImages.{NodeImage}
+use Rattle.urb_stable.specs.internal.NumberedImages.{NodeImage}
 use Rattle.urb_stable.specs.Records.{pend}
-use Rattle.urb_stable.proofs.FoundRecords.{count-images}
+use Rattle.urb_stable.proofs.ImageCounts.{count-images}
 use Rattle.urb_stable.proofs.fitting.count_holders.Goals as goal
 
 pub returns-clause-count : goal.returns-clause-count

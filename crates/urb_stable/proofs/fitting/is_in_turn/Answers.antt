@@ -1,5 +1,5 @@
 use Rattle.std.proofs.Common.{ap, length, not, take, ℕ, ◌==◌, ◌∙◌}
-use Rattle.urb_names.specs.Naming.{Label}
+use Rattle.urb_names.specs.LabelsAndContents.{Label}
 use Rattle.urb_names.specs.Pairs.{own}
 use Rattle.urb_stable.specs.internal.EarlierRecords.{same_client}
 use Rattle.urb_stable.specs.Records.{pend}

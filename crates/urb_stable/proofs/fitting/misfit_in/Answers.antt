@@ -2,7 +2,7 @@ use Rattle.std.proofs.Common.{List, None, Option, Some, ap, length, map, refl, s
 use Rattle.std.proofs.Common.{slice_index_or, subst, sym, take, ◌<◌, ◌∙◌, ◌≡◌, ◌≤◌}
 use Rattle.std.proofs.lemmas.Option.{slice_get_read}
 use Rattle.std.specs.Prelude.{option_map}
-use Rattle.urb_names.specs.Naming.{Label}
+use Rattle.urb_names.specs.LabelsAndContents.{Label}
 use Rattle.urb_names.specs.declared.refusal.Rule.{Rule}
 use Rattle.urb_stable.specs.Entries.{Entry, name_of}
 use Rattle.urb_stable.specs.Fitting.{broken, first_of_all}

@@ -1,8 +1,8 @@
 use Rattle.std.proofs.Common.{Option, Some, arith, length, refl, subst, sym, ℕ, ◌<◌}
 use Rattle.std.proofs.lemmas.Option.{slice_get_read, slice_get_within}
 use Rattle.std.specs.Prelude.{option_map}
-use Rattle.urb_stable.proofs.Walks.{Looks, left, left-less, looks-end, looks-first, looks-next}
-use Rattle.urb_stable.proofs.Walks.{named-found, stands-next, stands-within}
+use Rattle.urb_stable.proofs.RecordWalks.{Looks, left, left-less, looks-end, looks-first, looks-next}
+use Rattle.urb_stable.proofs.RecordWalks.{named-found, stands-next, stands-within}
 use Rattle.urb_stable.proofs.index.find_before.Goals as goal
 
 pub loop-next-init : goal.loop-next-init

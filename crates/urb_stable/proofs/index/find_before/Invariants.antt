@@ -1,5 +1,5 @@
 use Rattle.std.specs.Prelude.{option_map}
-use Rattle.urb_stable.proofs.Walks.{Looks, left}
+use Rattle.urb_stable.proofs.RecordWalks.{Looks, left}
 use Rattle.urb_stable.proofs.index.find_before.Given as goal
 
 abbrev pub invariant-loop-next : goal.invariant-loop-next

@@ -1,7 +1,7 @@
 use Rattle.std.proofs.Common.{Option, Some, arith, length, refl, subst, sym, ℕ, ◌<◌, ◌∙◌}
 use Rattle.std.proofs.lemmas.Option.{slice_get_read}
-use Rattle.urb_stable.proofs.Walks.{Seeks, left, left-less, seeks-end, seeks-first, seeks-found}
-use Rattle.urb_stable.proofs.Walks.{seeks-next, stands-next, stands-within}
+use Rattle.urb_stable.proofs.RecordWalks.{Seeks, left, left-less, seeks-end, seeks-first, seeks-found}
+use Rattle.urb_stable.proofs.RecordWalks.{seeks-next, stands-next, stands-within}
 use Rattle.urb_stable.proofs.index.has_pair.Goals as goal
 
 pub loop-place-init : goal.loop-place-init

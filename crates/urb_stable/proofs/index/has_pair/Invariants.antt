@@ -1,4 +1,4 @@
-use Rattle.urb_stable.proofs.Walks.{Seeks, left}
+use Rattle.urb_stable.proofs.RecordWalks.{Seeks, left}
 use Rattle.urb_stable.proofs.index.has_pair.Given as goal
 
 abbrev pub invariant-loop-place : goal.invariant-loop-place

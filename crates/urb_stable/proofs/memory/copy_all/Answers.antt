@@ -1,6 +1,6 @@
 use Rattle.std.proofs.Common.{ap, sym, [], ◌++◌, ◌∙◌, ◌∷◌}
 use Rattle.std.proofs.lemmas.List.{take_all}
-use Rattle.urb_stable.proofs.Kept.{take-next}
+use Rattle.urb_stable.proofs.AppendedElements.{take-next}
 use Rattle.urb_stable.proofs.memory.copy_all.Goals as goal
 
 pub loop-entry-preserved : goal.loop-entry-preserved

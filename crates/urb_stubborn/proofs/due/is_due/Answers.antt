@@ -1,8 +1,8 @@
 use Rattle.std.proofs.Common.{◌≡◌, ◌≤◌, ◌<◌, ◌+◌, ◌==◌, ◌&&◌, ◌||◌, true, false, not, arith, rules}
 use Rattle.std.proofs.Common.{ap, sym, ◌∙◌}
 use Rattle.std.proofs.lemmas.Bool.{or_left}
-use Rattle.urb_names.specs.Acknowledged.{acked}
-use Rattle.urb_stubborn.proofs.Unheard.{due_from, due_start, due_next, due_end}
+use Rattle.urb_names.specs.Acknowledgements.{acked}
+use Rattle.urb_stubborn.proofs.DueNames.{due_from, due_start, due_next, due_end}
 use Rattle.urb_stubborn.proofs.due.is_due.Goals as goal
 
 pub loop-number-init : goal.loop-number-init

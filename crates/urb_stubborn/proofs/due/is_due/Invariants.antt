@@ -1,6 +1,6 @@
 use Rattle.std.proofs.Common.{◌≡◌}
-use Rattle.urb_names.specs.Carried.{is_due}
-use Rattle.urb_stubborn.proofs.Unheard.{due_from}
+use Rattle.urb_names.specs.CarriedPackets.{is_due}
+use Rattle.urb_stubborn.proofs.DueNames.{due_from}
 use Rattle.urb_stubborn.proofs.due.is_due.Given as goal
 
 -- the nodes before this one were heard

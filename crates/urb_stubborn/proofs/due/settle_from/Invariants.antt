@@ -1,5 +1,5 @@
 use Rattle.std.proofs.Common.{◌≡◌, ◌-◌, ◌<◌, ◌≤◌, ℕ, false}
-use Rattle.urb_names.specs.Carried.{is_due}
+use Rattle.urb_names.specs.CarriedPackets.{is_due}
 use Rattle.urb_names.specs.Names.{name}
 use Rattle.urb_stubborn.proofs.due.settle_from.Given as goal
 

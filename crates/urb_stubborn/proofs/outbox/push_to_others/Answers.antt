@@ -1,9 +1,9 @@
 use Rattle.std.proofs.Common.{ℕ, ◌≡◌, ◌≢◌, ◌+◌, ◌-◌, ◌==◌, Some, not}
 use Rattle.std.proofs.Common.{arith, rules, ap, ap₂, ◌∙◌, eq-eqb, ne_eqb}
-use Rattle.urb_names.specs.Naming.{Content, Label}
-use Rattle.urb_names.specs.Carried.{is_heard_of, others}
+use Rattle.urb_names.specs.LabelsAndContents.{Content, Label}
+use Rattle.urb_names.specs.CarriedPackets.{is_heard_of, others}
 use Rattle.urb_names.specs.declared.flags.Flags.{Flags}
-use Rattle.urb_stubborn.proofs.Sent.{packet, sent_to, not_sent_to, others_grow}
+use Rattle.urb_stubborn.proofs.SentPackets.{packet, sent_to, not_sent_to, others_grow}
 use Rattle.urb_stubborn.proofs.outbox.push_to_others.Goals as goal
 use Rattle.urb_stubborn.proofs.outbox.push_to_others.Goals.{then-ne+in_ok-share+in_ok-push, else-ne}
 

@@ -1,5 +1,5 @@
 use Rattle.std.proofs.Common.{sym, ap, ◌∙◌, is_some}
-use Rattle.urb_window.proofs.Marked.{mapped_some}
+use Rattle.urb_window.proofs.NewMarks.{mapped_some}
 use Rattle.urb_window.proofs.marks.has_mask.Goals as goal
 
 pub returns : goal.returns

@@ -1,13 +1,13 @@
 use Rattle.std.proofs.Common.{rules, ◌≡◌, ℕ, true, false, is_some, None, sym, ap, ◌∙◌}
 use Rattle.std.proofs.lemmas.Bool.{cond-true}
 use Rattle.urb_names.specs.Names.{has_name, name_lt}
-use Rattle.urb_names.specs.Ordered.{placed}
+use Rattle.urb_names.specs.RisingLists.{placed}
 use Rattle.urb_window.specs.Entries.{names_of, value_of}
 use Rattle.urb_window.specs.Marks.{marks_of}
-use Rattle.urb_window.specs.Masks.{marks_in}
+use Rattle.urb_window.specs.NodeMasks.{marks_in}
 use Rattle.urb_window.specs.WindowSet.{WindowSet}
-use Rattle.urb_window.proofs.Looked.{has_value}
-use Rattle.urb_window.proofs.Roomy.{placed_empty, room_new}
+use Rattle.urb_window.proofs.NameSearches.{has_value}
+use Rattle.urb_window.proofs.MaskClearings.{placed_empty, room_new}
 use Rattle.urb_window.proofs.marks.make_room.Goals as goal
 
 pub returns-then-has_mask-clause-ok : goal.returns-then-has_mask-clause-ok

@@ -1,14 +1,14 @@
 use Rattle.std.proofs.Common.{rules, ◌≡◌, ℕ, ◌+◌, ◌-◌, ◌^◌, true, false, is_some, sym, ap, ◌∙◌}
-use Rattle.urb_names.specs.Ordered.{placed}
+use Rattle.urb_names.specs.RisingLists.{placed}
 use Rattle.urb_window.specs.Entries.{entry_lt, names_of, value_of, with_value}
 use Rattle.urb_window.specs.WindowSet.{WindowSet}
-use Rattle.urb_window.specs.Masks.{has_bit}
-use Rattle.urb_window.specs.internal.Masks.{mask_of}
-use Rattle.urb_window.proofs.Flattened.{acked_bit}
-use Rattle.urb_window.proofs.Marked.{marks_more, changed_known, changed_new}
+use Rattle.urb_window.specs.NodeMasks.{has_bit}
+use Rattle.urb_window.specs.internal.EntryMasks.{mask_of}
+use Rattle.urb_window.proofs.MaskPairs.{acked_bit}
+use Rattle.urb_window.proofs.NewMarks.{marks_more, changed_known, changed_new}
 use Rattle.urb_names.specs.Names.{has_name}
-use Rattle.urb_window.proofs.Looked.{has_value}
-use Rattle.urb_window.proofs.Roomy.{mark_joins, room_known, room_new}
+use Rattle.urb_window.proofs.NameSearches.{has_value}
+use Rattle.urb_window.proofs.MaskClearings.{mark_joins, room_known, room_new}
 use Rattle.urb_window.proofs.marks.mark.Goals as goal
 
 pub with_bit-mask-requires-clause-new : goal.with_bit-mask-requires-clause-new

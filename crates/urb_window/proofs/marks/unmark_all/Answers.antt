@@ -2,8 +2,8 @@ use Rattle.std.proofs.Common.{◌≡◌, ◌∙◌, ◌<◌, ◌+◌, ℕ, lengt
 use Rattle.std.proofs.lemmas.List.{length-map}
 use Rattle.urb_window.specs.Entries.{names_of, with_value}
 use Rattle.urb_window.specs.WindowSet.{WindowSet}
-use Rattle.urb_window.proofs.Roomy.{AreEmpty, name_stands, names_valued, none_marked}
-use Rattle.urb_window.proofs.Roomy.{one_more_empty, value_there}
+use Rattle.urb_window.proofs.MaskClearings.{AreEmpty, name_stands, names_valued, none_marked}
+use Rattle.urb_window.proofs.MaskClearings.{one_more_empty, value_there}
 use Rattle.urb_window.proofs.marks.unmark_all.Goals as goal
 
 pub unwrap-name-requires : goal.unwrap-name-requires

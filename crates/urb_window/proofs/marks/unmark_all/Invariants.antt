@@ -1,6 +1,6 @@
 use Rattle.std.proofs.Common.{◌≡◌, length}
 use Rattle.urb_window.specs.Entries.{names_of}
-use Rattle.urb_window.proofs.Roomy.{AreEmpty}
+use Rattle.urb_window.proofs.MaskClearings.{AreEmpty}
 use Rattle.urb_window.proofs.marks.unmark_all.Given as goal
 
 -- the masks before this place are empty, and no name has changed

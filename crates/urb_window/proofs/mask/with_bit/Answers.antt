@@ -1,6 +1,6 @@
 use Rattle.std.proofs.Common.{◌≡◌, ◌<◌, ◌+◌, ◌-◌, ◌^◌, false, sym, subst, ◌∙◌, arith, ℕ, Fits, w8}
 use Rattle.std.proofs.Math.Facts.{Fits-of_lt}
-use Rattle.urb_window.proofs.Masks.{is_set, set_fits, set_is}
+use Rattle.urb_window.proofs.MaskBits.{is_set, set_fits, set_is}
 use Rattle.urb_window.proofs.mask.with_bit.Goals as goal
 
 pub overflow_add-result : goal.overflow_add-result

@@ -2,8 +2,8 @@ use Rattle.std.proofs.Common.{◌≡◌, ◌≤◌, ◌<◌, ◌+◌, ◌-◌, n
 use Rattle.std.proofs.Common.{get_or, length, Some, None, option_map}
 use Rattle.urb_names.specs.Names.{name_lt}
 use Rattle.urb_window.specs.Row.{pairs_of}
-use Rattle.urb_window.specs.Rows.{entries_from}
-use Rattle.urb_window.proofs.Walked.{after_beyond, after_found, after_missed, found_over}
+use Rattle.urb_window.specs.RowEntries.{entries_from}
+use Rattle.urb_window.proofs.RemainingEntries.{after_beyond, after_found, after_missed, found_over}
 use Rattle.urb_window.proofs.rows.after_in.Goals as goal
 
 pub invariant_of-result : goal.invariant_of-result

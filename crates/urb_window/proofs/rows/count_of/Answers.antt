@@ -1,6 +1,6 @@
 use Rattle.std.proofs.Common.{◌≡◌, ◌<◌, ◌+◌, rules, arith, ap, length}
 use Rattle.urb_window.specs.Row.{pairs_of}
-use Rattle.urb_window.proofs.Walked.{at_end, count_at, entries_at}
+use Rattle.urb_window.proofs.RemainingEntries.{at_end, count_at, entries_at}
 use Rattle.urb_window.proofs.rows.count_of.Goals as goal
 
 pub loop-row-init : goal.loop-row-init

@@ -1,6 +1,6 @@
 use Rattle.std.proofs.Common.{◌≡◌, ◌≤◌, ◌*◌, ◌+◌, ◌^◌, length}
-use Rattle.urb_window.specs.Rows.{entries_from}
-use Rattle.urb_window.proofs.Walked.{entries_at}
+use Rattle.urb_window.specs.RowEntries.{entries_from}
+use Rattle.urb_window.proofs.RemainingEntries.{entries_at}
 use Rattle.urb_window.proofs.rows.count_of.Given as goal
 
 -- the values counted so far, and those of the remaining rows

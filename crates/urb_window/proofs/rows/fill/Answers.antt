@@ -1,10 +1,10 @@
 use Rattle.std.proofs.Common.{◌≡◌, ◌<◌, ◌++◌, ◌∷◌, [], rules, arith, ap, sym, ◌∙◌, subst, length}
 use Rattle.std.specs.List.{AllByRecursion}
 use Rattle.urb_names.specs.declared.limits.TheConstants.{MAX_SENDERS}
-use Rattle.urb_window.specs.internal.Row.{IsRow}
-use Rattle.urb_window.specs.Rows.{entries_from}
-use Rattle.urb_window.specs.internal.Rows.{no_row}
-use Rattle.urb_window.proofs.Changed.{all_more, more_rows}
+use Rattle.urb_window.specs.internal.RowOperations.{IsRow}
+use Rattle.urb_window.specs.RowEntries.{entries_from}
+use Rattle.urb_window.specs.internal.SenderRows.{no_row}
+use Rattle.urb_window.proofs.RowChanges.{all_more, more_rows}
 use Rattle.urb_window.proofs.rows.fill.Goals as goal
 
 pub loop-alloc-preserved : goal.loop-alloc-preserved

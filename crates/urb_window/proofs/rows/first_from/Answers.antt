@@ -2,8 +2,8 @@ use Rattle.std.proofs.Common.{◌≡◌, ◌<◌, rules, arith, ap, sym, ◌∙�
 use Rattle.std.specs.Prelude.{slice_get}
 use Rattle.urb_names.specs.Names.{name}
 use Rattle.urb_window.specs.Row.{pairs_of}
-use Rattle.urb_window.proofs.Counted.{pairs_over}
-use Rattle.urb_window.proofs.Walked.{first_within, no_first, pair_over}
+use Rattle.urb_window.proofs.NumberedValues.{pairs_over}
+use Rattle.urb_window.proofs.RemainingEntries.{first_within, no_first, pair_over}
 use Rattle.urb_window.proofs.rows.first_from.Goals as goal
 
 pub invariant_of-result : goal.invariant_of-result

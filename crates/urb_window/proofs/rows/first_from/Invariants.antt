@@ -1,6 +1,6 @@
 use Rattle.std.proofs.Common.{◌≡◌, ◌≤◌}
 use Rattle.std.specs.Prelude.{slice_get}
-use Rattle.urb_window.proofs.Walked.{entries_at}
+use Rattle.urb_window.proofs.RemainingEntries.{entries_at}
 use Rattle.urb_window.proofs.rows.first_from.Given as goal
 
 -- the rows so far have no values

@@ -1,5 +1,5 @@
 use Rattle.std.proofs.Common.{◌≡◌, ◌<◌, ◌≤◌, ◌==◌, rules, ap, sym, ◌∙◌, length, get_or}
-use Rattle.urb_window.proofs.Halved.{holds_beyond, holds_there}
+use Rattle.urb_window.proofs.BinarySearches.{holds_beyond, holds_there}
 use Rattle.urb_window.proofs.upper.is_at.Goals as goal
 
 pub returns-in-Some : goal.returns-in-Some

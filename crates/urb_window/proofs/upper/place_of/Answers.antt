@@ -1,6 +1,6 @@
 use Rattle.std.proofs.Common.{◌≤◌, rules, length, nat_lt}
 use Rattle.std.proofs.lemmas.List.Sorted.{IsPartitionPoint-from_clause}
-use Rattle.urb_window.proofs.Halved.{parted, point_is}
+use Rattle.urb_window.proofs.BinarySearches.{parted, point_is}
 use Rattle.urb_window.proofs.upper.place_of.Goals as goal
 
 pub returns-clause-place : goal.returns-clause-place

@@ -1,8 +1,8 @@
 use Rattle.std.proofs.Common.{◌≡◌, ◌<◌, ◌+◌, ◌^◌, ◌∷◌, ◌++◌, [], rules, ap}
 use Rattle.std.proofs.Common.{sym, ◌∙◌, subst, false, length}
 use Rattle.urb_window.specs.Row.{counted_from}
-use Rattle.urb_window.specs.internal.Row.{AreOver, holds_at}
-use Rattle.urb_window.proofs.Closed.{IsMoved, gap_is, moves}
+use Rattle.urb_window.specs.internal.RowOperations.{AreOver, holds_at}
+use Rattle.urb_window.proofs.GapClosings.{IsMoved, gap_is, moves}
 use Rattle.urb_window.proofs.window.close_gap.Goals as goal
 
 pub loop-value-preserved : goal.loop-value-preserved

@@ -1,6 +1,6 @@
 use Rattle.std.proofs.Common.{◌≡◌, ◌+◌, ◌∷◌, ◌++◌, [], ap, ◌∙◌}
 use Rattle.urb_window.specs.Row.{counted_from}
-use Rattle.urb_window.proofs.Closed.{extends}
+use Rattle.urb_window.proofs.GapClosings.{extends}
 use Rattle.urb_window.proofs.window.extend.Goals as goal
 
 pub returns-clause-pairs : goal.returns-clause-pairs

@@ -1,13 +1,13 @@
 use Rattle.std.proofs.Common.{rules, ap, sym, ◌∙◌, ◌≡◌, ◌<◌, false, vec_len, vec_capacity}
 use Rattle.std.proofs.lemmas.Bool.{cond-false, ltb-true}
 use Rattle.urb_names.specs.Names.{has_name, name_lt, same_name}
-use Rattle.urb_names.specs.Ordered.{placed}
+use Rattle.urb_names.specs.RisingLists.{placed}
 use Rattle.urb_certified.specs.Certificates.{Certificates}
 use Rattle.urb_certified.specs.Parts.{all_names}
-use Rattle.urb_certified.specs.internal.Parts.{IsJoined}
-use Rattle.urb_certified.proofs.Sets.{set_with}
-use Rattle.urb_certified.proofs.Orders.{names_in_order}
-use Rattle.urb_certified.proofs.Reaches.{held_has}
+use Rattle.urb_certified.specs.internal.PartInvariant.{IsJoined}
+use Rattle.urb_certified.proofs.RisingSets.{set_with}
+use Rattle.urb_certified.proofs.NameOrder.{names_in_order}
+use Rattle.urb_certified.proofs.SenderReaches.{held_has}
 use Rattle.urb_certified.proofs.certified.Certified.add.Goals as goal
 
 pub join-requires-clause-absent : goal.join-requires-clause-absent

@@ -2,7 +2,7 @@ use Rattle.std.proofs.Common.{rules, ap, sym, ◌∙◌, ◌≡◌}
 use Rattle.urb_names.specs.Names.{has_name}
 use Rattle.urb_certified.specs.Certificates.{Certificates}
 use Rattle.urb_certified.specs.Parts.{all_names}
-use Rattle.urb_certified.proofs.Reaches.{held_has}
+use Rattle.urb_certified.proofs.SenderReaches.{held_has}
 use Rattle.urb_certified.proofs.certified.Certified.has.Goals as goal
 
 pub returns : goal.returns

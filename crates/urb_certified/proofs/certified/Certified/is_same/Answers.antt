@@ -1,7 +1,7 @@
 use Rattle.std.proofs.Common.{rules, ap, ap₂, sym, ◌∙◌, ◌≡◌}
 use Rattle.urb_certified.specs.Certificates.{Certificates}
-use Rattle.urb_certified.proofs.Reaches.{held}
-use Rattle.urb_certified.proofs.Same.{same_above, same_low}
+use Rattle.urb_certified.proofs.SenderReaches.{held}
+use Rattle.urb_certified.proofs.EqualParts.{same_above, same_low}
 use Rattle.urb_certified.proofs.certified.Certified.is_same.Goals as goal
 
 pub returns-then-eq : goal.returns-then-eq

@@ -1,5 +1,5 @@
 use Rattle.std.proofs.Common.{List, ◌≤◌, length, ap, subst, take, arith, ◌∙◌}
-use Rattle.urb_names.specs.Naming.{Content, Label}
+use Rattle.urb_names.specs.LabelsAndContents.{Content, Label}
 use Rattle.urb_client.specs.Listings.{listing_body}
 use Rattle.urb_client.specs.Pages.{ListsPage}
 use Rattle.urb_client.specs.declared.format.TheConstants.{LONGEST_FRAME}

@@ -1,7 +1,7 @@
 use Rattle.std.proofs.Common.{subst, ◌≡◌}
 use Rattle.urb_feed.proofs.Portions.{is_portion}
 use Rattle.urb_feed.proofs.feed.Feed.next_portion.Goals as goal
-use Rattle.urb_feed.specs.Feeding.{FeedView, IsPortion}
+use Rattle.urb_feed.specs.Feeds.{FeedView, IsPortion}
 
 pub returns-clause-ok : goal.returns-clause-ok
 returns-clause-ok g c =

@@ -1,7 +1,7 @@
 use Rattle.std.proofs.Common.{arith, sym, ap, ◌∙◌, length, length-append}
 use Rattle.urb_fifo.specs.Delivery.{Delivery}
-use Rattle.urb_fifo.specs.Releasing.{newly_released}
-use Rattle.urb_fifo.proofs.Release.{certified_new, release_goes_on, release_stays}
+use Rattle.urb_fifo.specs.NewReleases.{newly_released}
+use Rattle.urb_fifo.proofs.LogReleases.{certified_new, release_goes_on, release_stays}
 use Rattle.urb_fifo.proofs.fifo.Fifo.certify.Goals as goal
 
 pub returns-then-is_certified-clause-release : goal.returns-then-is_certified-clause-release

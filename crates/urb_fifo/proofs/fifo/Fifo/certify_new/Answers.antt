@@ -1,15 +1,15 @@
 use Rattle.std.proofs.Common.{arith, rules, refl, sym, ap, ap₂, ◌∙◌, ◌≡◌, ◌+◌, ◌-◌, ◌≤◌}
 use Rattle.std.proofs.Common.{false, Some, ◌++◌, suc, map, length, vec_len, vec_capacity}
 use Rattle.std.proofs.lemmas.Bool.{cond-false}
-use Rattle.urb_names.specs.Naming.{Label}
+use Rattle.urb_names.specs.LabelsAndContents.{Label}
 use Rattle.urb_names.specs.Names.{has_name, name, name_lt}
 use Rattle.urb_names.specs.Nodes.{numbers_from}
-use Rattle.urb_names.specs.Ordered.{placed}
+use Rattle.urb_names.specs.RisingLists.{placed}
 use Rattle.urb_fifo.specs.Delivery.{Delivery, IsNameOf}
-use Rattle.urb_fifo.specs.Releasing.{newly_released}
-use Rattle.urb_fifo.specs.Fields.{view_of}
-use Rattle.urb_fifo.proofs.Release.{certifying_new}
-use Rattle.urb_fifo.proofs.Rooms.{kept_bigger, kept_certified, newly_count}
+use Rattle.urb_fifo.specs.NewReleases.{newly_released}
+use Rattle.urb_fifo.specs.LogFields.{view_of}
+use Rattle.urb_fifo.proofs.LogReleases.{certifying_new}
+use Rattle.urb_fifo.proofs.PromisedSpace.{kept_bigger, kept_certified, newly_count}
 use Rattle.urb_fifo.proofs.fifo.Fifo.certify_new.Goals as goal
 use Rattle.urb_fifo.proofs.fifo.Fifo.certify_new.Goals.{After-self-1}
 

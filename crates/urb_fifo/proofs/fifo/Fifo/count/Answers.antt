@@ -1,8 +1,8 @@
 use Rattle.std.proofs.Common.{arith, ap, sym, ◌∙◌, ◌≡◌, ◌≤◌, length}
 use Rattle.urb_names.specs.Release.{part_of}
 use Rattle.urb_fifo.specs.Delivery.{Delivery}
-use Rattle.urb_fifo.specs.Fields.{view_of}
-use Rattle.urb_fifo.proofs.Release.{part_within}
+use Rattle.urb_fifo.specs.LogFields.{view_of}
+use Rattle.urb_fifo.proofs.LogReleases.{part_within}
 use Rattle.urb_fifo.proofs.fifo.Fifo.count.Goals as goal
 
 pub returns : goal.returns

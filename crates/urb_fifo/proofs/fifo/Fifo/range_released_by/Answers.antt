@@ -1,8 +1,8 @@
 use Rattle.std.proofs.Common.{rules, ap, sym, ◌∙◌, ◌≡◌, ◌∷◌, length}
 use Rattle.urb_names.specs.Release.{beginning}
 use Rattle.urb_fifo.specs.Delivery.{Delivery}
-use Rattle.urb_fifo.specs.Releasing.{newly_released}
-use Rattle.urb_fifo.proofs.Rooms.{newly_kept}
+use Rattle.urb_fifo.specs.NewReleases.{newly_released}
+use Rattle.urb_fifo.proofs.PromisedSpace.{newly_kept}
 use Rattle.urb_fifo.proofs.fifo.Fifo.range_released_by.Goals as goal
 
 pub returns-clause-range : goal.returns-clause-range

@@ -2,8 +2,8 @@ use Rattle.std.proofs.Common.{refl, ap, ◌∙◌, ◌≡◌, ◌-◌, suc, map}
 use Rattle.urb_names.specs.Names.{name}
 use Rattle.urb_names.specs.Nodes.{numbers_from}
 use Rattle.urb_fifo.specs.Delivery.{Delivery}
-use Rattle.urb_fifo.specs.Releasing.{newly_released}
-use Rattle.urb_fifo.proofs.Rooms.{kept_bigger, kept_reserved}
+use Rattle.urb_fifo.specs.NewReleases.{newly_released}
+use Rattle.urb_fifo.proofs.PromisedSpace.{kept_bigger, kept_reserved}
 use Rattle.urb_fifo.proofs.fifo.Fifo.reserve.Goals as goal
 
 pub invariant_of-self-2 : goal.invariant_of-self-2

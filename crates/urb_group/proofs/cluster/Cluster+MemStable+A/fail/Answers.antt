@@ -1,8 +1,8 @@
 use Rattle.std.proofs.Common.{subst}
 use Rattle.urb_group.specs.Commands.{reply_of}
-use Rattle.urb_group.specs.Shown.{GroupView, IsSound}
-use Rattle.urb_names.specs.Naming.{IsLimits}
-use Rattle.urb_group.proofs.stops.InPlace.{fails-in-place}
+use Rattle.urb_group.specs.GroupViews.{GroupView, IsSound}
+use Rattle.urb_names.specs.LabelsAndContents.{IsLimits}
+use Rattle.urb_group.proofs.stops.DraftPositions.{fails-in-place}
 use Rattle.urb_group.proofs.stops.StockedFailures.{fails-stocked}
 use Rattle.urb_group.proofs.stops.StoppedCalls.{fails-leaves}
 use Rattle.urb_group.proofs.cluster.Cluster+MemStable+A.fail.Goals as goal

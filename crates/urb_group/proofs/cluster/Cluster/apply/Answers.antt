@@ -1,8 +1,8 @@
 use Rattle.std.proofs.Common.{subst}
 use Rattle.urb_group.specs.Commands.{reply_of}
-use Rattle.urb_group.specs.Shown.{GroupView, IsSound}
-use Rattle.urb_names.specs.Naming.{IsLimits}
-use Rattle.urb_group.proofs.stops.InPlace.{applies-in-place}
+use Rattle.urb_group.specs.GroupViews.{GroupView, IsSound}
+use Rattle.urb_names.specs.LabelsAndContents.{IsLimits}
+use Rattle.urb_group.proofs.stops.DraftPositions.{applies-in-place}
 use Rattle.urb_group.proofs.stops.SecuredClusters.{applies-left, applies-secured}
 use Rattle.urb_group.proofs.stops.StockedClusters.{applies-stocked}
 use Rattle.urb_group.proofs.stops.StoppedCalls.{applies-leaves}

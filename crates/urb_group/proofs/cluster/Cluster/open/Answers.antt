@@ -1,4 +1,4 @@
-use Rattle.urb_group.proofs.stops.Reopened.{opens-goes_on, opens-leaves, opens-stocked}
+use Rattle.urb_group.proofs.stops.OpenedClusters.{opens-goes_on, opens-leaves, opens-stocked}
 use Rattle.urb_group.proofs.stops.SecuredOpenings.{opens-secured}
 use Rattle.urb_group.proofs.cluster.Cluster.open.Goals as goal
 

@@ -3,7 +3,7 @@ use Rattle.std.specs.Prelude.{None, replicate}
 use Rattle.urb_group.proofs.stops.AskedStores.{written-back}
 use Rattle.urb_group.proofs.calls.ArmedStores.{opened-tied}
 use Rattle.urb_stable.specs.Images.{image_of}
-use Rattle.urb_group.specs.Reopening.{OpensFrom}
+use Rattle.urb_group.specs.StoreOpenings.{OpensFrom}
 use Rattle.urb_group.proofs.cluster.Cluster.open_stores.Goals as goal
 
 pub invariant_of-result : goal.invariant_of-result

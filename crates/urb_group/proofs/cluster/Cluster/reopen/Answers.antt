@@ -1,10 +1,10 @@
 use Rattle.std.proofs.Common.{ap, arith, length, rules, subst, sym, ◌∙◌, ◌≡◌}
 use Rattle.std.specs.List.{All}
-use Rattle.urb_names.specs.Naming.{Limits}
+use Rattle.urb_names.specs.LabelsAndContents.{Limits}
 use Rattle.urb_group.proofs.stops.SecuredOpenings.{secured-known}
-use Rattle.urb_group.specs.Reopening.{Continues, OpensStores, stores_in}
-use Rattle.urb_group.specs.Shown.{GroupView, IsSound}
-use Rattle.urb_group.specs.Stocked.{AllHold, IsKnown, RestLeaves, StopLeaves}
+use Rattle.urb_group.specs.StoreOpenings.{Continues, OpensStores, stores_in}
+use Rattle.urb_group.specs.GroupViews.{GroupView, IsSound}
+use Rattle.urb_group.specs.StoreContents.{AllHold, IsKnown, RestLeaves, StopLeaves}
 use Rattle.urb_group.proofs.cluster.Cluster.reopen.Goals as goal
 
 pub returns-clause-opened : goal.returns-clause-opened

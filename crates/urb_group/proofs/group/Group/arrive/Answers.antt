@@ -1,6 +1,6 @@
 use Rattle.std.proofs.Common.{arith}
 use Rattle.std.proofs.lemmas.Result.{err_from_is_err_and}
-use Rattle.urb_names.specs.Packets.{packet_of}
+use Rattle.urb_names.specs.PacketGrammar.{packet_of}
 use Rattle.urb_group.proofs.shown.NodeAnswers.{was_read}
 use Rattle.urb_group.proofs.moves.PacketsAtNodes.{arrive-elsewhere, arrive-fault, arrive-moved}
 use Rattle.urb_group.proofs.moves.PacketsAtNodes.{may_reach}

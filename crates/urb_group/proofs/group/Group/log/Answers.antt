@@ -1,5 +1,5 @@
 use Rattle.std.proofs.Common.{Some, ap, arith}
-use Rattle.urb_stable.specs.Log.{log}
+use Rattle.urb_stable.specs.DeliveredLogs.{log}
 use Rattle.urb_group.proofs.shown.NodeAnswers.{answered, unanswered}
 use Rattle.urb_group.proofs.group.Group.log.Goals as goal
 

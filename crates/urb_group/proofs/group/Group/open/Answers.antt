@@ -4,7 +4,7 @@ use Rattle.std.proofs.lemmas.List.{length-map}
 use Rattle.std.specs.List.{All}
 use Rattle.urb_names.specs.declared.limits.TheConstants.{MAX_NODES}
 use Rattle.urb_node.specs.Part.{opened_node}
-use Rattle.urb_node.specs.Values.{ShowsReady}
+use Rattle.urb_node.specs.NodeMemories.{ShowsReady}
 use Rattle.urb_stable.specs.Entries.{IsEntry}
 use Rattle.urb_stable.specs.Fitting.{KeepsOwn, first_misfit}
 use Rattle.urb_stable.specs.Images.{image_of}

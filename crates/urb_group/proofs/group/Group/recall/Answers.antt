@@ -1,10 +1,10 @@
 use Rattle.std.proofs.Common.{[], refl, ◌∙◌}
 use Rattle.std.proofs.lemmas.List.{length-map}
-use Rattle.urb_group.specs.Places.{view_at}
+use Rattle.urb_group.specs.PlaceViews.{view_at}
 use Rattle.urb_group.specs.Step.{Run, run}
 use Rattle.urb_group.specs.World.{World}
 use Rattle.urb_group.proofs.moves.AcceptedSubmits.{accepted-stored}
-use Rattle.urb_group.proofs.shown.ShownWorldsAgree.{sound-kept}
+use Rattle.urb_group.proofs.shown.AgreeingWorlds.{sound-kept}
 use Rattle.urb_group.proofs.safety.RunsOfKeptWorlds.{kept-agree}
 use Rattle.urb_group.proofs.safety.SafeWorlds.{one_message, safe}
 use Rattle.urb_group.proofs.stops.StoppedWorlds.{survives}

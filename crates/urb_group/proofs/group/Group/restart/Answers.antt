@@ -1,5 +1,5 @@
 use Rattle.std.proofs.Common.{rules}
-use Rattle.urb_group.specs.internal.Moving.{RestartsAt}
+use Rattle.urb_group.specs.internal.PlaceCalls.{RestartsAt}
 use Rattle.urb_group.specs.Step.{Restart}
 use Rattle.urb_group.proofs.moves.GroupMoves.{restart-moved}
 use Rattle.urb_group.proofs.shown.NodeMoves.{nowhere}

@@ -1,7 +1,7 @@
 use Rattle.std.proofs.Common.{◌≡◌, IsTrue, ℕ, true, false, refl, List, [], ◌∷◌, Some, sym, subst}
 use Rattle.std.proofs.Common.{ap}
 use Rattle.urb_names.specs.Names.{name}
-use Rattle.urb_names.specs.Naming.{Content}
+use Rattle.urb_names.specs.LabelsAndContents.{Content}
 use Rattle.urb_names.specs.Nodes.{majority_passes}
 use Rattle.urb_names.specs.Pairs.{has_pair}
 use Rattle.urb_stable.specs.Entries.{Entry}

@@ -1,7 +1,7 @@
 use Rattle.std.proofs.Common.{◌≡◌, ℕ, List, None, Option, Some, [], ◌∷◌, ap, inl, inr}
-use Rattle.urb_names.specs.Beginnings.{Begins, OneBegins}
+use Rattle.urb_names.specs.ListPrefixes.{Begins, OneBegins}
 use Rattle.urb_names.specs.Names.{name}
-use Rattle.urb_names.specs.Naming.{Content, Label}
+use Rattle.urb_names.specs.LabelsAndContents.{Content, Label}
 use Rattle.urb_group.specs.internal.Scripts.{message}
 use Rattle.urb_group.proofs.worked.meanings.logs_have_messages.Goals as goal
 

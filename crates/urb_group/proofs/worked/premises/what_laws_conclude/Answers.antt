@@ -6,7 +6,7 @@ use Rattle.urb_group.specs.World.{World, image_of, opened, stored}
 use Rattle.urb_group.specs.internal.Examples.{certified, flagged, limits, pending}
 use Rattle.urb_group.specs.internal.Scripts.{message}
 use Rattle.urb_names.specs.Names.{name}
-use Rattle.urb_names.specs.Naming.{Content, Label}
+use Rattle.urb_names.specs.LabelsAndContents.{Content, Label}
 use Rattle.urb_names.specs.Nodes.{is_node}
 use Rattle.urb_names.specs.Pairs.{message_of}
 use Rattle.urb_stable.specs.Records.{pend}

@@ -2,7 +2,7 @@
 use Rattle.std.proofs.Common.{arith, refl, suc, zero, ◌∷◌, []}
 use Rattle.std.proofs.lemmas.Bool.{false≢true}
 use Rattle.urb_group.proofs.steps.Runs.{fitting-kept}
-use Rattle.urb_group.proofs.stops.StartLimits.{have-majorities, own-within}
+use Rattle.urb_group.proofs.stops.LimitChanges.{have-majorities, own-within}
 use Rattle.urb_group.specs.World.{image_of}
 use Rattle.urb_group.specs.internal.Examples.{certified, held_by_three, limits, pending, two_of_one}
 use Rattle.urb_group.specs.internal.Scripts.{message}

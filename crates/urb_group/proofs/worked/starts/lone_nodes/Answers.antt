@@ -1,6 +1,6 @@
 use Rattle.std.proofs.Common.{[], arith, refl}
 use Rattle.std.proofs.lemmas.Bool.{false≢true}
-use Rattle.urb_group.proofs.recovery.NodesComeBack.{whole-joined}
+use Rattle.urb_group.proofs.recovery.ReturningNodes.{whole-joined}
 use Rattle.urb_group.specs.internal.Examples.{certified}
 use Rattle.urb_group.specs.internal.Scripts.{message}
 use Rattle.urb_names.specs.Names.{name}

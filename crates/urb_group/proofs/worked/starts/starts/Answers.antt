@@ -3,7 +3,7 @@ use Rattle.std.proofs.Common.{List, [], arith, inl, inr, length, refl, subst, su
 use Rattle.std.proofs.Common.{⊎_elim, ◌∷◌, ◌≡◌, ◌≤◌}
 use Rattle.std.proofs.lemmas.Bool.{false≢true}
 use Rattle.urb_group.proofs.steps.Runs.{fitting-kept}
-use Rattle.urb_group.proofs.stops.StartLimits.{have-majorities, own-within}
+use Rattle.urb_group.proofs.stops.LimitChanges.{have-majorities, own-within}
 use Rattle.urb_group.specs.StartLimits.{HaveMajorities}
 use Rattle.urb_group.specs.World.{image_of}
 use Rattle.urb_group.specs.internal.Examples.{held_by_three, limits, two_of_one}

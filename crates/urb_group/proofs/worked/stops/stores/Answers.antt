@@ -1,7 +1,7 @@
 use Rattle.std.proofs.Common.{List, Some, [], inr, ◌∷◌, ◌≡◌, refl, ⊎_elim}
 use Rattle.std.proofs.lemmas.Bool.{false≢true, true≢false}
 use Rattle.urb_stable.specs.Entries.{Entry}
-use Rattle.urb_stable.specs.Memory.{after_failure, empty_memory}
+use Rattle.urb_stable.specs.MemoryStores.{after_failure, empty_memory}
 use Rattle.urb_group.specs.internal.Examples.{pending}
 use Rattle.urb_group.proofs.worked.stops.stores.Goals as goal
 

@@ -2,7 +2,7 @@ use Rattle.std.proofs.Common.{List, [], rules, ◌++◌, ◌∷◌, ◌≡◌}
 use Rattle.std.specs.List.{All}
 use Rattle.std.proofs.lemmas.List.Elements.{All-nil, All-push}
 use Rattle.urb_group.proofs.calls.BlankStores.{all-blank}
-use Rattle.urb_stable.specs.Memory.{Memory, empty_memory}
+use Rattle.urb_stable.specs.MemoryStores.{Memory, empty_memory}
 use Rattle.urb_group_tests.proofs.tests.clusters.cluster.Goals as goal
 
 pub new-requires-4-clause-blank : goal.new-requires-4-clause-blank

@@ -1,9 +1,9 @@
 use Rattle.std.proofs.Common.{rules, refl, sym, ap, ◌∙◌, ◌≡◌, false, Some}
 use Rattle.std.proofs.lemmas.Bool.{cond-false}
 use Rattle.urb_names.specs.Names.{has_name, name_lt}
-use Rattle.urb_names.specs.Ordered.{placed}
+use Rattle.urb_names.specs.RisingLists.{placed}
 use Rattle.urb_majority.specs.Acks.{AckSet}
-use Rattle.urb_majority.proofs.Rooms.{kept_bigger, kept_certified}
+use Rattle.urb_majority.proofs.PromisedSpace.{kept_bigger, kept_certified}
 use Rattle.urb_majority.proofs.acks.Acks.certify.Goals as goal
 
 -- the allocation was refused

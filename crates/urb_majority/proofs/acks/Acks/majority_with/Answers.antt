@@ -1,5 +1,5 @@
 use Rattle.std.proofs.Common.{rules, sym, ◌≡◌, ◌<◌, ◌≤◌, ◌+◌, ◌∙◌, false, count_by}
-use Rattle.urb_names.specs.Acknowledged.{acked}
+use Rattle.urb_names.specs.Acknowledgements.{acked}
 use Rattle.urb_names.specs.Nodes.{is_majority, nodes}
 use Rattle.urb_majority.proofs.Majorities.{with_new, with_other}
 use Rattle.urb_majority.proofs.acks.Acks.majority_with.Goals as goal

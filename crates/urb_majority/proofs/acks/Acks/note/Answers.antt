@@ -2,8 +2,8 @@ use Rattle.std.proofs.Common.{rules, refl, ap, ◌∙◌, ◌≡◌, Some}
 use Rattle.urb_majority.specs.Acks.{AckSet}
 use Rattle.urb_names.specs.Names.{has_name}
 use Rattle.urb_window.specs.Marks.{MarkSet}
-use Rattle.urb_window.proofs.Roomy.{roomy_with}
-use Rattle.urb_majority.proofs.Rooms.{kept_bigger, kept_noted}
+use Rattle.urb_window.proofs.MaskClearings.{roomy_with}
+use Rattle.urb_majority.proofs.PromisedSpace.{kept_bigger, kept_noted}
 use Rattle.urb_majority.proofs.acks.Acks.note.Goals as goal
 
 -- the allocation was refused

@@ -1,5 +1,5 @@
 use Rattle.std.proofs.Common.{refl}
-use Rattle.urb_majority.proofs.Rooms.{kept_bigger}
+use Rattle.urb_majority.proofs.PromisedSpace.{kept_bigger}
 use Rattle.urb_majority.proofs.acks.Acks.reserve.Goals as goal
 
 -- the allocation for the certificates was refused

@@ -1,8 +1,8 @@
 use Rattle.std.proofs.Common.{subst, sym}
-use Rattle.urb_node.specs.Fields.{memory_of}
-use Rattle.urb_node.specs.Moves.{Crashes}
-use Rattle.urb_node.specs.Values.{Fallen, Memory, ShowsReady}
-use Rattle.urb_node.proofs.Falling.{crashes-ready}
+use Rattle.urb_node.specs.LayerFields.{memory_of}
+use Rattle.urb_node.specs.CallEffects.{Crashes}
+use Rattle.urb_node.specs.NodeMemories.{Fallen, Memory, ShowsReady}
+use Rattle.urb_node.proofs.NodeFailures.{crashes-ready}
 use Rattle.urb_node.proofs.ready.Ready.crash.Goals as goal
 
 pub returns : goal.returns

@@ -1,11 +1,11 @@
 use Rattle.std.proofs.Common.{Ok, refl, subst}
-use Rattle.urb_node.specs.Fields.{memory_of}
-use Rattle.urb_node.specs.Moves.{Confirms}
+use Rattle.urb_node.specs.LayerFields.{memory_of}
+use Rattle.urb_node.specs.CallEffects.{Confirms}
 use Rattle.urb_node.specs.Part.{Ready}
-use Rattle.urb_node.specs.Values.{Holding}
-use Rattle.urb_node.proofs.ConfirmLeads.{confirm-leads}
+use Rattle.urb_node.specs.NodeMemories.{Holding}
+use Rattle.urb_node.proofs.ReceiptResults.{confirm-leads}
 use Rattle.urb_node.proofs.SentPackets.{of-stored, stored-from}
-use Rattle.urb_node.proofs.Wanted.{one_more_fits}
+use Rattle.urb_node.proofs.HoldableDrafts.{one_more_fits}
 use Rattle.urb_node.proofs.storing.Storing.confirm.Goals as goal
 
 pub overflow_add-held : goal.overflow_add-held

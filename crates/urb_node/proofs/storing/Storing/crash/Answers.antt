@@ -1,4 +1,4 @@
-use Rattle.urb_node.proofs.Falling.{crash-as-fail}
+use Rattle.urb_node.proofs.NodeFailures.{crash-as-fail}
 use Rattle.urb_node.proofs.storing.Storing.crash.Goals as goal
 
 pub returns : goal.returns

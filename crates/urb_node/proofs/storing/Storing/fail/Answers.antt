@@ -1,8 +1,8 @@
 use Rattle.std.proofs.Common.{subst, sym}
-use Rattle.urb_node.specs.Fields.{memory_of}
-use Rattle.urb_node.specs.Moves.{Fails}
-use Rattle.urb_node.specs.Values.{Fallen, Holding}
-use Rattle.urb_node.proofs.Falling.{doubtful-next}
+use Rattle.urb_node.specs.LayerFields.{memory_of}
+use Rattle.urb_node.specs.CallEffects.{Fails}
+use Rattle.urb_node.specs.NodeMemories.{Fallen, Holding}
+use Rattle.urb_node.proofs.NodeFailures.{doubtful-next}
 use Rattle.urb_node.proofs.JoinedLayers.{falls}
 use Rattle.urb_node.proofs.storing.Storing.fail.Goals as goal
 

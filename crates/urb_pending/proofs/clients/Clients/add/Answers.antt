@@ -1,8 +1,8 @@
 use Rattle.std.proofs.Common.{arith, sym, ap, ◌∙◌, ◌<◌, length, ◌++◌, ◌∷◌, []}
-use Rattle.urb_pending.specs.internal.Rows.{Row}
+use Rattle.urb_pending.specs.internal.ClientRows.{Row}
 use Rattle.urb_pending.specs.internal.ClientIndex.{has_room, numbers_in}
-use Rattle.urb_pending.proofs.Rows.{order_changed, place_in, row_changed}
-use Rattle.urb_pending.proofs.Changed.{given_pushed, roomy_row, row_read, row_within}
+use Rattle.urb_pending.proofs.ClientRowPlaces.{order_changed, place_in, row_changed}
+use Rattle.urb_pending.proofs.ClientRowChanges.{given_pushed, roomy_row, row_read, row_within}
 use Rattle.urb_pending.proofs.clients.Clients.add.Goals as goal
 
 pub index_mut-requires : goal.index_mut-requires

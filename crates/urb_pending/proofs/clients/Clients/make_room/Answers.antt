@@ -1,10 +1,10 @@
 use Rattle.std.proofs.Common.{rules, sym, ap, subst, ◌∙◌, ◌≡◌, ◌<◌, length, true, insert, arith}
 use Rattle.std.proofs.Common.{is_some}
-use Rattle.urb_pending.specs.internal.Rows.{Row, row_of, are_in_order}
+use Rattle.urb_pending.specs.internal.ClientRows.{Row, row_of, are_in_order}
 use Rattle.urb_pending.specs.internal.ClientIndex.{has_room, numbers_in, is_roomy}
-use Rattle.urb_pending.proofs.Rows.{order_changed, order_placed, place_in, row_changed, row_placed}
-use Rattle.urb_pending.proofs.Changed.{given_same, no_row, not_roomy, placed_at, room_kept}
-use Rattle.urb_pending.proofs.Changed.{room_made, row_read, row_there, row_within}
+use Rattle.urb_pending.proofs.ClientRowPlaces.{order_changed, order_placed, place_in, row_changed, row_placed}
+use Rattle.urb_pending.proofs.ClientRowChanges.{given_same, no_row, not_roomy, placed_at, room_kept}
+use Rattle.urb_pending.proofs.ClientRowChanges.{room_made, row_read, row_there, row_within}
 use Rattle.urb_pending.proofs.clients.Clients.make_room.Goals as goal
 
 pub index_mut-requires : goal.index_mut-requires

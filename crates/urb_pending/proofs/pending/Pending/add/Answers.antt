@@ -1,10 +1,10 @@
 use Rattle.std.proofs.Common.{rules, ap, ◌∙◌, ◌≡◌, ◌==◌, refl}
 use Rattle.std.proofs.lemmas.Bool.{false≢true}
-use Rattle.urb_names.specs.Naming.{Label}
-use Rattle.urb_names.specs.Ordered.{placed}
+use Rattle.urb_names.specs.LabelsAndContents.{Label}
+use Rattle.urb_names.specs.RisingLists.{placed}
 use Rattle.urb_window.specs.Entries.{entry_lt}
-use Rattle.urb_pending.proofs.Indexed.{IsGiven, kept_with, placed_pair, roomier, roomier_same}
-use Rattle.urb_pending.proofs.Looked.{value_is}
+use Rattle.urb_pending.proofs.PreservedFields.{IsGiven, kept_with, placed_pair, roomier, roomier_same}
+use Rattle.urb_pending.proofs.PairSearches.{value_is}
 use Rattle.urb_pending.proofs.pending.Pending.add.Goals as goal
 
 pub invariant_of-self : goal.invariant_of-self

@@ -1,6 +1,6 @@
 use Rattle.std.proofs.Common.{◌∙◌}
-use Rattle.urb_pending.proofs.Looked.{front_name}
-use Rattle.urb_pending.proofs.Turned.{first_cyclic, whole_cycle}
+use Rattle.urb_pending.proofs.PairSearches.{front_name}
+use Rattle.urb_pending.proofs.NextNames.{first_cyclic, whole_cycle}
 use Rattle.urb_pending.proofs.pending.Pending.after.Goals as goal
 
 pub returns-in-None : goal.returns-in-None

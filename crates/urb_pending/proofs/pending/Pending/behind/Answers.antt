@@ -1,7 +1,7 @@
 use Rattle.std.proofs.Common.{◌∙◌}
 use Rattle.urb_names.specs.Names.{name_lt}
-use Rattle.urb_pending.proofs.Looked.{front_name}
-use Rattle.urb_pending.proofs.Turned.{all_behind_none, first_passing}
+use Rattle.urb_pending.proofs.PairSearches.{front_name}
+use Rattle.urb_pending.proofs.NextNames.{all_behind_none, first_passing}
 use Rattle.urb_pending.proofs.pending.Pending.behind.Goals as goal
 
 pub returns-in-None : goal.returns-in-None

@@ -1,4 +1,4 @@
-use Rattle.urb_pending.proofs.Bounded.{length_bounded, length_fits}
+use Rattle.urb_pending.proofs.PairLimits.{length_bounded, length_fits}
 use Rattle.urb_pending.proofs.pending.Pending.count.Goals as goal
 
 pub overflow_cast-result : goal.overflow_cast-result

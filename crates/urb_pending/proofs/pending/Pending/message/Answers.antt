@@ -1,5 +1,5 @@
 use Rattle.std.proofs.Common.{◌∙◌}
-use Rattle.urb_pending.proofs.Looked.{value_is}
+use Rattle.urb_pending.proofs.PairSearches.{value_is}
 use Rattle.urb_pending.proofs.pending.Pending.message.Goals as goal
 
 pub returns : goal.returns

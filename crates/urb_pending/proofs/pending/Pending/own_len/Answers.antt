@@ -1,5 +1,5 @@
 use Rattle.std.proofs.Common.{◌∙◌}
-use Rattle.urb_pending.proofs.Looked.{own_low}
+use Rattle.urb_pending.proofs.PairSearches.{own_low}
 use Rattle.urb_pending.proofs.pending.Pending.own_len.Goals as goal
 
 pub returns-clause-value : goal.returns-clause-value

@@ -1,4 +1,4 @@
-use Rattle.urb_pending.proofs.Indexed.{roomier, roomier_same}
+use Rattle.urb_pending.proofs.PreservedFields.{roomier, roomier_same}
 use Rattle.urb_pending.proofs.pending.Pending.reserve.Goals as goal
 
 pub invariant_of-self : goal.invariant_of-self

@@ -1,5 +1,5 @@
 use Rattle.urb_group.specs.Commands.{reply_of}
-use Rattle.urb_script.proofs.Applying.{applies_from, stores_asked}
+use Rattle.urb_script.proofs.ClusterAnswers.{applies_from, stores_asked}
 use Rattle.urb_script.proofs.mem_cluster.MemCluster.apply.Goals as goal
 
 pub returns-clause-shown : goal.returns-clause-shown

@@ -1,5 +1,5 @@
 use Rattle.std.specs.Option.{option_map}
-use Rattle.urb_script.proofs.Applying.{arrives_from}
+use Rattle.urb_script.proofs.ClusterAnswers.{arrives_from}
 use Rattle.urb_script.proofs.mem_cluster.MemCluster.arrive.Goals as goal
 
 pub returns-clause-shown : goal.returns-clause-shown

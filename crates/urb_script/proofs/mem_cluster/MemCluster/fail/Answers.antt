@@ -1,5 +1,5 @@
 use Rattle.urb_group.specs.Commands.{reply_of}
-use Rattle.urb_script.proofs.Applying.{fails_from}
+use Rattle.urb_script.proofs.ClusterAnswers.{fails_from}
 use Rattle.urb_script.proofs.mem_cluster.MemCluster.fail.Goals as goal
 
 pub returns-clause-shown : goal.returns-clause-shown

@@ -1,5 +1,5 @@
 use Rattle.std.proofs.Common.{ap, arith, rules}
-use Rattle.urb_script.proofs.Telling.{holder_more, holder_end}
+use Rattle.urb_script.proofs.LogTexts.{holder_more, holder_end}
 use Rattle.urb_script.proofs.mem_cluster.MemCluster.push_holders.Goals as goal
 
 pub loop-number-preserved : goal.loop-number-preserved

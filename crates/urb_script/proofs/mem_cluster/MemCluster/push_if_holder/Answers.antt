@@ -1,4 +1,4 @@
-use Rattle.urb_script.proofs.Telling.{tells_yes, tells_no}
+use Rattle.urb_script.proofs.LogTexts.{tells_yes, tells_no}
 use Rattle.urb_script.proofs.mem_cluster.MemCluster.push_if_holder.Goals as goal
 
 pub returns-then-holds : goal.returns-then-holds

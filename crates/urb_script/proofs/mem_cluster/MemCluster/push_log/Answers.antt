@@ -1,4 +1,4 @@
-use Rattle.urb_script.proofs.Telling.{log_told}
+use Rattle.urb_script.proofs.LogTexts.{log_told}
 use Rattle.urb_script.proofs.mem_cluster.MemCluster.push_log.Goals as goal
 
 pub returns-in_ok-push_log_head-in-Some : goal.returns-in_ok-push_log_head-in-Some

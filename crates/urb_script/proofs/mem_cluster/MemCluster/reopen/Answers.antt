@@ -1,5 +1,5 @@
 use Rattle.std.proofs.Common.{inl, refl}
-use Rattle.urb_script.proofs.Reopening.{may-start-again, opens_again, refused_for_memory}
+use Rattle.urb_script.proofs.ReopenedClusters.{may-start-again, opens_again, refused_for_memory}
 use Rattle.urb_script.proofs.mem_cluster.MemCluster.reopen.Goals as goal
 
 pub expect_no_memory-requires : goal.expect_no_memory-requires

@@ -1,5 +1,5 @@
 use Rattle.std.proofs.Common.{◌∙◌}
-use Rattle.urb_script.proofs.Applying.{opens}
+use Rattle.urb_script.proofs.ClusterAnswers.{opens}
 use Rattle.urb_script.proofs.mem_cluster.MemClusterPlay.open.Goals as goal
 
 pub returns-clause-shown : goal.returns-clause-shown

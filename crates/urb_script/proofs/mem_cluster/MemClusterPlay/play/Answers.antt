@@ -1,5 +1,5 @@
-use Rattle.urb_script.proofs.Applying.{nothing_asked}
-use Rattle.urb_script.proofs.Reopening.{other_command}
+use Rattle.urb_script.proofs.ClusterAnswers.{nothing_asked}
+use Rattle.urb_script.proofs.ReopenedClusters.{other_command}
 use Rattle.urb_script.proofs.mem_cluster.MemClusterPlay.play.Goals as goal
 
 pub do_command-requires : goal.do_command-requires

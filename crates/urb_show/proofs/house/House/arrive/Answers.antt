@@ -1,4 +1,4 @@
-use Rattle.urb_names.specs.Packets.{packet_of}
+use Rattle.urb_names.specs.PacketGrammar.{packet_of}
 use Rattle.urb_group.specs.Step.{Arrive}
 use Rattle.urb_show.proofs.GroupLists.{house_after, takes_follow}
 use Rattle.urb_show.proofs.house.House.arrive.Goals as goal

@@ -3,10 +3,10 @@ use Rattle.std.proofs.lemmas.Result.{err_from_is_err_and}
 use Rattle.sqlite.specs.State.{HasCleanDisk}
 use Rattle.sqlite.specs.Held.{state}
 use Rattle.urb_sqlite.specs.OpenJournal.{OpenJournal, IsHonestJournal, IsShutJournal, LeavesOnly}
-use Rattle.urb_sqlite.specs.Reading.{records_of}
-use Rattle.urb_stable.specs.Storing.{is_bad_row}
+use Rattle.urb_sqlite.specs.RowReadings.{records_of}
+use Rattle.urb_stable.specs.StableStorage.{is_bad_row}
 use Rattle.urb_sqlite.proofs.KeptRecords.{honest_before, left, not_bad, stops_at_select}
-use Rattle.urb_sqlite.proofs.BothTables.{given_by_read}
+use Rattle.urb_sqlite.proofs.TableReadings.{given_by_read}
 use Rattle.urb_sqlite.proofs.journal.SqlStableStable.retrieve.Goals as goal
 
 pub returns-in_err-records-clause-stop : goal.returns-in_err-records-clause-stop

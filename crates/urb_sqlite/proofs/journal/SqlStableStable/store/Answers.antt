@@ -2,8 +2,8 @@ use Rattle.std.proofs.Common.{rules, ◌≡◌, ◌⊎◌, ◌+◌, inl, [], ◌
 use Rattle.sqlite.specs.State.{HasCleanDisk}
 use Rattle.sqlite.specs.Held.{state}
 use Rattle.urb_sqlite.specs.OpenJournal.{IsSafeAtRest, OpenJournal, IsHonestJournal, LeavesOnly}
-use Rattle.urb_sqlite.specs.internal.OpenJournal.{IsInStep}
-use Rattle.urb_sqlite.specs.Reading.{records_of}
+use Rattle.urb_sqlite.specs.internal.JournalChanges.{IsInStep}
+use Rattle.urb_sqlite.specs.RowReadings.{records_of}
 use Rattle.urb_sqlite.proofs.KeptRecords.{stops_now}
 use Rattle.urb_sqlite.proofs.journal.SqlStableStable.store.Goals as goal
 

@@ -6,7 +6,7 @@ use Rattle.sqlite.specs.Held.{Held}
 use Rattle.sqlite.specs.Files.{file_state}
 use Rattle.urb_stable.specs.Entries.{Entry}
 use Rattle.urb_sqlite.specs.OpenJournal.{LeavesOnly}
-use Rattle.urb_sqlite.specs.Stops.{FindsWhatIsLeft}
+use Rattle.urb_sqlite.specs.ReopenedJournals.{FindsWhatIsLeft}
 use Rattle.urb_sqlite.proofs.JournalStops.{found_again, honest_again, same_again, one_again}
 use Rattle.urb_sqlite.proofs.JournalStops.{both_ok, contents_again, crashed, store_was_clean}
 use Rattle.urb_sqlite.proofs.journal_stop.SqlStable+FileStore+D.stop_and_open.Goals as goal

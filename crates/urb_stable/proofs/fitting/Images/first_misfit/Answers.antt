@@ -5,7 +5,7 @@ use Rattle.std.proofs.lemmas.Option.{slice_get_read}
 use Rattle.urb_stable.specs.Entries.{Entry}
 use Rattle.urb_stable.specs.Fitting.{first_of_all, misfits_behind}
 use Rattle.urb_stable.specs.Images.{image_of}
-use Rattle.urb_stable.specs.internal.NodeImages.{NodeImage}
+use Rattle.urb_stable.specs.internal.NumberedImages.{NodeImage}
 use Rattle.urb_stable.proofs.FirstMisfits.{found, image-at, node-none, node-step, node-told, passed}
 use Rattle.urb_stable.proofs.fitting.Images.first_misfit.Goals as goal
 

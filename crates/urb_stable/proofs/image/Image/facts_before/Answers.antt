@@ -3,7 +3,7 @@ use Rattle.std.proofs.lemmas.Option.{slice_get_read}
 use Rattle.std.specs.Prelude.{slice_get}
 use Rattle.urb_stable.specs.internal.EarlierRecords.{IsBefore}
 use Rattle.urb_stable.specs.Entries.{Entry}
-use Rattle.urb_stable.specs.internal.NodeImages.{NodeImage}
+use Rattle.urb_stable.specs.internal.NumberedImages.{NodeImage}
 use Rattle.urb_stable.proofs.image.Image.facts_before.Goals as goal
 
 pub returns : goal.returns

@@ -1,4 +1,4 @@
-use Rattle.urb_stable.proofs.Indexed.{index-none}
+use Rattle.urb_stable.proofs.IndexGrowth.{index-none}
 use Rattle.urb_stable.proofs.index.Index.new.Goals as goal
 
 pub loop-place-init : goal.loop-place-init

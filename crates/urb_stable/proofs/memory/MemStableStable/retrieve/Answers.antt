@@ -1,8 +1,8 @@
 use Rattle.std.proofs.Common.{arith, ◌≡◌, ◌∙◌, ◌≤◌, ◌+◌, ap, refl, length, take, None, false}
 use Rattle.std.specs.Prelude.{slice_get}
-use Rattle.urb_stable.specs.Memory.{Memory, with_doubt}
-use Rattle.urb_stable.specs.internal.Memory.{retrieved}
-use Rattle.urb_stable.proofs.Kept.{whole}
+use Rattle.urb_stable.specs.MemoryStores.{Memory, with_doubt}
+use Rattle.urb_stable.specs.internal.MemoryCalls.{retrieved}
+use Rattle.urb_stable.proofs.AppendedElements.{whole}
 use Rattle.urb_stable.proofs.memory.MemStableStable.retrieve.Goals as goal
 
 pub returns-clause-retrieved : goal.returns-clause-retrieved

@@ -1,8 +1,8 @@
 use Rattle.std.proofs.Common.{rules, true, length-append, ◌+◌, arith, ◌≡◌, ◌∙◌, sym, ap, refl, inl}
 use Rattle.std.proofs.Common.{length, [], ◌∷◌, ◌++◌, Some}
-use Rattle.urb_stable.specs.Memory.{Memory, after_failure}
-use Rattle.urb_stable.specs.internal.Memory.{with_record}
-use Rattle.urb_stable.proofs.Kept.{kept, doubtful_stop, certain_stop}
+use Rattle.urb_stable.specs.MemoryStores.{Memory, after_failure}
+use Rattle.urb_stable.specs.internal.MemoryCalls.{with_record}
+use Rattle.urb_stable.proofs.AppendedElements.{kept, doubtful_stop, certain_stop}
 use Rattle.urb_stable.proofs.memory.MemStableStable.store.Goals as goal
 
 -- the record is kept, in doubt

@@ -1,8 +1,8 @@
 use Rattle.std.proofs.Common.{◌≤◌, ◌≡◌, length, arith, rules, ap}
 use Rattle.urb_names.specs.declared.limits.TheConstants.{MAX_NODES}
-use Rattle.urb_names.specs.Naming.{Content, Label}
-use Rattle.urb_names.specs.Carried.{is_heard_of, to_others}
-use Rattle.urb_stubborn.proofs.Sent.{at_most_to_all}
+use Rattle.urb_names.specs.LabelsAndContents.{Content, Label}
+use Rattle.urb_names.specs.CarriedPackets.{is_heard_of, to_others}
+use Rattle.urb_stubborn.proofs.SentPackets.{at_most_to_all}
 use Rattle.urb_stubborn.proofs.outbox.Outbox.of_pair.Goals as goal
 
 pub invariant_of-result : goal.invariant_of-result

@@ -1,13 +1,13 @@
 use Rattle.std.proofs.Common.{◌≡◌, ◌∙◌, List, Option, None, is_some, not, true, false, sym}
 use Rattle.std.proofs.Common.{ap, subst, take, []}
 use Rattle.urb_names.specs.declared.limits.TheConstants.{NAMES_PER_TICK}
-use Rattle.urb_names.specs.Naming.{Label}
-use Rattle.urb_names.specs.Carried.{Carried}
-use Rattle.urb_stubborn.specs.Resending.{Resending}
-use Rattle.urb_stubborn.specs.internal.Walking.{IsWalked, between, due_pairs}
-use Rattle.urb_stubborn.proofs.Behind.{Pairs}
-use Rattle.urb_stubborn.proofs.Round.{if_ok_more, no_cursor, some_cursor, tick_around}
-use Rattle.urb_stubborn.proofs.Round.{tick_straight}
+use Rattle.urb_names.specs.LabelsAndContents.{Label}
+use Rattle.urb_names.specs.CarriedPackets.{Carried}
+use Rattle.urb_stubborn.specs.Resends.{Resending}
+use Rattle.urb_stubborn.specs.internal.TickWalks.{IsWalked, between, due_pairs}
+use Rattle.urb_stubborn.proofs.PairsAfterCursor.{Pairs}
+use Rattle.urb_stubborn.proofs.TickProgress.{if_ok_more, no_cursor, some_cursor, tick_around}
+use Rattle.urb_stubborn.proofs.TickProgress.{tick_straight}
 use Rattle.urb_stubborn.proofs.resend.Resend.go_round.Goals as goal
 
 pub returns-then-is_none : goal.returns-then-is_none

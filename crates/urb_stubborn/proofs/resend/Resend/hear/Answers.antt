@@ -1,13 +1,13 @@
 use Rattle.std.proofs.Common.{◌≡◌, ◌∙◌, ◌<◌, ◌+◌, ◌-◌, false, true, sym, ap, rules, arith, refl}
 use Rattle.std.proofs.lemmas.Bool.{false≢true}
 use Rattle.urb_names.specs.declared.limits.TheConstants.{MAX_SENDERS}
-use Rattle.urb_names.specs.Naming.{Label}
+use Rattle.urb_names.specs.LabelsAndContents.{Label}
 use Rattle.urb_names.specs.Names.{has_name}
-use Rattle.urb_names.specs.Acknowledged.{ack_lt}
-use Rattle.urb_names.specs.Ordered.{placed}
+use Rattle.urb_names.specs.Acknowledgements.{ack_lt}
+use Rattle.urb_names.specs.RisingLists.{placed}
 use Rattle.urb_window.specs.Marks.{MarkSet, with_mark}
-use Rattle.urb_stubborn.specs.Resending.{Resending}
-use Rattle.urb_stubborn.proofs.Settle.{kept_heard}
+use Rattle.urb_stubborn.specs.Resends.{Resending}
+use Rattle.urb_stubborn.proofs.SettledCounts.{kept_heard}
 use Rattle.urb_stubborn.proofs.resend.Resend.hear.Goals as goal
 
 pub invariant_of-self : goal.invariant_of-self

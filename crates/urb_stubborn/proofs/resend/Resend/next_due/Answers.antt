@@ -1,8 +1,8 @@
 use Rattle.std.proofs.Common.{◌≡◌, ◌∙◌, Some, None, true, sym, ap}
-use Rattle.urb_names.specs.Carried.{is_due}
+use Rattle.urb_names.specs.CarriedPackets.{is_due}
 use Rattle.urb_pending.specs.PendingSet.{first_name}
-use Rattle.urb_stubborn.specs.internal.Walking.{IsPassed, behind}
-use Rattle.urb_stubborn.proofs.Behind.{first_due, none_due, passed_fewer, passed_same}
+use Rattle.urb_stubborn.specs.internal.TickWalks.{IsPassed, behind}
+use Rattle.urb_stubborn.proofs.PairsAfterCursor.{first_due, none_due, passed_fewer, passed_same}
 use Rattle.urb_stubborn.proofs.resend.Resend.next_due.Goals as goal
 
 pub loop-name-preserved : goal.loop-name-preserved

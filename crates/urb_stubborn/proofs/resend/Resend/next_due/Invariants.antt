@@ -1,5 +1,5 @@
 use Rattle.std.proofs.Common.{◌≡◌, length}
-use Rattle.urb_stubborn.specs.internal.Walking.{behind, due_pairs}
+use Rattle.urb_stubborn.specs.internal.TickWalks.{behind, due_pairs}
 use Rattle.urb_stubborn.proofs.resend.Resend.next_due.Given as goal
 
 -- what was passed is not due

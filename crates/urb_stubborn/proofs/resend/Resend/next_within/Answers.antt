@@ -1,8 +1,8 @@
 use Rattle.std.proofs.Common.{◌≡◌, ◌∙◌, Some, false, sym}
 use Rattle.urb_pending.specs.PendingSet.{first_name}
-use Rattle.urb_stubborn.specs.internal.Walking.{behind, due_pairs, is_within}
-use Rattle.urb_stubborn.proofs.Behind.{Pairs}
-use Rattle.urb_stubborn.proofs.Between.{rising_kept, within_over}
+use Rattle.urb_stubborn.specs.internal.TickWalks.{behind, due_pairs, is_within}
+use Rattle.urb_stubborn.proofs.PairsAfterCursor.{Pairs}
+use Rattle.urb_stubborn.proofs.PairRanges.{rising_kept, within_over}
 use Rattle.urb_stubborn.proofs.resend.Resend.next_within.Goals as goal
 
 pub returns-else-is_within : goal.returns-else-is_within

@@ -1,15 +1,15 @@
 use Rattle.std.proofs.Common.{◌≡◌, ◌∙◌, ◌++◌, Some, sym, ap, subst, arith, [], Bool}
 use Rattle.std.proofs.Common.{false, filter, not}
 use Rattle.std.specs.Prelude.{option_map}
-use Rattle.urb_names.specs.Acknowledged.{acked}
-use Rattle.urb_names.specs.Carried.{others, packets_to}
+use Rattle.urb_names.specs.Acknowledgements.{acked}
+use Rattle.urb_names.specs.CarriedPackets.{others, packets_to}
 use Rattle.urb_names.specs.Pairs.{message_of}
 use Rattle.urb_pending.specs.PendingSet.{first_name}
-use Rattle.urb_stubborn.specs.Resending.{Resending}
-use Rattle.urb_stubborn.specs.internal.Walking.{between, due_pairs}
-use Rattle.urb_stubborn.proofs.Behind.{Pairs}
-use Rattle.urb_stubborn.proofs.Round.{Walks, all_walked, begun, no_name, one_further, sends}
-use Rattle.urb_stubborn.proofs.Round.{some_behind, some_message, turn_over}
+use Rattle.urb_stubborn.specs.Resends.{Resending}
+use Rattle.urb_stubborn.specs.internal.TickWalks.{between, due_pairs}
+use Rattle.urb_stubborn.proofs.PairsAfterCursor.{Pairs}
+use Rattle.urb_stubborn.proofs.TickProgress.{Walks, all_walked, begun, no_name, one_further, sends}
+use Rattle.urb_stubborn.proofs.TickProgress.{some_behind, some_message, turn_over}
 use Rattle.urb_stubborn.proofs.resend.Resend.send.Goals as goal
 
 pub loop-left-init : goal.loop-left-init

@@ -1,5 +1,5 @@
-use Rattle.urb_stubborn.specs.internal.Walking.{between, due_pairs}
-use Rattle.urb_stubborn.proofs.Round.{Walks}
+use Rattle.urb_stubborn.specs.internal.TickWalks.{between, due_pairs}
+use Rattle.urb_stubborn.proofs.TickProgress.{Walks}
 use Rattle.urb_stubborn.proofs.resend.Resend.send.Given as goal
 
 -- the names so far have their packets

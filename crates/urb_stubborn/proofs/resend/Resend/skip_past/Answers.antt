@@ -1,7 +1,7 @@
 use Rattle.std.proofs.Common.{◌≡◌, ◌∙◌, false, sym, ap}
-use Rattle.urb_names.specs.Carried.{is_due}
-use Rattle.urb_stubborn.specs.Resending.{Resending}
-use Rattle.urb_stubborn.proofs.Settle.{passed_itself}
+use Rattle.urb_names.specs.CarriedPackets.{is_due}
+use Rattle.urb_stubborn.specs.Resends.{Resending}
+use Rattle.urb_stubborn.proofs.SettledCounts.{passed_itself}
 use Rattle.urb_stubborn.proofs.resend.Resend.skip_past.Goals as goal
 
 pub returns-else-is_due-clause-passed : goal.returns-else-is_due-clause-passed

@@ -1,9 +1,9 @@
 use Rattle.std.proofs.Common.{◌≡◌, ◌∙◌, ◌≤◌, ap, arith, rules, length}
 use Rattle.urb_names.specs.declared.limits.TheConstants.{MAX_NODES}
-use Rattle.urb_stubborn.specs.Resending.{Resending}
-use Rattle.urb_stubborn.specs.internal.Walking.{IsTick}
-use Rattle.urb_stubborn.proofs.Alone.{tick_alone}
-use Rattle.urb_stubborn.proofs.Round.{few_sent}
+use Rattle.urb_stubborn.specs.Resends.{Resending}
+use Rattle.urb_stubborn.specs.internal.TickWalks.{IsTick}
+use Rattle.urb_stubborn.proofs.LoneNodes.{tick_alone}
+use Rattle.urb_stubborn.proofs.TickProgress.{few_sent}
 use Rattle.urb_stubborn.proofs.resend.Resend.tick.Goals as goal
 
 pub returns-then-n-eq1-clause-packets : goal.returns-then-n-eq1-clause-packets

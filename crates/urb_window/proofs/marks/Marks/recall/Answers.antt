@@ -1,7 +1,7 @@
 use Rattle.std.proofs.Common.{subst}
 use Rattle.urb_window.specs.Marks.{IsMarkSet}
-use Rattle.urb_window.proofs.Flattened.{marks_rise}
-use Rattle.urb_window.proofs.Roomy.{names_rise}
+use Rattle.urb_window.proofs.MaskPairs.{marks_rise}
+use Rattle.urb_window.proofs.MaskClearings.{names_rise}
 use Rattle.urb_window.proofs.marks.Marks.recall.Goals as goal
 
 pub returns : goal.returns

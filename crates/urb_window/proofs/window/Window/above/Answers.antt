@@ -1,5 +1,5 @@
 use Rattle.std.proofs.Common.{◌<◌, ◌^◌, arith, length}
-use Rattle.urb_window.proofs.Counted.{few_above}
+use Rattle.urb_window.proofs.NumberedValues.{few_above}
 use Rattle.urb_window.proofs.window.Window.above.Goals as goal
 
 pub overflow_cast-result : goal.overflow_cast-result

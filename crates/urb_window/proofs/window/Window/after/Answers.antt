@@ -4,8 +4,8 @@ use Rattle.std.specs.Prelude.{slice_get}
 use Rattle.std.specs.List.{prefix_len}
 use Rattle.std.proofs.lemmas.Option.{slice_get-get_or, slice_get_past}
 use Rattle.urb_window.specs.Row.{pairs_of}
-use Rattle.urb_window.proofs.Counted.{above_over, after_behind, after_low, after_none, after_place}
-use Rattle.urb_window.proofs.Counted.{pairs_over}
+use Rattle.urb_window.proofs.NumberedValues.{above_over, after_behind, after_low, after_none, after_place}
+use Rattle.urb_window.proofs.NumberedValues.{pairs_over}
 use Rattle.urb_window.proofs.window.Window.after.Goals as goal
 
 pub place_of-requires : goal.place_of-requires

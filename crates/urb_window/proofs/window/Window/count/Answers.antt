@@ -1,6 +1,6 @@
 use Rattle.std.proofs.Common.{◌≡◌, ◌<◌, ◌+◌, ◌^◌, rules, arith, ap, sym, ◌∙◌, length}
 use Rattle.urb_window.specs.Row.{pairs_of}
-use Rattle.urb_window.proofs.Counted.{length-pairs, few_above}
+use Rattle.urb_window.proofs.NumberedValues.{length-pairs, few_above}
 use Rattle.urb_window.proofs.window.Window.count.Goals as goal
 
 pub returns-clause-value : goal.returns-clause-value

@@ -2,9 +2,9 @@ use Rattle.std.proofs.Common.{◌≡◌, ◌<◌, ◌≤◌, ◌+◌, ◌-◌, r
 use Rattle.std.proofs.Common.{nat_lt, length, get_or, Some}
 use Rattle.std.specs.List.{prefix_len}
 use Rattle.urb_window.specs.Row.{pairs_of}
-use Rattle.urb_window.specs.internal.Row.{holds_at, numbered}
-use Rattle.urb_window.proofs.Counted.{above_over, numbered_behind, numbered_low}
-use Rattle.urb_window.proofs.Halved.{holds_within, numbered_absent, numbered_found}
+use Rattle.urb_window.specs.internal.RowOperations.{holds_at, numbered}
+use Rattle.urb_window.proofs.NumberedValues.{above_over, numbered_behind, numbered_low}
+use Rattle.urb_window.proofs.BinarySearches.{holds_within, numbered_absent, numbered_found}
 use Rattle.urb_window.proofs.window.Window.get.Goals as goal
 
 pub place_of-place-requires : goal.place_of-place-requires

@@ -1,13 +1,13 @@
 use Rattle.std.proofs.Common.{◌≡◌, ◌<◌, ◌≤◌, ◌+◌, ◌^◌, ◌++◌, rules, refl, arith, ap, sym, ◌∙◌}
 use Rattle.std.proofs.Common.{subst, length, Some, None, vec_len, vec_capacity}
 use Rattle.std.specs.VecDeque.{deque_len, deque_capacity}
-use Rattle.urb_names.specs.Ordered.{placed}
+use Rattle.urb_names.specs.RisingLists.{placed}
 use Rattle.urb_window.specs.Row.{counted_from, pairs_of}
-use Rattle.urb_window.specs.internal.Row.{AreOver, number_lt, numbered}
-use Rattle.urb_window.specs.internal.Room.{HasRoom}
-use Rattle.urb_window.proofs.Counted.{above_over, numbered_behind}
-use Rattle.urb_window.proofs.Placed.{absent_low, over_placed, placed_above}
-use Rattle.urb_window.proofs.Rooms.{roomy_bigger, roomy_unreserved}
+use Rattle.urb_window.specs.internal.RowOperations.{AreOver, number_lt, numbered}
+use Rattle.urb_window.specs.internal.RowInvariant.{HasRoom}
+use Rattle.urb_window.proofs.NumberedValues.{above_over, numbered_behind}
+use Rattle.urb_window.proofs.ElementPlaces.{absent_low, over_placed, placed_above}
+use Rattle.urb_window.proofs.PreservedRows.{roomy_bigger, roomy_unreserved}
 use Rattle.urb_window.proofs.window.Window.insert.Goals as goal
 
 -- the lower part's allocation was refused

@@ -3,7 +3,7 @@ use Rattle.std.proofs.Common.{Some}
 use Rattle.std.specs.Prelude.{slice_get}
 use Rattle.std.proofs.lemmas.Option.{slice_get-get_or, slice_get_past}
 use Rattle.urb_window.specs.Row.{pairs_of}
-use Rattle.urb_window.proofs.Counted.{pair_behind, pair_low}
+use Rattle.urb_window.proofs.NumberedValues.{pair_behind, pair_low}
 use Rattle.urb_window.proofs.window.Window.pair.Goals as goal
 
 pub returns-then-index-len : goal.returns-then-index-len

@@ -4,12 +4,12 @@ use Rattle.std.specs.Prelude.{IsSome}
 use Rattle.std.specs.List.{prefix_len}
 use Rattle.std.proofs.lemmas.List.{length-set}
 use Rattle.urb_window.specs.Row.{counted_from, pairs_of}
-use Rattle.urb_window.specs.internal.Row.{AreOver, holds_at, numbered, renumbered}
-use Rattle.urb_window.proofs.Counted.{above_over, numbered_behind, numbered_low}
-use Rattle.urb_window.proofs.Halved.{holds_within}
-use Rattle.urb_window.proofs.Renumbered.{IsFound, finds, over_renumbered, renumbered_behind}
-use Rattle.urb_window.proofs.Renumbered.{renumbered_low, stands}
-use Rattle.urb_window.proofs.Rooms.{roomy_as}
+use Rattle.urb_window.specs.internal.RowOperations.{AreOver, holds_at, numbered, renumbered}
+use Rattle.urb_window.proofs.NumberedValues.{above_over, numbered_behind, numbered_low}
+use Rattle.urb_window.proofs.BinarySearches.{holds_within}
+use Rattle.urb_window.proofs.ReplacedValues.{IsFound, finds, over_renumbered, renumbered_behind}
+use Rattle.urb_window.proofs.ReplacedValues.{renumbered_low, stands}
+use Rattle.urb_window.proofs.PreservedRows.{roomy_as}
 use Rattle.urb_window.proofs.window.Window.replace.Goals as goal
 
 -- a value of the lower part

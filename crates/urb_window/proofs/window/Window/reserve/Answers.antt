@@ -1,5 +1,5 @@
 use Rattle.std.proofs.Common.{refl, arith}
-use Rattle.urb_window.proofs.Rooms.{roomy_bigger}
+use Rattle.urb_window.proofs.PreservedRows.{roomy_bigger}
 use Rattle.urb_window.proofs.window.Window.reserve.Goals as goal
 
 -- the lower part's allocation was refused

@@ -1,7 +1,7 @@
 use Rattle.std.proofs.Common.{◌≡◌, rules, ap, sym, ◌∙◌, length}
 use Rattle.urb_window.specs.Entries.{above_of}
-use Rattle.urb_window.specs.internal.Rows.{row_at, no_row}
-use Rattle.urb_window.proofs.Lent.{above_is}
+use Rattle.urb_window.specs.internal.SenderRows.{row_at, no_row}
+use Rattle.urb_window.proofs.EntryParts.{above_is}
 use Rattle.urb_window.proofs.windows.Windows.above.Goals as goal
 
 pub returns-in-Some : goal.returns-in-Some

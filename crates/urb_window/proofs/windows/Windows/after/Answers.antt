@@ -1,6 +1,6 @@
 use Rattle.std.proofs.Common.{ap, ◌∙◌, find, option_map}
 use Rattle.urb_names.specs.Names.{name_lt}
-use Rattle.urb_window.specs.Rows.{entries_from}
+use Rattle.urb_window.specs.RowEntries.{entries_from}
 use Rattle.urb_window.proofs.windows.Windows.after.Goals as goal
 
 pub returns : goal.returns

@@ -1,9 +1,9 @@
 use Rattle.std.proofs.Common.{◌≡◌, rules, ap, sym, ◌∙◌}
 use Rattle.urb_window.specs.Entries.{value_of}
 use Rattle.urb_window.specs.Row.{pairs_of}
-use Rattle.urb_window.specs.internal.Row.{numbered}
-use Rattle.urb_window.specs.internal.Rows.{row_at, no_row}
-use Rattle.urb_window.proofs.Looked.{value_rows}
+use Rattle.urb_window.specs.internal.RowOperations.{numbered}
+use Rattle.urb_window.specs.internal.SenderRows.{row_at, no_row}
+use Rattle.urb_window.proofs.NameSearches.{value_rows}
 use Rattle.urb_window.proofs.windows.Windows.get.Goals as goal
 
 pub returns-in-Some : goal.returns-in-Some

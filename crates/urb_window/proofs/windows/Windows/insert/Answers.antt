@@ -3,15 +3,15 @@ use Rattle.std.proofs.Common.{slice_set, length, Some, None}
 use Rattle.std.specs.List.{AllByRecursion}
 use Rattle.std.proofs.lemmas.List.{length-set, set-get_or}
 use Rattle.urb_names.specs.declared.limits.TheConstants.{MAX_SENDERS}
-use Rattle.urb_names.specs.Ordered.{placed}
+use Rattle.urb_names.specs.RisingLists.{placed}
 use Rattle.urb_window.specs.Entries.{entry_lt, value_of}
-use Rattle.urb_window.specs.internal.Row.{IsInserted, IsRow}
-use Rattle.urb_window.specs.Rows.{entries_from}
-use Rattle.urb_window.specs.internal.Rows.{row_at}
-use Rattle.urb_window.specs.internal.Kept.{HasRow}
-use Rattle.urb_window.proofs.Changed.{all_set}
-use Rattle.urb_window.proofs.Filed.{found_here, inserted_here, kept_filled, kept_unreserved}
-use Rattle.urb_window.proofs.Filed.{row_here}
+use Rattle.urb_window.specs.internal.RowOperations.{IsInserted, IsRow}
+use Rattle.urb_window.specs.RowEntries.{entries_from}
+use Rattle.urb_window.specs.internal.SenderRows.{row_at}
+use Rattle.urb_window.specs.internal.WindowInvariant.{HasRow}
+use Rattle.urb_window.proofs.RowChanges.{all_set}
+use Rattle.urb_window.proofs.PreservedWindows.{found_here, inserted_here, kept_filled, kept_unreserved}
+use Rattle.urb_window.proofs.PreservedWindows.{row_here}
 use Rattle.urb_window.proofs.windows.Windows.insert.Goals as goal
 
 -- the allocation of rows was refused

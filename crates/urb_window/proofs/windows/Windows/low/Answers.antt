@@ -1,7 +1,7 @@
 use Rattle.std.proofs.Common.{◌≡◌, rules, ap, sym, ◌∙◌, length}
 use Rattle.urb_window.specs.Entries.{low_of}
-use Rattle.urb_window.specs.internal.Rows.{row_at, no_row}
-use Rattle.urb_window.proofs.Looked.{low_is}
+use Rattle.urb_window.specs.internal.SenderRows.{row_at, no_row}
+use Rattle.urb_window.proofs.NameSearches.{low_is}
 use Rattle.urb_window.proofs.windows.Windows.low.Goals as goal
 
 pub returns-in-Some : goal.returns-in-Some

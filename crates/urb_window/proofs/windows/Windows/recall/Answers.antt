@@ -1,6 +1,6 @@
 use Rattle.std.proofs.Common.{subst}
 use Rattle.urb_window.specs.WindowSet.{IsWindowSet}
-use Rattle.urb_window.proofs.Ranked.{entries_are}
+use Rattle.urb_window.proofs.EntryOrder.{entries_are}
 use Rattle.urb_window.proofs.windows.Windows.recall.Goals as goal
 
 pub returns : goal.returns

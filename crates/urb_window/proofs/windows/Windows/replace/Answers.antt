@@ -2,9 +2,9 @@ use Rattle.std.proofs.Common.{◌≡◌, ◌<◌, rules, refl, ap, sym, ◌∙�
 use Rattle.std.specs.Prelude.{IsSome}
 use Rattle.urb_window.specs.Entries.{value_of, with_value}
 use Rattle.urb_window.specs.Row.{pairs_of}
-use Rattle.urb_window.specs.internal.Row.{IsRow, numbered}
-use Rattle.urb_window.specs.Rows.{entries_from}
-use Rattle.urb_window.proofs.Filed.{found_here, kept_set, present_within, replaced_here}
+use Rattle.urb_window.specs.internal.RowOperations.{IsRow, numbered}
+use Rattle.urb_window.specs.RowEntries.{entries_from}
+use Rattle.urb_window.proofs.PreservedWindows.{found_here, kept_set, present_within, replaced_here}
 use Rattle.urb_window.proofs.windows.Windows.replace.Goals as goal
 
 pub index_mut-row-requires : goal.index_mut-row-requires

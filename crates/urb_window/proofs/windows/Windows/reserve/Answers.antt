@@ -4,9 +4,9 @@ use Rattle.std.specs.List.{AllByRecursion}
 use Rattle.std.proofs.lemmas.List.{set-get_or}
 use Rattle.urb_names.specs.declared.limits.TheConstants.{MAX_SENDERS}
 use Rattle.urb_window.specs.Row.{pairs_of}
-use Rattle.urb_window.specs.internal.Row.{IsRow}
-use Rattle.urb_window.specs.Rows.{entries_from}
-use Rattle.urb_window.proofs.Filed.{kept_filled, kept_reserved, same_here}
+use Rattle.urb_window.specs.internal.RowOperations.{IsRow}
+use Rattle.urb_window.specs.RowEntries.{entries_from}
+use Rattle.urb_window.proofs.PreservedWindows.{kept_filled, kept_reserved, same_here}
 use Rattle.urb_window.proofs.windows.Windows.reserve.Goals as goal
 
 -- the allocation of rows was refused

@@ -1,7 +1,7 @@
 use Rattle.std.proofs.Common.{◌≡◌, rules, ap, sym, ◌∙◌}
 use Rattle.urb_window.specs.Entries.{window_of}
-use Rattle.urb_window.specs.internal.Rows.{row_at, no_row}
-use Rattle.urb_window.proofs.Lent.{window_is}
+use Rattle.urb_window.specs.internal.SenderRows.{row_at, no_row}
+use Rattle.urb_window.proofs.EntryParts.{window_is}
 use Rattle.urb_window.proofs.windows.Windows.window.Goals as goal
 
 pub returns-in-Some : goal.returns-in-Some

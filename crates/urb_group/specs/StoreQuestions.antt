@@ -1,0 +1,36 @@
+-- What a store was asked, what it answered, and what it holds after that.
+use Rattle.std.specs.Prelude.{List, None, Result, [], false, ◌≡◌}
+use Rattle.urb_stable.specs.Entries.{Entry}
+use Rattle.urb_stable.specs.StableStorage.{CountsFailures, IsAllowedFault, IsContents, IsRetrieved}
+use Rattle.urb_stable.specs.StableStorage.{KeepsTrust, LeavesNoMore, SettlesDoubt, StaysShut}
+use Rattle.urb_stable.specs.declared.stable.Stable.{Ghosts}
+use Rattle.urb_stable.specs.declared.stable.StoreFault.{StoreFault}
+
+module _ {S A : Type 0} (g : Ghosts S A) where
+  -- No record is in doubt. If the store is honest, it has no record, and a stop leaves no record of
+  -- it.
+  pub record IsBlank (store : S) : Type 0 where
+    pub certain : g.is_honest store → g.certain store ≡ []
+    pub doubtful : g.is_doubtful store ≡ false
+    pub doubt : g.doubt store ≡ None
+    pub rest : g.is_honest store → g.leaves_only store (IsContents [] None)
+
+  -- The store was asked for its records, and gave this answer, as a store promises. A stop during
+  -- the call leaves what the store may have held, and a stop after it what the store may hold.
+  pub record Gives (before : S) (answer : Result (List Entry) StoreFault) (after : S) : Type 0 where
+    pub answers : g.answers before answer
+    pub retrieved : g.is_honest after
+        → IsRetrieved (g.certain before) (g.doubt before) (g.certain after) answer
+    pub settled : SettlesDoubt (g.is_doubtful before) (g.doubt before) (g.place before)
+        (g.is_doubtful after) (g.doubt after) (g.place after) answer
+    pub allowed : IsAllowedFault (g.is_honest before) (g.is_shut before) (g.is_clean after)
+        (g.is_honest after) answer
+    pub stop : g.is_honest before → g.is_clean after
+        → g.leaves_only after (IsContents (g.certain before) (g.doubt before))
+    pub rest : g.is_honest after
+        → g.leaves_only after (IsContents (g.certain after) (g.doubt after))
+    pub counts : CountsFailures (g.failures before) (g.failures after) answer
+    pub trust : KeepsTrust (g.is_clean before) (g.is_honest before) (g.is_clean after)
+        (g.is_honest after) (g.is_shut after) answer
+    pub refuses : StaysShut (g.is_shut before) (g.is_clean after) (g.is_shut after) answer
+    pub lasts : g.is_clean after → LeavesNoMore (g.leaves_only before) (g.leaves_only after)

@@ -1,0 +1,17 @@
+-- The definition's outcome for a node and the outcome in the node's memory say the same.
+use Rattle.std.proofs.Common.{◌≡◌, suc}
+use Rattle.urb_stable.specs.Entries.{name_of}
+use Rattle.urb_node.specs.Part.{Node}
+use Rattle.urb_node.specs.Replies.{Reply, Drafted, Same, Refused}
+use Rattle.urb_node.specs.NodeMemories.{ShowsReady, ShowsStoring}
+use Rattle.urb_node.specs.internal.Outcomes.{Outcome, Answers, Refuses, Wants}
+
+-- The reply is the answer, and the memory shows the node after it. Or the reply is the refusal. Or
+-- it is a draft of the record that is wanted, and the memory with that record shows the node after
+-- it.
+abbrev pub Says : Reply × Node → Outcome → Type 0
+Says told (Answers answer a) = (told.0 ≡ Same answer) × ShowsReady a told.1
+Says told (Refuses refusal) = told.0 ≡ Refused refusal
+Says told (Wants entry cause a) =
+    (told.0 ≡ Drafted (name_of entry) (suc a.count))
+    × ShowsStoring (record { memory = a; entry = entry; cause = cause }) told.1

@@ -1,0 +1,32 @@
+-- A store in memory after a call, as its code computes it.
+use Rattle.std.specs.Prelude.{◌≡◌, ◌⊎◌, ◌<◌, ◌≤◌, ◌-◌, ◌^◌, false, [], ◌∷◌, ◌++◌, None, Some, Result}
+use Rattle.std.specs.Prelude.{Ok, Err}
+use Rattle.std.specs.Option.{OnSome}
+use Rattle.urb_stable.specs.Entries.{Entry}
+use Rattle.urb_stable.specs.MemoryStores.{Memory, after_failure, with_doubt, without_memory}
+use Rattle.urb_stable.specs.declared.memory.Failure.TheVariants.{New, Old}
+use Rattle.urb_stable.specs.declared.stable.StoreFault.{StoreFault}
+use Rattle.urb_stable.specs.declared.stable.StoreFault.TheVariants as fault
+
+-- the store after it kept the record
+abbrev pub with_record : Entry → Memory → Memory
+with_record entry m = record m { certain = m.certain ++ entry ∷ [] }
+
+-- What a store at the right position does: first if it isn't armed, then if it is armed with each
+-- of the two failures. If no further failure can be counted, an armed store returns NoMemory.
+pub record StoresInMemory (old : Memory) (entry : Entry) (result : Result (Unit {0}) StoreFault)
+    (new : Memory) : Type 0 where
+  pub unarmed : old.armed ≡ None
+      → ((result ≡ Ok tt) × (new ≡ with_record entry old))
+      ⊎ ((result ≡ Err fault.NoMemory) × (new ≡ without_memory old))
+  pub keeps_nothing : old.armed ≡ Some Old → old.failures < 2 ^ 64 - 1
+      → (result ≡ Err fault.Device) × (new ≡ after_failure None old)
+  pub keeps_it : old.armed ≡ Some New → old.failures < 2 ^ 64 - 1
+      → ((result ≡ Err fault.Device) × (new ≡ after_failure (Some entry) old))
+      ⊎ ((result ≡ Err fault.NoMemory) × (new ≡ without_memory old))
+  pub uncounted : OnSome old.armed (2 ^ 64 - 1 ≤ old.failures
+      → (result ≡ Err fault.NoMemory) × (new ≡ without_memory old))
+
+-- the store after a retrieve
+abbrev pub retrieved : Memory → Memory
+retrieved m = record m { certain = with_doubt m.certain m.doubt; doubt = None; doubtful = false }

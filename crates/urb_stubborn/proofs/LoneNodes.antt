@@ -1,0 +1,27 @@
+-- A node alone in its group: nothing is ever due.
+use Rattle.std.proofs.Common.{◌≡◌, ℕ, List, [], ◌∷◌, filter, refl, sym, ap, ◌∙◌, flat_map}
+use Rattle.urb_names.specs.LabelsAndContents.{Label, Content}
+use Rattle.urb_names.specs.CarriedPackets.{is_due}
+use Rattle.urb_names.specs.CyclicOrder.{last_name, resent}
+use Rattle.urb_stubborn.specs.Resends.{Resending, tick_packets, ticked}
+use Rattle.urb_stubborn.specs.internal.TickWalks.{due_pairs}
+use Rattle.urb_stubborn.proofs.TickProgress.{sends}
+
+none_due : (r : Resending) (pairs : List (Label × Content)) → r.limits.n ≡ 1 → r.node ≡ 1
+    → due_pairs r pairs ≡ []
+none_due r [] e f = refl
+none_due r (p ∷ ps) e f =
+    ap (λ (n : ℕ). filter (λ pair. is_due n r.node r.heard pair.0) (p ∷ ps)) e
+    ∙ (ap (λ (q : ℕ). filter (λ pair. is_due 1 q r.heard pair.0) (p ∷ ps)) f
+    ∙ (sym (ap (λ (q : ℕ). filter (λ pair. is_due 1 q r.heard pair.0) ps) f)
+    ∙ (sym (ap (λ (n : ℕ). filter (λ pair. is_due n r.node r.heard pair.0) ps) e)
+    ∙ none_due r ps e f)))
+
+-- a tick of the only node of a group sends nothing and changes nothing
+pub tick_alone : (r : Resending) (pairs : List (Label × Content)) (certified : List Label)
+    → r.limits.n ≡ 1 → r.node ≡ 1 → ([] ≡ tick_packets r pairs certified) × (r ≡ ticked r pairs)
+tick_alone r pairs certified e f =
+    let none : due_pairs r pairs ≡ [] = none_due r pairs e f in (
+      sym (ap (λ ps. flat_map (sends r certified) (resent r.cursor ps)) none),
+      sym (ap (λ ps. record r { cursor = last_name r.cursor (resent r.cursor ps) }) none),
+    )
