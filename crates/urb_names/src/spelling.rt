@@ -175,7 +175,7 @@ fn longest_payload(flags: Option<u8>) -> usize
     }
 }
 
-#[tactic(auto, unfolding(crate::specs::Packets::judged))]
+#[tactic(auto, unfolding(crate::specs::PacketGrammar::judged))]
 // The packet that the fields describe, or their first fault.
 fn judge_fields<'a>(fields: &Fields<'a>) -> Result<PacketView<'a>, PacketFault>
     ensures { result ≡ judged fields.now }

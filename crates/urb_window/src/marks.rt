@@ -53,7 +53,7 @@ fn has_mask<A: Allocator + Copy>(masks: &Windows<u8, A>, name: Name) -> bool
 }
 
 // Whether the node with this number is marked for a name.
-#[tactic(auto, using(crate::proofs::Flattened::acked_bit))]
+#[tactic(auto, using(crate::proofs::MaskPairs::acked_bit))]
 fn is_marked<A: Allocator + Copy>(masks: &Windows<u8, A>, name: Name, number: u8) -> bool
     requires { (0 < number) × (number ≤ MAX_NODES) }
     ensures { result ≡ acked (marks_in masks.now.entries) name number }

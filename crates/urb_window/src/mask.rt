@@ -34,7 +34,7 @@ pub(crate) fn with_bit(mask: u8, number: u8) -> u8
     mask + bit_of(number)
 }
 
-#[tactic(auto, using(crate::proofs::Counts::count_of_next, crate::proofs::Counts::count_of_none))]
+#[tactic(auto, using(crate::proofs::NodeCounts::count_of_next, crate::proofs::NodeCounts::count_of_none))]
 // How many of the nodes 1 to n have their bits set.
 pub(crate) fn bits_up_to(mask: u8, n: u8) -> u8
     requires { n ≤ MAX_NODES }
