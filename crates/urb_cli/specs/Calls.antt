@@ -14,7 +14,7 @@ abbrev pub Steps : {S X : Type 0} → (S → X → S → Type 0) → S → List 
 Steps {S} step old [] new = new ≡ old
 Steps {S} step old (x ∷ xs) new = (mid : S) × step old x mid × Steps step mid xs new
 
--- so many calls with this request had no response
+-- each of the calls with this request, counted by the number, had no response
 abbrev pub Fails : {S : Type 0} → (S → Asked → Option Said → S → Type 0) → Asked → S → ℕ → S
     → Type 0
 Fails {S} calls asked old zero new = new ≡ old

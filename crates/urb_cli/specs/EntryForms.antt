@@ -1,4 +1,4 @@
--- The forms in which `urbd follow` prints the entries of a log.
+-- How `urbd follow` prints the entries of a log: as text, hexadecimal or JSON.
 use Rattle.std.specs.Prelude.{ℕ, ◌==◌, ◌&&◌, ◌||◌, not, nat_le, nat_lt, Bool, false, List, [], ◌∷◌, ◌++◌}
 use Rattle.std.specs.Prelude.{flat_map, if◌then◌else◌, codes}
 use Rattle.std.specs.Fmt.{decimal}

@@ -28,7 +28,7 @@ TakesLine old line new =
 abbrev pub HasEnded : Option (List ℕ) → Option (List ℕ) → Type 0
 HasEnded old new = Consumes old new [] × IsAtEnd new
 
--- a text is given, or there is none left
+-- a text is given, or no text is left
 abbrev pub Gives : {T : Type 0} → (T → List ℕ → T → Type 0) → (T → T → Type 0) → T → List ℕ → T
     → Bool → Type 0
 Gives gives ends old text new true = gives old text new
@@ -75,7 +75,7 @@ module _ {T C : Type 0} (gives : T → List ℕ → T → Type 0) (ends : T → 
       × Insists calls (Submit client last.number text) last.caller (Some (Refused number detail))
       caller × WritesRefusal number detail last.output output
 
-  -- how it ends after the last text that was published: there is none left, or the next is refused
+  -- how it ends after the last text that was published: no text is left, or the next is refused
   abbrev pub EndsAfter : Progress T C → StreamEnd → T → C → Option (List ℕ) → Type 0
   EndsAfter last stream.Done texts caller output =
       ends last.texts texts × (caller ≡ last.caller) × (output ≡ last.output)

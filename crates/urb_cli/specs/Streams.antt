@@ -11,8 +11,8 @@ status_of_stream (Ok Done) = 0
 status_of_stream (Ok Refused) = 4
 status_of_stream (Err fault) = 1
 
--- If the node gave no response, nothing more is printed. A fault of its own may come in the middle
--- of what is printed.
+-- If the node gave no response, nothing more is printed. Before a fault of the command itself, it
+-- may have printed any part.
 abbrev pub MayPrint : StreamFault → Option (List ℕ) → Option (List ℕ) → Type 0
 MayPrint (fault.Call why) old new = new ≡ old
 MayPrint (fault.Own why) old new = ⊤

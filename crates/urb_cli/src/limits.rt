@@ -16,11 +16,11 @@ const _: () = prove!(MAX_BASE_PORT as u32 + MAX_NODES as u32 + CLIENT_PORT_OFFSE
 /// The greatest time from one tick to the next, in milliseconds: a minute.
 pub const MAX_TICK_MILLIS: u32 = 60_000;
 
-/// The fewest connections of clients that a node may be told to serve at a time.
+/// The fewest connections that `serve --connections` allows for a node at a time.
 pub const MIN_CONNECTIONS: u16 = 4;
 
-/// The most connections of clients that a node may be told to serve at a time. It serves so many if
-/// nothing else is said.
+/// The most connections that `serve --connections` allows for a node at a time. A node serves as
+/// many if the option is left out.
 pub const MAX_CONNECTIONS: u16 = 1_000;
 
 /// The greatest time without a byte after which a connection is closed, in minutes: a day.

@@ -5,6 +5,8 @@ use std::fmt::Display;
 use std::io;
 use std::io::Lines;
 use std::net::{Net, SocketAddr, TcpListener, TcpStream};
+use std::os::unix::net as unix;
+use std::os::unix::net::UnixStream;
 use std::time::{Clock, Duration};
 
 /// A terminal and a runtime as one. Each call goes to one of them.
@@ -73,6 +75,10 @@ impl<R: Net<Listener = TcpListener, Stream = TcpStream>, T> Net for Surroundings
 
     fn connect(&self, addr: SocketAddr) -> io::Result<TcpStream> {
         self.rt.connect(addr)
+    }
+
+    fn connect_unix(&self, addr: &unix::SocketAddr) -> io::Result<UnixStream> {
+        self.rt.connect_unix(addr)
     }
 }
 

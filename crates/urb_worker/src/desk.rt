@@ -10,7 +10,7 @@ ghost use Rattle.urb_worker.specs.internal.Desks.{IsWork};
 ghost use Rattle.urb_worker.specs.Settlings.{told_in};
 
 use crate::responses::{down_response, response_to_read, response_to_turn};
-use crate::{Bell, Finished, Job, ReaderPool, Stop, Ticket, TicketPlaces};
+use crate::{Bell, Finished, InFlight, Job, ReaderPool, Stop, Ticket, TicketPlaces};
 use crossbeam_channel::{SendError, Sender};
 use std::alloc::{AllocError, Global};
 use std::marker::Model;
@@ -31,6 +31,8 @@ pub struct NodeService<'a, K: HouseName> {
     pub readers: &'a ReaderPool<K>,
     /// The bell that rings when the node's log has grown.
     pub bell: &'a Bell,
+    /// What is in flight to the node. While its receiver's backlog is long, submits wait.
+    pub in_flight: &'a InFlight,
     /// The stop that ends all waits of clients.
     pub stop: &'a Stop,
 }
@@ -43,6 +45,7 @@ impl<'a, K: HouseName> NodeService<'a, K> {
             places: self.places,
             readers: self.readers,
             bell: self.bell,
+            in_flight: self.in_flight,
             stop: self.stop,
         }
     }
@@ -288,7 +291,10 @@ impl<'a, K: HouseName, R: Wait + Clock> Desk for NodeDesk<'a, K, R> {
         match request {
             Request::Read { place, max } => self.read(*place, *max),
             Request::Wait { place, max, millis } => self.wait(*place, *max, *millis),
-            Request::Submit { .. } => self.work(request),
+            Request::Submit { .. } => {
+                self.service.in_flight.await_calm(self.rt);
+                self.work(request)
+            }
             Request::Status => self.work(request),
             Request::Crash => self.work(request),
             Request::Restart => self.work(request),

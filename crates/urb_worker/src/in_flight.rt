@@ -2,6 +2,7 @@
 
 ghost use Rattle.std.specs.Prelude.{◌≡◌, ◌<◌, ◌≤◌, ◌+◌, ◌^◌, ◌↔◌, IsTrue};
 
+use crate::BACKLOG;
 use std::sync::atomic::{AtomicBool, AtomicU64, Ordering};
 use std::thread;
 use std::time::{Clock, Duration};
@@ -30,7 +31,22 @@ const _: () = prove!(2 * MOST_IN_FLIGHT <= SOCKET_ROOM);
 const PAUSE: u64 = 100;
 
 // How many times a sender checks for room. After that it sends anyway.
-const PATIENCE: u32 = 1_000;
+const PATIENCE: u32 = 100;
+
+/// How much a receiver's backlog may hold before sessions wait with their submits, in bytes.
+pub const LONG_BACKLOG: u64 = 262_144;
+
+/// How much a receiver's backlog may hold before nobody waits for room in the node's socket, in
+/// bytes.
+pub const FULL_BACKLOG: u64 = BACKLOG as u64 / 2;
+
+const _: () = prove!(LONG_BACKLOG < FULL_BACKLOG);
+
+// How long a session sleeps before it checks the backlog again, in milliseconds.
+const REST: u64 = 1;
+
+// How many times a session checks the backlog. After that it submits anyway.
+const LOOKS: u32 = 100;
 
 // The load of a datagram of this length: the length plus `CARRYING`.
 fn load_of(length: usize) -> u64
@@ -47,15 +63,34 @@ fn fits(there: u64, load: u64) -> bool
     load <= MOST_IN_FLIGHT && there <= MOST_IN_FLIGHT - load
 }
 
+// Whether a backlog of so many bytes is so long that sessions wait with their submits.
+fn is_long(backlog: u64) -> bool
+    ensures { IsTrue result ↔ (LONG_BACKLOG < backlog) }
+{
+    LONG_BACKLOG < backlog
+}
+
+// Whether a backlog of so many bytes is so full that nobody waits for room in the socket.
+fn is_full(backlog: u64) -> bool
+    ensures { IsTrue result ↔ (FULL_BACKLOG < backlog) }
+{
+    FULL_BACKLOG < backlog
+}
+
 /// Counts what is in flight to one node, so that its senders wait before they send more than its
 /// socket has room for. Senders add to the count, and the node's one receiver subtracts.
 ///
 /// A datagram that was lost stays counted until the receiver finds its socket empty. A datagram
 /// that somebody else sent is subtracted too, but never more than the count.
+///
+/// The receiver also says how much its backlog holds. If that is much, the node's worker can't keep
+/// up with the other nodes. Then the node's sessions wait with their submits. Without that, workers
+/// whose backlogs are full would wait for each other's sockets.
 #[derive(Drop)]
 pub struct InFlight {
     load: AtomicU64,
     is_stuck: AtomicBool,
+    backlog: AtomicU64,
 }
 
 impl InFlight {
@@ -64,6 +99,7 @@ impl InFlight {
         InFlight {
             load: AtomicU64::new(0),
             is_stuck: AtomicBool::new(false),
+            backlog: AtomicU64::new(0),
         }
     }
 
@@ -82,17 +118,22 @@ impl InFlight {
                 .is_ok()
     }
 
+    // Whether it is of no use to wait for room: the receiver hangs, or its backlog is full.
+    fn is_hopeless(&self) -> bool {
+        self.is_stuck.load(Ordering::SeqCst) || is_full(self.backlog.load(Ordering::SeqCst))
+    }
+
     /// Counts a datagram of this length that is about to be sent. While there is no room for the
-    /// datagram, the call waits. It waits for at most a tenth of a second, or somewhat more if the
-    /// machine is busy. After a wait that found no room, no sender waits until the receiver takes a
-    /// datagram again. So a node that hangs delays its senders for about a tenth of a second in
-    /// all.
+    /// datagram, the call waits. It waits for at most a hundredth of a second, or somewhat more if
+    /// the machine is busy, and not at all while the receiver's backlog is full. After a wait that
+    /// found no room, no sender waits until the receiver takes a datagram again. So a node that
+    /// hangs delays its senders for about a hundredth of a second in all.
     pub fn enter<R: Clock>(&self, rt: &R, length: usize)
         requires { length < 2 ^ 63 }
     {
         let load = load_of(length);
         for _ in 0..PATIENCE {
-            if self.is_stuck.load(Ordering::SeqCst) {
+            if self.is_hopeless() {
                 break;
             }
             if self.admit(load) {
@@ -130,6 +171,23 @@ impl InFlight {
     /// found it empty. All of that was taken or lost.
     pub fn settle(&self, seen: u64) {
         self.take_off(seen);
+    }
+
+    /// Says that the receiver's backlog holds so many bytes.
+    pub fn keep(&self, backlog: u64) {
+        self.backlog.store(backlog, Ordering::SeqCst);
+    }
+
+    /// Waits while the receiver's backlog is long, so that the worker catches up with the other nodes
+    /// before it takes another submit. It waits for at most a tenth of a second, or somewhat more if
+    /// the machine is busy.
+    pub fn await_calm<R: Clock>(&self, rt: &R) {
+        for _ in 0..LOOKS {
+            if !is_long(self.backlog.load(Ordering::SeqCst)) {
+                break;
+            }
+            thread::sleep(rt, Duration::from_millis(REST));
+        }
     }
 
     /// Whether so much is in flight that more than one long datagram may wait in the socket.

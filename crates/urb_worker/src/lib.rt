@@ -85,7 +85,7 @@ pub use connections::{
 pub use counting::tally::{HubName, Tally};
 pub use desk::{NodeDesk, NodeService};
 pub use hub::{Gate, Hub, OpenGate};
-pub use in_flight::{CARRYING, InFlight, MOST_IN_FLIGHT};
+pub use in_flight::{CARRYING, FULL_BACKLOG, InFlight, LONG_BACKLOG, MOST_IN_FLIGHT};
 pub use job::Job;
 pub use links::{Link, MemoryLink, PacedLink, UdpLink};
 pub use listeners::Watch;

@@ -183,6 +183,7 @@ fn start_threads<'s, E, K: HouseName + Send + Sync, H: Reporter, R: Wait + Clock
             places: &room.nodes[place].1,
             readers: &room.readers,
             bell: &stations[place].bell,
+            in_flight: &stations[place].in_flight,
             stop,
         };
         let listener = NodeListener {

@@ -144,6 +144,7 @@ fn catch_up<K: HouseName, R: Wait + Clock>(
         if is_ready {
             empty_socket(alloc, receiver.station, room, &mut backlog);
         }
+        receiver.station.in_flight.keep(backlog.bytes() as u64);
         if receiver.stop.is_set() {
             break;
         }
@@ -155,6 +156,7 @@ fn catch_up<K: HouseName, R: Wait + Clock>(
             break;
         }
     }
+    receiver.station.in_flight.keep(0);
     let _ = receiver.station.udp.set_nonblocking(false);
 }
 
@@ -187,9 +189,9 @@ fn hand_on<K: HouseName, R: Wait>(
 /// Hands the datagrams of a node's station to its worker, the oldest first, until the stop is set.
 /// It checks the stop after each datagram, so an empty datagram wakes it.
 ///
-/// While the channel is full, it keeps new datagrams in a `Backlog`, and checks the stop each
-/// millisecond. Once the backlog is full, datagrams stay in the socket. Datagrams that still wait
-/// when the stop is set are dropped. A datagram is lost if memory for it is refused. After an error
+/// While the channel is full, it keeps new datagrams in a `Backlog`, says how much that holds
+/// (`InFlight::keep`), and checks the stop each millisecond. Once the backlog is full, datagrams stay
+/// in the socket. Datagrams that still wait when the stop is set are dropped. A datagram is lost if memory for it is refused. After an error
 /// of the socket, the receiver rests for 10 milliseconds and goes on.
 pub fn receive<'s, K: HouseName, R: Wait + Clock>(
     rt: &R,

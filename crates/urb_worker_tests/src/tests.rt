@@ -13,7 +13,7 @@ use urb_group::Group;
 use urb_names::{ClientId, Config, NodeId, Payload};
 use urb_show::{House, HouseName, LogReader, Opened, ReadPosition};
 use urb_worker::{
-    Bell, Hub, HubName, Job, NodeService, ReaderPool, Stop, Tally, Ticket, TicketPlaces,
+    Bell, Hub, HubName, InFlight, Job, NodeService, ReaderPool, Stop, Tally, Ticket, TicketPlaces,
 };
 
 mod bursts;
@@ -87,6 +87,7 @@ struct Hall<K: HouseName> {
     places: TicketPlaces,
     readers: ReaderPool<K>,
     bell: Bell,
+    in_flight: InFlight,
     stop: Stop,
 }
 
@@ -102,6 +103,7 @@ fn open_hall<K: HouseName>(
         places: TicketPlaces::new(),
         readers: ReaderPool::new(alloc, readers).ok()?,
         bell: Bell::new(),
+        in_flight: InFlight::new(),
         stop: Stop::new(),
     };
     Some((hall, position))
@@ -117,6 +119,7 @@ fn service_of<'a, K: HouseName>(
         places: &hall.places,
         readers: &hall.readers,
         bell: &hall.bell,
+        in_flight: &hall.in_flight,
         stop: &hall.stop,
     }
 }

@@ -1,4 +1,4 @@
-//! The forms in which `follow` prints the entries of a log.
+//! How `follow` prints the entries of a log: as text, hexadecimal or JSON.
 
 ghost use Rattle.std.specs.Prelude.{◌≡◌, ◌++◌, OnOk, flat_map};
 ghost use Rattle.std.specs.Str.{is_utf8};

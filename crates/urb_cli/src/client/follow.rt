@@ -82,7 +82,7 @@ fn ask_page<C: Caller>(caller: &mut C, place: u32, knows_wait: bool) -> Result<R
     insist(caller, &request)
 }
 
-// The place after a page from this place on, of so many entries. `None`: no log is so long.
+// The place after a page of `count` entries that begins at `place`. `None`: no log is that long.
 fn find_place_after(place: u32, count: usize) -> Option<u32>
     ensures { IfSome result (λ next. next ≡ place + count) }
 {

@@ -1,4 +1,4 @@
-//! Where the messages of `publish` come from: the command line, or the lines of an input.
+//! The messages that `publish` takes from the command line, or from the lines of an input.
 
 ghost use Rattle.std.specs.Prelude.{◌≡◌, ℕ, List, IfOk, None, Some, option_map, option_to_list};
 ghost use Rattle.std.specs.Io.KnownBytes.{Consumes, IsAtEnd};
