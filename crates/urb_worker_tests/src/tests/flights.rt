@@ -1,21 +1,25 @@
 //! What bounds a burst: a backlog at its bound, and senders that wait for a receiver.
 
 use std::alloc::Global;
+use std::io;
 use std::net::{Net, TcpListener, TcpStream};
 use std::sync::Wait;
 use std::test::Fail;
 use std::time::{Clock, Duration, Instant};
 use urb_names::NodeId;
 use urb_worker::{
-    BACKLOG, Backlog, CARRYING, InFlight, KEEPING, Link, MOST_IN_FLIGHT, MemoryLink, PacedLink,
-    Station,
+    BACKLOG, Backlog, CARRYING, FULL_BACKLOG, InFlight, KEEPING, LONG_BACKLOG, Link,
+    MOST_IN_FLIGHT, MemoryLink, PacedLink, Station,
 };
 
 // The bytes of the longest packet.
 const LONGEST: usize = 16_403;
 
 // How long a sender waits before it gives up, in milliseconds.
-const WAIT: u64 = 100;
+const WAIT: u64 = 10;
+
+// How long a session waits while the backlog stays long, in milliseconds.
+const CALM: u64 = 100;
 
 // A datagram of this length. All of its bytes have this value.
 fn datagram(alloc: Global, value: u8, length: usize) -> Result<Vec<u8>, Fail> {
@@ -142,8 +146,50 @@ fn nobody_waits_for_a_receiver_that_has_ended(rt: HostRuntime) -> Result<(), Fai
         flight.enter(&rt, LONGEST);
     }
     let took = began.elapsed(&rt)?;
-    assert!(rt; took < Duration::from_millis(50 * WAIT), "{took:?}");
+    assert!(rt; took < Duration::from_millis(500 * WAIT), "{took:?}");
     assert_eq!(rt; flight.load(), 100 * (LONGEST as u64 + CARRYING));
+    Ok(())
+}
+
+// How long it takes to send 200 packets to a node without room, whose receiver now and then takes
+// an empty datagram and whose backlog holds so many bytes.
+fn time_of_sends<R: Clock>(rt: &R, backlog: u64) -> io::Result<Duration> {
+    let flight = InFlight::new();
+    flight.keep(backlog);
+    let began = Instant::now(rt)?;
+    for _ in 0..200u8 {
+        flight.enter(rt, LONGEST);
+        flight.leave(0);
+    }
+    began.elapsed(rt)
+}
+
+#[test]
+fn nobody_waits_at_a_node_whose_backlog_is_full(rt: HostRuntime) -> Result<(), Fail> {
+    // Each of them waits.
+    let took = time_of_sends(&rt, FULL_BACKLOG)?;
+    assert!(rt; Duration::from_millis(150 * WAIT) <= took, "{took:?}");
+    // None of them waits.
+    let took = time_of_sends(&rt, FULL_BACKLOG + 1)?;
+    assert!(rt; took < Duration::from_millis(150 * WAIT), "{took:?}");
+    Ok(())
+}
+
+#[test]
+fn a_session_waits_while_the_backlog_is_long(rt: HostRuntime) -> Result<(), Fail> {
+    let flight = InFlight::new();
+    flight.keep(LONG_BACKLOG + 1);
+    let began = Instant::now(&rt)?;
+    flight.await_calm(&rt);
+    let took = began.elapsed(&rt)?;
+    assert!(rt; Duration::from_millis(CALM) <= took, "{took:?}");
+    flight.keep(LONG_BACKLOG);
+    let began = Instant::now(&rt)?;
+    for _ in 0..100u8 {
+        flight.await_calm(&rt);
+    }
+    let took = began.elapsed(&rt)?;
+    assert!(rt; took < Duration::from_millis(50 * CALM), "{took:?}");
     Ok(())
 }
 
@@ -154,7 +200,7 @@ fn a_sender_waits_in_vain_once(rt: HostRuntime) -> Result<(), Fail> {
     assert_eq!(rt; (fitting, next, others), (3, 1, 100));
     assert!(rt; Duration::from_millis(WAIT) <= wait, "{wait:?}");
     assert!(rt;
-        meanwhile < Duration::from_millis(50 * WAIT),
+        meanwhile < Duration::from_millis(500 * WAIT),
         "{meanwhile:?}"
     );
     Ok(())
