@@ -104,10 +104,10 @@ const ClientPortOffset = 10
 // MaxTickMillis is the greatest time from one tick to the next, in milliseconds: a minute.
 const MaxTickMillis = 60000
 
-// MinConnections is the fewest connections of clients that a node may be told to serve at a time.
+// MinConnections is the fewest connections that `serve --connections` allows for a node at a time.
 const MinConnections = 4
 
-// MaxConnections is the most connections of clients that a node may be told to serve at a time.
+// MaxConnections is the most connections that `serve --connections` allows for a node at a time.
 const MaxConnections = 1000
 
 // MaxIdleMinutes is the greatest time without a byte after which a connection is closed, in minutes: a day.
@@ -115,6 +115,12 @@ const MaxIdleMinutes = 1440
 
 // StandardIdleMinutes is the time without a byte after which a connection is closed if nothing else is said, in minutes.
 const StandardIdleMinutes = 10
+
+// MaxSocketMode is the greatest mode of a socket's file: everybody may read, write and run it.
+const MaxSocketMode = 511
+
+// StandardSocketMode is the mode of a socket's file if nothing else is said: its owner and its group may connect.
+const StandardSocketMode = 432
 
 // The refusals of a node, by their numbers.
 const (

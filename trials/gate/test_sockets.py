@@ -4,6 +4,7 @@ from __future__ import annotations
 import os
 import socket
 import stat
+from collections.abc import Callable
 from dataclasses import replace
 from pathlib import Path
 
@@ -103,12 +104,13 @@ class Sockets(Case):
         path = options.socket(2)
         target = self.room / "target"
         target.write_text("a letter")
-        for make in (
+        makers: tuple[Callable[[], object], ...] = (
             lambda: path.write_text("a letter"),
             path.mkdir,
             lambda: path.symlink_to(target),
             lambda: os.mkfifo(path),
-        ):
+        )
+        for make in makers:
             make()
             before = os.lstat(path)
             self.refuses(options, "a file with this name is no socket, and stays", 2)

@@ -17,8 +17,9 @@ BASE_PORT = 7400  # the base port of the service unit
 ABOUT = "Shows, checks, copies and restarts groups of urbd on this machine."
 EPILOG = """\
 A group is named by its base port. The number of nodes, the cap and the folder are those of the
-running program's command line; give --nodes, --cap and --dir if this user can't read that. Nodes are
-asked at their ports, or at their sockets if the program has --no-tcp or --socket-dir is given here.
+running program's command line; give --nodes, --cap and --dir if this user can't read that. Nodes
+are asked at their ports, or at their sockets if the program has --no-tcp or --socket-dir is given
+here.
 
 status: 0 if all is well, 1 if not, 3 if the command line is wrong. `check` ends with those of
 monitoring plugins: 0 fine, 1 warning, 2 critical, 3 unknown.

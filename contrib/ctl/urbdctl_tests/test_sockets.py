@@ -54,7 +54,13 @@ class Sockets(unittest.TestCase):
 class Programs(unittest.TestCase):
     def test_options_without_a_value_take_none(self) -> None:
         words = ["--no-tcp", "--socket-dir", "s", "--no-crash", "--nodes=3", "--cap"]
-        wanted = {"--no-tcp": "", "--socket-dir": "s", "--no-crash": "", "--nodes": "3", "--cap": ""}
+        wanted = {
+            "--no-tcp": "",
+            "--socket-dir": "s",
+            "--no-crash": "",
+            "--nodes": "3",
+            "--cap": "",
+        }
         self.assertEqual(group.options_of(words), wanted)
 
     def test_a_program_without_tcp_is_asked_at_its_sockets(self) -> None:

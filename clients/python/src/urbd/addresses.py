@@ -1,4 +1,4 @@
-"""Where a node takes its clients: at a port of this machine, or at a Unix socket, which is a file."""
+"""Where a node takes its clients: at a port of this machine, or at the file of a Unix socket."""
 from __future__ import annotations
 
 import socket

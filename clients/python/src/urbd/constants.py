@@ -105,10 +105,10 @@ CLIENT_PORT_OFFSET = 10
 # The greatest time from one tick to the next, in milliseconds: a minute.
 MAX_TICK_MILLIS = 60000
 
-# The fewest connections of clients that a node may be told to serve at a time.
+# The fewest connections that `serve --connections` allows for a node at a time.
 MIN_CONNECTIONS = 4
 
-# The most connections of clients that a node may be told to serve at a time.
+# The most connections that `serve --connections` allows for a node at a time.
 MAX_CONNECTIONS = 1000
 
 # The greatest time without a byte after which a connection is closed, in minutes: a day.
@@ -116,6 +116,12 @@ MAX_IDLE_MINUTES = 1440
 
 # The time without a byte after which a connection is closed if nothing else is said, in minutes.
 STANDARD_IDLE_MINUTES = 10
+
+# The greatest mode of a socket's file: everybody may read, write and run it.
+MAX_SOCKET_MODE = 511
+
+# The mode of a socket's file if nothing else is said: its owner and its group may connect.
+STANDARD_SOCKET_MODE = 432
 
 
 class Refusal(IntEnum):

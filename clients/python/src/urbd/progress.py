@@ -122,9 +122,7 @@ def _address_of(value: Any) -> Address:
     return value if isinstance(value, str) else int(value)
 
 
-def begin(
-    value: Optional[dict[str, Any]], port: Address, client: int
-) -> Optional[Progress]:
+def begin(value: Optional[dict[str, Any]], port: Address, client: int) -> Optional[Progress]:
     """The progress that a file has for this client at this node; None if there is none.
 
     `Stopped` if the file has a message under way at another node or for another client.
