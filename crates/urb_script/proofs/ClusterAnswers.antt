@@ -267,8 +267,8 @@ takes_reply : {A : Type 0} (size : Limits) (old new : Clustered Memory) (scene :
     → Applies (in_memory A) old what said new
     → TakesTo size new scene (line_of what) (reply_text said)
 takes_reply {A = A} size old new scene (act.Submit p client number payload) said s not r =
-    alone size old new scene _ (line_of (act.Submit p client number payload)) said tt s not r refl
-    (λ text next is. is)
+    alone size old new scene _ (line_of {A = A} (act.Submit p client number payload)) said tt s not r
+    refl (λ text next is. is)
 takes_reply {A = A} size old new scene (act.Arrive p bytes) said s not r =
     alone size old new scene _ (line_of (act.Arrive p bytes)) said tt s not r refl
     (λ text next is. is)
