@@ -233,7 +233,9 @@ where
         return None;
     }
     let terminal = Terminal::new(alloc, &[], b"", true);
-    let mut console = Console::new(&terminal, Client { rt, alloc });
+    let mut output = io::writer(&terminal);
+    let mut client = Client { rt, alloc };
+    let mut console = Console::new(&mut output, &mut client);
     let (_, ended) = run_stores(rt, alloc, serving, stores, &Silent, &mut console);
     Some((ended, fs::symlink_metadata(rt, FIRST).is_err()))
 }
