@@ -116,12 +116,12 @@ impl<R> IsTerminal for Client<'_, '_, '_, R> {
     }
 }
 
-impl<R> Client<'_, '_, '_, R>
+impl<'p, R> Client<'_, 'p, '_, R>
 where
     R: Host + Net<Listener = TcpListener, Stream = TcpStream> + Copy + Send + Drop + 'static,
 {
     // Does an errand at the port, and counts it if it ends well and shows this.
-    fn do_errand(&self, words: &[&[u8]], output: &[u8]) -> Option<()> {
+    fn do_errand(&self, words: &[&'p [u8]], output: &[u8]) -> Option<()> {
         let mut all = Vec::new(self.files.alloc());
         all.push(b"urbd".as_slice()).ok()?;
         all.extend_from_slice(words).ok()?;
