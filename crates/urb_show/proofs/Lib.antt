@@ -20,3 +20,7 @@ pub mod GroupReports
 pub mod PreparedEntries
 pub mod SettledNodes
 pub mod AgreeingPages
+pub mod ServiceJoins
+pub mod ServiceNodes
+pub mod ServiceLaws
+pub mod ServicePromises

@@ -5,4 +5,8 @@ pub mod Pages
 pub mod ReadFaults
 pub mod Statuses
 pub mod Additions
+pub mod Answers
+pub mod Service
+pub mod ServicePromises
+pub mod ShownServices
 pub mod internal

@@ -3,3 +3,4 @@ pub mod History
 pub mod Operations
 pub mod PublishingRule
 pub mod Examples
+pub mod ServiceExamples

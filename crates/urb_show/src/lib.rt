@@ -41,6 +41,7 @@ mod published_lists;
 mod publisher;
 mod read_position;
 mod reader;
+pub mod service_laws;
 mod status;
 pub mod worked;
 

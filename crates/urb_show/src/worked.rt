@@ -6,6 +6,8 @@ ghost use Rattle.urb_show.specs.internal.Examples.{entry, group_of, told};
 ghost use Rattle.urb_show.specs.Houses.{next_count};
 ghost use Rattle.urb_show.specs.Lists.{Agree, Begins, list_at, lists_in};
 
+pub mod service;
+
 /// A node's list has the names of its log, in the log's order, each with its message. If there is
 /// no such node, the list is empty.
 pub fn lists_of_a_group()
