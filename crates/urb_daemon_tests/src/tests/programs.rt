@@ -102,24 +102,21 @@ enum Visit {
 /// The client of a group, which is its input. The input ends once the client has done its errands at
 /// this port, and has counted those that showed what they have to.
 #[derive(Drop)]
-struct Client<'f, 'p, 'c, R> {
-    rt: R,
+struct Client<'f, 'p, 'c> {
+    rt: HostRuntime,
     files: &'f HostRuntime,
     port: &'p [u8],
     shown: &'c AtomicU64,
     visit: Visit,
 }
 
-impl<R> IsTerminal for Client<'_, '_, '_, R> {
+impl IsTerminal for Client<'_, '_, '_> {
     fn is_terminal(&self) -> bool {
         false
     }
 }
 
-impl<'p, R> Client<'_, 'p, '_, R>
-where
-    R: Host + Net<Listener = TcpListener, Stream = TcpStream> + Copy + Send + Drop + 'static,
-{
+impl<'p> Client<'_, 'p, '_> {
     // Does an errand at the port, and counts it if it ends well and shows this.
     fn do_errand(&self, words: &[&'p [u8]], output: &[u8]) -> Option<()> {
         let mut all = Vec::new(self.files.alloc());
@@ -155,10 +152,7 @@ where
     }
 }
 
-impl<R> Read for Client<'_, '_, '_, R>
-where
-    R: Host + Net<Listener = TcpListener, Stream = TcpStream> + Copy + Send + Drop + 'static,
-{
+impl Read for Client<'_, '_, '_> {
     fn read(&mut self, _buf: &mut [u8]) -> io::Result<usize> {
         let _ = self.do_errands();
         Ok(0)
@@ -169,16 +163,13 @@ const FOLDER: &str = "urbd_programs";
 
 // What a group of one node over the folder shows at these ports, and how many errands of its client
 // showed what they have to.
-fn serve_at<R>(
-    rt: R,
+fn serve_at(
+    rt: HostRuntime,
     files: &HostRuntime,
     base: &[u8],
     port: &[u8],
     visit: Visit,
-) -> Option<(Shown, u64)>
-where
-    R: Host + Net<Listener = TcpListener, Stream = TcpStream> + Copy + Send + Drop + 'static,
-{
+) -> Option<(Shown, u64)> {
     let words = [
         b"urbd".as_slice(),
         b"serve",
@@ -202,10 +193,7 @@ where
 }
 
 // The same, at ports that are free.
-fn serve_with<R>(rt: R, files: &HostRuntime, visit: Visit) -> Option<(Shown, u64)>
-where
-    R: Host + Net<Listener = TcpListener, Stream = TcpStream> + Copy + Send + Drop + 'static,
-{
+fn serve_with(rt: HostRuntime, files: &HostRuntime, visit: Visit) -> Option<(Shown, u64)> {
     for (base, port) in [
         (b"23750".as_slice(), b"23761".as_slice()),
         (b"25910", b"25921"),
