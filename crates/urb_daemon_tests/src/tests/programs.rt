@@ -12,6 +12,7 @@ use std::sync::Wait;
 use std::sync::atomic::{AtomicU64, Ordering};
 use std::test::Fail;
 use std::{fs, io};
+use urb_cli::{CallFault, NodeAddress, Printed, ReadOptions, SubmitOptions, read_at, submit_at};
 use urb_daemon::{Host, run_program};
 use urb_folder::NodeFile;
 use urb_terminal::{Shown, Terminal};
@@ -92,84 +93,98 @@ where
     Some(shown)
 }
 
-/// Which errands a client does.
+/// Which calls a client makes.
 #[derive(Clone, Copy)]
 enum Visit {
     First,
     Second,
 }
 
-/// The client of a group, which is its input. The input ends once the client has done its errands at
+/// The client of a group, which is its input. The input ends once the client has made its calls at
 /// this port, and has counted those that showed what they have to.
 #[derive(Drop)]
-struct Client<'f, 'p, 'c> {
-    rt: HostRuntime,
-    files: &'f HostRuntime,
-    port: &'p [u8],
+struct Client<'r, 'c, R: Net<Listener = TcpListener, Stream = TcpStream>> {
+    rt: &'r R,
+    alloc: Global,
+    port: u16,
     shown: &'c AtomicU64,
     visit: Visit,
 }
 
-impl IsTerminal for Client<'_, '_, '_> {
+impl<'r, 'c, R: Net<Listener = TcpListener, Stream = TcpStream>> IsTerminal for Client<'r, 'c, R> {
     fn is_terminal(&self) -> bool {
         false
     }
 }
 
-impl<'p> Client<'_, 'p, '_> {
-    // Does an errand at the port, and counts it if it ends well and shows this.
-    fn do_errand(&self, words: &[&'p [u8]], output: &[u8]) -> Option<()> {
-        let mut all = Vec::new(self.files.alloc());
-        all.push(b"urbd".as_slice()).ok()?;
-        all.extend_from_slice(words).ok()?;
-        all.push(b"--port").ok()?;
-        all.push(self.port).ok()?;
-        let shown = run_with(self.rt, self.files, all.as_slice(), true, Ended)?;
-        if shown.is(0, output, b"", b"") && shown.errors.is_empty() {
+impl<'r, 'c, R: Net<Listener = TcpListener, Stream = TcpStream>> Client<'r, 'c, R> {
+    // Counts a call that showed this.
+    fn count(&self, called: Result<Printed, CallFault>, output: &[u8]) {
+        if let Ok(printed) = called
+            && printed.text.as_slice() == output
+        {
             self.shown.fetch_add(1, Ordering::SeqCst);
         }
-        Some(())
     }
 
-    // Does all errands.
-    fn do_errands(&self) -> Option<()> {
-        let read = [b"read".as_slice(), b"--from=1", b"--max=8"];
-        let log = b"1.1 7 1 61\n1.2 7 2 62\n";
-        match self.visit {
-            Visit::First => {
-                let submit = [b"submit".as_slice(), b"--client=7", b"--number=1", b"a"];
-                self.do_errand(submit.as_slice(), b"accepted 1\n")?;
-                let publish = [b"publish".as_slice(), b"--client=7", b"b"];
-                self.do_errand(publish.as_slice(), b"accepted 2\n")?;
-                self.do_errand(read.as_slice(), log)
-            }
-            Visit::Second => {
-                self.do_errand(read.as_slice(), log)?;
-                let publish = [b"publish".as_slice(), b"--client=7", b"c"];
-                self.do_errand(publish.as_slice(), b"accepted 3\n")
-            }
+    // Submits a message of client 7, and counts the call if it showed this.
+    fn submit(&self, number: u32, text: &str, output: &[u8]) {
+        if 0 < self.port {
+            let submitting = SubmitOptions {
+                at: NodeAddress::Port(self.port),
+                client: 7,
+                number,
+                text,
+            };
+            self.count(submit_at(self.rt, self.alloc, submitting), output);
+        }
+    }
+
+    // Reads the log, and counts the call if it showed this.
+    fn read_log(&self, output: &[u8]) {
+        if 0 < self.port {
+            let reading = ReadOptions {
+                at: NodeAddress::Port(self.port),
+                from: 1,
+                max: 8,
+            };
+            self.count(read_at(self.rt, self.alloc, reading), output);
         }
     }
 }
 
-impl Read for Client<'_, '_, '_> {
+impl<'r, 'c, R: Net<Listener = TcpListener, Stream = TcpStream>> Read for Client<'r, 'c, R> {
     fn read(&mut self, _buf: &mut [u8]) -> io::Result<usize> {
-        let _ = self.do_errands();
+        match self.visit {
+            Visit::First => {
+                self.submit(1, "a", b"accepted 1\n");
+                self.submit(2, "b", b"accepted 2\n");
+                self.read_log(b"1.1 7 1 61\n1.2 7 2 62\n");
+            }
+            Visit::Second => {
+                self.read_log(b"1.1 7 1 61\n1.2 7 2 62\n");
+                self.submit(1, "a", b"accepted 1\n");
+                self.submit(3, "c", b"accepted 3\n");
+            }
+        }
         Ok(0)
     }
 }
 
 const FOLDER: &str = "urbd_programs";
 
-// What a group of one node over the folder shows at these ports, and how many errands of its client
+// What a group of one node over the folder shows at these ports, and how many calls of its client
 // showed what they have to.
-fn serve_at(
-    rt: HostRuntime,
+fn serve_at<R>(
+    rt: R,
     files: &HostRuntime,
     base: &[u8],
-    port: &[u8],
+    port: u16,
     visit: Visit,
-) -> Option<(Shown, u64)> {
+) -> Option<(Shown, u64)>
+where
+    R: Host + Net<Listener = TcpListener, Stream = TcpStream> + Copy + Send + Drop + 'static,
+{
     let words = [
         b"urbd".as_slice(),
         b"serve",
@@ -182,8 +197,8 @@ fn serve_at(
     ];
     let count = AtomicU64::new(0);
     let client = Client {
-        rt,
-        files,
+        rt: &rt,
+        alloc: files.alloc(),
         port,
         shown: &count,
         visit,
@@ -193,11 +208,14 @@ fn serve_at(
 }
 
 // The same, at ports that are free.
-fn serve_with(rt: HostRuntime, files: &HostRuntime, visit: Visit) -> Option<(Shown, u64)> {
+fn serve_with<R>(rt: R, files: &HostRuntime, visit: Visit) -> Option<(Shown, u64)>
+where
+    R: Host + Net<Listener = TcpListener, Stream = TcpStream> + Copy + Send + Drop + 'static,
+{
     for (base, port) in [
-        (b"23750".as_slice(), b"23761".as_slice()),
-        (b"25910", b"25921"),
-        (b"29170", b"29181"),
+        (b"23750".as_slice(), 23_761u16),
+        (b"25910", 25_921),
+        (b"29170", 29_181),
     ] {
         let (shown, count) = serve_at(rt, files, base, port, visit)?;
         if !shown.is(1, b"", b"urbd: network failed", b"") {
@@ -216,7 +234,7 @@ fn the_program_runs_a_group_and_is_its_client(rt: HostRuntime) -> Result<(), Fai
     assert!(rt; shown.errors.is_empty());
     // The next run goes on from the journals.
     let (shown, count) = serve_with(rt, &rt, Visit::Second).ok_or("memory")?;
-    assert_eq!(rt; count, 2);
+    assert_eq!(rt; count, 3);
     assert_eq!(rt; shown.status, 0);
     assert!(rt; shown.output.as_slice().starts_with(b"open 1\nclosed "));
     fs::remove_dir_all(&rt, FOLDER)?;
