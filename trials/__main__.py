@@ -15,6 +15,7 @@ from __future__ import annotations
 
 import argparse
 import os
+import signal
 import subprocess
 import sys
 import time
@@ -151,6 +152,13 @@ def run_all(trials: Sequence[Trial], program: Path, is_verbose: bool) -> Count:
     return total
 
 
+def heed_signals() -> None:
+    """Has the trials' programs heed signals. A shell may start a background job without them."""
+    signal.signal(signal.SIGINT, signal.default_int_handler)
+    for number in (signal.SIGHUP, signal.SIGQUIT):
+        signal.signal(number, signal.SIG_DFL)
+
+
 def main(words: Sequence[str]) -> int:
     parser = argparse.ArgumentParser(
         prog="python3 -m trials",
@@ -173,6 +181,7 @@ def main(words: Sequence[str]) -> int:
     chosen = [it for it in TRIALS if it.is_of_gate or not options.gate]
     if options.only:
         chosen = [it for it in TRIALS if it.name in options.only]
+    heed_signals()
     total = run_all(chosen, options.program.resolve(), options.verbose)
     print(total)
     return 1 if total.failed else 0
