@@ -2,7 +2,8 @@
 
 ghost use Rattle.std.specs.Prelude.{◌≡◌, ◌<◌, ◌≤◌, ◌+◌, ◌^◌, ◌↔◌, IsTrue};
 
-use crate::BACKLOG;
+use crate::receiver::ROOM;
+use crate::{BACKLOG, KEEPING};
 use std::sync::atomic::{AtomicBool, AtomicU64, Ordering};
 use std::thread;
 use std::time::{Clock, Duration};
@@ -31,14 +32,14 @@ const _: () = prove!(2 * MOST_IN_FLIGHT <= SOCKET_ROOM);
 const PAUSE: u64 = 100;
 
 // How many times a sender checks for room. After that it sends anyway.
-const PATIENCE: u32 = 100;
+const PATIENCE: u32 = 1_000;
 
 /// How much a receiver's backlog may hold before sessions wait with their submits, in bytes.
 pub const LONG_BACKLOG: u64 = 262_144;
 
 /// How much a receiver's backlog may hold before nobody waits for room in the node's socket, in
-/// bytes.
-pub const FULL_BACKLOG: u64 = BACKLOG as u64 / 2;
+/// bytes. With more, it has no room for another datagram of the greatest length.
+pub const FULL_BACKLOG: u64 = (BACKLOG - ROOM - KEEPING) as u64;
 
 const _: () = prove!(LONG_BACKLOG < FULL_BACKLOG);
 
@@ -124,10 +125,10 @@ impl InFlight {
     }
 
     /// Counts a datagram of this length that is about to be sent. While there is no room for the
-    /// datagram, the call waits. It waits for at most a hundredth of a second, or somewhat more if
+    /// datagram, the call waits. It waits for at most a tenth of a second, or somewhat more if
     /// the machine is busy, and not at all while the receiver's backlog is full. After a wait that
     /// found no room, no sender waits until the receiver takes a datagram again. So a node that
-    /// hangs delays its senders for about a hundredth of a second in all.
+    /// hangs delays its senders for about a tenth of a second in all.
     pub fn enter<R: Clock>(&self, rt: &R, length: usize)
         requires { length < 2 ^ 63 }
     {

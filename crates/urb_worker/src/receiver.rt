@@ -17,9 +17,9 @@ use std::time::{Clock, Duration};
 use urb_names::{MAX_PACKET, MAX_PAYLOAD, NodeId};
 use urb_show::HouseName;
 
-// The size of the buffer for a datagram. It is more than the longest packet, so a datagram that is
-// cut off was no packet.
-const ROOM: usize = MAX_PAYLOAD + 256;
+/// The size of the buffer for a datagram. It is more than the longest packet, so a datagram that is
+/// cut off was no packet.
+pub(crate) const ROOM: usize = MAX_PAYLOAD + 256;
 
 const _: () = prove!(MAX_PACKET < ROOM);
 

@@ -16,7 +16,7 @@ use urb_worker::{
 const LONGEST: usize = 16_403;
 
 // How long a sender waits before it gives up, in milliseconds.
-const WAIT: u64 = 10;
+const WAIT: u64 = 100;
 
 // How long a session waits while the backlog stays long, in milliseconds.
 const CALM: u64 = 100;
@@ -146,18 +146,18 @@ fn nobody_waits_for_a_receiver_that_has_ended(rt: HostRuntime) -> Result<(), Fai
         flight.enter(&rt, LONGEST);
     }
     let took = began.elapsed(&rt)?;
-    assert!(rt; took < Duration::from_millis(500 * WAIT), "{took:?}");
+    assert!(rt; took < Duration::from_millis(50 * WAIT), "{took:?}");
     assert_eq!(rt; flight.load(), 100 * (LONGEST as u64 + CARRYING));
     Ok(())
 }
 
-// How long it takes to send 200 packets to a node without room, whose receiver now and then takes
+// How long it takes to send 20 packets to a node without room, whose receiver now and then takes
 // an empty datagram and whose backlog holds so many bytes.
 fn time_of_sends<R: Clock>(rt: &R, backlog: u64) -> io::Result<Duration> {
     let flight = InFlight::new();
     flight.keep(backlog);
     let began = Instant::now(rt)?;
-    for _ in 0..200u8 {
+    for _ in 0..20u8 {
         flight.enter(rt, LONGEST);
         flight.leave(0);
     }
@@ -168,10 +168,10 @@ fn time_of_sends<R: Clock>(rt: &R, backlog: u64) -> io::Result<Duration> {
 fn nobody_waits_at_a_node_whose_backlog_is_full(rt: HostRuntime) -> Result<(), Fail> {
     // Each of them waits.
     let took = time_of_sends(&rt, FULL_BACKLOG)?;
-    assert!(rt; Duration::from_millis(150 * WAIT) <= took, "{took:?}");
+    assert!(rt; Duration::from_millis(15 * WAIT) <= took, "{took:?}");
     // None of them waits.
     let took = time_of_sends(&rt, FULL_BACKLOG + 1)?;
-    assert!(rt; took < Duration::from_millis(150 * WAIT), "{took:?}");
+    assert!(rt; took < Duration::from_millis(15 * WAIT), "{took:?}");
     Ok(())
 }
 
@@ -200,7 +200,7 @@ fn a_sender_waits_in_vain_once(rt: HostRuntime) -> Result<(), Fail> {
     assert_eq!(rt; (fitting, next, others), (3, 1, 100));
     assert!(rt; Duration::from_millis(WAIT) <= wait, "{wait:?}");
     assert!(rt;
-        meanwhile < Duration::from_millis(500 * WAIT),
+        meanwhile < Duration::from_millis(50 * WAIT),
         "{meanwhile:?}"
     );
     Ok(())
