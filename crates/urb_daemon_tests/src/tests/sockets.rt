@@ -142,9 +142,9 @@ where
         has = has && station.socket.is_some() && station.tcp.is_some() == takes_tcp;
         has = has && (station.tcp_port == 0) != takes_tcp;
     }
-    let is_free = TcpListener::bind(rt, (Ipv4Addr::LOCALHOST, base + 11)).is_ok();
+    let is_free = TcpListener::bind(rt, (Ipv4Addr::LOCALHOST, base.checked_add(11)?)).is_ok();
     // Another base, so that its ports are free.
-    let second = open_network(rt, alloc, serving(2, base + 100, takes_tcp)?);
+    let second = open_network(rt, alloc, serving(2, base.checked_add(100)?, takes_tcp)?);
     let in_use = Some(NetworkFault::Socket(1, SocketCause::InUse));
     let is_whole = UnixStream::connect(rt, FIRST).is_ok()
         && UnixStream::connect(rt, SECOND).is_ok();
