@@ -26,7 +26,7 @@ answer_by size list m None =
     then Some (Err (refusal.Gap (next_number m.client list)))
     else (if not (nat_lt (length list) size.cap) then Some (Err refusal.Full) else None)
 
--- the answer to a submit, by what the node has accepted and its state
+-- the answer to a submit, given what the node has accepted and its state
 abbrev pub answer_to : Limits → List Content → State → Content → Answer
 answer_to size list state.Down m = Some (Err refusal.Down)
 answer_to size list state.Storing m = Some (Err refusal.Busy)

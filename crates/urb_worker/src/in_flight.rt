@@ -64,14 +64,14 @@ fn fits(there: u64, load: u64) -> bool
     load <= MOST_IN_FLIGHT && there <= MOST_IN_FLIGHT - load
 }
 
-// Whether a backlog of so many bytes is so long that sessions wait with their submits.
+// Whether sessions wait with their submits while a backlog holds this much, in bytes.
 fn is_long(backlog: u64) -> bool
     ensures { IsTrue result ↔ (LONG_BACKLOG < backlog) }
 {
     LONG_BACKLOG < backlog
 }
 
-// Whether a backlog of so many bytes is so full that nobody waits for room in the socket.
+// Whether a backlog that holds this much, in bytes, has no room for another long datagram.
 fn is_full(backlog: u64) -> bool
     ensures { IsTrue result ↔ (FULL_BACKLOG < backlog) }
 {
@@ -174,7 +174,7 @@ impl InFlight {
         self.take_off(seen);
     }
 
-    /// Says that the receiver's backlog holds so many bytes.
+    /// Takes down how much the receiver's backlog holds, in bytes.
     pub fn keep(&self, backlog: u64) {
         self.backlog.store(backlog, Ordering::SeqCst);
     }

@@ -8,7 +8,7 @@ use Rattle.urb_cli.specs.declared.client.decision.Decision.{Decision}
 use Rattle.urb_cli.specs.declared.client.decision.Decision.TheVariants as decision
 use Rattle.urb_cli.specs.declared.client.stream_fault.StreamEnd.{StreamEnd}
 
--- the response from which a decision was made
+-- the response that a node gave if this is its decision
 abbrev pub decided : Decision → Said
 decided (decision.Accepted seq) = Accepted seq
 decided (decision.Refused number detail) = Refused number detail

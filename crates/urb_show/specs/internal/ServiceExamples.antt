@@ -26,11 +26,11 @@ storing list log asked =
 abbrev pub down : List Content → List Label → List Content → Node
 down list log asked = record { list = list; log = log; state = state.Down; asked = asked }
 
--- a service of two nodes, each of which may accept two messages
+-- a service of two nodes that may accept two messages each
 abbrev pub pair_of : Node → Node → Service
 pair_of first second =
     record { size = record { n = 2; cap = 2 }; node = λ p. if p == 1 then first else second }
 
--- such a service, in which node 1 has accepted both messages and node 2 none
+-- such a service after node 1 has accepted both messages and node 2 none
 abbrev pub both : Service
 both = pair_of (ready (m1 ∷ m2 ∷ []) []) (ready [] [])

@@ -151,8 +151,8 @@ fn nobody_waits_for_a_receiver_that_has_ended(rt: HostRuntime) -> Result<(), Fai
     Ok(())
 }
 
-// How long it takes to send 20 packets to a node without room, whose receiver now and then takes
-// an empty datagram and whose backlog holds so many bytes.
+// How long it takes to send 20 packets to a node without room. After each, its receiver takes an
+// empty datagram. Its backlog holds `backlog` bytes.
 fn time_of_sends<R: Clock>(rt: &R, backlog: u64) -> io::Result<Duration> {
     let flight = InFlight::new();
     flight.keep(backlog);
